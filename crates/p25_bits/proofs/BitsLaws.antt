@@ -1,0 +1,175 @@
+-- Numbers and the bits that write them.
+use Rattle.std.proofs.Common.{◌≡◌, ℕ, zero, suc, ◌+◌, ◌-◌, ◌*◌, ◌/◌, ◌%◌, ◌^◌, ◌<◌, ◌≤◌, ◌⊎◌, inl, inr, Bool, true, false, eqb, List, [], ◌∷◌, ◌++◌, length, take, drop, refl, ap, ap₂, sym, ◌∙◌, subst, arith, length-append, get_or, add-one, bit_and}
+use Rattle.std.specs.Int.{bit_at}
+use Rattle.std.specs.List.{flat_map}
+use Rattle.std.proofs.Math.Nat.{pow-suc, add-mul, mul_comm, mul_assoc, mod-one}
+use Rattle.std.proofs.lemmas.Bool.{eq-eqb, ne_eqb}
+use Rattle.std.proofs.lemmas.Nat.{mod-pow-add, shr_high, shr-shr}
+use Rattle.std.proofs.lemmas.Nat.Bits.{bit_at-lt, bit_at_cat_low, shr_and_one}
+use Rattle.std.proofs.lemmas.List.{drop_more}
+use Rattle.std.proofs.lemmas.List.Concat.{flat_map-append}
+use Rattle.p25_bits.specs.Bits.{digit_of, bits_of, field_after, field_of, octet_bits}
+
+-- as many bits as were asked for
+pub length-bits_of : (width number : ℕ) → length (bits_of width number) ≡ width
+unfolding bits_of
+length-bits_of zero number = refl
+length-bits_of (suc width) number = ap suc (length-bits_of width number)
+
+-- bits after others count on from the number of those before
+pub field_after-append : (high : ℕ) (xs ys : List Bool) → field_after high (xs ++ ys) ≡ field_after (field_after high xs) ys
+unfolding field_after
+field_after-append high [] ys = refl
+field_after-append high (x ∷ xs) ys = field_after-append (2 * high + digit_of x) xs ys
+
+-- a number with one more digit, times a power of two
+carried : (high digit power next : ℕ) → next ≡ power * 2 → (2 * high + digit) * power ≡ high * next + digit * power
+carried high digit power next e = rw (e, add-mul) (ap (λ n. n + digit * power) (ap (λ n. n * power) (mul_comm 2 high) ∙ mul_assoc high 2 power ∙ ap (λ n. high * n) (mul_comm 2 power)))
+
+-- what stands before the bits counts as often as the bits have values
+pub field_after-is : (high : ℕ) (bits : List Bool) → field_after high bits ≡ high * 2 ^ length bits + field_of bits
+unfolding field_after field_of
+field_after-is high [] = omega arith
+field_after-is high (x ∷ xs) =
+    field_after-is (2 * high + digit_of x) xs
+    ∙ omega (arith, field_after-is (0 + digit_of x) xs, carried high (digit_of x) (2 ^ length xs) (2 ^ suc (length xs)) (pow-suc 2 (length xs)))
+
+-- a first bit is the highest
+pub field_of-cons : (bit : Bool) (bits : List Bool) → field_of (bit ∷ bits) ≡ digit_of bit * 2 ^ length bits + field_of bits
+unfolding field_after field_of
+field_of-cons bit bits = field_after-is (0 + digit_of bit) bits ∙ ap (λ n. n * 2 ^ length bits + field_of bits) (omega arith)
+
+-- two runs of bits, one after the other
+pub field_of-append : (xs ys : List Bool) → field_of (xs ++ ys) ≡ field_of xs * 2 ^ length ys + field_of ys
+unfolding field_of
+field_of-append xs ys = field_after-append 0 xs ys ∙ field_after-is (field_of xs) ys
+
+-- no bits write 0
+pub field_of-nil : field_of [] ≡ 0
+unfolding field_of field_after
+field_of-nil = refl
+
+-- a digit is 0 or 1
+pub digit_of-le : (bit : Bool) → digit_of bit ≤ 1
+digit_of-le true = omega arith
+digit_of-le false = omega arith
+
+-- as many bits write a number below that power of two
+pub field_of-lt : (bits : List Bool) → field_of bits < 2 ^ length bits
+unfolding field_after field_of
+field_of-lt [] = omega arith
+field_of-lt (true ∷ bits) = omega (arith, field_of-cons true bits, field_of-lt bits, pow-suc 2 (length bits))
+field_of-lt (false ∷ bits) = omega (arith, field_of-cons false bits, field_of-lt bits, pow-suc 2 (length bits))
+
+-- the digit of the test of a bit is the bit
+digit_of-bit_at : (number k : ℕ) → digit_of (eqb (bit_at number k) 1) ≡ bit_at number k
+digit_of-bit_at number k =
+    let bound : bit_at number k < 2 = bit_at-lt number k in
+    let cases : (b : ℕ) → b < 2 → digit_of (eqb b 1) ≡ b = by_cases in
+    cases (bit_at number k) bound
+  where
+    by_cases : (b : ℕ) → b < 2 → digit_of (eqb b 1) ≡ b
+    by_cases zero h = refl
+    by_cases (suc zero) h = refl
+    by_cases (suc (suc b)) h = absurd (omega arith)
+
+-- the number that `width` bits of a number write is its remainder by that power of two
+pub field_of-bits_of : (width number : ℕ) → field_of (bits_of width number) ≡ number % 2 ^ width
+unfolding bits_of
+field_of-bits_of zero number = field_of-nil ∙ sym (mod-one number)
+field_of-bits_of (suc width) number =
+    field_of-cons (eqb (bit_at number width) 1) (bits_of width number)
+    ∙ ap₂ ◌+◌ (ap₂ ◌*◌ (digit_of-bit_at number width) (ap (λ n. 2 ^ n) (length-bits_of width number))) (field_of-bits_of width number)
+    ∙ sym (mod-pow-add number 1 width)
+    ∙ (let e : 1 + width ≡ suc width = omega arith in ap (λ n. number % 2 ^ n) e)
+
+-- the low bits of a number are not changed by what stands above them
+bits_of-above : (width k high low : ℕ) → width ≤ k → bits_of width (high * 2 ^ k + low) ≡ bits_of width low
+unfolding bits_of
+bits_of-above zero k high low h = refl
+bits_of-above (suc width) k high low h =
+    ap₂ ◌∷◌ (ap (λ b. eqb b 1) (bit_at_cat_low high k low width (omega arith))) (bits_of-above width k high low (omega arith))
+
+-- the top bit of a number with one digit before k others
+top_bit : (bit : Bool) (k low : ℕ) → low < 2 ^ k → eqb (bit_at (digit_of bit * 2 ^ k + low) k) 1 ≡ bit
+top_bit true k low h = ap (λ n. eqb (n % 2) 1) (shr_high 1 k low h)
+top_bit false k low h = ap (λ n. eqb (n % 2) 1) (shr_high 0 k low h)
+
+-- the number that bits write has those bits
+pub bits_of-field_of : (bits : List Bool) → bits_of (length bits) (field_of bits) ≡ bits
+unfolding bits_of
+bits_of-field_of [] = refl
+bits_of-field_of (bit ∷ bits) =
+    ap (λ n. bits_of (suc (length bits)) n) (field_of-cons bit bits)
+    ∙ ap₂ ◌∷◌ (top_bit bit (length bits) (field_of bits) (field_of-lt bits)) (bits_of-above (length bits) (length bits) (digit_of bit) (field_of bits) (omega arith) ∙ bits_of-field_of bits)
+
+-- two lists of one length that write one number are one list
+pub same_from_field_of : (xs ys : List Bool) → length xs ≡ length ys → field_of xs ≡ field_of ys → xs ≡ ys
+same_from_field_of xs ys long same = sym (bits_of-field_of xs) ∙ ap₂ bits_of long same ∙ bits_of-field_of ys
+
+-- bits of a number in two runs: the high ones, then the low ones
+pub bits_of-add : (high low number : ℕ) → bits_of (high + low) number ≡ bits_of high (number / 2 ^ low) ++ bits_of low number
+unfolding bits_of
+bits_of-add zero low number = let e : 0 + low ≡ low = omega arith in ap (λ n. bits_of n number) e
+bits_of-add (suc high) low number =
+    let e : suc high + low ≡ suc (high + low) = omega arith in
+    let swapped : low + high ≡ high + low = omega arith in
+    ap (λ n. bits_of n number) e
+    ∙ ap₂ ◌∷◌ (ap (λ n. eqb (n % 2) 1) (sym (shr-shr number low high ∙ ap (λ n. number / 2 ^ n) swapped))) (bits_of-add high low number)
+
+-- octets, one run after the other
+pub octet_bits-append : (xs ys : List ℕ) → octet_bits (xs ++ ys) ≡ octet_bits xs ++ octet_bits ys
+unfolding octet_bits
+octet_bits-append xs ys = flat_map-append (bits_of 8) xs ys
+
+-- the bits of a first octet stand first
+pub octet_bits-cons : (x : ℕ) (xs : List ℕ) → octet_bits (x ∷ xs) ≡ bits_of 8 x ++ octet_bits xs
+unfolding octet_bits
+octet_bits-cons x xs = refl
+
+pub octet_bits-nil : octet_bits [] ≡ []
+unfolding octet_bits
+octet_bits-nil = refl
+
+-- an octet has eight bits
+pub length-octet_bits : (xs : List ℕ) → length (octet_bits xs) ≡ 8 * length xs
+unfolding octet_bits
+length-octet_bits [] = refl
+length-octet_bits (x ∷ xs) = length-append (bits_of 8 x) (octet_bits xs) ∙ omega (arith, length-bits_of 8 x, length-octet_bits xs)
+
+-- one more bit of a list goes into the number
+pub field_after-drop : (high : ℕ) (bits : List Bool) (i : ℕ) → i < length bits → field_after high (drop i bits) ≡ field_after (2 * high + digit_of (get_or bits i false)) (drop (i + 1) bits)
+unfolding field_after
+field_after-drop high bits i h = ap (field_after high) (drop_more bits i false h)
+
+-- no more bits leave the number
+pub field_after-nil : (high : ℕ) → field_after high [] ≡ high
+unfolding field_after
+field_after-nil high = refl
+
+-- the number of bits is the number after 0
+pub field_of-after : (bits : List Bool) → field_of bits ≡ field_after 0 bits
+unfolding field_of
+field_of-after bits = refl
+
+-- one more bit doubles the bound of a number
+pub more-lt : (number digit i : ℕ) → number < 2 ^ i → digit ≤ 1 → 2 * number + digit < 2 ^ (i + 1)
+more-lt number digit i below small = rw add-one (omega (arith, pow-suc 2 i))
+
+-- the first of `width` bits is the highest
+pub bits_of-suc : (width number : ℕ) → bits_of (suc width) number ≡ eqb (bit_at number width) 1 ∷ bits_of width number
+unfolding bits_of
+bits_of-suc width number = refl
+
+pub bits_of-zero : (number : ℕ) → bits_of 0 number ≡ []
+unfolding bits_of
+bits_of-zero number = refl
+
+-- the first of the bits that are left, as a loop tests it, and the others
+pub bits_of-first : (width k number : ℕ) → k < width → eqb (bit_and (number / 2 ^ (width - 1 - k)) 1) 1 ∷ bits_of (width - (k + 1)) number ≡ bits_of (width - k) number
+bits_of-first width k number h =
+    let left : width - 1 - k ≡ width - (k + 1) = omega arith in
+    let more : width - k ≡ suc (width - (k + 1)) = omega arith in
+    ap (λ b. eqb b 1 ∷ bits_of (width - (k + 1)) number) (shr_and_one number (width - 1 - k) ∙ ap (λ i. bit_at number i) left)
+    ∙ sym (bits_of-suc (width - (k + 1)) number)
+    ∙ ap (λ n. bits_of n number) (sym more)

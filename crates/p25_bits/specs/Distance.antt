@@ -1,0 +1,13 @@
+-- The number of places in which two lists differ (the Hamming distance of coding theory).
+use Rattle.std.specs.Prelude.{ℕ, ◌+◌, Bool, true, false, cond, List, [], ◌∷◌}
+use Rattle.std.specs.Bool.{beq}
+
+-- how many of the places that both lists have hold letters that a test calls different
+unfoldable pub distance_by : {X : Type 0} → (X → X → Bool) → List X → List X → ℕ
+distance_by same [] ys = 0
+distance_by same (x ∷ xs) [] = 0
+distance_by same (x ∷ xs) (y ∷ ys) = cond (same x y) 0 1 + distance_by same xs ys
+
+-- the same for bits
+abbrev pub distance_of : List Bool → List Bool → ℕ
+distance_of = distance_by beq

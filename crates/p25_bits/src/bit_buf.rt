@@ -1,0 +1,165 @@
+ghost use Rattle.std.specs.Prelude.{◌≡◌, ℕ, ◌+◌, ◌-◌, ◌*◌, ◌^◌, ◌<◌, ◌≤◌, Bool, List, [], ◌∷◌, ◌++◌, length, take, drop, slice_get, slice_set};
+ghost use Rattle.p25_bits.specs.Bits.{bits_of, field_of, part, flipped};
+ghost use Rattle.p25_bits.specs.Distance.{distance_of};
+
+use super::slices::{differing, number_of, shift_down};
+use std::marker::Model;
+
+/// The most bits that a `BitBuf` holds.
+pub const BITS_MOST: usize = 25_928;
+
+/// A list of at most 25,928 bits, the longest unit and one octet more.
+#[derive(Drop)]
+pub struct BitBuf {
+    bits: [bool; 25_928],
+    len: usize,
+}
+
+impl Model for BitBuf {
+    ghost Value = { List Bool };
+
+    ghost view = { λ b. take b.len b.bits };
+
+    ghost invariant = { λ b. b.len ≤ 25928 };
+}
+
+impl BitBuf {
+    /// Answers an empty list.
+    pub fn new() -> BitBuf
+        ensures { result ≡ [] }
+    {
+        BitBuf {
+            bits: [false; 25_928],
+            len: 0,
+        }
+    }
+
+    /// Answers the number of bits held.
+    pub fn len(&self) -> usize
+        ensures value { result ≡ length self.now }
+        ensures most { result ≤ 25928 }
+    {
+        self.len
+    }
+
+    /// Empties the list.
+    pub fn clear(&mut self)
+        ensures { self.new ≡ [] }
+    {
+        self.len = 0;
+    }
+
+    /// Appends a bit.
+    pub fn push(&mut self, bit: bool)
+        requires { length self.old < 25928 }
+        ensures list { self.new ≡ self.old ++ bit ∷ [] }
+        ensures len { length self.new ≡ length self.old + 1 }
+    {
+        self.bits[self.len] = bit;
+        self.len += 1;
+    }
+
+    /// Answers the bit at place `i`.
+    pub fn get(&self, i: usize) -> bool
+        requires { i < length self.now }
+        ensures { slice_get self.now i ≡ Some result }
+    {
+        self.bits[i]
+    }
+
+    /// Replaces the bit at place `i`.
+    pub fn set(&mut self, i: usize, bit: bool)
+        requires { i < length self.old }
+        ensures list { self.new ≡ slice_set self.old i bit }
+        ensures len { length self.new ≡ length self.old }
+    {
+        self.bits[i] = bit;
+    }
+
+    /// Inverts the bit at place `i`.
+    pub fn flip(&mut self, i: usize)
+        requires { i < length self.old }
+        ensures list { self.new ≡ flipped self.old i }
+        ensures len { length self.new ≡ length self.old }
+    {
+        self.bits[i] = !self.bits[i];
+    }
+}
+
+impl BitBuf {
+    /// Answers the number that `width` bits from place `at` write, the first bit highest.
+    pub fn field(&self, at: usize, width: u32) -> u64
+        requires width { width ≤ 64 }
+        requires there { at + width ≤ length self.now }
+        ensures { result ≡ field_of (part at width self.now) }
+    {
+        let _ = &self.len;
+        number_of(&self.bits[at..at + width as usize])
+    }
+
+    /// Appends `width` bits of a number, the highest first.
+    pub fn put_field(&mut self, value: u64, width: u32)
+        requires width { width ≤ 64 }
+        requires fits { value < 2 ^ width }
+        requires room { length self.old + width ≤ 25928 }
+        ensures list { self.new ≡ self.old ++ bits_of width value }
+        ensures len { length self.new ≡ length self.old + width }
+    {
+        for k in 0..width {
+            self.push((value >> (width - 1 - k)) & 1 == 1);
+        }
+    }
+
+    /// Appends `count` bits of another list, those from place `at` on.
+    pub fn append(&mut self, other: &BitBuf, at: usize, count: usize)
+        requires there { at + count ≤ length other.now }
+        requires room { length self.old + count ≤ 25928 }
+        ensures list { self.new ≡ self.old ++ part at count other.now }
+        ensures len { length self.new ≡ length self.old + count }
+    {
+        let _ = &other.len;
+        for i in 0..count {
+            self.push(other.get(at + i));
+        }
+    }
+
+    /// Appends the bits of a slice, in order.
+    pub fn extend(&mut self, bits: &[bool])
+        requires { length self.old + length bits.now ≤ 25928 }
+        ensures list { self.new ≡ self.old ++ bits.now }
+        ensures len { length self.new ≡ length self.old + length bits.now }
+    {
+        for bit in bits {
+            self.push(*bit);
+        }
+    }
+
+    /// Copies the bits from place `at` on into a slice, as many as it has room for.
+    pub fn copy_to(&self, at: usize, out: &mut [bool])
+        requires { at + length out.old ≤ length self.now }
+        ensures { out.new ≡ part at (length out.old) self.now }
+    {
+        for i in 0..out.len() {
+            out[i] = self.bits[at + i];
+        }
+    }
+
+    /// Takes the first `n` bits away.
+    pub fn drop_front(&mut self, n: usize)
+        requires { n ≤ length self.old }
+        ensures list { self.new ≡ drop n self.old }
+        ensures len { length self.new + n ≡ length self.old }
+    {
+        let left = self.len - n;
+        shift_down(&mut self.bits, n, left);
+        self.len = left;
+    }
+
+    /// Answers in how many places two lists of one length differ (their Hamming distance).
+    pub fn distance(a: &BitBuf, b: &BitBuf) -> u32
+        requires { length a.now ≡ length b.now }
+        ensures { result ≡ distance_of a.now b.now }
+    {
+        differing(&a.bits[..a.len], &b.bits[..b.len])
+    }
+}

@@ -1,0 +1,7 @@
+//! Lists of bits, as the air interface sends them.
+#![tactic(auto)]
+
+mod bit_buf;
+mod slices;
+
+pub use bit_buf::{BITS_MOST, BitBuf};
