@@ -1,9 +1,7 @@
 -- Numbers and the bits that write them.
-use Rattle.std.proofs.Common.{◌≡◌, ℕ, zero, suc, ◌+◌, ◌-◌, ◌*◌, ◌/◌, ◌%◌, ◌^◌, ◌<◌, ◌≤◌, ◌⊎◌, inl, inr, Bool, true, false, eqb, List, [], ◌∷◌, ◌++◌, length, take, drop, refl, ap, ap₂, sym, ◌∙◌, subst, arith, length-append, get_or, add-one, bit_and}
+use Rattle.std.proofs.Common.{◌≡◌, ℕ, zero, suc, ◌+◌, ◌-◌, ◌*◌, ◌/◌, ◌%◌, ◌^◌, ◌<◌, ◌≤◌, Bool, true, false, eqb, List, [], ◌∷◌, ◌++◌, length, drop, refl, ap, ap₂, sym, ◌∙◌, arith, length-append, get_or, add-one, bit_and}
 use Rattle.std.specs.Int.{bit_at}
-use Rattle.std.specs.List.{flat_map}
 use Rattle.std.proofs.Math.Nat.{pow-suc, add-mul, mul_comm, mul_assoc, mod-one}
-use Rattle.std.proofs.lemmas.Bool.{eq-eqb, ne_eqb}
 use Rattle.std.proofs.lemmas.Nat.{mod-pow-add, shr_high, shr-shr}
 use Rattle.std.proofs.lemmas.Nat.Bits.{bit_at-lt, bit_at_cat_low, shr_and_one}
 use Rattle.std.proofs.lemmas.List.{drop_more}
@@ -62,7 +60,7 @@ field_of-lt (true ∷ bits) = omega (arith, field_of-cons true bits, field_of-lt
 field_of-lt (false ∷ bits) = omega (arith, field_of-cons false bits, field_of-lt bits, pow-suc 2 (length bits))
 
 -- the digit of the test of a bit is the bit
-digit_of-bit_at : (number k : ℕ) → digit_of (eqb (bit_at number k) 1) ≡ bit_at number k
+pub digit_of-bit_at : (number k : ℕ) → digit_of (eqb (bit_at number k) 1) ≡ bit_at number k
 digit_of-bit_at number k =
     let bound : bit_at number k < 2 = bit_at-lt number k in
     let cases : (b : ℕ) → b < 2 → digit_of (eqb b 1) ≡ b = by_cases in
@@ -173,3 +171,8 @@ bits_of-first width k number h =
     ap (λ b. eqb b 1 ∷ bits_of (width - (k + 1)) number) (shr_and_one number (width - 1 - k) ∙ ap (λ i. bit_at number i) left)
     ∙ sym (bits_of-suc (width - (k + 1)) number)
     ∙ ap (λ n. bits_of n number) (sym more)
+
+-- a bit converted to a number is its digit
+pub digit_of-byte : (n : ℕ) (bit : Bool) → n ≡ mir.Val.bool_byte bit → n ≡ digit_of bit
+digit_of-byte n true e = e
+digit_of-byte n false e = e

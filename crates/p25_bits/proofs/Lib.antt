@@ -1,3 +1,4 @@
 pub mod Lists
 pub mod BitsLaws
 pub mod DistanceLaws
+pub mod Divisions

@@ -44,11 +44,10 @@ moved_more xs old i by d inside long front back =
     let after : i < i + 1 = omega arith in
     let swapped : i + by ≡ by + i = omega arith in
     let value : get_or xs (i + by) d ≡ get_or (drop by old) i d
-        = sym (get_or-drop i xs by d) ∙ ap (λ ys. get_or ys by d) back ∙ get_or-drop i old by d ∙ ap (λ n. get_or old n d) swapped ∙ sym (get_or-drop by old i d) in
-    (
+    = sym (get_or-drop i xs by d) ∙ ap (λ ys. get_or ys by d) back ∙ get_or-drop i old by d ∙ ap (λ n. get_or old n d) swapped ∙ sym (get_or-drop by old i d) in (
       take_more_set xs i (get_or xs (i + by) d) here
-      ∙ ap₂ (λ ys y. ys ++ y ∷ []) front value
-      ∙ sym (take_more (drop by old) i d far),
+          ∙ ap₂ (λ ys y. ys ++ y ∷ []) front value
+          ∙ sym (take_more (drop by old) i d far),
       drop-set-lt (i + 1) xs i (get_or xs (i + by) d) after
-      ∙ sym (drop-drop 1 i xs) ∙ ap (drop 1) back ∙ drop-drop 1 i old,
+          ∙ sym (drop-drop 1 i xs) ∙ ap (drop 1) back ∙ drop-drop 1 i old,
     )

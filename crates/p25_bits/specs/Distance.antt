@@ -1,5 +1,5 @@
 -- The number of places in which two lists differ (the Hamming distance of coding theory).
-use Rattle.std.specs.Prelude.{ℕ, ◌+◌, Bool, true, false, cond, List, [], ◌∷◌}
+use Rattle.std.specs.Prelude.{ℕ, ◌+◌, Bool, cond, List, [], ◌∷◌}
 use Rattle.std.specs.Bool.{beq}
 
 -- how many of the places that both lists have hold letters that a test calls different

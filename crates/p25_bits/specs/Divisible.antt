@@ -1,5 +1,5 @@
 -- Polynomials over GF(2) as numbers: bit i of the number is the coefficient of x^i.
-use Rattle.std.specs.Prelude.{◌≡◌, ℕ, ◌*◌, Bool, cond, List, [], ◌∷◌, bit_xor}
+use Rattle.std.specs.Prelude.{◌≡◌, ℕ, ◌+◌, ◌*◌, ◌^◌, ◌<◌, ◌≤◌, Bool, cond, List, [], ◌∷◌, bit_xor}
 
 -- the product of a generator and a quotient, whose coefficients are listed lowest first
 unfoldable pub multiple_of : ℕ → List Bool → ℕ
@@ -10,3 +10,13 @@ multiple_of generator (bit ∷ higher) = bit_xor (2 * multiple_of generator high
 pub record IsDivisible (generator number : ℕ) : Type 0 where
   pub quotient : List Bool
   pub product : multiple_of generator quotient ≡ number
+
+-- a polynomial of a degree: its highest coefficient is that of x^degree
+pub record HasDegree (polynomial degree : ℕ) : Type 0 where
+  pub highest : 2 ^ degree ≤ polynomial
+  pub none_above : polynomial < 2 ^ (degree + 1)
+
+-- the remainder by a generator of a degree: of lower degree, and it differs from the polynomial by a multiple
+pub record IsRemainder (generator degree number remainder : ℕ) : Type 0 where
+  pub lower : remainder < 2 ^ degree
+  pub divisible : IsDivisible generator (bit_xor number remainder)

@@ -2,6 +2,8 @@
 #![tactic(auto)]
 
 mod bit_buf;
+mod division;
 mod slices;
 
 pub use bit_buf::{BITS_MOST, BitBuf};
+pub use division::{next_remainder, number_remainder};

@@ -1,4 +1,4 @@
-use Rattle.std.proofs.Common.{◌≡◌, ◌+◌, ◌<◌, ◌≤◌, ℕ, length, false, true, arith, drop, get_or, cond, sym, ◌∙◌, ap}
+use Rattle.std.proofs.Common.{◌<◌, ◌≤◌, ℕ, length, false, arith, drop, get_or, ap}
 use Rattle.std.specs.Bool.{beq}
 use Rattle.std.proofs.lemmas.Bool.{not-true, not-false, cond-true, cond-false}
 use Rattle.std.proofs.lemmas.List.{drop_all}
@@ -18,11 +18,11 @@ loop-i-preserved c =
     let same = beq (get_or a i false) (get_or b i false) in
     elim c.if-a-i.branch [
       | then-a-i w ↦
-        let one = cond-false {A = ℕ} same 0 1 (not-true same w.if-a-i.true) in
-        (omega arith, omega arith)
+          let one = cond-false {A = ℕ} same 0 1 (not-true same w.if-a-i.true) in
+          (omega arith, omega arith)
       | else-a-i w ↦
-        let none = cond-true {A = ℕ} same 0 1 (not-false same w.if-a-i.false) in
-        (omega arith, omega arith)
+          let none = cond-true {A = ℕ} same 0 1 (not-false same w.if-a-i.false) in
+          (omega arith, omega arith)
     ]
 
 pub returns : goal.returns

@@ -1,28 +1,20 @@
-use Rattle.std.proofs.Common.{◌≡◌, ◌+◌, ◌*◌, ◌<◌, ◌≤◌, ◌^◌, ℕ, length, Bool, true, false, arith, drop, refl, get_or, ap, sym, ◌∙◌, subst}
+use Rattle.std.proofs.Common.{◌+◌, ◌*◌, ◌<◌, ◌≤◌, length, false, arith, drop, get_or, ap, sym, ◌∙◌}
 use Rattle.std.proofs.lemmas.List.{drop_all}
-use Rattle.std.proofs.Math.Pow.{pow_mono}
-use Rattle.p25_bits.specs.Bits.{digit_of, field_after, field_of}
-use Rattle.p25_bits.proofs.BitsLaws.{digit_of-le, field_after-drop, field_after-nil, field_of-after, more-lt}
+use Rattle.p25_bits.specs.Bits.{field_after}
+use Rattle.p25_bits.proofs.BitsLaws.{digit_of-byte, digit_of-le, field_after-drop, field_after-nil, field_of-after, more-lt}
 use Rattle.p25_bits.proofs.slices.number_of.Goals as goal
-
--- the digit that a bit is converted to
-digit : (n : ℕ) (b : Bool) → n ≡ mir.Val.bool_byte b → n ≡ digit_of b
-digit n true e = e
-digit n false e = e
 
 pub loop-bit-init : goal.loop-bit-init
 loop-bit-init c = (omega arith, sym (field_of-after c.args.bits.now))
-
 
 pub loop-bit-preserved : goal.loop-bit-preserved
 loop-bit-preserved c =
     let bits = c.args.bits.now in
     let i = c.loop-bit.bit-index in
     let b = get_or bits i false in
-    let e = digit c.from.result b c.from.ensures in
+    let e = digit_of-byte c.from.result b c.from.ensures in
     let inside : i < length bits = omega arith in
-    let small : c.from.result ≤ 1 = omega (arith, digit_of-le b, e) in
-    (
+    let small : c.from.result ≤ 1 = omega (arith, digit_of-le b, e) in (
       more-lt c.loop-bit.number c.from.result i c.loop-bit.invariant.0 small,
       ap (λ d. field_after (2 * c.loop-bit.number + d) (drop (i + 1) bits)) e ∙ sym (field_after-drop c.loop-bit.number bits i inside) ∙ c.loop-bit.invariant.1,
     )

@@ -1,4 +1,4 @@
-use Rattle.std.proofs.Common.{◌≡◌, ◌+◌, ◌-◌, ◌≤◌, Bool, List, take, drop, ap, sym, ◌∙◌, length, length-take, arith}
+use Rattle.std.proofs.Common.{◌≡◌, ◌+◌, ◌-◌, take, drop, ap, sym, ◌∙◌, length, length-take, arith}
 use Rattle.std.proofs.lemmas.List.{drop-take}
 use Rattle.p25_bits.proofs.bit_buf.BitBuf.drop_front.Goals as goal
 

@@ -1,4 +1,4 @@
-use Rattle.std.proofs.Common.{◌≡◌, ◌+◌, ◌≤◌, ◌-◌, List, Bool, ap, sym, ◌∙◌, length, take, length-take, arith}
+use Rattle.std.proofs.Common.{◌≡◌, ◌+◌, ◌≤◌, ◌-◌, List, Bool, ap, sym, ◌∙◌, length, length-take, arith}
 use Rattle.p25_bits.specs.Bits.{field_of, part}
 use Rattle.p25_bits.proofs.Lists.{part-take}
 use Rattle.p25_bits.proofs.bit_buf.BitBuf.field.Goals as goal
@@ -10,7 +10,7 @@ returns c =
     let count : (c.args.at + c.args.width) - c.args.at ≡ c.args.width = omega arith in
     c.number_of.ensures
     ∙ ap field_of (
-      ap (λ k. part c.args.at k inside.bits) count
-      ∙ sym (part-take c.args.at c.args.width inside.len inside.bits there)
-      ∙ ap (λ (xs : List Bool). part c.args.at c.args.width xs) c.self.view_is
+    ap (λ k. part c.args.at k inside.bits) count
+    ∙ sym (part-take c.args.at c.args.width inside.len inside.bits there)
+    ∙ ap (λ (xs : List Bool). part c.args.at c.args.width xs) c.self.view_is
     )

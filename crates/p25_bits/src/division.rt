@@ -1,0 +1,36 @@
+//! Division of polynomials over GF(2) by a generator, coefficient by coefficient. A number stands for the polynomial
+//! whose coefficient of x^i is the number's bit i.
+
+ghost use Rattle.std.specs.Prelude.{◌≡◌, ℕ, ◌+◌, ◌*◌, ◌^◌, ◌<◌, ◌≤◌};
+ghost use Rattle.p25_bits.specs.Bits.{digit_of};
+ghost use Rattle.p25_bits.specs.Divisible.{HasDegree, IsRemainder};
+
+/// Answers the remainder after one more coefficient: where `remainder` is that of some polynomial P by the generator,
+/// the answer is that of x·P plus `bit`. `degree` is the generator's.
+pub fn next_remainder(remainder: u64, bit: bool, generator: u64, degree: u32) -> u64
+    requires fits { degree < 63 }
+    requires generator { HasDegree generator degree }
+    requires lower { remainder < 2 ^ degree }
+    ensures lower { result < 2 ^ degree }
+    ensures next { (number : ℕ) → IsRemainder generator degree number remainder → IsRemainder generator degree (2 * number + digit_of bit) result }
+{
+    let shifted = 2 * remainder + u64::from(bit);
+    if shifted >> degree == 1 {
+        shifted ^ generator
+    } else {
+        shifted
+    }
+}
+
+/// Answers the remainder of a number's polynomial by a generator of the given degree.
+pub fn number_remainder(number: u64, generator: u64, degree: u32) -> u64
+    requires fits { degree < 63 }
+    requires generator { HasDegree generator degree }
+    ensures { IsRemainder generator degree number result }
+{
+    let mut remainder: u64 = 0;
+    for k in 0..64u32 {
+        remainder = next_remainder(remainder, (number >> (63 - k)) & 1 == 1, generator, degree);
+    }
+    remainder
+}
