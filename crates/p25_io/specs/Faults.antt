@@ -1,5 +1,5 @@
 -- Counts of faults: each rises by one at a fault, and stands still at 2^64 - 1.
-use Rattle.std.specs.Prelude.{ℕ, ◌+◌, ◌-◌, ◌^◌, ◌≤◌, min, Result, OnErr}
+use Rattle.std.specs.Prelude.{ℕ, ◌+◌, ◌-◌, ◌^◌, ◌≤◌, min, Result, Ok, Err, OnErr}
 use Rattle.p25_io.specs.declared.failed.Failed.{Failed}
 
 -- one more, but no more than 2^64 - 1
@@ -14,3 +14,8 @@ Rose before now = counted before ≤ now
 pub record HasCause {T : Type 0} (before now : ℕ) (result : Result T Failed) : Type 0 where
   pub later : before ≤ now
   pub failed : OnErr result (Rose before now)
+
+-- a count after a call: one more where the call failed
+abbrev pub faults_after : {T : Type 0} → Result T Failed → ℕ → ℕ
+faults_after (Ok value) before = before
+faults_after (Err fault) before = counted before

@@ -1,3 +1,5 @@
 pub mod Faults
 pub mod Memory
 pub mod Octets
+pub mod Room
+pub mod Steady

@@ -1,6 +1,6 @@
 //! A source over octets in memory, in which chosen calls fail.
 ghost use Rattle.std.specs.Prelude.{◌≡◌, ◌<◌, ◌↔◌, length, take, drop, min, Some, Contains, IsErr, IfOk, OnOk, OnErr};
-ghost use Rattle.p25_io.specs.Faults.{counted, HasCause};
+ghost use Rattle.p25_io.specs.Faults.{counted, faults_after, HasCause};
 ghost use Rattle.p25_io.specs.Octets.{Gives};
 
 use crate::{Failed, Source};
@@ -63,9 +63,10 @@ impl Source for MemorySource<'_> {
         ensures cause { HasCause self.old.faults self.new.faults result }
         ensures room { length buf.new ≡ length buf.old }
 
-        // Exactly.
+        // Which calls fail, how many octets the others give, and what is kept.
         ensures fails { IsErr result ↔ Contains self.old.fails (counted self.old.calls) }
         ensures count { IfOk result (λ count. count ≡ min (min self.old.piece (length buf.old)) (length self.old.left)) }
+        ensures after { self.new ≡ record self.old { left = self.new.left; calls = counted self.old.calls; faults = faults_after result self.old.faults } }
     {
         self.calls = self.calls.saturating_add(1);
         if self.fails.contains(&self.calls) {
