@@ -6,6 +6,10 @@ use Rattle.std.specs.Io.KnownBytes.{prepend_known, append_known}
 pub record Taken (before : Option (List ℕ)) (octets : List ℕ) (now : Option (List ℕ)) : Type 0 where
   pub left : before ≡ prepend_known octets now
 
+-- what is left is what was left before
+abbrev pub Kept : Option (List ℕ) → Option (List ℕ) → Type 0
+Kept before now = now ≡ before
+
 -- a read gave so many octets in the front of its buffer: no more than fit, and none exactly where a source that tells has none left
 pub record Gives (before now : Option (List ℕ)) (buf : List ℕ) (count : ℕ) : Type 0 where
   pub fits : count ≤ length buf

@@ -1,7 +1,7 @@
 //! A source over octets in memory, in which chosen calls fail.
 ghost use Rattle.std.specs.Prelude.{◌≡◌, ◌<◌, ◌↔◌, length, take, drop, min, Some, Contains, IsErr, IfOk, OnOk, OnErr};
 ghost use Rattle.p25_io.specs.Faults.{counted, faults_after, HasCause};
-ghost use Rattle.p25_io.specs.Octets.{Gives};
+ghost use Rattle.p25_io.specs.Octets.{Gives, Kept};
 
 use crate::{Failed, Source};
 use std::marker::Model;
@@ -59,7 +59,7 @@ impl Source for MemorySource<'_> {
     fn read(&mut self, buf: &mut [u8]) -> Result<usize, Failed>
         requires { 0 < length buf.old }
         ensures given { IfOk result (Gives (Some self.old.left) (Some self.new.left) buf.new) }
-        ensures kept { OnErr result (Some self.new.left ≡ Some self.old.left) }
+        ensures kept { OnErr result (Kept (Some self.old.left) (Some self.new.left)) }
         ensures cause { HasCause self.old.faults self.new.faults result }
         ensures room { length buf.new ≡ length buf.old }
 

@@ -1,7 +1,7 @@
 //! Where octets come from.
 ghost use Rattle.std.specs.Prelude.{◌≡◌, ◌<◌, ℕ, List, Option, length, IfOk, OnErr};
 ghost use Rattle.p25_io.specs.Faults.{HasCause};
-ghost use Rattle.p25_io.specs.Octets.{Gives};
+ghost use Rattle.p25_io.specs.Octets.{Gives, Kept};
 
 use crate::Failed;
 
@@ -20,7 +20,7 @@ pub trait Source {
     fn read(&mut self, buf: &mut [u8]) -> Result<usize, Failed>
         requires { 0 < length buf.old }
         ensures given { IfOk result (Gives (left self.old) (left self.new) buf.new) }
-        ensures kept { OnErr result (left self.new ≡ left self.old) }
+        ensures kept { OnErr result (Kept (left self.old) (left self.new)) }
         ensures cause { HasCause (faults self.old) (faults self.new) result }
         ensures room { length buf.new ≡ length buf.old };
 }

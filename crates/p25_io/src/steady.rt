@@ -1,7 +1,7 @@
 //! A source over octets in memory that never fails.
 ghost use Rattle.std.specs.Prelude.{◌≡◌, ◌<◌, length, min, Some, IfOk, IsOk, OnErr};
 ghost use Rattle.p25_io.specs.Faults.{HasCause};
-ghost use Rattle.p25_io.specs.Octets.{Gives};
+ghost use Rattle.p25_io.specs.Octets.{Gives, Kept};
 
 use crate::{Failed, Source};
 use std::marker::Model;
@@ -52,7 +52,7 @@ impl Source for SteadySource<'_> {
     fn read(&mut self, buf: &mut [u8]) -> Result<usize, Failed>
         requires { 0 < length buf.old }
         ensures given { IfOk result (Gives (Some self.old.left) (Some self.new.left) buf.new) }
-        ensures kept { OnErr result (Some self.new.left ≡ Some self.old.left) }
+        ensures kept { OnErr result (Kept (Some self.old.left) (Some self.new.left)) }
         ensures cause { HasCause 0 0 result }
         ensures room { length buf.new ≡ length buf.old }
 
