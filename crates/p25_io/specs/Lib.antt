@@ -1,6 +1,6 @@
 pub mod Adapters
 pub mod Faults
-pub mod Memory
+pub mod MemorySource
 pub mod Octets
-pub mod Room
-pub mod Steady
+pub mod SliceSink
+pub mod SteadySource

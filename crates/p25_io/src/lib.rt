@@ -1,22 +1,22 @@
 //! What the toolkit asks of the outside: a source of octets, and a sink for octets.
 #![tactic(auto)]
 
-mod counting;
+mod count_sink;
 mod failed;
-mod memory;
-mod reader;
-mod reading;
-mod slice;
-mod steady;
-mod writer;
-mod writing;
+mod memory_source;
+mod read_source;
+mod sink;
+mod slice_sink;
+mod source;
+mod steady_source;
+mod write_sink;
 
-pub use counting::CountSink;
+pub use count_sink::CountSink;
 pub use failed::Failed;
-pub use memory::MemorySource;
-pub use reader::ReadSource;
-pub use reading::Source;
-pub use slice::SliceSink;
-pub use steady::SteadySource;
-pub use writer::WriteSink;
-pub use writing::Sink;
+pub use memory_source::MemorySource;
+pub use read_source::ReadSource;
+pub use sink::Sink;
+pub use slice_sink::SliceSink;
+pub use source::Source;
+pub use steady_source::SteadySource;
+pub use write_sink::WriteSink;

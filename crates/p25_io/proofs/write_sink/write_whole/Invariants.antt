@@ -1,7 +1,7 @@
 -- What the writer is known to hold has grown by the octets that are done.
 use Rattle.std.proofs.Common.{length, take, ◌-◌, ◌≤◌}
 use Rattle.std.specs.Io.KnownBytes.{Appends}
-use Rattle.p25_io.proofs.writer.write_whole.Given as goal
+use Rattle.p25_io.proofs.write_sink.write_whole.Given as goal
 
 abbrev pub invariant-loop-done : goal.invariant-loop-done
 invariant-loop-done g l =

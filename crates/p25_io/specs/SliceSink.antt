@@ -1,8 +1,8 @@
 -- What contracts see of a sink in memory.
-use Rattle.std.specs.Prelude.{ℕ, ◌<◌, ◌⊎◌, List, [], length, take, Contains}
+use Rattle.std.specs.Prelude.{ℕ, List}
 
 -- the octets written, how many more fit, the numbers of the calls that fail, the calls made, and how many failed
-pub record Shelf : Type 0 where
+pub record Storage : Type 0 where
   pub written : List ℕ
   pub room : ℕ
   pub fails : List ℕ

@@ -3,7 +3,7 @@ use Rattle.std.proofs.lemmas.List.{take_rest}
 use Rattle.std.proofs.Math.Seq.{take-add}
 use Rattle.std.proofs.KnownBytes.{Appends-trans}
 use Rattle.std.specs.Io.KnownBytes.{Appends}
-use Rattle.p25_io.proofs.writer.write_whole.Goals as goal
+use Rattle.p25_io.proofs.write_sink.write_whole.Goals as goal
 
 -- the octets that are done and the next ones, of those that are left
 take-done_next : (piece : List ℕ) (done count : ℕ) → take (done + count) piece ≡ take done piece ++ take count (take (length piece - done) (drop done piece))

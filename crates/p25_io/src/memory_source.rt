@@ -18,7 +18,7 @@ pub struct MemorySource<'a> {
 
 impl<'a> Model for MemorySource<'a> {
     ghost use Rattle.std.specs.Prelude.{◌<◌};
-    ghost use Rattle.p25_io.specs.Memory.{Supply};
+    ghost use Rattle.p25_io.specs.MemorySource.{Supply};
 
     ghost Value = { Supply };
 
@@ -68,8 +68,9 @@ impl Source for MemorySource<'_> {
         ensures count { IfOk result (λ count. count ≡ min (min self.old.piece (length buf.old)) (length self.old.left)) }
         ensures after { self.new ≡ record self.old { left = self.new.left; calls = counted self.old.calls; faults = faults_after result self.old.faults } }
     {
-        self.calls = self.calls.saturating_add(1);
-        if self.fails.contains(&self.calls) {
+        let number = self.calls.saturating_add(1);
+        self.calls = number;
+        if self.fails.contains(&number) {
             self.faults = self.faults.saturating_add(1);
             return Err(Failed);
         }

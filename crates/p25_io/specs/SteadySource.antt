@@ -2,6 +2,6 @@
 use Rattle.std.specs.Prelude.{ℕ, List}
 
 -- the octets left, and the most that a read gives
-pub record Steady : Type 0 where
+pub record SteadySupply : Type 0 where
   pub left : List ℕ
   pub piece : ℕ

@@ -18,9 +18,9 @@ pub struct SliceSink<'a> {
 
 impl<'a> Model for SliceSink<'a> {
     ghost use Rattle.std.specs.Prelude.{◌≤◌, ◌-◌, length, take};
-    ghost use Rattle.p25_io.specs.Room.{Shelf};
+    ghost use Rattle.p25_io.specs.SliceSink.{Storage};
 
-    ghost Value = { Shelf };
+    ghost Value = { Storage };
 
     ghost view = { λ s. record { written = take s.len s.room.now; room = length s.room.now - s.len; fails = s.fails.now; calls = s.calls; faults = s.faults } };
 
@@ -66,8 +66,9 @@ impl Sink for SliceSink<'_> {
         ensures room { self.new.room + length self.new.written ≡ self.old.room + length self.old.written }
         ensures after { self.new ≡ record self.old { written = self.new.written; room = self.new.room; calls = counted self.old.calls; faults = faults_after result self.old.faults } }
     {
-        self.calls = self.calls.saturating_add(1);
-        if self.fails.contains(&self.calls) {
+        let number = self.calls.saturating_add(1);
+        self.calls = number;
+        if self.fails.contains(&number) {
             self.faults = self.faults.saturating_add(1);
             return Err(Failed);
         }

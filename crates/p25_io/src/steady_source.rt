@@ -15,9 +15,9 @@ pub struct SteadySource<'a> {
 
 impl<'a> Model for SteadySource<'a> {
     ghost use Rattle.std.specs.Prelude.{◌<◌};
-    ghost use Rattle.p25_io.specs.Steady.{Steady};
+    ghost use Rattle.p25_io.specs.SteadySource.{SteadySupply};
 
-    ghost Value = { Steady };
+    ghost Value = { SteadySupply };
 
     ghost view = { λ s. record { left = s.rest.now; piece = s.piece } };
 
