@@ -7,6 +7,16 @@ use Rattle.std.specs.Io.KnownBytes.{prepend_known, append_known}
 use Rattle.p25_io.specs.Faults.{Rose}
 use Rattle.p25_io.specs.Octets.{Taken, Gives, Appended, AppendedFront}
 
+-- equal octets may stand for each other
+pub Taken-same : {first now : Option (List ℕ)} {xs ys : List ℕ} → xs ≡ ys → Taken first xs now → Taken first ys now
+Taken-same {first = first} {now = now} same p = subst (λ l. Taken first l now) same p
+
+pub Appended-same : {first now : Option (List ℕ)} {xs ys : List ℕ} → xs ≡ ys → Appended first xs now → Appended first ys now
+Appended-same {first = first} {now = now} same p = subst (λ l. Appended first l now) same p
+
+pub AppendedFront-same : {first now : Option (List ℕ)} {xs ys : List ℕ} → xs ≡ ys → AppendedFront first xs now → AppendedFront first ys now
+AppendedFront-same {first = first} {now = now} same p = subst (λ l. AppendedFront first l now) same p
+
 -- before the first read nothing is taken
 pub Taken-none : (left : Option (List ℕ)) → Taken left [] left
 Taken-none None = record { left = refl }
@@ -47,20 +57,19 @@ Appended-trans {first = Some zs} {xs = xs} {ys = ys} p q =
 
 -- a whole piece is a front of itself
 pub Appended-front : {first now : Option (List ℕ)} {xs : List ℕ} → Appended first xs now → AppendedFront first xs now
-Appended-front {first = first} {now = now} {xs = xs} p =
-    record { count = length xs; front = subst (λ l. Appended first l now) (sym (take-length xs)) p }
+Appended-front {xs = xs} p = record { count = length xs; front = Appended-same (sym (take-length xs)) p }
 
 -- a whole piece, and then a front of the next
 pub AppendedFront-next : {first second third : Option (List ℕ)} {xs ys : List ℕ} → Appended first xs second → AppendedFront second ys third → AppendedFront first (xs ++ ys) third
-AppendedFront-next {first = first} {third = third} {xs = xs} {ys = ys} p q =
-    record { count = length xs + q.count; front = subst (λ l. Appended first l third) (sym (take-append-add xs ys q.count)) (Appended-trans p q.front) }
+AppendedFront-next {xs = xs} {ys = ys} p q =
+    record { count = length xs + q.count; front = Appended-same (sym (take-append-add xs ys q.count)) (Appended-trans p q.front) }
 
 -- a front of a piece is a front of a longer one
 pub AppendedFront-longer : {first now : Option (List ℕ)} {xs : List ℕ} (ys : List ℕ) → AppendedFront first xs now → AppendedFront first (xs ++ ys) now
-AppendedFront-longer {first = first} {now = now} {xs = xs} ys p =
+AppendedFront-longer {xs = xs} ys p =
     let count = min p.count (length xs) in
     let same : take count (xs ++ ys) ≡ take p.count xs = take-append-le count xs ys (omega arith) ∙ take_min p.count xs in
-    record { count = count; front = subst (λ l. Appended first l now) (sym same) p.front }
+    record { count = count; front = Appended-same (sym same) p.front }
 
 -- a count that rose within a run of calls rose over the whole run
 pub Rose-within : (first before now last : ℕ) → first ≤ before → Rose before now → now ≤ last → Rose first last

@@ -20,3 +20,6 @@ pub use slice_sink::SliceSink;
 pub use source::Source;
 pub use steady_source::SteadySource;
 pub use write_sink::WriteSink;
+
+#[cfg(test)]
+mod tests;
