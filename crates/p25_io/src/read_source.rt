@@ -50,3 +50,49 @@ impl<R: Read> Source for ReadSource<R> {
         }
     }
 }
+
+#[cfg(test)]
+mod tests {
+    use super::*;
+    use crate::tests::gather;
+    use std::io;
+    use std::io::ErrorKind;
+
+    // Gives two octets, fails once, gives one more octet, and ends.
+    #[derive(Drop)]
+    struct Stuttering {
+        calls: u8,
+    }
+
+    impl Read for Stuttering {
+        fn read(&mut self, buf: &mut [u8]) -> io::Result<usize> {
+            self.calls = self.calls.saturating_add(1);
+            let octets: &[u8] = match self.calls {
+                1 => b"ab",
+                2 => return Err(io::Error::from(ErrorKind::Other)),
+                3 => b"c",
+                _ => b"",
+            };
+            let count = octets.len().min(buf.len());
+            buf[..count].copy_from_slice(&octets[..count]);
+            Ok(count)
+        }
+    }
+
+    #[test]
+    fn an_err_in_mid_stream_is_a_fault(rt: HostRuntime) {
+        let mut source = ReadSource::new(Stuttering { calls: 0 });
+        let mut buf = [0; 4];
+        let wants = [(Ok(2), 0), (Err(Failed), 1), (Ok(1), 1), (Ok(0), 1)];
+        for (want, faults) in wants {
+            assert_eq!(rt; source.read(&mut buf), want);
+            assert_eq!(rt; source.faults, faults);
+        }
+        assert_eq!(rt; &buf[..2], b"cb".as_slice());
+        assert_eq!(rt;
+            gather(&mut ReadSource::new(b"xyz".as_slice()), &mut buf),
+            Ok(3)
+        );
+        assert_eq!(rt; &buf[..3], b"xyz".as_slice());
+    }
+}

@@ -63,3 +63,65 @@ fn write_whole<W: Write>(inner: &mut W, piece: &[u8]) -> Result<(), Failed>
     }
     inner.flush().map_err(|_| Failed)
 }
+
+#[cfg(test)]
+mod tests {
+    use super::*;
+    use crate::tests::put_all;
+    use std::io;
+    use std::io::ErrorKind;
+
+    // Takes at most so many octets a call, and fails at the call of that number and, if it is to, at each flush.
+    #[derive(Drop)]
+    struct Fussy {
+        most: usize,
+        failing_call: u8,
+        flush_fails: bool,
+        calls: u8,
+        taken: usize,
+    }
+
+    impl Write for Fussy {
+        fn write(&mut self, buf: &[u8]) -> io::Result<usize> {
+            self.calls = self.calls.saturating_add(1);
+            if self.calls == self.failing_call {
+                return Err(io::Error::from(ErrorKind::Other));
+            }
+            let count = buf.len().min(self.most);
+            self.taken = self.taken.saturating_add(count);
+            Ok(count)
+        }
+
+        fn flush(&mut self) -> io::Result<()> {
+            if self.flush_fails {
+                return Err(io::Error::from(ErrorKind::Other));
+            }
+            Ok(())
+        }
+    }
+
+    // The piece, the most octets a call, the failing call, whether a flush fails; the answer, the octets taken and the faults.
+    const WRITERS: [(&[u8], usize, u8, bool, Result<(), Failed>, usize, u64); 5] = [
+        (b"abcde", 2, 0, false, Ok(()), 5, 0),
+        (b"abcde", 0, 0, false, Err(Failed), 0, 1),
+        (b"abcde", 2, 2, false, Err(Failed), 2, 1),
+        (b"abcde", 9, 0, true, Err(Failed), 5, 1),
+        (b"", 0, 0, false, Ok(()), 0, 0),
+    ];
+
+    #[test]
+    fn each_fault_of_a_writer_counts(rt: HostRuntime) {
+        for (piece, most, failing_call, flush_fails, want, taken, faults) in WRITERS {
+            let mut sink = WriteSink::new(Fussy {
+                most,
+                failing_call,
+                flush_fails,
+                calls: 0,
+                taken: 0,
+            });
+            assert_eq!(rt; put_all(&mut sink, &[piece]), want, "{most} octets a call");
+            assert_eq!(rt; sink.inner.taken, taken, "{most} octets a call");
+            assert_eq!(rt; sink.faults, faults, "{most} octets a call");
+        }
+    }
+}
