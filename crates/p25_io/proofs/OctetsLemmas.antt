@@ -1,5 +1,5 @@
 -- Laws for a loop that reads to the end, or that writes piece after piece.
-use Rattle.std.proofs.Common.{ℕ, ◌+◌, ◌-◌, ◌^◌, ◌≡◌, ◌≤◌, Option, None, Some, List, [], ◌++◌, length, take, min, refl, sym, ap, subst, ◌∙◌, arith, append_assoc, append-nil}
+use Rattle.std.proofs.Common.{ℕ, ◌+◌, ◌≡◌, ◌≤◌, Option, None, Some, List, [], ◌++◌, length, take, min, refl, sym, ap, subst, ◌∙◌, arith, append_assoc, append-nil}
 use Rattle.std.proofs.lemmas.List.{take_min, take-append-le}
 use Rattle.std.proofs.Math.Seq.{take-append-add, take-length}
 use Rattle.std.specs.Prelude.{IfSome}

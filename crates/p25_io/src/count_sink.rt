@@ -1,12 +1,14 @@
 //! A sink that keeps a number of octets, and no octet.
-ghost use Rattle.std.specs.Prelude.{◌≡◌, ◌+◌, ◌-◌, ◌^◌, ℕ, length, min, None, IsOk, OnOk, OnErr};
+ghost use Rattle.std.specs.Prelude.{◌≡◌, ◌+◌, ◌-◌, ◌^◌, length, min, None, IsOk, OnOk, OnErr};
 ghost use Rattle.p25_io.specs.Faults.{HasCause};
 ghost use Rattle.p25_io.specs.Octets.{Appended, AppendedFront};
 
 use crate::{Failed, Sink};
 use std::marker::Model;
 
-/// A sink that counts the octets written to it, and never fails.
+/// A sink that counts the octets written to it, tells none of them, and never fails. Its count of faults is 0.
+///
+/// Contracts see it as the number of octets, which stands still at 2^64 - 1.
 #[derive(Drop)]
 pub struct CountSink {
     octets: u64,
@@ -41,6 +43,7 @@ impl Sink for CountSink {
 
     ghost faults = { λ s. 0 };
 
+    /// Adds the number of octets of the piece.
     fn write(&mut self, piece: &[u8]) -> Result<(), Failed>
         ensures ok { OnOk result (Appended None piece.now None) }
         ensures err { OnErr result (AppendedFront None piece.now None) }

@@ -8,7 +8,9 @@ ghost use Rattle.p25_io.specs.Adapters.{reader_of, read_faults};
 use crate::{Failed, Source};
 use std::io::Read;
 
-/// A source over one of std's readers. It doesn't tell what is left; each Err of the reader is a fault.
+/// A source over one of std's readers. It doesn't tell what is left.
+///
+/// Each Err of the reader is a fault, whatever its kind, and raises a count that stands still at 2^64 - 1.
 #[derive(Drop)]
 pub struct ReadSource<R> {
     inner: R,
@@ -30,6 +32,7 @@ impl<R: Read> Source for ReadSource<R> {
 
     ghost faults = { read_faults };
 
+    /// Makes one read of the reader.
     fn read(&mut self, buf: &mut [u8]) -> Result<usize, Failed>
         requires { 0 < length buf.old }
         ensures given { IfOk result (Gives None None buf.new) }

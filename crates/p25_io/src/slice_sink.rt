@@ -7,6 +7,9 @@ use crate::{Failed, Sink};
 use std::marker::Model;
 
 /// A sink into memory that was lent to it, in which chosen calls fail.
+///
+/// Contracts see it as a `Storage`: the octets written, how many more fit, the numbers of the calls that fail, the
+/// calls made and the faults. Calls are counted from 1; both counts stand still at 2^64 - 1.
 #[derive(Drop)]
 pub struct SliceSink<'a> {
     room: &'a mut [u8],
@@ -54,6 +57,8 @@ impl Sink for SliceSink<'_> {
 
     ghost faults = { λ s. s.faults };
 
+    /// Appends the whole piece, and fails exactly at the numbered calls, which append nothing, and where the piece
+    /// doesn't fit: then as much of it as fits is appended.
     fn write(&mut self, piece: &[u8]) -> Result<(), Failed>
         ensures ok { OnOk result (Appended (Some self.old.written) piece.now (Some self.new.written)) }
         ensures err { OnErr result (AppendedFront (Some self.old.written) piece.now (Some self.new.written)) }

@@ -1,12 +1,14 @@
 //! A source over octets in memory that never fails.
-ghost use Rattle.std.specs.Prelude.{◌≡◌, ◌<◌, length, min, Some, IfOk, IsOk, OnErr};
+ghost use Rattle.std.specs.Prelude.{◌≡◌, ◌<◌, ◌++◌, length, take, drop, min, Some, IfOk, OnErr};
 ghost use Rattle.p25_io.specs.Faults.{HasCause};
 ghost use Rattle.p25_io.specs.Octets.{Gives, Kept};
 
 use crate::{Failed, Source};
 use std::marker::Model;
 
-/// A source over octets in memory that never fails.
+/// A source over octets in memory that never fails. Its count of faults is 0.
+///
+/// Contracts see it as a `SteadySupply`: the octets left, and the most that a read gives.
 #[derive(Drop)]
 pub struct SteadySource<'a> {
     rest: &'a [u8],
@@ -25,7 +27,7 @@ impl<'a> Model for SteadySource<'a> {
 }
 
 impl<'a> SteadySource<'a> {
-    /// A source that gives these octets, at most `piece` of them a read.
+    /// A source that gives these octets, at most `piece` of them a read. `piece` is above 0.
     pub fn new(octets: &'a [u8], piece: usize) -> SteadySource<'a>
         requires { 0 < piece }
         ensures { result ≡ record { left = octets.now; piece = piece } }
@@ -36,7 +38,7 @@ impl<'a> SteadySource<'a> {
         }
     }
 
-    /// The octets that are left.
+    /// The octets that are left to be read.
     pub fn rest(&self) -> &[u8]
         ensures { result.now ≡ self.now.left }
     {
@@ -49,6 +51,7 @@ impl Source for SteadySource<'_> {
 
     ghost faults = { λ s. 0 };
 
+    /// Gives as many octets as `piece`, `buf` and what is left allow.
     fn read(&mut self, buf: &mut [u8]) -> Result<usize, Failed>
         requires { 0 < length buf.old }
         ensures given { IfOk result (Gives (Some self.old.left) (Some self.new.left) buf.new) }
@@ -58,6 +61,7 @@ impl Source for SteadySource<'_> {
 
         // How many octets each call gives.
         ensures count { result ≡ Ok (min (min self.old.piece (length buf.old)) (length self.old.left)) }
+        ensures copied { IfOk result (λ count. buf.new ≡ take count self.old.left ++ drop count buf.old) }
         ensures same { self.new.piece ≡ self.old.piece }
     {
         let count = self.piece.min(buf.len()).min(self.rest.len());

@@ -8,8 +8,10 @@ ghost use Rattle.p25_io.specs.Adapters.{writer_of, write_faults, AppendsFront};
 use crate::{Failed, Sink};
 use std::io::Write;
 
-/// A sink over one of std's writers. It doesn't tell what was written. A fault is an Err of the writer, also at its
-/// flush, which ends each write, and a write that takes nothing of a piece that isn't empty.
+/// A sink over one of std's writers. It doesn't tell what was written.
+///
+/// A fault is an Err of the writer, whatever its kind, also of its flush, or a write of the writer that takes nothing
+/// of octets that are left. It raises a count that stands still at 2^64 - 1.
 #[derive(Drop)]
 pub struct WriteSink<W> {
     inner: W,
@@ -31,6 +33,7 @@ impl<W: Write> Sink for WriteSink<W> {
 
     ghost faults = { write_faults };
 
+    /// Writes until the writer has taken the whole piece, and flushes it.
     fn write(&mut self, piece: &[u8]) -> Result<(), Failed>
         ensures ok { OnOk result (Appended None piece.now None) }
         ensures err { OnErr result (AppendedFront None piece.now None) }

@@ -1,4 +1,4 @@
-use Rattle.std.proofs.Common.{◌≡◌, ℕ, ◌<◌, suc, List, ◌++◌, [], ◌∷◌, length, take, drop, get_or, arith, sym, subst, ap, ◌∙◌, Result, Ok, Err, append_assoc, take-append-drop}
+use Rattle.std.proofs.Common.{◌≡◌, ℕ, ◌<◌, suc, List, ◌++◌, length, take, drop, get_or, arith, sym, ap, ◌∙◌, Result, Ok, Err, append_assoc, take-append-drop}
 use Rattle.std.specs.Prelude.{flat_map, OnErr}
 use Rattle.std.proofs.lemmas.Grind.{flat_map-append}
 use Rattle.std.proofs.lemmas.List.Concat.{flat_map-cons}
