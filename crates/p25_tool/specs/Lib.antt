@@ -1,2 +1,5 @@
 pub mod Words
 pub mod Outcomes
+pub mod Decided
+pub mod Items
+pub mod Texts

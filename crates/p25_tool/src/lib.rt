@@ -2,10 +2,15 @@
 #![tactic(auto)]
 
 mod command;
+mod item;
+mod item_text;
 mod line;
+mod octet_bits;
 mod outcome;
+mod scan;
 mod words;
 
+pub use item::{Field, Frame, Item};
 pub use line::Line;
 pub use outcome::{Outcome, outcome_status, outcome_text};
 pub use words::Words;

@@ -1,0 +1,3 @@
+pub mod Decimals
+pub mod ItemCases
+pub mod ScanLaws
