@@ -24,7 +24,7 @@ pub synced_item-cut : (at : ℕ) (bits : List Bool) → length bits < 114 → sy
 unfolding synced_item
 synced_item-cut at bits short = cond-true _ _ _ (lt-ltb (length bits) 114 short)
 
-pub synced_item-after : (at : ℕ) (bits : List Bool) (nid : Option (ℕ × ℕ)) → 114 ≤ length bits → nid_of (take 112 bits) ≡ nid → synced_item at bits ≡ item_after_nid at bits nid
+pub synced_item-after : (at : ℕ) (bits : List Bool) (nid : Option (ℕ × ℕ)) → 114 ≤ length bits → nid_of (take 114 bits) ≡ nid → synced_item at bits ≡ item_after_nid at bits nid
 unfolding synced_item
 synced_item-after at bits nid long read = cond-false _ _ _ (le-ltb (length bits) 114 long) ∙ ap (item_after_nid at bits) read
 

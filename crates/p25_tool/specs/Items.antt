@@ -26,9 +26,13 @@ unfoldable pub sync_place : List Bool → ℕ
 sync_place [] = 0
 sync_place (bit ∷ bits) = cond (has_sync (bit ∷ bits)) 0 (suc (sync_place bits))
 
+-- the 64 bits of the network identifier of a unit: those behind the sync, without the status symbol at 70 and 71
+abbrev pub nid_bits : List Bool → List Bool
+nid_bits unit = part 48 22 unit ++ part 72 42 unit
+
 -- the reading of the network identifier of a unit: its NAC and DUID
 abbrev pub nid_of : List Bool → Option (ℕ × ℕ)
-nid_of unit = exact_nid_of (field_of (part 48 64 unit))
+nid_of unit = exact_nid_of (field_of (nid_bits unit))
 
 -- the status symbol at a place of a unit
 abbrev pub status_at : ℕ → List Bool → ℕ
@@ -50,7 +54,7 @@ item_after_nid at bits (Some nid) = unit_item at bits nid
 
 -- the item at a sync: cut off within the identifier, no unit where no identifier is read, else that of the unit
 unfoldable pub synced_item : ℕ → List Bool → Item
-synced_item at bits = cond (nat_lt (length bits) 114) (Cut at (length bits)) (item_after_nid at bits (nid_of (take 112 bits)))
+synced_item at bits = cond (nat_lt (length bits) 114) (Cut at (length bits)) (item_after_nid at bits (nid_of (take 114 bits)))
 
 -- the first item of some bits: a gap up to the next sync, of at most 4,096 bits, or the item at the sync
 unfoldable pub first_item : ℕ → List Bool → Item

@@ -1,5 +1,7 @@
 pub mod Words
 pub mod Outcomes
+pub mod Progress
 pub mod Decided
 pub mod Items
+pub mod Runs
 pub mod Texts

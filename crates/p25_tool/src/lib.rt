@@ -2,14 +2,18 @@
 #![tactic(auto)]
 
 mod command;
+mod command_run;
 mod item;
 mod item_text;
 mod line;
 mod octet_bits;
 mod outcome;
+mod read;
+mod recording_text;
 mod scan;
 mod words;
 
+pub use command_run::run;
 pub use item::{Field, Frame, Item};
 pub use line::Line;
 pub use outcome::{Outcome, outcome_status, outcome_text};

@@ -1,8 +1,8 @@
 //! The item at a place of a recording.
 
 ghost use Rattle.std.specs.Prelude.{◌≡◌, ◌+◌, ◌*◌, ◌%◌, ◌^◌, ◌<◌, ◌≤◌, length, drop, min, MatchOption};
-ghost use Rattle.p25_bits.specs.Bits.{digit_of, octet_bits};
-ghost use Rattle.p25_tool.specs.Items.{first_item, sync_place, synced_item, unit_item};
+ghost use Rattle.p25_bits.specs.Bits.{digit_of, field_of, octet_bits};
+ghost use Rattle.p25_tool.specs.Items.{first_item, nid_bits, sync_place, synced_item, unit_item};
 
 use super::item::{Field, Frame, Item};
 use super::octet_bits::{bit_at, field_at};
@@ -79,13 +79,23 @@ fn item_at_sync(octets: &[u8], at: usize) -> Item
             have: have as u32,
         };
     }
-    match exact_nid(field_at(octets, at + 48, 64)) {
+    match exact_nid(nid_field(octets, at)) {
         None => Item::NoUnit {
             place: at as u64,
             field: Field::Nid,
         },
         Some(nid) => item_of_unit(octets, at, nid),
     }
+}
+
+// The 64 bits of the network identifier of the unit at a place: those behind the sync, without the status symbol that
+// stands within them at the unit's bits 70 and 71.
+fn nid_field(octets: &[u8], at: usize) -> u64
+    requires there { at + 114 ≤ 8 * length octets.now }
+    requires most { length octets.now ≤ 16777216 }
+    ensures { result ≡ field_of (nid_bits (drop at (octet_bits octets.now))) }
+{
+    field_at(octets, at + 48, 22) * (1 << 42) + field_at(octets, at + 72, 42)
 }
 
 // The item at a place whose network identifier was read.

@@ -49,13 +49,12 @@ loop-k-preserved c =
     let place = c.args.at + k in
     let fits : c.args.at + k + 48 ≤ length bits = omega (arith, length-octet_bits c.args.octets.now) in
     let inside : place + 48 < length bits = omega (arith, length-octet_bits c.args.octets.now) in
-    let next : place + 1 ≡ c.args.at + (k + 1) = omega arith in
-    (
+    let next : place + 1 ≡ c.args.at + (k + 1) = omega arith in (
       omega arith,
       c.next_window-window.ensures.fits,
       c.next_window-window.ensures.value
-      ∙ ap₂ (λ m b. (2 * m + digit_of b) % 2 ^ 48) c.loop-k.invariant.2 c.bit_at.ensures
-      ∙ window_more bits place inside
-      ∙ ap (λ n. field_of (part n 48 bits)) next,
+          ∙ ap₂ (λ m b. (2 * m + digit_of b) % 2 ^ 48) c.loop-k.invariant.2 c.bit_at.ensures
+          ∙ window_more bits place inside
+          ∙ ap (λ n. field_of (part n 48 bits)) next,
       past bits c.args.at k c.loop-k.window fits c.loop-k.invariant.2 c.if-window-eq-SYNC.false c.loop-k.invariant.3,
     )
