@@ -1,4 +1,4 @@
-ghost use Rattle.std.specs.Prelude.{◌≡◌};
+ghost use Rattle.std.specs.Prelude.{◌≡◌, ◌≤◌, length};
 ghost use Rattle.p25_tool.specs.Outcomes.{line_of, status_of};
 
 use super::line::Line;
@@ -22,7 +22,8 @@ pub enum Outcome {
 
 /// Sets `out` to the line that stands on standard error after a call, without its end; it is empty for `Done`.
 pub fn outcome_text(outcome: &Outcome, out: &mut Line)
-    ensures { out.new ≡ line_of outcome.now }
+    ensures text { out.new ≡ line_of outcome.now }
+    ensures short { length out.new ≤ 20 }
 {
     out.clear();
     let line: &[u8] = match outcome {
