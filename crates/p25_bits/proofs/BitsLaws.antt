@@ -194,21 +194,21 @@ get_or-octet_bits (x ∷ xs) place d h =
     let eight = length-bits_of 8 x in
     elim (cases_lt place 8) [
       | inl low ↦
-        let inside : place < length (bits_of 8 x) = omega arith in
-        let first : 0 ≡ place / 8 = omega arith in
-        let rest : 8 - 1 - place ≡ 7 - place % 8 = omega arith in
-        ap (λ bits. get_or bits place d) (octet_bits-cons x xs)
-        ∙ get_or_append_left (bits_of 8 x) (octet_bits xs) d place inside
-        ∙ get_or-bits_of 8 x place d low
-        ∙ ap (λ b. eqb b 1) (sym (shr_and_one x (8 - 1 - place)))
-        ∙ ap₂ (λ i k. eqb (bit_and (get_or (x ∷ xs) i 0 / 2 ^ k) 1) 1) first rest
+          let inside : place < length (bits_of 8 x) = omega arith in
+          let first : 0 ≡ place / 8 = omega arith in
+          let rest : 8 - 1 - place ≡ 7 - place % 8 = omega arith in
+          ap (λ bits. get_or bits place d) (octet_bits-cons x xs)
+          ∙ get_or_append_left (bits_of 8 x) (octet_bits xs) d place inside
+          ∙ get_or-bits_of 8 x place d low
+          ∙ ap (λ b. eqb b 1) (sym (shr_and_one x (8 - 1 - place)))
+          ∙ ap₂ (λ i k. eqb (bit_and (get_or (x ∷ xs) i 0 / 2 ^ k) 1) 1) first rest
       | inr high ↦
-        let next : suc ((place - 8) / 8) ≡ place / 8 = omega arith in
-        let rest : 7 - (place - 8) % 8 ≡ 7 - place % 8 = omega arith in
-        ap (λ bits. get_or bits place d) (octet_bits-cons x xs)
-        ∙ get_or-append_right (bits_of 8 x) (octet_bits xs) 8 place d eight high
-        ∙ get_or-octet_bits xs (place - 8) d (omega arith)
-        ∙ ap₂ (λ i k. eqb (bit_and (get_or (x ∷ xs) i 0 / 2 ^ k) 1) 1) next rest
+          let next : suc ((place - 8) / 8) ≡ place / 8 = omega arith in
+          let rest : 7 - (place - 8) % 8 ≡ 7 - place % 8 = omega arith in
+          ap (λ bits. get_or bits place d) (octet_bits-cons x xs)
+          ∙ get_or-append_right (bits_of 8 x) (octet_bits xs) 8 place d eight high
+          ∙ get_or-octet_bits xs (place - 8) d (omega arith)
+          ∙ ap₂ (λ i k. eqb (bit_and (get_or (x ∷ xs) i 0 / 2 ^ k) 1) 1) next rest
     ]
 
 -- one bit writes its digit
