@@ -1,6 +1,6 @@
 -- The items of some bits: the first, and then those of what it leaves.
-use Rattle.std.proofs.Common.{◌≡◌, ℕ, zero, suc, ◌+◌, ◌-◌, ◌<◌, ◌≤◌, inl, inr, Bool, true, false, cond, min, eqb, leb, ltb, List, [], ◌∷◌, ◌++◌, Option, Some, None, length, take, drop, refl, ap, ap₂, sym, ◌∙◌, subst, arith, length-drop}
-use Rattle.std.proofs.lemmas.Bool.{and_parts, cases_Bool, cond_both, eqb-true, leb-true, ltb-true, ltb-false, both_ways}
+use Rattle.std.proofs.Common.{◌≡◌, ℕ, zero, suc, ◌+◌, ◌<◌, ◌≤◌, inl, inr, Bool, true, cond, min, eqb, leb, ltb, List, [], ◌∷◌, Some, None, length, take, drop, refl, ap, arith, length-drop}
+use Rattle.std.proofs.lemmas.Bool.{and_parts, cases_Bool, cond_both, leb-true, ltb-true, ltb-false}
 use Rattle.p25_tool.specs.Items.{frame_of, nid_of, has_sync, sync_place, unit_item, item_after_nid, synced_item, first_item, covered, items_in, items_of}
 use Rattle.p25_tool.specs.declared.item.Field.{Field}
 use Rattle.p25_tool.specs.declared.item.Field.TheVariants.{Nid, Duid}

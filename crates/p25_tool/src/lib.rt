@@ -5,6 +5,7 @@ mod command;
 mod command_run;
 mod item;
 mod item_text;
+mod laws;
 mod line;
 mod octet_bits;
 mod outcome;
@@ -15,6 +16,7 @@ mod words;
 
 pub use command_run::run;
 pub use item::{Field, Frame, Item};
+pub use laws::item_laws;
 pub use line::Line;
 pub use outcome::{Outcome, outcome_status, outcome_text};
 pub use words::Words;
