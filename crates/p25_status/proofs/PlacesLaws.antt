@@ -1,8 +1,10 @@
 -- The rule by places.
-use Rattle.std.proofs.Common.{◌≡◌, ℕ, zero, suc, ◌+◌, ◌-◌, ◌*◌, ◌/◌, ◌<◌, ◌≤◌, inl, inr, Bool, List, [], ◌∷◌, ◌++◌, length, take, drop, slice_get, Some, refl, ap, ap₂, sym, ◌∙◌, arith, length-drop}
+use Rattle.std.proofs.Common.{◌≡◌, ℕ, zero, suc, ◌+◌, ◌-◌, ◌*◌, ◌/◌, ◌<◌, inl, inr, Bool, List, [], ◌∷◌, ◌++◌, length, take, drop, slice_get, Some, refl, ap, sym, ◌∙◌, arith, length-drop, get_or}
+use Rattle.std.specs.Option.{unwrap_or}
+use Rattle.std.proofs.lemmas.Option.{unwrap_or-slice_get}
 use Rattle.std.proofs.Math.Nat.{div-eq_of_lt}
 use Rattle.std.proofs.lemmas.Bool.{cases_lt}
-use Rattle.std.proofs.lemmas.List.{take-append-drop, length-take-le, drop-drop}
+use Rattle.std.proofs.lemmas.List.{take-append-drop, length-take-le, drop-drop, get_or-take, get_or-drop, same_lists}
 use Rattle.p25_bits.specs.Bits.{bits_of, part}
 use Rattle.p25_bits.proofs.BitsLaws.{length-bits_of}
 use Rattle.p25_status.specs.Status.{number}
@@ -69,3 +71,51 @@ symbol_places bits (s ∷ ss) e (suc i) status h =
 pub woven-places : (bits : List Bool) (statuses : List Status) → length bits ≡ 70 * length statuses → StandsByPlaces bits statuses (woven bits statuses)
 woven-places bits statuses e =
     record { places = length-woven bits statuses e; plain = plain_places bits statuses e; symbols = symbol_places bits statuses e }
+
+-- an element at a place that is there
+element : {X : Type 0} (xs : List X) (i : ℕ) → i < length xs → (x : X) × (slice_get xs i ≡ Some x)
+element [] i h = absurd (omega arith)
+element (x ∷ xs) zero h = (x, refl)
+element (x ∷ xs) (suc i) h = element xs i (omega arith)
+
+-- lists that agree in a part agree at its places
+same_in_part : (a b : List Bool) (at k : ℕ) (d : Bool) → k < 2 → part at 2 a ≡ part at 2 b → get_or a (at + k) d ≡ get_or b (at + k) d
+same_in_part a b at k d h same =
+    sym (get_or-drop at a k d)
+    ∙ sym (get_or-take 2 (drop at a) k d h)
+    ∙ ap (λ l. get_or l k d) same
+    ∙ get_or-take 2 (drop at b) k d h
+    ∙ get_or-drop at b k d
+
+-- two lists by the rule agree at each place
+same_place : (bits : List Bool) (statuses : List Status) (a b : List Bool) → length bits ≡ 70 * length statuses → StandsByPlaces bits statuses a → StandsByPlaces bits statuses b
+    → (p : ℕ) (d : Bool) → p < length a → get_or a p d ≡ get_or b p d
+same_place bits statuses a b e first second p d h =
+    let block = p / 72 in
+    let inside : p < 72 * length statuses = omega (arith, first.places) in
+    elim (cases_lt (p - 72 * block) 70) [
+      | inl low ↦
+          let u = p - 2 * block in
+          let of_block : u / 70 ≡ block = omega arith in
+          let place : u + 2 * (u / 70) ≡ p = omega arith in
+          let there : u < length bits = omega arith in
+          let same = first.plain u there ∙ sym (second.plain u there) in
+          sym (unwrap_or-slice_get a p d)
+          ∙ ap (λ n. unwrap_or (slice_get a n) d) (sym place)
+          ∙ ap (λ o. unwrap_or o d) same
+          ∙ ap (λ n. unwrap_or (slice_get b n) d) place
+          ∙ unwrap_or-slice_get b p d
+      | inr high ↦
+          let k = p - 72 * block - 70 in
+          let few : k < 2 = omega arith in
+          let place : 72 * block + 70 + k ≡ p = omega arith in
+          let there : block < length statuses = omega arith in
+          let symbol = element statuses block there in
+          let same = first.symbols block symbol.0 symbol.1 ∙ sym (second.symbols block symbol.0 symbol.1) in
+          ap (λ n. get_or a n d) (sym place) ∙ same_in_part a b (72 * block + 70) k d few same ∙ ap (λ n. get_or b n d) place
+    ]
+
+-- there is one list by the rule
+pub StandsByPlaces-unique : (bits : List Bool) (statuses : List Status) (a b : List Bool) → length bits ≡ 70 * length statuses → StandsByPlaces bits statuses a → StandsByPlaces bits statuses b → a ≡ b
+StandsByPlaces-unique bits statuses a b e first second =
+    same_lists a b (first.places ∙ sym second.places) (same_place bits statuses a b e first second)

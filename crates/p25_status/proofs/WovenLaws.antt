@@ -1,10 +1,11 @@
 -- To weave and to take apart undo each other.
-use Rattle.std.proofs.Common.{◌≡◌, ℕ, zero, suc, ◌+◌, ◌*◌, ◌/◌, ◌^◌, ◌<◌, ◌≤◌, Bool, true, false, eqb, List, [], ◌∷◌, ◌++◌, length, take, drop, get_or, slice_index_or, refl, ap, ap₂, sym, ◌∙◌, arith, length-append, length-drop}
+use Rattle.std.proofs.Common.{◌≡◌, ℕ, zero, suc, ◌+◌, ◌*◌, ◌/◌, ◌<◌, ◌≤◌, Bool, true, false, eqb, List, [], ◌∷◌, ◌++◌, length, take, drop, get_or, refl, ap, ap₂, sym, ◌∙◌, arith, length-append, length-drop}
 use Rattle.std.specs.Int.{bit_at}
 use Rattle.std.proofs.Math.Nat.{mod-eq_of_lt}
 use Rattle.std.proofs.Math.Seq.{drop-cons}
-use Rattle.std.proofs.lemmas.List.{take-append-drop, length-take-le, nil_from_length, get_or-drop}
-use Rattle.p25_bits.specs.Bits.{digit_of, bits_of, field_of, field_after}
+use Rattle.std.proofs.lemmas.List.{take-append-drop, length-take-le, nil_from_length, get_or-drop, drop-drop}
+use Rattle.p25_bits.specs.Bits.{digit_of, bits_of, field_of, field_after, part}
+use Rattle.p25_bits.proofs.Lists.{part-take}
 use Rattle.p25_bits.proofs.BitsLaws.{length-bits_of, field_of-bits_of}
 use Rattle.p25_status.specs.Status.{number, symbol_of, same_status}
 use Rattle.p25_status.specs.Woven.{woven, plain_in, plain_of, statuses_in, statuses_of}
@@ -118,9 +119,9 @@ woven-in (suc blocks) sent e =
     ap₂ ◌++◌
     (front 70 (take 70 sent) plain whole)
     (
-      ap₂ ◌++◌
-      (bits_again high low)
-      (ap (λ l. woven l (statuses_in blocks (drop 72 sent))) (back 70 (take 70 sent) plain whole) ∙ woven-in blocks (drop 72 sent) left)
+    ap₂ ◌++◌
+    (bits_again high low)
+    (ap (λ l. woven l (statuses_in blocks (drop 72 sent))) (back 70 (take 70 sent) plain whole) ∙ woven-in blocks (drop 72 sent) left)
     )
     ∙ block_whole sent enough
 
@@ -142,3 +143,48 @@ pub length-statuses_in : (blocks : ℕ) (sent : List Bool) → length (statuses_
 unfolding statuses_in
 length-statuses_in zero sent = refl
 length-statuses_in (suc blocks) sent = ap suc (length-statuses_in blocks (drop 72 sent))
+
+pub length-plain_of : (blocks : ℕ) (sent : List Bool) → length sent ≡ 72 * blocks → length (plain_of sent) ≡ 70 * blocks
+unfolding plain_of
+length-plain_of blocks sent e =
+    let counted : length sent / 72 ≡ blocks = ap (λ n. n / 72) e ∙ blocks_counted blocks in
+    ap (λ n. length (plain_in n sent)) counted ∙ length-plain_in blocks sent e
+
+pub length-statuses_of : (blocks : ℕ) (sent : List Bool) → length sent ≡ 72 * blocks → length (statuses_of sent) ≡ blocks
+unfolding statuses_of
+length-statuses_of blocks sent e =
+    let counted : length sent / 72 ≡ blocks = ap (λ n. n / 72) e ∙ blocks_counted blocks in
+    length-statuses_in (length sent / 72) sent ∙ counted
+
+-- a part of a front is that part of the list
+part_of_front : (xs ys : List Bool) (from count n : ℕ) → length xs ≡ n → from + count ≤ n → part from count (xs ++ ys) ≡ part from count xs
+part_of_front xs ys from count n e h = sym (part-take from count n (xs ++ ys) h) ∙ ap (part from count) (front n xs ys e)
+
+part_in : (blocks i from count : ℕ) (sent : List Bool) → length sent ≡ 72 * blocks → i < blocks → from + count ≤ 70 → part (70 * i + from) count (plain_in blocks sent) ≡ part (72 * i + from) count sent
+unfolding plain_in
+part_in zero i from count sent e h few = absurd (omega arith)
+part_in (suc blocks) zero from count sent e h few =
+    let whole : length (take 70 sent) ≡ 70 = length-take-le 70 sent (omega arith) in
+    let place : 0 + from ≡ from = omega arith in
+    ap (λ n. part n count (take 70 sent ++ plain_in blocks (drop 72 sent))) place
+    ∙ part_of_front (take 70 sent) (plain_in blocks (drop 72 sent)) from count 70 whole few
+    ∙ part-take from count 70 sent few
+    ∙ ap (λ n. part n count sent) (sym place)
+part_in (suc blocks) (suc i) from count sent e h few =
+    let whole : length (take 70 sent) ≡ 70 = length-take-le 70 sent (omega arith) in
+    let left : length (drop 72 sent) ≡ 72 * blocks = omega (arith, length-drop 72 sent) in
+    let place : 70 * suc i + from ≡ 70 + (70 * i + from) = omega arith in
+    let sent_place : 72 + (72 * i + from) ≡ 72 * suc i + from = omega arith in
+    let inside : i < blocks = omega arith in
+    ap (λ n. part n count (take 70 sent ++ plain_in blocks (drop 72 sent))) place
+    ∙ ap (take count) (back_from 70 (70 * i + from) (take 70 sent) (plain_in blocks (drop 72 sent)) whole)
+    ∙ part_in blocks i from count (drop 72 sent) left inside few
+    ∙ ap (take count) (drop-drop (72 * i + from) 72 sent)
+    ∙ ap (λ n. part n count sent) sent_place
+
+-- a part of one block of a unit is a part of that block as sent
+pub part-plain_of : (blocks i from count : ℕ) (sent : List Bool) → length sent ≡ 72 * blocks → i < blocks → from + count ≤ 70 → part (70 * i + from) count (plain_of sent) ≡ part (72 * i + from) count sent
+unfolding plain_of
+part-plain_of blocks i from count sent e h few =
+    let counted : length sent / 72 ≡ blocks = ap (λ n. n / 72) e ∙ blocks_counted blocks in
+    ap (λ n. part (70 * i + from) count (plain_in n sent)) counted ∙ part_in blocks i from count sent e h few

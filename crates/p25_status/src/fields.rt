@@ -3,22 +3,35 @@ ghost use Rattle.std.specs.Prelude.{◌≡◌, ◌+◌, ◌<◌, ◌≤◌, List
 use arrayvec::ArrayVec;
 use std::marker::Model;
 
-/// A part of a unit that is read by a code or a check of its own; `Block` names a packet's block by its place, from 0.
+/// A part of a unit that can fail to be read. The default, which fills the unused places of a list, means nothing.
 #[derive(Clone, Copy, Debug, PartialEq, Eq, Default)]
 pub enum Field {
+    /// The frame sync, with more than four wrong bits.
     #[default]
     Sync,
+    /// The network identifier.
     Nid,
+    /// The data unit identifier, where it is none that this toolkit knows.
     Duid,
+    /// The header word of a header unit.
     HeaderWord,
+    /// The link control of a voice unit or a terminator.
     LinkControl,
+    /// The encryption sync of a voice unit.
     EncryptionSync,
+    /// The first low speed data word of a voice unit.
     LowSpeed1,
+    /// The second low speed data word of a voice unit.
     LowSpeed2,
+    /// The header block of a packet, where its CRC does not agree.
     PacketHeader,
+    /// The length of a packet, where it is not the one that its header tells.
     Length,
+    /// The format of a packet, where it is none that this toolkit reads.
     Format,
+    /// The CRC of a whole packet.
     PacketCrc,
+    /// The CRC of one block of a packet, by its place, from 0.
     Block(u8),
 }
 

@@ -3,7 +3,8 @@ ghost use Rattle.std.specs.Prelude.{◌≡◌, ℕ, ◌+◌, ◌<◌, ◌≤◌,
 use arrayvec::ArrayVec;
 use std::marker::Model;
 
-/// A status symbol, a number from 0 to 3: 1 is inbound busy, 3 inbound idle, 0 unknown or talk-around, 2 unknown.
+/// A status symbol, a number from 0 to 3 that is sent as two bits, the higher one first: 1 is inbound busy, 3 inbound
+/// idle, 0 unknown or talk-around, and 2 unknown. TIA-102.BAAA, Status Symbols.
 #[derive(Clone, Copy, Debug, PartialEq, Eq)]
 pub struct Status {
     value: u8,
@@ -16,6 +17,7 @@ impl Default for Status {
 
     ghost is_default = { λ status. number status ≡ 0 };
 
+    /// The symbol 0, unknown or talk-around.
     fn default() -> Status {
         Status { value: 0 }
     }
@@ -29,7 +31,11 @@ impl Status {
         ensures below { IsSome result ↔ (value < 4) }
         ensures number { IfSome result (λ status. number status ≡ value) }
     {
-        if value < 4 { Some(Status { value }) } else { None }
+        if value < 4 {
+            Some(Status { value })
+        } else {
+            None
+        }
     }
 
     /// Answers the number of the symbol, from 0 to 3.
@@ -50,7 +56,7 @@ impl Status {
     }
 }
 
-/// A list of at most 360 status symbols, those of the longest unit.
+/// A list of at most 360 status symbols, as many as the longest unit has.
 #[derive(Drop)]
 pub struct Statuses {
     items: ArrayVec<Status, 360>,

@@ -1,16 +1,18 @@
-ghost use Rattle.std.specs.Prelude.{◌≡◌, ◌+◌, ◌*◌, ◌%◌, ◌≤◌, length};
+ghost use Rattle.std.specs.Prelude.{◌≡◌, ◌+◌, ◌*◌, ◌%◌, ◌≤◌, Bool, List, length};
 ghost use Rattle.p25_bits.specs.Bits.{part};
 ghost use Rattle.p25_status.specs.Woven.{woven, plain_of, statuses_of, StandsByPlaces};
 
 use crate::symbols::{Status, Statuses};
 use p25_bits::BitBuf;
 
-/// Puts a status symbol after every 70 bits of a unit.
+/// Replaces `out` by a unit's bits as they are sent: after every 70 bits of `plain` comes one of the status symbols, in
+/// order. There are 70 bits for each symbol. TIA-102.BAAA, Status Symbols.
 pub fn weave(plain: &BitBuf, statuses: &Statuses, out: &mut BitBuf)
     requires { length plain.now ≡ 70 * length statuses.now }
     ensures list { out.new ≡ woven plain.now statuses.now }
     ensures len { length out.new ≡ 72 * length statuses.now }
     ensures places { StandsByPlaces plain.now statuses.now out.new }
+    ensures only { (other : List Bool) → StandsByPlaces plain.now statuses.now other → other ≡ out.new }
     ensures plain_again { plain_of out.new ≡ plain.now }
     ensures statuses_again { statuses_of out.new ≡ statuses.now }
 {
@@ -21,7 +23,8 @@ pub fn weave(plain: &BitBuf, statuses: &Statuses, out: &mut BitBuf)
     }
 }
 
-/// Takes the `len` sent bits from place `at` on apart into the bits of a unit and its status symbols.
+/// Takes `len` sent bits, those from place `at` on, apart: `out` becomes the unit's bits without status symbols, and
+/// `statuses` its status symbols, one for every 72 bits. What both held before is gone. TIA-102.BAAA, Status Symbols.
 pub fn unweave(bits: &BitBuf, at: usize, len: usize, out: &mut BitBuf, statuses: &mut Statuses)
     requires blocks { len % 72 ≡ 0 }
     requires most { len ≤ 25920 }
@@ -29,6 +32,7 @@ pub fn unweave(bits: &BitBuf, at: usize, len: usize, out: &mut BitBuf, statuses:
     ensures plain { out.new ≡ plain_of (part at len bits.now) }
     ensures statuses { statuses.new ≡ statuses_of (part at len bits.now) }
     ensures woven { woven out.new statuses.new ≡ part at len bits.now }
+    ensures places { StandsByPlaces out.new statuses.new (part at len bits.now) }
     ensures plain_len { length out.new ≡ 70 * length statuses.new }
     ensures len { 72 * length statuses.new ≡ len }
 {

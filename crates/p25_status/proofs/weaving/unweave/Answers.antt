@@ -1,10 +1,10 @@
-use Rattle.std.proofs.Common.{◌≡◌, ℕ, ◌+◌, ◌-◌, ◌*◌, ◌/◌, ◌%◌, ◌<◌, ◌≤◌, ◌++◌, Bool, List, false, length, drop, get_or, ap, ap₂, sym, ◌∙◌, arith, length-drop}
+use Rattle.std.proofs.Common.{◌≡◌, ◌+◌, ◌*◌, ◌/◌, ◌<◌, ◌≤◌, ◌++◌, Bool, List, length, drop, ap, ap₂, sym, ◌∙◌, subst, arith, length-drop}
 use Rattle.std.proofs.lemmas.List.{append-nil, length-take-le}
 use Rattle.p25_bits.specs.Bits.{part}
-use Rattle.p25_bits.proofs.Lists.{slice_get-get_or}
 use Rattle.p25_status.specs.Status.{symbol_of}
 use Rattle.p25_status.specs.declared.symbols.Status.{Status}
-use Rattle.p25_status.specs.Woven.{woven, plain_in, plain_of, statuses_in, statuses_of}
+use Rattle.p25_status.specs.Woven.{woven, plain_in, plain_of, statuses_in, statuses_of, StandsByPlaces}
+use Rattle.p25_status.proofs.PlacesLaws.{woven-places}
 use Rattle.p25_status.proofs.WovenLaws.{woven-of}
 use Rattle.p25_status.proofs.Steps.{plain_more, statuses_more, plain_none, statuses_none, part_of_part, bit_of_part}
 use Rattle.p25_status.proofs.weaving.unweave.Goals as goal
@@ -24,8 +24,8 @@ loop-i-preserved c =
     let low = bit_of_part bits at len (72 * i) 71 c.get-in-loop-i.result second c.get-in-loop-i.ensures in
     let symbol = c.from_bits.ensures ∙ ap₂ symbol_of high low in record {
       plain =
-        plain_more (len / 72) i sent c.loop-i.out c.append.new.self (part (at + 72 * i) 70 bits) more (sym (part_of_part bits at len (72 * i) 70 block)) c.append.ensures.list
-        ∙ c.loop-i.invariant.plain;
+          plain_more (len / 72) i sent c.loop-i.out c.append.new.self (part (at + 72 * i) 70 bits) more (sym (part_of_part bits at len (72 * i) 70 block)) c.append.ensures.list
+          ∙ c.loop-i.invariant.plain;
       statuses = statuses_more (len / 72) i sent c.loop-i.statuses c.push.new.self c.from_bits.result more symbol c.push.ensures.list ∙ c.loop-i.invariant.statuses;
       plain_len = omega arith;
       statuses_len = omega arith;
@@ -62,3 +62,8 @@ returns-clause-woven c =
     let blocks : c.args.len ≡ 72 * (c.args.len / 72) = omega arith in
     let long : length sent ≡ 72 * (c.args.len / 72) = length-take-le c.args.len (drop c.args.at c.args.bits.now) there ∙ blocks in
     ap₂ woven (returns-clause-plain c) (returns-clause-statuses c) ∙ woven-of (c.args.len / 72) sent long
+
+pub returns-clause-places : goal.returns-clause-places
+returns-clause-places c =
+    let long : length c.loop-i.out ≡ 70 * length c.loop-i.statuses = omega arith in
+    subst (λ (sent : List Bool). StandsByPlaces c.loop-i.out c.loop-i.statuses sent) (returns-clause-woven c) (woven-places c.loop-i.out c.loop-i.statuses long)

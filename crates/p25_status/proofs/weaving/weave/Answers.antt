@@ -1,11 +1,11 @@
-use Rattle.std.proofs.Common.{◌≡◌, ℕ, ◌+◌, ◌*◌, ◌<◌, ◌≤◌, ◌++◌, Bool, List, [], length, drop, ap, ap₂, sym, ◌∙◌, subst, append_assoc, arith}
+use Rattle.std.proofs.Common.{◌≡◌, ◌*◌, ◌≤◌, ◌++◌, Bool, List, length, drop, ap, ap₂, sym, ◌∙◌, subst, arith}
 use Rattle.std.proofs.lemmas.List.{drop_all, append-nil}
-use Rattle.p25_bits.specs.Bits.{part, bits_of}
+use Rattle.p25_bits.specs.Bits.{bits_of}
 use Rattle.p25_status.specs.Status.{number}
-use Rattle.p25_status.specs.Woven.{woven, plain_of, statuses_of, StandsByPlaces}
+use Rattle.p25_status.specs.Woven.{plain_of, statuses_of, StandsByPlaces}
 use Rattle.p25_status.proofs.WovenLaws.{plain_of-woven, statuses_of-woven}
-use Rattle.p25_status.proofs.PlacesLaws.{woven-places}
-use Rattle.p25_status.proofs.Steps.{woven_block, woven_none, woven_more}
+use Rattle.p25_status.proofs.PlacesLaws.{woven-places, StandsByPlaces-unique}
+use Rattle.p25_status.proofs.Steps.{woven_none, woven_more}
 use Rattle.p25_status.proofs.weaving.weave.Goals as goal
 
 pub loop-i-preserved : goal.loop-i-preserved
@@ -33,6 +33,9 @@ returns-clause-places c =
     (λ (sent : List Bool). StandsByPlaces c.args.plain.now c.args.statuses.now sent)
     (sym (returns-clause-list c))
     (woven-places c.args.plain.now c.args.statuses.now c.requires)
+
+pub returns-clause-only : goal.returns-clause-only
+returns-clause-only c = λ other by_places. StandsByPlaces-unique c.args.plain.now c.args.statuses.now other c.loop-i.out c.requires by_places (returns-clause-places c)
 
 pub returns-clause-plain_again : goal.returns-clause-plain_again
 returns-clause-plain_again c = ap plain_of (returns-clause-list c) ∙ plain_of-woven c.args.plain.now c.args.statuses.now c.requires

@@ -1,4 +1,4 @@
-use Rattle.std.proofs.Common.{◌≡◌, ◌+◌, ◌*◌, arith}
+use Rattle.std.proofs.Common.{arith}
 use Rattle.p25_bits.proofs.BitsLaws.{digit_of-byte}
 use Rattle.p25_status.specs.Status.{symbol_of, same_status}
 use Rattle.p25_status.proofs.symbols.Status.from_bits.Goals as goal
