@@ -7,7 +7,7 @@ use Rattle.std.proofs.lemmas.Bool.{cases_lt}
 use Rattle.std.proofs.lemmas.List.{take-append-drop, length-take-le, drop-drop, get_or-take, get_or-drop, same_lists}
 use Rattle.p25_bits.specs.Bits.{bits_of, part}
 use Rattle.p25_bits.proofs.BitsLaws.{length-bits_of}
-use Rattle.p25_status.specs.Status.{number}
+use Rattle.p25_status.specs.Status.{status_number}
 use Rattle.p25_status.specs.Woven.{woven, StandsByPlaces}
 use Rattle.p25_status.specs.declared.symbols.Status.{Status}
 use Rattle.p25_status.proofs.Parts.{front, back, slice_get-front, slice_get-drop}
@@ -27,7 +27,7 @@ plain_places bits [] e u h = absurd (omega arith)
 plain_places bits (s ∷ ss) e u h =
     let whole : length (take 70 bits) ≡ 70 = length-take-le 70 bits (omega arith) in
     let left : length (drop 70 bits) ≡ 70 * length ss = omega (arith, length-drop 70 bits) in
-    let symbol = bits_of 2 (number s) in
+    let symbol = bits_of 2 (status_number s) in
     let rest = woven (drop 70 bits) ss in
     let sent = take 70 bits ++ (symbol ++ rest) in
     elim (cases_lt u 70) [
@@ -40,31 +40,31 @@ plain_places bits (s ∷ ss) e u h =
           let back_again : 70 + (u - 70) ≡ u = omega arith in
           ap (slice_get sent) place
           ∙ sym (slice_get-drop 72 sent ((u - 70) + 2 * ((u - 70) / 70)))
-          ∙ ap (λ l. slice_get l ((u - 70) + 2 * ((u - 70) / 70))) (after_block (take 70 bits) symbol rest whole (length-bits_of 2 (number s)))
+          ∙ ap (λ l. slice_get l ((u - 70) + 2 * ((u - 70) / 70))) (after_block (take 70 bits) symbol rest whole (length-bits_of 2 (status_number s)))
           ∙ plain_places (drop 70 bits) ss left (u - 70) inside
           ∙ slice_get-drop 70 bits (u - 70)
           ∙ ap (slice_get bits) back_again
     ]
 
-pub symbol_places : (bits : List Bool) (statuses : List Status) → length bits ≡ 70 * length statuses → (i : ℕ) (status : Status) → slice_get statuses i ≡ Some status → part (72 * i + 70) 2 (woven bits statuses) ≡ bits_of 2 (number status)
+pub symbol_places : (bits : List Bool) (statuses : List Status) → length bits ≡ 70 * length statuses → (i : ℕ) (status : Status) → slice_get statuses i ≡ Some status → part (72 * i + 70) 2 (woven bits statuses) ≡ bits_of 2 (status_number status)
 unfolding woven
 symbol_places bits [] e i status h = cc
 symbol_places bits (s ∷ ss) e zero status h =
     let whole : length (take 70 bits) ≡ 70 = length-take-le 70 bits (omega arith) in
     let same : s ≡ status = cc in
-    ap (take 2) (back 70 (take 70 bits) (bits_of 2 (number s) ++ woven (drop 70 bits) ss) whole)
-    ∙ front 2 (bits_of 2 (number s)) (woven (drop 70 bits) ss) (length-bits_of 2 (number s))
-    ∙ ap (λ t. bits_of 2 (number t)) same
+    ap (take 2) (back 70 (take 70 bits) (bits_of 2 (status_number s) ++ woven (drop 70 bits) ss) whole)
+    ∙ front 2 (bits_of 2 (status_number s)) (woven (drop 70 bits) ss) (length-bits_of 2 (status_number s))
+    ∙ ap (λ t. bits_of 2 (status_number t)) same
 symbol_places bits (s ∷ ss) e (suc i) status h =
     let whole : length (take 70 bits) ≡ 70 = length-take-le 70 bits (omega arith) in
     let left : length (drop 70 bits) ≡ 70 * length ss = omega (arith, length-drop 70 bits) in
-    let symbol = bits_of 2 (number s) in
+    let symbol = bits_of 2 (status_number s) in
     let rest = woven (drop 70 bits) ss in
     let sent = take 70 bits ++ (symbol ++ rest) in
     let place : 72 * suc i + 70 ≡ 72 + (72 * i + 70) = omega arith in
     ap (λ n. take 2 (drop n sent)) place
     ∙ ap (take 2) (sym (drop-drop (72 * i + 70) 72 sent))
-    ∙ ap (λ l. take 2 (drop (72 * i + 70) l)) (after_block (take 70 bits) symbol rest whole (length-bits_of 2 (number s)))
+    ∙ ap (λ l. take 2 (drop (72 * i + 70) l)) (after_block (take 70 bits) symbol rest whole (length-bits_of 2 (status_number s)))
     ∙ symbol_places (drop 70 bits) ss left i status h
 
 -- woven bits stand by the rule

@@ -4,20 +4,20 @@ use Rattle.std.proofs.lemmas.Option.{slice_get_within}
 use Rattle.std.proofs.lemmas.List.{drop_more, drop-drop, get_or-drop, get_or-take}
 use Rattle.p25_bits.specs.Bits.{bits_of, part}
 use Rattle.p25_bits.proofs.Lists.{slice_get-get_or, part-take}
-use Rattle.p25_status.specs.Status.{number, symbol_of}
+use Rattle.p25_status.specs.Status.{status_number, symbol_of}
 use Rattle.p25_status.specs.Woven.{woven, plain_in, statuses_in}
 use Rattle.p25_status.specs.declared.symbols.Status.{Status}
 
 -- the blocks from block i on begin with that block
 pub woven_block : (bits : List Bool) (statuses : List Status) (i : ℕ) (status : Status) → slice_get statuses i ≡ Some status
-    → woven (drop (70 * i) bits) (drop i statuses) ≡ part (70 * i) 70 bits ++ (bits_of 2 (number status) ++ woven (drop (70 * (i + 1)) bits) (drop (i + 1) statuses))
+    → woven (drop (70 * i) bits) (drop i statuses) ≡ part (70 * i) 70 bits ++ (bits_of 2 (status_number status) ++ woven (drop (70 * (i + 1)) bits) (drop (i + 1) statuses))
 unfolding woven
 woven_block bits statuses i status h =
     let inside = slice_get_within statuses i status h in
     let next : 70 * i + 70 ≡ 70 * (i + 1) = omega arith in
     let here : drop i statuses ≡ status ∷ drop (i + 1) statuses = drop_more statuses i status inside ∙ ap (λ s. s ∷ drop (i + 1) statuses) (slice_get-get_or statuses i status status h) in
     ap (woven (drop (70 * i) bits)) here
-    ∙ ap (λ l. part (70 * i) 70 bits ++ (bits_of 2 (number status) ++ woven l (drop (i + 1) statuses))) (drop-drop 70 (70 * i) bits ∙ ap (λ n. drop n bits) next)
+    ∙ ap (λ l. part (70 * i) 70 bits ++ (bits_of 2 (status_number status) ++ woven l (drop (i + 1) statuses))) (drop-drop 70 (70 * i) bits ∙ ap (λ n. drop n bits) next)
 
 -- no blocks are left
 pub woven_none : (bits : List Bool) (statuses : List Status) → statuses ≡ [] → woven bits statuses ≡ []
@@ -61,11 +61,11 @@ get_or-part bits at len i h = get_or-take len (drop at bits) i false h ∙ get_o
 
 -- what stands before a block, with that block, before the blocks after it
 pub woven_more : (bits : List Bool) (statuses : List Status) (i : ℕ) (status : Status) (out longer : List Bool) → slice_get statuses i ≡ Some status
-    → longer ≡ (out ++ part (70 * i) 70 bits) ++ bits_of 2 (number status)
+    → longer ≡ (out ++ part (70 * i) 70 bits) ++ bits_of 2 (status_number status)
     → longer ++ woven (drop (70 * (i + 1)) bits) (drop (i + 1) statuses) ≡ out ++ woven (drop (70 * i) bits) (drop i statuses)
 woven_more bits statuses i status out longer h is =
     let block = part (70 * i) 70 bits in
-    let symbol = bits_of 2 (number status) in
+    let symbol = bits_of 2 (status_number status) in
     let rest = woven (drop (70 * (i + 1)) bits) (drop (i + 1) statuses) in
     ap (λ xs. xs ++ rest) is
     ∙ append_assoc (out ++ block) symbol rest

@@ -7,7 +7,7 @@ use Rattle.std.proofs.lemmas.List.{take-append-drop, length-take-le, nil_from_le
 use Rattle.p25_bits.specs.Bits.{digit_of, bits_of, field_of, field_after, part}
 use Rattle.p25_bits.proofs.Lists.{part-take}
 use Rattle.p25_bits.proofs.BitsLaws.{length-bits_of, field_of-bits_of}
-use Rattle.p25_status.specs.Status.{number, symbol_of, same_status}
+use Rattle.p25_status.specs.Status.{status_number, symbol_of, same_status}
 use Rattle.p25_status.specs.Woven.{woven, plain_in, plain_of, statuses_in, statuses_of}
 use Rattle.p25_status.specs.declared.symbols.Status.{Status}
 use Rattle.p25_status.proofs.Parts.{front, back, back_from}
@@ -18,12 +18,12 @@ unfolding field_of field_after bits_of
 two_digits n below = let e = field_of-bits_of 2 n ∙ mod-eq_of_lt below in omega (arith, e)
 
 -- the two bits of a symbol give it back
-pub symbol_again : (status : Status) → symbol_of (eqb (bit_at (number status) 1) 1) (eqb (bit_at (number status) 0) 1) ≡ status
+pub symbol_again : (status : Status) → symbol_of (eqb (bit_at (status_number status) 1) 1) (eqb (bit_at (status_number status) 0) 1) ≡ status
 unfolding symbol_of
-symbol_again status = same_status _ status (two_digits (number status) status.below)
+symbol_again status = same_status _ status (two_digits (status_number status) status.below)
 
 -- the symbol of two bits has those bits
-pub bits_again : (high low : Bool) → bits_of 2 (number (symbol_of high low)) ≡ high ∷ low ∷ []
+pub bits_again : (high low : Bool) → bits_of 2 (status_number (symbol_of high low)) ≡ high ∷ low ∷ []
 unfolding symbol_of bits_of
 bits_again true true = refl
 bits_again true false = refl
@@ -45,12 +45,12 @@ pub length-woven : (bits : List Bool) (statuses : List Status) → length bits �
 unfolding woven
 length-woven bits [] e = refl
 length-woven bits (s ∷ ss) e =
-    length-append (take 70 bits) (bits_of 2 (number s) ++ woven (drop 70 bits) ss)
+    length-append (take 70 bits) (bits_of 2 (status_number s) ++ woven (drop 70 bits) ss)
     ∙ omega (
       arith,
       whole_block bits s ss e,
-      length-append (bits_of 2 (number s)) (woven (drop 70 bits) ss),
-      length-bits_of 2 (number s),
+      length-append (bits_of 2 (status_number s)) (woven (drop 70 bits) ss),
+      length-bits_of 2 (status_number s),
       length-woven (drop 70 bits) ss (rest_of_blocks bits s ss e),
     )
 
@@ -62,8 +62,8 @@ plain_in-woven bits (s ∷ ss) e =
     let rest = woven (drop 70 bits) ss in
     let whole = whole_block bits s ss e in
     ap₂ ◌++◌
-    (front 70 block (bits_of 2 (number s) ++ rest) whole)
-    (ap (plain_in (length ss)) (after_block block (bits_of 2 (number s)) rest whole (length-bits_of 2 (number s))) ∙ plain_in-woven (drop 70 bits) ss (rest_of_blocks bits s ss e))
+    (front 70 block (bits_of 2 (status_number s) ++ rest) whole)
+    (ap (plain_in (length ss)) (after_block block (bits_of 2 (status_number s)) rest whole (length-bits_of 2 (status_number s))) ∙ plain_in-woven (drop 70 bits) ss (rest_of_blocks bits s ss e))
     ∙ take-append-drop 70 bits
 
 pub statuses_in-woven : (bits : List Bool) (statuses : List Status) → length bits ≡ 70 * length statuses → statuses_in (length statuses) (woven bits statuses) ≡ statuses
@@ -73,13 +73,13 @@ statuses_in-woven bits (s ∷ ss) e =
     let block = take 70 bits in
     let rest = woven (drop 70 bits) ss in
     let whole = whole_block bits s ss e in
-    let sent = block ++ (bits_of 2 (number s) ++ rest) in
-    let after = back 70 block (bits_of 2 (number s) ++ rest) whole in
-    let high : get_or sent 70 false ≡ eqb (bit_at (number s) 1) 1 = sym (get_or-drop 70 sent 0 false) ∙ ap (λ l. get_or l 0 false) after in
-    let low : get_or sent 71 false ≡ eqb (bit_at (number s) 0) 1 = sym (get_or-drop 70 sent 1 false) ∙ ap (λ l. get_or l 1 false) after in
+    let sent = block ++ (bits_of 2 (status_number s) ++ rest) in
+    let after = back 70 block (bits_of 2 (status_number s) ++ rest) whole in
+    let high : get_or sent 70 false ≡ eqb (bit_at (status_number s) 1) 1 = sym (get_or-drop 70 sent 0 false) ∙ ap (λ l. get_or l 0 false) after in
+    let low : get_or sent 71 false ≡ eqb (bit_at (status_number s) 0) 1 = sym (get_or-drop 70 sent 1 false) ∙ ap (λ l. get_or l 1 false) after in
     ap₂ ◌∷◌
     (ap₂ symbol_of high low ∙ symbol_again s)
-    (ap (statuses_in (length ss)) (after_block block (bits_of 2 (number s)) rest whole (length-bits_of 2 (number s))) ∙ statuses_in-woven (drop 70 bits) ss (rest_of_blocks bits s ss e))
+    (ap (statuses_in (length ss)) (after_block block (bits_of 2 (status_number s)) rest whole (length-bits_of 2 (status_number s))) ∙ statuses_in-woven (drop 70 bits) ss (rest_of_blocks bits s ss e))
 
 -- blocks that are counted by their length
 blocks_counted : (blocks : ℕ) → 72 * blocks / 72 ≡ blocks

@@ -6,8 +6,8 @@ use Rattle.p25_bits.specs.Bits.{digit_of}
 use Rattle.p25_status.specs.declared.symbols.Status.{Status}
 
 -- the number of a status symbol, from 0 to 3
-abbrev pub number : Status → ℕ
-number status = status.value
+abbrev pub status_number : Status → ℕ
+status_number status = status.value
 
 -- the status symbol of a number below 4
 abbrev pub status_of : (n : ℕ) → n < 4 → Status
@@ -27,5 +27,5 @@ same_made : (m n : ℕ) → m ≡ n → (p : m < 4) (q : n < 4) → status_of m 
 same_made m n e p = subst (λ k. (q : k < 4) → status_of m p ≡ status_of k q) e (λ q. ap (λ r. status_of m r) (le_prop p q))
 
 -- status symbols of one number are one symbol
-pub same_status : (a b : Status) → number a ≡ number b → a ≡ b
-same_status a b e = same_made (number a) (number b) e a.below b.below
+pub same_status : (a b : Status) → status_number a ≡ status_number b → a ≡ b
+same_status a b e = same_made (status_number a) (status_number b) e a.below b.below

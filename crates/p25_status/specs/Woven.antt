@@ -1,13 +1,13 @@
 -- Where status symbols stand among the bits of a unit: one of two bits after every 70 bits.
 use Rattle.std.specs.Prelude.{◌≡◌, ℕ, zero, suc, ◌+◌, ◌*◌, ◌/◌, ◌<◌, Bool, false, List, [], ◌∷◌, ◌++◌, length, take, drop, slice_get, slice_index_or, Some}
 use Rattle.p25_bits.specs.Bits.{bits_of, part}
-use Rattle.p25_status.specs.Status.{number, symbol_of}
+use Rattle.p25_status.specs.Status.{status_number, symbol_of}
 use Rattle.p25_status.specs.declared.symbols.Status.{Status}
 
 -- the bits of a unit as they are sent, with its status symbols
 unfoldable pub woven : List Bool → List Status → List Bool
 woven bits [] = []
-woven bits (status ∷ statuses) = take 70 bits ++ (bits_of 2 (number status) ++ woven (drop 70 bits) statuses)
+woven bits (status ∷ statuses) = take 70 bits ++ (bits_of 2 (status_number status) ++ woven (drop 70 bits) statuses)
 
 -- the bits of so many blocks of 72 without their status symbols
 unfoldable pub plain_in : ℕ → List Bool → List Bool
@@ -32,4 +32,4 @@ statuses_of sent = statuses_in (length sent / 72) sent
 pub record StandsByPlaces (bits : List Bool) (statuses : List Status) (sent : List Bool) : Type 0 where
   pub places : length sent ≡ 72 * length statuses
   pub plain : (u : ℕ) → u < length bits → slice_get sent (u + 2 * (u / 70)) ≡ slice_get bits u
-  pub symbols : (i : ℕ) (status : Status) → slice_get statuses i ≡ Some status → part (72 * i + 70) 2 sent ≡ bits_of 2 (number status)
+  pub symbols : (i : ℕ) (status : Status) → slice_get statuses i ≡ Some status → part (72 * i + 70) 2 sent ≡ bits_of 2 (status_number status)

@@ -13,9 +13,9 @@ pub struct Status {
 
 impl Default for Status {
     ghost use Rattle.std.specs.Prelude.{◌≡◌};
-    ghost use Rattle.p25_status.specs.Status.{number};
+    ghost use Rattle.p25_status.specs.Status.{status_number};
 
-    ghost is_default = { λ status. number status ≡ 0 };
+    ghost is_default = { λ status. status_number status ≡ 0 };
 
     /// The symbol 0, unknown or talk-around.
     fn default() -> Status {
@@ -24,12 +24,12 @@ impl Default for Status {
 }
 
 impl Status {
-    ghost use Rattle.p25_status.specs.Status.{number, symbol_of};
+    ghost use Rattle.p25_status.specs.Status.{status_number, symbol_of};
 
     /// Answers the status symbol of a number. None comes exactly above 3.
     pub fn new(value: u8) -> Option<Status>
         ensures below { IsSome result ↔ (value < 4) }
-        ensures number { IfSome result (λ status. number status ≡ value) }
+        ensures number { IfSome result (λ status. status_number status ≡ value) }
     {
         if value < 4 {
             Some(Status { value })
@@ -40,7 +40,7 @@ impl Status {
 
     /// Answers the number of the symbol, from 0 to 3.
     pub fn value(self) -> u8
-        ensures number { result ≡ number self }
+        ensures number { result ≡ status_number self }
         ensures below { result < 4 }
     {
         self.value

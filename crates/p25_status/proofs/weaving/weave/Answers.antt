@@ -1,7 +1,7 @@
 use Rattle.std.proofs.Common.{◌≡◌, ◌*◌, ◌≤◌, ◌++◌, Bool, List, length, drop, ap, ap₂, sym, ◌∙◌, subst, arith}
 use Rattle.std.proofs.lemmas.List.{drop_all, append-nil}
 use Rattle.p25_bits.specs.Bits.{bits_of}
-use Rattle.p25_status.specs.Status.{number}
+use Rattle.p25_status.specs.Status.{status_number}
 use Rattle.p25_status.specs.Woven.{plain_of, statuses_of, StandsByPlaces}
 use Rattle.p25_status.proofs.WovenLaws.{plain_of-woven, statuses_of-woven}
 use Rattle.p25_status.proofs.PlacesLaws.{woven-places, StandsByPlaces-unique}
@@ -13,7 +13,7 @@ loop-i-preserved c =
     let plain = c.args.plain.now in
     let statuses = c.args.statuses.now in
     let i = c.loop-i.i in
-    let bits : c.from.result ≡ number c.get.result = c.from.ensures ∙ c.value.ensures.number in
+    let bits : c.from.result ≡ status_number c.get.result = c.from.ensures ∙ c.value.ensures.number in
     let put = c.put_field.ensures.list ∙ ap₂ (λ xs n. xs ++ bits_of 2 n) c.append.ensures.list bits in record {
       list = woven_more plain statuses i c.get.result c.loop-i.out c.put_field.new.self c.get.ensures put ∙ c.loop-i.invariant.list;
       len = omega arith;
