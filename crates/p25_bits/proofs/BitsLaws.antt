@@ -1,10 +1,11 @@
 -- Numbers and the bits that write them.
-use Rattle.std.proofs.Common.{◌≡◌, ℕ, zero, suc, ◌+◌, ◌-◌, ◌*◌, ◌/◌, ◌%◌, ◌^◌, ◌<◌, ◌≤◌, Bool, true, false, eqb, List, [], ◌∷◌, ◌++◌, length, drop, refl, ap, ap₂, sym, ◌∙◌, arith, length-append, get_or, add-one, bit_and}
+use Rattle.std.proofs.Common.{◌≡◌, ℕ, zero, suc, ◌+◌, ◌-◌, ◌*◌, ◌/◌, ◌%◌, ◌^◌, ◌<◌, ◌≤◌, inl, inr, Bool, true, false, eqb, List, [], ◌∷◌, ◌++◌, length, drop, refl, ap, ap₂, sym, ◌∙◌, arith, length-append, get_or, add-one, bit_and}
 use Rattle.std.specs.Int.{bit_at}
 use Rattle.std.proofs.Math.Nat.{pow-suc, add-mul, mul_comm, mul_assoc, mod-one}
+use Rattle.std.proofs.lemmas.Bool.{cases_lt}
 use Rattle.std.proofs.lemmas.Nat.{mod-pow-add, shr_high, shr-shr}
 use Rattle.std.proofs.lemmas.Nat.Bits.{bit_at-lt, bit_at_cat_low, shr_and_one}
-use Rattle.std.proofs.lemmas.List.{drop_more}
+use Rattle.std.proofs.lemmas.List.{drop_more, get_or_append_left, get_or-append_right}
 use Rattle.std.proofs.lemmas.List.Concat.{flat_map-append}
 use Rattle.p25_bits.specs.Bits.{digit_of, bits_of, field_after, field_of, octet_bits}
 
@@ -176,3 +177,45 @@ bits_of-first width k number h =
 pub digit_of-byte : (n : ℕ) (bit : Bool) → n ≡ mir.Val.bool_byte bit → n ≡ digit_of bit
 digit_of-byte n true e = e
 digit_of-byte n false e = e
+
+-- a bit at a place of the bits of a number
+pub get_or-bits_of : (width number place : ℕ) (d : Bool) → place < width → get_or (bits_of width number) place d ≡ eqb (bit_at number (width - 1 - place)) 1
+unfolding bits_of
+get_or-bits_of zero number place d h = absurd (omega arith)
+get_or-bits_of (suc width) number zero d h = let e : width ≡ suc width - 1 - 0 = omega arith in ap (λ k. eqb (bit_at number k) 1) e
+get_or-bits_of (suc width) number (suc place) d h =
+    let e : width - 1 - place ≡ suc width - 1 - suc place = omega arith in
+    get_or-bits_of width number place d (omega arith) ∙ ap (λ k. eqb (bit_at number k) 1) e
+
+-- a bit at a place of the bits of octets
+pub get_or-octet_bits : (octets : List ℕ) (place : ℕ) (d : Bool) → place < 8 * length octets → get_or (octet_bits octets) place d ≡ eqb (bit_and (get_or octets (place / 8) 0 / 2 ^ (7 - place % 8)) 1) 1
+get_or-octet_bits [] place d h = absurd (omega arith)
+get_or-octet_bits (x ∷ xs) place d h =
+    let eight = length-bits_of 8 x in
+    elim (cases_lt place 8) [
+      | inl low ↦
+          let inside : place < length (bits_of 8 x) = omega arith in
+          let first : 0 ≡ place / 8 = omega arith in
+          let rest : 8 - 1 - place ≡ 7 - place % 8 = omega arith in
+          ap (λ bits. get_or bits place d) (octet_bits-cons x xs)
+          ∙ get_or_append_left (bits_of 8 x) (octet_bits xs) d place inside
+          ∙ get_or-bits_of 8 x place d low
+          ∙ ap (λ b. eqb b 1) (sym (shr_and_one x (8 - 1 - place)))
+          ∙ ap₂ (λ i k. eqb (bit_and (get_or (x ∷ xs) i 0 / 2 ^ k) 1) 1) first rest
+      | inr high ↦
+          let next : suc ((place - 8) / 8) ≡ place / 8 = omega arith in
+          let rest : 7 - (place - 8) % 8 ≡ 7 - place % 8 = omega arith in
+          ap (λ bits. get_or bits place d) (octet_bits-cons x xs)
+          ∙ get_or-append_right (bits_of 8 x) (octet_bits xs) 8 place d eight high
+          ∙ get_or-octet_bits xs (place - 8) d (omega arith)
+          ∙ ap₂ (λ i k. eqb (bit_and (get_or (x ∷ xs) i 0 / 2 ^ k) 1) 1) next rest
+    ]
+
+-- one bit writes its digit
+pub field_of-one : (bit : Bool) → field_of (bit ∷ []) ≡ digit_of bit
+unfolding field_of field_after
+field_of-one bit = omega arith
+
+-- one more bit behind others doubles their number
+pub field_of-push : (bits : List Bool) (bit : Bool) → field_of (bits ++ bit ∷ []) ≡ 2 * field_of bits + digit_of bit
+field_of-push bits bit = field_of-append bits (bit ∷ []) ∙ omega (arith, field_of-one bit)

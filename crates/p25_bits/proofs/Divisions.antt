@@ -1,12 +1,12 @@
 -- Laws of multiples and remainders of polynomials over GF(2).
-use Rattle.std.proofs.Common.{◌≡◌, ℕ, suc, ◌+◌, ◌-◌, ◌*◌, ◌/◌, ◌%◌, ◌^◌, ◌<◌, ◌≤◌, inl, inr, Bool, true, false, not, cond, List, [], ◌∷◌, bit_xor, bit_and, eqb, refl, ap, ap₂, sym, ◌∙◌, subst, arith, add-one}
+use Rattle.std.proofs.Common.{◌⊎◌, zero, suc, ◌≡◌, ℕ, suc, ◌+◌, ◌-◌, ◌*◌, ◌/◌, ◌%◌, ◌^◌, ◌<◌, ◌≤◌, inl, inr, Bool, true, false, not, cond, List, [], ◌∷◌, bit_xor, bit_and, eqb, refl, ap, ap₂, sym, ◌∙◌, subst, arith, add-one, mod-eq_of_lt}
 use Rattle.std.specs.Int.Bits.{xor_assoc, xor_self, xor_zero_l, xor_zero_r}
 use Rattle.std.proofs.Math.Nat.{pow-suc}
-use Rattle.std.proofs.lemmas.Bool.{cases_lt}
+use Rattle.std.proofs.lemmas.Bool.{cases_lt, cases_eq}
 use Rattle.std.proofs.lemmas.Nat.{xor_comm, xor_lt, xor_block, xor_shr, shr_high, le-div, pow_pos, shr_split, shr-shr, div_below}
 use Rattle.std.proofs.lemmas.Nat.Bits.{shr_and_one}
-use Rattle.p25_bits.specs.Bits.{digit_of}
-use Rattle.p25_bits.proofs.BitsLaws.{digit_of-bit_at}
+use Rattle.p25_bits.specs.Bits.{digit_of, bits_of, field_after}
+use Rattle.p25_bits.proofs.BitsLaws.{digit_of-bit_at, digit_of-le, field_of-after, field_of-bits_of}
 use Rattle.p25_bits.specs.Divisible.{multiple_of, IsDivisible, HasDegree, IsRemainder}
 
 -- of four, the two in the middle change places
@@ -213,3 +213,48 @@ high_more number k h =
 -- a number of 64 bits has nothing above them
 pub high_none : (number : ℕ) → number < 2 ^ 64 → number / 2 ^ (64 - 0) ≡ 0
 high_none number below = none_left number 64 below
+
+-- a sum of two numbers that share no bit
+pub xor_apart : (high k low : ℕ) → low < 2 ^ k → bit_xor (high * 2 ^ k) low ≡ high * 2 ^ k + low
+xor_apart high k low small =
+    let left : high * 2 ^ k ≡ high * 2 ^ k + 0 = omega arith in
+    let right : low ≡ 0 * 2 ^ k + low = omega arith in
+    ap₂ bit_xor left right ∙ xor_block k high 0 0 low (pow_pos k) small ∙ ap₂ (λ m n. m * 2 ^ k + n) (xor_zero_r high) (xor_zero_l low)
+
+-- some remainder after one more coefficient
+more_remainder : (generator degree number r : ℕ) (bit : Bool) → HasDegree generator degree → IsRemainder generator degree number r → (s : ℕ) × IsRemainder generator degree (2 * number + digit_of bit) s
+more_remainder generator degree number r bit g is =
+    let small : digit_of bit < 2 = omega (arith, digit_of-le bit) in
+    elim (cases_lt (2 * r + digit_of bit) (2 ^ degree)) [
+      | inl low ↦ (2 * r + digit_of bit, remainder_kept generator degree number r (digit_of bit) small is low)
+      | inr high ↦ (bit_xor (2 * r + digit_of bit) generator, remainder_reduced generator degree number r (digit_of bit) g small is high)
+    ]
+
+some_remainder_after : (generator degree : ℕ) → HasDegree generator degree → (bits : List Bool) (number r : ℕ) → IsRemainder generator degree number r → (s : ℕ) × IsRemainder generator degree (field_after number bits) s
+unfolding field_after
+some_remainder_after generator degree g [] number r is = (r, is)
+some_remainder_after generator degree g (bit ∷ bits) number r is =
+    let next = more_remainder generator degree number r bit g is in
+    some_remainder_after generator degree g bits (2 * number + digit_of bit) next.0 next.1
+
+-- a number is below the power of two of itself
+lt-two_pow : (number : ℕ) → number < 2 ^ number
+lt-two_pow zero = omega arith
+lt-two_pow (suc number) = omega (arith, lt-two_pow number, pow-suc 2 number, pow_pos number)
+
+-- each polynomial has a remainder
+pub some_remainder : (generator degree number : ℕ) → HasDegree generator degree → (r : ℕ) × IsRemainder generator degree number r
+some_remainder generator degree number g =
+    let bits = bits_of number number in
+    let some = some_remainder_after generator degree g bits 0 0 (IsRemainder-lower generator degree 0 (pow_pos degree)) in
+    let e = sym (field_of-after bits) ∙ field_of-bits_of number number ∙ mod-eq_of_lt (lt-two_pow number) in
+    (some.0, subst (λ (n : ℕ). IsRemainder generator degree n some.0) e some.1)
+
+-- each polynomial is divisible or not
+pub divisible_or_not : (generator degree number : ℕ) → HasDegree generator degree → IsDivisible generator number ⊎ ¬ IsDivisible generator number
+divisible_or_not generator degree number g =
+    let some = some_remainder generator degree number g in
+    elim (cases_eq some.0 0) [
+      | inl none ↦ inl (divisible_from_remainder generator degree number (subst (IsRemainder generator degree number) none some.1))
+      | inr other ↦ inr (λ d. other (IsRemainder-unique generator degree number some.0 0 g some.1 (remainder_from_divisible generator degree number d)))
+    ]

@@ -7,3 +7,6 @@ mod slices;
 
 pub use bit_buf::{BITS_MOST, BitBuf};
 pub use division::{next_remainder, number_remainder};
+
+#[cfg(test)]
+mod tests;

@@ -1,0 +1,69 @@
+-- Identifiers as the bits that are sent, and their exact reading.
+use Rattle.std.proofs.Common.{◌≡◌, ℕ, ◌+◌, ◌-◌, ◌*◌, ◌/◌, ◌%◌, ◌^◌, ◌<◌, ◌≤◌, ◌⊎◌, inl, inr, Bool, true, false, cond, eqb, ◌||◌, Option, Some, None, bit_xor, bit_and, option_map, refl, ap, ap₂, sym, ◌∙◌, subst, arith, lit≤, lit<}
+use Rattle.std.specs.Prelude.{IsSome, IfSome}
+use Rattle.std.specs.Int.Bits.{xor_self}
+use Rattle.std.proofs.lemmas.Bool.{false≢true}
+use Rattle.std.proofs.lemmas.Nat.{shr_high, shr_split, shr-shr, xor_shr, mod_below, pow_pos, div-mul-add, mod-mul-add, and_mask, div-add-mod'}
+use Rattle.p25_bits.specs.Divisible.{IsDivisible, HasDegree, IsRemainder}
+use Rattle.p25_bits.proofs.Divisions.{xor_apart, same_from_xor, IsDivisible-lower, IsDivisible-sum, IsRemainder-unique, remainder_from_divisible, divisible_from_remainder}
+use Rattle.p25_bch_nid.specs.Nid.{generator, parity_of, IsSent}
+use Rattle.p25_bch_nid.specs.ExactReading.{IsExactReading}
+use Rattle.p25_bch_nid.specs.declared.nid.Nid.{Nid}
+
+-- the generator has degree 47
+pub HasDegree-generator : HasDegree generator 47
+HasDegree-generator = record { highest = lit≤ tt; none_above = lit< tt }
+
+cond-lt_two : (b : Bool) → cond b 1 0 < 2
+cond-lt_two true = lit< tt
+cond-lt_two false = lit< tt
+
+-- P is one bit
+pub parity_of-lt : (duid : ℕ) → parity_of duid < 2
+parity_of-lt duid = cond-lt_two (eqb duid 5 || eqb duid 10)
+
+-- a word with its information in front, and P
+pub IsSent-from_parts : (nac duid r parity : ℕ) → 16 * nac + duid < 2 ^ 16 → r < 2 ^ 47 → IsDivisible generator (bit_xor ((16 * nac + duid) * 2 ^ 47) r) → parity ≡ parity_of duid → IsSent nac duid (2 * ((16 * nac + duid) * 2 ^ 47 + r) + parity)
+IsSent-from_parts nac duid r parity small low word is =
+    let information = 16 * nac + duid in
+    let bit : parity < 2 = omega (arith, parity_of-lt duid, is) in
+    let bits = 2 * (information * 2 ^ 47 + r) + parity in
+    let halves : bits ≡ (information * 2 ^ 47 + r) * 2 + parity = omega arith in
+    let front : bits ≡ information * 2 ^ 48 + (2 * r + parity) = omega arith in
+    let rest : 2 * r + parity < 2 ^ 48 = omega arith in
+    record {
+      word = subst (IsDivisible generator) (xor_apart information 47 r low ∙ sym (ap (λ n. n / 2) halves ∙ div-mul-add (information * 2 ^ 47 + r) 2 parity bit)) word;
+      information = ap (λ n. n / 2 ^ 48) front ∙ shr_high information 48 (2 * r + parity) rest;
+      parity = ap (λ n. n % 2) halves ∙ mod-mul-add (information * 2 ^ 47 + r) 2 parity bit ∙ is;
+      fits = omega arith;
+    }
+
+-- no identifier where a remainder is left
+pub IsExactReading-none : (bits r : ℕ) → IsRemainder generator 47 (bits / 2) r → (r ≡ 0 → ⊥) → IsExactReading bits None
+unfolding IsExactReading
+IsExactReading-none bits r is other = λ word. other (IsRemainder-unique generator 47 (bits / 2) r 0 HasDegree-generator is (remainder_from_divisible generator 47 (bits / 2) word))
+
+-- the identifier in front of a word
+pub IsExactReading-some : (bits : ℕ) (nid : Option Nid) → IsRemainder generator 47 (bits / 2) 0 → IsSome nid → IfSome nid (λ n. (n.nac ≡ bits / 2 ^ 52) × (n.duid ≡ bits / 2 ^ 48 % 16)) → IsExactReading bits (option_map (λ n. (n.nac, n.duid)) nid)
+unfolding IsExactReading
+IsExactReading-some bits None is some value = absurd (false≢true some)
+IsExactReading-some bits (Some n) is some value = (divisible_from_remainder generator 47 (bits / 2) is, ap₂ (λ a b. (a, b)) value.0 value.1)
+
+-- the low four bits are the remainder by 16
+pub in_front : (bits : ℕ) (nid : Option Nid) → IfSome nid (λ n. (n.nac ≡ bits / 2 ^ 52) × (n.duid ≡ bit_and (bits / 2 ^ 48) 15)) → IfSome nid (λ n. (n.nac ≡ bits / 2 ^ 52) × (n.duid ≡ bits / 2 ^ 48 % 16))
+in_front bits None value = tt
+in_front bits (Some n) value = (value.0, value.1 ∙ and_mask (bits / 2 ^ 48) 4)
+
+-- two numbers with the same high part differ by one of lower degree
+xor_same_high : (a b k : ℕ) → a / 2 ^ k ≡ b / 2 ^ k → bit_xor a b < 2 ^ k
+xor_same_high a b k same =
+    let none : bit_xor a b / 2 ^ k ≡ 0 = xor_shr a b k ∙ ap (bit_xor (a / 2 ^ k)) (sym same) ∙ xor_self (a / 2 ^ k) in
+    omega (arith, shr_split (bit_xor a b) k, mod_below (bit_xor a b) (2 ^ k) (pow_pos k), ap (λ q. q * 2 ^ k) none)
+
+-- an identifier is sent as one number alone
+pub IsSent-unique : (nac duid a b : ℕ) → IsSent nac duid a → IsSent nac duid b → a ≡ b
+IsSent-unique nac duid a b x y =
+    let high : (a / 2) / 2 ^ 47 ≡ (b / 2) / 2 ^ 47 = shr-shr a 1 47 ∙ x.information ∙ sym y.information ∙ sym (shr-shr b 1 47) in
+    let none = IsDivisible-lower generator 47 (bit_xor (a / 2) (b / 2)) HasDegree-generator (IsDivisible-sum generator (a / 2) (b / 2) x.word y.word) (xor_same_high (a / 2) (b / 2) 47 high) in
+    let halves : a / 2 ≡ b / 2 = same_from_xor (a / 2) (b / 2) none in
+    omega (arith, x.parity, y.parity, div-add-mod' a 2, div-add-mod' b 2, halves)

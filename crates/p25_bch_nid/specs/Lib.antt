@@ -1,0 +1,2 @@
+pub mod Nid
+pub mod ExactReading

@@ -1,0 +1,18 @@
+-- Network identifiers as 64 sent bits: NAC, DUID, 47 check bits and P.
+use Rattle.std.specs.Prelude.{◌≡◌, ℕ, ◌+◌, ◌*◌, ◌/◌, ◌%◌, ◌^◌, ◌<◌, cond, eqb, ◌||◌}
+use Rattle.p25_bits.specs.Divisible.{IsDivisible}
+
+-- the generator of BCH(63,16), octal 6331141367235453, of degree 47
+abbrev pub generator : ℕ
+generator = 0xCD930BDD3B2B
+
+-- P by the writer's rule: 1 for DUID 5 and A hex, 0 for every other
+abbrev pub parity_of : ℕ → ℕ
+parity_of duid = cond (eqb duid 5 || eqb duid 10) 1 0
+
+-- the 64 bits that an identifier is sent as, as a number: a BCH word that begins with NAC and DUID, and P
+pub record IsSent (nac duid bits : ℕ) : Type 0 where
+  pub word : IsDivisible generator (bits / 2)
+  pub information : bits / 2 ^ 48 ≡ 16 * nac + duid
+  pub parity : bits % 2 ≡ parity_of duid
+  pub fits : bits < 2 ^ 64

@@ -1,0 +1,9 @@
+//! Network identifiers of the Project 25 air interface (TIA-102.BAAA, Network Identifier): a 12-bit network access
+//! code (NAC) and a 4-bit data unit identifier (DUID), protected by the BCH code (63,16) and followed by one bit P.
+#![tactic(auto)]
+
+mod nid;
+mod word;
+
+pub use nid::Nid;
+pub use word::{exact_nid, nid_bits};

@@ -1,0 +1,27 @@
+ghost use Rattle.std.specs.Prelude.{◌≡◌, ◌≤◌, ◌<◌, ◌↔◌, IsSome, IfSome};
+
+/// A network identifier: whose traffic it is, and which kind of unit follows.
+#[derive(Clone, Copy, Debug, PartialEq, Eq)]
+pub struct Nid {
+    /// The network access code, below 4,096.
+    pub nac: u16,
+    /// The data unit identifier, below 16.
+    pub duid: u8,
+    ghost nac_fits: { nac ≤ 4095 },
+    ghost duid_fits: { duid ≤ 15 },
+}
+
+impl Nid {
+    /// Answers the identifier of a network access code and a data unit identifier; `None` exactly where the first
+    /// is above 4,095 or the second above 15.
+    pub fn new(nac: u16, duid: u8) -> Option<Nid>
+        ensures fits { IsSome result ↔ ((nac ≤ 4095) × (duid ≤ 15)) }
+        ensures value { IfSome result (λ nid. (nid.nac ≡ nac) × (nid.duid ≡ duid)) }
+    {
+        if nac <= 4095 && duid <= 15 {
+            Some(Nid { nac, duid })
+        } else {
+            None
+        }
+    }
+}

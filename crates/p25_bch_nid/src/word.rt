@@ -1,0 +1,43 @@
+//! Identifiers as the 64 bits that are sent.
+
+ghost use Rattle.std.specs.Prelude.{◌≡◌, ℕ, option_map};
+ghost use Rattle.p25_bch_nid.specs.Nid.{IsSent, parity_of};
+ghost use Rattle.p25_bch_nid.specs.ExactReading.{IsExactReading, exact_nid_of};
+
+use super::nid::Nid;
+use p25_bits::number_remainder;
+
+// The generator of the BCH code (63,16): bit i is the coefficient of x^i.
+const GENERATOR: u64 = 0xCD93_0BDD_3B2B;
+
+/// Answers the 64 bits of an identifier, the first bit highest: NAC 12, DUID 4, the 47 check bits of the BCH code
+/// (63,16), and P, which is 1 for DUID 5 and A hex and 0 for every other.
+pub fn nid_bits(nid: &Nid) -> u64
+    ensures sent { IsSent nid.now.nac nid.now.duid result }
+    ensures only { (bits : ℕ) → IsSent nid.now.nac nid.now.duid bits → bits ≡ result }
+{
+    let information = 16 * u64::from(nid.nac) + u64::from(nid.duid);
+    let message = information << 47;
+    let word = message + number_remainder(message, GENERATOR, 47);
+    2 * word + parity(nid.duid)
+}
+
+// P by the writer's rule.
+fn parity(duid: u8) -> u64
+    ensures { result ≡ parity_of duid }
+{
+    if duid == 5 || duid == 10 { 1 } else { 0 }
+}
+
+/// Answers the identifier that 64 received bits begin with, the first bit highest; `None` exactly where the first 63
+/// bits are no word of the BCH code, that is where their polynomial is not divisible by the generator. The last
+/// bit, P, is not looked at.
+pub fn exact_nid(bits: u64) -> Option<Nid>
+    ensures exact { IsExactReading bits (option_map (λ nid. (nid.nac, nid.duid)) result) }
+    ensures reading { option_map (λ nid. (nid.nac, nid.duid)) result ≡ exact_nid_of bits }
+{
+    if number_remainder(bits >> 1, GENERATOR, 47) != 0 {
+        return None;
+    }
+    Nid::new((bits >> 52) as u16, ((bits >> 48) & 15) as u8)
+}

@@ -1,0 +1,76 @@
+-- Laws for a loop that reads to the end, or that writes piece after piece.
+use Rattle.std.proofs.Common.{ℕ, ◌+◌, ◌≡◌, ◌≤◌, Option, None, Some, List, [], ◌++◌, length, take, min, refl, sym, ap, subst, ◌∙◌, arith, append_assoc, append-nil}
+use Rattle.std.proofs.lemmas.List.{take_min, take-append-le}
+use Rattle.std.proofs.Math.Seq.{take-append-add, take-length}
+use Rattle.std.specs.Prelude.{IfSome}
+use Rattle.std.specs.Io.KnownBytes.{prepend_known, append_known}
+use Rattle.p25_io.specs.Faults.{Rose}
+use Rattle.p25_io.specs.Octets.{Taken, Gives, Appended, AppendedFront}
+
+-- equal octets may stand for each other
+pub Taken-same : {first now : Option (List ℕ)} {xs ys : List ℕ} → xs ≡ ys → Taken first xs now → Taken first ys now
+Taken-same {first = first} {now = now} same p = subst (λ l. Taken first l now) same p
+
+pub Appended-same : {first now : Option (List ℕ)} {xs ys : List ℕ} → xs ≡ ys → Appended first xs now → Appended first ys now
+Appended-same {first = first} {now = now} same p = subst (λ l. Appended first l now) same p
+
+pub AppendedFront-same : {first now : Option (List ℕ)} {xs ys : List ℕ} → xs ≡ ys → AppendedFront first xs now → AppendedFront first ys now
+AppendedFront-same {first = first} {now = now} same p = subst (λ l. AppendedFront first l now) same p
+
+-- before the first read nothing is taken
+pub Taken-none : (left : Option (List ℕ)) → Taken left [] left
+Taken-none None = record { left = refl }
+Taken-none (Some octets) = record { left = refl }
+
+-- what one read takes and then another
+pub Taken-trans : {first second third : Option (List ℕ)} {xs ys : List ℕ} → Taken first xs second → Taken second ys third → Taken first (xs ++ ys) third
+Taken-trans {third = None} {xs = xs} p q = record { left = p.left ∙ ap (prepend_known xs) q.left }
+Taken-trans {third = Some zs} {xs = xs} {ys = ys} p q =
+    record { left = p.left ∙ ap (prepend_known xs) q.left ∙ ap Some (sym (append_assoc xs ys zs)) }
+
+-- of told octets, those taken stand in front of those left
+pub Taken-told : {all xs : List ℕ} {now : Option (List ℕ)} → Taken (Some all) xs now → (rest : List ℕ) × (now ≡ Some rest) × (all ≡ xs ++ rest)
+Taken-told {all = all} {now = None} p = let wrong : Some all ≡ None = p.left in cc
+Taken-told {all = all} {xs = xs} {now = Some rest} p =
+    let same : Some all ≡ Some (xs ++ rest) = p.left in
+    (rest, refl, cc)
+
+-- at the end of the input all that was told is taken
+pub Taken-ended : {first now after : Option (List ℕ)} {taken buf : List ℕ} → Taken first taken now → Gives now after buf 0 → IfSome first (λ all. all ≡ taken)
+Taken-ended {first = None} p end = tt
+Taken-ended {first = Some all} {now = None} p end = let wrong : Some all ≡ None = p.left in cc
+Taken-ended {first = Some all} {now = Some rest} {taken = taken} p end =
+    let same : Some all ≡ Some (taken ++ rest) = p.left in
+    let joined : all ≡ taken ++ rest = cc in
+    joined ∙ ap (λ l. taken ++ l) (end.ending.0 refl) ∙ append-nil taken
+
+-- before the first write nothing is added
+pub Appended-none : (written : Option (List ℕ)) → Appended written [] written
+Appended-none None = record { written = refl }
+Appended-none (Some octets) = record { written = ap Some (sym (append-nil octets)) }
+
+-- what one write adds and then another
+pub Appended-trans : {first second third : Option (List ℕ)} {xs ys : List ℕ} → Appended first xs second → Appended second ys third → Appended first (xs ++ ys) third
+Appended-trans {first = None} {ys = ys} p q = record { written = q.written ∙ ap (λ w. append_known w ys) p.written }
+Appended-trans {first = Some zs} {xs = xs} {ys = ys} p q =
+    record { written = q.written ∙ ap (λ w. append_known w ys) p.written ∙ ap Some (append_assoc zs xs ys) }
+
+-- a whole piece is a front of itself
+pub Appended-front : {first now : Option (List ℕ)} {xs : List ℕ} → Appended first xs now → AppendedFront first xs now
+Appended-front {xs = xs} p = record { count = length xs; front = Appended-same (sym (take-length xs)) p }
+
+-- a whole piece, and then a front of the next
+pub AppendedFront-next : {first second third : Option (List ℕ)} {xs ys : List ℕ} → Appended first xs second → AppendedFront second ys third → AppendedFront first (xs ++ ys) third
+AppendedFront-next {xs = xs} {ys = ys} p q =
+    record { count = length xs + q.count; front = Appended-same (sym (take-append-add xs ys q.count)) (Appended-trans p q.front) }
+
+-- a front of a piece is a front of a longer one
+pub AppendedFront-longer : {first now : Option (List ℕ)} {xs : List ℕ} (ys : List ℕ) → AppendedFront first xs now → AppendedFront first (xs ++ ys) now
+AppendedFront-longer {xs = xs} ys p =
+    let count = min p.count (length xs) in
+    let same : take count (xs ++ ys) ≡ take p.count xs = take-append-le count xs ys (omega arith) ∙ take_min p.count xs in
+    record { count = count; front = Appended-same (sym same) p.front }
+
+-- a count that rose within a run of calls rose over the whole run
+pub Rose-within : (first before now last : ℕ) → first ≤ before → Rose before now → now ≤ last → Rose first last
+Rose-within first before now last earlier rose later = omega arith

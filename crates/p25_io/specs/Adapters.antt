@@ -1,0 +1,25 @@
+-- What contracts see of the adapters over std's readers and writers.
+use Rattle.std.specs.Prelude.{ℕ, List, Option, take}
+use Rattle.std.specs.Io.KnownBytes.{Appends}
+use Rattle.p25_io.specs.declared.read_source.ReadSource.{ReadSource}
+use Rattle.p25_io.specs.declared.write_sink.WriteSink.{WriteSink}
+
+-- the reader inside
+abbrev pub reader_of : {R : Type 0} → ReadSource R → R
+reader_of source = source.inner
+
+-- how often a read of it failed
+abbrev pub read_faults : {R : Type 0} → ReadSource R → ℕ
+read_faults source = source.faults
+
+-- the writer inside
+abbrev pub writer_of : {W : Type 0} → WriteSink W → W
+writer_of sink = sink.inner
+
+-- how often a write to it failed
+abbrev pub write_faults : {W : Type 0} → WriteSink W → ℕ
+write_faults sink = sink.faults
+
+-- what a writer is known to hold grows by a front of the piece
+abbrev pub AppendsFront : Option (List ℕ) → Option (List ℕ) → List ℕ → Type 0
+AppendsFront before now piece = (count : ℕ) × Appends before now (take count piece)

@@ -1,0 +1,59 @@
+//! A sink that keeps a number of octets, and no octet.
+ghost use Rattle.std.specs.Prelude.{◌≡◌, ◌+◌, ◌-◌, ◌^◌, length, min, None, IsOk, OnOk, OnErr};
+ghost use Rattle.p25_io.specs.Faults.{HasCause};
+ghost use Rattle.p25_io.specs.Octets.{Appended, AppendedFront};
+
+use crate::{Failed, Sink};
+use std::marker::Model;
+
+/// A sink that counts the octets written to it, tells none of them, and never fails. Its count of faults is 0.
+///
+/// Contracts see it as the number of octets, which stands still at 2^64 - 1.
+#[derive(Drop)]
+pub struct CountSink {
+    octets: u64,
+}
+
+impl Model for CountSink {
+    ghost use Rattle.std.specs.Prelude.{ℕ};
+
+    ghost Value = { ℕ };
+
+    ghost view = { λ s. s.octets };
+}
+
+impl CountSink {
+    /// A sink to which nothing was written.
+    pub fn new() -> CountSink
+        ensures { result ≡ 0 }
+    {
+        CountSink { octets: 0 }
+    }
+
+    /// How many octets were written, or 2^64 - 1 where they are more.
+    pub fn octets(&self) -> u64
+        ensures { result ≡ self.now }
+    {
+        self.octets
+    }
+}
+
+impl Sink for CountSink {
+    ghost written = { λ s. None };
+
+    ghost faults = { λ s. 0 };
+
+    /// Adds the number of octets of the piece.
+    fn write(&mut self, piece: &[u8]) -> Result<(), Failed>
+        ensures ok { OnOk result (Appended None piece.now None) }
+        ensures err { OnErr result (AppendedFront None piece.now None) }
+        ensures cause { HasCause 0 0 result }
+
+        // It never fails, and counts.
+        ensures never { IsOk result }
+        ensures count { self.new ≡ min (self.old + length piece.now) (2 ^ 64 - 1) }
+    {
+        self.octets = self.octets.saturating_add(piece.len() as u64);
+        Ok(())
+    }
+}

@@ -1,0 +1,47 @@
+//! The outside of the toolkit: where octets come from ([`Source`]) and where they go to ([`Sink`]).
+//!
+//! ```text
+//! let mut source = SteadySource::new(&recording, 4096);
+//! let mut room = [0; 4096];
+//! let mut sink = SliceSink::new(&mut room, &[]);
+//! let mut buf = [0; 64];
+//! for _ in 0..u64::MAX {
+//!     match source.read(&mut buf)? {
+//!         0 => break,
+//!         count => sink.write(&buf[..count])?,
+//!     }
+//! }
+//! sink.written()
+//! ```
+//!
+//! - What stands above is written over any source and any sink, and proved from their clauses alone.
+//! - A source may tell the octets that it has left, and a sink those that were written to it. Those in memory do. The
+//!   adapters over std's readers and writers, [`ReadSource`] and [`WriteSink`], tell nothing, since no contract can
+//!   say what a terminal, a pipe or a file holds; [`CountSink`] keeps a number alone.
+//! - Each fault raises a count, which never falls and stands still at 2^64 - 1. A call fails only where its count
+//!   rose, so that no answer `Failed` comes without a fault.
+//! - No call takes memory.
+#![tactic(auto)]
+
+mod count_sink;
+mod failed;
+mod memory_source;
+mod read_source;
+mod sink;
+mod slice_sink;
+mod source;
+mod steady_source;
+mod write_sink;
+
+pub use count_sink::CountSink;
+pub use failed::Failed;
+pub use memory_source::MemorySource;
+pub use read_source::ReadSource;
+pub use sink::Sink;
+pub use slice_sink::SliceSink;
+pub use source::Source;
+pub use steady_source::SteadySource;
+pub use write_sink::WriteSink;
+
+#[cfg(test)]
+mod tests;

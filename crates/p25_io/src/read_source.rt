@@ -1,0 +1,101 @@
+//! A source over one of std's readers.
+ghost use Rattle.std.specs.Prelude.{◌≡◌, ◌<◌, length, None, IfOk, OnErr};
+ghost use Rattle.std.specs.Io.KnownBytes.{ReadConsumes};
+ghost use Rattle.p25_io.specs.Faults.{faults_after, HasCause};
+ghost use Rattle.p25_io.specs.Octets.{Gives, Kept};
+ghost use Rattle.p25_io.specs.Adapters.{reader_of, read_faults};
+
+use crate::{Failed, Source};
+use std::io::Read;
+
+/// A source over one of std's readers. It doesn't tell what is left.
+///
+/// Each Err of the reader is a fault, whatever its kind, and raises a count that stands still at 2^64 - 1.
+#[derive(Drop)]
+pub struct ReadSource<R> {
+    inner: R,
+    faults: u64,
+}
+
+impl<R: Read> ReadSource<R> {
+    /// A source over this reader, which counts no fault so far.
+    pub fn new(inner: R) -> ReadSource<R>
+        ensures reader { reader_of result ≡ inner }
+        ensures faults { read_faults result ≡ 0 }
+    {
+        ReadSource { inner, faults: 0 }
+    }
+}
+
+impl<R: Read> Source for ReadSource<R> {
+    ghost left = { λ s. None };
+
+    ghost faults = { read_faults };
+
+    /// Makes one read of the reader.
+    fn read(&mut self, buf: &mut [u8]) -> Result<usize, Failed>
+        requires { 0 < length buf.old }
+        ensures given { IfOk result (Gives None None buf.new) }
+        ensures kept { OnErr result (Kept None None) }
+        ensures cause { HasCause (read_faults self.old) (read_faults self.new) result }
+        ensures room { length buf.new ≡ length buf.old }
+
+        // The octets come from the reader, as far as it tells them, and each fault counts.
+        ensures known { ReadConsumes (R.remaining (reader_of self.old)) (R.remaining (reader_of self.new)) result buf.new }
+        ensures faults { read_faults self.new ≡ faults_after result (read_faults self.old) }
+    {
+        match self.inner.read(buf) {
+            Ok(count) => Ok(count),
+            Err(_) => {
+                self.faults = self.faults.saturating_add(1);
+                Err(Failed)
+            }
+        }
+    }
+}
+
+#[cfg(test)]
+mod tests {
+    use super::*;
+    use crate::tests::gather;
+    use std::io;
+    use std::io::ErrorKind;
+
+    // Gives two octets, fails once, gives one more octet, and ends.
+    #[derive(Drop)]
+    struct Stuttering {
+        calls: u8,
+    }
+
+    impl Read for Stuttering {
+        fn read(&mut self, buf: &mut [u8]) -> io::Result<usize> {
+            self.calls = self.calls.saturating_add(1);
+            let octets: &[u8] = match self.calls {
+                1 => b"ab",
+                2 => return Err(io::Error::from(ErrorKind::Other)),
+                3 => b"c",
+                _ => b"",
+            };
+            let count = octets.len().min(buf.len());
+            buf[..count].copy_from_slice(&octets[..count]);
+            Ok(count)
+        }
+    }
+
+    #[test]
+    fn an_err_in_mid_stream_is_a_fault(rt: HostRuntime) {
+        let mut source = ReadSource::new(Stuttering { calls: 0 });
+        let mut buf = [0; 4];
+        let wants = [(Ok(2), 0), (Err(Failed), 1), (Ok(1), 1), (Ok(0), 1)];
+        for (want, faults) in wants {
+            assert_eq!(rt; source.read(&mut buf), want);
+            assert_eq!(rt; source.faults, faults);
+        }
+        assert_eq!(rt; &buf[..2], b"cb".as_slice());
+        assert_eq!(rt;
+            gather(&mut ReadSource::new(b"xyz".as_slice()), &mut buf),
+            Ok(3)
+        );
+        assert_eq!(rt; &buf[..3], b"xyz".as_slice());
+    }
+}

@@ -1,0 +1,88 @@
+//! Loops over any source and any sink, which are proved from the traits alone, and what they do at each type.
+ghost use Rattle.std.specs.Prelude.{◌≡◌, ◌<◌, length, take, flat_map, IfOk, IfSome, OnOk, OnErr};
+ghost use Rattle.p25_io.specs.Faults.{HasCause};
+ghost use Rattle.p25_io.specs.Octets.{Taken, Appended, AppendedFront};
+
+use super::*;
+
+// Reads to the end, or until the room is full.
+pub(crate) fn gather<S: Source>(source: &mut S, room: &mut [u8]) -> Result<usize, Failed>
+    ensures taken { IfOk result (λ count. Taken (S.left source.old) (take count room.new) (S.left source.new)) }
+    ensures all { IfOk result (λ count. count < length room.new → IfSome (S.left source.old) (λ all. all ≡ take count room.new)) }
+    ensures cause { HasCause (S.faults source.old) (S.faults source.new) result }
+{
+    let mut held = 0;
+    while held < room.len() {
+        let count = source.read(&mut room[held..])?;
+        if count == 0 {
+            return Ok(held);
+        }
+        held += count;
+    }
+    Ok(held)
+}
+
+// Writes piece after piece.
+pub(crate) fn put_all<K: Sink>(sink: &mut K, pieces: &[&[u8]]) -> Result<(), Failed>
+    ensures ok { OnOk result (Appended (K.written sink.old) (flat_map (λ piece. piece.now) pieces.now) (K.written sink.new)) }
+    ensures err { OnErr result (AppendedFront (K.written sink.old) (flat_map (λ piece. piece.now) pieces.now) (K.written sink.new)) }
+    ensures cause { HasCause (K.faults sink.old) (K.faults sink.new) result }
+{
+    for piece in pieces {
+        sink.write(piece)?;
+    }
+    Ok(())
+}
+
+// Which call fails, how many octets were gathered then, and how many are left.
+const FAILING_CALLS: [(u64, Result<usize, Failed>, usize); 5] = [
+    (1, Err(Failed), 5),
+    (2, Err(Failed), 3),
+    (3, Err(Failed), 1),
+    (4, Err(Failed), 0),
+    (5, Ok(5), 0),
+];
+
+#[test]
+fn sources_in_memory(rt: HostRuntime) {
+    for (number, want, left) in FAILING_CALLS {
+        let fails = [number];
+        let mut source = MemorySource::new(b"abcde", 2, &fails);
+        let mut room = [0; 8];
+        assert_eq!(rt; gather(&mut source, &mut room), want, "failing at {number}");
+        assert_eq!(rt; source.rest().len(), left, "failing at {number}");
+    }
+    let mut source = SteadySource::new(b"abcde", 2);
+    let mut room = [0; 4];
+    assert_eq!(rt; gather(&mut source, &mut room), Ok(4));
+    assert_eq!(rt; &room, b"abcd");
+    assert_eq!(rt; source.rest(), b"e".as_slice());
+}
+
+// The size of the room, the number of the failing call, whether all is written, and what is written.
+const ROOMS: [(usize, u64, bool, &[u8]); 5] = [
+    (5, 0, true, b"abcde"),
+    (4, 0, false, b"abcd"),
+    (1, 0, false, b"a"),
+    (5, 2, false, b"ab"),
+    (5, 1, false, b""),
+];
+
+#[test]
+fn sinks_in_memory(rt: HostRuntime) {
+    let pieces = [b"ab".as_slice(), b"cde".as_slice()];
+    for (size, number, all, want) in ROOMS {
+        let mut room = [0; 8];
+        let fails = [number];
+        let mut sink = SliceSink::new(&mut room[..size.min(8)], &fails);
+        assert_eq!(rt;
+            put_all(&mut sink, &pieces).is_ok(),
+            all,
+            "room {size}, failing at {number}"
+        );
+        assert_eq!(rt; sink.written(), want, "room {size}, failing at {number}");
+    }
+    let mut sink = CountSink::new();
+    assert_eq!(rt; put_all(&mut sink, &pieces), Ok(()));
+    assert_eq!(rt; sink.octets(), 5);
+}

@@ -1,0 +1,83 @@
+-- Syncs and the window of 48 bits that moves over a recording.
+use Rattle.std.proofs.Common.{◌≡◌, ℕ, zero, suc, ◌+◌, ◌-◌, ◌*◌, ◌/◌, ◌%◌, ◌^◌, ◌<◌, ◌≤◌, inl, inr, Bool, true, false, ◌&&◌, cond, min, eqb, leb, ltb, List, [], ◌∷◌, ◌++◌, length, get_or, take, drop, refl, ap, ap₂, sym, ◌∙◌, subst, arith, length-drop, length-take}
+use Rattle.std.proofs.lemmas.Bool.{cases_Bool, and_left, and_from, and_right, lt-leb, le-leb, leb-true, cond-true, cond-false}
+use Rattle.std.proofs.lemmas.List.{drop_more, length-take-le}
+use Rattle.std.proofs.lemmas.Nat.{mod_low}
+use Rattle.p25_bits.specs.Bits.{digit_of, bits_of, field_of, part}
+use Rattle.p25_bits.specs.Distance.{distance_of}
+use Rattle.p25_bits.proofs.Lists.{part_more}
+use Rattle.p25_bits.proofs.BitsLaws.{field_of-cons, field_of-push, field_of-lt, field_of-bits_of, length-bits_of, same_from_field_of}
+use Rattle.p25_bits.proofs.DistanceLaws.{distance_of-same, same_from_distance_of}
+use Rattle.p25_tool.specs.Items.{sync_word, has_sync, sync_place}
+
+-- fewer bits than a sync have none
+has_sync-short : (bits : List Bool) → length bits < 48 → has_sync bits ≡ false
+unfolding has_sync
+has_sync-short bits short = and_left (leb 48 (length bits)) _ (lt-leb 48 (length bits) short)
+
+sync_length : length (bits_of 48 sync_word) ≡ 48
+sync_length = length-bits_of 48 sync_word
+
+-- bits that write the sync's number begin with a sync
+pub has_sync-yes : (bits : List Bool) → 48 ≤ length bits → field_of (take 48 bits) ≡ sync_word → has_sync bits ≡ true
+unfolding has_sync
+has_sync-yes bits long same =
+    let alike : take 48 bits ≡ bits_of 48 sync_word
+    = same_from_field_of (take 48 bits) (bits_of 48 sync_word) (length-take-le 48 bits long ∙ sym sync_length) (same ∙ sym (field_of-bits_of 48 sync_word)) in
+    let none : distance_of (take 48 bits) (bits_of 48 sync_word) ≡ 0
+    = ap (λ xs. distance_of xs (bits_of 48 sync_word)) alike ∙ distance_of-same (bits_of 48 sync_word) in
+    and_from (leb 48 (length bits)) _ (le-leb 48 (length bits) long) (ap (λ d. leb d 0) none)
+
+-- bits that write another number do not
+pub has_sync-no : (bits : List Bool) → 48 ≤ length bits → (field_of (take 48 bits) ≡ sync_word → ⊥) → has_sync bits ≡ false
+unfolding has_sync
+has_sync-no bits long other =
+    let d = distance_of (take 48 bits) (bits_of 48 sync_word) in
+    elim (cases_Bool (leb d 0)) [
+      | inl near ↦
+          let none : d ≡ 0 = omega (arith, leb-true d 0 near) in
+          let alike = same_from_distance_of (take 48 bits) (bits_of 48 sync_word) (length-take-le 48 bits long ∙ sym sync_length) none in
+          absurd (other (ap field_of alike ∙ field_of-bits_of 48 sync_word))
+      | inr far ↦ and_right (leb 48 (length bits)) (leb d 0) far
+    ]
+
+-- fewer bits than a sync are all without one
+pub sync_place-short : (bits : List Bool) → length bits < 48 → sync_place bits ≡ length bits
+unfolding sync_place
+sync_place-short [] short = refl
+sync_place-short (bit ∷ bits) short =
+    cond-false _ 0 (suc (sync_place bits)) (has_sync-short (bit ∷ bits) short) ∙ ap suc (sync_place-short bits (omega arith))
+
+sync_place-cons_yes : (bit : Bool) (bits : List Bool) → has_sync (bit ∷ bits) ≡ true → sync_place (bit ∷ bits) ≡ 0
+unfolding sync_place
+sync_place-cons_yes bit bits yes' = cond-true _ 0 (suc (sync_place bits)) yes'
+
+sync_place-cons_no : (bit : Bool) (bits : List Bool) → has_sync (bit ∷ bits) ≡ false → sync_place (bit ∷ bits) ≡ suc (sync_place bits)
+unfolding sync_place
+sync_place-cons_no bit bits no' = cond-false _ 0 (suc (sync_place bits)) no'
+
+-- a place with a sync is the least from there on
+pub sync_place-yes : (bits : List Bool) (i : ℕ) → i < length bits → has_sync (drop i bits) ≡ true → sync_place (drop i bits) ≡ 0
+sync_place-yes bits i inside yes' =
+    let split = drop_more bits i false inside in
+    ap sync_place split ∙ sync_place-cons_yes (get_or bits i false) (drop (i + 1) bits) (ap has_sync (sym split) ∙ yes')
+
+-- past a place without a sync the least is one nearer
+pub sync_place-no : (bits : List Bool) (i : ℕ) → i < length bits → has_sync (drop i bits) ≡ false → sync_place (drop i bits) ≡ suc (sync_place (drop (i + 1) bits))
+sync_place-no bits i inside no' =
+    let split = drop_more bits i false inside in
+    ap sync_place split ∙ sync_place-cons_no (get_or bits i false) (drop (i + 1) bits) (ap has_sync (sym split) ∙ no')
+
+-- the window one place further on
+pub window_more : (bits : List Bool) (i : ℕ) → i + 48 < length bits → (2 * field_of (part i 48 bits) + digit_of (get_or bits (i + 48) false)) % 2 ^ 48 ≡ field_of (part (i + 1) 48 bits)
+window_more bits i inside =
+    let here : i < length bits = omega arith in
+    let first = get_or bits i false in
+    let next = part (i + 1) 48 bits in
+    let long : length next ≡ 48 = length-take-le 48 (drop (i + 1) bits) (omega (arith, length-drop (i + 1) bits)) in
+    let below : field_of next < 2 ^ 48 = subst (λ (n : ℕ). field_of next < 2 ^ n) long (field_of-lt next) in
+    let front : field_of (part i 49 bits) ≡ digit_of first * 2 ^ 48 + field_of next
+    = ap (λ xs. field_of (take 49 xs)) (drop_more bits i false here) ∙ field_of-cons first next ∙ ap (λ n. digit_of first * 2 ^ n + field_of next) long in
+    let back : field_of (part i 49 bits) ≡ 2 * field_of (part i 48 bits) + digit_of (get_or bits (i + 48) false)
+    = ap field_of (part_more i 48 bits false inside) ∙ field_of-push (part i 48 bits) (get_or bits (i + 48) false) in
+    ap (λ n. n % 2 ^ 48) (sym back ∙ front) ∙ mod_low (digit_of first) 48 (field_of next) below
