@@ -1,0 +1,12 @@
+use Rattle.std.proofs.Common.{[]}
+use Rattle.p25_crc.specs.Checks.{IsCrc16}
+use Rattle.p25_crc.proofs.Registers.{empty_register}
+use Rattle.p25_crc.proofs.ChecksLaws.{IsCrc16-unique}
+use Rattle.p25_crc.proofs.crc16.Goals as goal
+
+pub returns-clause-check : goal.returns-clause-check
+unfolding IsCrc16
+returns-clause-check c = c.check_of.ensures.check _ (c.take_octets.ensures.next [] (empty_register _ 16))
+
+pub returns-clause-only : goal.returns-clause-only
+returns-clause-only c = λ other is. IsCrc16-unique c.args.octets.now other c.check_of.result is (returns-clause-check c)

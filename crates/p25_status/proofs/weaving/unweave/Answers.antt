@@ -1,0 +1,69 @@
+use Rattle.std.proofs.Common.{◌≡◌, ◌+◌, ◌*◌, ◌/◌, ◌<◌, ◌≤◌, ◌++◌, Bool, List, length, drop, ap, ap₂, sym, ◌∙◌, subst, arith, length-drop}
+use Rattle.std.proofs.lemmas.List.{append-nil, length-take-le}
+use Rattle.p25_bits.specs.Bits.{part}
+use Rattle.p25_status.specs.Status.{symbol_of}
+use Rattle.p25_status.specs.declared.symbols.Status.{Status}
+use Rattle.p25_status.specs.Woven.{woven, plain_in, plain_of, statuses_in, statuses_of, StandsByPlaces}
+use Rattle.p25_status.proofs.PlacesLaws.{woven-places}
+use Rattle.p25_status.proofs.WovenLaws.{woven-of}
+use Rattle.p25_status.proofs.Steps.{plain_more, statuses_more, plain_none, statuses_none, part_of_part, bit_of_part}
+use Rattle.p25_status.proofs.weaving.unweave.Goals as goal
+
+pub loop-i-preserved : goal.loop-i-preserved
+loop-i-preserved c =
+    let bits = c.args.bits.now in
+    let at = c.args.at in
+    let len = c.args.len in
+    let i = c.loop-i.i in
+    let sent = part at len bits in
+    let more : i < len / 72 = omega arith in
+    let block : 72 * i + 70 ≤ len = omega arith in
+    let first : 72 * i + 70 < len = omega arith in
+    let second : 72 * i + 71 < len = omega arith in
+    let high = bit_of_part bits at len (72 * i) 70 c.get.result first c.get.ensures in
+    let low = bit_of_part bits at len (72 * i) 71 c.get-in-loop-i.result second c.get-in-loop-i.ensures in
+    let symbol = c.from_bits.ensures ∙ ap₂ symbol_of high low in record {
+      plain =
+          plain_more (len / 72) i sent c.loop-i.out c.append.new.self (part (at + 72 * i) 70 bits) more (sym (part_of_part bits at len (72 * i) 70 block)) c.append.ensures.list
+          ∙ c.loop-i.invariant.plain;
+      statuses = statuses_more (len / 72) i sent c.loop-i.statuses c.push.new.self c.from_bits.result more symbol c.push.ensures.list ∙ c.loop-i.invariant.statuses;
+      plain_len = omega arith;
+      statuses_len = omega arith;
+    }
+
+pub returns-clause-plain : goal.returns-clause-plain
+unfolding plain_of
+returns-clause-plain c =
+    let sent = part c.args.at c.args.len c.args.bits.now in
+    let there : c.args.len ≤ length (drop c.args.at c.args.bits.now) = omega (arith, length-drop c.args.at c.args.bits.now) in
+    let long : length sent ≡ c.args.len = length-take-le c.args.len (drop c.args.at c.args.bits.now) there in
+    let done : c.args.len / 72 ≤ c.loop-i.i = c.loop-i-test.false in
+    sym (append-nil c.loop-i.out)
+    ∙ ap (λ (xs : List Bool). c.loop-i.out ++ xs) (sym (plain_none (c.args.len / 72) c.loop-i.i (drop (72 * c.loop-i.i) sent) done))
+    ∙ c.loop-i.invariant.plain
+    ∙ ap (λ n. plain_in (n / 72) sent) (sym long)
+
+pub returns-clause-statuses : goal.returns-clause-statuses
+unfolding statuses_of
+returns-clause-statuses c =
+    let sent = part c.args.at c.args.len c.args.bits.now in
+    let there : c.args.len ≤ length (drop c.args.at c.args.bits.now) = omega (arith, length-drop c.args.at c.args.bits.now) in
+    let long : length sent ≡ c.args.len = length-take-le c.args.len (drop c.args.at c.args.bits.now) there in
+    let done : c.args.len / 72 ≤ c.loop-i.i = c.loop-i-test.false in
+    sym (append-nil c.loop-i.statuses)
+    ∙ ap (λ (xs : List Status). c.loop-i.statuses ++ xs) (sym (statuses_none (c.args.len / 72) c.loop-i.i (drop (72 * c.loop-i.i) sent) done))
+    ∙ c.loop-i.invariant.statuses
+    ∙ ap (λ n. statuses_in (n / 72) sent) (sym long)
+
+pub returns-clause-woven : goal.returns-clause-woven
+returns-clause-woven c =
+    let sent = part c.args.at c.args.len c.args.bits.now in
+    let there : c.args.len ≤ length (drop c.args.at c.args.bits.now) = omega (arith, length-drop c.args.at c.args.bits.now) in
+    let blocks : c.args.len ≡ 72 * (c.args.len / 72) = omega arith in
+    let long : length sent ≡ 72 * (c.args.len / 72) = length-take-le c.args.len (drop c.args.at c.args.bits.now) there ∙ blocks in
+    ap₂ woven (returns-clause-plain c) (returns-clause-statuses c) ∙ woven-of (c.args.len / 72) sent long
+
+pub returns-clause-places : goal.returns-clause-places
+returns-clause-places c =
+    let long : length c.loop-i.out ≡ 70 * length c.loop-i.statuses = omega arith in
+    subst (λ (sent : List Bool). StandsByPlaces c.loop-i.out c.loop-i.statuses sent) (returns-clause-woven c) (woven-places c.loop-i.out c.loop-i.statuses long)

@@ -1,0 +1,35 @@
+-- Where status symbols stand among the bits of a unit: one of two bits after every 70 bits.
+use Rattle.std.specs.Prelude.{◌≡◌, ℕ, zero, suc, ◌+◌, ◌*◌, ◌/◌, ◌<◌, Bool, false, List, [], ◌∷◌, ◌++◌, length, take, drop, slice_get, slice_index_or, Some}
+use Rattle.p25_bits.specs.Bits.{bits_of, part}
+use Rattle.p25_status.specs.Status.{status_number, symbol_of}
+use Rattle.p25_status.specs.declared.symbols.Status.{Status}
+
+-- the bits of a unit as they are sent, with its status symbols
+unfoldable pub woven : List Bool → List Status → List Bool
+woven bits [] = []
+woven bits (status ∷ statuses) = take 70 bits ++ (bits_of 2 (status_number status) ++ woven (drop 70 bits) statuses)
+
+-- the bits of so many blocks of 72 without their status symbols
+unfoldable pub plain_in : ℕ → List Bool → List Bool
+plain_in zero sent = []
+plain_in (suc blocks) sent = take 70 sent ++ plain_in blocks (drop 72 sent)
+
+-- the status symbols of so many blocks of 72 bits
+unfoldable pub statuses_in : ℕ → List Bool → List Status
+statuses_in zero sent = []
+statuses_in (suc blocks) sent = symbol_of (slice_index_or sent 70 false) (slice_index_or sent 71 false) ∷ statuses_in blocks (drop 72 sent)
+
+-- sent bits without their status symbols
+unfoldable pub plain_of : List Bool → List Bool
+plain_of sent = plain_in (length sent / 72) sent
+
+-- the status symbols of sent bits
+unfoldable pub statuses_of : List Bool → List Status
+statuses_of sent = statuses_in (length sent / 72) sent
+
+-- the rule by places: bit u of a unit is sent at place u + 2 · (u / 70), and status symbol i at the places 72 · i + 70 and
+-- 72 · i + 71; there are no other places
+pub record StandsByPlaces (bits : List Bool) (statuses : List Status) (sent : List Bool) : Type 0 where
+  pub places : length sent ≡ 72 * length statuses
+  pub plain : (u : ℕ) → u < length bits → slice_get sent (u + 2 * (u / 70)) ≡ slice_get bits u
+  pub symbols : (i : ℕ) (status : Status) → slice_get statuses i ≡ Some status → part (72 * i + 70) 2 sent ≡ bits_of 2 (status_number status)

@@ -1,0 +1,87 @@
+ghost use Rattle.std.specs.Prelude.{◌≡◌, ◌+◌, ◌<◌, ◌≤◌, List, [], ◌∷◌, ◌++◌, length, slice_get};
+
+use arrayvec::ArrayVec;
+use std::marker::Model;
+
+/// A part of a unit that can fail to be read. The default, which fills the unused places of a list, means nothing.
+#[derive(Clone, Copy, Debug, PartialEq, Eq, Default)]
+pub enum Field {
+    /// The frame sync, with more than four wrong bits.
+    #[default]
+    Sync,
+    /// The network identifier.
+    Nid,
+    /// The data unit identifier, where it is none that this toolkit knows.
+    Duid,
+    /// The header word of a header unit.
+    HeaderWord,
+    /// The link control of a voice unit or a terminator.
+    LinkControl,
+    /// The encryption sync of a voice unit.
+    EncryptionSync,
+    /// The first low speed data word of a voice unit.
+    LowSpeed1,
+    /// The second low speed data word of a voice unit.
+    LowSpeed2,
+    /// The header block of a packet, where its CRC does not agree.
+    PacketHeader,
+    /// The length of a packet, where it is not the one that its header tells.
+    Length,
+    /// The format of a packet, where it is none that this toolkit reads.
+    Format,
+    /// The CRC of a whole packet.
+    PacketCrc,
+    /// The CRC of one block of a packet, by its place, from 0.
+    Block(u8),
+}
+
+/// A list of at most 127 fields, as many as a packet has blocks.
+#[derive(Drop)]
+pub struct FieldList {
+    items: ArrayVec<Field, 127>,
+}
+
+impl Model for FieldList {
+    ghost use Rattle.std.specs.Prelude.{List};
+    ghost use Rattle.p25_status.specs.declared.fields.Field.{Field};
+
+    ghost Value = { List Field };
+
+    ghost view = { λ s. s.items.items };
+}
+
+impl FieldList {
+    /// Answers an empty list.
+    pub fn new() -> FieldList
+        ensures { result ≡ [] }
+    {
+        FieldList {
+            items: ArrayVec::new(),
+        }
+    }
+
+    /// Answers the number of fields held.
+    pub fn len(&self) -> usize
+        ensures value { result ≡ length self.now }
+        ensures most { result ≤ 127 }
+    {
+        self.items.len()
+    }
+
+    /// Answers a copy of field `i`.
+    pub fn get(&self, i: usize) -> Field
+        requires { i < length self.now }
+        ensures { slice_get self.now i ≡ Some result }
+    {
+        self.items.as_slice()[i]
+    }
+
+    /// Appends a field.
+    pub fn push(&mut self, entry: Field)
+        requires { length self.old < 127 }
+        ensures list { self.new ≡ self.old ++ entry ∷ [] }
+        ensures len { length self.new ≡ length self.old + 1 }
+    {
+        self.items.push(entry);
+    }
+}

@@ -1,0 +1,27 @@
+//! Frame sync, the status symbols among the bits of a unit, and the names of a unit's fields.
+//!
+//! A unit is sent with a status symbol of two bits, the higher one first, after every 70 of its bits, counted from the
+//! first bit of its sync. So bit u of a unit is sent at place u + 2 · (u / 70), and status symbol i at the places
+//! 72 · i + 70 and 72 · i + 71. Contracts speak of the sent bits as `woven bits statuses`, of the way back as `plain_of`
+//! and `statuses_of`, and of the rule by places as `StandsByPlaces`. Lists are seen as lists.
+//!
+//! ```text
+//! let mut sent = BitBuf::new();
+//! weave(&plain, &statuses, &mut sent);
+//! if is_sync(&sent, 0) {
+//!     unweave(&sent, 0, sent.len(), &mut plain, &mut statuses);
+//! }
+//! ```
+#![tactic(auto)]
+
+mod fields;
+mod frame_sync;
+mod symbols;
+#[cfg(test)]
+mod tests;
+mod weaving;
+
+pub use fields::{Field, FieldList};
+pub use frame_sync::{SYNC, is_sync};
+pub use symbols::{Status, Statuses};
+pub use weaving::{unweave, weave};

@@ -1,0 +1,108 @@
+ghost use Rattle.std.specs.Prelude.{◌≡◌, ℕ, ◌+◌, ◌<◌, ◌≤◌, ◌↔◌, Bool, List, [], ◌∷◌, ◌++◌, length, slice_get, IsSome, IfSome};
+
+use arrayvec::ArrayVec;
+use std::marker::Model;
+
+/// A status symbol, a number from 0 to 3 that is sent as two bits, the higher one first: 1 is inbound busy, 3 inbound
+/// idle, 0 unknown or talk-around, and 2 unknown. TIA-102.BAAA, Status Symbols.
+#[derive(Clone, Copy, Debug, PartialEq, Eq)]
+pub struct Status {
+    value: u8,
+    pub ghost below: { value < 4 },
+}
+
+impl Default for Status {
+    ghost use Rattle.std.specs.Prelude.{◌≡◌};
+    ghost use Rattle.p25_status.specs.Status.{status_number};
+
+    ghost is_default = { λ status. status_number status ≡ 0 };
+
+    /// The symbol 0, unknown or talk-around.
+    fn default() -> Status {
+        Status { value: 0 }
+    }
+}
+
+impl Status {
+    ghost use Rattle.p25_status.specs.Status.{status_number, symbol_of};
+
+    /// Answers the status symbol of a number. None comes exactly above 3.
+    pub fn new(value: u8) -> Option<Status>
+        ensures below { IsSome result ↔ (value < 4) }
+        ensures number { IfSome result (λ status. status_number status ≡ value) }
+    {
+        if value < 4 {
+            Some(Status { value })
+        } else {
+            None
+        }
+    }
+
+    /// Answers the number of the symbol, from 0 to 3.
+    pub fn value(self) -> u8
+        ensures number { result ≡ status_number self }
+        ensures below { result < 4 }
+    {
+        self.value
+    }
+
+    // The symbol of two bits, the first one higher.
+    pub(crate) fn from_bits(high: bool, low: bool) -> Status
+        ensures { result ≡ symbol_of high low }
+    {
+        Status {
+            value: 2 * u8::from(high) + u8::from(low),
+        }
+    }
+}
+
+/// A list of at most 360 status symbols, as many as the longest unit has.
+#[derive(Drop)]
+pub struct Statuses {
+    items: ArrayVec<Status, 360>,
+}
+
+impl Model for Statuses {
+    ghost use Rattle.std.specs.Prelude.{List};
+    ghost use Rattle.p25_status.specs.declared.symbols.Status.{Status};
+
+    ghost Value = { List Status };
+
+    ghost view = { λ s. s.items.items };
+}
+
+impl Statuses {
+    /// Answers an empty list.
+    pub fn new() -> Statuses
+        ensures { result ≡ [] }
+    {
+        Statuses {
+            items: ArrayVec::new(),
+        }
+    }
+
+    /// Answers the number of symbols held.
+    pub fn len(&self) -> usize
+        ensures value { result ≡ length self.now }
+        ensures most { result ≤ 360 }
+    {
+        self.items.len()
+    }
+
+    /// Answers a copy of symbol `i`.
+    pub fn get(&self, i: usize) -> Status
+        requires { i < length self.now }
+        ensures { slice_get self.now i ≡ Some result }
+    {
+        self.items.as_slice()[i]
+    }
+
+    /// Appends a symbol.
+    pub fn push(&mut self, entry: Status)
+        requires { length self.old < 360 }
+        ensures list { self.new ≡ self.old ++ entry ∷ [] }
+        ensures len { length self.new ≡ length self.old + 1 }
+    {
+        self.items.push(entry);
+    }
+}

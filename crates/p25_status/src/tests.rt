@@ -1,0 +1,67 @@
+//! Values computed apart from this code, and each call once.
+
+use super::{Field, FieldList, SYNC, Status, Statuses, is_sync, unweave, weave};
+use p25_bits::BitBuf;
+use std::test::Fail;
+
+#[test]
+fn status_values(rt: HostRuntime) -> Result<(), Fail> {
+    assert_eq!(rt; Status::new(4), None);
+    let idle = Status::new(3).ok_or("3 is a status symbol")?;
+    assert_eq!(rt; idle.value(), 3);
+    assert_eq!(rt; Status::default().value(), 0);
+    Ok(())
+}
+
+#[test]
+fn sync_with_wrong_bits(rt: HostRuntime) {
+    let rows: [(u64, bool); 6] = [
+        (0, true),
+        (0x8000_0000_0001, true),
+        (0xF000_0000_0000, true),
+        (0x8000_4002_0001, true),
+        (0x8000_4002_0003, false),
+        (0xFFFF_FFFF_FFFF, false),
+    ];
+    for (wrong, near) in rows {
+        let mut bits = BitBuf::new();
+        bits.push(true);
+        bits.put_field(SYNC ^ (wrong & 0xFFFF_FFFF_FFFF), 48);
+        assert_eq!(rt; is_sync(&bits, 1), near);
+    }
+}
+
+#[test]
+fn two_blocks(rt: HostRuntime) -> Result<(), Fail> {
+    let mut plain = BitBuf::new();
+    plain.put_field(0x5555_5555_5555_5555, 64);
+    plain.put_field(0x3F, 6);
+    plain.put_field(0, 64);
+    plain.put_field(0x2A, 6);
+    let mut statuses = Statuses::new();
+    statuses.push(Status::new(1).ok_or("1 is a status symbol")?);
+    statuses.push(Status::new(2).ok_or("2 is a status symbol")?);
+    let mut sent = BitBuf::new();
+    weave(&plain, &statuses, &mut sent);
+    assert_eq!(rt; sent.len(), 144);
+    assert_eq!(rt; sent.field(56, 16), 0x55FD);
+    assert_eq!(rt; sent.field(128, 16), 0x00AA);
+
+    let mut plain_again = BitBuf::new();
+    let mut statuses_again = Statuses::new();
+    unweave(&sent, 72, 72, &mut plain_again, &mut statuses_again);
+    assert_eq!(rt; plain_again.field(6, 64), 0x2A);
+    assert_eq!(rt; statuses_again.len(), 1);
+    assert_eq!(rt; statuses_again.get(0).value(), 2);
+    Ok(())
+}
+
+#[test]
+fn field_lists(rt: HostRuntime) {
+    let mut fields = FieldList::new();
+    fields.push(Field::LinkControl);
+    fields.push(Field::Block(126));
+    assert_eq!(rt; fields.len(), 2);
+    assert_eq!(rt; fields.get(0), Field::LinkControl);
+    assert_eq!(rt; fields.get(1), Field::Block(126));
+}

@@ -1,0 +1,48 @@
+ghost use Rattle.std.specs.Prelude.{◌≡◌, ◌+◌, ◌*◌, ◌%◌, ◌≤◌, Bool, List, length};
+ghost use Rattle.p25_bits.specs.Bits.{part};
+ghost use Rattle.p25_status.specs.Woven.{woven, plain_of, statuses_of, StandsByPlaces};
+
+use crate::symbols::{Status, Statuses};
+use p25_bits::BitBuf;
+
+/// Replaces `out` by a unit's bits as they are sent: after every 70 bits of `plain` comes one of the status symbols, in
+/// order. There are 70 bits for each symbol. TIA-102.BAAA, Status Symbols.
+pub fn weave(plain: &BitBuf, statuses: &Statuses, out: &mut BitBuf)
+    requires { length plain.now ≡ 70 * length statuses.now }
+    ensures list { out.new ≡ woven plain.now statuses.now }
+    ensures len { length out.new ≡ 72 * length statuses.now }
+    ensures places { StandsByPlaces plain.now statuses.now out.new }
+    ensures only { (other : List Bool) → StandsByPlaces plain.now statuses.now other → other ≡ out.new }
+    ensures plain_again { plain_of out.new ≡ plain.now }
+    ensures statuses_again { statuses_of out.new ≡ statuses.now }
+{
+    out.clear();
+    for i in 0..statuses.len() {
+        out.append(plain, 70 * i, 70);
+        out.put_field(u64::from(statuses.get(i).value()), 2);
+    }
+}
+
+/// Takes `len` sent bits, those from place `at` on, apart: `out` becomes the unit's bits without status symbols, and
+/// `statuses` its status symbols, one for every 72 bits. What both held before is gone. TIA-102.BAAA, Status Symbols.
+pub fn unweave(bits: &BitBuf, at: usize, len: usize, out: &mut BitBuf, statuses: &mut Statuses)
+    requires blocks { len % 72 ≡ 0 }
+    requires most { len ≤ 25920 }
+    requires there { at + len ≤ length bits.now }
+    ensures plain { out.new ≡ plain_of (part at len bits.now) }
+    ensures statuses { statuses.new ≡ statuses_of (part at len bits.now) }
+    ensures woven { woven out.new statuses.new ≡ part at len bits.now }
+    ensures places { StandsByPlaces out.new statuses.new (part at len bits.now) }
+    ensures plain_len { length out.new ≡ 70 * length statuses.new }
+    ensures len { 72 * length statuses.new ≡ len }
+{
+    // The number of bits held bounds every place below.
+    let _ = bits.len();
+    out.clear();
+    *statuses = Statuses::new();
+    for i in 0..len / 72 {
+        let start = at + 72 * i;
+        out.append(bits, start, 70);
+        statuses.push(Status::from_bits(bits.get(start + 70), bits.get(start + 71)));
+    }
+}
