@@ -1,1 +1,5 @@
 pub mod ReadingLaws
+pub mod Bits
+pub mod Syndromes
+pub mod Corrections
+pub mod BinaryCodes

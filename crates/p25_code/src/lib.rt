@@ -16,8 +16,10 @@
 //! radius, least distance and bounded-distance reading are those of any textbook of coding theory.
 #![tactic(auto)]
 
+mod binary;
 mod callers;
 mod code;
 
+pub use binary::{encode_systematic, read_checked, syndrome};
 pub use callers::{encode_then_read, read_received};
 pub use code::{BlockCode, Reading};
