@@ -2,4 +2,6 @@ pub mod ReadingLaws
 pub mod Bits
 pub mod Syndromes
 pub mod Corrections
+pub mod Weights
 pub mod BinaryCodes
+pub mod Remainders

@@ -1,16 +1,15 @@
 -- Laws of syndromes: sums of columns at the places where a word is 1.
-use Rattle.std.proofs.Common.{◌≡◌, ℕ, zero, suc, ◌+◌, ◌*◌, ◌^◌, ◌<◌, ◌≤◌, Bool, true, false, cond, List, [], ◌∷◌, ◌++◌, length, take, drop, get_or, bit_xor, refl, ap, ap₂, sym, ◌∙◌, arith}
+use Rattle.std.proofs.Common.{◌≡◌, ℕ, zero, suc, ◌+◌, ◌*◌, ◌^◌, ◌<◌, ◌≤◌, Bool, true, false, cond, List, [], ◌∷◌, ◌++◌, length, drop, get_or, bit_xor, refl, ap, ap₂, sym, ◌∙◌, arith}
 use Rattle.std.specs.Bool.{beq}
 use Rattle.std.specs.Int.Bits.{xor_assoc, xor_self, xor_zero_l, xor_zero_r}
-use Rattle.std.proofs.lemmas.Nat.{xor_comm, xor_block, xor_lt, pow_pos}
+use Rattle.std.proofs.lemmas.Nat.{xor_comm, xor_block, pow_pos}
 use Rattle.std.proofs.lemmas.List.{drop_more, drop_all}
 use Rattle.p25_bits.specs.Bits.{digit_of, field_of}
-use Rattle.p25_bits.specs.Distance.{distance_of}
 use Rattle.p25_bits.proofs.BitsLaws.{field_of-nil, field_of-cons, field_of-lt}
 use Rattle.p25_code.specs.Binary.{syndrome_of, check_columns, change_of}
 
 -- of four, the two in the middle change places
-xor_middle : (a b c d : ℕ) → bit_xor (bit_xor a b) (bit_xor c d) ≡ bit_xor (bit_xor a c) (bit_xor b d)
+pub xor_middle : (a b c d : ℕ) → bit_xor (bit_xor a b) (bit_xor c d) ≡ bit_xor (bit_xor a c) (bit_xor b d)
 xor_middle a b c d =
     xor_assoc a b (bit_xor c d)
     ∙ ap (bit_xor a) (sym (xor_assoc b c d) ∙ ap (λ n. bit_xor n d) (xor_comm b c) ∙ xor_assoc c b d)
@@ -65,7 +64,7 @@ syndrome_of-append (row ∷ rows) columns (bit ∷ info) checks long =
     ∙ sym (xor_assoc (cond bit row 0) (syndrome_of rows info) (syndrome_of columns checks))
 
 -- a bit above a number of lower bits
-above : (bit : Bool) (k low : ℕ) → low < 2 ^ k → bit_xor (cond bit (2 ^ k) 0) low ≡ digit_of bit * 2 ^ k + low
+pub above : (bit : Bool) (k low : ℕ) → low < 2 ^ k → bit_xor (cond bit (2 ^ k) 0) low ≡ digit_of bit * 2 ^ k + low
 above true k low h =
     let left : 2 ^ k ≡ 1 * 2 ^ k + 0 = omega arith in
     let right : low ≡ 0 * 2 ^ k + low = omega arith in

@@ -1,7 +1,7 @@
 -- Binary codes by the columns of a check matrix. A column is a number whose bits are the checks that its place takes part in.
 use Rattle.std.specs.Prelude.{◌≡◌, ℕ, zero, suc, ◌+◌, ◌^◌, ◌<◌, ◌≤◌, Bool, cond, List, [], ◌∷◌, ◌++◌, length, bit_xor, Option, Some, None}
 use Rattle.std.specs.Bool.{beq}
-use Rattle.p25_bits.specs.Bits.{bits_of}
+use Rattle.p25_bits.specs.Bits.{digit_of, bits_of}
 use Rattle.p25_bits.specs.Distance.{distance_of}
 
 -- the syndrome of a word: the sum over GF(2) of the columns at whose places the word is 1
@@ -23,6 +23,11 @@ check_columns (suc checks) = 2 ^ checks ∷ check_columns checks
 -- the systematic word: the information, then the sum of the rows at whose places the information is 1
 unfoldable pub systematic : List ℕ → ℕ → List Bool → List Bool
 systematic rows checks info = info ++ bits_of checks (syndrome_of rows info)
+
+-- the weight of a word: how many of its bits are 1
+unfoldable pub weight_of : List Bool → ℕ
+weight_of [] = 0
+weight_of (bit ∷ word) = digit_of bit + weight_of word
 
 -- how two words differ in their syndromes: the sum of the columns at whose places they differ
 unfoldable pub change_of : List ℕ → List Bool → List Bool → ℕ
