@@ -2,6 +2,7 @@
 -- computed test of all information gives their least distance.
 use Rattle.std.proofs.Common.{◌≡◌, ◌≢◌, ◌⊎◌, ℕ, ◌+◌, ◌^◌, ◌<◌, ◌≤◌, inl, inr, Bool, true, false, cond, ◌||◌, eqb, ltb, leb, List, [], ◌∷◌, ◌++◌, length, take, drop, bit_xor, ap, ap₂, sym, ◌∙◌, subst, arith, length-append, take-append-drop, length-drop}
 use Rattle.std.specs.List.{list_all}
+use Rattle.std.specs.Bool.{beq}
 use Rattle.std.specs.Int.Bits.{xor_self}
 use Rattle.std.proofs.Math.Nat.{mod-eq_of_lt}
 use Rattle.std.proofs.Math.Seq.{take-append_seam, drop-append_seam}
@@ -13,9 +14,11 @@ use Rattle.p25_bits.specs.Distance.{distance_of}
 use Rattle.p25_bits.proofs.BitsLaws.{length-bits_of, field_of-bits_of, bits_of-field_of}
 use Rattle.p25_bits.proofs.Divisions.{same_from_xor}
 use Rattle.p25_bits.proofs.DistanceLaws.{same_from_distance_of}
-use Rattle.p25_code.specs.Words.{IsEncoding}
+use Rattle.p25_code.specs.declared.code.Reading.{Reading}
+use Rattle.p25_code.specs.Words.{IsEncoding, IsReading}
 use Rattle.p25_code.specs.Binary.{syndrome_of, IsChecked, check_columns, systematic, weight_of}
 use Rattle.p25_code.proofs.Weights.{all_bits, all_bits-each, sum_of_words, length-sum_of_words, weight_of-append, weight_of-bits_of, weight_of-sum_of_words, syndrome_of-zeros, syndrome_of-sum_of_words}
+use Rattle.p25_code.proofs.ReadingLaws.{reading_of_same_set}
 use Rattle.p25_code.proofs.Syndromes.{syndrome_of-append, syndrome_of-check_columns, length-check_columns, change_of-is}
 
 -- each row has a bit for each check
@@ -146,3 +149,19 @@ module _ {rows : List ℕ} {checks apart : ℕ} (code : IsSystematic rows checks
         | inl none ↦ absurd (differ (same_from_distance_of v w long (sym weight ∙ none)))
         | inr far ↦ omega arith
       ]
+
+  -- what the encoder writes is the encoding in a set whose words are those that pass
+  pub encodes : (IsWord : List Bool → Type 0) → ((w : List Bool) → IsChecked (rows ++ check_columns checks) w → IsWord w) → (front : List ℕ) (places : ℕ) (info word : List Bool) → front ≡ rows → places ≡ checks → length info ≡ length rows → word ≡ systematic front places info → IsEncoding IsWord (length rows) info word
+  encodes IsWord from front places info word e f long is =
+      let whole : word ≡ systematic rows checks info = is ∙ ap₂ (λ r n. systematic r n info) e f in
+      let encoding = systematic_encodes info long in
+      record {
+        word_of_set = from word (subst (IsChecked (rows ++ check_columns checks)) (sym whole) encoding.word_of_set);
+        begins = ap (take (length rows)) whole ∙ encoding.begins;
+      }
+
+  -- what the reader leaves and answers is the reading in that set
+  pub reads : (IsWord : List Bool → Type 0) → ((w : List Bool) → IsWord w → IsChecked (rows ++ check_columns checks) w) → ((w : List Bool) → IsChecked (rows ++ check_columns checks) w → IsWord w) → (columns : List ℕ) (radius : ℕ) (received word : List Bool) (reading : Reading) → columns ≡ rows ++ check_columns checks → IsReading beq (IsChecked columns) radius received word reading → IsReading beq IsWord radius received word reading
+  reads IsWord to from columns radius received word reading e is =
+      reading_of_same_set beq (IsChecked (rows ++ check_columns checks)) IsWord radius received word reading from to
+      (subst (λ cs. IsReading beq (IsChecked cs) radius received word reading) e is)

@@ -1,2 +1,3 @@
 pub mod Words
+pub mod Letters
 pub mod Binary

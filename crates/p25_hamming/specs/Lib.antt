@@ -1,0 +1,2 @@
+pub mod Hamming10
+pub mod Hamming10Laws

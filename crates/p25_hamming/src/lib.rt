@@ -1,0 +1,8 @@
+//! Hamming.
+#![tactic(auto)]
+
+mod hamming10;
+
+
+pub use hamming10::Hamming10;
+
