@@ -5,3 +5,4 @@ pub mod Corrections
 pub mod Weights
 pub mod BinaryCodes
 pub mod Remainders
+pub mod Parities

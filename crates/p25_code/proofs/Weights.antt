@@ -34,7 +34,7 @@ weight_of-bits_of (suc width) =
     ap weight_of (bits_of-suc width 0) ∙ ap₂ ◌+◌ (ap (λ n. digit_of (eqb n 1)) (bit_at-zero width)) (weight_of-bits_of width)
 
 -- the sum of two words over GF(2), place by place
-pub sum_of_words : List Bool → List Bool → List Bool
+unfoldable pub sum_of_words : List Bool → List Bool → List Bool
 sum_of_words [] ys = []
 sum_of_words (x ∷ xs) [] = []
 sum_of_words (true ∷ xs) (y ∷ ys) = not y ∷ sum_of_words xs ys
