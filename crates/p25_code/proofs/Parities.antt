@@ -1,12 +1,12 @@
 -- Checks that are sums of other checks, and a parity beside other checks.
 use Rattle.std.proofs.Common.{◌≡◌, ℕ, zero, suc, ◌+◌, ◌*◌, ◌%◌, ◌<◌, Bool, true, false, cond, eqb, List, [], ◌∷◌, length, map, bit_xor, refl, ap, ap₂, sym, ◌∙◌, arith}
 use Rattle.std.specs.Int.{bit_at}
-use Rattle.std.specs.Int.Bits.{xor_self, xor_zero_l, xor_zero_r}
+use Rattle.std.specs.Int.Bits.{xor_zero_l}
 use Rattle.std.proofs.lemmas.Nat.Bits.{bit_at_xor, bit_at-lt}
 use Rattle.p25_bits.specs.Bits.{digit_of, bits_of}
 use Rattle.p25_bits.proofs.BitsLaws.{bits_of-suc, bits_of-zero, length-bits_of, digit_of-le}
 use Rattle.p25_bits.proofs.Divisions.{xor_doubled}
-use Rattle.p25_code.specs.Binary.{syndrome_of, weight_of, change_of}
+use Rattle.p25_code.specs.Binary.{syndrome_of, weight_of}
 use Rattle.p25_code.proofs.Syndromes.{change_of-is}
 use Rattle.p25_code.proofs.Weights.{sum_of_words, syndrome_of-sum_of_words, syndrome_of-zeros, weight_of-bits_of}
 
