@@ -63,9 +63,9 @@ module _ {rows : List ℕ} {checks apart : ℕ} (code : IsSystematic rows checks
       record {
         long = length-append info bits ∙ ap₂ ◌+◌ long (places ∙ sym (length-check_columns checks)) ∙ sym (length-append rows (check_columns checks));
         passes =
-          syndrome_of-append rows (check_columns checks) info bits long
-          ∙ ap (bit_xor sum) (syndrome_of-check_columns checks bits places ∙ field_of-bits_of checks sum ∙ mod-eq_of_lt small)
-          ∙ xor_self sum;
+            syndrome_of-append rows (check_columns checks) info bits long
+            ∙ ap (bit_xor sum) (syndrome_of-check_columns checks bits places ∙ field_of-bits_of checks sum ∙ mod-eq_of_lt small)
+            ∙ xor_self sum;
       }
 
   -- and each word that passes is systematic

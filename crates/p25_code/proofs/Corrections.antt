@@ -155,7 +155,7 @@ pub of_parts : (columns columns' : List ℕ) (sum budget : ℕ) (old old' new : 
 of_parts columns columns' sum budget old old' new answer answer' e f g is =
     subst (λ a. IsCorrection columns sum budget old new a) (sym g)
     (subst (λ o. IsCorrection columns sum budget o new answer') (sym f)
-        (subst (λ cs. IsCorrection cs sum budget old' new answer') (sym e) is))
+    (subst (λ cs. IsCorrection cs sum budget old' new answer') (sym e) is))
 
 -- a correction keeps to its budget
 pub fixes_within : (columns : List ℕ) (sum budget : ℕ) (old new : List Bool) (fixes : ℕ) → IsCorrection columns sum budget old new (Some fixes) → fixes ≤ budget

@@ -14,12 +14,15 @@
 //! `read` corrects as many wrong letters as the radius says, always, and never more: what lies further from every word
 //! is answered as `Beyond` and left as it was received. The codes of the air interface are in TIA-102.BAAA; the words
 //! radius, least distance and bounded-distance reading are those of any textbook of coding theory.
+//!
+//! `read_received` and `encode_then_read` say what this comes to for any code, proved from the trait alone.
+//! `encode_systematic` and `read_checked` serve as the bodies of small binary codes, given by their check matrix.
 #![tactic(auto)]
 
 mod binary;
 mod callers;
 mod code;
 
-pub use binary::{encode_systematic, read_checked, syndrome};
+pub use binary::{encode_systematic, read_checked};
 pub use callers::{encode_then_read, read_received};
 pub use code::{BlockCode, Reading};
