@@ -1,9 +1,9 @@
 //! The Hamming code (10,6).
 
+ghost use Rattle.std.proofs.Common.{arith};
+ghost use Rattle.p25_code.specs.Letters.{same_bit};
 ghost use Rattle.p25_hamming.specs.Hamming10.{IsHamming10};
 ghost use Rattle.p25_hamming.specs.Hamming10Laws.{length_hamming10, one_hamming10, far_hamming10};
-ghost use Rattle.p25_code.specs.Letters.{same_bit};
-ghost use Rattle.std.proofs.Common.{arith};
 
 use p25_code::{BlockCode, Reading, encode_systematic, read_checked};
 
@@ -12,6 +12,11 @@ const COLUMNS: [u16; 10] = [
     0b1110, 0b1101, 0b1011, 0b0111, 0b0011, 0b1100, 0b1000, 0b0100, 0b0010, 0b0001,
 ];
 
+const RADIUS: u32 = 1;
+
+/// The shortened Hamming code (10,6): ten bits, of which the first six are the information and the last four the sum over
+/// GF(2) of the check rows of those that are 1. Any two words differ in at least 3 bits; one wrong bit is corrected.
+/// TIA-102.BAAA, Link Control and Encryption Sync words of the logical link units.
 pub struct Hamming10;
 
 impl BlockCode for Hamming10 {
@@ -46,7 +51,7 @@ impl BlockCode for Hamming10 {
     ghost begins = { λ _. omega arith };
 
     fn radius() -> usize {
-        1
+        RADIUS as usize
     }
 
     fn encode(info: &[bool], word: &mut [bool]) {
@@ -54,6 +59,6 @@ impl BlockCode for Hamming10 {
     }
 
     fn read(word: &mut [bool]) -> Reading {
-        read_checked(&COLUMNS, 1, word)
+        read_checked(&COLUMNS, RADIUS, word)
     }
 }
