@@ -1,7 +1,7 @@
 -- The laws of the code (16,8) of the low speed data.
-use Rattle.std.specs.Prelude.{◌≡◌, ◌≢◌, ℕ, ◌<◌, ◌≤◌, ◌^◌, ◌+◌, ◌++◌, Bool, true, List, [], ◌∷◌, length, take, refl}
-use Rattle.std.proofs.Common.{arith, ap, sym, ◌∙◌, subst}
-use Rattle.p25_bits.specs.Bits.{bits_of, field_of}
+use Rattle.std.specs.Prelude.{◌≡◌, ◌≢◌, ℕ, ◌<◌, ◌≤◌, ◌^◌, ◌++◌, Bool, true, List, [], ◌∷◌, length, take, refl}
+use Rattle.std.proofs.Common.{arith, ap, sym, ◌∙◌}
+use Rattle.p25_bits.specs.Bits.{bits_of}
 use Rattle.p25_bits.specs.Distance.{distance_of}
 use Rattle.p25_bits.specs.Divisible.{HasDegree}
 use Rattle.p25_code.specs.Binary.{IsChecked, check_columns, systematic, syndrome_of, weight_of}

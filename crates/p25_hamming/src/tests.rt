@@ -1,17 +1,18 @@
 //! Words that other programs encoded and read.
 
+ghost use Rattle.std.specs.Prelude.{◌≤◌, length};
+
 use crate::{Hamming10, Lsd16};
 use p25_code::{BlockCode, Reading, encode_then_read, read_received};
 
-// The bits of a number, highest first.
-fn word_of<const N: usize>(number: u32) -> [bool; N]
-    requires { N ≤ 32 }
+// Sets the bits to those of a number, highest first.
+fn put(number: u32, bits: &mut [bool])
+    requires { length bits.old ≤ 32 }
 {
-    let mut word = [false; N];
-    for (i, bit) in word.iter_mut().enumerate() {
-        *bit = (number >> (N - 1 - i)) & 1 == 1;
+    let width = bits.len();
+    for (i, bit) in bits.iter_mut().enumerate() {
+        *bit = (number >> (width - 1 - i)) & 1 == 1;
     }
-    word
 }
 
 #[test]
@@ -22,10 +23,14 @@ fn hamming10_encodes(rt: HostRuntime) {
         (0b000001, 0b0000011100),
         (0, 0),
     ] {
-        let mut word = [false; 10];
-        let reading = encode_then_read::<Hamming10>(&word_of::<6>(info), &mut word);
-        assert_eq!(rt; reading, Reading::Found { fixes: 0 });
-        assert_eq!(rt; word, word_of::<10>(sent), "{info}");
+        let (mut information, mut word, mut wanted) = ([false; 6], [false; 10], [false; 10]);
+        put(info, &mut information);
+        put(sent, &mut wanted);
+        assert_eq!(rt;
+            encode_then_read::<Hamming10>(&information, &mut word),
+            Reading::Found { fixes: 0 }
+        );
+        assert_eq!(rt; word, wanted, "{info}");
     }
 }
 
@@ -50,23 +55,29 @@ fn hamming10_reads(rt: HostRuntime) {
         (0x2B0, Reading::Beyond, 0x2B0),
         (0x1CB, Reading::Beyond, 0x1CB),
     ] {
-        let mut word = word_of::<10>(received);
+        let (mut word, mut wanted) = ([false; 10], [false; 10]);
+        put(received, &mut word);
+        put(left, &mut wanted);
         assert_eq!(rt;
             read_received::<Hamming10>(&mut word),
             reading,
             "{received}"
         );
-        assert_eq!(rt; word, word_of::<10>(left), "{received}");
+        assert_eq!(rt; word, wanted, "{received}");
     }
 }
 
 #[test]
 fn lsd16_encodes(rt: HostRuntime) {
     for (info, sent) in [(0x01, 0x0139), (0x80, 0x804E), (0, 0)] {
-        let mut word = [false; 16];
-        let reading = encode_then_read::<Lsd16>(&word_of::<8>(info), &mut word);
-        assert_eq!(rt; reading, Reading::Found { fixes: 0 });
-        assert_eq!(rt; word, word_of::<16>(sent), "{info}");
+        let (mut information, mut word, mut wanted) = ([false; 8], [false; 16], [false; 16]);
+        put(info, &mut information);
+        put(sent, &mut wanted);
+        assert_eq!(rt;
+            encode_then_read::<Lsd16>(&information, &mut word),
+            Reading::Found { fixes: 0 }
+        );
+        assert_eq!(rt; word, wanted, "{info}");
     }
 }
 
@@ -90,8 +101,10 @@ fn lsd16_reads(rt: HostRuntime) {
         (0x7DF9, Reading::Beyond, 0x7DF9),
         (0xDA0F, Reading::Beyond, 0xDA0F),
     ] {
-        let mut word = word_of::<16>(received);
+        let (mut word, mut wanted) = ([false; 16], [false; 16]);
+        put(received, &mut word);
+        put(left, &mut wanted);
         assert_eq!(rt; read_received::<Lsd16>(&mut word), reading, "{received}");
-        assert_eq!(rt; word, word_of::<16>(left), "{received}");
+        assert_eq!(rt; word, wanted, "{received}");
     }
 }
