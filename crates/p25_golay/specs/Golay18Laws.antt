@@ -1,7 +1,7 @@
 -- The laws of the shortened Golay code (18,6).
-use Rattle.std.specs.Prelude.{◌≡◌, ◌≢◌, ℕ, ◌+◌, ◌≤◌, ◌++◌, Bool, true, false, List, [], ◌∷◌, length, take, refl}
+use Rattle.std.specs.Prelude.{◌≡◌, ◌≢◌, ℕ, ◌≤◌, ◌++◌, Bool, true, false, List, [], ◌∷◌, length, take, refl}
 use Rattle.std.specs.Int.Bits.{xor_zero_l}
-use Rattle.std.proofs.Common.{arith, ap, sym, ◌∙◌}
+use Rattle.std.proofs.Common.{arith, sym, ◌∙◌}
 use Rattle.p25_bits.specs.Bits.{bits_of}
 use Rattle.p25_bits.specs.Distance.{distance_of}
 use Rattle.p25_code.specs.Binary.{IsChecked, check_columns, systematic, syndrome_of, weight_of}
@@ -45,9 +45,9 @@ pub from_short : (word : List Bool) → IsChecked (short_rows ++ check_columns 1
 unfolding check_columns
 from_short word is = record {
   in_golay24 = from_checked _ (record {
-        long = omega (arith, is.long);
-        passes = zeros_first 0xC75 0x63B 0xF68 0x7B4 0x3DA 0xD99 (short_rows ++ check_columns 12) word ∙ is.passes;
-      });
+    long = omega (arith, is.long);
+    passes = zeros_first 0xC75 0x63B 0xF68 0x7B4 0x3DA 0xD99 (short_rows ++ check_columns 12) word ∙ is.passes;
+  });
 }
 
 pub length_golay18 : (word : List Bool) → IsGolay18 word → length word ≡ 18

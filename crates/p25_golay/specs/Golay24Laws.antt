@@ -1,9 +1,9 @@
 -- The laws of the Golay code (24,12).
-use Rattle.std.specs.Prelude.{◌≡◌, ◌≢◌, ℕ, ◌<◌, ◌≤◌, ◌^◌, ◌+◌, ◌*◌, ◌%◌, ◌++◌, Bool, true, false, cond, List, [], ◌∷◌, length, take, drop, map, bit_xor, refl}
+use Rattle.std.specs.Prelude.{◌≡◌, ◌≢◌, ℕ, ◌<◌, ◌≤◌, ◌^◌, ◌+◌, ◌*◌, ◌%◌, ◌++◌, Bool, true, false, List, [], ◌∷◌, length, take, drop, map, bit_xor, refl}
 use Rattle.std.specs.Int.Bits.{xor_zero_r}
-use Rattle.std.proofs.Common.{arith, ap, ap₂, sym, ◌∙◌, subst, take-append-drop, length-drop}
+use Rattle.std.proofs.Common.{arith, ap, ap₂, sym, ◌∙◌, take-append-drop}
 use Rattle.std.proofs.lemmas.List.{length-take-le}
-use Rattle.p25_bits.specs.Bits.{bits_of, field_of}
+use Rattle.p25_bits.specs.Bits.{bits_of}
 use Rattle.p25_bits.specs.Distance.{distance_of}
 use Rattle.p25_bits.specs.Divisible.{HasDegree}
 use Rattle.p25_code.specs.Binary.{IsChecked, check_columns, systematic, syndrome_of, weight_of}

@@ -1,14 +1,16 @@
 //! The shortened Golay code (18,6).
 
+ghost use Rattle.std.proofs.Common.{arith};
 ghost use Rattle.p25_code.specs.Letters.{same_bit};
 ghost use Rattle.p25_golay.specs.Golay18.{IsGolay18};
 ghost use Rattle.p25_golay.specs.Golay18Laws.{length_golay18, one_golay18, far_golay18};
-ghost use Rattle.std.proofs.Common.{arith};
 
+use crate::golay24::{COLUMNS, RADIUS};
 use p25_code::{BlockCode, Reading, encode_systematic, read_checked};
 
-use crate::golay24::COLUMNS;
-
+/// The shortened Golay code (18,6): the words of the Golay code (24,12) that begin with six zeros, without those six. Any
+/// two words differ in at least 8 bits; three wrong bits are corrected. A list that is near to a word of the longer code
+/// alone, one whose six bits in front are not all 0, is Beyond. TIA-102.BAAA, Header Data Unit.
 pub struct Golay18;
 
 impl BlockCode for Golay18 {
@@ -43,7 +45,7 @@ impl BlockCode for Golay18 {
     ghost begins = { λ _. omega arith };
 
     fn radius() -> usize {
-        3
+        RADIUS as usize
     }
 
     fn encode(info: &[bool], word: &mut [bool]) {
@@ -51,6 +53,6 @@ impl BlockCode for Golay18 {
     }
 
     fn read(word: &mut [bool]) -> Reading {
-        read_checked(&COLUMNS[6..], 3, word)
+        read_checked(&COLUMNS[6..], RADIUS, word)
     }
 }
