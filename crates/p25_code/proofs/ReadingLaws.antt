@@ -1,0 +1,80 @@
+-- What follows from the laws of a block code: a reading leaves the word within the radius and no other.
+use Rattle.std.proofs.Common.{◌≡◌, ◌≢◌, ℕ, ◌+◌, ◌*◌, ◌<◌, ◌≤◌, inl, inr, Bool, true, List, length, take, ap, sym, ◌∙◌, subst, arith}
+use Rattle.std.specs.Cmp.{IsEquivalence}
+use Rattle.std.proofs.lemmas.Bool.{cases_eq}
+use Rattle.p25_bits.specs.Distance.{distance_by}
+use Rattle.p25_bits.proofs.DistanceLaws.{distance_by-same, distance_by-sym, distance_by-triangle, same_from_distance_by}
+use Rattle.p25_code.specs.Words.{IsFound, IsReading, IsInformation}
+use Rattle.p25_code.specs.declared.code.Reading.{Reading}
+use Rattle.p25_code.specs.declared.code.Reading.TheVariants.{Found, Beyond}
+
+-- the laws of a code at its letters, its length and its radius
+pub record IsCode {L : Type 0} (same : L → L → Bool) (IsWord : List L → Type 0) (n radius apart : ℕ) : Type 0 where
+  pub compares : IsEquivalence same
+  pub alike : (x y : L) → same x y ≡ true → x ≡ y
+  pub long : (word : List L) → IsWord word → length word ≡ n
+  pub far_apart : (v w : List L) → IsWord v → IsWord w → v ≢ w → apart ≤ distance_by same v w
+  pub close : 2 * radius < apart
+
+module _ {L : Type 0} {same : L → L → Bool} {IsWord : List L → Type 0} {n radius apart : ℕ} (code : IsCode same IsWord n radius apart) where
+  -- a distance does not depend on the direction
+  pub turned : (xs ys : List L) → distance_by same xs ys ≡ distance_by same ys xs
+  turned = distance_by-sym same code.compares.symm
+
+  -- the way round by a third list is no shorter
+  pub triangle : (xs ys zs : List L) → length xs ≡ length ys → distance_by same xs zs ≤ distance_by same xs ys + distance_by same ys zs
+  triangle = distance_by-triangle same (λ x y z a b. subst (λ w. same x w ≡ true) (code.alike y z b) a)
+
+  -- two words less than the least distance apart are one
+  pub near_words : (v w : List L) → IsWord v → IsWord w → distance_by same v w < apart → v ≡ w
+  near_words v w isv isw near =
+      elim (cases_eq (distance_by same v w) 0) [
+        | inl none ↦ same_from_distance_by same code.alike v w (code.long v isv ∙ sym (code.long w isw)) none
+        | inr some ↦
+            let differ : v ≢ w = λ e. some (ap (λ u. distance_by same v u) (sym e) ∙ distance_by-same same code.compares.refl v) in
+            absurd (omega (arith, code.far_apart v w isv isw differ))
+      ]
+
+  -- what was sent and what was found lie within the radius of what was received, so they are one
+  pub found_sent : (received word sent : List L) (fixes : ℕ) → length received ≡ n → IsFound same IsWord radius received word fixes → IsWord sent → distance_by same received sent ≤ radius → word ≡ sent
+  found_sent received word sent fixes long found is near =
+      near_words word sent found.word_of_set is (omega (
+        arith,
+        found.fixes_is,
+        found.within,
+        turned word received,
+        triangle word received sent (code.long word found.word_of_set ∙ sym long),
+        code.close,
+      ))
+
+  -- wherever a word of the set lies within the radius, a reading leaves it
+  pub reading_sent : (received word sent : List L) (reading : Reading) → length received ≡ n → IsReading same IsWord radius received word reading → IsWord sent → distance_by same received sent ≤ radius → word ≡ sent
+  unfolding IsReading
+  reading_sent received word sent (Found fixes) long is sent_is near = found_sent received word sent fixes long is sent_is near
+  reading_sent received word sent Beyond long is sent_is near = absurd (omega (arith, is.none_within.farther sent sent_is))
+
+  -- and answers Found with the distance
+  pub reading_fixes : (received word sent : List L) (reading : Reading) → length received ≡ n → IsReading same IsWord radius received word reading → IsWord sent → distance_by same received sent ≤ radius → reading ≡ Found (distance_by same received sent)
+  unfolding IsReading
+  reading_fixes received word sent (Found fixes) long is sent_is near =
+      ap Found (is.fixes_is ∙ ap (λ w. distance_by same received w) (found_sent received word sent fixes long is sent_is near))
+  reading_fixes received word sent Beyond long is sent_is near = absurd (omega (arith, is.none_within.farther sent sent_is))
+
+  -- the first letters of what a reading leaves are the inner information of what was received
+  pub reading_information : (k : ℕ) (received word : List L) (reading : Reading) → length received ≡ n → IsReading same IsWord radius received word reading → IsInformation same IsWord radius k received (take k word)
+  unfolding IsReading
+  reading_information k received word (Found fixes) long is = record {
+    of_word = λ sent sent_is near. ap (take k) (found_sent received word sent fixes long is sent_is near);
+    of_received = λ none. absurd (omega (arith, is.fixes_is, is.within, none.farther word is.word_of_set));
+  }
+  reading_information k received word Beyond long is = record {
+    of_word = λ sent sent_is near. absurd (omega (arith, is.none_within.farther sent sent_is));
+    of_received = λ none. ap (take k) is.unchanged;
+  }
+
+-- a reading depends on the set alone, not on how it is written
+pub reading_of_same_set : {L : Type 0} (same : L → L → Bool) (A B : List L → Type 0) (radius : ℕ) (received word : List L) (reading : Reading) → ((w : List L) → A w → B w) → ((w : List L) → B w → A w) → IsReading same A radius received word reading → IsReading same B radius received word reading
+unfolding IsReading
+reading_of_same_set same A B radius received word (Found fixes) to from is = record { word_of_set = to word is.word_of_set; fixes_is = is.fixes_is; within = is.within }
+reading_of_same_set same A B radius received word Beyond to from is =
+    record { unchanged = is.unchanged; none_within = record { farther = λ w b. is.none_within.farther w (from w b) } }

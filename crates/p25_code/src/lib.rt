@@ -1,0 +1,28 @@
+//! Block codes: what an encoder and a reader of one promise, whatever the code and however it finds its words.
+//!
+//! A code is a type with an `impl BlockCode`. A word is a slice of N letters, the first letter first; its first K letters
+//! are the information. `encode` makes the word of some information, and `read` brings a received word back to the word
+//! of the code that lies within the radius:
+//!
+//! ```text
+//! let mut word = [false; 10];
+//! Hamming10::encode(&[true, false, false, false, false, false], &mut word);
+//! word[3] = !word[3];
+//! assert_eq!(Hamming10::read(&mut word), Reading::Found { fixes: 1 });
+//! ```
+//!
+//! `read` corrects as many wrong letters as the radius says, always, and never more: what lies further from every word
+//! is answered as `Beyond` and left as it was received. The codes of the air interface are in TIA-102.BAAA; the words
+//! radius, least distance and bounded-distance reading are those of any textbook of coding theory.
+//!
+//! `read_received` and `encode_then_read` say what this comes to for any code, proved from the trait alone.
+//! `encode_systematic` and `read_checked` serve as the bodies of small binary codes, given by their check matrix.
+#![tactic(auto)]
+
+mod binary;
+mod callers;
+mod code;
+
+pub use binary::{encode_systematic, read_checked};
+pub use callers::{encode_then_read, read_received};
+pub use code::{BlockCode, Reading};

@@ -1,0 +1,60 @@
+-- The laws of the shortened Golay code (18,6).
+use Rattle.std.specs.Prelude.{◌≡◌, ◌≢◌, ℕ, ◌≤◌, ◌++◌, Bool, true, false, List, [], ◌∷◌, length, take, refl}
+use Rattle.std.specs.Int.Bits.{xor_zero_l}
+use Rattle.std.proofs.Common.{arith, sym, ◌∙◌}
+use Rattle.p25_bits.specs.Bits.{bits_of}
+use Rattle.p25_bits.specs.Distance.{distance_of}
+use Rattle.p25_code.specs.Binary.{IsChecked, check_columns, systematic, syndrome_of, weight_of}
+use Rattle.p25_code.proofs.Weights.{all_bits}
+use Rattle.p25_code.proofs.BinaryCodes.{IsSystematic, is_heavy, length_checked, one_checked, far_checked}
+use Rattle.p25_golay.specs.Golay18.{IsGolay18}
+use Rattle.p25_golay.specs.Golay24Laws.{to_checked, from_checked}
+
+-- the check bits of the last six messages with one 1 of the Golay code (24,12)
+abbrev pub short_rows : List ℕ
+short_rows = 0x6CD ∷ 0x367 ∷ 0xDC6 ∷ 0xA97 ∷ 0x93E ∷ 0x8EB ∷ []
+
+-- every word but that of zeros has at least eight ones
+heavy : all_bits 6 (is_heavy short_rows 12 8) ≡ true
+unfolding all_bits is_heavy systematic syndrome_of weight_of bits_of
+heavy = refl
+
+pub short_code : IsSystematic short_rows 12 8
+short_code = record { fit = refl; heavy = heavy }
+
+-- a zero in front adds nothing to a sum
+zero_first : (column : ℕ) (columns : List ℕ) (word : List Bool) → syndrome_of (column ∷ columns) (false ∷ word) ≡ syndrome_of columns word
+unfolding syndrome_of
+zero_first column columns word = xor_zero_l (syndrome_of columns word)
+
+-- neither do six
+zeros_first : (a b c d e f : ℕ) (columns : List ℕ) (word : List Bool) → syndrome_of (a ∷ b ∷ c ∷ d ∷ e ∷ f ∷ columns) (false ∷ false ∷ false ∷ false ∷ false ∷ false ∷ word) ≡ syndrome_of columns word
+zeros_first a b c d e f columns word = simp zero_first
+
+-- the words are those that the last columns of the check matrix let pass
+pub to_short : (word : List Bool) → IsGolay18 word → IsChecked (short_rows ++ check_columns 12) word
+unfolding check_columns
+to_short word is =
+    let whole = to_checked _ is.in_golay24 in
+    record {
+      long = omega (arith, whole.long);
+      passes = sym (zeros_first 0xC75 0x63B 0xF68 0x7B4 0x3DA 0xD99 (short_rows ++ check_columns 12) word) ∙ whole.passes;
+    }
+
+pub from_short : (word : List Bool) → IsChecked (short_rows ++ check_columns 12) word → IsGolay18 word
+unfolding check_columns
+from_short word is = record {
+  in_golay24 = from_checked _ (record {
+    long = omega (arith, is.long);
+    passes = zeros_first 0xC75 0x63B 0xF68 0x7B4 0x3DA 0xD99 (short_rows ++ check_columns 12) word ∙ is.passes;
+  });
+}
+
+pub length_golay18 : (word : List Bool) → IsGolay18 word → length word ≡ 18
+length_golay18 word is = length_checked short_code word (to_short word is)
+
+pub one_golay18 : (v w : List Bool) → IsGolay18 v → IsGolay18 w → take 6 v ≡ take 6 w → v ≡ w
+one_golay18 v w isv isw same = one_checked short_code v w (to_short v isv) (to_short w isw) same
+
+pub far_golay18 : (v w : List Bool) → IsGolay18 v → IsGolay18 w → v ≢ w → 8 ≤ distance_of v w
+far_golay18 v w isv isw differ = far_checked short_code v w (to_short v isv) (to_short w isw) differ

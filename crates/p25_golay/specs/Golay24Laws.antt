@@ -1,0 +1,113 @@
+-- The laws of the Golay code (24,12).
+use Rattle.std.specs.Prelude.{◌≡◌, ◌≢◌, ℕ, ◌<◌, ◌≤◌, ◌^◌, ◌+◌, ◌*◌, ◌%◌, ◌++◌, Bool, true, false, List, [], ◌∷◌, length, take, drop, map, bit_xor, refl}
+use Rattle.std.specs.Int.Bits.{xor_zero_r}
+use Rattle.std.proofs.Common.{arith, ap, ap₂, sym, ◌∙◌, take-append-drop}
+use Rattle.std.proofs.lemmas.List.{length-take-le}
+use Rattle.p25_bits.specs.Bits.{bits_of}
+use Rattle.p25_bits.specs.Distance.{distance_of}
+use Rattle.p25_bits.specs.Divisible.{HasDegree}
+use Rattle.p25_code.specs.Binary.{IsChecked, check_columns, systematic, syndrome_of, weight_of}
+use Rattle.p25_code.proofs.Weights.{all_bits}
+use Rattle.p25_code.proofs.Syndromes.{syndrome_of-append}
+use Rattle.p25_code.proofs.BinaryCodes.{IsSystematic, is_heavy, length_checked, one_checked, far_checked}
+use Rattle.p25_code.proofs.Remainders.{power_remainder, remainders, remainders-divisible, divisible-remainders}
+use Rattle.p25_code.proofs.Parities.{mixed, mixed_passes, with_parity, syndrome_of-with_parity}
+use Rattle.p25_golay.specs.Golay24.{IsGolay24}
+
+-- the check bits of the messages with one 1: the remainder by the generator, then the bit that makes the weight even
+abbrev pub check_rows : List ℕ
+check_rows = 0xC75 ∷ 0x63B ∷ 0xF68 ∷ 0x7B4 ∷ 0x3DA ∷ 0xD99 ∷ 0x6CD ∷ 0x367 ∷ 0xDC6 ∷ 0xA97 ∷ 0x93E ∷ 0x8EB ∷ []
+
+-- every word but that of zeros has at least eight ones
+heavy : all_bits 12 (is_heavy check_rows 12 8) ≡ true
+unfolding all_bits is_heavy systematic syndrome_of weight_of bits_of
+heavy = refl
+
+pub code : IsSystematic check_rows 12 8
+code = record { fit = refl; heavy = heavy }
+
+generator_degree : HasDegree 0xC75 11
+generator_degree = record { highest = omega arith; none_above = omega arith }
+
+some : 1 < 2 ^ 11
+some = omega arith
+
+-- the checks as the set states them: the remainder of the first 23 places, and the parity of all
+stated_columns : List ℕ
+stated_columns = map with_parity (remainders 0xC75 11 23 ++ 0 ∷ [])
+
+-- the parity of the check bits is added to the parity, or taken away
+mix : List ℕ
+mix = 0x801 ∷ 0x401 ∷ 0x201 ∷ 0x101 ∷ 0x081 ∷ 0x041 ∷ 0x021 ∷ 0x011 ∷ 0x009 ∷ 0x005 ∷ 0x003 ∷ 0x001 ∷ []
+
+-- so the columns of the matrix are sums of the stated ones, and these are sums of those
+matrix-stated : map (mixed mix) stated_columns ≡ check_rows ++ check_columns 12
+unfolding stated_columns mix mixed syndrome_of bits_of check_columns remainders power_remainder
+matrix-stated = refl
+
+stated-matrix : map (mixed mix) (check_rows ++ check_columns 12) ≡ stated_columns
+unfolding stated_columns mix mixed syndrome_of bits_of check_columns remainders power_remainder
+stated-matrix = refl
+
+length-remainders : length (remainders 0xC75 11 23) ≡ 23
+unfolding remainders
+length-remainders = refl
+
+length-stated : length (remainders 0xC75 11 23 ++ 0 ∷ []) ≡ 24
+unfolding remainders
+length-stated = refl
+
+-- a place without checks adds nothing
+no_checks : (bits : List Bool) → syndrome_of (0 ∷ []) bits ≡ 0
+unfolding syndrome_of
+no_checks [] = refl
+no_checks (false ∷ bits) = refl
+no_checks (true ∷ bits) = refl
+
+-- the last place takes no part in the remainder
+remainder_sum : (word : List Bool) → length word ≡ 24 → syndrome_of (remainders 0xC75 11 23 ++ 0 ∷ []) word ≡ syndrome_of (remainders 0xC75 11 (length (take 23 word))) (take 23 word)
+remainder_sum word long =
+    let columns = remainders 0xC75 11 23 in
+    let inside : 23 ≤ length word = omega arith in
+    let front = length-take-le 23 word inside in
+    ap (syndrome_of (columns ++ 0 ∷ [])) (sym (take-append-drop 23 word))
+    ∙ syndrome_of-append columns (0 ∷ []) (take 23 word) (drop 23 word) (front ∙ sym length-remainders)
+    ∙ ap (bit_xor (syndrome_of columns (take 23 word))) (no_checks (drop 23 word))
+    ∙ xor_zero_r (syndrome_of columns (take 23 word))
+    ∙ ap (λ n. syndrome_of (remainders 0xC75 11 n) (take 23 word)) (sym front)
+
+-- the sum by the stated columns: the remainder, and whether the weight is odd
+stated_sum : (word : List Bool) → length word ≡ 24 → syndrome_of stated_columns word ≡ 2 * syndrome_of (remainders 0xC75 11 (length (take 23 word))) (take 23 word) + weight_of word % 2
+unfolding stated_columns
+stated_sum word long =
+    syndrome_of-with_parity (remainders 0xC75 11 23 ++ 0 ∷ []) word (long ∙ sym length-stated)
+    ∙ ap (λ n. 2 * n + weight_of word % 2) (remainder_sum word long)
+
+-- the words are those that the check matrix lets pass
+pub to_checked : (word : List Bool) → IsGolay24 word → IsChecked (check_rows ++ check_columns 12) word
+unfolding check_columns
+to_checked word is =
+    let none = remainders-divisible generator_degree some (take 23 word) is.divisible in
+    let passes : syndrome_of stated_columns word ≡ 0 = stated_sum word is.long ∙ ap₂ (λ m n. 2 * m + n) none is.even in
+    record {
+      long = is.long;
+      passes = ap (λ cs. syndrome_of cs word) (sym matrix-stated) ∙ mixed_passes mix stated_columns word passes;
+    }
+
+pub from_checked : (word : List Bool) → IsChecked (check_rows ++ check_columns 12) word → IsGolay24 word
+from_checked word is =
+    let long = length_checked code word is in
+    let passes = ap (λ cs. syndrome_of cs word) (sym stated-matrix) ∙ mixed_passes mix (check_rows ++ check_columns 12) word is.passes in
+    let stated = sym (stated_sum word long) ∙ passes in
+    let none : syndrome_of (remainders 0xC75 11 (length (take 23 word))) (take 23 word) ≡ 0 = omega arith in
+    let even : weight_of word % 2 ≡ 0 = omega arith in
+    record { long = long; even = even; divisible = divisible-remainders generator_degree some (take 23 word) none }
+
+pub length_golay24 : (word : List Bool) → IsGolay24 word → length word ≡ 24
+length_golay24 word is = is.long
+
+pub one_golay24 : (v w : List Bool) → IsGolay24 v → IsGolay24 w → take 12 v ≡ take 12 w → v ≡ w
+one_golay24 v w isv isw same = one_checked code v w (to_checked v isv) (to_checked w isw) same
+
+pub far_golay24 : (v w : List Bool) → IsGolay24 v → IsGolay24 w → v ≢ w → 8 ≤ distance_of v w
+far_golay24 v w isv isw differ = far_checked code v w (to_checked v isv) (to_checked w isw) differ

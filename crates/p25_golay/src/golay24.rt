@@ -1,0 +1,66 @@
+//! The Golay code (24,12).
+
+ghost use Rattle.std.proofs.Common.{arith};
+ghost use Rattle.p25_code.specs.Letters.{same_bit};
+ghost use Rattle.p25_golay.specs.Golay24.{IsGolay24};
+ghost use Rattle.p25_golay.specs.Golay24Laws.{length_golay24, one_golay24, far_golay24};
+
+use p25_code::{BlockCode, Reading, encode_systematic, read_checked};
+
+// The columns of the check matrix: the check bits of each message with one 1, then those of the check bits.
+pub(crate) const COLUMNS: [u16; 24] = [
+    0xC75, 0x63B, 0xF68, 0x7B4, 0x3DA, 0xD99, 0x6CD, 0x367, 0xDC6, 0xA97, 0x93E, 0x8EB, 0x800,
+    0x400, 0x200, 0x100, 0x080, 0x040, 0x020, 0x010, 0x008, 0x004, 0x002, 0x001,
+];
+
+pub(crate) const RADIUS: u32 = 3;
+
+/// The extended Golay code (24,12): 12 bits of information, their 11 remainder bits, so that the first 23 bits, as a
+/// polynomial with the first bit highest, are divisible by x^11 + x^10 + x^6 + x^5 + x^4 + x^2 + 1 (C75 hex), and one bit
+/// that makes the weight even. Any two words differ in at least 8 bits; three wrong bits are corrected. TIA-102.BAAA,
+/// Terminator with Link Control.
+pub struct Golay24;
+
+impl BlockCode for Golay24 {
+    const N: usize = 24;
+
+    const K: usize = 12;
+
+    type Letter = bool;
+
+    ghost N = { 24 };
+
+    ghost K = { 12 };
+
+    ghost HasCode = { Unit {0} };
+
+    ghost IsWord = { IsGolay24 };
+
+    ghost radius_is = { 3 };
+
+    ghost distance_is = { 8 };
+
+    ghost same_letter = { same_bit };
+
+    ghost length_of_word = { λ _. length_golay24 };
+
+    ghost one_word = { λ _. one_golay24 };
+
+    ghost far_apart = { λ _. far_golay24 };
+
+    ghost within = { λ _. omega arith };
+
+    ghost begins = { λ _. omega arith };
+
+    fn radius() -> usize {
+        RADIUS as usize
+    }
+
+    fn encode(info: &[bool], word: &mut [bool]) {
+        encode_systematic(&COLUMNS[..12], info, word);
+    }
+
+    fn read(word: &mut [bool]) -> Reading {
+        read_checked(&COLUMNS, RADIUS, word)
+    }
+}

@@ -1,0 +1,138 @@
+//! Words that other programs encoded and read, and every pattern of three and of four wrong bits.
+
+ghost use Rattle.std.specs.Prelude.{◌≤◌, length};
+
+use crate::{Golay18, Golay24};
+use p25_code::{BlockCode, Reading, encode_then_read, read_received};
+
+// Sets the bits to those of a number, highest first.
+fn put(number: u32, bits: &mut [bool])
+    requires { length bits.old ≤ 32 }
+{
+    let width = bits.len();
+    for (i, bit) in bits.iter_mut().enumerate() {
+        *bit = (number >> (width - 1 - i)) & 1 == 1;
+    }
+}
+
+#[test]
+fn golay24_encodes(rt: HostRuntime) {
+    for (info, sent) in [(0x800, 0x800C75), (0x001, 0x0018EB), (0, 0)] {
+        let (mut information, mut word, mut wanted) = ([false; 12], [false; 24], [false; 24]);
+        put(info, &mut information);
+        put(sent, &mut wanted);
+        assert_eq!(rt;
+            encode_then_read::<Golay24>(&information, &mut word),
+            Reading::Found { fixes: 0 }
+        );
+        assert_eq!(rt; word, wanted, "{info}");
+    }
+}
+
+#[test]
+fn golay18_encodes(rt: HostRuntime) {
+    for (info, sent) in [(0x01, 0x018EB), (0x20, 0x206CD), (0, 0)] {
+        let (mut information, mut word, mut wanted) = ([false; 6], [false; 18], [false; 18]);
+        put(info, &mut information);
+        put(sent, &mut wanted);
+        assert_eq!(rt;
+            encode_then_read::<Golay18>(&information, &mut word),
+            Reading::Found { fixes: 0 }
+        );
+        assert_eq!(rt; word, wanted, "{info}");
+    }
+}
+
+#[test]
+fn golay24_reads(rt: HostRuntime) {
+    assert_eq!(rt; Golay24::radius(), 3);
+    for (received, reading, left) in [
+        (0xF00000, Reading::Beyond, 0xF00000),
+        (0xF6CE97, Reading::Found { fixes: 0 }, 0xF6CE97),
+        (0xBC57FE, Reading::Found { fixes: 1 }, 0x9C57FE),
+        (0x8CBDFF, Reading::Found { fixes: 1 }, 0x84BDFF),
+        (0xDD8E7E, Reading::Found { fixes: 2 }, 0xDC8E7F),
+        (0x05F20F, Reading::Found { fixes: 3 }, 0x85F40F),
+        (0x4EA848, Reading::Found { fixes: 3 }, 0x4EAA4D),
+        (0xDD3B93, Reading::Found { fixes: 3 }, 0x5F3BB3),
+        (0x02D013, Reading::Found { fixes: 3 }, 0x52C013),
+        (0x94AE25, Reading::Found { fixes: 3 }, 0x8CBE25),
+        (0x99CDC7, Reading::Beyond, 0x99CDC7),
+        (0xE58A90, Reading::Beyond, 0xE58A90),
+        (0xC24A78, Reading::Beyond, 0xC24A78),
+        (0x992937, Reading::Beyond, 0x992937),
+        (0x4A103C, Reading::Beyond, 0x4A103C),
+    ] {
+        let (mut word, mut wanted) = ([false; 24], [false; 24]);
+        put(received, &mut word);
+        put(left, &mut wanted);
+        assert_eq!(rt; read_received::<Golay24>(&mut word), reading, "{received}");
+        assert_eq!(rt; word, wanted, "{received}");
+    }
+}
+
+#[test]
+fn golay18_reads(rt: HostRuntime) {
+    assert_eq!(rt; Golay18::radius(), 3);
+    for (received, reading, left) in [
+        (0x3C000, Reading::Beyond, 0x3C000),
+        (0x0F684, Reading::Found { fixes: 0 }, 0x0F684),
+        (0x3886C, Reading::Found { fixes: 0 }, 0x3886C),
+        (0x30C94, Reading::Found { fixes: 1 }, 0x32C94),
+        (0x11B9C, Reading::Found { fixes: 1 }, 0x11B8C),
+        (0x2BA9A, Reading::Found { fixes: 2 }, 0x2BADE),
+        (0x2B418, Reading::Found { fixes: 3 }, 0x23718),
+        (0x27343, Reading::Found { fixes: 3 }, 0x07B42),
+        (0x05A6E, Reading::Found { fixes: 3 }, 0x0527C),
+        (0x2FD08, Reading::Found { fixes: 3 }, 0x1ED08),
+        (0x22CC8, Reading::Beyond, 0x22CC8),
+        (0x1F417, Reading::Beyond, 0x1F417),
+        (0x3269D, Reading::Beyond, 0x3269D),
+        (0x03CCF, Reading::Beyond, 0x03CCF),
+        (0x19D99, Reading::Beyond, 0x19D99),
+    ] {
+        let (mut word, mut wanted) = ([false; 18], [false; 18]);
+        put(received, &mut word);
+        put(left, &mut wanted);
+        assert_eq!(rt; read_received::<Golay18>(&mut word), reading, "{received}");
+        assert_eq!(rt; word, wanted, "{received}");
+    }
+}
+
+#[test]
+fn golay24_reads_any_three_wrong_bits(rt: HostRuntime) {
+    let mut sent = [false; 24];
+    put(0xF6CE97, &mut sent);
+    for i in 0..24usize {
+        for j in 0..i {
+            for k in 0..j {
+                let mut word = sent;
+                word[i] = !word[i];
+                word[j] = !word[j];
+                word[k] = !word[k];
+                assert_eq!(rt; Golay24::read(&mut word), Reading::Found { fixes: 3 });
+                assert_eq!(rt; word, sent);
+            }
+        }
+    }
+}
+
+#[test]
+fn golay24_reads_no_four_wrong_bits(rt: HostRuntime) {
+    for i in 0..24usize {
+        for j in 0..i {
+            for k in 0..j {
+                for l in 0..k {
+                    let mut received = [false; 24];
+                    received[i] = true;
+                    received[j] = true;
+                    received[k] = true;
+                    received[l] = true;
+                    let mut word = received;
+                    assert_eq!(rt; Golay24::read(&mut word), Reading::Beyond);
+                    assert_eq!(rt; word, received);
+                }
+            }
+        }
+    }
+}

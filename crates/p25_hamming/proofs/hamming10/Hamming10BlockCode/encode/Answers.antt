@@ -1,0 +1,10 @@
+use Rattle.std.proofs.Common.{◌≡◌, ◌-◌, length, refl, arith}
+use Rattle.p25_code.proofs.BinaryCodes.{encodes}
+use Rattle.p25_hamming.specs.Hamming10.{IsHamming10}
+use Rattle.p25_hamming.specs.Hamming10Laws.{code, from_checked}
+use Rattle.p25_hamming.proofs.hamming10.Hamming10BlockCode.encode.Goals as goal
+
+pub returns : goal.returns
+returns c =
+    let places : length c.args.word.now - length c.args.info.now ≡ 4 = omega arith in
+    encodes code IsHamming10 from_checked _ _ c.args.info.now c.encode_systematic.new.word refl places c.requires.info c.encode_systematic.ensures

@@ -1,0 +1,13 @@
+-- The Hamming code (10,6) of TIA-102.BAAA.
+use Rattle.std.specs.Prelude.{◌≡◌, ℕ, Bool, List, [], ◌∷◌, length, take, drop}
+use Rattle.p25_bits.specs.Bits.{bits_of}
+use Rattle.p25_code.specs.Binary.{syndrome_of}
+
+-- the check bits of the six messages with one 1, in order, as numbers of four bits
+abbrev pub check_rows : List ℕ
+check_rows = 0b1110 ∷ 0b1101 ∷ 0b1011 ∷ 0b0111 ∷ 0b0011 ∷ 0b1100 ∷ []
+
+-- ten bits, of which the last four are the sum over GF(2) of the rows of those of the first six that are 1
+pub record IsHamming10 (word : List Bool) : Type 0 where
+  pub long : length word ≡ 10
+  pub checks : drop 6 word ≡ bits_of 4 (syndrome_of check_rows (take 6 word))

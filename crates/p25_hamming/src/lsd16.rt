@@ -1,0 +1,64 @@
+//! The code of the low speed data (16,8).
+
+ghost use Rattle.std.proofs.Common.{arith};
+ghost use Rattle.p25_code.specs.Letters.{same_bit};
+ghost use Rattle.p25_hamming.specs.Lsd16.{IsLsd16};
+ghost use Rattle.p25_hamming.specs.Lsd16Laws.{length_lsd16, one_lsd16, far_lsd16};
+
+use p25_code::{BlockCode, Reading, encode_systematic, read_checked};
+
+// The columns of the check matrix: the remainders of x^15 to x^0 by the generator 139 hex.
+const COLUMNS: [u16; 16] = [
+    0x4E, 0x27, 0x8F, 0xDB, 0xF1, 0xE4, 0x72, 0x39, 0x80, 0x40, 0x20, 0x10, 0x08, 0x04, 0x02, 0x01,
+];
+
+const RADIUS: u32 = 2;
+
+/// The shortened cyclic code (16,8) of the low speed data: eight bits of information and their eight remainder bits, so
+/// that the word, as a polynomial with the first bit highest, is divisible by x^8 + x^5 + x^4 + x^3 + 1 (139 hex). Any two
+/// words differ in at least 5 bits; two wrong bits are corrected. TIA-102.BAAA, Low Speed Data.
+pub struct Lsd16;
+
+impl BlockCode for Lsd16 {
+    const N: usize = 16;
+
+    const K: usize = 8;
+
+    type Letter = bool;
+
+    ghost N = { 16 };
+
+    ghost K = { 8 };
+
+    ghost HasCode = { Unit {0} };
+
+    ghost IsWord = { IsLsd16 };
+
+    ghost radius_is = { 2 };
+
+    ghost distance_is = { 5 };
+
+    ghost same_letter = { same_bit };
+
+    ghost length_of_word = { λ _. length_lsd16 };
+
+    ghost one_word = { λ _. one_lsd16 };
+
+    ghost far_apart = { λ _. far_lsd16 };
+
+    ghost within = { λ _. omega arith };
+
+    ghost begins = { λ _. omega arith };
+
+    fn radius() -> usize {
+        RADIUS as usize
+    }
+
+    fn encode(info: &[bool], word: &mut [bool]) {
+        encode_systematic(&COLUMNS[..8], info, word);
+    }
+
+    fn read(word: &mut [bool]) -> Reading {
+        read_checked(&COLUMNS, RADIUS, word)
+    }
+}
