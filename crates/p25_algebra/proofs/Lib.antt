@@ -1,0 +1,5 @@
+pub mod SumFacts
+pub mod Vanishing
+pub mod Values
+pub mod Products
+pub mod Locators
