@@ -1,0 +1,102 @@
+ghost use Rattle.std.specs.Prelude.{◌≡◌, ◌≢◌, ◌↔◌, ℕ, ◌+◌, ◌<◌, ◌≤◌, length, IsNone, IfSome};
+ghost use Rattle.p25_gf64.specs.Gf64.{gf64};
+ghost use Rattle.p25_algebra.specs.Series.{coefficient, shifted, value_at, product_at, IsZero, IsShort, IsDegree};
+
+use p25_gf64::Sym;
+
+/// A polynomial over GF(64) of degree below 64.
+#[derive(Clone, Copy, Debug)]
+pub struct Poly {
+    coefficients: [Sym; 64],
+    pub ghost full: { length coefficients ≡ 64 },
+}
+
+impl Poly {
+    ghost use Rattle.p25_poly.specs.Polynomial.{coefficient_of};
+
+    /// The polynomial zero.
+    pub fn zero() -> Poly
+        ensures { IsZero gf64 (coefficient_of result) }
+    {
+        Poly {
+            coefficients: [Sym::default(); 64],
+        }
+    }
+
+    /// The polynomial of these coefficients, lowest first.
+    pub fn from_symbols(low_first: &[Sym]) -> Poly
+        requires { length low_first.now ≤ 64 }
+        ensures { (i : ℕ) → coefficient_of result i ≡ coefficient gf64 low_first.now i }
+    {
+        let mut coefficients = [Sym::default(); 64];
+        for i in 0..low_first.len() {
+            coefficients[i] = low_first[i];
+        }
+        Poly { coefficients }
+    }
+
+    /// The coefficient of x^i.
+    pub fn coefficient(&self, i: usize) -> Sym
+        requires { i < 64 }
+        ensures { result ≡ coefficient_of self.now i }
+    {
+        self.coefficients[i]
+    }
+
+    /// The degree.
+    pub fn degree(&self) -> Option<usize>
+        ensures none { IsNone result ↔ IsZero gf64 (coefficient_of self.now) }
+        ensures some { IfSome result (IsDegree gf64 (coefficient_of self.now)) }
+        ensures below { IfSome result (λ degree. degree < 64) }
+    {
+        for i in (0..64).rev() {
+            if !self.coefficients[i].is_zero() {
+                return Some(i);
+            }
+        }
+        None
+    }
+
+    /// The value at x.
+    pub fn eval(&self, x: Sym) -> Sym
+        ensures { result ≡ value_at gf64 64 (coefficient_of self.now) x }
+    {
+        let mut value = Sym::default();
+        for i in (0..64).rev() {
+            value = value.mul(x).add(self.coefficients[i]);
+        }
+        value
+    }
+
+    /// The sum.
+    pub fn add(&self, other: &Poly) -> Poly
+        ensures { (i : ℕ) → coefficient_of result i ≡ gf64.add (coefficient_of self.now i) (coefficient_of other.now i) }
+    {
+        let mut coefficients = self.coefficients;
+        add_multiple(&mut coefficients, Sym::ONE, &other.coefficients, 0);
+        Poly { coefficients }
+    }
+
+    /// The product.
+    pub fn mul(&self, other: &Poly) -> Poly
+        requires { (d e : ℕ) → IsDegree gf64 (coefficient_of self.now) d → IsDegree gf64 (coefficient_of other.now) e → d + e < 64 }
+        ensures { (i : ℕ) → coefficient_of result i ≡ product_at gf64 (coefficient_of self.now) (coefficient_of other.now) i }
+    {
+        let mut coefficients = [Sym::default(); 64];
+        for i in 0..64 {
+            add_multiple(&mut coefficients, self.coefficients[i], &other.coefficients, i);
+        }
+        Poly { coefficients }
+    }
+}
+
+// Adds the factor times x^shift times the other coefficients, as far as there is room.
+fn add_multiple(into: &mut [Sym], factor: Sym, other: &[Sym], shift: usize)
+    requires { length into.old ≡ length other.now }
+    ensures { (k : ℕ) → k < length into.old
+        → coefficient gf64 into.new k ≡ gf64.add (coefficient gf64 into.old k) (gf64.mul factor (shifted gf64 shift (coefficient gf64 other.now) k)) }
+{
+    for i in shift..into.len() {
+        into[i] = into[i].add(factor.mul(other[i - shift]));
+    }
+}
