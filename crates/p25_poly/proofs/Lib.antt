@@ -1,1 +1,3 @@
 pub mod Coefficients
+pub mod Division
+pub mod PolyFacts

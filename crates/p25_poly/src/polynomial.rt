@@ -12,7 +12,8 @@ pub struct Poly {
 }
 
 impl Poly {
-    ghost use Rattle.p25_poly.specs.Polynomial.{coefficient_of};
+    ghost use Rattle.p25_poly.specs.declared.polynomial.Poly.{Poly as declared_Poly};
+    ghost use Rattle.p25_poly.specs.Polynomial.{coefficient_of, IsDivision};
 
     /// The polynomial zero.
     pub fn zero() -> Poly
@@ -87,6 +88,31 @@ impl Poly {
             add_multiple(&mut coefficients, self.coefficients[i], &other.coefficients, i);
         }
         Poly { coefficients }
+    }
+
+    /// Quotient and remainder.
+    pub fn divide(&self, by: &Poly) -> (Poly, Poly)
+        requires { IsZero gf64 (coefficient_of by.now) → ⊥ }
+        ensures division { IsDivision self.now by.now result.0 result.1 }
+        ensures unique { (quotient remainder : declared_Poly) → IsDivision self.now by.now quotient remainder
+            → (quotient ≡ result.0) × (remainder ≡ result.1) }
+    {
+        let degree = by.degree().unwrap();
+        let inverse = by.coefficients[degree].inv();
+        let mut quotient = [Sym::default(); 64];
+        let mut remainder = self.coefficients;
+        for shift in (0..64 - degree).rev() {
+            let factor = remainder[shift + degree].mul(inverse);
+            quotient[shift] = factor;
+            add_multiple(&mut remainder, factor, &by.coefficients, shift);
+        }
+        let quotient = Poly {
+            coefficients: quotient,
+        };
+        let remainder = Poly {
+            coefficients: remainder,
+        };
+        (quotient, remainder)
     }
 }
 
