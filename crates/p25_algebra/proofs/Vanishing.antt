@@ -8,7 +8,7 @@ use Rattle.p25_gf64.proofs.Powers.{power-suc, power_ne_zero}
 use Rattle.p25_algebra.specs.Sums.{power_sum, weight_by, nonzeros, AreApart}
 use Rattle.p25_algebra.proofs.SumFacts.{sum-suc, sum_same, sum_of_zeros, sum-add, sum-mul}
 
-weight-le : {A B : Type 0} (choice : A ⊎ B) → weight_by choice ≤ 1
+pub weight-le : {A B : Type 0} (choice : A ⊎ B) → weight_by choice ≤ 1
 weight-le (inl a) = omega arith
 weight-le (inr b) = omega arith
 

@@ -47,21 +47,25 @@ module _ {F : Type 0} (K : Field F) where
   pub written_elsewhere : (cs : List F) (i k : ℕ) (x : F) → k ≢ i → coefficient K (set cs i x) k ≡ coefficient K cs k
   written_elsewhere cs i k x apart = get_or-set_other cs i k x 𝟘 apart
 
-  -- a multiple by one without a shift is added to every coefficient
-  pub one_added : (old other new : List F) (one : F) → one ≡ 𝟙 → length old ≡ length other → length new ≡ length old → ((k : ℕ) → k < length old → coefficient K new k ≡ coefficient K old k ⊕ one ⊗ shifted K 0 (coefficient K other) k) → (i : ℕ) → coefficient K new i ≡ coefficient K old i ⊕ coefficient K other i
-  one_added old other new one e same kept added i =
+  -- a multiple without a shift is added to every coefficient
+  pub multiple_everywhere : (old other new : List F) (factor : F) → length old ≡ length other → length new ≡ length old → ((k : ℕ) → k < length old → coefficient K new k ≡ coefficient K old k ⊕ factor ⊗ shifted K 0 (coefficient K other) k) → (i : ℕ) → coefficient K new i ≡ coefficient K old i ⊕ factor ⊗ coefficient K other i
+  multiple_everywhere old other new factor same kept added i =
       elim (cases_lt i (length old)) [
-        inl below ↦
-          added i below
-          ∙ ap₂ (λ a b. coefficient K old i ⊕ a ⊗ b) e (shifted_from K 0 (coefficient K other) i (omega arith) ∙ ap (coefficient K other) unshifted)
-          ∙ ap (λ w. coefficient K old i ⊕ w) (one_mul K (coefficient K other i))
+        inl below ↦ added i below ∙ ap (λ w. coefficient K old i ⊕ factor ⊗ w) (shifted_from K 0 (coefficient K other) i (omega arith) ∙ ap (coefficient K other) unshifted)
       | inr above ↦
           coefficient_past new i (omega arith)
-          ∙ sym (ap₂ ◌⊕◌ (coefficient_past old i above) (coefficient_past other i (omega arith)) ∙ add_zero K 𝟘)
+          ∙ sym (ap₂ (λ a b. a ⊕ factor ⊗ b) (coefficient_past old i above) (coefficient_past other i (omega arith)) ∙ ap (λ w. 𝟘 ⊕ w) (mul_zero K factor) ∙ add_zero K 𝟘)
       ]
     where
       unshifted : i - 0 ≡ i
       unshifted = omega arith
+
+  -- so is the other list where the factor is one
+  pub one_added : (old other new : List F) (one : F) → one ≡ 𝟙 → length old ≡ length other → length new ≡ length old → ((k : ℕ) → k < length old → coefficient K new k ≡ coefficient K old k ⊕ one ⊗ shifted K 0 (coefficient K other) k) → (i : ℕ) → coefficient K new i ≡ coefficient K old i ⊕ coefficient K other i
+  one_added old other new one e same kept added i =
+      multiple_everywhere old other new one same kept added i
+      ∙ ap (λ w. coefficient K old i ⊕ w ⊗ coefficient K other i) e
+      ∙ ap (λ w. coefficient K old i ⊕ w) (one_mul K (coefficient K other i))
 
   -- a step of Horner's rule
   pub horner_step : (f : ℕ → F) (n i : ℕ) (x : F) → 0 < i → i ≤ n → value_at K (n - i) (λ k. f (i + k)) x ⊗ x ⊕ f (i - 1) ≡ value_at K (n - (i - 1)) (λ k. f (i - 1 + k)) x

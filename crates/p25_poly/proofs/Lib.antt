@@ -1,3 +1,5 @@
 pub mod Coefficients
 pub mod Division
 pub mod PolyFacts
+pub mod DotFacts
+pub mod RowFacts

@@ -1,7 +1,8 @@
 ghost use Rattle.std.specs.Prelude.{◌≡◌, ◌≢◌, ◌↔◌, ℕ, ◌+◌, ◌<◌, ◌≤◌, length, IsNone, IfSome};
 ghost use Rattle.p25_gf64.specs.Gf64.{gf64};
-ghost use Rattle.p25_algebra.specs.Series.{coefficient, shifted, value_at, product_at, IsZero, IsShort, IsDegree};
+ghost use Rattle.p25_algebra.specs.Series.{coefficient, value_at, product_at, IsZero, IsShort, IsDegree};
 
+use crate::multiples::add_multiple;
 use p25_gf64::Sym;
 
 /// A polynomial over GF(64) of degree below 64.
@@ -113,16 +114,5 @@ impl Poly {
             coefficients: remainder,
         };
         (quotient, remainder)
-    }
-}
-
-// Adds the factor times x^shift times the other coefficients, as far as there is room.
-fn add_multiple(into: &mut [Sym], factor: Sym, other: &[Sym], shift: usize)
-    requires { length into.old ≡ length other.now }
-    ensures { (k : ℕ) → k < length into.old
-        → coefficient gf64 into.new k ≡ gf64.add (coefficient gf64 into.old k) (gf64.mul factor (shifted gf64 shift (coefficient gf64 other.now) k)) }
-{
-    for i in shift..into.len() {
-        into[i] = into[i].add(factor.mul(other[i - shift]));
     }
 }
