@@ -37,6 +37,13 @@ module _ {F : Type 0} (K : Field F) where
   nonzeros-le zero f = omega arith
   nonzeros-le (suc n) f = omega (arith, nonzeros-le n f, weight-le (K.is_zero (f n)))
 
+  -- where none is zero, all count
+  pub nonzeros_all : (n : ℕ) (f : ℕ → F) → ((i : ℕ) → i < n → f i ≢ 𝟘) → nonzeros K n f ≡ n
+  unfolding nonzeros
+  nonzeros_all zero f apart = refl
+  nonzeros_all (suc n) f apart =
+      omega (arith, nonzeros_all n f (λ i h. apart i (omega arith)), weight_one (f n) (apart n (omega arith)))
+
   -- where one list of factors is zero wherever another is, it has no more that are not zero
   pub nonzeros_mono : (n : ℕ) (f g : ℕ → F) → ((i : ℕ) → i < n → g i ≡ 𝟘 → f i ≡ 𝟘) → nonzeros K n f ≤ nonzeros K n g
   unfolding nonzeros

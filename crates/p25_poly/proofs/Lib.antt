@@ -3,3 +3,4 @@ pub mod Division
 pub mod PolyFacts
 pub mod DotFacts
 pub mod RowFacts
+pub mod SystemFacts

@@ -1,2 +1,3 @@
 pub mod Polynomial
 pub mod LinearSystem
+pub mod Matrix

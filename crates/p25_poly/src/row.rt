@@ -19,6 +19,41 @@ impl Row {
     ghost use Rattle.p25_algebra.specs.Series.{coefficient};
     ghost use Rattle.p25_poly.specs.LinearSystem.{IsMet, IsCleared, AgreeBut};
 
+    /// The row of zeros.
+    pub(crate) fn blank() -> Row
+        ensures cells { (k : ℕ) → coefficient gf64 result.cells k ≡ gf64.zero }
+    {
+        Row {
+            cells: [Sym::default(); 24],
+            right: Sym::default(),
+        }
+    }
+
+    /// The row with another cell in a column.
+    pub(crate) fn with(&self, column: usize, value: Sym) -> Row
+        requires { column < 24 }
+        ensures written { coefficient gf64 result.cells column ≡ value }
+        ensures others { (k : ℕ) → k ≢ column → coefficient gf64 result.cells k ≡ coefficient gf64 self.now.cells k }
+    {
+        let mut cells = self.cells;
+        cells[column] = value;
+        Row {
+            cells,
+            right: self.right,
+        }
+    }
+
+    /// The row with another right side.
+    pub(crate) fn with_right(&self, right: Sym) -> Row
+        ensures cells { result.cells ≡ self.now.cells }
+        ensures right { result.right ≡ right }
+    {
+        Row {
+            cells: self.cells,
+            right,
+        }
+    }
+
     /// The first of so many columns whose cell isn't zero.
     pub(crate) fn pivot(&self, columns: usize) -> Option<usize>
         requires { columns ≤ 24 }
