@@ -14,4 +14,4 @@ pub returns-clause-nonzero : goal.returns-clause-nonzero
 returns-clause-nonzero c =
     let yes_solved = c.solve_from.ensures.complete _ (zeros_solve c.args.matrix.now _ (λ r. no_right c.default-zeros.result c.args.matrix.now.rows r c.default-zeros.ensures)) in
     let keeps = c.solve_from.ensures.kept yes_solved (omega (arith, ones_count (length c.fill.new.out) (coefficient gf64 c.fill.new.out) (λ k h. c.fill.ensures k (omega arith) ∙ one_made _))) in
-    (keeps.place, (omega (arith, keeps.inside), keeps.after))
+    (keeps.place, omega (arith, keeps.inside), keeps.after)
