@@ -3,3 +3,4 @@ pub mod Vanishing
 pub mod Values
 pub mod Products
 pub mod Locators
+pub mod ProductValues

@@ -22,6 +22,14 @@ pub fn product_laws()
         → IsDegree gf64 (product_at gf64 f g) (d + e) }
 {}
 
+/// Values of sums and products are the sums and products of the values.
+pub fn value_laws()
+    ensures sums { (n : ℕ) (f g : ℕ → Sym) (x : Sym)
+        → value_at gf64 n (λ i. gf64.add (f i) (g i)) x ≡ gf64.add (value_at gf64 n f x) (value_at gf64 n g x) }
+    ensures products { (m k n : ℕ) (f g : ℕ → Sym) (x : Sym) → IsShort gf64 m f → IsShort gf64 k g → m + k ≤ n
+        → value_at gf64 n (product_at gf64 f g) x ≡ gf64.mul (value_at gf64 m f x) (value_at gf64 k g x) }
+{}
+
 /// Quotient and remainder by a polynomial of degree d are determined, where the remainder has no
 /// coefficient from x^d on.
 pub fn unique_division()
