@@ -1,20 +1,20 @@
 -- Coefficients in lists, and the steps of the loops over them.
-use Rattle.std.proofs.Common.{◌≡◌, ◌≢◌, ◌⊎◌, ℕ, zero, suc, ◌+◌, ◌-◌, ◌<◌, ◌≤◌, List, [], ◌∷◌, length, get_or, set, replicate, refl, sym, ap, ap₂, ◌∙◌, inl, inr, arith, get_or-set_same, get_or-set_other, add-one}
+use Rattle.std.proofs.Common.{◌≡◌, ◌≢◌, ◌⊎◌, ℕ, suc, ◌+◌, ◌-◌, ◌<◌, ◌≤◌, List, length, get_or, set, replicate, sym, ap, ap₂, ◌∙◌, inl, inr, arith, get_or-set_same, get_or-set_other}
 use Rattle.std.proofs.lemmas.Bool.{cases_eq, cases_lt}
-use Rattle.std.proofs.lemmas.List.{get_or_past, get_or_read, get_or_default, get_or-replicate, length-replicate, length-set}
+use Rattle.std.proofs.lemmas.List.{get_or_past, get_or_read, get_or-replicate, length-replicate, length-set}
 use Rattle.p25_gf64.specs.Field.{Field}
 use Rattle.p25_gf64.proofs.FieldFacts.{add_comm, add_zero, mul_comm, mul_zero, one_mul}
 use Rattle.p25_algebra.specs.Sums.{sum_below}
-use Rattle.p25_algebra.specs.Series.{coefficient, value_at, product_at, shifted, IsZero, IsShort, IsDegree}
+use Rattle.p25_algebra.specs.Series.{coefficient, value_at, product_at, shifted, IsShort, IsDegree}
 use Rattle.p25_algebra.proofs.SumFacts.{sum-suc}
 use Rattle.p25_algebra.proofs.Values.{value_first, value_same}
 use Rattle.p25_algebra.proofs.Products.{shifted_below, shifted_from, product_by_rows, product_zero, zero_or_degree}
 
 module _ {F : Type 0} (K : Field F) where
   open K use {zero as 𝟘, one as 𝟙, add as ◌⊕◌, mul as ◌⊗◌}
+
   infixl 65 ◌⊕◌
   infixl 70 ◌⊗◌
-
   -- a coefficient past the end is zero
   pub coefficient_past : (cs : List F) (i : ℕ) → length cs ≤ i → coefficient K cs i ≡ 𝟘
   coefficient_past cs i h = get_or_past cs i 𝟘 h
@@ -23,8 +23,8 @@ module _ {F : Type 0} (K : Field F) where
   pub coefficient_blank : (z : F) (n i : ℕ) → z ≡ 𝟘 → coefficient K (replicate n z) i ≡ 𝟘
   coefficient_blank z n i e =
       elim (cases_lt i n) [
-        inl below ↦ get_or-replicate n i z 𝟘 below ∙ e
-      | inr above ↦ coefficient_past (replicate n z) i (omega (arith, length-replicate n z))
+        | inl below ↦ get_or-replicate n i z 𝟘 below ∙ e
+        | inr above ↦ coefficient_past (replicate n z) i (omega (arith, length-replicate n z))
       ]
 
   -- what is read in a list is its coefficient
@@ -51,10 +51,10 @@ module _ {F : Type 0} (K : Field F) where
   pub multiple_everywhere : (old other new : List F) (factor : F) → length old ≡ length other → length new ≡ length old → ((k : ℕ) → k < length old → coefficient K new k ≡ coefficient K old k ⊕ factor ⊗ shifted K 0 (coefficient K other) k) → (i : ℕ) → coefficient K new i ≡ coefficient K old i ⊕ factor ⊗ coefficient K other i
   multiple_everywhere old other new factor same kept added i =
       elim (cases_lt i (length old)) [
-        inl below ↦ added i below ∙ ap (λ w. coefficient K old i ⊕ factor ⊗ w) (shifted_from K 0 (coefficient K other) i (omega arith) ∙ ap (coefficient K other) unshifted)
-      | inr above ↦
-          coefficient_past new i (omega arith)
-          ∙ sym (ap₂ (λ a b. a ⊕ factor ⊗ b) (coefficient_past old i above) (coefficient_past other i (omega arith)) ∙ ap (λ w. 𝟘 ⊕ w) (mul_zero K factor) ∙ add_zero K 𝟘)
+        | inl below ↦ added i below ∙ ap (λ w. coefficient K old i ⊕ factor ⊗ w) (shifted_from K 0 (coefficient K other) i (omega arith) ∙ ap (coefficient K other) unshifted)
+        | inr above ↦
+            coefficient_past new i (omega arith)
+            ∙ sym (ap₂ (λ a b. a ⊕ factor ⊗ b) (coefficient_past old i above) (coefficient_past other i (omega arith)) ∙ ap (λ w. 𝟘 ⊕ w) (mul_zero K factor) ∙ add_zero K 𝟘)
       ]
     where
       unshifted : i - 0 ≡ i
@@ -77,8 +77,10 @@ module _ {F : Type 0} (K : Field F) where
     where
       first : i - 1 ≡ i - 1 + 0
       first = omega arith
+
       next : (k : ℕ) → i + k ≡ i - 1 + suc k
       next k = omega arith
+
       more : suc (n - i) ≡ n - (i - 1)
       more = omega arith
 
@@ -86,12 +88,12 @@ module _ {F : Type 0} (K : Field F) where
   pub beyond_degrees : (n m : ℕ) (f g : ℕ → F) → IsShort K m f → IsShort K m g → ((d e : ℕ) → IsDegree K f d → IsDegree K g e → d + e < n) → (i j : ℕ) → n ≤ i + j → (f i ≡ 𝟘) ⊎ (g j ≡ 𝟘)
   beyond_degrees n m f g short_f short_g fits i j h =
       elim (zero_or_degree K m f short_f) [
-        inl none ↦ inl (none i)
-      | inr (d, low_d, df) ↦ elim (zero_or_degree K m g short_g) [
-          inl none ↦ inr (none j)
-        | inr (e, low_e, dg) ↦ elim (cases_lt d i) [
-            inl above ↦ inl (df.above i above)
-          | inr below ↦ inr (dg.above j (omega (arith, fits d e df dg)))
+        | inl none ↦ inl (none i)
+        | inr (d, low_d, df) ↦ elim (zero_or_degree K m g short_g) [
+          | inl none ↦ inr (none j)
+          | inr (e, low_e, dg) ↦ elim (cases_lt d i) [
+            | inl above ↦ inl (df.above i above)
+            | inr below ↦ inr (dg.above j (omega (arith, fits d e df dg)))
           ]
         ]
       ]
@@ -100,8 +102,8 @@ module _ {F : Type 0} (K : Field F) where
   pub rows_are_product : (n m : ℕ) (f g h : ℕ → F) → m ≡ n → IsShort K n f → IsShort K n g → IsShort K n h → ((d e : ℕ) → IsDegree K f d → IsDegree K g e → d + e < n) → ((k : ℕ) → k < n → h k ≡ sum_below K m (λ i. f i ⊗ shifted K i g k)) → (k : ℕ) → h k ≡ product_at K f g k
   rows_are_product n m f g h all short_f short_g short_h fits rows k =
       elim (cases_lt k n) [
-        inl below ↦ rows k below ∙ ap (λ n. sum_below K n (λ i. f i ⊗ shifted K i g k)) all ∙ sym (product_by_rows K n f g short_f k)
-      | inr above ↦ short_h.above k above ∙ sym (product_zero K f g k (λ i j whole. beyond_degrees n n f g short_f short_g fits i j (omega arith)))
+        | inl below ↦ rows k below ∙ ap (λ n. sum_below K n (λ i. f i ⊗ shifted K i g k)) all ∙ sym (product_by_rows K n f g short_f k)
+        | inr above ↦ short_h.above k above ∙ sym (product_zero K f g k (λ i j whole. beyond_degrees n n f g short_f short_g fits i j (omega arith)))
       ]
 
   -- what a list is while multiples of g, shifted by s, are added to its coefficients before i
@@ -117,13 +119,14 @@ module _ {F : Type 0} (K : Field F) where
       before : (k : ℕ) → k < i + 1 → k < length (set into i x) → coefficient K (set into i x) k ≡ old k ⊕ factor ⊗ shifted K s g k
       before k low fits =
           elim (cases_eq k i) [
-            inl same ↦
-              rw same
+            | inl same ↦
+                rw same
                 (written_at into i x within
                 ∙ e
                 ∙ ap₂ (λ a b. a ⊕ factor ⊗ b) (kept.1 i (omega arith)) (sym (shifted_from K s g i from)))
-          | inr apart ↦ written_elsewhere into i k x apart ∙ kept.0 k (omega arith) (omega (arith, length-set into i x))
+            | inr apart ↦ written_elsewhere into i k x apart ∙ kept.0 k (omega arith) (omega (arith, length-set into i x))
           ]
+
       after : (k : ℕ) → i + 1 ≤ k → coefficient K (set into i x) k ≡ old k
       after k high = written_elsewhere into i k x (omega arith) ∙ kept.1 k (omega arith)
 

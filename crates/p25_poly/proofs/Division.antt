@@ -1,18 +1,18 @@
 -- Division of polynomials, a coefficient of the quotient at a time.
-use Rattle.std.proofs.Common.{◌≡◌, ◌≢◌, ◌⊎◌, ℕ, zero, suc, ◌+◌, ◌-◌, ◌<◌, ◌≤◌, List, length, set, refl, sym, ap, ap₂, ◌∙◌, inl, inr, arith}
+use Rattle.std.proofs.Common.{◌≡◌, ◌≢◌, ℕ, ◌+◌, ◌-◌, ◌<◌, ◌≤◌, List, length, set, sym, ap, ap₂, ◌∙◌, inl, inr, arith}
 use Rattle.std.proofs.lemmas.Bool.{cases_eq, cases_lt}
 use Rattle.std.proofs.lemmas.List.{length-set}
 use Rattle.p25_gf64.specs.Field.{Field}
 use Rattle.p25_gf64.proofs.FieldFacts.{add_zero, zero_add, add_self, add_swap, add_twice, mul_assoc, mul_comm, mul_one, mul_zero, mul_inverse}
-use Rattle.p25_algebra.specs.Series.{coefficient, product_at, shifted, IsShort, IsDegree}
+use Rattle.p25_algebra.specs.Series.{coefficient, product_at, shifted, IsDegree}
 use Rattle.p25_algebra.proofs.Products.{shifted_from, product_same, product-add, product_monomial, product_zero}
 use Rattle.p25_poly.proofs.Coefficients.{coefficient_past, written_at, written_elsewhere}
 
 module _ {F : Type 0} (K : Field F) where
   open K use {zero as 𝟘, one as 𝟙, add as ◌⊕◌, mul as ◌⊗◌, inverse}
+
   infixl 65 ◌⊕◌
   infixl 70 ◌⊗◌
-
   -- the quotient has its coefficients from i on, and the remainder none that these have taken
   pub record DividedTo (i : ℕ) (dividend divisor : ℕ → F) (degree : ℕ) (quotient remainder : List F) : Type 0 where
     pub quotient_full : length quotient ≡ 64
@@ -33,17 +33,16 @@ module _ {F : Type 0} (K : Field F) where
 
   -- the coefficient of x^s, by which the remainder loses its leading coefficient
   module _ (i s : ℕ) (next : i ≡ s + 1) (dividend divisor : ℕ → F) (degree : ℕ) (quotient remainder after : List F) (factor : F) (fits : s + degree < 64) (top : IsDegree K divisor degree) (full : length after ≡ length remainder) (is_factor : factor ≡ coefficient K remainder (s + degree) ⊗ inverse (divisor degree)) (added : (k : ℕ) → k < length remainder → coefficient K after k ≡ coefficient K remainder k ⊕ factor ⊗ shifted K s divisor k) (before : DividedTo i dividend divisor degree quotient remainder) where
-
     past_degree : (k : ℕ) → s + degree < k → factor ⊗ shifted K s divisor k ≡ 𝟘
     past_degree k h = ap (λ w. factor ⊗ w) (shifted_from K s divisor k (omega arith) ∙ top.above (k - s) (omega arith)) ∙ mul_zero K factor
 
     added_everywhere : (k : ℕ) → coefficient K after k ≡ coefficient K remainder k ⊕ factor ⊗ shifted K s divisor k
     added_everywhere k =
         elim (cases_lt k 64) [
-          inl low ↦ added k (omega (arith, before.remainder_full))
-        | inr high ↦
-            coefficient_past K after k (omega (arith, before.remainder_full))
-            ∙ sym (ap₂ ◌⊕◌ (coefficient_past K remainder k (omega (arith, before.remainder_full))) (past_degree k (omega arith)) ∙ add_zero K 𝟘)
+          | inl low ↦ added k (omega (arith, before.remainder_full))
+          | inr high ↦
+              coefficient_past K after k (omega (arith, before.remainder_full))
+              ∙ sym (ap₂ ◌⊕◌ (coefficient_past K remainder k (omega (arith, before.remainder_full))) (past_degree k (omega arith)) ∙ add_zero K 𝟘)
         ]
 
     -- what the quotient gains
@@ -72,6 +71,7 @@ module _ {F : Type 0} (K : Field F) where
       where
         at_degree : s + degree - s ≡ degree
         at_degree = omega arith
+
         taken : factor ⊗ shifted K s divisor (s + degree) ≡ coefficient K remainder (s + degree)
         taken =
             ap₂ ◌⊗◌ is_factor (shifted_from K s divisor (s + degree) (omega arith) ∙ ap divisor at_degree)
@@ -89,8 +89,8 @@ module _ {F : Type 0} (K : Field F) where
     reduced_after : (k : ℕ) → s + degree ≤ k → coefficient K after k ≡ 𝟘
     reduced_after k h =
         elim (cases_eq k (s + degree)) [
-          inl same ↦ rw same leading_gone
-        | inr apart ↦ added_everywhere k ∙ ap₂ ◌⊕◌ (before.reduced k (omega arith)) (past_degree k (omega arith)) ∙ add_zero K 𝟘
+          | inl same ↦ rw same leading_gone
+          | inr apart ↦ added_everywhere k ∙ ap₂ ◌⊕◌ (before.reduced k (omega arith)) (past_degree k (omega arith)) ∙ add_zero K 𝟘
         ]
 
     pub divided_step : DividedTo s dividend divisor degree (set quotient s factor) after

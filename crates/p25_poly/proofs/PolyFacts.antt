@@ -1,5 +1,5 @@
 -- A polynomial is its coefficients, and quotient and remainder are determined.
-use Rattle.std.proofs.Common.{◌≡◌, ℕ, ◌<◌, List, length, refl, sym, ap, subst, ◌∙◌, arith}
+use Rattle.std.proofs.Common.{◌≡◌, ℕ, ◌<◌, List, length, sym, ap, subst, ◌∙◌, arith}
 use Rattle.std.proofs.lemmas.List.{ext_get_or}
 use Rattle.std.specs.Coded.{Coded-set, coded_ℕ}
 use Rattle.p25_gf64.specs.declared.symbol.Sym.{Sym}
@@ -18,10 +18,10 @@ same_made : (f g : List Sym) → f ≡ g → (p : length f ≡ 64) (q : length g
 same_made f g e p =
     subst (λ h. (q : length h ≡ 64) → poly_of f p ≡ poly_of h q) e (λ q. ap (λ r. poly_of f r) (Coded-set coded_ℕ (length f) 64 p q))
 
--- polynomials with the same coefficients are one polynomial
-pub same_polynomial : (p q : Poly) → ((i : ℕ) → coefficient_of p i ≡ coefficient_of q i) → p ≡ q
+-- polynomials with the same 64 coefficients are one polynomial
+pub same_polynomial : (p q : Poly) → ((i : ℕ) → i < 64 → coefficient_of p i ≡ coefficient_of q i) → p ≡ q
 same_polynomial p q e =
-    same_made p.coefficients q.coefficients (ext_get_or gf64.zero p.coefficients q.coefficients (p.full ∙ sym q.full) (λ i h. e i)) p.full q.full
+    same_made p.coefficients q.coefficients (ext_get_or gf64.zero p.coefficients q.coefficients (p.full ∙ sym q.full) (λ i h. e i (omega (arith, p.full)))) p.full q.full
 
 -- a polynomial has no coefficient from x^64 on
 pub short_polynomial : (p : Poly) → IsShort gf64 64 (coefficient_of p)
@@ -36,9 +36,10 @@ divided_all i d p by q r q_full r_full none top divided = record {
 
 -- two divisions of one polynomial by another have one quotient and one remainder
 pub unique_division : (d : ℕ) (p by q r s t : Poly) → IsDegree gf64 (coefficient_of by) d → IsDivision p by q r → IsDivision p by s t → (q ≡ s) × (r ≡ t)
-unique_division d p by q r s t degree first second =
-    (same_polynomial q s (same_quotient gf64 64 (coefficient_of by) (coefficient_of q) (coefficient_of s) (coefficient_of r) (coefficient_of t) d degree (short_polynomial q) (short_polynomial s) (first.lower d degree) (second.lower d degree) same),
-      same_polynomial r t (same_remainder gf64 64 (coefficient_of by) (coefficient_of q) (coefficient_of s) (coefficient_of r) (coefficient_of t) d degree (short_polynomial q) (short_polynomial s) (first.lower d degree) (second.lower d degree) same))
+unique_division d p by q r s t degree first second = (
+  same_polynomial q s (λ i low. same_quotient gf64 64 (coefficient_of by) (coefficient_of q) (coefficient_of s) (coefficient_of r) (coefficient_of t) d degree (short_polynomial q) (short_polynomial s) (first.lower d degree) (second.lower d degree) same i),
+  same_polynomial r t (λ i low. same_remainder gf64 64 (coefficient_of by) (coefficient_of q) (coefficient_of s) (coefficient_of r) (coefficient_of t) d degree (short_polynomial q) (short_polynomial s) (first.lower d degree) (second.lower d degree) same i),
+)
   where
     same : (i : ℕ) → gf64.add (product_at gf64 (coefficient_of by) (coefficient_of q) i) (coefficient_of r i) ≡ gf64.add (product_at gf64 (coefficient_of by) (coefficient_of s) i) (coefficient_of t i)
     same i = sym (first.whole i) ∙ second.whole i

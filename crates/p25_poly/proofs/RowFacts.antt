@@ -1,29 +1,28 @@
 -- Rows of a linear system: clearing a column, correcting an unknown, and the steps of elimination.
-use Rattle.std.proofs.Common.{◌≡◌, ◌≢◌, ◌⊎◌, ℕ, zero, suc, ◌+◌, ◌<◌, ◌≤◌, List, length, drop, Bool, false, ◌==◌, refl, sym, ap, ap₂, ◌∙◌, inl, inr, arith}
+use Rattle.std.proofs.Common.{◌≡◌, ◌≢◌, ℕ, zero, suc, ◌+◌, ◌<◌, List, length, drop, Bool, false, ◌==◌, sym, ap, ap₂, ◌∙◌, arith}
 use Rattle.std.proofs.lemmas.Bool.{eqb-false}
 use Rattle.std.proofs.lemmas.List.{get_or-drop, length-drop}
 use Rattle.p25_gf64.specs.declared.symbol.Sym.{Sym}
 use Rattle.p25_gf64.specs.Gf64.{gf64}
-use Rattle.p25_gf64.proofs.FieldFacts.{add_zero, add_self, add_comm, add_twice, mul_comm, mul_assoc, mul_inverse, mul_one}
-use Rattle.p25_algebra.specs.Sums.{sum_below, dot, nonzeros}
-use Rattle.p25_algebra.specs.Series.{coefficient, shifted}
+use Rattle.p25_gf64.proofs.FieldFacts.{add_self, add_comm, add_twice, mul_comm, mul_assoc, mul_inverse, mul_one}
+use Rattle.p25_algebra.specs.Sums.{dot, nonzeros}
+use Rattle.p25_algebra.specs.Series.{coefficient}
 use Rattle.p25_poly.specs.declared.row.Row.{Row}
 use Rattle.p25_poly.specs.LinearSystem.{IsMet, blank_row, row_of, AreMet, IsCleared, AreCleared, AgreeBut, KeepsOne}
-use Rattle.p25_poly.proofs.Coefficients.{multiple_everywhere}
-use Rattle.p25_poly.proofs.DotFacts.{dot_of_zeros, dot_same, dot_multiple, dot_elsewhere, dot_gained, short_made_up, nonzeros_but_one, some_nonzero}
+use Rattle.p25_poly.proofs.DotFacts.{dot_of_zeros, dot_same, dot_multiple, dot_elsewhere, dot_gained, short_made_up, some_nonzero}
 
 -- a row that has gained the multiple of the front row which takes its cell in the column
 pub cleared_row : (column : ℕ) (front old new : Row) (factor : Sym) → coefficient gf64 front.cells column ≢ gf64.zero → factor ≡ gf64.mul (coefficient gf64 old.cells column) (gf64.inverse (coefficient gf64 front.cells column)) → ((k : ℕ) → coefficient gf64 new.cells k ≡ gf64.add (coefficient gf64 old.cells k) (gf64.mul factor (coefficient gf64 front.cells k))) → new.right ≡ gf64.add old.right (gf64.mul factor front.right) → IsCleared column front old new
 cleared_row column front old new factor live is_factor cells right = record {
   gone =
-    cells column
-    ∙ ap (gf64.add (coefficient gf64 old.cells column)) taken
-    ∙ add_self gf64 (coefficient gf64 old.cells column);
+      cells column
+      ∙ ap (gf64.add (coefficient gf64 old.cells column)) taken
+      ∙ add_self gf64 (coefficient gf64 old.cells column);
   forth = λ n x first met. sum n x ∙ ap₂ (λ a b. gf64.add a (gf64.mul factor b)) met first ∙ sym right;
   back = λ n x first met.
-    sym (back_again (dot gf64 n (coefficient gf64 old.cells) x) (gf64.mul factor (dot gf64 n (coefficient gf64 front.cells) x)))
-    ∙ ap₂ gf64.add (sym (sum n x) ∙ met ∙ right) (ap (gf64.mul factor) first)
-    ∙ back_again old.right (gf64.mul factor front.right);
+      sym (back_again (dot gf64 n (coefficient gf64 old.cells) x) (gf64.mul factor (dot gf64 n (coefficient gf64 front.cells) x)))
+      ∙ ap₂ gf64.add (sym (sum n x) ∙ met ∙ right) (ap (gf64.mul factor) first)
+      ∙ back_again old.right (gf64.mul factor front.right);
 }
   where
     taken : gf64.mul factor (coefficient gf64 front.cells column) ≡ coefficient gf64 old.cells column
@@ -32,10 +31,12 @@ cleared_row column front old new factor live is_factor cells right = record {
         ∙ mul_assoc gf64 (coefficient gf64 old.cells column) (gf64.inverse (coefficient gf64 front.cells column)) (coefficient gf64 front.cells column)
         ∙ ap (gf64.mul (coefficient gf64 old.cells column)) (mul_comm gf64 (gf64.inverse (coefficient gf64 front.cells column)) (coefficient gf64 front.cells column) ∙ mul_inverse gf64 (coefficient gf64 front.cells column) live)
         ∙ mul_one gf64 (coefficient gf64 old.cells column)
+
     sum : (n : ℕ) (x : ℕ → Sym) → dot gf64 n (coefficient gf64 new.cells) x ≡ gf64.add (dot gf64 n (coefficient gf64 old.cells) x) (gf64.mul factor (dot gf64 n (coefficient gf64 front.cells) x))
     sum n x =
         dot_same gf64 n (coefficient gf64 new.cells) (λ k. gf64.add (coefficient gf64 old.cells k) (gf64.mul factor (coefficient gf64 front.cells k))) x (λ k h. cells k)
         ∙ dot_multiple gf64 n (coefficient gf64 old.cells) (coefficient gf64 front.cells) x factor
+
     back_again : (a b : Sym) → gf64.add (gf64.add a b) b ≡ a
     back_again a b = add_comm gf64 (gf64.add a b) b ∙ ap (gf64.add b) (add_comm gf64 a b) ∙ add_twice gf64 b a
 
@@ -84,19 +85,18 @@ cleared_back n column front old new x cleared first met =
 pub cleared_elsewhere : (n column : ℕ) (front : Row) (old new : List Row) (x y : ℕ → Sym) → AreCleared column front old new → AgreeBut column x y → AreMet n new x → AreMet n new y
 cleared_elsewhere n column front old new x y cleared agree met = record {
   each = λ r h.
-    dot_elsewhere gf64 n (coefficient gf64 (row_of new r).cells) x y column (cleared.each r (omega (arith, cleared.as_many))).gone agree.same
-    ∙ met.each r h;
+      dot_elsewhere gf64 n (coefficient gf64 (row_of new r).cells) x y column (cleared.each r (omega (arith, cleared.as_many))).gone agree.same
+      ∙ met.each r h;
 }
 
 -- ---- the steps of elimination, for rows and what is left of them
 
 module _ (n column : ℕ) (rows cleared : List Row) (front : Row) (inside : column < n) (some : 0 < length rows) (is_front : front ≡ row_of rows 0) (clears : AreCleared column front (drop 1 rows) cleared) where
-
   -- what solves the cleared rows, corrected by the front row, solves all
   pub corrected_solution : (x y : ℕ → Sym) → AgreeBut column x y → IsMet n front y → AreMet n cleared x → AreMet n rows y
   corrected_solution x y agree first met =
       met_with_front n rows y (rw (← is_front) first)
-        (cleared_back n column front (drop 1 rows) cleared y clears first (cleared_elsewhere n column front (drop 1 rows) cleared x y clears agree met))
+      (cleared_back n column front (drop 1 rows) cleared y clears first (cleared_elsewhere n column front (drop 1 rows) cleared x y clears agree met))
 
   -- what solves all solves the cleared rows
   pub solution_cleared : (x : ℕ → Sym) → AreMet n rows x → AreMet n cleared x

@@ -1,7 +1,7 @@
 -- Solutions of a matrix's system and of its rows.
-use Rattle.std.proofs.Common.{◌≡◌, ◌≢◌, ℕ, ◌<◌, ◌≤◌, List, length, take, replicate, sym, ap, ◌∙◌, inl, inr, arith}
+use Rattle.std.proofs.Common.{◌≡◌, ℕ, ◌<◌, List, length, take, replicate, sym, ap, ◌∙◌, inl, inr, arith}
 use Rattle.std.proofs.lemmas.Bool.{cases_lt}
-use Rattle.std.proofs.lemmas.List.{get_or-take, length-take, length-replicate}
+use Rattle.std.proofs.lemmas.List.{get_or-take, length-take}
 use Rattle.p25_gf64.specs.declared.symbol.Sym.{Sym}
 use Rattle.p25_gf64.specs.Gf64.{gf64}
 use Rattle.p25_algebra.specs.Sums.{dot, nonzeros}
@@ -9,7 +9,7 @@ use Rattle.p25_algebra.specs.Series.{coefficient}
 use Rattle.p25_algebra.proofs.Vanishing.{nonzeros_all}
 use Rattle.p25_poly.specs.declared.matrix.Matrix.{Matrix}
 use Rattle.p25_poly.specs.declared.row.Row.{Row}
-use Rattle.p25_poly.specs.LinearSystem.{IsMet, AreMet, blank_row, row_of, KeepsOne}
+use Rattle.p25_poly.specs.LinearSystem.{IsMet, AreMet, row_of}
 use Rattle.p25_poly.specs.Matrix.{row_count, column_count, entry, IsSolution, IsSystem}
 use Rattle.p25_poly.proofs.Coefficients.{coefficient_blank, coefficient_past}
 use Rattle.p25_poly.proofs.DotFacts.{dot_at_zeros}
@@ -24,6 +24,7 @@ solution_met m right rows n x system as_many solution = record { each = each }
         ∙ ap (λ cells. dot gf64 (column_count m) (coefficient gf64 cells) x) (system.cells r)
         ∙ solution.each r low
         ∙ sym (system.rights r low)
+
     each : (r : ℕ) → r < length (take (row_count m) rows) → IsMet n (row_of (take (row_count m) rows) r) x
     each r h =
         let low : r < row_count m = omega (arith, length-take (row_count m) rows) in
@@ -33,8 +34,8 @@ solution_met m right rows n x system as_many solution = record { each = each }
 pub no_right : (z : Sym) (n r : ℕ) → z ≡ gf64.zero → coefficient gf64 (take n (replicate 24 z)) r ≡ gf64.zero
 no_right z n r e =
     elim (cases_lt r n) [
-      inl low ↦ get_or-take n (replicate 24 z) r gf64.zero low ∙ coefficient_blank gf64 z 24 r e
-    | inr high ↦ coefficient_past gf64 (take n (replicate 24 z)) r (omega (arith, length-take n (replicate 24 z)))
+      | inl low ↦ get_or-take n (replicate 24 z) r gf64.zero low ∙ coefficient_blank gf64 z 24 r e
+      | inr high ↦ coefficient_past gf64 (take n (replicate 24 z)) r (omega (arith, length-take n (replicate 24 z)))
     ]
 
 -- unknowns of zero solve a system with right sides of zero

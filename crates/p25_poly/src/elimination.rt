@@ -1,4 +1,5 @@
-//! Elimination.
+//! Gaussian elimination, a row at a time: the front row clears its first column from the others, these
+//! are solved, and the unknown of that column is then set by the front row.
 
 ghost use Rattle.std.specs.Prelude.{◌≡◌, ◌≢◌, ℕ, ◌<◌, ◌≤◌, length, IsTrue};
 ghost use Rattle.p25_gf64.specs.declared.symbol.Sym.{Sym};
@@ -21,7 +22,8 @@ fn eliminate(rows: &mut [Row], front: &Row, column: usize)
     }
 }
 
-/// Solves the rows for the unknowns; an unknown that no row decides keeps its value.
+/// Solves the rows for the unknowns and answers whether there is a solution. An unknown that no row
+/// decides keeps its value.
 pub(crate) fn solve_rows(rows: &mut [Row], unknowns: &mut [Sym]) -> bool
     requires { length unknowns.old ≤ 24 }
     ensures solved { IsTrue result → AreMet (length unknowns.old) rows.old (coefficient gf64 unknowns.new) }

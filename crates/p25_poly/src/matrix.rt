@@ -3,7 +3,7 @@ ghost use Rattle.std.specs.Prelude.{◌≡◌, ℕ, ◌<◌, ◌≤◌, length};
 use crate::row::Row;
 use p25_gf64::Sym;
 
-/// A matrix over GF(64) of 1 to 24 rows and 1 to 24 columns.
+/// A matrix over GF(64) of at most 24 rows and 24 columns.
 #[derive(Clone, Copy, Debug)]
 pub struct Matrix {
     pub(crate) rows: usize,
@@ -20,7 +20,7 @@ impl Matrix {
     ghost use Rattle.p25_poly.specs.LinearSystem.{row_of};
     ghost use Rattle.p25_poly.specs.Matrix.{row_count, column_count, entry, IsSystem};
 
-    /// The matrix of zeros.
+    /// The matrix of zeros with 1 to 24 rows and 1 to 24 columns.
     pub fn new(rows: usize, columns: usize) -> Matrix
         requires rows { (1 ≤ rows) × (rows ≤ 24) }
         requires columns { (1 ≤ columns) × (columns ≤ 24) }

@@ -5,8 +5,8 @@ ghost use Rattle.p25_algebra.specs.Series.{coefficient, value_at, product_at, Is
 use crate::multiples::add_multiple;
 use p25_gf64::Sym;
 
-/// A polynomial over GF(64) of degree below 64.
-#[derive(Clone, Copy, Debug)]
+/// A polynomial over GF(64) of degree below 64, by its 64 coefficients, lowest first.
+#[derive(Clone, Copy, Debug, PartialEq, Eq)]
 pub struct Poly {
     coefficients: [Sym; 64],
     pub ghost full: { length coefficients ≡ 64 },
@@ -25,7 +25,7 @@ impl Poly {
         }
     }
 
-    /// The polynomial of these coefficients, lowest first.
+    /// The polynomial of at most 64 coefficients, lowest first; the others are zero.
     pub fn from_symbols(low_first: &[Sym]) -> Poly
         requires { length low_first.now ≤ 64 }
         ensures { (i : ℕ) → coefficient_of result i ≡ coefficient gf64 low_first.now i }
@@ -37,7 +37,7 @@ impl Poly {
         Poly { coefficients }
     }
 
-    /// The coefficient of x^i.
+    /// The coefficient of x^i, for i below 64.
     pub fn coefficient(&self, i: usize) -> Sym
         requires { i < 64 }
         ensures { result ≡ coefficient_of self.now i }
@@ -45,7 +45,8 @@ impl Poly {
         self.coefficients[i]
     }
 
-    /// The degree.
+    /// The degree, the largest exponent whose coefficient isn't zero. None comes exactly for the
+    /// polynomial zero.
     pub fn degree(&self) -> Option<usize>
         ensures none { IsNone result ↔ IsZero gf64 (coefficient_of self.now) }
         ensures some { IfSome result (IsDegree gf64 (coefficient_of self.now)) }
@@ -59,7 +60,7 @@ impl Poly {
         None
     }
 
-    /// The value at x.
+    /// The value at x: the sum of coefficient times power of x.
     pub fn eval(&self, x: Sym) -> Sym
         ensures { result ≡ value_at gf64 64 (coefficient_of self.now) x }
     {
@@ -70,7 +71,7 @@ impl Poly {
         value
     }
 
-    /// The sum.
+    /// The sum, coefficient by coefficient. It is the difference too.
     pub fn add(&self, other: &Poly) -> Poly
         ensures { (i : ℕ) → coefficient_of result i ≡ gf64.add (coefficient_of self.now i) (coefficient_of other.now i) }
     {
@@ -79,19 +80,26 @@ impl Poly {
         Poly { coefficients }
     }
 
-    /// The product.
+    /// The product, where one of the polynomials is zero or the degrees add to less than 64: the
+    /// coefficient of x^n is the sum of the products of coefficients whose exponents add to n.
     pub fn mul(&self, other: &Poly) -> Poly
         requires { (d e : ℕ) → IsDegree gf64 (coefficient_of self.now) d → IsDegree gf64 (coefficient_of other.now) e → d + e < 64 }
         ensures { (i : ℕ) → coefficient_of result i ≡ product_at gf64 (coefficient_of self.now) (coefficient_of other.now) i }
     {
         let mut coefficients = [Sym::default(); 64];
         for i in 0..64 {
-            add_multiple(&mut coefficients, self.coefficients[i], &other.coefficients, i);
+            add_multiple(
+                &mut coefficients,
+                self.coefficients[i],
+                &other.coefficients,
+                i,
+            );
         }
         Poly { coefficients }
     }
 
-    /// Quotient and remainder.
+    /// Quotient and remainder by a polynomial that isn't zero: the polynomial is the divisor times the
+    /// quotient, plus the remainder, whose degree is lower than the divisor's.
     pub fn divide(&self, by: &Poly) -> (Poly, Poly)
         requires { IsZero gf64 (coefficient_of by.now) → ⊥ }
         ensures division { IsDivision self.now by.now result.0 result.1 }

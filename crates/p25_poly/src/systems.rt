@@ -12,7 +12,8 @@ use crate::elimination::solve_rows;
 use crate::matrix::Matrix;
 use p25_gf64::Sym;
 
-/// A solution with right side 0.
+/// Sets `out` to a solution of the system with right sides 0 that isn't all zero, where the matrix has
+/// more columns than rows. `out` has as many symbols as the matrix has columns.
 pub fn kernel(matrix: &Matrix, out: &mut [Sym])
     requires wide { row_count matrix.now < column_count matrix.now }
     requires room { length out.old ≡ column_count matrix.now }
@@ -24,7 +25,9 @@ pub fn kernel(matrix: &Matrix, out: &mut [Sym])
     let _ = solve_from(matrix, &zeros[..matrix.rows], out);
 }
 
-/// A solution.
+/// Sets `out` to a solution of the system and answers true, exactly where it has one. `right` has as
+/// many symbols as the matrix has rows, and `out` as many as it has columns. Where the answer is false,
+/// nothing is said of `out`.
 pub fn solve(matrix: &Matrix, right: &[Sym], out: &mut [Sym]) -> bool
     requires right { length right.now ≡ row_count matrix.now }
     requires room { length out.old ≡ column_count matrix.now }

@@ -1,5 +1,4 @@
-use Rattle.std.proofs.Common.{◌≡◌, ◌-◌, ◌<◌, length, set, sym, ◌∙◌, refl, arith}
-use Rattle.std.proofs.lemmas.Bool.{eqb-false}
+use Rattle.std.proofs.Common.{◌≡◌, ◌<◌, length, set, sym, ◌∙◌, arith}
 use Rattle.std.proofs.lemmas.List.{get_or_read, take_rest, length-set, length-drop}
 use Rattle.p25_gf64.specs.Gf64.{gf64}
 use Rattle.p25_algebra.specs.Sums.{nonzeros}
@@ -20,7 +19,7 @@ returns-then-is_zero-clause-solved t c = λ yes_solved.
     let some = not_empty c.args.rows.now c.is_empty.result c.is_empty.ensures c.if-is_empty.false in
     let front = get_or_read c.args.rows.now 0 c.index-rows-0.result some c.index-rows-0.is blank_row in
     met_with_front n c.args.rows.now x (rw (← front) (blank_met n c.index-rows-0.result x c.in_default.ensures.none (c.is_zero.ensures.0 c.if-is_zero.true)))
-      (rw take_rest at (c.solve_rows.ensures.solved yes_solved))
+    (rw take_rest at (c.solve_rows.ensures.solved yes_solved))
 
 pub returns-then-is_zero-clause-complete : goal.returns-then-is_zero-clause-complete
 returns-then-is_zero-clause-complete t c = λ x met. c.solve_rows.ensures.complete x (rw take_rest (met_rest (length c.args.unknowns.now) c.args.rows.now x met))
@@ -38,8 +37,8 @@ returns-then-solved-clause-solved t c = λ yes_solved.
     let some = not_empty c.args.rows.now c.is_empty.result c.is_empty.ensures c.if-is_empty.false in
     let front = get_or_read c.args.rows.now 0 c.index-rows-0.result some c.index-rows-0.is blank_row in
     corrected_solution n c.in-Some.column c.args.rows.now c.eliminate.new.rows c.index-rows-0.result c.in-Some.ensures.below some front (rw take_rest at c.eliminate.ensures)
-      (coefficient gf64 c.solve_rows-solved.new.unknowns) (coefficient gf64 c.correct.new.unknowns) c.correct.ensures.others
-      (rw as_many at c.correct.ensures.met) (rw length-set at (c.solve_rows-solved.ensures.solved yes_solved))
+    (coefficient gf64 c.solve_rows-solved.new.unknowns) (coefficient gf64 c.correct.new.unknowns) c.correct.ensures.others
+    (rw as_many at c.correct.ensures.met) (rw length-set at (c.solve_rows-solved.ensures.solved yes_solved))
 
 pub returns-then-solved-clause-kept : goal.returns-then-solved-clause-kept
 returns-then-solved-clause-kept t c = λ yes_solved few.
@@ -53,8 +52,8 @@ returns-then-solved-clause-kept t c = λ yes_solved few.
     let some = not_empty c.args.rows.now c.is_empty.result c.is_empty.ensures c.if-is_empty.false in
     let fewer : length c.eliminate.new.rows < nonzeros gf64 n blanked = omega (arith, clears.as_many, length-drop 1 c.args.rows.now, nonzeros_but_one gf64 n c.in-Some.column old blanked (λ k apart. sym (agree.same k apart))) in
     kept_beside n c.in-Some.column old blanked left new
-      (written_at gf64 c.args.unknowns.now c.in-Some.column c.default.result c.in-Some.ensures.below ∙ c.default.ensures) agree
-      (rw length-set at (c.solve_rows-solved.ensures.kept yes_solved (rw length-set fewer))) c.correct.ensures.others
+    (written_at gf64 c.args.unknowns.now c.in-Some.column c.default.result c.in-Some.ensures.below ∙ c.default.ensures) agree
+    (rw length-set at (c.solve_rows-solved.ensures.kept yes_solved (rw length-set fewer))) c.correct.ensures.others
 
 pub returns-else-solved-clause-complete : goal.returns-else-solved-clause-complete
 returns-else-solved-clause-complete t c = λ x met.
@@ -62,4 +61,4 @@ returns-else-solved-clause-complete t c = λ x met.
     let some = not_empty c.args.rows.now c.is_empty.result c.is_empty.ensures c.if-is_empty.false in
     let front = get_or_read c.args.rows.now 0 c.index-rows-0.result some c.index-rows-0.is blank_row in
     c.solve_rows-solved.ensures.complete x
-      (rw length-set (solution_cleared n c.in-Some.column c.args.rows.now c.eliminate.new.rows c.index-rows-0.result c.in-Some.ensures.below some front (rw take_rest at c.eliminate.ensures) x met))
+    (rw length-set (solution_cleared n c.in-Some.column c.args.rows.now c.eliminate.new.rows c.index-rows-0.result c.in-Some.ensures.below some front (rw take_rest at c.eliminate.ensures) x met))

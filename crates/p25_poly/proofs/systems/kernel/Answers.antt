@@ -1,4 +1,4 @@
-use Rattle.std.proofs.Common.{◌≡◌, ◌<◌, length, take, replicate, ◌∙◌, arith}
+use Rattle.std.proofs.Common.{length, ◌∙◌, arith}
 use Rattle.p25_gf64.specs.Gf64.{gf64}
 use Rattle.p25_gf64.proofs.Symbols.{one_made}
 use Rattle.p25_algebra.specs.Series.{coefficient}
@@ -8,7 +8,7 @@ use Rattle.p25_poly.proofs.systems.kernel.Goals as goal
 pub returns-clause-solution : goal.returns-clause-solution
 returns-clause-solution c =
     same_right c.args.matrix.now _ (λ r. gf64.zero) (coefficient gf64 c.solve_from.new.out) (λ r. no_right c.default-zeros.result c.args.matrix.now.rows r c.default-zeros.ensures)
-      (c.solve_from.ensures.solution (c.solve_from.ensures.complete _ (zeros_solve c.args.matrix.now _ (λ r. no_right c.default-zeros.result c.args.matrix.now.rows r c.default-zeros.ensures))))
+    (c.solve_from.ensures.solution (c.solve_from.ensures.complete _ (zeros_solve c.args.matrix.now _ (λ r. no_right c.default-zeros.result c.args.matrix.now.rows r c.default-zeros.ensures))))
 
 pub returns-clause-nonzero : goal.returns-clause-nonzero
 returns-clause-nonzero c =

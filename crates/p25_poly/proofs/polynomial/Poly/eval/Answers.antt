@@ -13,5 +13,5 @@ pub loop-i-preserved : goal.loop-i-preserved
 loop-i-preserved c =
     c.add-value.ensures.sum
     ∙ ap₂ gf64.add (c.mul.ensures.product ∙ ap (λ v. gf64.mul v c.args.x) c.loop-i.invariant)
-        (get_or_default c.args.self.now.coefficients _ _ gf64.zero (omega arith))
+    (get_or_default c.args.self.now.coefficients _ _ gf64.zero (omega arith))
     ∙ horner_step gf64 (coefficient_of c.args.self.now) 64 c.loop-i.i c.args.x (omega arith) (omega arith)

@@ -11,12 +11,14 @@ loop-i-init c =
     (refl, λ k low. coefficient_blank gf64 c.default-coefficients.result 64 k c.default-coefficients.ensures ∙ sym (sum-none gf64 _))
 
 pub loop-i-preserved : goal.loop-i-preserved
-loop-i-preserved c =
-    (omega arith, λ k low.
+loop-i-preserved c = (
+  omega arith,
+  λ k low.
       rows_step gf64 c.loop-i.i (coefficient_of c.args.self.now) (coefficient_of c.args.other.now) _ _ _ k
-        (get_or_default c.args.self.now.coefficients c.loop-i.i _ gf64.zero (omega arith))
-        (c.add_multiple.ensures k (omega arith))
-        (c.loop-i.invariant.1 k low))
+      (get_or_default c.args.self.now.coefficients c.loop-i.i _ gf64.zero (omega arith))
+      (c.add_multiple.ensures k (omega arith))
+      (c.loop-i.invariant.1 k low),
+)
 
 pub returns : goal.returns
 returns c =
