@@ -1,0 +1,6 @@
+pub mod SumFacts
+pub mod Vanishing
+pub mod Values
+pub mod Products
+pub mod Locators
+pub mod ProductValues

@@ -1,0 +1,16 @@
+//! The algebra under the Reed-Solomon and BCH codes: facts on sums, polynomials and power sums over a
+//! field of characteristic 2.
+//!
+//! Each function here is a theorem: its body is empty, and its contract says what is true in GF(64).
+//! The proofs are over any such field; a crate above cites the lemma of the same name in this
+//! crate's `proofs/`.
+//!
+//! A polynomial is seen as the coefficient of x^i at each i, and the elements and factors of a power
+//! sum as functions of their place.
+#![tactic(auto)]
+
+mod polynomials;
+mod power_sums;
+
+pub use polynomials::{few_zeros, product_laws, unique_division, value_laws};
+pub use power_sums::{alpha_powers, locator_vanishes, vanishing_sums};

@@ -1,0 +1,40 @@
+//! Polynomials by their coefficients.
+
+ghost use Rattle.std.specs.Prelude.{◌≡◌, ℕ, ◌+◌, ◌<◌, ◌≤◌};
+ghost use Rattle.p25_gf64.specs.declared.symbol.Sym.{Sym};
+ghost use Rattle.p25_gf64.specs.Gf64.{gf64};
+ghost use Rattle.p25_algebra.specs.Sums.{AreApart};
+ghost use Rattle.p25_algebra.specs.Series.{value_at, product_at, IsShort, IsDegree};
+
+/// A polynomial of `length` coefficients that has as many different zeros is zero.
+pub fn few_zeros()
+    ensures { (length count : ℕ) (f zeros : ℕ → Sym) → length ≤ count → AreApart count zeros
+        → ((j : ℕ) → j < count → value_at gf64 length f (zeros j) ≡ gf64.zero)
+        → (i : ℕ) → i < length → f i ≡ gf64.zero }
+{}
+
+/// Products commute and distribute over sums, and the degrees of factors add.
+pub fn product_laws()
+    ensures commutes { (f g : ℕ → Sym) (n : ℕ) → product_at gf64 f g n ≡ product_at gf64 g f n }
+    ensures distributes { (f g h : ℕ → Sym) (n : ℕ)
+        → product_at gf64 f (λ i. gf64.add (g i) (h i)) n ≡ gf64.add (product_at gf64 f g n) (product_at gf64 f h n) }
+    ensures degrees { (f g : ℕ → Sym) (d e : ℕ) → IsDegree gf64 f d → IsDegree gf64 g e
+        → IsDegree gf64 (product_at gf64 f g) (d + e) }
+{}
+
+/// Values of sums and products are the sums and products of the values.
+pub fn value_laws()
+    ensures sums { (n : ℕ) (f g : ℕ → Sym) (x : Sym)
+        → value_at gf64 n (λ i. gf64.add (f i) (g i)) x ≡ gf64.add (value_at gf64 n f x) (value_at gf64 n g x) }
+    ensures products { (m k n : ℕ) (f g : ℕ → Sym) (x : Sym) → IsShort gf64 m f → IsShort gf64 k g → m + k ≤ n
+        → value_at gf64 n (product_at gf64 f g) x ≡ gf64.mul (value_at gf64 m f x) (value_at gf64 k g x) }
+{}
+
+/// Quotient and remainder by a polynomial of degree d are determined, where the remainder has no
+/// coefficient from x^d on.
+pub fn unique_division()
+    ensures { (n d : ℕ) (b q p r t : ℕ → Sym) → IsDegree gf64 b d
+        → IsShort gf64 n q → IsShort gf64 n p → IsShort gf64 d r → IsShort gf64 d t
+        → ((i : ℕ) → gf64.add (product_at gf64 b q i) (r i) ≡ gf64.add (product_at gf64 b p i) (t i))
+        → (i : ℕ) → (q i ≡ p i) × (r i ≡ t i) }
+{}

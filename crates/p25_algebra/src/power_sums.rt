@@ -1,0 +1,36 @@
+//! Power sums over different elements.
+
+ghost use Rattle.std.specs.Prelude.{◌≡◌, ◌≢◌, ℕ, ◌+◌, ◌<◌, ◌≤◌};
+ghost use Rattle.p25_gf64.specs.declared.symbol.Sym.{Sym};
+ghost use Rattle.p25_gf64.specs.Field.{power};
+ghost use Rattle.p25_gf64.specs.Symbol.{alpha};
+ghost use Rattle.p25_gf64.specs.Gf64.{gf64};
+ghost use Rattle.p25_algebra.specs.Sums.{sum_below, power_sum, nonzeros, AreApart};
+ghost use Rattle.p25_algebra.specs.Series.{value_at};
+
+/// Where at most m factors are not zero and the power sums over different elements other than zero
+/// vanish for m successive exponents, every factor is zero (the Vandermonde determinant isn't zero).
+pub fn vanishing_sums()
+    ensures { (count m start : ℕ) (element factor : ℕ → Sym) → AreApart count element
+        → ((j : ℕ) → j < count → element j ≢ gf64.zero)
+        → nonzeros gf64 count factor ≤ m
+        → ((i : ℕ) → start ≤ i → i < start + m → power_sum gf64 count element factor i ≡ gf64.zero)
+        → (j : ℕ) → j < count → factor j ≡ gf64.zero }
+{}
+
+/// A polynomial that is orthogonal to m successive power sums of at most m factors that are not zero
+/// vanishes at the element of each of these.
+pub fn locator_vanishes()
+    ensures { (count length m start : ℕ) (element factor locator : ℕ → Sym) → AreApart count element
+        → ((j : ℕ) → j < count → element j ≢ gf64.zero)
+        → nonzeros gf64 count factor ≤ m
+        → ((i : ℕ) → start ≤ i → i < start + m
+        → sum_below gf64 length (λ k. gf64.mul (locator k) (power_sum gf64 count element factor (i + k))) ≡ gf64.zero)
+        → (j : ℕ) → j < count → factor j ≢ gf64.zero → value_at gf64 length locator (element j) ≡ gf64.zero }
+{}
+
+/// The powers of α below 63 are different elements, and none is zero.
+pub fn alpha_powers()
+    ensures apart { AreApart 63 (power gf64 alpha) }
+    ensures nonzero { (i : ℕ) → power gf64 alpha i ≢ gf64.zero }
+{}

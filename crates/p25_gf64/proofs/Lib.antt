@@ -1,0 +1,4 @@
+pub mod FieldFacts
+pub mod Powers
+pub mod Symbols
+pub mod TableFacts

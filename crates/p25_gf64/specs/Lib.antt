@@ -1,0 +1,5 @@
+pub mod Field
+pub mod Product
+pub mod ProductLaws
+pub mod Symbol
+pub mod Gf64

@@ -1,0 +1,21 @@
+-- The product in GF(64): that of two polynomials over GF(2), where bit k of a number is the
+-- coefficient of x^k, reduced modulo x^6 + x + 1.
+use Rattle.std.specs.Prelude.{ℕ, zero, suc, ◌*◌, ◌/◌, ◌%◌, ◌==◌, nat_lt, if◌then◌else◌, bit_xor}
+
+-- a times x: shifted by one place, and x^6 + x + 1 (67) taken away where x^6 has come
+unfoldable pub shifted : ℕ → ℕ
+shifted a = if nat_lt a 32 then 2 * a else bit_xor (2 * a) 67
+
+-- the exclusive or, over the lowest `count` bits of b that are 1, of a shifted by the bit's place
+unfoldable pub product_by : ℕ → ℕ → ℕ → ℕ
+product_by zero a b = 0
+product_by (suc count) a b = bit_xor (if b % 2 == 1 then a else 0) (product_by count (shifted a) (b / 2))
+
+-- the product of two numbers of six bits
+unfoldable pub product : ℕ → ℕ → ℕ
+product a b = product_by 6 a b
+
+-- a number of six bits multiplied by itself so often
+unfoldable pub product_power : ℕ → ℕ → ℕ
+product_power a zero = 1
+product_power a (suc n) = product a (product_power a n)

@@ -1,0 +1,40 @@
+//! The field GF(64) of the Reed-Solomon and BCH codes of Project 25 (TIA-102.BAAA, where its
+//! primitive polynomial is x^6 + x + 1).
+//!
+//! A symbol is a number from 0 to 63. Bit k of it is the coefficient of x^k in a polynomial over
+//! GF(2): the sum of two symbols is their exclusive or, and their product that of the polynomials
+//! modulo x^6 + x + 1. α is the symbol 2; its powers are all symbols but 0.
+//!
+//! ```
+//! let two = Sym::new(2)?;
+//! let half = two.inv();
+//! // half.value() is 33, and two.mul(half) is Sym::ONE
+//! ```
+//!
+//! Contracts speak of `gf64`, the field as a record of its operations, and of a symbol's `number`.
+//! The laws of the field stand on `field_laws`, `symbol_laws` and `alpha_order`.
+#![tactic(auto)]
+
+mod laws;
+mod symbol;
+mod tables;
+
+pub use laws::{alpha_order, field_laws, symbol_laws};
+pub use symbol::Sym;
+
+#[cfg(test)]
+mod tests {
+    use super::*;
+    use std::test::Fail;
+
+    #[test]
+    fn field_values(rt: HostRuntime) -> Result<(), Fail> {
+        assert_eq!(rt; Sym::new(64), None);
+        let two = Sym::new(2).ok_or("2 is a symbol")?;
+        assert!(rt; !two.is_zero());
+        assert_eq!(rt; two.inv().value(), 33);
+        assert_eq!(rt; two.mul(two.inv()), Sym::ONE);
+        assert_eq!(rt; Sym::pow_alpha(64), two);
+        Ok(())
+    }
+}

@@ -1,0 +1,117 @@
+ghost use Rattle.std.specs.Prelude.{◌≡◌, ◌≢◌, ℕ, ◌<◌, ◌↔◌, IsTrue, IsSome, IfSome, bit_xor};
+
+use crate::tables::{LOGARITHMS, POWERS};
+
+/// An element of GF(64): a number from 0 to 63, whose bit k is the coefficient of x^k.
+#[derive(Clone, Copy, Debug, PartialEq, Eq)]
+pub struct Sym {
+    value: u8,
+    pub ghost below: { value < 64 },
+}
+
+impl Default for Sym {
+    ghost use Rattle.std.specs.Prelude.{◌≡◌};
+    ghost use Rattle.p25_gf64.specs.Gf64.{gf64};
+
+    ghost is_default = { λ symbol. symbol ≡ gf64.zero };
+
+    fn default() -> Sym {
+        Sym::ZERO
+    }
+}
+
+impl Sym {
+    ghost use Rattle.p25_gf64.specs.Field.{power};
+    ghost use Rattle.p25_gf64.specs.Product.{product};
+    ghost use Rattle.p25_gf64.specs.Symbol.{number, alpha};
+    ghost use Rattle.p25_gf64.specs.Gf64.{gf64};
+
+    /// The symbol 0.
+    pub const ZERO: Sym = Sym { value: 0 };
+
+    /// The symbol 1.
+    pub const ONE: Sym = Sym { value: 1 };
+
+    /// The symbol of a number. None comes exactly above 63.
+    pub fn new(value: u8) -> Option<Sym>
+        ensures below { IsSome result ↔ (value < 64) }
+        ensures number { IfSome result (λ symbol. number symbol ≡ value) }
+    {
+        if value < 64 {
+            Some(Sym { value })
+        } else {
+            None
+        }
+    }
+
+    /// The number of the symbol, from 0 to 63.
+    pub fn value(self) -> u8
+        ensures number { result ≡ number self }
+        ensures below { result < 64 }
+    {
+        self.value
+    }
+
+    /// Whether the symbol is 0.
+    pub fn is_zero(self) -> bool
+        ensures { IsTrue result ↔ (self ≡ gf64.zero) }
+    {
+        self.value == 0
+    }
+
+    /// The sum of two symbols, which is their exclusive or. It is their difference too.
+    pub fn add(self, other: Sym) -> Sym
+        ensures sum { result ≡ gf64.add self other }
+        ensures number { number result ≡ bit_xor (number self) (number other) }
+    {
+        Sym {
+            value: self.value ^ other.value,
+        }
+    }
+
+    /// The product of two symbols, as polynomials modulo x^6 + x + 1.
+    pub fn mul(self, other: Sym) -> Sym
+        ensures product { result ≡ gf64.mul self other }
+        ensures number { number result ≡ product (number self) (number other) }
+    {
+        if self.is_zero() || other.is_zero() {
+            return Sym::ZERO;
+        }
+        Sym::power_below((self.logarithm() + other.logarithm()) % 63)
+    }
+
+    /// The inverse of a symbol that isn't 0: the one symbol whose product with it is 1.
+    pub fn inv(self) -> Sym
+        requires { self ≢ gf64.zero }
+        ensures inverse { result ≡ gf64.inverse self }
+        ensures one { gf64.mul self result ≡ gf64.one }
+    {
+        Sym::power_below((63 - self.logarithm()) % 63)
+    }
+
+    /// α = 2 to any power. The powers repeat after 63.
+    pub fn pow_alpha(exponent: u32) -> Sym
+        ensures { result ≡ power gf64 alpha exponent }
+    {
+        Sym::power_below((exponent % 63) as u8)
+    }
+
+    // α to a power below 63.
+    fn power_below(exponent: u8) -> Sym
+        requires { exponent < 63 }
+        ensures { result ≡ power gf64 alpha exponent }
+    {
+        Sym {
+            value: POWERS[exponent as usize],
+        }
+    }
+
+    // The exponent below 63 with which α gives the symbol.
+    fn logarithm(self) -> u8
+        requires { self ≢ gf64.zero }
+        ensures below { result < 63 }
+        ensures power { power gf64 alpha result ≡ self }
+    {
+        LOGARITHMS[self.value as usize]
+    }
+}

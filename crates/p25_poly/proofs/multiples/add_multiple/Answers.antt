@@ -1,0 +1,16 @@
+use Rattle.std.proofs.Common.{◌∙◌, refl, ap₂, ap, arith}
+use Rattle.p25_gf64.specs.Gf64.{gf64}
+use Rattle.p25_algebra.specs.Series.{coefficient}
+use Rattle.p25_poly.proofs.Coefficients.{nothing_added, added_step, coefficient_read}
+use Rattle.p25_poly.proofs.multiples.add_multiple.Goals as goal
+
+pub loop-i-init : goal.loop-i-init
+loop-i-init c = (λ k low fits. nothing_added gf64 _ c.args.factor c.args.shift _ k low, λ k low. refl)
+
+pub loop-i-preserved : goal.loop-i-preserved
+loop-i-preserved c =
+    added_step gf64 c.loop-i.i c.loop-i.into (coefficient gf64 c.args.into.now) c.args.factor c.args.shift (coefficient gf64 c.args.other.now) c.add.result (omega arith) (omega arith)
+    (c.add.ensures.sum
+    ∙ ap₂ gf64.add (coefficient_read gf64 c.loop-i.into c.loop-i.i c.index-into-i.result (omega arith) c.index-into-i.is)
+    (c.mul.ensures.product ∙ ap (gf64.mul c.args.factor) (coefficient_read gf64 c.args.other.now _ c.index-other-i.result (omega arith) c.index-other-i.is)))
+    c.loop-i.invariant

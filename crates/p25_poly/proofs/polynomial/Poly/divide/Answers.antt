@@ -1,0 +1,28 @@
+use Rattle.std.proofs.Common.{◌-◌, ◌∙◌, refl, ap, ap₂, arith}
+use Rattle.std.proofs.lemmas.List.{get_or_default}
+use Rattle.p25_gf64.specs.Gf64.{gf64}
+use Rattle.p25_poly.specs.Polynomial.{coefficient_of}
+use Rattle.p25_poly.proofs.Coefficients.{coefficient_blank}
+use Rattle.p25_poly.proofs.Division.{divided_none, divided_step}
+use Rattle.p25_poly.proofs.PolyFacts.{divided_all, unique_division}
+use Rattle.p25_poly.proofs.polynomial.Poly.divide.Goals as goal
+
+pub loop-shift-init : goal.loop-shift-init
+loop-shift-init c =
+    let low = rw c.unwrap-degree.ensures at c.degree.ensures.below in
+    divided_none gf64 (64 - c.unwrap-degree.result) (coefficient_of c.args.by.now) c.unwrap-degree.result _ c.args.self.now.coefficients (omega arith) refl c.args.self.now.full
+    (λ k. coefficient_blank gf64 c.default-quotient.result 64 k c.default-quotient.ensures)
+
+pub loop-shift-preserved : goal.loop-shift-preserved
+loop-shift-preserved c =
+    let low = rw c.unwrap-degree.ensures at c.degree.ensures.below in
+    let top = rw c.unwrap-degree.ensures at c.degree.ensures.some in
+    divided_step gf64 c.loop-shift.shift (c.loop-shift.shift - 1) (omega arith) (coefficient_of c.args.self.now) (coefficient_of c.args.by.now) c.unwrap-degree.result c.loop-shift.quotient c.loop-shift.remainder c.add_multiple.new.into c.mul-factor.result (omega arith) top (omega arith)
+    (c.mul-factor.ensures.product ∙ ap₂ gf64.mul (get_or_default c.loop-shift.remainder _ _ gf64.zero (omega arith)) (c.inv-inverse.ensures.inverse ∙ ap gf64.inverse (get_or_default c.args.by.now.coefficients c.unwrap-degree.result _ gf64.zero (omega (arith, low, c.args.by.now.full)))))
+    c.add_multiple.ensures c.loop-shift.invariant
+
+pub returns-clause-unique : goal.returns-clause-unique
+returns-clause-unique c =
+    let top = rw c.unwrap-degree.ensures at c.degree.ensures.some in
+    λ quotient remainder division. unique_division c.unwrap-degree.result c.args.self.now c.args.by.now quotient remainder _ _ top division
+    (divided_all c.loop-shift.shift c.unwrap-degree.result c.args.self.now c.args.by.now c.loop-shift.quotient c.loop-shift.remainder _ _ (omega arith) top c.loop-shift.invariant)

@@ -1,0 +1,3 @@
+pub mod Polynomial
+pub mod LinearSystem
+pub mod Matrix

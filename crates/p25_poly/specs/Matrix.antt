@@ -1,0 +1,30 @@
+-- Matrices by their entries, and the solutions of linear systems.
+use Rattle.std.specs.Prelude.{◌≡◌, ℕ, ◌<◌, List}
+use Rattle.p25_gf64.specs.declared.symbol.Sym.{Sym}
+use Rattle.p25_gf64.specs.Gf64.{gf64}
+use Rattle.p25_algebra.specs.Sums.{dot}
+use Rattle.p25_algebra.specs.Series.{coefficient}
+use Rattle.p25_poly.specs.declared.matrix.Matrix.{Matrix}
+use Rattle.p25_poly.specs.declared.row.Row.{Row}
+use Rattle.p25_poly.specs.LinearSystem.{row_of}
+
+-- how many rows there are
+abbrev pub row_count : Matrix → ℕ
+row_count m = m.rows
+
+-- how many columns there are
+abbrev pub column_count : Matrix → ℕ
+column_count m = m.columns
+
+-- the entry of a row and a column
+abbrev pub entry : Matrix → ℕ → ℕ → Sym
+entry m r = coefficient gf64 (row_of m.lines r).cells
+
+-- for each row, the sum over the columns of entry times unknown is the right side
+pub record IsSolution (m : Matrix) (right x : ℕ → Sym) : Type 0 where
+  pub each : (r : ℕ) → r < row_count m → dot gf64 (column_count m) (entry m r) x ≡ right r
+
+-- the rows have the matrix's entries and these right sides
+pub record IsSystem (m : Matrix) (right : ℕ → Sym) (rows : List Row) : Type 0 where
+  pub cells : (r : ℕ) → (row_of rows r).cells ≡ (row_of m.lines r).cells
+  pub rights : (r : ℕ) → r < row_count m → (row_of rows r).right ≡ right r

@@ -1,0 +1,49 @@
+//! Gaussian elimination, a row at a time: the front row clears its first column from the others, these
+//! are solved, and the unknown of that column is then set by the front row.
+
+ghost use Rattle.std.specs.Prelude.{◌≡◌, ◌≢◌, ℕ, ◌<◌, ◌≤◌, length, IsTrue};
+ghost use Rattle.p25_gf64.specs.declared.symbol.Sym.{Sym};
+ghost use Rattle.p25_gf64.specs.Gf64.{gf64};
+ghost use Rattle.p25_algebra.specs.Sums.{nonzeros};
+ghost use Rattle.p25_algebra.specs.Series.{coefficient};
+ghost use Rattle.p25_poly.specs.LinearSystem.{AreMet, AreCleared, KeepsOne};
+
+use crate::row::Row;
+use p25_gf64::Sym;
+
+/// Clears a column of the rows by the front row.
+fn eliminate(rows: &mut [Row], front: &Row, column: usize)
+    requires inside { column < 24 }
+    requires pivot { coefficient gf64 front.now.cells column ≢ gf64.zero }
+    ensures { AreCleared column front.now rows.old rows.new }
+{
+    for i in 0..rows.len() {
+        rows[i] = rows[i].cleared(front, column);
+    }
+}
+
+/// Solves the rows for the unknowns and answers whether there is a solution. An unknown that no row
+/// decides keeps its value.
+pub(crate) fn solve_rows(rows: &mut [Row], unknowns: &mut [Sym]) -> bool
+    requires { length unknowns.old ≤ 24 }
+    ensures solved { IsTrue result → AreMet (length unknowns.old) rows.old (coefficient gf64 unknowns.new) }
+    ensures complete { (x : ℕ → Sym) → AreMet (length unknowns.old) rows.old x → IsTrue result }
+    ensures kept { IsTrue result → length rows.old < nonzeros gf64 (length unknowns.old) (coefficient gf64 unknowns.old)
+        → KeepsOne (length unknowns.old) (coefficient gf64 unknowns.old) (coefficient gf64 unknowns.new) }
+{
+    if rows.is_empty() {
+        return true;
+    }
+    let front = rows[0];
+    let rest = &mut rows[1..];
+    let Some(column) = front.pivot(unknowns.len()) else {
+        return front.right.is_zero() && solve_rows(rest, unknowns);
+    };
+    eliminate(rest, &front, column);
+    unknowns[column] = Sym::default();
+    let solved = solve_rows(rest, unknowns);
+    if solved {
+        front.correct(unknowns, column);
+    }
+    solved
+}

@@ -1,0 +1,34 @@
+//! Polynomials and linear systems over GF(64), as the Reed-Solomon and BCH codes of Project 25 use
+//! them (TIA-102.BAAA).
+//!
+//! A [`Poly`] has degree below 64 and is its coefficients, of which the lowest comes first. A
+//! [`Matrix`] has 1 to 24 rows and columns, both counted from 0. No call takes memory; [`kernel`]
+//! and [`solve`] take at most the cube of the size in steps.
+//!
+//! ```
+//! // 1 + x^3 divided by 1 + x
+//! let one = Sym::ONE;
+//! let dividend = Poly::from_symbols(&[one, Sym::ZERO, Sym::ZERO, one]);
+//! let (quotient, remainder) = dividend.divide(&Poly::from_symbols(&[one, one]));
+//! // quotient is 1 + x + x^2, and remainder is zero
+//! ```
+//!
+//! Contracts see a polynomial as `coefficient_of` at each exponent and a matrix as its `entry` at each
+//! row and column. The laws that tie these are on `polynomial_laws` and in `p25_algebra`.
+#![tactic(auto)]
+
+mod elimination;
+mod laws;
+mod matrix;
+mod multiples;
+mod polynomial;
+mod row;
+mod systems;
+
+pub use laws::polynomial_laws;
+pub use matrix::Matrix;
+pub use polynomial::Poly;
+pub use systems::{kernel, solve};
+
+#[cfg(test)]
+mod tests;
