@@ -1,0 +1,80 @@
+//! Blocks: octets to sent bits, and received bits to the octets of the first nearest path.
+
+ghost use Rattle.std.specs.Prelude.{◌≡◌, ℕ, ◌+◌, ◌*◌, ◌<◌, ◌≤◌, List, Bool, ◌++◌, All, length, take, drop};
+ghost use Rattle.p25_bits.specs.Bits.{part, octet_bits};
+ghost use Rattle.p25_bits.specs.Distance.{distance_of};
+ghost use Rattle.p25_trellis.specs.Trellis.{IsPath, IsBlock, Carries, IsFirstLeastReading, distance_from, nibbles_from};
+ghost use Rattle.p25_trellis.specs.Least.{cost_in};
+ghost use Rattle.p25_trellis.specs.Tables.{nibble_distance};
+
+use super::fields::{put_numbers, take_numbers};
+use super::interleave::{gather, spread};
+use super::least::read_costs;
+use super::rate::Rate;
+use p25_bits::BitBuf;
+
+// The path that carries octets.
+fn path_of<R: Rate>(octets: &[u8]) -> [u8; 49]
+    requires { length octets.now ≡ R.OCTETS }
+    ensures is_path { IsPath R.STATES result }
+    ensures carries { Carries R.BITS_PER_SYMBOL result octets.now }
+{
+    let mut bits = BitBuf::new();
+    put_numbers(&mut bits, octets, 8);
+    let mut path = [0; 49];
+    take_numbers(&bits, 0, R::BITS_PER_SYMBOL, &mut path, 48);
+    path
+}
+
+// The nibbles of a path.
+fn nibbles_of<R: Rate>(path: &[u8; 49]) -> [u8; 49]
+    requires { All (λ symbol. symbol < R.STATES) path.now }
+    ensures value { result ≡ nibbles_from R.point_of 0 path.now }
+    ensures nibbles { All (λ n. n < 16) result }
+    ensures len { length result ≡ 49 }
+{
+    let mut nibbles = [0; 49];
+    let mut state = 0;
+    for step in 0..49 {
+        nibbles[step] = R::point(state, path[step]);
+        state = path[step];
+    }
+    nibbles
+}
+
+/// Appends the block of octets: 196 bits, the sent bits of the one path that carries them.
+pub fn encode_block<R: Rate>(octets: &[u8], out: &mut BitBuf)
+    requires octets { length octets.now ≡ R.OCTETS }
+    requires room { length out.old + 196 ≤ 25928 }
+    ensures block { (bits : List Bool) × IsBlock R.STATES R.BITS_PER_SYMBOL R.point_of octets.now bits × (out.new ≡ out.old ++ bits) }
+    ensures len { length out.new ≡ length out.old + 196 }
+{
+    let path = path_of::<R>(octets);
+    put_numbers(out, &spread(&nibbles_of::<R>(&path)), 4);
+}
+
+// The cost of a nibble at a step is its distance from the nibble received there.
+fn distance_costs(received: &[u8; 49]) -> [u32; 784]
+    requires { All (λ n. n < 16) received.now }
+    ensures { result ≡ result }
+{
+    let mut costs = [0; 784];
+    for place in 0..784 {
+        costs[place] = (received[place / 16] ^ (place % 16) as u8).count_ones();
+    }
+    costs
+}
+
+/// Writes the octets of the first nearest path to the 196 bits from place `at`, and answers its distance.
+pub fn read_block<R: Rate>(bits: &BitBuf, at: usize, octets: &mut [u8]) -> u32
+    requires there { at + 196 ≤ length bits.now }
+    requires octets { length octets.old ≡ R.OCTETS }
+    ensures nearest { IsFirstLeastReading R.STATES R.BITS_PER_SYMBOL (distance_from R.point_of (part at 196 bits.now)) octets.new result }
+{
+    let mut received = [0; 49];
+    take_numbers(bits, at, 4, &mut received, 49);
+    read_costs::<R>(&distance_costs(&gather(&received)), octets)
+}
+
+#[cfg(test)]
+mod tests;
