@@ -1,5 +1,6 @@
 -- Laws of the interleaver.
-use Rattle.std.proofs.Common.{◌≡◌, ◌≢◌, ℕ, zero, suc, ◌+◌, ◌<◌, ◌≤◌, ◌&&◌, ◌||◌, inl, inr, Bool, true, false, not, eqb, ltb, List, [], ◌∷◌, ◌++◌, map, length, get_or, set, take, refl, ap, ap₂, sym, ◌∙◌, arith, length-append, below_more, get_or-set_same, get_or-set_other}
+use Rattle.std.proofs.Common.{◌≡◌, ◌≢◌, ℕ, zero, suc, ◌+◌, ◌<◌, ◌≤◌, ◌&&◌, ◌||◌, inl, inr, Bool, true, false, not, eqb, ltb, List, [], ◌∷◌, ◌++◌, map, length, get_or, set, take, refl, ap, ap₂, sym, ◌∙◌, arith, length-append, below_more, get_or-set_same, get_or-set_other, All}
+use Rattle.std.proofs.lemmas.List.Elements.{All-cons, All-head, All-tail, All-append}
 use Rattle.std.specs.List.{range_with_len}
 use Rattle.std.proofs.lemmas.Bool.{cases_Bool, eqb-true, ltb-true, eq-eqb, not-true}
 use Rattle.std.proofs.lemmas.List.{take_all, map-append, get_or-map, ext_get_or}
@@ -133,3 +134,21 @@ written_more plain nibbles place long inside so_far =
     here =
         let there : get_or SENT_ORDER place 0 < length plain = omega (arith, order-lt place inside) in
         get_or-set_same plain (get_or SENT_ORDER place 0) (get_or nibbles place 0) 0 there
+
+All-each_fourth : {X : Type 0} (P : X → Type 0) (wait : ℕ) (xs : List X) → All P xs → All P (each_fourth wait xs)
+unfolding each_fourth
+All-each_fourth P wait [] all = all
+All-each_fourth P zero (x ∷ xs) all = All-cons P x (each_fourth 3 xs) (All-head P x xs all) (All-each_fourth P 3 xs (All-tail P x xs all))
+All-each_fourth P (suc wait) (x ∷ xs) all = All-each_fourth P wait xs (All-tail P x xs all)
+
+-- what holds of each element holds of each that is sent
+pub All-interleaved : {X : Type 0} (P : X → Type 0) (xs : List X) → All P xs → All P (interleaved xs)
+unfolding interleaved
+All-interleaved P xs all =
+    All-append P (each_fourth 0 xs ++ each_fourth 1 xs ++ each_fourth 2 xs) (each_fourth 3 xs)
+    (
+      All-append P (each_fourth 0 xs ++ each_fourth 1 xs) (each_fourth 2 xs)
+      (All-append P (each_fourth 0 xs) (each_fourth 1 xs) (All-each_fourth P 0 xs all) (All-each_fourth P 1 xs all))
+      (All-each_fourth P 2 xs all)
+    )
+    (All-each_fourth P 3 xs all)

@@ -1,3 +1,4 @@
 pub mod Codes
 pub mod InterleaveLaws
 pub mod NumberBits
+pub mod Paths

@@ -1,0 +1,53 @@
+-- Paths, their nibbles and what they carry.
+use Rattle.std.proofs.Common.{◌≡◌, ℕ, zero, suc, ◌+◌, ◌*◌, ◌^◌, ◌<◌, ◌≤◌, Bool, List, [], ◌∷◌, ◌++◌, length, take, drop, get_or, set, refl, ap, ap₂, sym, subst, ◌∙◌, arith, length-append, append-nil, append_assoc, add-one, All}
+use Rattle.std.proofs.lemmas.List.{take-append-drop, take_more_set, drop_more, take_all}
+use Rattle.std.proofs.lemmas.List.Elements.{All-cons, All-nil, All-append, All-same}
+use Rattle.std.proofs.lemmas.Nat.{pow_pos}
+use Rattle.p25_bits.specs.Bits.{octet_bits, part}
+use Rattle.p25_trellis.specs.Trellis.{IsPath, Carries, nibbles_from, number_bits}
+use Rattle.p25_trellis.proofs.NumberBits.{length-number_bits, number_bits-octets}
+
+-- few symbols and then 0 are a path
+pub IsPath-from_front : (states : ℕ) (path : List ℕ) → 0 < states → length path ≡ 49 → All (λ n. n < states) (take 48 path) → drop 48 path ≡ 0 ∷ [] → IsPath states path
+IsPath-from_front states path some long front last =
+    let P : ℕ → Type 0 = λ n. n < states in record {
+      long = long;
+      below
+      = All-same P path (take 48 path ++ 0 ∷ []) (sym (take-append-drop 48 path) ∙ ap (λ (zs : List ℕ). take 48 path ++ zs) last) (All-append P (take 48 path) (0 ∷ []) front (All-cons P 0 [] some (All-nil P)));
+      last = last;
+    }
+
+-- a power of two is not 0
+pub power-pos : (width states : ℕ) → states ≡ 2 ^ width → 0 < states
+power-pos width states is = rw is (pow_pos width)
+
+-- the symbols whose bits are those of octets carry them
+pub Carries-from_bits : (width octets_most : ℕ) (path octets : List ℕ) (bits : List Bool) → 48 * width ≡ 8 * octets_most → length octets ≡ octets_most → bits ≡ [] ++ number_bits 8 octets → number_bits width (take 48 path) ≡ part 0 (width * 48) bits → Carries width path octets
+Carries-from_bits width most path octets bits same long is read =
+    let short : length bits ≤ width * 48 = omega (arith, ap length is, length-number_bits 8 octets) in record {
+      information = read ∙ take_all (width * 48) bits short ∙ is ∙ number_bits-octets octets;
+    }
+
+-- nibbles of one more symbol
+pub nibbles_from-cons : (point : ℕ → ℕ → ℕ) (state symbol : ℕ) (symbols : List ℕ) → nibbles_from point state (symbol ∷ symbols) ≡ point state symbol ∷ nibbles_from point symbol symbols
+unfolding nibbles_from
+nibbles_from-cons point state symbol symbols = refl
+
+pub nibbles_from-nil : (point : ℕ → ℕ → ℕ) (state : ℕ) → nibbles_from point state [] ≡ []
+unfolding nibbles_from
+nibbles_from-nil point state = refl
+
+-- a nibble for each symbol
+pub length-nibbles_from : (point : ℕ → ℕ → ℕ) (state : ℕ) (symbols : List ℕ) → length (nibbles_from point state symbols) ≡ length symbols
+unfolding nibbles_from
+length-nibbles_from point state [] = refl
+length-nibbles_from point state (symbol ∷ symbols) = ap suc (length-nibbles_from point symbol symbols)
+
+-- one more nibble is written, and one fewer is left
+pub nibbles_more : (point : ℕ → ℕ → ℕ) (state : ℕ) (nibbles path : List ℕ) (step nibble : ℕ) → step < length nibbles → step < length path → nibble ≡ point state (get_or path step 0) → take (step + 1) (set nibbles step nibble) ++ nibbles_from point (get_or path step 0) (drop (step + 1) path) ≡ take step nibbles ++ nibbles_from point state (drop step path)
+nibbles_more point state nibbles path step nibble here there is =
+    let symbol = get_or path step 0 in
+    let left = nibbles_from point symbol (drop (step + 1) path) in
+    ap (λ (ns : List ℕ). ns ++ left) (take_more_set nibbles step nibble here)
+    ∙ append_assoc (take step nibbles) (nibble ∷ []) left
+    ∙ ap (λ (zs : List ℕ). take step nibbles ++ zs) (ap (λ n. n ∷ left) is ∙ sym (nibbles_from-cons point state symbol (drop (step + 1) path)) ∙ ap (nibbles_from point state) (sym (drop_more path step 0 there)))
