@@ -2,3 +2,4 @@ pub mod Codes
 pub mod InterleaveLaws
 pub mod NumberBits
 pub mod Paths
+pub mod Costs

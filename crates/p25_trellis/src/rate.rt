@@ -33,6 +33,7 @@ pub trait Rate {
 
     ghost states_of_bits: { STATES ≡ 2 ^ BITS_PER_SYMBOL };
     ghost few_bits: { BITS_PER_SYMBOL ≤ 3 };
+    ghost few_states: { STATES ≤ 8 };
     ghost octets_of_bits: { 48 * BITS_PER_SYMBOL ≡ 8 * OCTETS };
     ghost nibbles: { (state symbol : ℕ) → state < STATES → symbol < STATES → point_of state symbol < 16 };
     ghost together: { parted 0 0 ≡ 0 };
@@ -93,6 +94,7 @@ impl Rate for Half {
 
     ghost states_of_bits = { refl };
     ghost few_bits = { Prim.omega arith };
+    ghost few_states = { Prim.omega arith };
     ghost octets_of_bits = { refl };
     ghost nibbles = { nibbles-from_test 4 half_point half_nibbles };
     ghost together = { half_together };
@@ -124,6 +126,7 @@ impl Rate for ThreeQuarter {
 
     ghost states_of_bits = { refl };
     ghost few_bits = { Prim.omega arith };
+    ghost few_states = { Prim.omega arith };
     ghost octets_of_bits = { refl };
     ghost nibbles = { nibbles-from_test 8 three_quarter_point three_quarter_nibbles };
     ghost together = { three_quarter_together };
