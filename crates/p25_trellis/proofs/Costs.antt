@@ -200,3 +200,9 @@ pub IsLeastEnd-at : (states : ℕ) (point : ℕ → ℕ → ℕ) (costs rests : 
 IsLeastEnd-at states point costs rests step state symbol least early after choice zero place = absurd (omega arith)
 IsLeastEnd-at states point costs rests step state symbol least early after choice (suc before) place =
     IsLeastEnd-step states point costs rests step before state symbol least after place choice
+
+-- what a table has from a step on it has from a later one on
+pub HasLeastFrom-later : (states : ℕ) (point cost : ℕ → ℕ → ℕ) (rests : List ℕ) (from later : ℕ) → from ≤ later → HasLeastFrom states point cost rests from → HasLeastFrom states point cost rests later
+HasLeastFrom-later states point cost rests from later order has = record {
+  at = λ step before state late place row. has.at step before state (omega arith) place row;
+}

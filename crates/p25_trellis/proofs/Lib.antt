@@ -3,3 +3,4 @@ pub mod InterleaveLaws
 pub mod NumberBits
 pub mod Paths
 pub mod Costs
+pub mod FirstPath
