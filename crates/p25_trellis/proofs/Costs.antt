@@ -206,3 +206,7 @@ pub HasLeastFrom-later : (states : ℕ) (point cost : ℕ → ℕ → ℕ) (rest
 HasLeastFrom-later states point cost rests from later order has = record {
   at = λ step before state late place row. has.at step before state (omega arith) place row;
 }
+
+pub rest_in-first : (table : List ℕ) → rest_in table 0 0 ≡ get_or table 0 0
+unfolding rest_in
+rest_in-first table = refl

@@ -51,3 +51,10 @@ nibbles_more point state nibbles path step nibble here there is =
     ap (λ (ns : List ℕ). ns ++ left) (take_more_set nibbles step nibble here)
     ∙ append_assoc (take step nibbles) (nibble ∷ []) left
     ∙ ap (λ (zs : List ℕ). take step nibbles ++ zs) (ap (λ n. n ∷ left) is ∙ sym (nibbles_from-cons point state symbol (drop (step + 1) path)) ∙ ap (nibbles_from point state) (sym (drop_more path step 0 there)))
+
+-- the octets whose bits are those of symbols are what they carry
+pub Carries-from_octets : (width most : ℕ) (path octets : List ℕ) (bits : List Bool) → length octets ≡ most → length bits ≤ 8 * most → bits ≡ [] ++ number_bits width (take 48 path) → number_bits 8 (take most octets) ≡ part 0 (8 * most) bits → Carries width path octets
+Carries-from_octets width most path octets bits long short is read =
+    let all : length octets ≤ most = omega arith in record {
+      information = sym is ∙ sym (take_all (8 * most) bits short) ∙ sym read ∙ ap (number_bits 8) (take_all most octets all) ∙ number_bits-octets octets;
+    }

@@ -10,37 +10,9 @@ ghost use Rattle.p25_trellis.specs.Tables.{nibble_distance};
 use super::fields::{put_numbers, take_numbers};
 use super::interleave::{gather, spread};
 use super::least::read_costs;
+use super::path::{nibbles_of, path_of};
 use super::rate::Rate;
 use p25_bits::BitBuf;
-
-// The path that carries octets.
-fn path_of<R: Rate>(octets: &[u8]) -> [u8; 49]
-    requires { length octets.now ≡ R.OCTETS }
-    ensures is_path { IsPath R.STATES result }
-    ensures carries { Carries R.BITS_PER_SYMBOL result octets.now }
-{
-    let mut bits = BitBuf::new();
-    put_numbers(&mut bits, octets, 8);
-    let mut path = [0; 49];
-    take_numbers(&bits, 0, R::BITS_PER_SYMBOL, &mut path, 48);
-    path
-}
-
-// The nibbles of a path.
-fn nibbles_of<R: Rate>(path: &[u8; 49]) -> [u8; 49]
-    requires { All (λ symbol. symbol < R.STATES) path.now }
-    ensures value { result ≡ nibbles_from R.point_of 0 path.now }
-    ensures nibbles { All (λ n. n < 16) result }
-    ensures len { length result ≡ 49 }
-{
-    let mut nibbles = [0; 49];
-    let mut state = 0;
-    for step in 0..49 {
-        nibbles[step] = R::point(state, path[step]);
-        state = path[step];
-    }
-    nibbles
-}
 
 /// Appends the block of octets: 196 bits, the sent bits of the one path that carries them.
 pub fn encode_block<R: Rate>(octets: &[u8], out: &mut BitBuf)

@@ -5,9 +5,8 @@ ghost use Rattle.std.specs.Prelude.{◌≡◌, ℕ, suc, ◌+◌, ◌*◌, ◌^�
 ghost use Rattle.p25_trellis.specs.Trellis.{IsFirstLeast, IsFirstLeastReading};
 ghost use Rattle.p25_trellis.specs.Least.{cost_in, rest_in, path_cost, step_cost, HasLeastFrom, IsLowestLeast};
 
-use super::fields::{put_numbers, take_numbers};
+use super::path::octets_of;
 use super::rate::Rate;
-use p25_bits::BitBuf;
 
 /// The number of costs of a block: 16 for each of 49 steps, one for each nibble.
 pub const BLOCK_COSTS: usize = 784;
@@ -124,8 +123,6 @@ pub fn read_costs<R: Rate>(costs: &[u32], octets: &mut [u8]) -> u32
 {
     let rests = least_rests::<R>(costs);
     let path = first_path::<R>(costs, &rests);
-    let mut bits = BitBuf::new();
-    put_numbers(&mut bits, &path[..48], R::BITS_PER_SYMBOL);
-    take_numbers(&bits, 0, 8, octets, R::OCTETS);
+    octets_of::<R>(&path, octets);
     rests[0]
 }

@@ -6,6 +6,7 @@ mod block;
 mod fields;
 mod interleave;
 mod least;
+mod path;
 mod rate;
 
 pub use block::{encode_block, read_block};

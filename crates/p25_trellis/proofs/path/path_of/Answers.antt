@@ -2,7 +2,7 @@ use Rattle.std.proofs.Common.{◌≡◌, ℕ, ◌*◌, ◌^◌, ◌<◌, ◌++�
 use Rattle.p25_bits.specs.Bits.{part}
 use Rattle.p25_trellis.specs.Trellis.{Carries, number_bits}
 use Rattle.p25_trellis.proofs.Paths.{IsPath-from_front, Carries-from_bits, power-pos}
-use Rattle.p25_trellis.proofs.block.path_of.Goals as goal
+use Rattle.p25_trellis.proofs.path.path_of.Goals as goal
 
 pub returns-clause-is_path : goal.returns-clause-is_path
 returns-clause-is_path g c =

@@ -1,6 +1,6 @@
 use Rattle.std.proofs.Common.{◌≡◌, ℕ, ◌<◌, ◌++◌, All, take, drop, length}
 use Rattle.p25_trellis.specs.Trellis.{nibbles_from}
-use Rattle.p25_trellis.proofs.block.nibbles_of.Given as goal
+use Rattle.p25_trellis.proofs.path.nibbles_of.Given as goal
 
 abbrev pub invariant-loop-step : goal.invariant-loop-step
 invariant-loop-step g l = record {
