@@ -1,12 +1,12 @@
 -- Laws of the interleaver.
-use Rattle.std.proofs.Common.{◌≡◌, ◌≢◌, ℕ, zero, suc, ◌+◌, ◌<◌, ◌≤◌, ◌&&◌, ◌||◌, inl, inr, Bool, true, false, not, eqb, ltb, List, [], ◌∷◌, ◌++◌, map, length, get_or, set, take, refl, ap, ap₂, sym, ◌∙◌, arith, length-append, below_more, get_or-set_same, get_or-set_other, All}
-use Rattle.std.proofs.lemmas.List.Elements.{All-cons, All-head, All-tail, All-append}
+use Rattle.std.proofs.Common.{◌≡◌, ◌≢◌, ℕ, zero, suc, ◌+◌, ◌<◌, ◌≤◌, ◌&&◌, ◌||◌, inl, inr, Bool, true, false, not, cond, eqb, ltb, List, [], ◌∷◌, ◌++◌, map, length, get_or, set, take, drop, refl, ap, ap₂, sym, ◌∙◌, arith, length-append, below_more, get_or-set_same, get_or-set_other, All}
+use Rattle.std.proofs.lemmas.List.Elements.{All-cons, All-head, All-tail, All-append, All-same, All-take, All-drop}
 use Rattle.std.specs.List.{range_with_len}
 use Rattle.std.proofs.lemmas.Bool.{cases_Bool, eqb-true, ltb-true, eq-eqb, not-true}
-use Rattle.std.proofs.lemmas.List.{take_all, map-append, get_or-map, ext_get_or}
+use Rattle.std.proofs.lemmas.List.{take_all, take_at, drop_at, map-append, get_or-map, ext_get_or}
 use Rattle.std.proofs.lemmas.List.FromFn.{fill_by_all, length-map-range_with_len, length-range_with_len}
 use Rattle.p25_bits.specs.Distance.{distance_by}
-use Rattle.p25_bits.proofs.DistanceLaws.{distance_by-append, distance_by-same, same_from_distance_by}
+use Rattle.p25_bits.proofs.DistanceLaws.{distance_by-same, same_from_distance_by}
 use Rattle.p25_trellis.specs.declared.interleave.TheConstants.{SENT_ORDER}
 use Rattle.p25_trellis.specs.Interleave.{each_fourth, interleaved}
 use Rattle.p25_trellis.specs.TableLaws.{passed_below, passed_below-at}
@@ -41,28 +41,53 @@ pub length-interleaved : {X : Type 0} (xs : List X) → length (interleaved xs) 
 unfolding interleaved
 length-interleaved xs = simp length-append (length-fourths xs)
 
-distance_by-fourths : {X : Type 0} (same : X → X → Bool) (xs ys : List X) → length xs ≡ length ys → distance_by same (each_fourth 0 xs) (each_fourth 0 ys) + distance_by same (each_fourth 1 xs) (each_fourth 1 ys) + distance_by same (each_fourth 2 xs) (each_fourth 2 ys) + distance_by same (each_fourth 3 xs) (each_fourth 3 ys) ≡ distance_by same xs ys
-unfolding each_fourth distance_by
-distance_by-fourths same [] [] long = refl
-distance_by-fourths same [] (y ∷ ys) long = absurd (omega arith)
-distance_by-fourths same (x ∷ xs) [] long = absurd (omega arith)
-distance_by-fourths same (x ∷ xs) (y ∷ ys) long = omega (arith, distance_by-fourths same xs ys (omega arith))
+-- the sum over the places of two lists of what their elements weigh against each other
+unfoldable pub weighed : {X : Type 0} → (X → X → ℕ) → List X → List X → ℕ
+weighed weight [] ys = 0
+weighed weight (x ∷ xs) [] = 0
+weighed weight (x ∷ xs) (y ∷ ys) = weight x y + weighed weight xs ys
 
--- two interleaved lists differ in as many places as the lists
-pub distance_by-interleaved : {X : Type 0} (same : X → X → Bool) (xs ys : List X) → length xs ≡ length ys → distance_by same (interleaved xs) (interleaved ys) ≡ distance_by same xs ys
+weighed-fourths : {X : Type 0} (weight : X → X → ℕ) (xs ys : List X) → length xs ≡ length ys → weighed weight (each_fourth 0 xs) (each_fourth 0 ys) + weighed weight (each_fourth 1 xs) (each_fourth 1 ys) + weighed weight (each_fourth 2 xs) (each_fourth 2 ys) + weighed weight (each_fourth 3 xs) (each_fourth 3 ys) ≡ weighed weight xs ys
+unfolding each_fourth weighed
+weighed-fourths weight [] [] long = refl
+weighed-fourths weight [] (y ∷ ys) long = absurd (omega arith)
+weighed-fourths weight (x ∷ xs) [] long = absurd (omega arith)
+weighed-fourths weight (x ∷ xs) (y ∷ ys) long = omega (arith, weighed-fourths weight xs ys (omega arith))
+
+weighed-append : {X : Type 0} (weight : X → X → ℕ) (xs ys us vs : List X) → length xs ≡ length us → weighed weight (xs ++ ys) (us ++ vs) ≡ weighed weight xs us + weighed weight ys vs
+unfolding weighed
+weighed-append weight [] ys [] vs long = omega arith
+weighed-append weight [] ys (u ∷ us) vs long = absurd (omega arith)
+weighed-append weight (x ∷ xs) ys [] vs long = absurd (omega arith)
+weighed-append weight (x ∷ xs) ys (u ∷ us) vs long = omega (arith, weighed-append weight xs ys us vs (omega arith))
+
+-- interleaved lists weigh as much against each other as the lists
+pub weighed-interleaved : {X : Type 0} (weight : X → X → ℕ) (xs ys : List X) → length xs ≡ length ys → weighed weight (interleaved xs) (interleaved ys) ≡ weighed weight xs ys
 unfolding interleaved
-distance_by-interleaved same xs ys long =
+weighed-interleaved weight xs ys long =
     let e0 = length-each_fourth 0 xs ys long in
     let e1 = length-each_fourth 1 xs ys long in
     let e2 = length-each_fourth 2 xs ys long in
-    distance_by-append same (each_fourth 0 xs ++ each_fourth 1 xs ++ each_fourth 2 xs) (each_fourth 3 xs) (each_fourth 0 ys ++ each_fourth 1 ys ++ each_fourth 2 ys) (each_fourth 3 ys) (simp length-append (cc))
+    weighed-append weight (each_fourth 0 xs ++ each_fourth 1 xs ++ each_fourth 2 xs) (each_fourth 3 xs) (each_fourth 0 ys ++ each_fourth 1 ys ++ each_fourth 2 ys) (each_fourth 3 ys) (simp length-append (cc))
     ∙ ap
-    (λ n. n + distance_by same (each_fourth 3 xs) (each_fourth 3 ys))
+    (λ n. n + weighed weight (each_fourth 3 xs) (each_fourth 3 ys))
     (
-      distance_by-append same (each_fourth 0 xs ++ each_fourth 1 xs) (each_fourth 2 xs) (each_fourth 0 ys ++ each_fourth 1 ys) (each_fourth 2 ys) (simp length-append (cc))
-          ∙ ap (λ n. n + distance_by same (each_fourth 2 xs) (each_fourth 2 ys)) (distance_by-append same (each_fourth 0 xs) (each_fourth 1 xs) (each_fourth 0 ys) (each_fourth 1 ys) e0)
+      weighed-append weight (each_fourth 0 xs ++ each_fourth 1 xs) (each_fourth 2 xs) (each_fourth 0 ys ++ each_fourth 1 ys) (each_fourth 2 ys) (simp length-append (cc))
+          ∙ ap (λ n. n + weighed weight (each_fourth 2 xs) (each_fourth 2 ys)) (weighed-append weight (each_fourth 0 xs) (each_fourth 1 xs) (each_fourth 0 ys) (each_fourth 1 ys) e0)
     )
-    ∙ distance_by-fourths same xs ys long
+    ∙ weighed-fourths weight xs ys long
+
+-- the distance of two lists is such a sum
+distance_by-weighed : {X : Type 0} (same : X → X → Bool) (xs ys : List X) → distance_by same xs ys ≡ weighed (λ x y. cond (same x y) 0 1) xs ys
+unfolding distance_by weighed
+distance_by-weighed same [] ys = refl
+distance_by-weighed same (x ∷ xs) [] = refl
+distance_by-weighed same (x ∷ xs) (y ∷ ys) = ap (λ n. cond (same x y) 0 1 + n) (distance_by-weighed same xs ys)
+
+-- two interleaved lists differ in as many places as the lists
+distance_by-interleaved : {X : Type 0} (same : X → X → Bool) (xs ys : List X) → length xs ≡ length ys → distance_by same (interleaved xs) (interleaved ys) ≡ distance_by same xs ys
+distance_by-interleaved same xs ys long =
+    distance_by-weighed same (interleaved xs) (interleaved ys) ∙ weighed-interleaved (λ x y. cond (same x y) 0 1) xs ys long ∙ sym (distance_by-weighed same xs ys)
 
 eqb-same : (n : ℕ) → eqb n n ≡ true
 eqb-same n = eq-eqb n n refl
@@ -135,6 +160,13 @@ written_more plain nibbles place long inside so_far =
         let there : get_or SENT_ORDER place 0 < length plain = omega (arith, order-lt place inside) in
         get_or-set_same plain (get_or SENT_ORDER place 0) (get_or nibbles place 0) 0 there
 
+-- what holds of each element of two lists, one after the other, holds of each of either
+All-front : {X : Type 0} (P : X → Type 0) (xs ys : List X) → All P (xs ++ ys) → All P xs
+All-front P xs ys all = All-same P xs (take (length xs) (xs ++ ys)) (sym (take_at xs ys (length xs) refl)) (All-take P (length xs) (xs ++ ys) all)
+
+All-back : {X : Type 0} (P : X → Type 0) (xs ys : List X) → All P (xs ++ ys) → All P ys
+All-back P xs ys all = All-same P ys (drop (length xs) (xs ++ ys)) (sym (drop_at xs ys (length xs) refl)) (All-drop P (length xs) (xs ++ ys) all)
+
 All-each_fourth : {X : Type 0} (P : X → Type 0) (wait : ℕ) (xs : List X) → All P xs → All P (each_fourth wait xs)
 unfolding each_fourth
 All-each_fourth P wait [] all = all
@@ -152,3 +184,21 @@ All-interleaved P xs all =
       (All-each_fourth P 2 xs all)
     )
     (All-each_fourth P 3 xs all)
+
+All-from_fourths : {X : Type 0} (P : X → Type 0) (xs : List X) → All P (each_fourth 0 xs) → All P (each_fourth 1 xs) → All P (each_fourth 2 xs) → All P (each_fourth 3 xs) → All P xs
+unfolding each_fourth
+All-from_fourths P [] all0 all1 all2 all3 = all0
+All-from_fourths P (x ∷ xs) all0 all1 all2 all3 =
+    All-cons P x xs (All-head P x (each_fourth 3 xs) all0) (All-from_fourths P xs all1 all2 all3 (All-tail P x (each_fourth 3 xs) all0))
+
+-- what holds of each element that is sent holds of each
+pub All-from_interleaved : {X : Type 0} (P : X → Type 0) (xs : List X) → All P (interleaved xs) → All P xs
+unfolding interleaved
+All-from_interleaved P xs all =
+    let e0 = each_fourth 0 xs in
+    let e1 = each_fourth 1 xs in
+    let e2 = each_fourth 2 xs in
+    let e3 = each_fourth 3 xs in
+    let front = All-front P (e0 ++ e1 ++ e2) e3 all in
+    let half = All-front P (e0 ++ e1) e2 front in
+    All-from_fourths P xs (All-front P e0 e1 half) (All-back P e0 e1 half) (All-back P (e0 ++ e1) e2 front) (All-back P (e0 ++ e1 ++ e2) e3 all)

@@ -4,3 +4,5 @@ pub mod NumberBits
 pub mod Paths
 pub mod Costs
 pub mod FirstPath
+pub mod Distances
+pub mod Apart

@@ -1,5 +1,6 @@
 -- Costs by step and nibble, and the least cost of what follows a state.
 use Rattle.std.specs.Prelude.{◌≡◌, ℕ, zero, suc, ◌+◌, ◌*◌, ◌<◌, ◌≤◌, List, [], ◌∷◌, slice_index}
+use Rattle.p25_trellis.specs.Tables.{nibble_distance}
 use Rattle.p25_trellis.specs.Trellis.{nibbles_from}
 
 -- the cost of nibbles sent from a step on, where each step has a cost for each nibble
@@ -50,3 +51,7 @@ pub record IsLowestLeast (states : ℕ) (value : ℕ → ℕ) (symbol least : �
 -- the cost of a symbol and what follows it
 unfoldable pub step_cost : (ℕ → ℕ → ℕ) → List ℕ → List ℕ → ℕ → ℕ → ℕ → ℕ
 step_cost point costs rests step state symbol = cost_in costs step (point state symbol) + rest_in rests (suc step) symbol
+
+-- a table of costs where a nibble costs its distance from the one received at its step
+pub record IsDistanceTable (received table : List ℕ) : Type 0 where
+  pub at : (step nibble : ℕ) → step < 49 → nibble < 16 → cost_in table step nibble ≡ nibble_distance nibble (slice_index received step)

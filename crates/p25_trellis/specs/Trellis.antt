@@ -27,6 +27,7 @@ sent_bits point path = number_bits 4 (interleaved (nibbles_from point 0 path))
 
 -- a path carries octets: its first 48 symbols, as bits, are the octets' bits
 pub record Carries (width : ℕ) (path octets : List ℕ) : Type 0 where
+  pub are_octets : All (λ octet. octet < 256) octets
   pub information : number_bits width (take 48 path) ≡ octet_bits octets
 
 -- bits are the block of octets: the sent bits of a path that carries them
@@ -55,6 +56,12 @@ pub record IsFirstLeastReading (states width : ℕ) (cost : List ℕ → ℕ) (o
   pub first_least : IsFirstLeast states cost path
   pub carries : Carries width path octets
   pub total_is : total ≡ cost path
+
+-- octets and a distance are those of each block that is so near to received bits that twice its distance is below
+-- `apart`
+pub record IsNearReading (states width : ℕ) (point : ℕ → ℕ → ℕ) (apart : ℕ) (received : List Bool) (octets : List ℕ) (distance : ℕ) : Type 0 where
+  pub near_octets : (sent : List ℕ) (block : List Bool) → IsBlock states width point sent block → 2 * distance_of block received < apart → octets ≡ sent
+  pub near_distance : (sent : List ℕ) (block : List Bool) → IsBlock states width point sent block → 2 * distance_of block received < apart → distance ≡ distance_of block received
 
 -- the distance of a path's sent bits from received bits
 abbrev pub distance_from : (ℕ → ℕ → ℕ) → List Bool → List ℕ → ℕ

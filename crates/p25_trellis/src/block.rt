@@ -1,15 +1,13 @@
 //! Blocks: octets to sent bits, and received bits to the octets of the first nearest path.
 
-ghost use Rattle.std.specs.Prelude.{◌≡◌, ℕ, ◌+◌, ◌*◌, ◌<◌, ◌≤◌, List, Bool, ◌++◌, All, length, take, drop};
-ghost use Rattle.p25_bits.specs.Bits.{part, octet_bits};
-ghost use Rattle.p25_bits.specs.Distance.{distance_of};
-ghost use Rattle.p25_trellis.specs.Trellis.{IsPath, IsBlock, Carries, IsFirstLeastReading, distance_from, nibbles_from};
-ghost use Rattle.p25_trellis.specs.Least.{cost_in};
-ghost use Rattle.p25_trellis.specs.Tables.{nibble_distance};
+ghost use Rattle.std.specs.Prelude.{◌≡◌, ℕ, ◌+◌, ◌*◌, ◌^◌, ◌<◌, ◌≤◌, List, Bool, ◌++◌, All, length, take, drop};
+ghost use Rattle.p25_bits.specs.Bits.{part};
+ghost use Rattle.p25_trellis.specs.Trellis.{IsBlock, IsFirstLeastReading, IsNearReading, distance_from};
+ghost use Rattle.p25_trellis.specs.Least.{IsDistanceTable};
 
 use super::fields::{put_numbers, take_numbers};
 use super::interleave::{gather, spread};
-use super::least::read_costs;
+use super::least::{BLOCK_COSTS, read_costs};
 use super::path::{nibbles_of, path_of};
 use super::rate::Rate;
 use p25_bits::BitBuf;
@@ -25,23 +23,28 @@ pub fn encode_block<R: Rate>(octets: &[u8], out: &mut BitBuf)
     put_numbers(out, &spread(&nibbles_of::<R>(&path)), 4);
 }
 
-// The cost of a nibble at a step is its distance from the nibble received there.
-fn distance_costs(received: &[u8; 49]) -> [u32; 784]
+// The table of costs where a nibble costs its distance from the one received at its step.
+fn distance_costs(received: &[u8; 49]) -> [u32; BLOCK_COSTS]
     requires { All (λ n. n < 16) received.now }
-    ensures { result ≡ result }
+    ensures costs { IsDistanceTable received.now result }
+    ensures low { All (λ cost. cost ≤ 2 ^ 24) result }
+    ensures len { length result ≡ 784 }
 {
-    let mut costs = [0; 784];
-    for place in 0..784 {
+    let mut costs = [0; BLOCK_COSTS];
+    for place in 0..BLOCK_COSTS {
         costs[place] = (received[place / 16] ^ (place % 16) as u8).count_ones();
     }
     costs
 }
 
-/// Writes the octets of the first nearest path to the 196 bits from place `at`, and answers its distance.
+/// Writes the octets of the first nearest path to the 196 bits from place `at`, and answers its distance: no path's sent
+/// bits are nearer, and of several that are as near it is the first in dictionary order of symbols. So a block with at
+/// most 2 wrong bits at half rate, or 1 at three-quarter rate, reads as the octets that were sent.
 pub fn read_block<R: Rate>(bits: &BitBuf, at: usize, octets: &mut [u8]) -> u32
     requires there { at + 196 ≤ length bits.now }
     requires octets { length octets.old ≡ R.OCTETS }
     ensures nearest { IsFirstLeastReading R.STATES R.BITS_PER_SYMBOL (distance_from R.point_of (part at 196 bits.now)) octets.new result }
+    ensures near { IsNearReading R.STATES R.BITS_PER_SYMBOL R.point_of R.APART (part at 196 bits.now) octets.new result }
 {
     let mut received = [0; 49];
     take_numbers(bits, at, 4, &mut received, 49);

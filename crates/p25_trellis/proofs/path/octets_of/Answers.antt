@@ -1,6 +1,6 @@
 use Rattle.std.proofs.Common.{◌≡◌, ℕ, ◌+◌, ◌*◌, ◌^◌, ◌<◌, ◌≤◌, ◌++◌, [], List, Bool, length, take, subst, ap, sym, ◌∙◌, arith, All}
-use Rattle.std.proofs.lemmas.List.{length-take-le}
-use Rattle.std.proofs.lemmas.List.Elements.{All-take}
+use Rattle.std.proofs.lemmas.List.{length-take-le, take_all}
+use Rattle.std.proofs.lemmas.List.Elements.{All-take, All-same}
 use Rattle.p25_bits.specs.Bits.{part}
 use Rattle.p25_trellis.specs.Trellis.{Carries, number_bits}
 use Rattle.p25_trellis.proofs.Paths.{Carries-from_octets}
@@ -38,5 +38,6 @@ returns g c =
     let short : length bits ≤ 8 * c.OCTETS.result
     = omega (arith, c.put_numbers.ensures.len, ap length c.new-bits.ensures, ap (λ n. width * n) (length-take-le 48 path there), c.BITS_PER_SYMBOL.ensures, c.OCTETS.ensures, g.met.R.Rate.octets_of_bits) in
     let long : length octets ≡ c.OCTETS.result = omega (arith, c.take_numbers.auto.numbers, c.requires.octets, c.OCTETS.ensures) in
+    let small = All-same (λ (octet : ℕ). octet < 256) octets (take c.OCTETS.result octets) (sym (take_all c.OCTETS.result octets (omega arith))) c.take_numbers.ensures.fits in
     subst (λ (w : ℕ). Carries w path octets) c.BITS_PER_SYMBOL.ensures
-    (Carries-from_octets width c.OCTETS.result path octets bits long short (c.put_numbers.ensures.list ∙ ap (λ (xs : List Bool). xs ++ number_bits width (take 48 path)) c.new-bits.ensures) c.take_numbers.ensures.list)
+    (Carries-from_octets width c.OCTETS.result path octets bits long small short (c.put_numbers.ensures.list ∙ ap (λ (xs : List Bool). xs ++ number_bits width (take 48 path)) c.new-bits.ensures) c.take_numbers.ensures.list)
