@@ -9,7 +9,7 @@ use Rattle.p25_trellis.specs.Trellis.{IsPath, IsBlock, Carries, IsFirstLeast, Is
 use Rattle.p25_trellis.specs.Least.{IsEnd}
 use Rattle.p25_trellis.proofs.InterleaveLaws.{weighed, length-interleaved}
 use Rattle.p25_trellis.proofs.NumberBits.{length-number_bits}
-use Rattle.p25_trellis.proofs.Paths.{length-nibbles_from}
+use Rattle.p25_trellis.proofs.Paths.{length-nibbles_from, same_octets}
 use Rattle.p25_trellis.proofs.FirstPath.{IsEnd-from_path}
 use Rattle.p25_trellis.proofs.Distances.{distance_of-interleaved}
 
@@ -81,3 +81,31 @@ same_from_sent_bits states apart point parted some together stays parts path oth
     = length-nibbles_from point 0 path ∙ is.long ∙ sym other_is.long ∙ sym (length-nibbles_from point 0 other) in
     same_from_near states apart point parted some together stays parts 48 0 path other some (IsEnd-from_path states path is) (IsEnd-from_path states other other_is)
     (omega (arith, near, distance_of-interleaved (nibbles_from point 0 path) (nibbles_from point 0 other) count))
+
+-- a block so near to received bits is that of the first nearest path
+pub IsNearReading-from : (states width apart : ℕ) (point : ℕ → ℕ → ℕ) (received : List Bool) (octets : List ℕ) (distance : ℕ) → ((path other : List ℕ) → IsPath states path → IsPath states other → distance_of (sent_bits point path) (sent_bits point other) < apart → path ≡ other) → length received ≡ 196 → IsFirstLeastReading states width (distance_from point received) octets distance → IsNearReading states width point apart received octets distance
+IsNearReading-from states width apart point received octets distance far long reading =
+    record { near_octets = octets_of_near; near_distance = distance_of_near }
+  where
+    one_path : (sent : List ℕ) (block : List Bool) (is : IsBlock states width point sent block) → 2 * distance_of block received < apart → is.path ≡ reading.path
+    one_path sent block is near =
+        let first = reading.first_least in
+        let here : distance_of (sent_bits point is.path) received ≡ distance_of block received = ap (λ (bits : List Bool). distance_of bits received) (sym is.sent) in
+        let count : length (sent_bits point is.path) ≡ length received = length-sent_bits states point is.path is.is_path ∙ sym long in
+        far is.path reading.path is.is_path first.is_path
+        (
+          omega (
+            arith,
+            near,
+            here,
+            first.least is.path is.is_path,
+            distance_of-triangle (sent_bits point is.path) received (sent_bits point reading.path) count,
+            distance_of-sym received (sent_bits point reading.path),
+          )
+        )
+    octets_of_near : (sent : List ℕ) (block : List Bool) → IsBlock states width point sent block → 2 * distance_of block received < apart → octets ≡ sent
+    octets_of_near sent block is near =
+        same_octets width reading.path octets sent reading.carries (subst (λ (path : List ℕ). Carries width path sent) (one_path sent block is near) is.carries)
+    distance_of_near : (sent : List ℕ) (block : List Bool) → IsBlock states width point sent block → 2 * distance_of block received < apart → distance ≡ distance_of block received
+    distance_of_near sent block is near =
+        reading.total_is ∙ ap (distance_from point received) (sym (one_path sent block is near)) ∙ ap (λ (bits : List Bool). distance_of bits received) (sym is.sent)

@@ -1,12 +1,13 @@
 -- Numbers as bits, a fixed number of bits each.
-use Rattle.std.proofs.Common.{◌≡◌, ℕ, zero, suc, ◌+◌, ◌*◌, ◌^◌, ◌<◌, ◌≤◌, Bool, List, [], ◌∷◌, ◌++◌, length, take, drop, get_or, set, refl, ap, ap₂, sym, ◌∙◌, arith, length-append, append-nil, add-one, length-drop}
+use Rattle.std.proofs.Common.{◌≡◌, ℕ, zero, suc, ◌+◌, ◌*◌, ◌^◌, ◌<◌, ◌≤◌, Bool, List, [], ◌∷◌, ◌++◌, length, take, drop, get_or, set, refl, ap, ap₂, sym, ◌∙◌, arith, length-append, append-nil, add-one, length-drop, All}
 use Rattle.std.specs.List.{flat_map}
-use Rattle.std.proofs.Math.Nat.{mul-suc}
-use Rattle.std.proofs.lemmas.List.{flat_map_more, take_more, take_more_set, drop-drop, length-take-le}
+use Rattle.std.proofs.Math.Nat.{mul-suc, mod-eq_of_lt}
+use Rattle.std.proofs.lemmas.List.{flat_map_more, take_more, take_more_set, drop-drop, length-take-le, take_at, drop_at}
+use Rattle.std.proofs.lemmas.List.Elements.{All-head, All-tail}
 use Rattle.std.proofs.Math.Seq.{take-add}
 use Rattle.std.proofs.lemmas.List.Concat.{flat_map-append}
 use Rattle.p25_bits.specs.Bits.{bits_of, field_of, octet_bits, part}
-use Rattle.p25_bits.proofs.BitsLaws.{length-bits_of, bits_of-field_of, field_of-lt}
+use Rattle.p25_bits.proofs.BitsLaws.{length-bits_of, bits_of-field_of, field_of-bits_of, field_of-lt}
 use Rattle.p25_trellis.specs.Trellis.{number_bits}
 
 -- octets are numbers of eight bits
@@ -74,3 +75,23 @@ number_bits-take_more bits at width numbers i value inside there read so_far =
 -- a number read from few bits is small
 pub field-lt : (width at : ℕ) (bits : List Bool) → at + width ≤ length bits → field_of (part at width bits) < 2 ^ width
 field-lt width at bits there = omega (arith, field_of-lt (part at width bits), ap (λ n. 2 ^ n) (length-part at width bits there))
+
+-- small numbers that write the same bits are the same
+pub same_from_number_bits : (width : ℕ) (xs ys : List ℕ) → All (λ n. n < 2 ^ width) xs → All (λ n. n < 2 ^ width) ys → length xs ≡ length ys → number_bits width xs ≡ number_bits width ys → xs ≡ ys
+unfolding number_bits
+same_from_number_bits width [] [] small_x small_y long same = refl
+same_from_number_bits width [] (y ∷ ys) small_x small_y long same = absurd (omega arith)
+same_from_number_bits width (x ∷ xs) [] small_x small_y long same = absurd (omega arith)
+same_from_number_bits width (x ∷ xs) (y ∷ ys) small_x small_y long same =
+    let P : ℕ → Type 0 = λ n. n < 2 ^ width in
+    let front : bits_of width x ≡ bits_of width y
+    = sym (take_at (bits_of width x) (number_bits width xs) width (length-bits_of width x))
+    ∙ ap (λ (zs : List Bool). take width zs) same
+    ∙ take_at (bits_of width y) (number_bits width ys) width (length-bits_of width y) in
+    let back : number_bits width xs ≡ number_bits width ys
+    = sym (drop_at (bits_of width x) (number_bits width xs) width (length-bits_of width x))
+    ∙ ap (λ (zs : List Bool). drop width zs) same
+    ∙ drop_at (bits_of width y) (number_bits width ys) width (length-bits_of width y) in
+    ap₂ ◌∷◌
+      (sym (mod-eq_of_lt (All-head P x xs small_x)) ∙ sym (field_of-bits_of width x) ∙ ap field_of front ∙ field_of-bits_of width y ∙ mod-eq_of_lt (All-head P y ys small_y))
+      (same_from_number_bits width xs ys (All-tail P x xs small_x) (All-tail P y ys small_y) (omega arith) back)

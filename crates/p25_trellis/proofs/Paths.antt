@@ -1,11 +1,11 @@
 -- Paths, their nibbles and what they carry.
 use Rattle.std.proofs.Common.{◌≡◌, ℕ, zero, suc, ◌+◌, ◌*◌, ◌^◌, ◌<◌, ◌≤◌, Bool, List, [], ◌∷◌, ◌++◌, length, take, drop, get_or, set, refl, ap, ap₂, sym, subst, ◌∙◌, arith, length-append, append-nil, append_assoc, add-one, All}
-use Rattle.std.proofs.lemmas.List.{take-append-drop, take_more_set, drop_more, take_all}
-use Rattle.std.proofs.lemmas.List.Elements.{All-cons, All-nil, All-append, All-same}
+use Rattle.std.proofs.lemmas.List.{take-append-drop, take_more_set, drop_more, take_all, length-take-le}
+use Rattle.std.proofs.lemmas.List.Elements.{All-cons, All-nil, All-append, All-same, All-take}
 use Rattle.std.proofs.lemmas.Nat.{pow_pos}
 use Rattle.p25_bits.specs.Bits.{octet_bits, part}
-use Rattle.p25_trellis.specs.Trellis.{IsPath, Carries, nibbles_from, number_bits}
-use Rattle.p25_trellis.proofs.NumberBits.{length-number_bits, number_bits-octets}
+use Rattle.p25_trellis.specs.Trellis.{IsPath, IsBlock, Carries, nibbles_from, number_bits, sent_bits}
+use Rattle.p25_trellis.proofs.NumberBits.{length-number_bits, number_bits-octets, same_from_number_bits}
 
 -- few symbols and then 0 are a path
 pub IsPath-from_front : (states : ℕ) (path : List ℕ) → 0 < states → length path ≡ 49 → All (λ n. n < states) (take 48 path) → drop 48 path ≡ 0 ∷ [] → IsPath states path
@@ -60,3 +60,28 @@ Carries-from_octets width most path octets bits long small short is read =
       are_octets = small;
       information = sym is ∙ sym (take_all (8 * most) bits short) ∙ sym read ∙ ap (number_bits 8) (take_all most octets all) ∙ number_bits-octets octets;
     }
+
+-- a path carries no other octets
+pub same_octets : (width : ℕ) (path octets others : List ℕ) → Carries width path octets → Carries width path others → octets ≡ others
+same_octets width path octets others one two =
+    let same : number_bits 8 octets ≡ number_bits 8 others
+    = number_bits-octets octets ∙ sym one.information ∙ two.information ∙ sym (number_bits-octets others) in
+    let long : length octets ≡ length others = omega (arith, length-number_bits 8 octets, length-number_bits 8 others, ap length same) in
+    same_from_number_bits 8 octets others one.are_octets two.are_octets long same
+
+-- octets are carried by no other path
+pub same_path : (states width : ℕ) (path other octets : List ℕ) → states ≡ 2 ^ width → IsPath states path → IsPath states other → Carries width path octets → Carries width other octets → path ≡ other
+same_path states width path other octets states_is is other_is one two =
+    let small = λ (p : List ℕ) (is_p : IsPath states p). subst (λ (n : ℕ). All (λ (s : ℕ). s < n) (take 48 p)) states_is (All-take (λ (s : ℕ). s < states) 48 p is_p.below) in
+    let fits : 48 ≤ length path = omega (arith, is.long) in
+    let other_fits : 48 ≤ length other = omega (arith, other_is.long) in
+    sym (take-append-drop 48 path)
+    ∙ ap₂ (λ (xs ys : List ℕ). xs ++ ys)
+      (same_from_number_bits width (take 48 path) (take 48 other) (small path is) (small other other_is) (length-take-le 48 path fits ∙ sym (length-take-le 48 other other_fits)) (one.information ∙ sym two.information))
+      (is.last ∙ sym other_is.last)
+    ∙ take-append-drop 48 other
+
+-- octets have no other block
+pub same_block : (states width : ℕ) (point : ℕ → ℕ → ℕ) (octets : List ℕ) (block other : List Bool) → states ≡ 2 ^ width → IsBlock states width point octets block → IsBlock states width point octets other → block ≡ other
+same_block states width point octets block other states_is one two =
+    one.sent ∙ ap (sent_bits point) (same_path states width one.path two.path octets states_is one.is_path two.is_path one.carries two.carries) ∙ sym two.sent

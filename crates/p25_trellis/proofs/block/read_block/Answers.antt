@@ -8,6 +8,8 @@ use Rattle.p25_trellis.specs.Trellis.{number_bits, distance_from}
 use Rattle.p25_trellis.proofs.InterleaveLaws.{All-from_interleaved}
 use Rattle.p25_trellis.proofs.Paths.{power-pos}
 use Rattle.p25_trellis.proofs.Distances.{path_cost-distance, IsFirstLeastReading-same}
+use Rattle.p25_trellis.proofs.NumberBits.{length-part}
+use Rattle.p25_trellis.proofs.Apart.{same_from_sent_bits, IsNearReading-from}
 use Rattle.p25_trellis.proofs.block.read_block.Goals as goal
 
 pub distance_costs-requires : goal.distance_costs-requires
@@ -31,4 +33,10 @@ returns-clause-nearest g c =
     c.read_costs.ensures
 
 pub returns-clause-near : goal.returns-clause-near
-returns-clause-near g c = ?
+returns-clause-near g c =
+    let law = g.met.R.Rate in
+    let bits = part c.args.at 196 c.args.bits.now in
+    IsNearReading-from g.R.Rate.STATES g.R.Rate.BITS_PER_SYMBOL g.R.Rate.APART g.R.Rate.point_of bits c.read_costs.new.octets c.read_costs.result
+    (same_from_sent_bits g.R.Rate.STATES g.R.Rate.APART g.R.Rate.point_of g.R.Rate.parted (power-pos g.R.Rate.BITS_PER_SYMBOL g.R.Rate.STATES law.states_of_bits) law.together law.stays_parted law.parts)
+    (length-part c.args.at 196 c.args.bits.now c.requires.there)
+    (returns-clause-nearest g c)

@@ -20,6 +20,6 @@ returns-clause-carries g c =
     let octets = c.args.octets.now in
     let bits = c.put_numbers.new.bits in
     Carries-from_bits g.R.Rate.BITS_PER_SYMBOL g.R.Rate.OCTETS path octets bits g.met.R.Rate.octets_of_bits c.requires
-    (All-from_get_or (λ (octet : ℕ). octet < 256) octets 0 (λ i inside. c.type_inv.octets i))
+    (All-from_get_or (λ (octet : ℕ). octet < 256) octets 0 (λ i inside. omega (arith, c.type_inv.octets i)))
     (c.put_numbers.ensures.list ∙ ap (λ (xs : List Bool). xs ++ number_bits 8 octets) c.new-bits.ensures)
     (subst (λ (w : ℕ). number_bits w (take 48 path) ≡ part 0 (w * 48) bits) c.BITS_PER_SYMBOL.ensures c.take_numbers.ensures.list)
