@@ -78,25 +78,23 @@ All-nibbles_from states point small state (symbol ∷ path) row all =
     let here : symbol < states = All-head P symbol path all in
     All-cons (λ (n : ℕ). n < 16) (point state symbol) (nibbles_from point symbol path) (small state symbol row here) (All-nibbles_from states point small symbol path here (All-tail P symbol path all))
 
-weighed-drop : (nibble : ℕ) (nibbles received : List ℕ) (step : ℕ) → step < length received → weighed nibble_distance (nibble ∷ nibbles) (drop step received) ≡ nibble_distance nibble (get_or received step 0) + weighed nibble_distance nibbles (drop (suc step) received)
+weighed-drop : {Y : Type 0} (weight : ℕ → Y → ℕ) (nibble : ℕ) (nibbles : List ℕ) (received : List Y) (step : ℕ) (d : Y) → step < length received → weighed weight (nibble ∷ nibbles) (drop step received) ≡ weight nibble (get_or received step d) + weighed weight nibbles (drop (suc step) received)
 unfolding weighed
-weighed-drop nibble nibbles received step inside =
+weighed-drop weight nibble nibbles received step d inside =
     let more : step + 1 ≡ suc step = omega arith in
-    ap (weighed nibble_distance (nibble ∷ nibbles)) (drop_more received step 0 inside)
-    ∙ ap (λ i. nibble_distance nibble (get_or received step 0) + weighed nibble_distance nibbles (drop i received)) more
+    ap (weighed weight (nibble ∷ nibbles)) (drop_more received step d inside)
+    ∙ ap (λ i. weight nibble (get_or received step d) + weighed weight nibbles (drop i received)) more
 
--- what nibbles cost in the table is what they weigh against those received
-total_cost-weighed : (received costs : List ℕ) → IsDistanceTable received costs → length received ≡ 49 → (step : ℕ) (nibbles : List ℕ) → step + length nibbles ≡ 49 → All (λ n. n < 16) nibbles → total_cost (cost_in costs) step nibbles ≡ weighed nibble_distance nibbles (drop step received)
+-- what nibbles cost in a table is what they weigh against what was received, where each cost in the table is a weight
+pub total_cost-weighed : {Y : Type 0} (weight : ℕ → Y → ℕ) (received : List Y) (d : Y) (costs : List ℕ) → ((step nibble : ℕ) → step < 49 → nibble < 16 → cost_in costs step nibble ≡ weight nibble (get_or received step d)) → length received ≡ 49 → (step : ℕ) (nibbles : List ℕ) → step + length nibbles ≡ 49 → All (λ n. n < 16) nibbles → total_cost (cost_in costs) step nibbles ≡ weighed weight nibbles (drop step received)
 unfolding total_cost weighed
-total_cost-weighed received costs table long step [] place small = refl
-total_cost-weighed received costs table long step (nibble ∷ nibbles) place small =
+total_cost-weighed weight received d costs table long step [] place small = refl
+total_cost-weighed weight received d costs table long step (nibble ∷ nibbles) place small =
     let P : ℕ → Type 0 = λ n. n < 16 in
     let inside : step < length received = omega arith in
     let next : suc step + length nibbles ≡ 49 = omega arith in
-    ap₂ ◌+◌
-      (table.at step nibble (omega arith) (All-head P nibble nibbles small))
-      (total_cost-weighed received costs table long (suc step) nibbles next (All-tail P nibble nibbles small))
-    ∙ sym (weighed-drop nibble nibbles received step inside)
+    ap₂ ◌+◌ (table step nibble (omega arith) (All-head P nibble nibbles small)) (total_cost-weighed weight received d costs table long (suc step) nibbles next (All-tail P nibble nibbles small))
+    ∙ sym (weighed-drop weight nibble nibbles received step d inside)
 
 -- what a path costs in the table is its distance from what was received
 pub path_cost-distance : (states : ℕ) (point : ℕ → ℕ → ℕ) (received costs : List ℕ) (bits : List Bool) → 0 < states → ((state symbol : ℕ) → state < states → symbol < states → point state symbol < 16) → IsDistanceTable received costs → length received ≡ 49 → bits ≡ number_bits 4 (interleaved received) → (path : List ℕ) → IsPath states path → path_cost point (cost_in costs) path ≡ distance_from point bits path
@@ -105,7 +103,7 @@ path_cost-distance states point received costs bits some small table long are pa
     let nibbles = nibbles_from point 0 path in
     let count : length nibbles ≡ 49 = length-nibbles_from point 0 path ∙ is.long in
     let whole : 0 + length nibbles ≡ 49 = omega arith in
-    total_cost-weighed received costs table long 0 nibbles whole (All-nibbles_from states point small 0 path some is.below)
+    total_cost-weighed nibble_distance received 0 costs table.at long 0 nibbles whole (All-nibbles_from states point small 0 path some is.below)
     ∙ sym (distance_of-interleaved nibbles received (count ∙ sym long))
     ∙ ap (distance_of (number_bits 4 (interleaved nibbles))) (sym are)
 

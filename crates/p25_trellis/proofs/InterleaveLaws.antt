@@ -42,19 +42,19 @@ unfolding interleaved
 length-interleaved xs = simp length-append (length-fourths xs)
 
 -- the sum over the places of two lists of what their elements weigh against each other
-unfoldable pub weighed : {X : Type 0} → (X → X → ℕ) → List X → List X → ℕ
+unfoldable pub weighed : {X Y : Type 0} → (X → Y → ℕ) → List X → List Y → ℕ
 weighed weight [] ys = 0
 weighed weight (x ∷ xs) [] = 0
 weighed weight (x ∷ xs) (y ∷ ys) = weight x y + weighed weight xs ys
 
-weighed-fourths : {X : Type 0} (weight : X → X → ℕ) (xs ys : List X) → length xs ≡ length ys → weighed weight (each_fourth 0 xs) (each_fourth 0 ys) + weighed weight (each_fourth 1 xs) (each_fourth 1 ys) + weighed weight (each_fourth 2 xs) (each_fourth 2 ys) + weighed weight (each_fourth 3 xs) (each_fourth 3 ys) ≡ weighed weight xs ys
+weighed-fourths : {X Y : Type 0} (weight : X → Y → ℕ) (xs : List X) (ys : List Y) → length xs ≡ length ys → weighed weight (each_fourth 0 xs) (each_fourth 0 ys) + weighed weight (each_fourth 1 xs) (each_fourth 1 ys) + weighed weight (each_fourth 2 xs) (each_fourth 2 ys) + weighed weight (each_fourth 3 xs) (each_fourth 3 ys) ≡ weighed weight xs ys
 unfolding each_fourth weighed
 weighed-fourths weight [] [] long = refl
 weighed-fourths weight [] (y ∷ ys) long = absurd (omega arith)
 weighed-fourths weight (x ∷ xs) [] long = absurd (omega arith)
 weighed-fourths weight (x ∷ xs) (y ∷ ys) long = omega (arith, weighed-fourths weight xs ys (omega arith))
 
-weighed-append : {X : Type 0} (weight : X → X → ℕ) (xs ys us vs : List X) → length xs ≡ length us → weighed weight (xs ++ ys) (us ++ vs) ≡ weighed weight xs us + weighed weight ys vs
+weighed-append : {X Y : Type 0} (weight : X → Y → ℕ) (xs ys : List X) (us vs : List Y) → length xs ≡ length us → weighed weight (xs ++ ys) (us ++ vs) ≡ weighed weight xs us + weighed weight ys vs
 unfolding weighed
 weighed-append weight [] ys [] vs long = omega arith
 weighed-append weight [] ys (u ∷ us) vs long = absurd (omega arith)
@@ -62,7 +62,7 @@ weighed-append weight (x ∷ xs) ys [] vs long = absurd (omega arith)
 weighed-append weight (x ∷ xs) ys (u ∷ us) vs long = omega (arith, weighed-append weight xs ys us vs (omega arith))
 
 -- interleaved lists weigh as much against each other as the lists
-pub weighed-interleaved : {X : Type 0} (weight : X → X → ℕ) (xs ys : List X) → length xs ≡ length ys → weighed weight (interleaved xs) (interleaved ys) ≡ weighed weight xs ys
+pub weighed-interleaved : {X Y : Type 0} (weight : X → Y → ℕ) (xs : List X) (ys : List Y) → length xs ≡ length ys → weighed weight (interleaved xs) (interleaved ys) ≡ weighed weight xs ys
 unfolding interleaved
 weighed-interleaved weight xs ys long =
     let e0 = length-each_fourth 0 xs ys long in

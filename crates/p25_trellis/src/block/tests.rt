@@ -1,5 +1,11 @@
+ghost use Rattle.std.specs.Prelude.{◌≡◌, ℕ, ◌<◌, ◌≤◌, List, Bool, length};
+ghost use Rattle.p25_bits.specs.Bits.{part};
+ghost use Rattle.p25_bits.specs.Distance.{distance_of};
+ghost use Rattle.p25_trellis.specs.Tables.{half_point, three_quarter_point};
+ghost use Rattle.p25_trellis.specs.Trellis.{IsBlock};
+
 use super::*;
-use crate::rate::{Half, ThreeQuarter};
+use crate::rate::{Half, Rate, ThreeQuarter};
 
 // The block of zeros at either rate: 49 nibbles 2.
 fn zero_block() -> BitBuf
@@ -20,6 +26,7 @@ fn two_wrong_bits_at_half_rate(rt: HostRuntime) {
             let mut octets = [9; 12];
             assert_eq!(rt; read_block::<Half>(&bits, 0, &mut octets), 2);
             assert_eq!(rt; octets, [0; 12]);
+            reads_two_wrong(&bits, &mut octets);
         }
     }
 }
@@ -32,6 +39,7 @@ fn one_wrong_bit_at_three_quarter_rate(rt: HostRuntime) {
         let mut octets = [9; 18];
         assert_eq!(rt; read_block::<ThreeQuarter>(&bits, 0, &mut octets), 1);
         assert_eq!(rt; octets, [0; 18]);
+        reads_one_wrong(&bits, &mut octets);
     }
 }
 
@@ -78,19 +86,47 @@ fn sample_octets(seed: u8, octets: &mut [u8]) {
     }
 }
 
+// What was encoded is read again, with no distance.
+fn read_again<R: Rate>(octets: &[u8], read: &mut [u8]) -> u32
+    requires apart { 0 < R.APART }
+    requires octets { length octets.now ≡ R.OCTETS }
+    requires read { length read.old ≡ R.OCTETS }
+    ensures octets { read.new ≡ octets.now }
+    ensures distance { result ≡ 0 }
+{
+    let mut bits = BitBuf::new();
+    encode_block::<R>(octets, &mut bits);
+    read_block::<R>(&bits, 0, read)
+}
+
 #[test]
 fn encode_then_read(rt: HostRuntime) {
     for seed in 0..=255 {
-        let mut bits = BitBuf::new();
         let (mut sent, mut read) = ([0; 12], [0; 12]);
         sample_octets(seed, &mut sent);
-        encode_block::<Half>(&sent, &mut bits);
-        assert_eq!(rt; read_block::<Half>(&bits, 0, &mut read), 0);
+        assert_eq!(rt; read_again::<Half>(&sent, &mut read), 0);
         assert_eq!(rt; read, sent);
         let (mut sent, mut read) = ([0; 18], [0; 18]);
         sample_octets(seed, &mut sent);
-        encode_block::<ThreeQuarter>(&sent, &mut bits);
-        assert_eq!(rt; read_block::<ThreeQuarter>(&bits, 196, &mut read), 0);
+        assert_eq!(rt; read_again::<ThreeQuarter>(&sent, &mut read), 0);
         assert_eq!(rt; read, sent);
     }
+}
+
+// A half-rate block with at most two wrong bits reads as the octets sent.
+fn reads_two_wrong(bits: &BitBuf, octets: &mut [u8])
+    requires there { 196 ≤ length bits.now }
+    requires octets { length octets.old ≡ 12 }
+    ensures { (sent : List ℕ) (block : List Bool) → IsBlock 4 2 half_point sent block → distance_of block (part 0 196 bits.now) ≤ 2 → octets.new ≡ sent }
+{
+    let _ = read_block::<Half>(bits, 0, octets);
+}
+
+// A three-quarter-rate block with at most one wrong bit reads as the octets sent.
+fn reads_one_wrong(bits: &BitBuf, octets: &mut [u8])
+    requires there { 196 ≤ length bits.now }
+    requires octets { length octets.old ≡ 18 }
+    ensures { (sent : List ℕ) (block : List Bool) → IsBlock 8 3 three_quarter_point sent block → distance_of block (part 0 196 bits.now) ≤ 1 → octets.new ≡ sent }
+{
+    let _ = read_block::<ThreeQuarter>(bits, 0, octets);
 }
