@@ -67,7 +67,7 @@ same_from_near states apart point parted some together stays parts (suc before) 
     differs : x ≡ y → eqb x y ≡ false → ⊥
     differs same two = let one = eq-eqb x y same in cc
 
--- a block has 196 bits
+-- a path has 196 sent bits
 pub length-sent_bits : (states : ℕ) (point : ℕ → ℕ → ℕ) (path : List ℕ) → IsPath states path → length (sent_bits point path) ≡ 196
 unfolding sent_bits
 length-sent_bits states point path is =
@@ -112,10 +112,14 @@ IsNearReading-from states width apart point received octets distance far long re
     distance_of_near sent block is near =
         reading.total_is ∙ ap (distance_from point received) (sym (one_path sent block is near)) ∙ ap (λ (bits : List Bool). distance_of bits received) (sym is.sent)
 
+-- a block has 196 bits
+pub length-block : (states width : ℕ) (point : ℕ → ℕ → ℕ) (octets : List ℕ) (block : List Bool) → IsBlock states width point octets block → length block ≡ 196
+length-block states width point octets block is = ap length is.sent ∙ length-sent_bits states point is.path is.is_path
+
 -- a block that is all that was received is at no distance
 pub distance_of-block : (states width : ℕ) (point : ℕ → ℕ → ℕ) (octets : List ℕ) (before received block : List Bool) → before ≡ [] → received ≡ before ++ block → IsBlock states width point octets block → distance_of block (part 0 196 received) ≡ 0
 distance_of-block states width point octets before received block none all is =
-    let long : length block ≡ 196 = ap length is.sent ∙ length-sent_bits states point is.path is.is_path in
+    let long : length block ≡ 196 = length-block states width point octets block is in
     let short : length block ≤ 196 = omega arith in
     let same : part 0 196 received ≡ block
     = ap (λ (bits : List Bool). take 196 bits) (all ∙ ap (λ (bits : List Bool). bits ++ block) none) ∙ take_all 196 block short in

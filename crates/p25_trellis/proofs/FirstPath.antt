@@ -1,9 +1,10 @@
 -- The first least path, from the first step to the last.
-use Rattle.std.proofs.Common.{◌≡◌, ℕ, zero, suc, ◌+◌, ◌*◌, ◌^◌, ◌<◌, ◌≤◌, ◌⊎◌, inl, inr, List, [], ◌∷◌, ◌++◌, length, take, drop, set, refl, ap, sym, subst, ◌∙◌, arith, append_assoc, All}
+use Rattle.std.proofs.Common.{◌≡◌, ℕ, zero, suc, ◌+◌, ◌*◌, ◌^◌, ◌<◌, ◌≤◌, ◌⊎◌, inl, inr, List, [], ◌∷◌, ◌++◌, length, take, drop, set, refl, ap, ap₂, sym, subst, ◌∙◌, arith, append_assoc, All}
 use Rattle.std.proofs.lemmas.Bool.{cases_lt}
 use Rattle.std.proofs.lemmas.List.{take-append-drop, take_more_set}
 use Rattle.std.proofs.lemmas.List.Elements.{All-cons, All-nil, All-head, All-tail, All-same}
-use Rattle.p25_trellis.specs.Trellis.{IsPath, IsNotAfter, IsFirstLeast}
+use Rattle.p25_trellis.specs.Trellis.{IsPath, IsNotAfter, IsFirstLeast, IsFirstLeastReading, Carries}
+use Rattle.p25_trellis.proofs.Paths.{same_octets}
 use Rattle.p25_trellis.specs.Least.{symbols_cost, path_cost, cost_in, rest_in, step_cost, IsEnd, IsLeastEnd, HasLeastFrom, IsLowestLeast}
 use Rattle.p25_trellis.proofs.Costs.{symbols_cost-cons, length-end, HasLeastFrom-later}
 
@@ -123,3 +124,30 @@ completes_more states point costs rests path step state symbol least has early l
     (λ (whole_path : List ℕ). IsFirstLeastEnd states 48 (symbols_cost point (cost_in costs) 0 0) whole_path)
     (sym (ap (λ (front : List ℕ). front ++ end) (take_more_set path step symbol inside) ∙ append_assoc (take step path) (symbol ∷ []) end))
     whole
+
+-- two lists of which neither is after the other are one
+IsNotAfter-antisym : (xs ys : List ℕ) → IsNotAfter xs ys → IsNotAfter ys xs → xs ≡ ys
+IsNotAfter-antisym [] [] one two = refl
+IsNotAfter-antisym [] (y ∷ ys) one two = absurd two
+IsNotAfter-antisym (x ∷ xs) [] one two = absurd one
+IsNotAfter-antisym (x ∷ xs) (y ∷ ys) one two = elim one [
+  | inl lower ↦ elim two [ inl higher ↦ absurd (omega arith) | inr same ↦ absurd (omega (arith, same.0)) ]
+  | inr same ↦ elim two [
+    | inl higher ↦ absurd (omega (arith, same.0))
+    | inr equal ↦ ap₂ ◌∷◌ same.0 (IsNotAfter-antisym xs ys same.1 equal.1)
+  ]
+]
+
+-- there is one first least path
+pub same_first_least : (states : ℕ) (cost : List ℕ → ℕ) (path other : List ℕ) → IsFirstLeast states cost path → IsFirstLeast states cost other → path ≡ other
+same_first_least states cost path other one two =
+    let equal : cost other ≡ cost path = omega (arith, one.least other two.is_path, two.least path one.is_path) in
+    IsNotAfter-antisym path other (one.first other two.is_path equal) (two.first path one.is_path (sym equal))
+
+-- there is one reading
+pub same_reading : (states width : ℕ) (cost : List ℕ → ℕ) (octets others : List ℕ) (total other_total : ℕ) → IsFirstLeastReading states width cost octets total → IsFirstLeastReading states width cost others other_total → (octets ≡ others) × (total ≡ other_total)
+same_reading states width cost octets others total other_total one two =
+    let same = same_first_least states cost one.path two.path one.first_least two.first_least in (
+      same_octets width one.path octets others one.carries (subst (λ (path : List ℕ). Carries width path others) (sym same) two.carries),
+      one.total_is ∙ ap cost same ∙ sym two.total_is,
+    )

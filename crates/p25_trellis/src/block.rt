@@ -16,7 +16,8 @@ use p25_bits::BitBuf;
 pub fn encode_block<R: Rate>(octets: &[u8], out: &mut BitBuf)
     requires octets { length octets.now ≡ R.OCTETS }
     requires room { length out.old + 196 ≤ 25928 }
-    ensures block { (bits : List Bool) × IsBlock R.STATES R.BITS_PER_SYMBOL R.point_of octets.now bits × (out.new ≡ out.old ++ bits) }
+    ensures block { (block : List Bool) × IsBlock R.STATES R.BITS_PER_SYMBOL R.point_of octets.now block × (out.new ≡ out.old ++ block) }
+    ensures only { (block : List Bool) → IsBlock R.STATES R.BITS_PER_SYMBOL R.point_of octets.now block → out.new ≡ out.old ++ block }
     ensures len { length out.new ≡ length out.old + 196 }
 {
     let path = path_of::<R>(octets);

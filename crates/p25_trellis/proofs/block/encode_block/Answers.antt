@@ -1,4 +1,5 @@
-use Rattle.std.proofs.Common.{◌≡◌, ℕ, ◌<◌, List, sym, ap, ◌∙◌, refl}
+use Rattle.std.proofs.Common.{◌≡◌, ℕ, ◌<◌, ◌++◌, List, Bool, sym, ap, ◌∙◌, refl}
+use Rattle.p25_trellis.proofs.Paths.{same_block}
 use Rattle.std.proofs.lemmas.List.Elements.{All-same}
 use Rattle.p25_trellis.specs.Interleave.{interleaved}
 use Rattle.p25_trellis.specs.Trellis.{number_bits, sent_bits, nibbles_from}
@@ -22,3 +23,10 @@ returns-clause-block g c = (
   },
   c.put_numbers.ensures.list,
 )
+
+pub returns-clause-only : goal.returns-clause-only
+returns-clause-only g c =
+    let sent = returns-clause-block g c in
+    λ block is.
+    sent.2
+    ∙ ap (λ (bits : List Bool). c.args.out.now ++ bits) (same_block g.R.Rate.STATES g.R.Rate.BITS_PER_SYMBOL g.R.Rate.point_of c.args.octets.now sent.0 block g.met.R.Rate.states_of_bits sent.1 is)
