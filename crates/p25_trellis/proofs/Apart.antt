@@ -1,5 +1,5 @@
 -- How far paths differ, and what lies so near to one that no other is as near.
-use Rattle.std.proofs.Common.{◌≡◌, ◌≢◌, ℕ, zero, suc, ◌+◌, ◌*◌, ◌<◌, ◌≤◌, ◌^◌, inl, inr, Bool, true, false, eqb, List, [], ◌∷◌, ◌++◌, length, take, refl, ap, ap₂, sym, subst, ◌∙◌, arith, All}
+use Rattle.std.proofs.Common.{◌≡◌, ◌≢◌, ℕ, zero, suc, ◌+◌, ◌*◌, ◌<◌, ◌≤◌, inl, inr, Bool, false, eqb, List, [], ◌∷◌, ◌++◌, length, take, refl, ap, ap₂, sym, subst, ◌∙◌, arith}
 use Rattle.std.proofs.lemmas.Bool.{cases_Bool, eqb-true, eq-eqb}
 use Rattle.p25_bits.specs.Distance.{distance_of}
 use Rattle.p25_bits.proofs.DistanceLaws.{distance_of-same, distance_of-sym, distance_of-triangle}
@@ -7,7 +7,7 @@ use Rattle.std.proofs.lemmas.List.{take_all}
 use Rattle.p25_bits.specs.Bits.{part}
 use Rattle.p25_trellis.specs.Interleave.{interleaved}
 use Rattle.p25_trellis.specs.Tables.{nibble_distance}
-use Rattle.p25_trellis.specs.Trellis.{IsPath, IsBlock, Carries, IsFirstLeast, IsFirstLeastReading, IsNearReading, nibbles_from, number_bits, sent_bits, distance_from}
+use Rattle.p25_trellis.specs.Trellis.{IsPath, IsBlock, Carries, IsFirstLeastReading, IsNearReading, nibbles_from, sent_bits, distance_from}
 use Rattle.p25_trellis.specs.Least.{IsEnd}
 use Rattle.p25_trellis.proofs.InterleaveLaws.{weighed, length-interleaved}
 use Rattle.p25_trellis.proofs.NumberBits.{length-number_bits}
@@ -54,13 +54,13 @@ same_from_near states apart point parted some together stays parts (suc before) 
       | inr two ↦
           let differ : x ≢ y = λ same. differs same two in
           absurd (
-            omega (
-              arith,
-              near,
-              weighed-nibbles point state state x y xs ys,
-              parts state x y row ends_x.0 ends_y.0 differ,
-              parted-le states point parted some together stays before x y xs ys ends_x.0 ends_y.0 ends_x.1 ends_y.1,
-            )
+          omega (
+            arith,
+            near,
+            weighed-nibbles point state state x y xs ys,
+            parts state x y row ends_x.0 ends_y.0 differ,
+            parted-le states point parted some together stays before x y xs ys ends_x.0 ends_y.0 ends_x.1 ends_y.1,
+          )
           )
     ]
   where
@@ -96,18 +96,20 @@ IsNearReading-from states width apart point received octets distance far long re
         let count : length (sent_bits point is.path) ≡ length received = length-sent_bits states point is.path is.is_path ∙ sym long in
         far is.path reading.path is.is_path first.is_path
         (
-          omega (
-            arith,
-            near,
-            here,
-            first.least is.path is.is_path,
-            distance_of-triangle (sent_bits point is.path) received (sent_bits point reading.path) count,
-            distance_of-sym received (sent_bits point reading.path),
-          )
+        omega (
+          arith,
+          near,
+          here,
+          first.least is.path is.is_path,
+          distance_of-triangle (sent_bits point is.path) received (sent_bits point reading.path) count,
+          distance_of-sym received (sent_bits point reading.path),
         )
+        )
+
     octets_of_near : (sent : List ℕ) (block : List Bool) → IsBlock states width point sent block → 2 * distance_of block received < apart → octets ≡ sent
     octets_of_near sent block is near =
         same_octets width reading.path octets sent reading.carries (subst (λ (path : List ℕ). Carries width path sent) (one_path sent block is near) is.carries)
+
     distance_of_near : (sent : List ℕ) (block : List Bool) → IsBlock states width point sent block → 2 * distance_of block received < apart → distance ≡ distance_of block received
     distance_of_near sent block is near =
         reading.total_is ∙ ap (distance_from point received) (sym (one_path sent block is near)) ∙ ap (λ (bits : List Bool). distance_of bits received) (sym is.sent)

@@ -1,6 +1,5 @@
 -- Points of the tables.
-use Rattle.std.proofs.Common.{◌≡◌, ℕ, ◌<◌, true, ltb, List, get_or, length, refl, arith}
-use Rattle.std.specs.List.{list_all}
+use Rattle.std.proofs.Common.{◌≡◌, ℕ, ◌<◌, true, ltb, get_or, refl}
 use Rattle.std.proofs.lemmas.Bool.{ltb-true}
 use Rattle.p25_trellis.specs.declared.rate.TheConstants.{THREE_QUARTER_POINTS}
 use Rattle.p25_trellis.specs.TableLaws.{passed_below, passed_below-at}

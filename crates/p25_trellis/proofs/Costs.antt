@@ -1,6 +1,6 @@
 -- The least cost of what follows a state, from the last step to the first.
 use Rattle.std.proofs.Common.{◌≡◌, ◌≢◌, ℕ, zero, suc, ◌+◌, ◌*◌, ◌<◌, ◌≤◌, inl, inr, List, [], ◌∷◌, length, get_or, set, refl, ap, ap₂, sym, subst, ◌∙◌, arith, All, below_more, get_or-set_same, get_or-set_other, ◌-◌, ◌^◌, add-one}
-use Rattle.std.proofs.Math.Nat.{mul-suc, mul-le-mul_left, mul-zero}
+use Rattle.std.proofs.Math.Nat.{mul-suc, mul-le-mul_left}
 use Rattle.std.proofs.lemmas.Bool.{cases_lt}
 use Rattle.std.proofs.lemmas.List.{get_or_past}
 use Rattle.p25_trellis.proofs.Paths.{length-nibbles_from}
@@ -128,9 +128,9 @@ last_more point costs rests state column nibble row long same is so_far =
     below_more (λ s. get_or (set rests (384 + column) value) (384 + s) 0 ≡ get_or costs (768 + point s 0) 0) state
     (λ s below. let other : 384 + s ≢ 384 + column = omega arith in get_or-set_other rests (384 + column) (384 + s) value 0 other ∙ so_far s below)
     (
-      ap (λ n. get_or (set rests (384 + column) value) (384 + n) 0) (sym same)
-          ∙ get_or-set_same rests (384 + column) value 0 inside
-          ∙ ap (λ n. get_or costs (768 + n) 0) is
+    ap (λ n. get_or (set rests (384 + column) value) (384 + n) 0) (sym same)
+    ∙ get_or-set_same rests (384 + column) value 0 inside
+    ∙ ap (λ n. get_or costs (768 + n) 0) is
     )
 
 -- the least that can follow the last step is the cost of its symbol 0
@@ -174,6 +174,7 @@ here_more states point cost rests step state column value few below early long s
         (λ (least : ℕ). IsLeastEnd states before (symbols_cost point cost step t) least)
         (sym (rest_in-other rests step column step t value (omega arith) (omega arith) other))
         (so_far before t place lower)
+
     here : IsLeastEnd states before (symbols_cost point cost step state) (rest_in (set rests (8 * step + column) value) step state)
     here =
         let inside : 8 * step + column < length rests = omega arith in

@@ -1,5 +1,5 @@
 -- The distance of sent bits as a sum over nibbles.
-use Rattle.std.proofs.Common.{◌≡◌, ℕ, zero, suc, ◌+◌, ◌*◌, ◌/◌, ◌%◌, ◌^◌, ◌<◌, ◌≤◌, inl, inr, Bool, true, eqb, List, [], ◌∷◌, ◌++◌, length, drop, get_or, set, refl, ap, ap₂, sym, subst, ◌∙◌, arith, All, bit_xor, count_ones, add-one, below_more, get_or-set_same, get_or-set_other, ◌≢◌}
+use Rattle.std.proofs.Common.{◌≡◌, ℕ, suc, ◌+◌, ◌*◌, ◌/◌, ◌%◌, ◌<◌, ◌≤◌, Bool, true, eqb, List, [], ◌∷◌, length, drop, get_or, set, refl, ap, ap₂, sym, ◌∙◌, arith, All, bit_xor, count_ones, below_more, get_or-set_same, get_or-set_other, ◌≢◌}
 use Rattle.std.specs.Bool.{beq}
 use Rattle.std.specs.Int.Count.{ones}
 use Rattle.std.proofs.lemmas.Bool.{eqb-true}
@@ -12,10 +12,9 @@ use Rattle.p25_bits.proofs.DistanceLaws.{distance_by-append, distance_by-nil, di
 use Rattle.p25_trellis.specs.Interleave.{interleaved}
 use Rattle.p25_trellis.specs.Tables.{nibble_distance}
 use Rattle.p25_trellis.specs.TableLaws.{passed_below, passed_below-at}
-use Rattle.p25_trellis.specs.Trellis.{number_bits, nibbles_from, sent_bits, distance_from, IsPath, IsFirstLeast, IsFirstLeastReading}
+use Rattle.p25_trellis.specs.Trellis.{number_bits, nibbles_from, sent_bits, distance_from, IsPath, IsFirstLeastReading}
 use Rattle.p25_trellis.specs.Least.{total_cost, symbols_cost, path_cost, cost_in, IsDistanceTable}
 use Rattle.p25_trellis.proofs.InterleaveLaws.{weighed, weighed-interleaved, length-interleaved}
-use Rattle.p25_trellis.proofs.NumberBits.{number_bits-cons}
 use Rattle.p25_trellis.proofs.Paths.{length-nibbles_from}
 
 -- the ones of an exclusive or are the places in which two nibbles differ

@@ -1,11 +1,11 @@
 -- The first least path, from the first step to the last.
-use Rattle.std.proofs.Common.{◌≡◌, ℕ, zero, suc, ◌+◌, ◌*◌, ◌^◌, ◌<◌, ◌≤◌, ◌⊎◌, inl, inr, List, [], ◌∷◌, ◌++◌, length, take, drop, set, refl, ap, ap₂, sym, subst, ◌∙◌, arith, append_assoc, All}
+use Rattle.std.proofs.Common.{◌≡◌, ℕ, zero, suc, ◌+◌, ◌<◌, ◌≤◌, inl, inr, List, [], ◌∷◌, ◌++◌, length, take, drop, set, refl, ap, ap₂, sym, subst, ◌∙◌, arith, append_assoc, All}
 use Rattle.std.proofs.lemmas.Bool.{cases_lt}
-use Rattle.std.proofs.lemmas.List.{take-append-drop, take_more_set}
+use Rattle.std.proofs.lemmas.List.{take_more_set}
 use Rattle.std.proofs.lemmas.List.Elements.{All-cons, All-nil, All-head, All-tail, All-same}
 use Rattle.p25_trellis.specs.Trellis.{IsPath, IsNotAfter, IsFirstLeast, IsFirstLeastReading, Carries}
 use Rattle.p25_trellis.proofs.Paths.{same_octets}
-use Rattle.p25_trellis.specs.Least.{symbols_cost, path_cost, cost_in, rest_in, step_cost, IsEnd, IsLeastEnd, HasLeastFrom, IsLowestLeast}
+use Rattle.p25_trellis.specs.Least.{symbols_cost, cost_in, rest_in, step_cost, IsEnd, IsLeastEnd, HasLeastFrom, IsLowestLeast}
 use Rattle.p25_trellis.proofs.Costs.{symbols_cost-cons, length-end, HasLeastFrom-later}
 
 -- the first of the ends that cost least from a state and step on
@@ -34,8 +34,10 @@ IsFirstLeastEnd-cons states point costs rests step before state symbol least end
   where
     next : suc step + before ≡ 48
     next = omega arith
+
     there : (y : ℕ) → y < states → IsLeastEnd states before (symbols_cost point (cost_in costs) (suc step) y) (rest_in rests (suc step) y)
     there y row = after.at (suc step) before y (omega arith) next row
+
     total : symbols_cost point (cost_in costs) step state (symbol ∷ end) ≡ least
     total = omega (
       arith,
@@ -43,9 +45,11 @@ IsFirstLeastEnd-cons states point costs rests step before state symbol least end
       least_is states point costs rests (suc step) before symbol end (there symbol choice.below) rest,
       choice.is,
     )
+
     no_less : (other : List ℕ) → IsEnd states (suc before) other → symbols_cost point (cost_in costs) step state (symbol ∷ end) ≤ symbols_cost point (cost_in costs) step state other
     no_less [] is = absurd is
     no_less (y ∷ ys) is = omega (arith, total, choice.none_less y is.0, (there y is.0).none_less ys is.1, symbols_cost-cons point (cost_in costs) step state y ys)
+
     first_of_all : (other : List ℕ) → IsEnd states (suc before) other → symbols_cost point (cost_in costs) step state other ≡ symbols_cost point (cost_in costs) step state (symbol ∷ end) → IsNotAfter (symbol ∷ end) other
     first_of_all [] is same = absurd is
     first_of_all (y ∷ ys) is same = elim (cases_lt symbol y) [

@@ -1,10 +1,10 @@
 -- Laws of the interleaver.
-use Rattle.std.proofs.Common.{◌≡◌, ◌≢◌, ℕ, zero, suc, ◌+◌, ◌<◌, ◌≤◌, ◌&&◌, ◌||◌, inl, inr, Bool, true, false, not, cond, eqb, ltb, List, [], ◌∷◌, ◌++◌, map, length, get_or, set, take, drop, refl, ap, ap₂, sym, ◌∙◌, arith, length-append, below_more, get_or-set_same, get_or-set_other, All}
+use Rattle.std.proofs.Common.{◌≡◌, ◌≢◌, ℕ, zero, suc, ◌+◌, ◌<◌, ◌≤◌, ◌||◌, Bool, true, false, not, cond, eqb, ltb, List, [], ◌∷◌, ◌++◌, map, length, get_or, set, take, drop, refl, ap, sym, ◌∙◌, arith, length-append, below_more, get_or-set_same, get_or-set_other, All}
 use Rattle.std.proofs.lemmas.List.Elements.{All-cons, All-head, All-tail, All-append, All-same, All-take, All-drop}
 use Rattle.std.specs.List.{range_with_len}
-use Rattle.std.proofs.lemmas.Bool.{cases_Bool, eqb-true, ltb-true, eq-eqb, not-true}
-use Rattle.std.proofs.lemmas.List.{take_all, take_at, drop_at, map-append, get_or-map, ext_get_or}
-use Rattle.std.proofs.lemmas.List.FromFn.{fill_by_all, length-map-range_with_len, length-range_with_len}
+use Rattle.std.proofs.lemmas.Bool.{eqb-true, ltb-true, eq-eqb}
+use Rattle.std.proofs.lemmas.List.{take_all, take_at, drop_at, map-append, get_or-map}
+use Rattle.std.proofs.lemmas.List.FromFn.{fill_by_all}
 use Rattle.p25_bits.specs.Distance.{distance_by}
 use Rattle.p25_bits.proofs.DistanceLaws.{distance_by-same, same_from_distance_by}
 use Rattle.p25_trellis.specs.declared.interleave.TheConstants.{SENT_ORDER}
@@ -72,8 +72,8 @@ weighed-interleaved weight xs ys long =
     ∙ ap
     (λ n. n + weighed weight (each_fourth 3 xs) (each_fourth 3 ys))
     (
-      weighed-append weight (each_fourth 0 xs ++ each_fourth 1 xs) (each_fourth 2 xs) (each_fourth 0 ys ++ each_fourth 1 ys) (each_fourth 2 ys) (simp length-append (cc))
-          ∙ ap (λ n. n + weighed weight (each_fourth 2 xs) (each_fourth 2 ys)) (weighed-append weight (each_fourth 0 xs) (each_fourth 1 xs) (each_fourth 0 ys) (each_fourth 1 ys) e0)
+    weighed-append weight (each_fourth 0 xs ++ each_fourth 1 xs) (each_fourth 2 xs) (each_fourth 0 ys ++ each_fourth 1 ys) (each_fourth 2 ys) (simp length-append (cc))
+    ∙ ap (λ n. n + weighed weight (each_fourth 2 xs) (each_fourth 2 ys)) (weighed-append weight (each_fourth 0 xs) (each_fourth 1 xs) (each_fourth 0 ys) (each_fourth 1 ys) e0)
     )
     ∙ weighed-fourths weight xs ys long
 
@@ -155,6 +155,7 @@ written_more plain nibbles place long inside so_far =
         let below : k < 49 = omega arith in
         get_or-set_other plain (get_or SENT_ORDER place 0) (get_or SENT_ORDER k 0) (get_or nibbles place 0) 0 (order-differs k place below inside other)
         ∙ so_far k h
+
     here : get_or (set plain (get_or SENT_ORDER place 0) (get_or nibbles place 0)) (get_or SENT_ORDER place 0) 0 ≡ get_or nibbles place 0
     here =
         let there : get_or SENT_ORDER place 0 < length plain = omega (arith, order-lt place inside) in
@@ -179,9 +180,9 @@ unfolding interleaved
 All-interleaved P xs all =
     All-append P (each_fourth 0 xs ++ each_fourth 1 xs ++ each_fourth 2 xs) (each_fourth 3 xs)
     (
-      All-append P (each_fourth 0 xs ++ each_fourth 1 xs) (each_fourth 2 xs)
-      (All-append P (each_fourth 0 xs) (each_fourth 1 xs) (All-each_fourth P 0 xs all) (All-each_fourth P 1 xs all))
-      (All-each_fourth P 2 xs all)
+    All-append P (each_fourth 0 xs ++ each_fourth 1 xs) (each_fourth 2 xs)
+    (All-append P (each_fourth 0 xs) (each_fourth 1 xs) (All-each_fourth P 0 xs all) (All-each_fourth P 1 xs all))
+    (All-each_fourth P 2 xs all)
     )
     (All-each_fourth P 3 xs all)
 

@@ -1,5 +1,5 @@
 -- Numbers as bits, a fixed number of bits each.
-use Rattle.std.proofs.Common.{◌≡◌, ℕ, zero, suc, ◌+◌, ◌*◌, ◌^◌, ◌<◌, ◌≤◌, Bool, List, [], ◌∷◌, ◌++◌, length, take, drop, get_or, set, refl, ap, ap₂, sym, ◌∙◌, arith, length-append, append-nil, add-one, length-drop, All}
+use Rattle.std.proofs.Common.{◌≡◌, ℕ, ◌+◌, ◌*◌, ◌^◌, ◌<◌, ◌≤◌, Bool, List, [], ◌∷◌, ◌++◌, length, take, drop, get_or, set, refl, ap, ap₂, sym, ◌∙◌, arith, length-append, append-nil, add-one, length-drop, All}
 use Rattle.std.specs.List.{flat_map}
 use Rattle.std.proofs.Math.Nat.{mul-suc, mod-eq_of_lt}
 use Rattle.std.proofs.lemmas.List.{flat_map_more, take_more, take_more_set, drop-drop, length-take-le, take_at, drop_at}
@@ -66,9 +66,9 @@ number_bits-take_more bits at width numbers i value inside there read so_far =
     ap (number_bits width) (take_more_set numbers i value inside)
     ∙ number_bits-append width (take i numbers) (value ∷ [])
     ∙ ap₂ (λ (xs ys : List Bool). xs ++ ys) so_far
-      (number_bits-cons width value []
-       ∙ ap₂ (λ (xs ys : List Bool). xs ++ ys) (ap (bits_of width) read ∙ bits_of-field width (at + width * i) bits there) (number_bits-nil width)
-       ∙ append-nil (part (at + width * i) width bits))
+    (number_bits-cons width value []
+    ∙ ap₂ (λ (xs ys : List Bool). xs ++ ys) (ap (bits_of width) read ∙ bits_of-field width (at + width * i) bits there) (number_bits-nil width)
+    ∙ append-nil (part (at + width * i) width bits))
     ∙ part_add at (width * i) width bits
     ∙ ap (λ n. part at n bits) (let more : width * i + width ≡ width * (i + 1) = omega (arith, more_bits 0 width i) in more)
 
@@ -93,5 +93,5 @@ same_from_number_bits width (x ∷ xs) (y ∷ ys) small_x small_y long same =
     ∙ ap (λ (zs : List Bool). drop width zs) same
     ∙ drop_at (bits_of width y) (number_bits width ys) width (length-bits_of width y) in
     ap₂ ◌∷◌
-      (sym (mod-eq_of_lt (All-head P x xs small_x)) ∙ sym (field_of-bits_of width x) ∙ ap field_of front ∙ field_of-bits_of width y ∙ mod-eq_of_lt (All-head P y ys small_y))
-      (same_from_number_bits width xs ys (All-tail P x xs small_x) (All-tail P y ys small_y) (omega arith) back)
+    (sym (mod-eq_of_lt (All-head P x xs small_x)) ∙ sym (field_of-bits_of width x) ∙ ap field_of front ∙ field_of-bits_of width y ∙ mod-eq_of_lt (All-head P y ys small_y))
+    (same_from_number_bits width xs ys (All-tail P x xs small_x) (All-tail P y ys small_y) (omega arith) back)

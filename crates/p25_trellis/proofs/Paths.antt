@@ -1,9 +1,9 @@
 -- Paths, their nibbles and what they carry.
-use Rattle.std.proofs.Common.{◌≡◌, ℕ, zero, suc, ◌+◌, ◌*◌, ◌^◌, ◌<◌, ◌≤◌, Bool, List, [], ◌∷◌, ◌++◌, length, take, drop, get_or, set, refl, ap, ap₂, sym, subst, ◌∙◌, arith, length-append, append-nil, append_assoc, add-one, All}
+use Rattle.std.proofs.Common.{◌≡◌, ℕ, suc, ◌+◌, ◌*◌, ◌^◌, ◌<◌, ◌≤◌, Bool, List, [], ◌∷◌, ◌++◌, length, take, drop, get_or, set, refl, ap, ap₂, sym, subst, ◌∙◌, arith, append_assoc, All}
 use Rattle.std.proofs.lemmas.List.{take-append-drop, take_more_set, drop_more, take_all, length-take-le}
 use Rattle.std.proofs.lemmas.List.Elements.{All-cons, All-nil, All-append, All-same, All-take}
 use Rattle.std.proofs.lemmas.Nat.{pow_pos}
-use Rattle.p25_bits.specs.Bits.{octet_bits, part}
+use Rattle.p25_bits.specs.Bits.{part}
 use Rattle.p25_trellis.specs.Trellis.{IsPath, IsBlock, Carries, nibbles_from, number_bits, sent_bits}
 use Rattle.p25_trellis.proofs.NumberBits.{length-number_bits, number_bits-octets, same_from_number_bits}
 
@@ -13,7 +13,7 @@ IsPath-from_front states path some long front last =
     let P : ℕ → Type 0 = λ n. n < states in record {
       long = long;
       below
-      = All-same P path (take 48 path ++ 0 ∷ []) (sym (take-append-drop 48 path) ∙ ap (λ (zs : List ℕ). take 48 path ++ zs) last) (All-append P (take 48 path) (0 ∷ []) front (All-cons P 0 [] some (All-nil P)));
+          = All-same P path (take 48 path ++ 0 ∷ []) (sym (take-append-drop 48 path) ∙ ap (λ (zs : List ℕ). take 48 path ++ zs) last) (All-append P (take 48 path) (0 ∷ []) front (All-cons P 0 [] some (All-nil P)));
       last = last;
     }
 
@@ -77,8 +77,8 @@ same_path states width path other octets states_is is other_is one two =
     let other_fits : 48 ≤ length other = omega (arith, other_is.long) in
     sym (take-append-drop 48 path)
     ∙ ap₂ (λ (xs ys : List ℕ). xs ++ ys)
-      (same_from_number_bits width (take 48 path) (take 48 other) (small path is) (small other other_is) (length-take-le 48 path fits ∙ sym (length-take-le 48 other other_fits)) (one.information ∙ sym two.information))
-      (is.last ∙ sym other_is.last)
+    (same_from_number_bits width (take 48 path) (take 48 other) (small path is) (small other other_is) (length-take-le 48 path fits ∙ sym (length-take-le 48 other other_fits)) (one.information ∙ sym two.information))
+    (is.last ∙ sym other_is.last)
     ∙ take-append-drop 48 other
 
 -- octets have no other block

@@ -1,14 +1,12 @@
 -- The laws of the tables of points, from tests over the whole table that compute.
-use Rattle.std.specs.Prelude.{◌≡◌, ◌≢◌, ℕ, zero, suc, ◌+◌, ◌*◌, ◌<◌, ◌≤◌, ◌⊎◌, Bool, true, false, cond, ◌&&◌, ◌||◌, eqb, leb, ltb, List, [], ◌∷◌, replicate, All, refl}
+use Rattle.std.specs.Prelude.{◌≡◌, ◌≢◌, ℕ, zero, suc, ◌+◌, ◌<◌, ◌≤◌, Bool, true, false, ◌&&◌, ◌||◌, eqb, leb, ltb, ◌∷◌, replicate, refl}
 use Rattle.std.proofs.Common.{inl, inr, sym, subst, arith}
 use Rattle.std.proofs.lemmas.Bool.{cases_Bool, leb-true, ltb-true, eqb-true}
 use Rattle.std.proofs.lemmas.List.Elements.{All-cons, All-replicate}
 use Rattle.p25_bits.specs.Bits.{bits_of}
 use Rattle.p25_bits.specs.Distance.{distance_by, distance_of}
-use Rattle.std.specs.Int.{bit_at}
-use Rattle.std.specs.List.{flat_map}
 use Rattle.p25_trellis.specs.Interleave.{each_fourth, interleaved}
-use Rattle.p25_trellis.specs.Trellis.{IsPath, nibbles_from, number_bits, sent_bits, SomeApart}
+use Rattle.p25_trellis.specs.Trellis.{nibbles_from, number_bits, sent_bits, SomeApart}
 use Rattle.p25_trellis.specs.Tables.{nibble_distance, half_point, half_parted, three_quarter_point, three_quarter_parted}
 
 -- a test is passed by every number below n

@@ -1,5 +1,5 @@
 -- Points of the two rates, and how far their paths differ.
-use Rattle.std.specs.Prelude.{◌≡◌, ℕ, zero, suc, ◌+◌, ◌*◌, ◌/◌, ◌<◌, ◌≤◌, Bool, true, false, cond, ◌&&◌, eqb, leb, List, slice_index}
+use Rattle.std.specs.Prelude.{ℕ, ◌+◌, ◌*◌, ◌/◌, cond, eqb, slice_index}
 use Rattle.p25_bits.specs.Bits.{bits_of}
 use Rattle.p25_bits.specs.Distance.{distance_of}
 use Rattle.p25_trellis.specs.declared.rate.TheConstants.{NIBBLES, HALF_POINTS, THREE_QUARTER_POINTS}

@@ -12,7 +12,8 @@ use super::path::{nibbles_of, path_of};
 use super::rate::Rate;
 use p25_bits::BitBuf;
 
-/// Appends the block of octets: 196 bits, the sent bits of the one path that carries them.
+/// Appends the block of octets: 196 bits, the sent bits of the one path that carries them (TIA-102.BAAA, Trellis Coding
+/// of data blocks). There are 12 octets at half rate and 18 at three-quarter rate, each most significant bit first.
 pub fn encode_block<R: Rate>(octets: &[u8], out: &mut BitBuf)
     requires octets { length octets.now ≡ R.OCTETS }
     requires room { length out.old + 196 ≤ 25928 }
@@ -38,9 +39,10 @@ fn distance_costs(received: &[u8; 49]) -> [u32; BLOCK_COSTS]
     costs
 }
 
-/// Writes the octets of the first nearest path to the 196 bits from place `at`, and answers its distance: no path's sent
-/// bits are nearer, and of several that are as near it is the first in dictionary order of symbols. So a block with at
-/// most 2 wrong bits at half rate, or 1 at three-quarter rate, reads as the octets that were sent.
+/// Writes the octets of the first nearest path to the 196 bits from place `at`, and answers its distance, the number of
+/// bits in which they differ from the path's sent bits. No path's sent bits are nearer, and of several that are as near
+/// it is the first in dictionary order of symbols. So a block with at most 2 wrong bits at half rate, or 1 at
+/// three-quarter rate, reads as the octets that were sent.
 pub fn read_block<R: Rate>(bits: &BitBuf, at: usize, octets: &mut [u8]) -> u32
     requires there { at + 196 ≤ length bits.now }
     requires octets { length octets.old ≡ R.OCTETS }

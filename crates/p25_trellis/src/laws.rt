@@ -11,8 +11,7 @@ use super::rate::{Half, Rate, ThreeQuarter};
 pub fn paths_apart<R: Rate>()
     ensures apart { (path other : List ℕ) → IsPath R.STATES path → IsPath R.STATES other → distance_of (sent_bits R.point_of path) (sent_bits R.point_of other) < R.APART → path ≡ other }
     ensures reached { SomeApart R.STATES R.point_of R.APART }
-{
-}
+{}
 
 /// The sent bits of two different half-rate paths differ in at least 5 places.
 pub fn half_rate_apart()

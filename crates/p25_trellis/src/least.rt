@@ -28,7 +28,8 @@ fn symbol_cost<R: Rate>(costs: &[u32], rests: &[u32], step: usize, state: u8, sy
     requires fits { step_cost R.point_of costs.now rests.now step state symbol < 2 ^ 32 }
     ensures { result ≡ step_cost R.point_of costs.now rests.now step state symbol }
 {
-    costs[16 * step + usize::from(R::point(state, symbol))] + rests[8 * (step + 1) + usize::from(symbol)]
+    costs[16 * step + usize::from(R::point(state, symbol))]
+        + rests[8 * (step + 1) + usize::from(symbol)]
 }
 
 // The lowest of the symbols that cost least after a state.
@@ -111,10 +112,12 @@ fn first_path<R: Rate>(costs: &[u32], rests: &[u32]) -> [u8; 49]
     path
 }
 
-/// Writes the octets of the first least path, in dictionary order of symbols, and answers its cost.
+/// Writes the octets of the first least path by a table of costs, and answers what that path costs: no path costs less,
+/// and of several that cost as little it is the first in dictionary order of symbols.
 ///
-/// The cost of a path is the sum of its nibbles' costs: that of nibble n at step i stands at place 16·i + n. Each cost is
-/// at most 2^24.
+/// The table has 16 costs for each of the 49 steps, that of nibble n at step i at place 16·i + n, each at most 2^24. A path
+/// costs the sum over its nibbles, as they are before they are interleaved. `read_block` is this with the distances from
+/// received nibbles as costs; a reader of soft symbols has costs of its own.
 pub fn read_costs<R: Rate>(costs: &[u32], octets: &mut [u8]) -> u32
     requires costs { length costs.now ≡ 784 }
     requires low { All (λ cost. cost ≤ 2 ^ 24) costs.now }

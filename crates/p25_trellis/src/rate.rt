@@ -4,22 +4,29 @@ ghost use Rattle.std.specs.Prelude.{◌≡◌, ◌≢◌, ℕ, ◌+◌, ◌*◌,
 ghost use Rattle.p25_trellis.specs.Trellis.{SomeApart};
 ghost use Rattle.p25_trellis.specs.Tables.{nibble_distance};
 
-/// A rate of the trellis code: a table of points, with a row for each state and a column for each symbol. The state
-/// after a symbol is that symbol.
+/// A rate of the trellis code: a table of points with a row for each state and a column for each symbol. The state after
+/// a symbol is that symbol (TIA-102.BAAA, Trellis Coding).
+///
+/// The laws of a table are what the reading of blocks stands on: its points are nibbles, and from one state two symbols
+/// lead to paths that differ in at least `APART` bits before they meet again.
 pub trait Rate {
-    /// The number of states, and of symbols.
+    /// The number of states, and of symbols: 4 or 8.
     const STATES: u8;
-    /// The number of bits that a symbol stands for.
+    /// The number of bits that a symbol stands for: 2 or 3.
     const BITS_PER_SYMBOL: u32;
-    /// The number of octets of a block.
+    /// The number of octets of a block: 12 or 18.
     const OCTETS: usize;
-    /// Two different paths differ in at least so many sent bits.
+    /// The least number of sent bits in which two different paths differ: 5 or 3.
     const APART: u32;
 
     ghost STATES: { ℕ };
+
     ghost BITS_PER_SYMBOL: { ℕ };
+
     ghost OCTETS: { ℕ };
+
     ghost APART: { ℕ };
+
     ghost point_of: { ℕ → ℕ → ℕ };
     // in how many bits at least the paths from two states differ until they meet
     ghost parted: { ℕ → ℕ → ℕ };
@@ -32,18 +39,28 @@ pub trait Rate {
         ensures nibble { result < 16 };
 
     ghost states_of_bits: { STATES ≡ 2 ^ BITS_PER_SYMBOL };
+
     ghost few_bits: { BITS_PER_SYMBOL ≤ 3 };
+
     ghost few_states: { STATES ≤ 8 };
+
     ghost octets_of_bits: { 48 * BITS_PER_SYMBOL ≡ 8 * OCTETS };
+
     ghost nibbles: { (state symbol : ℕ) → state < STATES → symbol < STATES → point_of state symbol < 16 };
+
     ghost together: { parted 0 0 ≡ 0 };
+
     ghost stays_parted: { (a b x y : ℕ) → a < STATES → b < STATES → x < STATES → y < STATES → parted a b ≤ nibble_distance (point_of a x) (point_of b y) + parted x y };
+
     ghost reached: { SomeApart STATES point_of APART };
+
     ghost parts: { (state x y : ℕ) → state < STATES → x < STATES → y < STATES → x ≢ y → APART ≤ nibble_distance (point_of state x) (point_of state y) + parted x y };
 }
 
 // The four bits of each point.
-const NIBBLES: [u8; 16] = [0x2, 0xA, 0x7, 0xF, 0xE, 0x6, 0xB, 0x3, 0xD, 0x5, 0x8, 0x0, 0x1, 0x9, 0x4, 0xC];
+const NIBBLES: [u8; 16] = [
+    0x2, 0xA, 0x7, 0xF, 0xE, 0x6, 0xB, 0x3, 0xD, 0x5, 0x8, 0x0, 0x1, 0x9, 0x4, 0xC,
+];
 
 // The points of half rate, a row of four for each state.
 const HALF_POINTS: [u8; 16] = [
@@ -73,8 +90,11 @@ pub struct ThreeQuarter;
 
 impl Rate for Half {
     const STATES: u8 = 4;
+
     const BITS_PER_SYMBOL: u32 = 2;
+
     const OCTETS: usize = 12;
+
     const APART: u32 = 5;
 
     ghost use Rattle.p25_trellis.specs.Tables.{half_point, half_parted};
@@ -82,10 +102,15 @@ impl Rate for Half {
     ghost use Rattle.std.proofs.Common.{arith, refl};
 
     ghost STATES = { 4 };
+
     ghost BITS_PER_SYMBOL = { 2 };
+
     ghost OCTETS = { 12 };
+
     ghost APART = { 5 };
+
     ghost point_of = { half_point };
+
     ghost parted = { half_parted };
 
     fn point(state: u8, symbol: u8) -> u8 {
@@ -93,20 +118,31 @@ impl Rate for Half {
     }
 
     ghost states_of_bits = { refl };
+
     ghost few_bits = { Prim.omega arith };
+
     ghost few_states = { Prim.omega arith };
+
     ghost octets_of_bits = { refl };
+
     ghost nibbles = { nibbles-from_test 4 half_point half_nibbles };
+
     ghost together = { half_together };
+
     ghost stays_parted = { parted-from_test 4 half_point half_parted half_stays_parted };
+
     ghost reached = { half_reached };
+
     ghost parts = { parts-from_test 4 5 half_point half_parted half_parts };
 }
 
 impl Rate for ThreeQuarter {
     const STATES: u8 = 8;
+
     const BITS_PER_SYMBOL: u32 = 3;
+
     const OCTETS: usize = 18;
+
     const APART: u32 = 3;
 
     ghost use Rattle.p25_trellis.specs.Tables.{three_quarter_point, three_quarter_parted};
@@ -114,10 +150,15 @@ impl Rate for ThreeQuarter {
     ghost use Rattle.std.proofs.Common.{arith, refl};
 
     ghost STATES = { 8 };
+
     ghost BITS_PER_SYMBOL = { 3 };
+
     ghost OCTETS = { 18 };
+
     ghost APART = { 3 };
+
     ghost point_of = { three_quarter_point };
+
     ghost parted = { three_quarter_parted };
 
     fn point(state: u8, symbol: u8) -> u8 {
@@ -125,12 +166,20 @@ impl Rate for ThreeQuarter {
     }
 
     ghost states_of_bits = { refl };
+
     ghost few_bits = { Prim.omega arith };
+
     ghost few_states = { Prim.omega arith };
+
     ghost octets_of_bits = { refl };
+
     ghost nibbles = { nibbles-from_test 8 three_quarter_point three_quarter_nibbles };
+
     ghost together = { three_quarter_together };
+
     ghost stays_parted = { parted-from_test 8 three_quarter_point three_quarter_parted three_quarter_stays_parted };
+
     ghost reached = { three_quarter_reached };
+
     ghost parts = { parts-from_test 8 3 three_quarter_point three_quarter_parted three_quarter_parts };
 }

@@ -55,11 +55,16 @@ fn a_tie_and_a_nearer_path(rt: HostRuntime) {
     bits.flip(15);
     bits.flip(14);
     assert_eq!(rt; read_block::<ThreeQuarter>(&bits, 0, &mut octets), 1);
-    assert_eq!(rt; octets, [0, 0, 0, 0, 0x0A, 0, 0, 0, 0, 0, 0, 0, 0, 0, 0, 0, 0, 0]);
+    assert_eq!(rt;
+        octets,
+        [0, 0, 0, 0, 0x0A, 0, 0, 0, 0, 0, 0, 0, 0, 0, 0, 0, 0, 0]
+    );
 }
 
 // The nibbles of a block of half rate, as they are sent.
-fn half_rate_nibbles(octets: &[u8; 12]) -> [u8; 49] {
+fn half_rate_nibbles(octets: &[u8; 12]) -> [u8; 49]
+    ensures { length result ≡ 49 }
+{
     let mut bits = BitBuf::new();
     encode_block::<Half>(octets, &mut bits);
     let mut nibbles = [0; 49];
@@ -71,14 +76,29 @@ fn half_rate_nibbles(octets: &[u8; 12]) -> [u8; 49] {
 fn nibbles_at_half_rate(rt: HostRuntime) {
     assert_eq!(rt; half_rate_nibbles(&[0; 12]), [2; 49]);
     let mut nibbles = [2; 49];
-    for (place, nibble) in [(10, 15), (11, 8), (12, 5), (23, 8), (24, 8), (35, 8), (36, 8), (47, 8), (48, 8)] {
+    for (place, nibble) in [
+        (10, 15),
+        (11, 8),
+        (12, 5),
+        (23, 8),
+        (24, 8),
+        (35, 8),
+        (36, 8),
+        (47, 8),
+        (48, 8),
+    ] {
         nibbles[place] = nibble;
     }
-    assert_eq!(rt; half_rate_nibbles(&[0, 0, 0, 0, 0, 0, 0, 0, 0, 0, 255, 255]), nibbles);
+    assert_eq!(rt;
+        half_rate_nibbles(&[0, 0, 0, 0, 0, 0, 0, 0, 0, 0, 255, 255]),
+        nibbles
+    );
 }
 
 // Octets of a block: the `seed`, and then each the one before times 5 and 1 more.
-fn sample_octets(seed: u8, octets: &mut [u8]) {
+fn sample_octets(seed: u8, octets: &mut [u8])
+    ensures { length octets.new ≡ length octets.old }
+{
     let mut next = seed;
     for octet in octets {
         *octet = next;

@@ -1,7 +1,6 @@
-use Rattle.std.proofs.Common.{◌≡◌, ℕ, ◌+◌, ◌/◌, ◌%◌, ◌^◌, ◌<◌, ◌≤◌, bit_xor, count_ones, length, get_or, refl, subst, sym, ◌∙◌, arith, length-set}
+use Rattle.std.proofs.Common.{ℕ, ◌/◌, ◌%◌, ◌^◌, ◌<◌, ◌≤◌, bit_xor, count_ones, length, get_or, ◌∙◌, arith, length-set}
 use Rattle.std.proofs.lemmas.List.{length-replicate}
 use Rattle.std.proofs.lemmas.List.Elements.{All-replicate, All-set}
-use Rattle.p25_trellis.specs.Tables.{nibble_distance}
 use Rattle.p25_trellis.proofs.Distances.{count_ones-nibbles, nibble_distance-le, cost_more, IsDistanceTable-from_places}
 use Rattle.p25_trellis.proofs.block.distance_costs.Goals as goal
 

@@ -1,8 +1,8 @@
-use Rattle.std.proofs.Common.{◌≡◌, ℕ, ◌<◌, ◌++◌, List, Bool, sym, ap, ◌∙◌, refl}
+use Rattle.std.proofs.Common.{ℕ, ◌<◌, ◌++◌, List, Bool, ap, ◌∙◌}
 use Rattle.p25_trellis.proofs.Paths.{same_block}
 use Rattle.std.proofs.lemmas.List.Elements.{All-same}
 use Rattle.p25_trellis.specs.Interleave.{interleaved}
-use Rattle.p25_trellis.specs.Trellis.{number_bits, sent_bits, nibbles_from}
+use Rattle.p25_trellis.specs.Trellis.{number_bits, sent_bits}
 use Rattle.p25_trellis.proofs.InterleaveLaws.{All-interleaved}
 use Rattle.p25_trellis.proofs.block.encode_block.Goals as goal
 

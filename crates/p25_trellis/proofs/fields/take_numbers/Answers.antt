@@ -1,9 +1,8 @@
-use Rattle.std.proofs.Common.{◌≡◌, ℕ, ◌+◌, ◌*◌, ◌^◌, ◌<◌, ◌≤◌, ◌++◌, [], ◌∷◌, List, Bool, length, take, drop, set, get_or, refl, sym, ap, subst, ◌∙◌, arith}
+use Rattle.std.proofs.Common.{ℕ, ◌+◌, ◌*◌, ◌^◌, ◌<◌, ◌≤◌, ◌++◌, [], ◌∷◌, length, take, set, refl, sym, ap, subst, ◌∙◌, arith}
 use Rattle.std.proofs.Math.Nat.{mul-le-mul_left, mul-zero, pow-le-pow_right}
 use Rattle.std.proofs.lemmas.List.{take_more_set, drop-set-lt}
 use Rattle.std.proofs.lemmas.List.Elements.{All-nil, All-push, All-same}
-use Rattle.p25_bits.specs.Bits.{bits_of, field_of, part}
-use Rattle.p25_trellis.specs.Trellis.{number_bits}
+use Rattle.p25_bits.specs.Bits.{part}
 use Rattle.p25_trellis.proofs.NumberBits.{more_bits, number_bits-nil, number_bits-take_more, field-lt}
 use Rattle.p25_trellis.proofs.fields.take_numbers.Goals as goal
 
@@ -47,6 +46,6 @@ loop-i-preserved c =
     let small = subst (λ (n : ℕ). n < 2 ^ w) (sym c.field.ensures) (field-lt w (c.args.at + w * i) bits there) in record {
       read = number_bits-take_more bits c.args.at w numbers i c.field.result inside there c.field.ensures c.loop-i.invariant.read;
       fits
-      = All-same (λ (n : ℕ). n < 2 ^ w) (take (i + 1) (set numbers i c.field.result)) (take i numbers ++ c.field.result ∷ []) (take_more_set numbers i c.field.result inside) (All-push (λ (n : ℕ). n < 2 ^ w) (take i numbers) c.field.result c.loop-i.invariant.fits small);
+          = All-same (λ (n : ℕ). n < 2 ^ w) (take (i + 1) (set numbers i c.field.result)) (take i numbers ++ c.field.result ∷ []) (take_more_set numbers i c.field.result inside) (All-push (λ (n : ℕ). n < 2 ^ w) (take i numbers) c.field.result c.loop-i.invariant.fits small);
       rest = drop-set-lt c.args.count numbers i c.field.result c.loop-i-test.true ∙ c.loop-i.invariant.rest;
     }

@@ -1,5 +1,5 @@
-use Rattle.std.proofs.Common.{◌≡◌, ◌≢◌, ℕ, ◌+◌, ◌<◌, ◌≤◌, List, length, get_or, set, sym, ap, ◌∙◌, arith, length-set}
-use Rattle.std.proofs.lemmas.List.{get_or-set_same, get_or-set_other, ext_get_or}
+use Rattle.std.proofs.Common.{◌≡◌, ◌<◌, length, get_or, sym, ◌∙◌, arith, length-set}
+use Rattle.std.proofs.lemmas.List.{ext_get_or}
 use Rattle.p25_trellis.specs.Interleave.{interleaved}
 use Rattle.p25_trellis.specs.declared.interleave.TheConstants.{SENT_ORDER}
 use Rattle.p25_trellis.proofs.InterleaveLaws.{length-interleaved, get_or-interleaved, order-lt, written_more, same_from_interleaved}
@@ -23,9 +23,9 @@ returns-clause-sent c =
     let long : length (interleaved plain) ≡ length nibbles = length-interleaved plain ∙ c.loop-place.invariant.1 ∙ sym c.told-nibbles in
     ext_get_or 0 (interleaved plain) nibbles long
     (λ i inside.
-        let below : i < 49 = omega (arith, length-interleaved plain) in
-        let done : i < c.loop-place.place = omega arith in
-        get_or-interleaved plain i c.loop-place.invariant.1 below ∙ c.loop-place.invariant.0 i done)
+    let below : i < 49 = omega (arith, length-interleaved plain) in
+    let done : i < c.loop-place.place = omega arith in
+    get_or-interleaved plain i c.loop-place.invariant.1 below ∙ c.loop-place.invariant.0 i done)
 
 pub returns-clause-undone : goal.returns-clause-undone
 returns-clause-undone c = λ plain same. same_from_interleaved c.loop-place.plain plain (returns-clause-sent c ∙ sym same)

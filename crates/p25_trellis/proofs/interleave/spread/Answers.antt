@@ -1,4 +1,4 @@
-use Rattle.std.proofs.Common.{◌≡◌, ℕ, ◌+◌, ◌<◌, ◌≤◌, List, length, get_or, set, take, sym, ap, ◌∙◌, arith, length-set}
+use Rattle.std.proofs.Common.{◌≡◌, ◌<◌, ◌≤◌, length, get_or, set, sym, ◌∙◌, arith, length-set}
 use Rattle.std.proofs.lemmas.List.{take_more_same, take-set, get_or-set_same}
 use Rattle.p25_trellis.specs.Interleave.{interleaved}
 use Rattle.p25_trellis.specs.declared.interleave.TheConstants.{SENT_ORDER}
@@ -18,8 +18,8 @@ loop-place-preserved c =
     let there : place < length (interleaved nibbles) = omega (arith, length-interleaved nibbles) in
     let kept : place < length (set c.loop-place.sent place nibble) = omega (arith, length-set c.loop-place.sent place nibble) in (
       take_more_same (set c.loop-place.sent place nibble) (interleaved nibbles) place 0 kept there
-      (take-set c.loop-place.sent place nibble ∙ c.loop-place.invariant.0)
-      (get_or-set_same c.loop-place.sent place nibble 0 here ∙ sym (get_or-interleaved nibbles place long c.loop-place-test.true)),
+          (take-set c.loop-place.sent place nibble ∙ c.loop-place.invariant.0)
+          (get_or-set_same c.loop-place.sent place nibble 0 here ∙ sym (get_or-interleaved nibbles place long c.loop-place-test.true)),
       length-set c.loop-place.sent place nibble ∙ c.loop-place.invariant.1,
     )
 

@@ -1,4 +1,4 @@
-use Rattle.std.proofs.Common.{◌≡◌, ℕ, ◌<◌, ◌≤◌, length, ◌∙◌, arith}
+use Rattle.std.proofs.Common.{◌≡◌, ◌<◌, length, ◌∙◌, arith}
 use Rattle.p25_trellis.proofs.Costs.{last_more, HasLeastFrom-last}
 use Rattle.p25_trellis.proofs.least.fill_last.Goals as goal
 

@@ -1,4 +1,4 @@
-use Rattle.std.proofs.Common.{◌≡◌, ℕ, ◌<◌, length}
+use Rattle.std.proofs.Common.{◌≡◌, ℕ, ◌<◌}
 use Rattle.p25_trellis.specs.Least.{cost_in, rest_in}
 use Rattle.p25_trellis.proofs.least.fill_last.Given as goal
 

@@ -1,4 +1,4 @@
-use Rattle.std.proofs.Common.{◌≡◌, ℕ, suc, ◌+◌, ◌<◌, ◌≤◌, List, [], ◌∷◌, ◌++◌, length, take, drop, set, sym, ap, subst, ◌∙◌, arith, length-set}
+use Rattle.std.proofs.Common.{◌≡◌, ℕ, suc, ◌+◌, List, [], ◌∷◌, ◌++◌, take, sym, ap, subst, ◌∙◌, arith, length-set}
 use Rattle.std.proofs.lemmas.List.{take-append-drop, drop-set-lt}
 use Rattle.p25_trellis.specs.Least.{cost_in, path_cost, symbols_cost}
 use Rattle.p25_trellis.proofs.Costs.{step_cost-lt, HasLeastFrom-later}
@@ -18,7 +18,7 @@ loop-step-preserved g c =
     let path = c.loop-step.path in
     let symbol = c.best_symbol-state.result.symbol in record {
       completes
-      = completes_more g.R.Rate.STATES g.R.Rate.point_of c.args.costs.now c.args.rests.now path step c.loop-step.state symbol c.best_symbol-state.result.cost c.requires.least c.loop-step-test.true c.loop-step.invariant.long c.best_symbol-state.ensures c.loop-step.invariant.completes;
+          = completes_more g.R.Rate.STATES g.R.Rate.point_of c.args.costs.now c.args.rests.now path step c.loop-step.state symbol c.best_symbol-state.result.cost c.requires.least c.loop-step-test.true c.loop-step.invariant.long c.best_symbol-state.ensures c.loop-step.invariant.completes;
       row = c.best_symbol-state.ensures.below;
       last = drop-set-lt 48 path step symbol c.loop-step-test.true ∙ c.loop-step.invariant.last;
       long = length-set path step symbol ∙ c.loop-step.invariant.long;
@@ -36,6 +36,6 @@ returns-clause-first g c =
     = ap (λ n. take n path ++ 0 ∷ []) (sym done) ∙ ap (λ (zs : List ℕ). take 48 path ++ zs) (sym c.loop-step.invariant.last) ∙ take-append-drop 48 path in
     IsFirstLeast-from_end states (path_cost point (cost_in costs)) path (power-pos g.R.Rate.BITS_PER_SYMBOL states g.met.R.Rate.states_of_bits)
     (
-      subst (λ (p : List ℕ). IsFirstLeastEnd states 48 (symbols_cost point (cost_in costs) 0 0) p) whole
-      (c.loop-step.invariant.completes 0 (0 ∷ []) place (IsFirstLeastEnd-last states (symbols_cost point (cost_in costs) c.loop-step.step c.loop-step.state)))
+    subst (λ (p : List ℕ). IsFirstLeastEnd states 48 (symbols_cost point (cost_in costs) 0 0) p) whole
+    (c.loop-step.invariant.completes 0 (0 ∷ []) place (IsFirstLeastEnd-last states (symbols_cost point (cost_in costs) c.loop-step.step c.loop-step.state)))
     )

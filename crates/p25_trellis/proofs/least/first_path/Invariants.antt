@@ -8,5 +8,5 @@ invariant-loop-step g l = record {
   completes : (before : ℕ) (end : List ℕ) → l.step + before ≡ 48 → IsFirstLeastEnd g.R.Rate.STATES before (symbols_cost g.R.Rate.point_of (cost_in l.costs) l.step l.state) end → IsFirstLeastEnd g.R.Rate.STATES 48 (symbols_cost g.R.Rate.point_of (cost_in l.costs) 0 0) (take l.step l.path ++ end);
   row : l.state < g.R.Rate.STATES;
   last : drop 48 l.path ≡ 0 ∷ [];
-  long : length l.path ≡ 49
+  long : length l.path ≡ 49;
 }

@@ -1,4 +1,4 @@
-use Rattle.std.proofs.Common.{◌≡◌, ℕ, ◌≤◌, get_or, refl, sym, ◌∙◌, arith}
+use Rattle.std.proofs.Common.{refl, sym, ◌∙◌, arith}
 use Rattle.p25_trellis.specs.Least.{cost_in, rest_in, path_cost}
 use Rattle.p25_trellis.proofs.Costs.{rest_in-first}
 use Rattle.p25_trellis.proofs.Paths.{power-pos}
@@ -15,6 +15,6 @@ returns g c =
       first_least = first;
       carries = c.octets_of.ensures;
       total_is
-      = sym (rest_in-first rests)
+          = sym (rest_in-first rests)
           ∙ IsFirstLeast-total states (path_cost g.R.Rate.point_of (cost_in c.args.costs.now)) c.first_path-path.result (rest_in rests 0 0) some (c.least_rests-rests.ensures.least.at 0 48 0 (omega arith) refl some) first;
     }

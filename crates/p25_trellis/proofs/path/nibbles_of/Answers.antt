@@ -1,5 +1,4 @@
-use Rattle.std.proofs.Common.{◌≡◌, ℕ, ◌+◌, ◌<◌, ◌≤◌, ◌++◌, List, length, take, drop, get_or, set, refl, sym, ap, ap₂, ◌∙◌, append-nil, arith, length-set}
-use Rattle.std.proofs.lemmas.Nat.{pow_pos}
+use Rattle.std.proofs.Common.{ℕ, ◌<◌, ◌≤◌, ◌++◌, List, length, refl, sym, ap, ap₂, ◌∙◌, append-nil, arith, length-set}
 use Rattle.std.proofs.lemmas.List.{take_all, drop_all}
 use Rattle.std.proofs.lemmas.List.Elements.{All-replicate, All-set}
 use Rattle.p25_trellis.specs.Trellis.{nibbles_from}
@@ -22,7 +21,7 @@ loop-step-preserved g c =
     let here : step < length nibbles = omega (arith, c.loop-step.invariant.long) in
     let there : step < length path = omega (arith, c.told-path) in record {
       done
-      = nibbles_more g.R.Rate.point_of c.loop-step.state nibbles path step c.point.result here there c.point.ensures.value ∙ c.loop-step.invariant.done;
+          = nibbles_more g.R.Rate.point_of c.loop-step.state nibbles path step c.point.result here there c.point.ensures.value ∙ c.loop-step.invariant.done;
       fits = All-set (λ (n : ℕ). n < 16) nibbles step c.point.result c.point.ensures.nibble c.loop-step.invariant.fits;
       row = c.requires step 0 there;
       long = length-set nibbles step c.point.result ∙ c.loop-step.invariant.long;

@@ -7,5 +7,5 @@ invariant-loop-step g l = record {
   done : take l.step l.nibbles ++ nibbles_from g.R.Rate.point_of l.state (drop l.step l.path) ≡ nibbles_from g.R.Rate.point_of 0 l.path;
   fits : All (λ (n : ℕ). n < 16) l.nibbles;
   row : l.state < g.R.Rate.STATES;
-  long : length l.nibbles ≡ 49
+  long : length l.nibbles ≡ 49;
 }

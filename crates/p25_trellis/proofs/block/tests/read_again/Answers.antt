@@ -1,6 +1,4 @@
-use Rattle.std.proofs.Common.{◌≡◌, ◌*◌, ◌<◌, ◌∙◌, arith}
-use Rattle.p25_bits.specs.Bits.{part}
-use Rattle.p25_bits.specs.Distance.{distance_of}
+use Rattle.std.proofs.Common.{◌∙◌, arith}
 use Rattle.p25_trellis.proofs.Apart.{distance_of-block}
 use Rattle.p25_trellis.proofs.block.tests.read_again.Goals as goal
 

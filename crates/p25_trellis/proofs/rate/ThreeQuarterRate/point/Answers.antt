@@ -1,4 +1,4 @@
-use Rattle.std.proofs.Common.{ℕ, ◌+◌, ◌*◌, ◌<◌, rules, arith, subst, sym}
+use Rattle.std.proofs.Common.{◌+◌, ◌*◌, ◌<◌, rules, arith}
 use Rattle.p25_trellis.specs.Tables.{three_quarter_point}
 use Rattle.p25_trellis.proofs.Codes.{three_quarter_points}
 use Rattle.p25_trellis.proofs.rate.ThreeQuarterRate.point.Goals as goal
