@@ -1,0 +1,205 @@
+-- Laws of the interleaver.
+use Rattle.std.proofs.Common.{◌≡◌, ◌≢◌, ℕ, zero, suc, ◌+◌, ◌<◌, ◌≤◌, ◌||◌, Bool, true, false, not, cond, eqb, ltb, List, [], ◌∷◌, ◌++◌, map, length, get_or, set, take, drop, refl, ap, sym, ◌∙◌, arith, length-append, below_more, get_or-set_same, get_or-set_other, All}
+use Rattle.std.proofs.lemmas.List.Elements.{All-cons, All-head, All-tail, All-append, All-same, All-take, All-drop}
+use Rattle.std.specs.List.{range_with_len}
+use Rattle.std.proofs.lemmas.Bool.{eqb-true, ltb-true, eq-eqb}
+use Rattle.std.proofs.lemmas.List.{take_all, take_at, drop_at, map-append, get_or-map}
+use Rattle.std.proofs.lemmas.List.FromFn.{fill_by_all}
+use Rattle.p25_bits.specs.Distance.{distance_by}
+use Rattle.p25_bits.proofs.DistanceLaws.{distance_by-same, same_from_distance_by}
+use Rattle.p25_trellis.specs.declared.interleave.TheConstants.{SENT_ORDER}
+use Rattle.p25_trellis.specs.Interleave.{each_fourth, interleaved}
+use Rattle.p25_trellis.specs.TableLaws.{passed_below, passed_below-at}
+
+-- how many fourth elements there are depends on the length alone
+length-each_fourth : {X Y : Type 0} (wait : ℕ) (xs : List X) (ys : List Y) → length xs ≡ length ys → length (each_fourth wait xs) ≡ length (each_fourth wait ys)
+unfolding each_fourth
+length-each_fourth wait [] [] long = refl
+length-each_fourth wait [] (y ∷ ys) long = absurd (omega arith)
+length-each_fourth wait (x ∷ xs) [] long = absurd (omega arith)
+length-each_fourth zero (x ∷ xs) (y ∷ ys) long = ap suc (length-each_fourth 3 xs ys (omega arith))
+length-each_fourth (suc wait) (x ∷ xs) (y ∷ ys) long = length-each_fourth wait xs ys (omega arith)
+
+each_fourth-map : {X Y : Type 0} (f : X → Y) (wait : ℕ) (xs : List X) → each_fourth wait (map f xs) ≡ map f (each_fourth wait xs)
+unfolding each_fourth
+each_fourth-map f wait [] = refl
+each_fourth-map f zero (x ∷ xs) = ap (λ zs. f x ∷ zs) (each_fourth-map f 3 xs)
+each_fourth-map f (suc wait) (x ∷ xs) = each_fourth-map f wait xs
+
+-- to interleave and to change each element can be done in either order
+pub interleaved-map : {X Y : Type 0} (f : X → Y) (xs : List X) → interleaved (map f xs) ≡ map f (interleaved xs)
+unfolding interleaved
+interleaved-map f xs = simp (each_fourth-map, map-append)
+
+-- the fourth elements from the four first places are all of a list
+length-fourths : {X : Type 0} (xs : List X) → length (each_fourth 0 xs) + length (each_fourth 1 xs) + length (each_fourth 2 xs) + length (each_fourth 3 xs) ≡ length xs
+unfolding each_fourth
+length-fourths [] = refl
+length-fourths (x ∷ xs) = omega (arith, length-fourths xs)
+
+pub length-interleaved : {X : Type 0} (xs : List X) → length (interleaved xs) ≡ length xs
+unfolding interleaved
+length-interleaved xs = simp length-append (length-fourths xs)
+
+-- the sum over the places of two lists of what their elements weigh against each other
+unfoldable pub weighed : {X Y : Type 0} → (X → Y → ℕ) → List X → List Y → ℕ
+weighed weight [] ys = 0
+weighed weight (x ∷ xs) [] = 0
+weighed weight (x ∷ xs) (y ∷ ys) = weight x y + weighed weight xs ys
+
+weighed-fourths : {X Y : Type 0} (weight : X → Y → ℕ) (xs : List X) (ys : List Y) → length xs ≡ length ys → weighed weight (each_fourth 0 xs) (each_fourth 0 ys) + weighed weight (each_fourth 1 xs) (each_fourth 1 ys) + weighed weight (each_fourth 2 xs) (each_fourth 2 ys) + weighed weight (each_fourth 3 xs) (each_fourth 3 ys) ≡ weighed weight xs ys
+unfolding each_fourth weighed
+weighed-fourths weight [] [] long = refl
+weighed-fourths weight [] (y ∷ ys) long = absurd (omega arith)
+weighed-fourths weight (x ∷ xs) [] long = absurd (omega arith)
+weighed-fourths weight (x ∷ xs) (y ∷ ys) long = omega (arith, weighed-fourths weight xs ys (omega arith))
+
+weighed-append : {X Y : Type 0} (weight : X → Y → ℕ) (xs ys : List X) (us vs : List Y) → length xs ≡ length us → weighed weight (xs ++ ys) (us ++ vs) ≡ weighed weight xs us + weighed weight ys vs
+unfolding weighed
+weighed-append weight [] ys [] vs long = omega arith
+weighed-append weight [] ys (u ∷ us) vs long = absurd (omega arith)
+weighed-append weight (x ∷ xs) ys [] vs long = absurd (omega arith)
+weighed-append weight (x ∷ xs) ys (u ∷ us) vs long = omega (arith, weighed-append weight xs ys us vs (omega arith))
+
+-- interleaved lists weigh as much against each other as the lists
+pub weighed-interleaved : {X Y : Type 0} (weight : X → Y → ℕ) (xs : List X) (ys : List Y) → length xs ≡ length ys → weighed weight (interleaved xs) (interleaved ys) ≡ weighed weight xs ys
+unfolding interleaved
+weighed-interleaved weight xs ys long =
+    let e0 = length-each_fourth 0 xs ys long in
+    let e1 = length-each_fourth 1 xs ys long in
+    let e2 = length-each_fourth 2 xs ys long in
+    weighed-append weight (each_fourth 0 xs ++ each_fourth 1 xs ++ each_fourth 2 xs) (each_fourth 3 xs) (each_fourth 0 ys ++ each_fourth 1 ys ++ each_fourth 2 ys) (each_fourth 3 ys) (simp length-append (cc))
+    ∙ ap
+    (λ n. n + weighed weight (each_fourth 3 xs) (each_fourth 3 ys))
+    (
+    weighed-append weight (each_fourth 0 xs ++ each_fourth 1 xs) (each_fourth 2 xs) (each_fourth 0 ys ++ each_fourth 1 ys) (each_fourth 2 ys) (simp length-append (cc))
+    ∙ ap (λ n. n + weighed weight (each_fourth 2 xs) (each_fourth 2 ys)) (weighed-append weight (each_fourth 0 xs) (each_fourth 1 xs) (each_fourth 0 ys) (each_fourth 1 ys) e0)
+    )
+    ∙ weighed-fourths weight xs ys long
+
+-- the distance of two lists is such a sum
+distance_by-weighed : {X : Type 0} (same : X → X → Bool) (xs ys : List X) → distance_by same xs ys ≡ weighed (λ x y. cond (same x y) 0 1) xs ys
+unfolding distance_by weighed
+distance_by-weighed same [] ys = refl
+distance_by-weighed same (x ∷ xs) [] = refl
+distance_by-weighed same (x ∷ xs) (y ∷ ys) = ap (λ n. cond (same x y) 0 1 + n) (distance_by-weighed same xs ys)
+
+-- two interleaved lists differ in as many places as the lists
+distance_by-interleaved : {X : Type 0} (same : X → X → Bool) (xs ys : List X) → length xs ≡ length ys → distance_by same (interleaved xs) (interleaved ys) ≡ distance_by same xs ys
+distance_by-interleaved same xs ys long =
+    distance_by-weighed same (interleaved xs) (interleaved ys) ∙ weighed-interleaved (λ x y. cond (same x y) 0 1) xs ys long ∙ sym (distance_by-weighed same xs ys)
+
+eqb-same : (n : ℕ) → eqb n n ≡ true
+eqb-same n = eq-eqb n n refl
+
+-- no other list is sent in the same way
+pub same_from_interleaved : (xs ys : List ℕ) → interleaved xs ≡ interleaved ys → xs ≡ ys
+same_from_interleaved xs ys same =
+    let long : length xs ≡ length ys = sym (length-interleaved xs) ∙ ap length same ∙ length-interleaved ys in
+    same_from_distance_by eqb eqb-true xs ys long
+    (sym (distance_by-interleaved eqb xs ys long) ∙ ap (λ (zs : List ℕ). distance_by eqb zs (interleaved ys)) same ∙ distance_by-same eqb eqb-same (interleaved ys))
+
+-- the table of the order is the order
+order-interleaved : interleaved (range_with_len 0 49) ≡ SENT_ORDER
+unfolding interleaved each_fourth
+order-interleaved = refl
+
+-- which nibble stands at each place of what is sent
+pub get_or-interleaved : (xs : List ℕ) (place : ℕ) → length xs ≡ 49 → place < 49 → get_or (interleaved xs) place 0 ≡ get_or xs (get_or SENT_ORDER place 0) 0
+get_or-interleaved xs place long inside =
+    let f : ℕ → ℕ = λ i. get_or xs i 0 in
+    let counted : 49 ≡ length SENT_ORDER = refl in
+    let there : place < length SENT_ORDER = omega arith in
+    ap (λ (zs : List ℕ). get_or (interleaved zs) place 0) (fill_by_all f xs 49 0 long (λ k h. refl))
+    ∙ ap (λ (zs : List ℕ). get_or zs place 0) (interleaved-map f (range_with_len 0 49))
+    ∙ ap (λ (zs : List ℕ). get_or (map f zs) place 0) order-interleaved
+    ∙ get_or-map f SENT_ORDER place 0 0 there
+
+-- every place of the order is a place
+order_test : passed_below 49 (λ place. ltb (get_or SENT_ORDER place 0) 49) ≡ true
+unfolding passed_below
+order_test = refl
+
+pub order-lt : (place : ℕ) → place < 49 → get_or SENT_ORDER place 0 < 49
+order-lt place inside = ltb-true (get_or SENT_ORDER place 0) 49 (passed_below-at 49 (λ k. ltb (get_or SENT_ORDER k 0) 49) order_test place inside)
+
+-- no place stands in the order twice
+differs_test : passed_below 49 (λ place. passed_below 49 (λ other. eqb place other || not (eqb (get_or SENT_ORDER place 0) (get_or SENT_ORDER other 0)))) ≡ true
+unfolding passed_below
+differs_test = refl
+
+pub order-differs : (place other : ℕ) → place < 49 → other < 49 → place ≢ other → get_or SENT_ORDER place 0 ≢ get_or SENT_ORDER other 0
+order-differs place other inside there differ same =
+    apart (eqb place other) (eqb (get_or SENT_ORDER place 0) (get_or SENT_ORDER other 0))
+    (passed_below-at 49 _ (passed_below-at 49 _ differs_test place inside) other there)
+    (λ e. differ (eqb-true place other e))
+    (eq-eqb _ _ same)
+  where
+    apart : (a b : Bool) → (a || not b) ≡ true → (a ≡ true → ⊥) → b ≡ true → ⊥
+    apart true b h not_a is_b = not_a refl
+    apart false true h not_a is_b = cc
+    apart false false h not_a is_b = cc
+
+-- lists that agree as far as both reach are one list
+pub same_from_take : {X : Type 0} (n : ℕ) (xs ys : List X) → length xs ≤ n → length ys ≤ n → take n xs ≡ take n ys → xs ≡ ys
+same_from_take n xs ys short brief same = sym (take_all n xs short) ∙ same ∙ take_all n ys brief
+
+-- one more nibble is written to its place
+pub written_more : (plain nibbles : List ℕ) (place : ℕ) → length plain ≡ 49 → place < 49 → ((k : ℕ) → k < place → get_or plain (get_or SENT_ORDER k 0) 0 ≡ get_or nibbles k 0) → (k : ℕ) → k < place + 1 → get_or (set plain (get_or SENT_ORDER place 0) (get_or nibbles place 0)) (get_or SENT_ORDER k 0) 0 ≡ get_or nibbles k 0
+written_more plain nibbles place long inside so_far =
+    below_more (λ k. get_or (set plain (get_or SENT_ORDER place 0) (get_or nibbles place 0)) (get_or SENT_ORDER k 0) 0 ≡ get_or nibbles k 0) place before here
+  where
+    before : (k : ℕ) → k < place → get_or (set plain (get_or SENT_ORDER place 0) (get_or nibbles place 0)) (get_or SENT_ORDER k 0) 0 ≡ get_or nibbles k 0
+    before k h =
+        let other : k ≢ place = omega arith in
+        let below : k < 49 = omega arith in
+        get_or-set_other plain (get_or SENT_ORDER place 0) (get_or SENT_ORDER k 0) (get_or nibbles place 0) 0 (order-differs k place below inside other)
+        ∙ so_far k h
+
+    here : get_or (set plain (get_or SENT_ORDER place 0) (get_or nibbles place 0)) (get_or SENT_ORDER place 0) 0 ≡ get_or nibbles place 0
+    here =
+        let there : get_or SENT_ORDER place 0 < length plain = omega (arith, order-lt place inside) in
+        get_or-set_same plain (get_or SENT_ORDER place 0) (get_or nibbles place 0) 0 there
+
+-- what holds of each element of two lists, one after the other, holds of each of either
+All-front : {X : Type 0} (P : X → Type 0) (xs ys : List X) → All P (xs ++ ys) → All P xs
+All-front P xs ys all = All-same P xs (take (length xs) (xs ++ ys)) (sym (take_at xs ys (length xs) refl)) (All-take P (length xs) (xs ++ ys) all)
+
+All-back : {X : Type 0} (P : X → Type 0) (xs ys : List X) → All P (xs ++ ys) → All P ys
+All-back P xs ys all = All-same P ys (drop (length xs) (xs ++ ys)) (sym (drop_at xs ys (length xs) refl)) (All-drop P (length xs) (xs ++ ys) all)
+
+All-each_fourth : {X : Type 0} (P : X → Type 0) (wait : ℕ) (xs : List X) → All P xs → All P (each_fourth wait xs)
+unfolding each_fourth
+All-each_fourth P wait [] all = all
+All-each_fourth P zero (x ∷ xs) all = All-cons P x (each_fourth 3 xs) (All-head P x xs all) (All-each_fourth P 3 xs (All-tail P x xs all))
+All-each_fourth P (suc wait) (x ∷ xs) all = All-each_fourth P wait xs (All-tail P x xs all)
+
+-- what holds of each element holds of each that is sent
+pub All-interleaved : {X : Type 0} (P : X → Type 0) (xs : List X) → All P xs → All P (interleaved xs)
+unfolding interleaved
+All-interleaved P xs all =
+    All-append P (each_fourth 0 xs ++ each_fourth 1 xs ++ each_fourth 2 xs) (each_fourth 3 xs)
+    (
+    All-append P (each_fourth 0 xs ++ each_fourth 1 xs) (each_fourth 2 xs)
+    (All-append P (each_fourth 0 xs) (each_fourth 1 xs) (All-each_fourth P 0 xs all) (All-each_fourth P 1 xs all))
+    (All-each_fourth P 2 xs all)
+    )
+    (All-each_fourth P 3 xs all)
+
+All-from_fourths : {X : Type 0} (P : X → Type 0) (xs : List X) → All P (each_fourth 0 xs) → All P (each_fourth 1 xs) → All P (each_fourth 2 xs) → All P (each_fourth 3 xs) → All P xs
+unfolding each_fourth
+All-from_fourths P [] all0 all1 all2 all3 = all0
+All-from_fourths P (x ∷ xs) all0 all1 all2 all3 =
+    All-cons P x xs (All-head P x (each_fourth 3 xs) all0) (All-from_fourths P xs all1 all2 all3 (All-tail P x (each_fourth 3 xs) all0))
+
+-- what holds of each element that is sent holds of each
+pub All-from_interleaved : {X : Type 0} (P : X → Type 0) (xs : List X) → All P (interleaved xs) → All P xs
+unfolding interleaved
+All-from_interleaved P xs all =
+    let e0 = each_fourth 0 xs in
+    let e1 = each_fourth 1 xs in
+    let e2 = each_fourth 2 xs in
+    let e3 = each_fourth 3 xs in
+    let front = All-front P (e0 ++ e1 ++ e2) e3 all in
+    let half = All-front P (e0 ++ e1) e2 front in
+    All-from_fourths P xs (All-front P e0 e1 half) (All-back P e0 e1 half) (All-back P (e0 ++ e1) e2 front) (All-back P (e0 ++ e1 ++ e2) e3 all)

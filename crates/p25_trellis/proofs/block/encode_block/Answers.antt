@@ -1,0 +1,32 @@
+use Rattle.std.proofs.Common.{ℕ, ◌<◌, ◌++◌, List, Bool, ap, ◌∙◌}
+use Rattle.p25_trellis.proofs.Paths.{same_block}
+use Rattle.std.proofs.lemmas.List.Elements.{All-same}
+use Rattle.p25_trellis.specs.Interleave.{interleaved}
+use Rattle.p25_trellis.specs.Trellis.{number_bits, sent_bits}
+use Rattle.p25_trellis.proofs.InterleaveLaws.{All-interleaved}
+use Rattle.p25_trellis.proofs.block.encode_block.Goals as goal
+
+pub put_numbers-requires-clause-fits : goal.put_numbers-requires-clause-fits
+put_numbers-requires-clause-fits g c =
+    let P : ℕ → Type 0 = λ n. n < 16 in
+    All-same P c.spread.result (interleaved c.nibbles_of.result) c.spread.ensures.sent (All-interleaved P c.nibbles_of.result c.nibbles_of.ensures.nibbles)
+
+pub returns-clause-block : goal.returns-clause-block
+unfolding sent_bits
+returns-clause-block g c = (
+  number_bits 4 c.spread.result,
+  record {
+    path = c.path_of-path.result;
+    is_path = c.path_of-path.ensures.is_path;
+    carries = c.path_of-path.ensures.carries;
+    sent = ap (number_bits 4) (c.spread.ensures.sent ∙ ap interleaved c.nibbles_of.ensures.value);
+  },
+  c.put_numbers.ensures.list,
+)
+
+pub returns-clause-only : goal.returns-clause-only
+returns-clause-only g c =
+    let sent = returns-clause-block g c in
+    λ block is.
+    sent.2
+    ∙ ap (λ (bits : List Bool). c.args.out.now ++ bits) (same_block g.R.Rate.STATES g.R.Rate.BITS_PER_SYMBOL g.R.Rate.point_of c.args.octets.now sent.0 block g.met.R.Rate.states_of_bits sent.1 is)

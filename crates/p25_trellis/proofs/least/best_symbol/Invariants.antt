@@ -1,0 +1,5 @@
+use Rattle.p25_trellis.specs.Least.{IsLowestLeast, step_cost}
+use Rattle.p25_trellis.proofs.least.best_symbol.Given as goal
+
+abbrev pub invariant-loop-symbol : goal.invariant-loop-symbol
+invariant-loop-symbol g l = IsLowestLeast l.symbol (step_cost g.R.Rate.point_of l.costs l.rests l.step l.state) l.best.symbol l.best.cost

@@ -1,0 +1,9 @@
+use Rattle.std.proofs.Common.{◌≡◌, ℕ, suc, ◌+◌, ◌<◌}
+use Rattle.p25_trellis.specs.Least.{cost_in, rest_in, symbols_cost, HasLeastFrom, IsLeastEnd}
+use Rattle.p25_trellis.proofs.least.fill_step.Given as goal
+
+abbrev pub invariant-loop-state : goal.invariant-loop-state
+invariant-loop-state g l = record {
+  after : HasLeastFrom g.R.Rate.STATES g.R.Rate.point_of (cost_in l.costs) l.rests (suc l.step);
+  here : (before state : ℕ) → l.step + before ≡ 48 → state < l.state → IsLeastEnd g.R.Rate.STATES before (symbols_cost g.R.Rate.point_of (cost_in l.costs) l.step state) (rest_in l.rests l.step state);
+}

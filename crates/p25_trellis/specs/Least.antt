@@ -1,0 +1,57 @@
+-- Costs by step and nibble, and the least cost of what follows a state.
+use Rattle.std.specs.Prelude.{◌≡◌, ℕ, zero, suc, ◌+◌, ◌*◌, ◌<◌, ◌≤◌, List, [], ◌∷◌, slice_index}
+use Rattle.p25_trellis.specs.Tables.{nibble_distance}
+use Rattle.p25_trellis.specs.Trellis.{nibbles_from}
+
+-- the cost of nibbles sent from a step on, where each step has a cost for each nibble
+unfoldable pub total_cost : (ℕ → ℕ → ℕ) → ℕ → List ℕ → ℕ
+total_cost cost step [] = 0
+total_cost cost step (nibble ∷ nibbles) = cost step nibble + total_cost cost (suc step) nibbles
+
+-- the cost of symbols from a step and a state on
+unfoldable pub symbols_cost : (ℕ → ℕ → ℕ) → (ℕ → ℕ → ℕ) → ℕ → ℕ → List ℕ → ℕ
+symbols_cost point cost step state symbols = total_cost cost step (nibbles_from point state symbols)
+
+-- the cost of a whole path
+abbrev pub path_cost : (ℕ → ℕ → ℕ) → (ℕ → ℕ → ℕ) → List ℕ → ℕ
+path_cost point cost path = symbols_cost point cost 0 0 path
+
+-- a table of costs has 16 for each step
+unfoldable pub cost_in : List ℕ → ℕ → ℕ → ℕ
+cost_in table step nibble = slice_index table (16 * step + nibble)
+
+-- a table of what the rest of a path costs has 8 for each step, one for each state
+unfoldable pub rest_in : List ℕ → ℕ → ℕ → ℕ
+rest_in table step state = slice_index table (8 * step + state)
+
+-- the end of a path: some symbols below the number of states, then 0
+abbrev pub IsEnd : ℕ → ℕ → List ℕ → Type 0
+IsEnd states zero symbols = symbols ≡ 0 ∷ []
+IsEnd states (suc before) [] = ⊥
+IsEnd states (suc before) (symbol ∷ symbols) = (symbol < states) × IsEnd states before symbols
+
+-- some end of a path, with `before` symbols before its 0, costs this from a state and step on, and none costs less
+pub record IsLeastEnd (states before : ℕ) (cost : List ℕ → ℕ) (least : ℕ) : Type 0 where
+  pub end : List ℕ
+  pub is_end : IsEnd states before end
+  pub costs : cost end ≡ least
+  pub none_less : (other : List ℕ) → IsEnd states before other → least ≤ cost other
+
+-- a table has the least cost of an end for each state, from a step on
+pub record HasLeastFrom (states : ℕ) (point cost : ℕ → ℕ → ℕ) (table : List ℕ) (from : ℕ) : Type 0 where
+  pub at : (step before state : ℕ) → from ≤ step → step + before ≡ 48 → state < states → IsLeastEnd states before (symbols_cost point cost step state) (rest_in table step state)
+
+-- the lowest symbol of those with the least value
+pub record IsLowestLeast (states : ℕ) (value : ℕ → ℕ) (symbol least : ℕ) : Type 0 where
+  pub below : symbol < states
+  pub is : value symbol ≡ least
+  pub none_less : (other : ℕ) → other < states → least ≤ value other
+  pub lowest : (other : ℕ) → other < symbol → least < value other
+
+-- the cost of a symbol and what follows it
+unfoldable pub step_cost : (ℕ → ℕ → ℕ) → List ℕ → List ℕ → ℕ → ℕ → ℕ → ℕ
+step_cost point costs rests step state symbol = cost_in costs step (point state symbol) + rest_in rests (suc step) symbol
+
+-- a table of costs where a nibble costs its distance from the one received at its step
+pub record IsDistanceTable (received table : List ℕ) : Type 0 where
+  pub at : (step nibble : ℕ) → step < 49 → nibble < 16 → cost_in table step nibble ≡ nibble_distance nibble (slice_index received step)

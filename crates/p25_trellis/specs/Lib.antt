@@ -1,0 +1,5 @@
+pub mod Interleave
+pub mod Trellis
+pub mod Least
+pub mod Tables
+pub mod TableLaws

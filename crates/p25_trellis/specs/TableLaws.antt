@@ -1,0 +1,121 @@
+-- The laws of the tables of points, from tests over the whole table that compute.
+use Rattle.std.specs.Prelude.{◌≡◌, ◌≢◌, ℕ, zero, suc, ◌+◌, ◌<◌, ◌≤◌, Bool, true, false, ◌&&◌, ◌||◌, eqb, leb, ltb, ◌∷◌, replicate, refl}
+use Rattle.std.proofs.Common.{inl, inr, sym, subst, arith}
+use Rattle.std.proofs.lemmas.Bool.{cases_Bool, leb-true, ltb-true, eqb-true}
+use Rattle.std.proofs.lemmas.List.Elements.{All-cons, All-replicate}
+use Rattle.p25_bits.specs.Bits.{bits_of}
+use Rattle.p25_bits.specs.Distance.{distance_by, distance_of}
+use Rattle.p25_trellis.specs.Interleave.{each_fourth, interleaved}
+use Rattle.p25_trellis.specs.Trellis.{nibbles_from, number_bits, sent_bits, SomeApart}
+use Rattle.p25_trellis.specs.Tables.{nibble_distance, half_point, half_parted, three_quarter_point, three_quarter_parted}
+
+-- a test is passed by every number below n
+unfoldable pub passed_below : ℕ → (ℕ → Bool) → Bool
+passed_below zero test = true
+passed_below (suc n) test = test n && passed_below n test
+
+both : (a b : Bool) → (a && b) ≡ true → (a ≡ true) × (b ≡ true)
+both true b h = (refl, h)
+both false b h = absurd (cc)
+
+-- what a test over the numbers below n tells of one of them
+pub passed_below-at : (n : ℕ) (test : ℕ → Bool) → passed_below n test ≡ true → (k : ℕ) → k < n → test k ≡ true
+unfolding passed_below
+passed_below-at zero test passed k below = absurd (omega arith)
+passed_below-at (suc n) test passed k below = elim (cases_Bool (eqb k n)) [
+  | inl same ↦ let here = (both (test n) (passed_below n test) passed).0 in subst (λ (i : ℕ). test i ≡ true) (sym (eqb-true k n same)) here
+  | inr other ↦ passed_below-at n test (both (test n) (passed_below n test) passed).1 k (smaller other)
+]
+  where
+    smaller : eqb k n ≡ false → k < n
+    smaller other = grind (arith, other, below)
+
+-- every point is a nibble
+unfoldable pub nibbles_test : ℕ → (ℕ → ℕ → ℕ) → Bool
+nibbles_test states point = passed_below states (λ state. passed_below states (λ symbol. ltb (point state symbol) 16))
+
+-- from two states on, a step and what must follow it differ in as many bits as the two states ask for
+unfoldable pub parted_test : ℕ → (ℕ → ℕ → ℕ) → (ℕ → ℕ → ℕ) → Bool
+parted_test states point parted = passed_below states (λ a. passed_below states (λ b. passed_below states (λ x. passed_below states (λ y. leb (parted a b) (nibble_distance (point a x) (point b y) + parted x y)))))
+
+-- two symbols from one state, and what must follow them, differ in so many bits
+unfoldable pub parts_test : ℕ → ℕ → (ℕ → ℕ → ℕ) → (ℕ → ℕ → ℕ) → Bool
+parts_test states apart point parted = passed_below states (λ state. passed_below states (λ x. passed_below states (λ y. eqb x y || leb apart (nibble_distance (point state x) (point state y) + parted x y))))
+
+pub nibbles-from_test : (states : ℕ) (point : ℕ → ℕ → ℕ) → nibbles_test states point ≡ true → (state symbol : ℕ) → state < states → symbol < states → point state symbol < 16
+unfolding nibbles_test
+nibbles-from_test states point passed state symbol row column =
+    ltb-true (point state symbol) 16 (passed_below-at states _ (passed_below-at states _ passed state row) symbol column)
+
+pub parted-from_test : (states : ℕ) (point parted : ℕ → ℕ → ℕ) → parted_test states point parted ≡ true → (a b x y : ℕ) → a < states → b < states → x < states → y < states → parted a b ≤ nibble_distance (point a x) (point b y) + parted x y
+unfolding parted_test
+parted-from_test states point parted passed a b x y ha hb hx hy =
+    leb-true (parted a b) (nibble_distance (point a x) (point b y) + parted x y)
+    (passed_below-at states _ (passed_below-at states _ (passed_below-at states _ (passed_below-at states _ passed a ha) b hb) x hx) y hy)
+
+pub parts-from_test : (states apart : ℕ) (point parted : ℕ → ℕ → ℕ) → parts_test states apart point parted ≡ true → (state x y : ℕ) → state < states → x < states → y < states → x ≢ y → apart ≤ nibble_distance (point state x) (point state y) + parted x y
+unfolding parts_test
+parts-from_test states apart point parted passed state x y hs hx hy other =
+    leb-true apart (nibble_distance (point state x) (point state y) + parted x y)
+    (second (eqb x y) _ (passed_below-at states _ (passed_below-at states _ (passed_below-at states _ passed state hs) x hx) y hy) (λ same. other (eqb-true x y same)))
+  where
+    second : (a b : Bool) → (a || b) ≡ true → (a ≡ true → ⊥) → b ≡ true
+    second true b h not_a = absurd (not_a refl)
+    second false b h not_a = h
+
+-- the path of zeros, and that whose first symbol is another
+apart-first : (states first apart : ℕ) (point : ℕ → ℕ → ℕ) → 0 < states → first < states → first ≢ 0 → distance_of (sent_bits point (replicate 49 0)) (sent_bits point (first ∷ replicate 48 0)) ≡ apart → SomeApart states point apart
+apart-first states first apart point some below other distance = record {
+  path = replicate 49 0;
+  other = first ∷ replicate 48 0;
+  is_path = record { long = refl; below = All-replicate (λ (symbol : ℕ). symbol < states) 49 0 some; last = refl };
+  other_is_path = record { long = refl; below = All-cons (λ (symbol : ℕ). symbol < states) first (replicate 48 0) below (All-replicate (λ (symbol : ℕ). symbol < states) 48 0 some); last = refl };
+  differ = λ same. other (cc);
+  places_is = distance;
+}
+
+pub half_nibbles : nibbles_test 4 half_point ≡ true
+unfolding nibbles_test passed_below half_point
+half_nibbles = refl
+
+pub half_stays_parted : parted_test 4 half_point half_parted ≡ true
+unfolding parted_test passed_below half_point half_parted nibble_distance bits_of distance_by
+half_stays_parted = refl
+
+pub half_parts : parts_test 4 5 half_point half_parted ≡ true
+unfolding parts_test passed_below half_point half_parted nibble_distance bits_of distance_by
+half_parts = refl
+
+pub half_together : half_parted 0 0 ≡ 0
+unfolding half_parted
+half_together = refl
+
+half_distance : distance_of (sent_bits half_point (replicate 49 0)) (sent_bits half_point (1 ∷ replicate 48 0)) ≡ 5
+unfolding sent_bits number_bits interleaved each_fourth nibbles_from half_point bits_of distance_by
+half_distance = refl
+
+pub half_reached : SomeApart 4 half_point 5
+half_reached = apart-first 4 1 5 half_point (omega arith) (omega arith) (omega arith) half_distance
+
+pub three_quarter_nibbles : nibbles_test 8 three_quarter_point ≡ true
+unfolding nibbles_test passed_below three_quarter_point
+three_quarter_nibbles = refl
+
+pub three_quarter_stays_parted : parted_test 8 three_quarter_point three_quarter_parted ≡ true
+unfolding parted_test passed_below three_quarter_point three_quarter_parted nibble_distance bits_of distance_by
+three_quarter_stays_parted = refl
+
+pub three_quarter_parts : parts_test 8 3 three_quarter_point three_quarter_parted ≡ true
+unfolding parts_test passed_below three_quarter_point three_quarter_parted nibble_distance bits_of distance_by
+three_quarter_parts = refl
+
+pub three_quarter_together : three_quarter_parted 0 0 ≡ 0
+unfolding three_quarter_parted
+three_quarter_together = refl
+
+three_quarter_distance : distance_of (sent_bits three_quarter_point (replicate 49 0)) (sent_bits three_quarter_point (2 ∷ replicate 48 0)) ≡ 3
+unfolding sent_bits number_bits interleaved each_fourth nibbles_from three_quarter_point bits_of distance_by
+three_quarter_distance = refl
+
+pub three_quarter_reached : SomeApart 8 three_quarter_point 3
+three_quarter_reached = apart-first 8 2 3 three_quarter_point (omega arith) (omega arith) (omega arith) three_quarter_distance

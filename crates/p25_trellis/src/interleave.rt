@@ -1,0 +1,39 @@
+//! The order in which the nibbles of a block are sent.
+
+ghost use Rattle.std.specs.Prelude.{◌≡◌, ℕ, List, length};
+ghost use Rattle.p25_trellis.specs.Interleave.{interleaved};
+
+// Which nibble of a path is sent at each place: 0, 4, .., 48 first, then 1, 5, .., 45, then 2, 6, .., 46, and then
+// 3, 7, .., 47.
+const SENT_ORDER: [usize; 49] = [
+    0, 4, 8, 12, 16, 20, 24, 28, 32, 36, 40, 44, 48, //
+    1, 5, 9, 13, 17, 21, 25, 29, 33, 37, 41, 45, //
+    2, 6, 10, 14, 18, 22, 26, 30, 34, 38, 42, 46, //
+    3, 7, 11, 15, 19, 23, 27, 31, 35, 39, 43, 47,
+];
+
+/// Answers the nibbles of a path in the order in which they are sent: those at places 0 modulo 4 first, then those at
+/// 1, 2 and 3 modulo 4 (TIA-102.BAAA, Data Interleaving).
+pub fn spread(nibbles: &[u8; 49]) -> [u8; 49]
+    ensures sent { result ≡ interleaved nibbles.now }
+    ensures len { length result ≡ 49 }
+{
+    let mut sent = [0; 49];
+    for place in 0..49 {
+        sent[place] = nibbles[SENT_ORDER[place]];
+    }
+    sent
+}
+
+/// Answers the nibbles of a path from those that were sent. It undoes `spread`, and `spread` undoes it.
+pub fn gather(nibbles: &[u8; 49]) -> [u8; 49]
+    ensures sent { interleaved result ≡ nibbles.now }
+    ensures undone { (plain : List ℕ) → interleaved plain ≡ nibbles.now → result ≡ plain }
+    ensures len { length result ≡ 49 }
+{
+    let mut plain = [0; 49];
+    for place in 0..49 {
+        plain[SENT_ORDER[place]] = nibbles[place];
+    }
+    plain
+}

@@ -1,0 +1,33 @@
+//! The trellis codes of the data blocks, at both rates (TIA-102.BAAA, Trellis Coding and Interleaving of data packets).
+//!
+//! A half-rate block is 12 octets as 48 symbols of two bits, and a three-quarter-rate block 18 octets as 48 symbols of
+//! three bits, the first bit highest. A path is those symbols and then the symbol 0. It begins in state 0, and the state
+//! after a symbol is that symbol; each step sends the four bits of one point, which the state and the symbol choose. The
+//! 49 nibbles are interleaved, so a block is 196 bits.
+//!
+//! `read_block` answers the first nearest path of any 196 bits. Two different half-rate paths differ in at least 5 bits
+//! and two different three-quarter-rate paths in at least 3, so 2 wrong bits, or 1, are put right. The tables of points,
+//! the nibbles of the points and the choice among paths that are as near are this project's profile.
+//!
+//! ```
+//! let mut bits = BitBuf::new();
+//! encode_block::<Half>(&[7; 12], &mut bits);
+//! bits.flip(3);
+//! let mut octets = [0; 12];
+//! let distance = read_block::<Half>(&bits, 0, &mut octets); // 1, and the octets are 7 again
+//! ```
+#![tactic(auto)]
+
+mod block;
+mod fields;
+mod interleave;
+mod laws;
+mod least;
+mod path;
+mod rate;
+
+pub use block::{encode_block, read_block};
+pub use interleave::{gather, spread};
+pub use laws::{half_rate_apart, paths_apart, three_quarter_rate_apart};
+pub use least::{BLOCK_COSTS, read_costs};
+pub use rate::{Half, Rate, ThreeQuarter};

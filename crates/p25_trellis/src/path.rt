@@ -1,0 +1,48 @@
+//! Paths: the octets that they carry, and the nibbles of their steps.
+
+ghost use Rattle.std.specs.Prelude.{◌≡◌, ◌<◌, All, length};
+ghost use Rattle.p25_trellis.specs.Trellis.{IsPath, Carries, nibbles_from};
+
+use super::fields::{put_numbers, take_numbers};
+use super::rate::Rate;
+use p25_bits::BitBuf;
+
+// The path that carries octets.
+pub(crate) fn path_of<R: Rate>(octets: &[u8]) -> [u8; 49]
+    requires { length octets.now ≡ R.OCTETS }
+    ensures is_path { IsPath R.STATES result }
+    ensures carries { Carries R.BITS_PER_SYMBOL result octets.now }
+{
+    let mut bits = BitBuf::new();
+    put_numbers(&mut bits, octets, 8);
+    let mut path = [0; 49];
+    take_numbers(&bits, 0, R::BITS_PER_SYMBOL, &mut path, 48);
+    path
+}
+
+// Writes the octets that a path carries.
+pub(crate) fn octets_of<R: Rate>(path: &[u8], octets: &mut [u8])
+    requires path { IsPath R.STATES path.now }
+    requires octets { length octets.old ≡ R.OCTETS }
+    ensures { Carries R.BITS_PER_SYMBOL path.now octets.new }
+{
+    let mut bits = BitBuf::new();
+    put_numbers(&mut bits, &path[..48], R::BITS_PER_SYMBOL);
+    take_numbers(&bits, 0, 8, octets, R::OCTETS);
+}
+
+// The nibbles of a path.
+pub(crate) fn nibbles_of<R: Rate>(path: &[u8; 49]) -> [u8; 49]
+    requires { All (λ symbol. symbol < R.STATES) path.now }
+    ensures value { result ≡ nibbles_from R.point_of 0 path.now }
+    ensures nibbles { All (λ n. n < 16) result }
+    ensures len { length result ≡ 49 }
+{
+    let mut nibbles = [0; 49];
+    let mut state = 0;
+    for step in 0..49 {
+        nibbles[step] = R::point(state, path[step]);
+        state = path[step];
+    }
+    nibbles
+}

@@ -1,0 +1,185 @@
+//! The two rates: their tables of points, and the nibbles of the points.
+
+ghost use Rattle.std.specs.Prelude.{◌≡◌, ◌≢◌, ℕ, ◌+◌, ◌*◌, ◌^◌, ◌<◌, ◌≤◌};
+ghost use Rattle.p25_trellis.specs.Trellis.{SomeApart};
+ghost use Rattle.p25_trellis.specs.Tables.{nibble_distance};
+
+/// A rate of the trellis code: a table of points with a row for each state and a column for each symbol. The state after
+/// a symbol is that symbol (TIA-102.BAAA, Trellis Coding).
+///
+/// The laws of a table are what the reading of blocks stands on: its points are nibbles, and from one state two symbols
+/// lead to paths that differ in at least `APART` bits before they meet again.
+pub trait Rate {
+    /// The number of states, and of symbols: 4 or 8.
+    const STATES: u8;
+    /// The number of bits that a symbol stands for: 2 or 3.
+    const BITS_PER_SYMBOL: u32;
+    /// The number of octets of a block: 12 or 18.
+    const OCTETS: usize;
+    /// The least number of sent bits in which two different paths differ: 5 or 3.
+    const APART: u32;
+
+    ghost STATES: { ℕ };
+
+    ghost BITS_PER_SYMBOL: { ℕ };
+
+    ghost OCTETS: { ℕ };
+
+    ghost APART: { ℕ };
+
+    ghost point_of: { ℕ → ℕ → ℕ };
+    // in how many bits at least the paths from two states differ until they meet
+    ghost parted: { ℕ → ℕ → ℕ };
+
+    /// Answers the four bits of the point in a state's row and a symbol's column, as a number.
+    fn point(state: u8, symbol: u8) -> u8
+        requires row { state < STATES }
+        requires column { symbol < STATES }
+        ensures value { result ≡ point_of state symbol }
+        ensures nibble { result < 16 };
+
+    ghost states_of_bits: { STATES ≡ 2 ^ BITS_PER_SYMBOL };
+
+    ghost few_bits: { BITS_PER_SYMBOL ≤ 3 };
+
+    ghost few_states: { STATES ≤ 8 };
+
+    ghost octets_of_bits: { 48 * BITS_PER_SYMBOL ≡ 8 * OCTETS };
+
+    ghost nibbles: { (state symbol : ℕ) → state < STATES → symbol < STATES → point_of state symbol < 16 };
+
+    ghost together: { parted 0 0 ≡ 0 };
+
+    ghost stays_parted: { (a b x y : ℕ) → a < STATES → b < STATES → x < STATES → y < STATES → parted a b ≤ nibble_distance (point_of a x) (point_of b y) + parted x y };
+
+    ghost reached: { SomeApart STATES point_of APART };
+
+    ghost parts: { (state x y : ℕ) → state < STATES → x < STATES → y < STATES → x ≢ y → APART ≤ nibble_distance (point_of state x) (point_of state y) + parted x y };
+}
+
+// The four bits of each point.
+const NIBBLES: [u8; 16] = [
+    0x2, 0xA, 0x7, 0xF, 0xE, 0x6, 0xB, 0x3, 0xD, 0x5, 0x8, 0x0, 0x1, 0x9, 0x4, 0xC,
+];
+
+// The points of half rate, a row of four for each state.
+const HALF_POINTS: [u8; 16] = [
+    0, 15, 12, 3, //
+    4, 11, 8, 7, //
+    13, 2, 1, 14, //
+    9, 6, 5, 10,
+];
+
+// The points of three-quarter rate, a row of eight for each state.
+const THREE_QUARTER_POINTS: [u8; 64] = [
+    0, 8, 4, 12, 2, 10, 6, 14, //
+    4, 12, 2, 10, 6, 14, 0, 8, //
+    1, 9, 5, 13, 3, 11, 7, 15, //
+    5, 13, 3, 11, 7, 15, 1, 9, //
+    3, 11, 7, 15, 1, 9, 5, 13, //
+    7, 15, 1, 9, 5, 13, 3, 11, //
+    2, 10, 6, 14, 0, 8, 4, 12, //
+    6, 14, 0, 8, 4, 12, 2, 10,
+];
+
+/// Half rate: 12 octets as 48 symbols of two bits.
+pub struct Half;
+
+/// Three-quarter rate: 18 octets as 48 symbols of three bits.
+pub struct ThreeQuarter;
+
+impl Rate for Half {
+    const STATES: u8 = 4;
+
+    const BITS_PER_SYMBOL: u32 = 2;
+
+    const OCTETS: usize = 12;
+
+    const APART: u32 = 5;
+
+    ghost use Rattle.p25_trellis.specs.Tables.{half_point, half_parted};
+    ghost use Rattle.p25_trellis.specs.TableLaws.{nibbles-from_test, parted-from_test, parts-from_test, half_nibbles, half_together, half_stays_parted, half_reached, half_parts};
+    ghost use Rattle.std.proofs.Common.{arith, refl};
+
+    ghost STATES = { 4 };
+
+    ghost BITS_PER_SYMBOL = { 2 };
+
+    ghost OCTETS = { 12 };
+
+    ghost APART = { 5 };
+
+    ghost point_of = { half_point };
+
+    ghost parted = { half_parted };
+
+    fn point(state: u8, symbol: u8) -> u8 {
+        NIBBLES[usize::from(HALF_POINTS[usize::from(4 * state + symbol)])]
+    }
+
+    ghost states_of_bits = { refl };
+
+    ghost few_bits = { Prim.omega arith };
+
+    ghost few_states = { Prim.omega arith };
+
+    ghost octets_of_bits = { refl };
+
+    ghost nibbles = { nibbles-from_test 4 half_point half_nibbles };
+
+    ghost together = { half_together };
+
+    ghost stays_parted = { parted-from_test 4 half_point half_parted half_stays_parted };
+
+    ghost reached = { half_reached };
+
+    ghost parts = { parts-from_test 4 5 half_point half_parted half_parts };
+}
+
+impl Rate for ThreeQuarter {
+    const STATES: u8 = 8;
+
+    const BITS_PER_SYMBOL: u32 = 3;
+
+    const OCTETS: usize = 18;
+
+    const APART: u32 = 3;
+
+    ghost use Rattle.p25_trellis.specs.Tables.{three_quarter_point, three_quarter_parted};
+    ghost use Rattle.p25_trellis.specs.TableLaws.{nibbles-from_test, parted-from_test, parts-from_test, three_quarter_nibbles, three_quarter_together, three_quarter_stays_parted, three_quarter_reached, three_quarter_parts};
+    ghost use Rattle.std.proofs.Common.{arith, refl};
+
+    ghost STATES = { 8 };
+
+    ghost BITS_PER_SYMBOL = { 3 };
+
+    ghost OCTETS = { 18 };
+
+    ghost APART = { 3 };
+
+    ghost point_of = { three_quarter_point };
+
+    ghost parted = { three_quarter_parted };
+
+    fn point(state: u8, symbol: u8) -> u8 {
+        NIBBLES[usize::from(THREE_QUARTER_POINTS[usize::from(8 * state + symbol)])]
+    }
+
+    ghost states_of_bits = { refl };
+
+    ghost few_bits = { Prim.omega arith };
+
+    ghost few_states = { Prim.omega arith };
+
+    ghost octets_of_bits = { refl };
+
+    ghost nibbles = { nibbles-from_test 8 three_quarter_point three_quarter_nibbles };
+
+    ghost together = { three_quarter_together };
+
+    ghost stays_parted = { parted-from_test 8 three_quarter_point three_quarter_parted three_quarter_stays_parted };
+
+    ghost reached = { three_quarter_reached };
+
+    ghost parts = { parts-from_test 8 3 three_quarter_point three_quarter_parted three_quarter_parts };
+}
