@@ -108,8 +108,8 @@ impl Rate for Half {
 
     const APART: u32 = 5;
 
-    ghost use Rattle.p25_trellis.specs.Tables.{half_point, half_parted};
-    ghost use Rattle.p25_trellis.specs.TableLaws.{nibbles-from_test, parted-from_test, parts-from_test, half_nibbles, half_together, half_stays_parted, half_reached, half_parts};
+    ghost use Rattle.p25_trellis.specs.Tables.{half_point};
+    ghost use Rattle.p25_trellis.specs.TableLaws.{half_parted, nibbles-from_test, parted-from_test, parts-from_test, half_nibbles, half_together, half_stays_parted, half_reached, half_parts};
     ghost use Rattle.std.proofs.Common.{arith, refl};
 
     ghost STATES = { 4 };
@@ -156,8 +156,8 @@ impl Rate for ThreeQuarter {
 
     const APART: u32 = 3;
 
-    ghost use Rattle.p25_trellis.specs.Tables.{three_quarter_point, three_quarter_parted};
-    ghost use Rattle.p25_trellis.specs.TableLaws.{nibbles-from_test, parted-from_test, parts-from_test, three_quarter_nibbles, three_quarter_together, three_quarter_stays_parted, three_quarter_reached, three_quarter_parts};
+    ghost use Rattle.p25_trellis.specs.Tables.{three_quarter_point};
+    ghost use Rattle.p25_trellis.specs.TableLaws.{three_quarter_parted, nibbles-from_test, parted-from_test, parts-from_test, three_quarter_nibbles, three_quarter_together, three_quarter_stays_parted, three_quarter_reached, three_quarter_parts};
     ghost use Rattle.std.proofs.Common.{arith, refl};
 
     ghost STATES = { 8 };
