@@ -5,7 +5,8 @@ use Rattle.std.proofs.lemmas.Bool.{cases_lt}
 use Rattle.std.proofs.lemmas.List.{get_or_past}
 use Rattle.p25_trellis.proofs.Paths.{length-nibbles_from}
 use Rattle.p25_trellis.specs.Trellis.{nibbles_from}
-use Rattle.p25_trellis.specs.Least.{total_cost, symbols_cost, cost_in, rest_in, step_cost, IsEnd, IsLeastEnd, HasLeastFrom, IsLowestLeast}
+use Rattle.p25_trellis.specs.Costs.{total_cost, symbols_cost, cost_in}
+use Rattle.p25_trellis.specs.Least.{rest_in, step_cost, IsEnd, IsLeastEnd, HasLeastFrom, IsLowestLeast}
 
 -- the first symbol is the lowest least of one
 pub IsLowestLeast-one : (value : ℕ → ℕ) (least : ℕ) → least ≡ value 0 → IsLowestLeast 1 value 0 least

@@ -5,7 +5,8 @@ use Rattle.std.proofs.lemmas.List.{take_more_set}
 use Rattle.std.proofs.lemmas.List.Elements.{All-cons, All-nil, All-head, All-tail, All-same}
 use Rattle.p25_trellis.specs.Trellis.{IsPath, IsNotAfter, IsFirstLeast, IsFirstLeastReading, Carries}
 use Rattle.p25_trellis.proofs.Paths.{same_octets}
-use Rattle.p25_trellis.specs.Least.{symbols_cost, cost_in, rest_in, step_cost, IsEnd, IsLeastEnd, HasLeastFrom, IsLowestLeast}
+use Rattle.p25_trellis.specs.Costs.{symbols_cost, cost_in}
+use Rattle.p25_trellis.specs.Least.{rest_in, step_cost, IsEnd, IsLeastEnd, HasLeastFrom, IsLowestLeast}
 use Rattle.p25_trellis.proofs.Costs.{symbols_cost-cons, length-end, HasLeastFrom-later}
 
 -- the first of the ends that cost least from a state and step on

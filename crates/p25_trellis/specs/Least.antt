@@ -1,24 +1,7 @@
--- Costs by step and nibble, and the least cost of what follows a state.
+-- The least cost of what follows a state, for the two passes over a path.
 use Rattle.std.specs.Prelude.{◌≡◌, ℕ, zero, suc, ◌+◌, ◌*◌, ◌<◌, ◌≤◌, List, [], ◌∷◌, slice_index}
 use Rattle.p25_trellis.specs.Tables.{nibble_distance}
-use Rattle.p25_trellis.specs.Trellis.{nibbles_from}
-
--- the cost of nibbles sent from a step on, where each step has a cost for each nibble
-unfoldable pub total_cost : (ℕ → ℕ → ℕ) → ℕ → List ℕ → ℕ
-total_cost cost step [] = 0
-total_cost cost step (nibble ∷ nibbles) = cost step nibble + total_cost cost (suc step) nibbles
-
--- the cost of symbols from a step and a state on
-unfoldable pub symbols_cost : (ℕ → ℕ → ℕ) → (ℕ → ℕ → ℕ) → ℕ → ℕ → List ℕ → ℕ
-symbols_cost point cost step state symbols = total_cost cost step (nibbles_from point state symbols)
-
--- the cost of a whole path
-abbrev pub path_cost : (ℕ → ℕ → ℕ) → (ℕ → ℕ → ℕ) → List ℕ → ℕ
-path_cost point cost path = symbols_cost point cost 0 0 path
-
--- a table of costs has 16 for each step
-unfoldable pub cost_in : List ℕ → ℕ → ℕ → ℕ
-cost_in table step nibble = slice_index table (16 * step + nibble)
+use Rattle.p25_trellis.specs.Costs.{symbols_cost, cost_in}
 
 -- a table of what the rest of a path costs has 8 for each step, one for each state
 unfoldable pub rest_in : List ℕ → ℕ → ℕ → ℕ

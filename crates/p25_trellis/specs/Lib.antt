@@ -1,5 +1,6 @@
 pub mod Interleave
-pub mod Trellis
-pub mod Least
 pub mod Tables
+pub mod Trellis
+pub mod Costs
+pub mod Least
 pub mod TableLaws

@@ -1,5 +1,5 @@
 -- The laws of the tables of points, from tests over the whole table that compute.
-use Rattle.std.specs.Prelude.{◌≡◌, ◌≢◌, ℕ, zero, suc, ◌+◌, ◌<◌, ◌≤◌, Bool, true, false, ◌&&◌, ◌||◌, eqb, leb, ltb, ◌∷◌, replicate, refl}
+use Rattle.std.specs.Prelude.{◌≡◌, ◌≢◌, ℕ, zero, suc, ◌+◌, ◌/◌, ◌<◌, ◌≤◌, Bool, true, false, cond, ◌&&◌, ◌||◌, eqb, leb, ltb, ◌∷◌, replicate, refl}
 use Rattle.std.proofs.Common.{inl, inr, sym, subst, arith}
 use Rattle.std.proofs.lemmas.Bool.{cases_Bool, leb-true, ltb-true, eqb-true}
 use Rattle.std.proofs.lemmas.List.Elements.{All-cons, All-replicate}
@@ -7,7 +7,15 @@ use Rattle.p25_bits.specs.Bits.{bits_of}
 use Rattle.p25_bits.specs.Distance.{distance_by, distance_of}
 use Rattle.p25_trellis.specs.Interleave.{each_fourth, interleaved}
 use Rattle.p25_trellis.specs.Trellis.{nibbles_from, number_bits, sent_bits, SomeApart}
-use Rattle.p25_trellis.specs.Tables.{nibble_distance, half_point, half_parted, three_quarter_point, three_quarter_parted}
+use Rattle.p25_trellis.specs.Tables.{nibble_distance, half_point, three_quarter_point}
+
+-- in how many bits at least the half-rate paths from two states differ until they meet
+unfoldable pub half_parted : ℕ → ℕ → ℕ
+half_parted a b = cond (eqb a b) 0 (cond (eqb (a / 2) (b / 2)) 2 3)
+
+-- the same at three-quarter rate
+unfoldable pub three_quarter_parted : ℕ → ℕ → ℕ
+three_quarter_parted a b = cond (eqb a b) 0 1
 
 -- a test is passed by every number below n
 unfoldable pub passed_below : ℕ → (ℕ → Bool) → Bool

@@ -1,5 +1,5 @@
--- Points of the two rates, and how far their paths differ.
-use Rattle.std.specs.Prelude.{ℕ, ◌+◌, ◌*◌, ◌/◌, cond, eqb, slice_index}
+-- The points of the two rates, and in how many bits two differ.
+use Rattle.std.specs.Prelude.{ℕ, ◌+◌, ◌*◌, slice_index}
 use Rattle.p25_bits.specs.Bits.{bits_of}
 use Rattle.p25_bits.specs.Distance.{distance_of}
 use Rattle.p25_trellis.specs.declared.rate.TheConstants.{NIBBLES, HALF_POINTS, THREE_QUARTER_POINTS}
@@ -15,11 +15,3 @@ half_point state symbol = slice_index NIBBLES (slice_index HALF_POINTS (4 * stat
 -- the nibble of the point of three-quarter rate in a state's row and a symbol's column
 unfoldable pub three_quarter_point : ℕ → ℕ → ℕ
 three_quarter_point state symbol = slice_index NIBBLES (slice_index THREE_QUARTER_POINTS (8 * state + symbol))
-
--- in how many bits at least the half-rate paths from two states differ until they meet
-unfoldable pub half_parted : ℕ → ℕ → ℕ
-half_parted a b = cond (eqb a b) 0 (cond (eqb (a / 2) (b / 2)) 2 3)
-
--- the same at three-quarter rate
-unfoldable pub three_quarter_parted : ℕ → ℕ → ℕ
-three_quarter_parted a b = cond (eqb a b) 0 1

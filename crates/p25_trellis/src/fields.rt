@@ -28,7 +28,7 @@ pub(crate) fn take_numbers(bits: &BitBuf, at: usize, width: u32, numbers: &mut [
     ensures fits { All (λ n. n < 2 ^ width) (take count numbers.new) }
     ensures rest { drop count numbers.new ≡ drop count numbers.old }
 {
-    // No list of bits is longer than a `usize` can tell, so neither is a place in it.
+    // A list of bits has at most 25,928, so no place in it is too large to be added up.
     let _ = bits.len();
     for i in 0..count {
         numbers[i] = bits.field(at + width as usize * i, width) as u8;

@@ -37,3 +37,37 @@ pub fn gather(nibbles: &[u8; 49]) -> [u8; 49]
     }
     plain
 }
+
+#[cfg(test)]
+mod tests {
+    use super::*;
+
+    // To gather what was spread gives the nibbles again.
+    fn gathered_again(nibbles: &[u8; 49]) -> [u8; 49]
+        ensures { result ≡ nibbles.now }
+    {
+        gather(&spread(nibbles))
+    }
+
+    // To spread what was gathered gives the nibbles again.
+    fn spread_again(nibbles: &[u8; 49]) -> [u8; 49]
+        ensures { result ≡ nibbles.now }
+    {
+        spread(&gather(nibbles))
+    }
+
+    #[test]
+    fn each_undoes_the_other(rt: HostRuntime) {
+        let mut nibbles = [0; 49];
+        for place in 0..49 {
+            nibbles[place] = place as u8;
+        }
+        let sent = spread(&nibbles);
+        let bounds = [
+            sent[1], sent[12], sent[13], sent[24], sent[25], sent[36], sent[37], sent[48],
+        ];
+        assert_eq!(rt; bounds, [4, 48, 1, 45, 2, 46, 3, 47]);
+        assert_eq!(rt; gathered_again(&nibbles), nibbles);
+        assert_eq!(rt; spread_again(&nibbles), nibbles);
+    }
+}

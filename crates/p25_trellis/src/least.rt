@@ -3,13 +3,17 @@
 
 ghost use Rattle.std.specs.Prelude.{◌≡◌, ℕ, suc, ◌+◌, ◌*◌, ◌^◌, ◌<◌, ◌≤◌, All, length, take, drop};
 ghost use Rattle.p25_trellis.specs.Trellis.{IsFirstLeast, IsFirstLeastReading};
-ghost use Rattle.p25_trellis.specs.Least.{cost_in, rest_in, path_cost, step_cost, HasLeastFrom, IsLowestLeast};
+ghost use Rattle.p25_trellis.specs.Costs.{cost_in, path_cost};
+ghost use Rattle.p25_trellis.specs.Least.{rest_in, step_cost, HasLeastFrom, IsLowestLeast};
 
 use super::path::octets_of;
 use super::rate::Rate;
 
 /// The number of costs of a block: 16 for each of 49 steps, one for each nibble.
 pub const BLOCK_COSTS: usize = 784;
+
+// The number of least costs of what follows a state: 8 for each of 49 steps.
+const BLOCK_RESTS: usize = 392;
 
 // A symbol, and what it and the rest of a path cost.
 #[derive(Clone, Copy)]
@@ -80,13 +84,13 @@ fn fill_step<R: Rate>(costs: &[u32], rests: &mut [u32], step: usize)
 }
 
 // The least that can follow each state at each step.
-fn least_rests<R: Rate>(costs: &[u32]) -> [u32; 392]
+fn least_rests<R: Rate>(costs: &[u32]) -> [u32; BLOCK_RESTS]
     requires costs { length costs.now ≡ 784 }
     requires low { All (λ cost. cost ≤ 2 ^ 24) costs.now }
     ensures least { HasLeastFrom R.STATES R.point_of (cost_in costs.now) result 0 }
     ensures len { length result ≡ 392 }
 {
-    let mut rests = [0; 392];
+    let mut rests = [0; BLOCK_RESTS];
     fill_last::<R>(costs, &mut rests);
     for step in (0..48).rev() {
         fill_step::<R>(costs, &mut rests, step);

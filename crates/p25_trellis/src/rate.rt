@@ -27,8 +27,10 @@ pub trait Rate {
 
     ghost APART: { ℕ };
 
+    // The four bits of the point in a state's row and a symbol's column.
     ghost point_of: { ℕ → ℕ → ℕ };
-    // in how many bits at least the paths from two states differ until they meet
+
+    // In how many bits at least the paths from two states differ until they meet.
     ghost parted: { ℕ → ℕ → ℕ };
 
     /// Answers the four bits of the point in a state's row and a symbol's column, as a number.
@@ -38,22 +40,31 @@ pub trait Rate {
         ensures value { result ≡ point_of state symbol }
         ensures nibble { result < 16 };
 
+    // There is a state for each symbol, and a symbol for each of its bits' values.
     ghost states_of_bits: { STATES ≡ 2 ^ BITS_PER_SYMBOL };
 
+    // A symbol has at most three bits.
     ghost few_bits: { BITS_PER_SYMBOL ≤ 3 };
 
+    // There are at most eight states.
     ghost few_states: { STATES ≤ 8 };
 
+    // The 48 symbols have as many bits as the octets.
     ghost octets_of_bits: { 48 * BITS_PER_SYMBOL ≡ 8 * OCTETS };
 
+    // Every point is four bits.
     ghost nibbles: { (state symbol : ℕ) → state < STATES → symbol < STATES → point_of state symbol < 16 };
 
+    // Paths that are in state 0 at one time need not differ.
     ghost together: { parted 0 0 ≡ 0 };
 
+    // Of two paths in two states, a step and what must follow it differ in as many bits as the states ask for.
     ghost stays_parted: { (a b x y : ℕ) → a < STATES → b < STATES → x < STATES → y < STATES → parted a b ≤ nibble_distance (point_of a x) (point_of b y) + parted x y };
 
+    // Some two different paths differ in no more bits than `APART`.
     ghost reached: { SomeApart STATES point_of APART };
 
+    // Of two paths that leave one state by two symbols, the step and what must follow it differ in `APART` bits.
     ghost parts: { (state x y : ℕ) → state < STATES → x < STATES → y < STATES → x ≢ y → APART ≤ nibble_distance (point_of state x) (point_of state y) + parted x y };
 }
 
@@ -97,8 +108,8 @@ impl Rate for Half {
 
     const APART: u32 = 5;
 
-    ghost use Rattle.p25_trellis.specs.Tables.{half_point, half_parted};
-    ghost use Rattle.p25_trellis.specs.TableLaws.{nibbles-from_test, parted-from_test, parts-from_test, half_nibbles, half_together, half_stays_parted, half_reached, half_parts};
+    ghost use Rattle.p25_trellis.specs.Tables.{half_point};
+    ghost use Rattle.p25_trellis.specs.TableLaws.{half_parted, nibbles-from_test, parted-from_test, parts-from_test, half_nibbles, half_together, half_stays_parted, half_reached, half_parts};
     ghost use Rattle.std.proofs.Common.{arith, refl};
 
     ghost STATES = { 4 };
@@ -145,8 +156,8 @@ impl Rate for ThreeQuarter {
 
     const APART: u32 = 3;
 
-    ghost use Rattle.p25_trellis.specs.Tables.{three_quarter_point, three_quarter_parted};
-    ghost use Rattle.p25_trellis.specs.TableLaws.{nibbles-from_test, parted-from_test, parts-from_test, three_quarter_nibbles, three_quarter_together, three_quarter_stays_parted, three_quarter_reached, three_quarter_parts};
+    ghost use Rattle.p25_trellis.specs.Tables.{three_quarter_point};
+    ghost use Rattle.p25_trellis.specs.TableLaws.{three_quarter_parted, nibbles-from_test, parted-from_test, parts-from_test, three_quarter_nibbles, three_quarter_together, three_quarter_stays_parted, three_quarter_reached, three_quarter_parts};
     ghost use Rattle.std.proofs.Common.{arith, refl};
 
     ghost STATES = { 8 };

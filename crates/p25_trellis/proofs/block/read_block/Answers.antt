@@ -3,7 +3,7 @@ use Rattle.std.proofs.lemmas.List.{take_all}
 use Rattle.std.proofs.lemmas.List.Elements.{All-same}
 use Rattle.p25_bits.specs.Bits.{part}
 use Rattle.p25_trellis.specs.Interleave.{interleaved}
-use Rattle.p25_trellis.specs.Least.{path_cost, cost_in}
+use Rattle.p25_trellis.specs.Costs.{path_cost, cost_in}
 use Rattle.p25_trellis.specs.Trellis.{number_bits, distance_from}
 use Rattle.p25_trellis.proofs.InterleaveLaws.{All-from_interleaved}
 use Rattle.p25_trellis.proofs.Paths.{power-pos}

@@ -1,5 +1,5 @@
 use Rattle.std.proofs.Common.{◌≡◌, ◌<◌, length, arith}
-use Rattle.p25_trellis.specs.Least.{cost_in}
+use Rattle.p25_trellis.specs.Costs.{cost_in}
 use Rattle.p25_trellis.proofs.Costs.{step_cost-lt, IsLeastEnd-at, HasLeastFrom-write, HasLeastFrom-more, here_more}
 use Rattle.p25_trellis.proofs.least.fill_step.Goals as goal
 

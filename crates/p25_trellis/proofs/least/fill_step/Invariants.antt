@@ -1,5 +1,6 @@
 use Rattle.std.proofs.Common.{◌≡◌, ℕ, suc, ◌+◌, ◌<◌}
-use Rattle.p25_trellis.specs.Least.{cost_in, rest_in, symbols_cost, HasLeastFrom, IsLeastEnd}
+use Rattle.p25_trellis.specs.Costs.{cost_in, symbols_cost}
+use Rattle.p25_trellis.specs.Least.{rest_in, HasLeastFrom, IsLeastEnd}
 use Rattle.p25_trellis.proofs.least.fill_step.Given as goal
 
 abbrev pub invariant-loop-state : goal.invariant-loop-state

@@ -1,6 +1,6 @@
 use Rattle.std.proofs.Common.{◌≡◌, ℕ, suc, ◌+◌, List, [], ◌∷◌, ◌++◌, take, sym, ap, subst, ◌∙◌, arith, length-set}
 use Rattle.std.proofs.lemmas.List.{take-append-drop, drop-set-lt}
-use Rattle.p25_trellis.specs.Least.{cost_in, path_cost, symbols_cost}
+use Rattle.p25_trellis.specs.Costs.{cost_in, path_cost, symbols_cost}
 use Rattle.p25_trellis.proofs.Costs.{step_cost-lt, HasLeastFrom-later}
 use Rattle.p25_trellis.proofs.Paths.{power-pos}
 use Rattle.p25_trellis.proofs.FirstPath.{IsFirstLeastEnd, IsFirstLeastEnd-last, IsFirstLeast-from_end, completes_more}

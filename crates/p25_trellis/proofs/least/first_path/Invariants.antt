@@ -1,5 +1,5 @@
 use Rattle.std.proofs.Common.{◌≡◌, ℕ, ◌+◌, ◌<◌, List, [], ◌∷◌, ◌++◌, take, drop, length}
-use Rattle.p25_trellis.specs.Least.{cost_in, symbols_cost}
+use Rattle.p25_trellis.specs.Costs.{cost_in, symbols_cost}
 use Rattle.p25_trellis.proofs.FirstPath.{IsFirstLeastEnd}
 use Rattle.p25_trellis.proofs.least.first_path.Given as goal
 

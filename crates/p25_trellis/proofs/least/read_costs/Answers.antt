@@ -1,5 +1,6 @@
 use Rattle.std.proofs.Common.{refl, sym, ◌∙◌, arith}
-use Rattle.p25_trellis.specs.Least.{cost_in, rest_in, path_cost}
+use Rattle.p25_trellis.specs.Costs.{cost_in, path_cost}
+use Rattle.p25_trellis.specs.Least.{rest_in}
 use Rattle.p25_trellis.proofs.Costs.{rest_in-first}
 use Rattle.p25_trellis.proofs.Paths.{power-pos}
 use Rattle.p25_trellis.proofs.FirstPath.{IsFirstLeast-total}
