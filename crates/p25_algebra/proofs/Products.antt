@@ -2,10 +2,10 @@
 use Rattle.std.proofs.Common.{◌≡◌, ◌≢◌, ◌⊎◌, ℕ, zero, suc, ◌+◌, ◌-◌, ◌<◌, ◌≤◌, cond, sym, ap, ap₂, ◌∙◌, inl, inr, arith}
 use Rattle.std.proofs.lemmas.Bool.{cases_eq, cases_lt, lt-ltb, le-ltb}
 use Rattle.p25_gf64.specs.Field.{Field}
-use Rattle.p25_gf64.proofs.FieldFacts.{add_zero, add_self, add_twice, same_from_sum, mul_comm, mul_add, mul_zero, zero_mul, mul_ne_zero}
+use Rattle.p25_gf64.proofs.FieldFacts.{mul_assoc, add_assoc, add_zero, add_self, add_twice, same_from_sum, mul_comm, mul_add, mul_zero, zero_mul, mul_ne_zero}
 use Rattle.p25_algebra.specs.Sums.{sum_below}
 use Rattle.p25_algebra.specs.Series.{product_at, IsZero, IsShort, IsDegree, shifted}
-use Rattle.p25_algebra.proofs.SumFacts.{sum_same, sum_of_zeros, sum-add, sum_longer, sum_of_one, sum_reverse}
+use Rattle.p25_algebra.proofs.SumFacts.{sum-mul, sum_first, sum_same, sum_of_zeros, sum-add, sum_longer, sum_of_one, sum_reverse}
 
 module _ {F : Type 0} (K : Field F) where
   open K use {zero as 𝟘, one as 𝟙, add as ◌⊕◌, mul as ◌⊗◌}
@@ -48,6 +48,53 @@ module _ {F : Type 0} (K : Field F) where
   product-add f g h n =
       sum_same K (suc n) (λ i. f i ⊗ (g (n - i) ⊕ h (n - i))) (λ i. f i ⊗ g (n - i) ⊕ f i ⊗ h (n - i)) (λ i low. mul_add K (f i) (g (n - i)) (h (n - i)))
       ∙ sum-add K (suc n) (λ i. f i ⊗ g (n - i)) (λ i. f i ⊗ h (n - i))
+
+  pub product-add_left : (f g h : ℕ → F) (n : ℕ) → product_at K (λ i. f i ⊕ g i) h n ≡ product_at K f h n ⊕ product_at K g h n
+  product-add_left f g h n =
+      product_comm (λ i. f i ⊕ g i) h n ∙ product-add h f g n ∙ ap₂ ◌⊕◌ (product_comm h f n) (product_comm h g n)
+
+  pub product-mul_left : (c : F) (f g : ℕ → F) (n : ℕ) → product_at K (λ i. c ⊗ f i) g n ≡ c ⊗ product_at K f g n
+  product-mul_left c f g n =
+      sum_same K (suc n) (λ i. c ⊗ f i ⊗ g (n - i)) (λ i. c ⊗ (f i ⊗ g (n - i))) (λ i h. mul_assoc K c (f i) (g (n - i)))
+      ∙ sum-mul K (suc n) c (λ i. f i ⊗ g (n - i))
+
+  -- the first factor's first term apart
+  pub product_first : (f g : ℕ → F) (n : ℕ) → product_at K f g (suc n) ≡ f 0 ⊗ g (suc n) ⊕ product_at K (λ i. f (suc i)) g n
+  product_first f g n =
+      sum_first K (suc n) (λ i. f i ⊗ g (suc n - i))
+      ∙ ap₂ ◌⊕◌ (ap (λ k. f 0 ⊗ g k) whole) (sum_same K (suc n) (λ i. f (suc i) ⊗ g (suc n - suc i)) (λ i. f (suc i) ⊗ g (n - i)) (λ i h. ap (λ k. f (suc i) ⊗ g k) (less i)))
+    where
+      whole : suc n - 0 ≡ suc n
+      whole = omega arith
+
+      less : (i : ℕ) → suc n - suc i ≡ n - i
+      less i = omega arith
+
+  product_at_zero : (f g : ℕ → F) → product_at K f g 0 ≡ f 0 ⊗ g 0
+  product_at_zero f g = sum_of_one K 1 0 (λ i. f i ⊗ g (0 - i)) (omega arith) (λ i h apart. absurd (omega arith))
+
+  pub product_assoc : (f g h : ℕ → F) (n : ℕ) → product_at K (product_at K f g) h n ≡ product_at K f (product_at K g h) n
+  product_assoc f g h zero =
+      product_at_zero (product_at K f g) h
+      ∙ ap (λ w. w ⊗ h 0) (product_at_zero f g)
+      ∙ mul_assoc K (f 0) (g 0) (h 0)
+      ∙ sym (product_at_zero f (product_at K g h) ∙ ap (λ w. f 0 ⊗ w) (product_at_zero g h))
+  product_assoc f g h (suc n) =
+      product_first (product_at K f g) h n
+      ∙ ap₂ (λ a b. a ⊗ h (suc n) ⊕ b) (product_at_zero f g)
+      (product_same_left n
+      ∙ product-add_left (λ i. f 0 ⊗ g (suc i)) (product_at K (λ i. f (suc i)) g) h n
+      ∙ ap₂ ◌⊕◌ (product-mul_left (f 0) (λ i. g (suc i)) h n) (product_assoc (λ i. f (suc i)) g h n))
+      ∙ regroup (f 0) (g 0) (h (suc n)) (product_at K (λ i. g (suc i)) h n) (product_at K (λ i. f (suc i)) (product_at K g h) n)
+      ∙ sym (product_first f (product_at K g h) n ∙ ap (λ w. f 0 ⊗ w ⊕ product_at K (λ i. f (suc i)) (product_at K g h) n) (product_first g h n))
+    where
+      product_same_left : (n : ℕ) → product_at K (λ i. product_at K f g (suc i)) h n ≡ product_at K (λ i. f 0 ⊗ g (suc i) ⊕ product_at K (λ i. f (suc i)) g i) h n
+      product_same_left n =
+          sum_same K (suc n) (λ i. product_at K f g (suc i) ⊗ h (n - i)) (λ i. (f 0 ⊗ g (suc i) ⊕ product_at K (λ i. f (suc i)) g i) ⊗ h (n - i))
+          (λ i low. ap (λ w. w ⊗ h (n - i)) (product_first f g i))
+
+      regroup : (a b c p q : F) → a ⊗ b ⊗ c ⊕ (a ⊗ p ⊕ q) ≡ a ⊗ (b ⊗ c ⊕ p) ⊕ q
+      regroup a b c p q = simp (mul_add K, mul_assoc K, add_assoc K)
 
   -- the product with c x^s
   pub product_monomial : (f h : ℕ → F) (c : F) (s : ℕ) → h s ≡ c → ((i : ℕ) → i ≢ s → h i ≡ 𝟘) → (n : ℕ) → product_at K f h n ≡ c ⊗ shifted K s f n

@@ -13,9 +13,11 @@ pub fn few_zeros()
         → (i : ℕ) → i < length → f i ≡ gf64.zero }
 {}
 
-/// Products commute and distribute over sums, and the degrees of factors add.
+/// Products commute, associate and distribute over sums, and the degrees of factors add.
 pub fn product_laws()
     ensures commutes { (f g : ℕ → Sym) (n : ℕ) → product_at gf64 f g n ≡ product_at gf64 g f n }
+    ensures associates { (f g h : ℕ → Sym) (n : ℕ)
+        → product_at gf64 (product_at gf64 f g) h n ≡ product_at gf64 f (product_at gf64 g h) n }
     ensures distributes { (f g h : ℕ → Sym) (n : ℕ)
         → product_at gf64 f (λ i. gf64.add (g i) (h i)) n ≡ gf64.add (product_at gf64 f g n) (product_at gf64 f h n) }
     ensures degrees { (f g : ℕ → Sym) (d e : ℕ) → IsDegree gf64 f d → IsDegree gf64 g e

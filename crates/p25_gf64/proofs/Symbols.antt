@@ -2,7 +2,7 @@
 use Rattle.std.proofs.Common.{◌≡◌, ◌≢◌, ℕ, zero, suc, ◌<◌, ◌==◌, true, not, ◌||◌, bit_xor, refl, sym, ap, ◌∙◌, inl, inr, arith}
 use Rattle.std.proofs.lemmas.Bool.{or_cases, eqb-true, eq-eqb, not-true, both_ways}
 use Rattle.p25_gf64.specs.Field.{power}
-use Rattle.p25_gf64.specs.Product.{product, product_by, product_power, shifted}
+use Rattle.p25_gf64.specs.Product.{product, product_by, product_power, times_x}
 use Rattle.p25_gf64.specs.ProductLaws.{all_below, all_below_at}
 use Rattle.p25_gf64.specs.Symbol.{number, symbol_of, same_symbol, zero_symbol, one_symbol, alpha, sum_of, product_of}
 use Rattle.p25_gf64.specs.Gf64.{gf64}
@@ -49,7 +49,7 @@ pub number_ne_zero : (x : Sym) → x ≢ gf64.zero → number x ≢ 0
 number_ne_zero x apart e = apart (zero_from_number x e)
 
 alpha_order_computed : product_power 2 63 ≡ 1
-unfolding product product_by product_power shifted
+unfolding product product_by product_power times_x
 alpha_order_computed = refl
 
 -- α to the power 63 is one
@@ -59,7 +59,7 @@ alpha_to_63 =
     (number-power alpha 63 ∙ ap (λ a. product_power a 63) number_alpha ∙ alpha_order_computed ∙ sym number_one)
 
 lower_powers_computed : all_below 63 (λ n. n == 0 || not (product_power 2 n == 1)) ≡ true
-unfolding all_below product product_by product_power shifted
+unfolding all_below product product_by product_power times_x
 lower_powers_computed = refl
 
 -- no lower power of α is one
@@ -85,3 +85,7 @@ alpha_ne_zero e = two_apart (sym number_alpha ∙ ap number e ∙ number_zero)
 -- exponents of α below 63 with one power are one exponent
 pub alpha_exponents : (i j : ℕ) → i < 63 → j < 63 → power gf64 alpha i ≡ power gf64 alpha j → i ≡ j
 alpha_exponents = same_exponent gf64 alpha 63 alpha_ne_zero alpha_order
+
+-- symbols that compare equal are one symbol
+pub same_from_eq : (x y : Sym) → (number x == number y) ≡ true → x ≡ y
+same_from_eq x y test = same_symbol x y (eqb-true (number x) (number y) test)

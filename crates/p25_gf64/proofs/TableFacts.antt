@@ -2,7 +2,7 @@
 use Rattle.std.proofs.Common.{◌≡◌, ◌≢◌, ℕ, ◌+◌, ◌-◌, ◌%◌, ◌<◌, ◌==◌, true, ◌&&◌, ◌||◌, nat_lt, slice_index_or, refl, sym, ap, ap₂, ◌∙◌, inl, inr, arith}
 use Rattle.std.proofs.lemmas.Bool.{or_cases, and_parts, eqb-true, ltb-true}
 use Rattle.p25_gf64.specs.Field.{power}
-use Rattle.p25_gf64.specs.Product.{product, product_by, product_power, shifted}
+use Rattle.p25_gf64.specs.Product.{product, product_by, product_power, times_x}
 use Rattle.p25_gf64.specs.ProductLaws.{all_below, all_below_at, product_power-lt}
 use Rattle.p25_gf64.specs.Symbol.{number, symbol_of, same_symbol, alpha}
 use Rattle.p25_gf64.specs.Gf64.{gf64}
@@ -12,7 +12,7 @@ use Rattle.p25_gf64.proofs.Powers.{power-add, power-mod}
 use Rattle.p25_gf64.proofs.Symbols.{number-power, number_alpha, number_ne_zero, alpha_to_63}
 
 powers_computed : all_below 63 (λ e. slice_index_or POWERS e 0 == product_power 2 e) ≡ true
-unfolding all_below product product_by product_power shifted
+unfolding all_below product product_by product_power times_x
 powers_computed = refl
 
 power_entry : (e : ℕ) → e < 63 → slice_index_or POWERS e 0 ≡ product_power 2 e
@@ -29,7 +29,7 @@ power_entry_is e h below =
     (power_entry e h ∙ sym (number-power alpha e ∙ ap (λ a. product_power a e) number_alpha))
 
 logarithms_computed : all_below 64 (λ a. a == 0 || (nat_lt (slice_index_or LOGARITHMS a 0) 63 && product_power 2 (slice_index_or LOGARITHMS a 0) == a)) ≡ true
-unfolding all_below product product_by product_power shifted
+unfolding all_below product product_by product_power times_x
 logarithms_computed = refl
 
 logarithm_entry : (a : ℕ) → a < 64 → a ≢ 0 → (slice_index_or LOGARITHMS a 0 < 63) × (product_power 2 (slice_index_or LOGARITHMS a 0) ≡ a)

@@ -3,13 +3,13 @@
 use Rattle.std.specs.Prelude.{ℕ, zero, suc, ◌*◌, ◌/◌, ◌%◌, ◌==◌, nat_lt, if◌then◌else◌, bit_xor}
 
 -- a times x: shifted by one place, and x^6 + x + 1 (67) taken away where x^6 has come
-unfoldable pub shifted : ℕ → ℕ
-shifted a = if nat_lt a 32 then 2 * a else bit_xor (2 * a) 67
+unfoldable pub times_x : ℕ → ℕ
+times_x a = if nat_lt a 32 then 2 * a else bit_xor (2 * a) 67
 
 -- the exclusive or, over the lowest `count` bits of b that are 1, of a shifted by the bit's place
 unfoldable pub product_by : ℕ → ℕ → ℕ → ℕ
 product_by zero a b = 0
-product_by (suc count) a b = bit_xor (if b % 2 == 1 then a else 0) (product_by count (shifted a) (b / 2))
+product_by (suc count) a b = bit_xor (if b % 2 == 1 then a else 0) (product_by count (times_x a) (b / 2))
 
 -- the product of two numbers of six bits
 unfoldable pub product : ℕ → ℕ → ℕ

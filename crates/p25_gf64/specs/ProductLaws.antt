@@ -4,7 +4,7 @@ use Rattle.std.specs.Prelude.{◌≡◌, ℕ, zero, suc, ◌/◌, ◌%◌, ◌<�
 use Rattle.std.proofs.Common.{sym, ap, ap₂, ◌∙◌, inl, inr, arith}
 use Rattle.std.proofs.lemmas.Bool.{and_parts, or_cases, cases_eq, eqb-true, ltb-true}
 use Rattle.std.specs.Int.Bits.{xor_lt, xor_assoc, xor_comm}
-use Rattle.p25_gf64.specs.Product.{shifted, product_by, product, product_power}
+use Rattle.p25_gf64.specs.Product.{times_x, product_by, product, product_power}
 
 -- a test holds of each number below a bound
 unfoldable pub all_below : ℕ → (ℕ → Bool) → Bool
@@ -29,35 +29,35 @@ all_pairs_below_at n test e a b ha hb =
     all_below_at n (λ b. test a b) (all_below_at n (λ a. all_below n (λ b. test a b)) e a ha) b hb
 
 product_comm_computed : all_pairs_below 64 (λ a b. product a b == product b a) ≡ true
-unfolding all_pairs_below all_below product product_by shifted
+unfolding all_pairs_below all_below product product_by times_x
 product_comm_computed = refl
 
 -- the product commutes
 pub product_comm : (a b : ℕ) → a < 64 → b < 64 → product a b ≡ product b a
 product_comm a b ha hb = eqb-true _ _ (all_pairs_below_at 64 (λ a b. product a b == product b a) product_comm_computed a b ha hb)
 
-shifted_xor_computed : all_pairs_below 64 (λ a b. shifted (bit_xor a b) == bit_xor (shifted a) (shifted b)) ≡ true
-unfolding all_pairs_below all_below shifted
-shifted_xor_computed = refl
+times_x_xor_computed : all_pairs_below 64 (λ a b. times_x (bit_xor a b) == bit_xor (times_x a) (times_x b)) ≡ true
+unfolding all_pairs_below all_below times_x
+times_x_xor_computed = refl
 
 -- the shift distributes over the exclusive or
-pub shifted_xor : (a b : ℕ) → a < 64 → b < 64 → shifted (bit_xor a b) ≡ bit_xor (shifted a) (shifted b)
-shifted_xor a b ha hb = eqb-true _ _ (all_pairs_below_at 64 (λ a b. shifted (bit_xor a b) == bit_xor (shifted a) (shifted b)) shifted_xor_computed a b ha hb)
+pub times_x-xor : (a b : ℕ) → a < 64 → b < 64 → times_x (bit_xor a b) ≡ bit_xor (times_x a) (times_x b)
+times_x-xor a b ha hb = eqb-true _ _ (all_pairs_below_at 64 (λ a b. times_x (bit_xor a b) == bit_xor (times_x a) (times_x b)) times_x_xor_computed a b ha hb)
 
-shifted_lt_computed : all_below 64 (λ a. nat_lt (shifted a) 64) ≡ true
-unfolding all_below shifted
-shifted_lt_computed = refl
+times_x_lt_computed : all_below 64 (λ a. nat_lt (times_x a) 64) ≡ true
+unfolding all_below times_x
+times_x_lt_computed = refl
 
 -- the shift stays below 64
-pub shifted-lt : (a : ℕ) → a < 64 → shifted a < 64
-shifted-lt a ha = ltb-true _ _ (all_below_at 64 (λ a. nat_lt (shifted a) 64) shifted_lt_computed a ha)
+pub times_x-lt : (a : ℕ) → a < 64 → times_x a < 64
+times_x-lt a ha = ltb-true _ _ (all_below_at 64 (λ a. nat_lt (times_x a) 64) times_x_lt_computed a ha)
 
 -- the exclusive or stays below 64
 pub xor_below : (a b : ℕ) → a < 64 → b < 64 → bit_xor a b < 64
 xor_below a b ha hb = xor_lt 6 a b ha hb
 
 product_zero_computed : all_below 64 (λ a. product a 0 == 0) ≡ true
-unfolding all_below product product_by shifted
+unfolding all_below product product_by times_x
 product_zero_computed = refl
 
 -- a product with 0 is 0
@@ -65,7 +65,7 @@ pub product-zero : (a : ℕ) → a < 64 → product a 0 ≡ 0
 product-zero a ha = eqb-true _ _ (all_below_at 64 (λ a. product a 0 == 0) product_zero_computed a ha)
 
 product_one_computed : all_below 64 (λ a. product a 1 == a) ≡ true
-unfolding all_below product product_by shifted
+unfolding all_below product product_by times_x
 product_one_computed = refl
 
 -- a product with 1 is the other factor
@@ -73,7 +73,7 @@ pub product-one : (a : ℕ) → a < 64 → product a 1 ≡ a
 product-one a ha = eqb-true _ _ (all_below_at 64 (λ a. product a 1 == a) product_one_computed a ha)
 
 product_inverse_computed : all_below 64 (λ a. a == 0 || product a (product_power a 62) == 1) ≡ true
-unfolding all_below product product_by product_power shifted
+unfolding all_below product product_by product_power times_x
 product_inverse_computed = refl
 
 -- the 62nd power is the inverse
@@ -100,7 +100,7 @@ product_by-lt : (n a b : ℕ) → a < 64 → product_by n a b < 64
 unfolding product_by
 product_by-lt zero a b ha = omega arith
 product_by-lt (suc n) a b ha =
-    xor_below _ _ (cond_lt (b % 2 == 1) a ha) (product_by-lt n (shifted a) (b / 2) (shifted-lt a ha))
+    xor_below _ _ (cond_lt (b % 2 == 1) a ha) (product_by-lt n (times_x a) (b / 2) (times_x-lt a ha))
 
 -- the product stays below 64
 pub product-lt : (a b : ℕ) → a < 64 → product a b < 64
@@ -117,8 +117,8 @@ product_by-xor : (n a c b : ℕ) → a < 64 → c < 64 → product_by n (bit_xor
 unfolding product_by
 product_by-xor zero a c b ha hc = refl
 product_by-xor (suc n) a c b ha hc =
-    ap₂ bit_xor (cond_xor (b % 2 == 1) a c) (ap (λ z. product_by n z (b / 2)) (shifted_xor a c ha hc) ∙ product_by-xor n (shifted a) (shifted c) (b / 2) (shifted-lt a ha) (shifted-lt c hc))
-    ∙ xor_regroup (cond (b % 2 == 1) a 0) (cond (b % 2 == 1) c 0) (product_by n (shifted a) (b / 2)) (product_by n (shifted c) (b / 2))
+    ap₂ bit_xor (cond_xor (b % 2 == 1) a c) (ap (λ z. product_by n z (b / 2)) (times_x-xor a c ha hc) ∙ product_by-xor n (times_x a) (times_x c) (b / 2) (times_x-lt a ha) (times_x-lt c hc))
+    ∙ xor_regroup (cond (b % 2 == 1) a 0) (cond (b % 2 == 1) c 0) (product_by n (times_x a) (b / 2)) (product_by n (times_x c) (b / 2))
 
 product-xor_left : (a c b : ℕ) → a < 64 → c < 64 → product (bit_xor a c) b ≡ bit_xor (product a b) (product c b)
 unfolding product
@@ -131,25 +131,25 @@ product-xor a b c ha hb hc =
     ∙ product-xor_left b c a hb hc
     ∙ ap₂ bit_xor (product_comm b a hb ha) (product_comm c a hc ha)
 
-product_by-shifted : (n a b : ℕ) → a < 64 → product_by n (shifted a) b ≡ shifted (product_by n a b)
-unfolding product_by shifted
-product_by-shifted zero a b ha = refl
-product_by-shifted (suc n) a b ha =
+product_by-times_x : (n a b : ℕ) → a < 64 → product_by n (times_x a) b ≡ times_x (product_by n a b)
+unfolding product_by times_x
+product_by-times_x zero a b ha = refl
+product_by-times_x (suc n) a b ha =
     let t = b % 2 == 1 in
-    ap₂ bit_xor (shifted_cond t a) (product_by-shifted n (shifted a) (b / 2) (shifted-lt a ha))
-    ∙ sym (shifted_xor (cond t a 0) (product_by n (shifted a) (b / 2)) (cond_lt t a ha) (product_by-lt n (shifted a) (b / 2) (shifted-lt a ha)))
+    ap₂ bit_xor (times_x_cond t a) (product_by-times_x n (times_x a) (b / 2) (times_x-lt a ha))
+    ∙ sym (times_x-xor (cond t a 0) (product_by n (times_x a) (b / 2)) (cond_lt t a ha) (product_by-lt n (times_x a) (b / 2) (times_x-lt a ha)))
   where
-    shifted_cond : (t : Bool) (a : ℕ) → cond t (shifted a) 0 ≡ shifted (cond t a 0)
-    shifted_cond true a = refl
-    shifted_cond false a = refl
+    times_x_cond : (t : Bool) (a : ℕ) → cond t (times_x a) 0 ≡ times_x (cond t a 0)
+    times_x_cond true a = refl
+    times_x_cond false a = refl
 
-product-shifted_left : (a b : ℕ) → a < 64 → product (shifted a) b ≡ shifted (product a b)
+product-times_x_left : (a b : ℕ) → a < 64 → product (times_x a) b ≡ times_x (product a b)
 unfolding product
-product-shifted_left a b ha = product_by-shifted 6 a b ha
+product-times_x_left a b ha = product_by-times_x 6 a b ha
 
-product-shifted : (a b : ℕ) → a < 64 → b < 64 → shifted (product a b) ≡ product a (shifted b)
-product-shifted a b ha hb =
-    ap shifted (product_comm a b ha hb) ∙ sym (product-shifted_left b a hb) ∙ product_comm (shifted b) a (shifted-lt b hb) ha
+product-times_x : (a b : ℕ) → a < 64 → b < 64 → times_x (product a b) ≡ product a (times_x b)
+product-times_x a b ha hb =
+    ap times_x (product_comm a b ha hb) ∙ sym (product-times_x_left b a hb) ∙ product_comm (times_x b) a (times_x-lt b hb) ha
 
 product_cond : (t : Bool) (a b : ℕ) → a < 64 → cond t (product a b) 0 ≡ product a (cond t b 0)
 product_cond true a b ha = refl
@@ -160,8 +160,8 @@ unfolding product_by
 product_by-product zero a b c ha hb = sym (product-zero a ha)
 product_by-product (suc n) a b c ha hb =
     let t = c % 2 == 1 in
-    ap₂ bit_xor (product_cond t a b ha) (ap (λ z. product_by n z (c / 2)) (product-shifted a b ha hb) ∙ product_by-product n a (shifted b) (c / 2) ha (shifted-lt b hb))
-    ∙ sym (product-xor a (cond t b 0) (product_by n (shifted b) (c / 2)) ha (cond_lt t b hb) (product_by-lt n (shifted b) (c / 2) (shifted-lt b hb)))
+    ap₂ bit_xor (product_cond t a b ha) (ap (λ z. product_by n z (c / 2)) (product-times_x a b ha hb) ∙ product_by-product n a (times_x b) (c / 2) ha (times_x-lt b hb))
+    ∙ sym (product-xor a (cond t b 0) (product_by n (times_x b) (c / 2)) ha (cond_lt t b hb) (product_by-lt n (times_x b) (c / 2) (times_x-lt b hb)))
 
 -- the product associates
 pub product_assoc : (a b c : ℕ) → a < 64 → b < 64 → product (product a b) c ≡ product a (product b c)

@@ -13,7 +13,7 @@ pub struct Poly {
 }
 
 impl Poly {
-    ghost use Rattle.p25_poly.specs.declared.polynomial.Poly.{Poly as declared_Poly};
+    ghost use Rattle.p25_poly.specs.declared.polynomial.Poly.{Poly as Polynomial};
     ghost use Rattle.p25_poly.specs.Polynomial.{coefficient_of, IsDivision};
 
     /// The polynomial zero.
@@ -103,7 +103,7 @@ impl Poly {
     pub fn divide(&self, by: &Poly) -> (Poly, Poly)
         requires { IsZero gf64 (coefficient_of by.now) → ⊥ }
         ensures division { IsDivision self.now by.now result.0 result.1 }
-        ensures unique { (quotient remainder : declared_Poly) → IsDivision self.now by.now quotient remainder
+        ensures unique { (quotient remainder : Polynomial) → IsDivision self.now by.now quotient remainder
             → (quotient ≡ result.0) × (remainder ≡ result.1) }
     {
         let degree = by.degree().unwrap();

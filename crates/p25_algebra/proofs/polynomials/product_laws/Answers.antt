@@ -1,5 +1,5 @@
 use Rattle.p25_gf64.specs.Gf64.{gf64}
-use Rattle.p25_algebra.proofs.Products.{product_comm, product-add, product_degree}
+use Rattle.p25_algebra.proofs.Products.{product_comm, product_assoc, product-add, product_degree}
 use Rattle.p25_algebra.proofs.polynomials.product_laws.Goals as goal
 
 pub returns-clause-commutes : goal.returns-clause-commutes
@@ -10,3 +10,6 @@ returns-clause-distributes c = product-add gf64
 
 pub returns-clause-degrees : goal.returns-clause-degrees
 returns-clause-degrees c = product_degree gf64
+
+pub returns-clause-associates : goal.returns-clause-associates
+returns-clause-associates c = product_assoc gf64
