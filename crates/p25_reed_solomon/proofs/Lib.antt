@@ -1,0 +1,4 @@
+pub mod PlaceFacts
+pub mod ErrorFacts
+pub mod LocatorFacts
+pub mod ReadingFacts

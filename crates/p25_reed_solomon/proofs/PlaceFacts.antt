@@ -1,0 +1,89 @@
+-- Places, their elements, and the zeros of a locator among them.
+use Rattle.std.proofs.Common.{◌≡◌, ◌≢◌, ◌⊎◌, ℕ, zero, suc, ◌+◌, ◌-◌, ◌<◌, ◌≤◌, List, [], ◌∷◌, ◌++◌, length, get_or, inl, inr, refl, ap, sym, ◌∙◌, subst, arith, lit<}
+use Rattle.std.proofs.lemmas.Bool.{cases_lt, cases_eq, cases_order}
+use Rattle.std.proofs.lemmas.List.{get_or_append_left, get_or_at, length_push}
+use Rattle.p25_gf64.specs.declared.symbol.Sym.{Sym}
+use Rattle.p25_gf64.specs.Field.{power}
+use Rattle.p25_gf64.specs.Symbol.{alpha}
+use Rattle.p25_gf64.specs.Gf64.{gf64}
+use Rattle.p25_algebra.specs.Sums.{AreApart}
+use Rattle.p25_algebra.specs.Series.{coefficient, value_at}
+use Rattle.p25_algebra.proofs.Values.{few_zeros}
+use Rattle.p25_reed_solomon.specs.ElementFacts.{same_place}
+use Rattle.p25_reed_solomon.specs.Errors.{element_of, IsListed, AreZeros}
+
+-- a locator with as many zeros as coefficients has no coefficient
+pub AreZeros-few : (n upto : ℕ) (locator : List Sym) (places : List ℕ) → n ≤ 63 → upto ≤ n → AreZeros n locator upto places → (c : ℕ) × (c < length locator) × (coefficient gf64 locator c ≢ gf64.zero) → length places < length locator
+AreZeros-few n upto locator places most within are some =
+    elim (cases_lt (length places) (length locator)) [
+      | inl fewer ↦ fewer
+      | inr many ↦
+          let place : ℕ → ℕ = λ c. get_or places c 0 in
+          let apart : AreApart (length places) (λ c. element_of n (place c))
+          = record {
+            apart = λ a b first second same.
+                let e = same_place n (place a) (place b) most (omega (arith, are.below a first)) (omega (arith, are.below b second)) same in
+                elim (cases_order a b) [
+                  | inl equal ↦ equal
+                  | inr other ↦ elim other [
+                    | inl less ↦ absurd (omega (arith, are.rising a b less second, e))
+                    | inr more ↦ absurd (omega (arith, are.rising b a more first, e))
+                  ]
+                ];
+          } in
+          absurd (some.2 (few_zeros gf64 (length locator) (length places) (coefficient gf64 locator) (λ c. element_of n (place c)) many apart are.zeros some.0 some.1))
+    ]
+
+-- before the first place none is listed
+pub AreZeros-none : (n : ℕ) (locator : List Sym) → AreZeros n locator 0 []
+AreZeros-none n locator =
+    record {
+      below = λ c h. absurd (omega arith);
+      rising = λ c d h k. absurd (omega arith);
+      zeros = λ c h. absurd (omega arith);
+      all = λ j h z. absurd (omega arith);
+    }
+
+-- a place where the locator doesn't vanish is not listed
+pub AreZeros-skip : (n : ℕ) (locator : List Sym) (j : ℕ) (places : List ℕ) → AreZeros n locator j places → value_at gf64 (length locator) (coefficient gf64 locator) (element_of n j) ≢ gf64.zero → AreZeros n locator (j + 1) places
+AreZeros-skip n locator j places are other =
+    record {
+      below = λ c h. omega (arith, are.below c h);
+      rising = are.rising;
+      zeros = are.zeros;
+      all = λ k h z. elim (cases_eq k j) [
+        | inl here ↦ absurd (other (subst (λ (m : ℕ). value_at gf64 (length locator) (coefficient gf64 locator) (element_of n m) ≡ gf64.zero) here z))
+        | inr before ↦ are.all k (omega (arith, before)) z
+      ];
+    }
+
+pushed_last : (places : List ℕ) (j c : ℕ) → c ≡ length places → get_or (places ++ j ∷ []) c 0 ≡ j
+pushed_last places j c here = get_or_at places j [] 0 c (sym here)
+
+-- a place where it vanishes is
+pub AreZeros-push : (n : ℕ) (locator : List Sym) (j : ℕ) (places : List ℕ) → AreZeros n locator j places → value_at gf64 (length locator) (coefficient gf64 locator) (element_of n j) ≡ gf64.zero → AreZeros n locator (j + 1) (places ++ j ∷ [])
+AreZeros-push n locator j places are here =
+    let long = length_push places j in
+    let old : (c : ℕ) → c < length places → get_or (places ++ j ∷ []) c 0 ≡ get_or places c 0 = λ c h. get_or_append_left places (j ∷ []) 0 c h in
+    record {
+      below = λ c h. elim (cases_lt c (length places)) [
+        | inl inside ↦ omega (arith, are.below c inside, old c inside)
+        | inr last ↦ omega (arith, pushed_last places j c (omega (arith, long)))
+      ];
+      rising = λ c d h k. elim (cases_lt d (length places)) [
+        | inl inside ↦ omega (arith, are.rising c d h inside, old c (omega arith), old d inside)
+        | inr last ↦
+            let within : c < length places = omega (arith, long) in
+            omega (arith, are.below c within, old c within, pushed_last places j d (omega (arith, long)))
+      ];
+      zeros = λ c h. elim (cases_lt c (length places)) [
+        | inl inside ↦ subst (λ (m : ℕ). value_at gf64 (length locator) (coefficient gf64 locator) (element_of n m) ≡ gf64.zero) (sym (old c inside)) (are.zeros c inside)
+        | inr last ↦ subst (λ (m : ℕ). value_at gf64 (length locator) (coefficient gf64 locator) (element_of n m) ≡ gf64.zero) (sym (pushed_last places j c (omega (arith, long)))) here
+      ];
+      all = λ k h z. elim (cases_eq k j) [
+        | inl same ↦ record { index = length places; inside = omega (arith, long); there = pushed_last places j (length places) refl ∙ sym same }
+        | inr before ↦
+            let listed = are.all k (omega (arith, before)) z in
+            record { index = listed.index; inside = omega (arith, long, listed.inside); there = old listed.index listed.inside ∙ listed.there }
+      ];
+    }

@@ -1,0 +1,16 @@
+use Rattle.std.proofs.Common.{◌≡◌, ◌<◌, length, ap₂, sym, ◌∙◌, arith}
+use Rattle.std.proofs.lemmas.List.{get_or_default}
+use Rattle.p25_gf64.specs.Gf64.{gf64}
+use Rattle.p25_algebra.specs.Series.{coefficient}
+use Rattle.p25_reed_solomon.proofs.ErrorFacts.{placed_more, placed_none}
+use Rattle.p25_reed_solomon.proofs.errors.place.Goals as goal
+
+pub loop-c-init : goal.loop-c-init
+loop-c-init c = λ j below. c.loop-symbol.invariant j (omega arith) ∙ placed_none c.args.places.now (coefficient gf64 c.args.values.now) j
+
+pub loop-c-preserved : goal.loop-c-preserved
+loop-c-preserved c =
+    let inside = c.requires.inside c.loop-c.c (omega arith) in
+    placed_more c.args.places.now (coefficient gf64 c.args.values.now) c.loop-c.out c.loop-c.c c.add.result (omega (arith, inside))
+    (c.add.ensures.sum ∙ ap₂ gf64.add (c.index-out-j.is ∙ get_or_default c.loop-c.out _ _ gf64.zero (omega (arith, inside))) (c.index-values-c.is ∙ get_or_default c.args.values.now _ _ gf64.zero (omega arith)))
+    c.loop-c.invariant

@@ -1,0 +1,6 @@
+use Rattle.std.proofs.Common.{◌≤◌}
+use Rattle.p25_reed_solomon.specs.Errors.{AreZeros}
+use Rattle.p25_reed_solomon.proofs.locator.zeros.Given as goal
+
+abbrev pub invariant-loop-j : goal.invariant-loop-j
+invariant-loop-j l = AreZeros l.n l.locator l.j l.places.items

@@ -1,0 +1,6 @@
+pub mod Words
+pub mod Errors
+pub mod ValueFacts
+pub mod ElementFacts
+pub mod DistanceFacts
+pub mod WordLaws

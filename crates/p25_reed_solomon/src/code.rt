@@ -1,0 +1,56 @@
+ghost use Rattle.std.specs.Prelude.{◌≡◌, ◌+◌, ◌-◌, ◌/◌};
+ghost use Rattle.p25_gf64.proofs.Symbols.{same_from_eq};
+ghost use Rattle.p25_reed_solomon.specs.Words.{IsCode, IsWord, radius_of};
+ghost use Rattle.p25_reed_solomon.specs.WordLaws.{begins_of, length_of_word_of, one_word_of, within_of, words_apart};
+
+use crate::encoder::encode;
+use crate::reader::read;
+use p25_code::{BlockCode, Reading};
+use p25_gf64::Sym;
+
+/// The Reed-Solomon code over GF(64) of N symbols, of which the first K are the information.
+pub struct Rs<const N: usize, const K: usize>;
+
+impl<const N: usize, const K: usize> BlockCode for Rs<N, K> {
+    const N: usize = N;
+
+    const K: usize = K;
+
+    type Letter = Sym;
+
+    ghost N = { N };
+
+    ghost K = { K };
+
+    ghost HasCode = { IsCode N K };
+
+    ghost IsWord = { IsWord N K };
+
+    ghost radius_is = { radius_of N K };
+
+    ghost distance_is = { N - K + 1 };
+
+    ghost same_letter = { same_from_eq };
+
+    ghost length_of_word = { λ _. length_of_word_of N K };
+
+    ghost one_word = { one_word_of N K };
+
+    ghost far_apart = { words_apart N K };
+
+    ghost within = { within_of N K };
+
+    ghost begins = { begins_of N K };
+
+    fn radius() -> usize {
+        (N - K) / 2
+    }
+
+    fn encode(info: &[Sym], word: &mut [Sym]) {
+        encode(info, word);
+    }
+
+    fn read(word: &mut [Sym]) -> Reading {
+        read(word, K)
+    }
+}

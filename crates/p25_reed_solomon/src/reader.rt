@@ -1,0 +1,61 @@
+//! The reader of a received word.
+
+ghost use Rattle.std.specs.Prelude.{◌≡◌, ℕ, ◌<◌, ◌≤◌, length};
+ghost use Rattle.p25_gf64.specs.Gf64.{gf64};
+ghost use Rattle.p25_algebra.specs.Sums.{nonzeros};
+ghost use Rattle.p25_algebra.specs.Series.{coefficient};
+ghost use Rattle.p25_code.specs.Words.{IsReading};
+ghost use Rattle.p25_reed_solomon.specs.Words.{IsCode, IsWord, radius_of, same_symbols};
+
+use crate::errors::find_errors;
+use crate::syndromes::{all_zero, fill_syndromes};
+use p25_code::Reading;
+use p25_gf64::Sym;
+
+// Reads a received word of the code with k information symbols to the radius: the errors that explain its syndromes are
+// taken away.
+pub(crate) fn read(word: &mut [Sym], k: usize) -> Reading
+    requires { IsCode (length word.old) k }
+    ensures { IsReading same_symbols (IsWord (length word.old) k) (radius_of (length word.old) k) word.old word.new result }
+{
+    let n = word.len();
+    let mut syndromes = [Sym::default(); 22];
+    let syndromes = &mut syndromes[..n - k];
+    fill_syndromes(word, n - k, syndromes);
+    if all_zero(syndromes) {
+        return Reading::Found { fixes: 0 };
+    }
+    let mut errors = [Sym::default(); 63];
+    let errors = &mut errors[..n];
+    if !find_errors(syndromes, n, errors) {
+        return Reading::Beyond;
+    }
+    add_to(word, errors);
+    Reading::Found {
+        fixes: weight(errors),
+    }
+}
+
+// Adds to each symbol the one at its place.
+fn add_to(word: &mut [Sym], errors: &[Sym])
+    requires { length errors.now ≡ length word.old }
+    ensures { (j : ℕ) → j < length word.old → coefficient gf64 word.new j ≡ gf64.add (coefficient gf64 word.old j) (coefficient gf64 errors.now j) }
+{
+    for j in 0..errors.len() {
+        word[j] = word[j].add(errors[j]);
+    }
+}
+
+// How many symbols are not zero.
+fn weight(symbols: &[Sym]) -> u32
+    requires { length symbols.now ≤ 63 }
+    ensures { result ≡ nonzeros gf64 (length symbols.now) (coefficient gf64 symbols.now) }
+{
+    let mut count = 0;
+    for symbol in symbols {
+        if !symbol.is_zero() {
+            count += 1;
+        }
+    }
+    count
+}
