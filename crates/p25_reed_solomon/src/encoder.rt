@@ -25,7 +25,7 @@ pub fn encode(info: &[Sym], word: &mut [Sym])
     let generator = generator_of(checks);
     clear(word);
     copy_front(info, word);
-    divide(word, info.len(), &generator, checks);
+    divide(word, &generator, checks);
     copy_front(info, word);
 }
 
@@ -45,18 +45,18 @@ fn generator_of(checks: usize) -> [Sym; 23]
     generator
 }
 
-// Adds multiples of the generator polynomial, so that the first symbols become zero. The values at
-// the generator's zeros stay.
-fn divide(word: &mut [Sym], steps: usize, generator: &[Sym], checks: usize)
+// Adds multiples of the generator polynomial to the word, so that all of its symbols but the last
+// `checks` become zero. The values at the generator's zeros stay: what is left is the remainder.
+fn divide(word: &mut [Sym], generator: &[Sym], checks: usize)
     requires generator { IsGenerator checks generator.now }
     requires inside { checks < length generator.now }
-    requires fits { steps + checks ≤ length word.old }
+    requires fits { checks ≤ length word.old }
     ensures same { (i : ℕ) → 1 ≤ i → i ≤ checks
         → value_at gf64 (length word.old) (coefficient gf64 word.new) (gf64.inverse (power gf64 alpha i))
-            ≡ value_at gf64 (length word.old) (coefficient gf64 word.old) (gf64.inverse (power gf64 alpha i)) }
-    ensures cleared { (j : ℕ) → j < steps → coefficient gf64 word.new j ≡ gf64.zero }
+        ≡ value_at gf64 (length word.old) (coefficient gf64 word.old) (gf64.inverse (power gf64 alpha i)) }
+    ensures cleared { (j : ℕ) → j + checks < length word.old → coefficient gf64 word.new j ≡ gf64.zero }
 {
-    for i in 0..steps {
+    for i in 0..word.len() - checks {
         let factor = word[i];
         add_multiple(word, factor, generator, checks + 1, i);
     }
