@@ -1,5 +1,5 @@
 -- The steps of the encoder of Reed-Solomon words.
-use Rattle.std.proofs.Common.{◌≡◌, ◌≢◌, ℕ, ◌+◌, ◌-◌, ◌*◌, ◌<◌, ◌≤◌, List, length, replicate, set, sym, ap, ap₂, ◌∙◌, inl, inr, arith}
+use Rattle.std.proofs.Common.{◌≡◌, ◌≢◌, ℕ, ◌+◌, ◌-◌, ◌*◌, ◌<◌, ◌≤◌, List, replicate, set, sym, ap, ap₂, ◌∙◌, inl, inr, arith}
 use Rattle.std.proofs.lemmas.Bool.{cases_eq, cases_lt}
 use Rattle.std.proofs.lemmas.List.{length-replicate}
 use Rattle.p25_gf64.specs.declared.symbol.Sym.{Sym}
@@ -9,7 +9,7 @@ use Rattle.p25_gf64.specs.Gf64.{gf64}
 use Rattle.p25_gf64.proofs.FieldFacts.{add_zero, zero_add, add_self, mul_zero, mul_one}
 use Rattle.p25_gf64.proofs.Powers.{power-mul, power_ne_zero}
 use Rattle.p25_gf64.proofs.Symbols.{alpha_ne_zero}
-use Rattle.p25_algebra.specs.Series.{coefficient, value_at, shifted, IsShort}
+use Rattle.p25_algebra.specs.Series.{coefficient, value_at, shifted}
 use Rattle.p25_algebra.proofs.SumFacts.{sum_same}
 use Rattle.p25_algebra.proofs.Values.{value_same}
 use Rattle.p25_algebra.proofs.ProductValues.{value-add}
@@ -18,12 +18,10 @@ use Rattle.p25_poly.proofs.Coefficients.{coefficient_blank, written_at, written_
 use Rattle.p25_reed_solomon.specs.Generator.{IsGenerator}
 use Rattle.p25_reed_solomon.specs.Words.{value_of}
 use Rattle.p25_reed_solomon.proofs.Encoding.{value_stays, old_zero, new_zero, longer_by_one, first_stays, value_down}
-
 open gf64 use {zero as 𝟘, one as 𝟙, add as ◌⊕◌, mul as ◌⊗◌, inverse}
 
 infixl 65 ◌⊕◌
 infixl 70 ◌⊗◌
-
 -- ---- the generator
 
 -- one is the product of no factors
@@ -100,10 +98,10 @@ sum_vanishes n first second word y sum same =
 
 -- the word is the sum of the information followed by zeros and the remainder
 pub word_is_sum : (k : ℕ) (info blank placed divided word : List Sym) → ((j : ℕ) → coefficient gf64 blank j ≡ 𝟘)
-  → ((j : ℕ) → j < k → coefficient gf64 placed j ≡ coefficient gf64 info j) → ((j : ℕ) → k ≤ j → coefficient gf64 placed j ≡ coefficient gf64 blank j)
-  → ((j : ℕ) → j < k → coefficient gf64 divided j ≡ 𝟘)
-  → ((j : ℕ) → j < k → coefficient gf64 word j ≡ coefficient gf64 info j) → ((j : ℕ) → k ≤ j → coefficient gf64 word j ≡ coefficient gf64 divided j)
-  → (j : ℕ) → coefficient gf64 word j ≡ coefficient gf64 placed j ⊕ coefficient gf64 divided j
+    → ((j : ℕ) → j < k → coefficient gf64 placed j ≡ coefficient gf64 info j) → ((j : ℕ) → k ≤ j → coefficient gf64 placed j ≡ coefficient gf64 blank j)
+    → ((j : ℕ) → j < k → coefficient gf64 divided j ≡ 𝟘)
+    → ((j : ℕ) → j < k → coefficient gf64 word j ≡ coefficient gf64 info j) → ((j : ℕ) → k ≤ j → coefficient gf64 word j ≡ coefficient gf64 divided j)
+    → (j : ℕ) → coefficient gf64 word j ≡ coefficient gf64 placed j ⊕ coefficient gf64 divided j
 word_is_sum k info blank placed divided word blank_is front rest cleared front_again rest_again j =
     elim (cases_lt j k) [
       | inl below ↦ front_again j below ∙ sym (ap₂ ◌⊕◌ (front j below) (cleared j below) ∙ add_zero gf64 (coefficient gf64 info j))
