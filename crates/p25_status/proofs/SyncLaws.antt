@@ -47,5 +47,5 @@ unfolding sync_bits
 field_of-sync_bits = field_of-bits_of 48 0x5575_F5FF_77FF
 
 -- the weight of the exclusive or of 48 bits' number and the sync's is their distance
-pub sync_distance : (bits : List Bool) (n : ℕ) → length bits ≡ 48 → n ≡ field_of bits → count_ones (bit_xor n 0x5575_F5FF_77FF) ≡ distance_of bits sync_bits
-sync_distance bits n long is = ap₂ (λ a b. count_ones (bit_xor a b)) is (sym field_of-sync_bits) ∙ ones-xor bits sync_bits (long ∙ sym length-sync_bits)
+pub sync_distance-is : (bits : List Bool) (n : ℕ) → length bits ≡ 48 → n ≡ field_of bits → count_ones (bit_xor n 0x5575_F5FF_77FF) ≡ distance_of bits sync_bits
+sync_distance-is bits n long is = ap₂ (λ a b. count_ones (bit_xor a b)) is (sym field_of-sync_bits) ∙ ones-xor bits sync_bits (long ∙ sym length-sync_bits)

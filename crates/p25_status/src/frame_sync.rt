@@ -1,5 +1,5 @@
-ghost use Rattle.std.specs.Prelude.{◌+◌, ◌≤◌, ◌↔◌, IsTrue, length};
-ghost use Rattle.p25_bits.specs.Bits.{part};
+ghost use Rattle.std.specs.Prelude.{◌≡◌, ◌+◌, ◌^◌, ◌<◌, ◌≤◌, ◌↔◌, IsTrue, length};
+ghost use Rattle.p25_bits.specs.Bits.{bits_of, part};
 ghost use Rattle.p25_bits.specs.Distance.{distance_of};
 ghost use Rattle.p25_status.specs.Sync.{sync_bits};
 
@@ -8,11 +8,28 @@ use p25_bits::BitBuf;
 /// The 48 bits of the frame sync as a number, the first bit highest. TIA-102.BAAA, Frame Synchronization.
 pub const SYNC: u64 = 0x5575_F5FF_77FF;
 
-/// Answers whether the 48 bits from place `at` on differ from the frame sync in at most four places. That four wrong bits
-/// are accepted is this project's choice.
+/// Answers in how many places 48 bits differ from the frame sync. `window` is the number of the bits, the first highest.
+pub fn sync_distance(window: u64) -> u32
+    requires { window < 2 ^ 48 }
+    ensures distance { result ≡ distance_of (bits_of 48 window) sync_bits }
+    ensures most { result ≤ 48 }
+{
+    (window ^ SYNC).count_ones()
+}
+
+/// Answers whether 48 bits differ from the frame sync in at most four places. `window` is the number of the bits, the
+/// first highest. That four wrong bits are accepted is this project's choice.
+pub fn is_sync_window(window: u64) -> bool
+    requires { window < 2 ^ 48 }
+    ensures { IsTrue result ↔ (distance_of (bits_of 48 window) sync_bits ≤ 4) }
+{
+    sync_distance(window) <= 4
+}
+
+/// Answers whether the 48 bits from place `at` on differ from the frame sync in at most four places.
 pub fn is_sync(bits: &BitBuf, at: usize) -> bool
     requires { at + 48 ≤ length bits.now }
     ensures { IsTrue result ↔ (distance_of (part at 48 bits.now) sync_bits ≤ 4) }
 {
-    (bits.field(at, 48) ^ SYNC).count_ones() <= 4
+    is_sync_window(bits.field(at, 48))
 }

@@ -22,6 +22,6 @@ mod tests;
 mod weaving;
 
 pub use fields::{Field, FieldList};
-pub use frame_sync::{SYNC, is_sync};
+pub use frame_sync::{SYNC, is_sync, is_sync_window, sync_distance};
 pub use symbols::{Status, Statuses};
 pub use weaving::{unweave, weave};

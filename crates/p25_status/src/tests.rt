@@ -65,3 +65,15 @@ fn field_lists(rt: HostRuntime) {
     assert_eq!(rt; fields.get(0), Field::LinkControl);
     assert_eq!(rt; fields.get(1), Field::Block(126));
 }
+
+#[test]
+fn windows(rt: HostRuntime) {
+    for (wrong, distance, accepted) in [
+        (0, 0, true),
+        (0xF, 4, true),
+        (0x8000_0000_000F, 5, false),
+    ] {
+        assert_eq!(rt; sync_distance(SYNC ^ wrong), distance);
+        assert_eq!(rt; is_sync_window(SYNC ^ wrong), accepted);
+    }
+}
