@@ -1,5 +1,6 @@
 //! What `show` writes, as a table of recordings.
 
+use super::plain::plain_text;
 use super::words_of;
 use crate::octet_bits::bit_at;
 use crate::{Outcome, run};
@@ -197,6 +198,14 @@ fn behind(alloc: Global, lead: usize, octets: &[u8]) -> Result<Vec<u8>, AllocErr
 fn show_writes_these_texts(rt: HostRuntime) -> Result<(), Fail> {
     for row in ROWS {
         let recording = behind(rt.alloc(), row.lead, row.octets)?;
+        assert!(rt; recording.len() <= 16_777_216);
+        let plain = plain_text(rt.alloc(), &recording)?;
+        assert_eq!(rt;
+            plain.as_slice(),
+            row.text,
+            "{} by the plain program",
+            row.name
+        );
         for piece in [1, 7, recording.len()] {
             let mut source = SteadySource::new(&recording, piece.max(1));
             let mut room = [0; 256];
