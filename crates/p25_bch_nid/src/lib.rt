@@ -7,3 +7,6 @@ mod word;
 
 pub use nid::Nid;
 pub use word::{exact_nid, nid_bits};
+
+#[cfg(test)]
+mod tests;

@@ -11,7 +11,7 @@ use Rattle.p25_tool.specs.Progress.{HasWritten}
 use Rattle.p25_tool.proofs.ItemsLaws.{items_of-more, items_of-nil}
 
 -- the piece of the first item comes first, and then those of what it leaves
-rendered-more : (piece : Item → List ℕ) (bits : List Bool) (at : ℕ) (item : Item) → 0 < length (drop at bits) → item ≡ first_item at (drop at bits) → rendered piece at (drop at bits) ≡ piece item ++ rendered piece (at + covered item) (drop (at + covered item) bits)
+pub rendered-more : (piece : Item → List ℕ) (bits : List Bool) (at : ℕ) (item : Item) → 0 < length (drop at bits) → item ≡ first_item at (drop at bits) → rendered piece at (drop at bits) ≡ piece item ++ rendered piece (at + covered item) (drop (at + covered item) bits)
 rendered-more piece bits at item some is =
     ap (flat_map piece) (items_of-more at (drop at bits) some)
     ∙ ap (λ (i : Item). piece i ++ flat_map piece (items_of (at + covered i) (drop (covered i) (drop at bits)))) (sym is)

@@ -8,12 +8,17 @@ use Rattle.p25_bits.specs.Distance.{distance_of}
 use Rattle.p25_bits.proofs.Lists.{part_more}
 use Rattle.p25_bits.proofs.BitsLaws.{field_of-cons, field_of-push, field_of-lt, field_of-bits_of, length-bits_of, same_from_field_of}
 use Rattle.p25_bits.proofs.DistanceLaws.{distance_of-same, same_from_distance_of}
-use Rattle.p25_tool.specs.Items.{sync_word, has_sync, sync_place}
+use Rattle.p25_tool.specs.Items.{sync_word, sync_slack, has_sync, sync_place}
 
 -- fewer bits than a sync have none
-has_sync-short : (bits : List Bool) → length bits < 48 → has_sync bits ≡ false
+pub has_sync-short : (bits : List Bool) → length bits < 48 → has_sync bits ≡ false
 unfolding has_sync
 has_sync-short bits short = and_left (leb 48 (length bits)) _ (lt-leb 48 (length bits) short)
+
+-- enough bits begin with a sync where their distance from it is no more than the slack
+pub has_sync-distance : (bits : List Bool) → 48 ≤ length bits → has_sync bits ≡ leb (distance_of (take 48 bits) (bits_of 48 sync_word)) sync_slack
+unfolding has_sync
+has_sync-distance bits long = ap (λ enough. enough && leb (distance_of (take 48 bits) (bits_of 48 sync_word)) sync_slack) (le-leb 48 (length bits) long)
 
 sync_length : length (bits_of 48 sync_word) ≡ 48
 sync_length = length-bits_of 48 sync_word

@@ -20,3 +20,6 @@ pub use laws::item_laws;
 pub use line::Line;
 pub use outcome::{Outcome, outcome_status, outcome_text};
 pub use words::Words;
+
+#[cfg(test)]
+mod tests;
