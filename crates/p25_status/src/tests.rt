@@ -1,6 +1,9 @@
 //! Values computed apart from this code, and each call once.
 
-use super::{Field, FieldList, SYNC, Status, Statuses, is_sync, unweave, weave};
+use super::{
+    Field, FieldList, SYNC, Status, Statuses, is_sync, is_sync_window, sync_distance, unweave,
+    weave,
+};
 use p25_bits::BitBuf;
 use std::test::Fail;
 
@@ -68,12 +71,8 @@ fn field_lists(rt: HostRuntime) {
 
 #[test]
 fn windows(rt: HostRuntime) {
-    for (wrong, distance, accepted) in [
-        (0, 0, true),
-        (0xF, 4, true),
-        (0x8000_0000_000F, 5, false),
-    ] {
-        assert_eq!(rt; sync_distance(SYNC ^ wrong), distance);
-        assert_eq!(rt; is_sync_window(SYNC ^ wrong), accepted);
-    }
+    assert_eq!(rt; sync_distance(0x5575_F5FF_77FF), 0);
+    assert_eq!(rt; sync_distance(0x5575_F5FF_77F0), 4);
+    assert!(rt; is_sync_window(0x5575_F5FF_77F0));
+    assert!(rt; !is_sync_window(0xD575_F5FF_77F0));
 }
