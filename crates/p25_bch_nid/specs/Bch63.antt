@@ -1,0 +1,15 @@
+-- The BCH code (63,16) of the network identifier, by the zeros of its words.
+use Rattle.std.specs.Prelude.{◌≡◌, ℕ, ◌≤◌, Bool, List, length, map}
+use Rattle.p25_gf64.specs.declared.symbol.Sym.{Sym}
+use Rattle.p25_gf64.specs.Gf64.{gf64}
+use Rattle.p25_reed_solomon.specs.Words.{value_of}
+use Rattle.p25_bch_nid.specs.BitPolynomials.{coefficient_of}
+
+-- bits as the symbols 0 and 1
+abbrev pub symbols_of : List Bool → List Sym
+symbols_of bits = map (coefficient_of gf64) bits
+
+-- 63 bits for which, at each i from 1 to 22, the sum over j of bit j times α^(i · (62 − j)) is 0
+pub record IsBch63 (word : List Bool) : Type 0 where
+  pub long : length word ≡ 63
+  pub vanishes : (i : ℕ) → 1 ≤ i → i ≤ 22 → value_of 63 (symbols_of word) i ≡ gf64.zero
