@@ -1,12 +1,13 @@
 -- The laws of the shortened Golay code (18,6).
-use Rattle.std.specs.Prelude.{◌≡◌, ◌≢◌, ℕ, ◌≤◌, ◌++◌, Bool, true, false, List, [], ◌∷◌, length, take, refl}
+use Rattle.std.specs.Prelude.{◌≡◌, ℕ, ◌++◌, Bool, true, false, List, [], ◌∷◌, refl}
 use Rattle.std.specs.Int.Bits.{xor_zero_l}
 use Rattle.std.proofs.Common.{arith, sym, ◌∙◌}
+use Rattle.std.specs.Bool.{beq}
 use Rattle.p25_bits.specs.Bits.{bits_of}
-use Rattle.p25_bits.specs.Distance.{distance_of}
 use Rattle.p25_code.specs.Binary.{IsChecked, check_columns, systematic, syndrome_of, weight_of}
+use Rattle.p25_code.proofs.ReadingLaws.{IsCode}
 use Rattle.p25_code.proofs.Weights.{all_bits}
-use Rattle.p25_code.proofs.BinaryCodes.{IsSystematic, is_heavy, length_checked, one_checked, far_checked}
+use Rattle.p25_code.proofs.BinaryCodes.{IsSystematic, is_heavy, is_code}
 use Rattle.p25_golay.specs.Golay18.{IsGolay18}
 use Rattle.p25_golay.specs.Golay24Laws.{to_checked, from_checked}
 
@@ -50,11 +51,6 @@ from_short word is = record {
   });
 }
 
-pub length_golay18 : (word : List Bool) → IsGolay18 word → length word ≡ 18
-length_golay18 word is = length_checked short_code word (to_short word is)
-
-pub one_golay18 : (v w : List Bool) → IsGolay18 v → IsGolay18 w → take 6 v ≡ take 6 w → v ≡ w
-one_golay18 v w isv isw same = one_checked short_code v w (to_short v isv) (to_short w isw) same
-
-pub far_golay18 : (v w : List Bool) → IsGolay18 v → IsGolay18 w → v ≢ w → 8 ≤ distance_of v w
-far_golay18 v w isv isw differ = far_checked short_code v w (to_short v isv) (to_short w isw) differ
+-- the laws of the code
+pub golay18_is_code : IsCode beq IsGolay18 18 6 3 8
+golay18_is_code = is_code short_code IsGolay18 to_short 18 3 refl (omega arith)

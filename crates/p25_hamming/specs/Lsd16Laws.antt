@@ -1,12 +1,13 @@
 -- The laws of the code (16,8) of the low speed data.
-use Rattle.std.specs.Prelude.{◌≡◌, ◌≢◌, ℕ, ◌<◌, ◌≤◌, ◌^◌, ◌++◌, Bool, true, List, [], ◌∷◌, length, take, refl}
+use Rattle.std.specs.Prelude.{◌≡◌, ℕ, ◌<◌, ◌^◌, ◌++◌, Bool, true, List, [], ◌∷◌, length, refl}
 use Rattle.std.proofs.Common.{arith, ap, sym, ◌∙◌}
+use Rattle.std.specs.Bool.{beq}
 use Rattle.p25_bits.specs.Bits.{bits_of}
-use Rattle.p25_bits.specs.Distance.{distance_of}
 use Rattle.p25_bits.specs.Divisible.{HasDegree}
 use Rattle.p25_code.specs.Binary.{IsChecked, check_columns, systematic, syndrome_of, weight_of}
+use Rattle.p25_code.proofs.ReadingLaws.{IsCode}
 use Rattle.p25_code.proofs.Weights.{all_bits}
-use Rattle.p25_code.proofs.BinaryCodes.{IsSystematic, is_heavy, length_checked, one_checked, far_checked}
+use Rattle.p25_code.proofs.BinaryCodes.{IsSystematic, is_heavy, length_checked, is_code}
 use Rattle.p25_code.proofs.Remainders.{power_remainder, remainders, remainders-divisible, divisible-remainders}
 use Rattle.p25_hamming.specs.Lsd16.{IsLsd16}
 
@@ -47,11 +48,6 @@ from_checked word is =
     let long = length_checked code word is in
     record { long = long; divisible = divisible-remainders generator_degree some word (sym (same_sum word long) ∙ is.passes) }
 
-pub length_lsd16 : (word : List Bool) → IsLsd16 word → length word ≡ 16
-length_lsd16 word is = is.long
-
-pub one_lsd16 : (v w : List Bool) → IsLsd16 v → IsLsd16 w → take 8 v ≡ take 8 w → v ≡ w
-one_lsd16 v w isv isw same = one_checked code v w (to_checked v isv) (to_checked w isw) same
-
-pub far_lsd16 : (v w : List Bool) → IsLsd16 v → IsLsd16 w → v ≢ w → 5 ≤ distance_of v w
-far_lsd16 v w isv isw differ = far_checked code v w (to_checked v isv) (to_checked w isw) differ
+-- the laws of the code
+pub lsd16_is_code : IsCode beq IsLsd16 16 8 2 5
+lsd16_is_code = is_code code IsLsd16 to_checked 16 2 refl (omega arith)
