@@ -20,6 +20,7 @@ heavy : all_bits 6 (is_heavy short_rows 12 8) ≡ true
 unfolding all_bits is_heavy systematic syndrome_of weight_of bits_of
 heavy = refl
 
+-- so the tests of the table say yes
 pub short_code : IsSystematic short_rows 12 8
 short_code = record { fit = refl; heavy = heavy }
 
@@ -42,6 +43,7 @@ to_short word is =
       passes = sym (zeros_first 0xC75 0x63B 0xF68 0x7B4 0x3DA 0xD99 (short_rows ++ check_columns 12) word) ∙ whole.passes;
     }
 
+-- and the other way round
 pub from_short : (word : List Bool) → IsChecked (short_rows ++ check_columns 12) word → IsGolay18 word
 unfolding check_columns
 from_short word is = record {

@@ -24,14 +24,17 @@ heavy : all_bits 12 (is_heavy check_rows 12 8) ≡ true
 unfolding all_bits is_heavy systematic syndrome_of weight_of bits_of
 heavy = refl
 
+-- so the tests of the table say yes
 pub code : IsSystematic check_rows 12 8
 code = record { fit = refl; heavy = heavy }
 
+-- the generator is of this degree
 generator_degree : HasDegree 0xC75 11
 generator_degree = record { highest = omega arith; none_above = omega arith }
 
-some : 1 < 2 ^ 11
-some = omega arith
+-- and not a constant
+not_constant : 1 < 2 ^ 11
+not_constant = omega arith
 
 -- the checks as the set states them: the remainder of the first 23 places, and the parity of all
 stated_columns : List ℕ
@@ -88,13 +91,14 @@ stated_sum word long =
 pub to_checked : (word : List Bool) → IsGolay24 word → IsChecked (check_rows ++ check_columns 12) word
 unfolding check_columns
 to_checked word is =
-    let none = remainders-divisible generator_degree some (take 23 word) is.divisible in
+    let none = remainders-divisible generator_degree not_constant (take 23 word) is.divisible in
     let passes : syndrome_of stated_columns word ≡ 0 = stated_sum word is.long ∙ ap₂ (λ m n. 2 * m + n) none is.even in
     record {
       long = is.long;
       passes = ap (λ cs. syndrome_of cs word) (sym matrix-stated) ∙ mixed_passes mix stated_columns word passes;
     }
 
+-- and the other way round
 pub from_checked : (word : List Bool) → IsChecked (check_rows ++ check_columns 12) word → IsGolay24 word
 from_checked word is =
     let long = length_checked code word is in
@@ -102,7 +106,7 @@ from_checked word is =
     let stated = sym (stated_sum word long) ∙ passes in
     let none : syndrome_of (remainders 0xC75 11 (length (take 23 word))) (take 23 word) ≡ 0 = omega arith in
     let even : weight_of word % 2 ≡ 0 = omega arith in
-    record { long = long; even = even; divisible = divisible-remainders generator_degree some (take 23 word) none }
+    record { long = long; even = even; divisible = divisible-remainders generator_degree not_constant (take 23 word) none }
 
 -- the laws of the code
 pub golay24_is_code : IsCode beq IsGolay24 24 12 3 8

@@ -14,6 +14,7 @@ heavy : all_bits 6 (is_heavy check_rows 4 3) ≡ true
 unfolding all_bits is_heavy systematic syndrome_of weight_of bits_of
 heavy = refl
 
+-- so the tests of the table say yes
 pub code : IsSystematic check_rows 4 3
 code = record { fit = refl; heavy = heavy }
 
@@ -21,6 +22,7 @@ code = record { fit = refl; heavy = heavy }
 pub to_checked : (word : List Bool) → IsHamming10 word → IsChecked (check_rows ++ check_columns 4) word
 to_checked word is = sum_checked code word is.long is.checks
 
+-- and the other way round
 pub from_checked : (word : List Bool) → IsChecked (check_rows ++ check_columns 4) word → IsHamming10 word
 from_checked word is = record { long = length_checked code word is; checks = checked_sum code word is }
 

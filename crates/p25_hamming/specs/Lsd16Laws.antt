@@ -20,6 +20,7 @@ columns-remainders : check_rows ++ check_columns 8 ≡ remainders 0x139 8 16
 unfolding check_columns remainders power_remainder
 columns-remainders = refl
 
+-- the generator is of this degree
 generator_degree : HasDegree 0x139 8
 generator_degree = record { highest = omega arith; none_above = omega arith }
 
@@ -28,11 +29,13 @@ heavy : all_bits 8 (is_heavy check_rows 8 5) ≡ true
 unfolding all_bits is_heavy systematic syndrome_of weight_of bits_of
 heavy = refl
 
+-- so the tests of the table say yes
 pub code : IsSystematic check_rows 8 5
 code = record { fit = refl; heavy = heavy }
 
-some : 1 < 2 ^ 8
-some = omega arith
+-- and not a constant
+not_constant : 1 < 2 ^ 8
+not_constant = omega arith
 
 -- a word of sixteen bits has the sum 0 by the columns as by the remainders
 same_sum : (word : List Bool) → length word ≡ 16 → syndrome_of (check_rows ++ check_columns 8) word ≡ syndrome_of (remainders 0x139 8 (length word)) word
@@ -41,12 +44,13 @@ same_sum word long = ap (λ cs. syndrome_of cs word) columns-remainders ∙ ap (
 -- the words are those that the check matrix lets pass
 pub to_checked : (word : List Bool) → IsLsd16 word → IsChecked (check_rows ++ check_columns 8) word
 unfolding check_columns
-to_checked word is = record { long = is.long; passes = same_sum word is.long ∙ remainders-divisible generator_degree some word is.divisible }
+to_checked word is = record { long = is.long; passes = same_sum word is.long ∙ remainders-divisible generator_degree not_constant word is.divisible }
 
+-- and the other way round
 pub from_checked : (word : List Bool) → IsChecked (check_rows ++ check_columns 8) word → IsLsd16 word
 from_checked word is =
     let long = length_checked code word is in
-    record { long = long; divisible = divisible-remainders generator_degree some word (sym (same_sum word long) ∙ is.passes) }
+    record { long = long; divisible = divisible-remainders generator_degree not_constant word (sym (same_sum word long) ∙ is.passes) }
 
 -- the laws of the code
 pub lsd16_is_code : IsCode beq IsLsd16 16 8 2 5
