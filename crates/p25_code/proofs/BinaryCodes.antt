@@ -1,8 +1,9 @@
 -- The words that a check matrix lets pass, where its last columns are check columns: they are the systematic words, and a
 -- computed test of all information gives their least distance.
-use Rattle.std.proofs.Common.{◌≡◌, ◌≢◌, ◌⊎◌, ℕ, ◌+◌, ◌^◌, ◌<◌, ◌≤◌, inl, inr, Bool, true, false, cond, ◌||◌, eqb, ltb, leb, List, [], ◌∷◌, ◌++◌, length, take, drop, bit_xor, ap, ap₂, sym, ◌∙◌, subst, arith, length-append, take-append-drop, length-drop}
+use Rattle.std.proofs.Common.{◌≡◌, ◌≢◌, ◌⊎◌, ℕ, ◌+◌, ◌*◌, ◌^◌, ◌<◌, ◌≤◌, inl, inr, Bool, true, false, cond, ◌||◌, eqb, ltb, leb, List, [], ◌∷◌, ◌++◌, length, take, drop, bit_xor, ap, ap₂, sym, ◌∙◌, subst, arith, length-append, take-append-drop, length-drop}
 use Rattle.std.specs.List.{list_all}
 use Rattle.std.specs.Bool.{beq}
+use Rattle.std.specs.Cmp.{bool_eq_equiv}
 use Rattle.std.specs.Int.Bits.{xor_self}
 use Rattle.std.proofs.Math.Nat.{mod-eq_of_lt}
 use Rattle.std.proofs.Math.Seq.{take-append_seam, drop-append_seam}
@@ -16,9 +17,10 @@ use Rattle.p25_bits.proofs.Divisions.{same_from_xor}
 use Rattle.p25_bits.proofs.DistanceLaws.{same_from_distance_of}
 use Rattle.p25_code.specs.declared.code.Reading.{Reading}
 use Rattle.p25_code.specs.Words.{IsEncoding, IsReading}
+use Rattle.p25_code.specs.Letters.{same_bit}
 use Rattle.p25_code.specs.Binary.{syndrome_of, IsChecked, check_columns, systematic, weight_of}
 use Rattle.p25_code.proofs.Weights.{all_bits, all_bits-each, sum_of_words, length-sum_of_words, weight_of-append, weight_of-bits_of, weight_of-sum_of_words, syndrome_of-zeros, syndrome_of-sum_of_words}
-use Rattle.p25_code.proofs.ReadingLaws.{reading_of_same_set}
+use Rattle.p25_code.proofs.ReadingLaws.{IsCode, reading_of_same_set}
 use Rattle.p25_code.proofs.Syndromes.{syndrome_of-append, syndrome_of-check_columns, length-check_columns, change_of-is}
 
 -- each row has a bit for each check
@@ -165,3 +167,15 @@ module _ {rows : List ℕ} {checks apart : ℕ} (code : IsSystematic rows checks
   reads IsWord to from columns radius received word reading e is =
       reading_of_same_set beq (IsChecked (rows ++ check_columns checks)) IsWord radius received word reading from to
       (subst (λ cs. IsReading beq (IsChecked cs) radius received word reading) e is)
+
+  -- the laws of the code, in a set whose words are those that pass
+  pub is_code : (IsWord : List Bool → Type 0) → ((w : List Bool) → IsWord w → IsChecked (rows ++ check_columns checks) w) → (n radius : ℕ) → length rows + checks ≡ n → 2 * radius < apart → IsCode beq IsWord n (length rows) radius apart
+  is_code IsWord to n radius whole close = record {
+    compares = bool_eq_equiv;
+    alike = same_bit;
+    long = λ word is. length_checked word (to word is) ∙ whole;
+    one_word = λ v w isv isw same. one_checked v w (to v isv) (to w isw) same;
+    far_apart = λ v w isv isw differ. far_checked v w (to v isv) (to w isw) differ;
+    close = close;
+    begins = omega arith;
+  }

@@ -4,19 +4,21 @@ use Rattle.std.specs.Cmp.{IsEquivalence}
 use Rattle.std.proofs.lemmas.Bool.{cases_eq}
 use Rattle.p25_bits.specs.Distance.{distance_by}
 use Rattle.p25_bits.proofs.DistanceLaws.{distance_by-same, distance_by-sym, distance_by-triangle, same_from_distance_by}
-use Rattle.p25_code.specs.Words.{IsFound, IsReading, IsInformation}
+use Rattle.p25_code.specs.Words.{IsEncoding, IsFound, IsReading, IsInformation}
 use Rattle.p25_code.specs.declared.code.Reading.{Reading}
 use Rattle.p25_code.specs.declared.code.Reading.TheVariants.{Found, Beyond}
 
--- the laws of a code at its letters, its length and its radius
-pub record IsCode {L : Type 0} (same : L → L → Bool) (IsWord : List L → Type 0) (n radius apart : ℕ) : Type 0 where
+-- the laws of a block code, as one record
+pub record IsCode {L : Type 0} (same : L → L → Bool) (IsWord : List L → Type 0) (n k radius apart : ℕ) : Type 0 where
   pub compares : IsEquivalence same
   pub alike : (x y : L) → same x y ≡ true → x ≡ y
   pub long : (word : List L) → IsWord word → length word ≡ n
+  pub one_word : (v w : List L) → IsWord v → IsWord w → take k v ≡ take k w → v ≡ w
   pub far_apart : (v w : List L) → IsWord v → IsWord w → v ≢ w → apart ≤ distance_by same v w
   pub close : 2 * radius < apart
+  pub begins : k ≤ n
 
-module _ {L : Type 0} {same : L → L → Bool} {IsWord : List L → Type 0} {n radius apart : ℕ} (code : IsCode same IsWord n radius apart) where
+module _ {L : Type 0} {same : L → L → Bool} {IsWord : List L → Type 0} {n k radius apart : ℕ} (code : IsCode same IsWord n k radius apart) where
   -- a distance does not depend on the direction
   pub turned : (xs ys : List L) → distance_by same xs ys ≡ distance_by same ys xs
   turned = distance_by-sym same code.compares.symm
@@ -61,16 +63,24 @@ module _ {L : Type 0} {same : L → L → Bool} {IsWord : List L → Type 0} {n 
   reading_fixes received word sent Beyond long is sent_is near = absurd (omega (arith, is.none_within.farther sent sent_is))
 
   -- the first letters of what a reading leaves are the inner information of what was received
-  pub reading_information : (k : ℕ) (received word : List L) (reading : Reading) → length received ≡ n → IsReading same IsWord radius received word reading → IsInformation same IsWord radius k received (take k word)
+  pub reading_information : (received word : List L) (reading : Reading) → length received ≡ n → IsReading same IsWord radius received word reading → IsInformation same IsWord radius k received (take k word)
   unfolding IsReading
-  reading_information k received word (Found fixes) long is = record {
+  reading_information received word (Found fixes) long is = record {
     of_word = λ sent sent_is near. ap (take k) (found_sent received word sent fixes long is sent_is near);
     of_received = λ none. absurd (omega (arith, is.fixes_is, is.within, none.farther word is.word_of_set));
   }
-  reading_information k received word Beyond long is = record {
+  reading_information received word Beyond long is = record {
     of_word = λ sent sent_is near. absurd (omega (arith, is.none_within.farther sent sent_is));
     of_received = λ none. ap (take k) is.unchanged;
   }
+
+  -- the encoding of some information is one word
+  pub encoding_unique : (info v w : List L) → IsEncoding IsWord k info v → IsEncoding IsWord k info w → v ≡ w
+  encoding_unique info v w first second = code.one_word v w first.word_of_set second.word_of_set (first.begins ∙ sym second.begins)
+
+  -- wherever the encoding of some information lies within the radius, the inner information is that information
+  pub information_sent : (received info sent found : List L) → IsEncoding IsWord k info sent → distance_by same received sent ≤ radius → IsInformation same IsWord radius k received found → found ≡ info
+  information_sent received info sent found encoding near is = is.of_word sent encoding.word_of_set near ∙ encoding.begins
 
 -- a reading depends on the set alone, not on how it is written
 pub reading_of_same_set : {L : Type 0} (same : L → L → Bool) (A B : List L → Type 0) (radius : ℕ) (received word : List L) (reading : Reading) → ((w : List L) → A w → B w) → ((w : List L) → B w → A w) → IsReading same A radius received word reading → IsReading same B radius received word reading

@@ -1,12 +1,13 @@
 -- The laws of the shortened Golay code (18,6).
-use Rattle.std.specs.Prelude.{◌≡◌, ◌≢◌, ℕ, ◌≤◌, ◌++◌, Bool, true, false, List, [], ◌∷◌, length, take, refl}
+use Rattle.std.specs.Prelude.{◌≡◌, ℕ, ◌++◌, Bool, true, false, List, [], ◌∷◌, refl}
 use Rattle.std.specs.Int.Bits.{xor_zero_l}
 use Rattle.std.proofs.Common.{arith, sym, ◌∙◌}
+use Rattle.std.specs.Bool.{beq}
 use Rattle.p25_bits.specs.Bits.{bits_of}
-use Rattle.p25_bits.specs.Distance.{distance_of}
 use Rattle.p25_code.specs.Binary.{IsChecked, check_columns, systematic, syndrome_of, weight_of}
+use Rattle.p25_code.proofs.ReadingLaws.{IsCode}
 use Rattle.p25_code.proofs.Weights.{all_bits}
-use Rattle.p25_code.proofs.BinaryCodes.{IsSystematic, is_heavy, length_checked, one_checked, far_checked}
+use Rattle.p25_code.proofs.BinaryCodes.{IsSystematic, is_heavy, is_code}
 use Rattle.p25_golay.specs.Golay18.{IsGolay18}
 use Rattle.p25_golay.specs.Golay24Laws.{to_checked, from_checked}
 
@@ -19,6 +20,7 @@ heavy : all_bits 6 (is_heavy short_rows 12 8) ≡ true
 unfolding all_bits is_heavy systematic syndrome_of weight_of bits_of
 heavy = refl
 
+-- so the tests of the table say yes
 pub short_code : IsSystematic short_rows 12 8
 short_code = record { fit = refl; heavy = heavy }
 
@@ -41,6 +43,7 @@ to_short word is =
       passes = sym (zeros_first 0xC75 0x63B 0xF68 0x7B4 0x3DA 0xD99 (short_rows ++ check_columns 12) word) ∙ whole.passes;
     }
 
+-- and the other way round
 pub from_short : (word : List Bool) → IsChecked (short_rows ++ check_columns 12) word → IsGolay18 word
 unfolding check_columns
 from_short word is = record {
@@ -50,11 +53,6 @@ from_short word is = record {
   });
 }
 
-pub length_golay18 : (word : List Bool) → IsGolay18 word → length word ≡ 18
-length_golay18 word is = length_checked short_code word (to_short word is)
-
-pub one_golay18 : (v w : List Bool) → IsGolay18 v → IsGolay18 w → take 6 v ≡ take 6 w → v ≡ w
-one_golay18 v w isv isw same = one_checked short_code v w (to_short v isv) (to_short w isw) same
-
-pub far_golay18 : (v w : List Bool) → IsGolay18 v → IsGolay18 w → v ≢ w → 8 ≤ distance_of v w
-far_golay18 v w isv isw differ = far_checked short_code v w (to_short v isv) (to_short w isw) differ
+-- the laws of the code
+pub golay18_is_code : IsCode beq IsGolay18 18 6 3 8
+golay18_is_code = is_code short_code IsGolay18 to_short 18 3 refl (omega arith)

@@ -1,15 +1,16 @@
 -- The laws of the Golay code (24,12).
-use Rattle.std.specs.Prelude.{◌≡◌, ◌≢◌, ℕ, ◌<◌, ◌≤◌, ◌^◌, ◌+◌, ◌*◌, ◌%◌, ◌++◌, Bool, true, false, List, [], ◌∷◌, length, take, drop, map, bit_xor, refl}
+use Rattle.std.specs.Prelude.{◌≡◌, ℕ, ◌<◌, ◌≤◌, ◌^◌, ◌+◌, ◌*◌, ◌%◌, ◌++◌, Bool, true, false, List, [], ◌∷◌, length, take, drop, map, bit_xor, refl}
 use Rattle.std.specs.Int.Bits.{xor_zero_r}
 use Rattle.std.proofs.Common.{arith, ap, ap₂, sym, ◌∙◌, take-append-drop}
 use Rattle.std.proofs.lemmas.List.{length-take-le}
+use Rattle.std.specs.Bool.{beq}
 use Rattle.p25_bits.specs.Bits.{bits_of}
-use Rattle.p25_bits.specs.Distance.{distance_of}
 use Rattle.p25_bits.specs.Divisible.{HasDegree}
 use Rattle.p25_code.specs.Binary.{IsChecked, check_columns, systematic, syndrome_of, weight_of}
+use Rattle.p25_code.proofs.ReadingLaws.{IsCode}
 use Rattle.p25_code.proofs.Weights.{all_bits}
 use Rattle.p25_code.proofs.Syndromes.{syndrome_of-append}
-use Rattle.p25_code.proofs.BinaryCodes.{IsSystematic, is_heavy, length_checked, one_checked, far_checked}
+use Rattle.p25_code.proofs.BinaryCodes.{IsSystematic, is_heavy, length_checked, is_code}
 use Rattle.p25_code.proofs.Remainders.{power_remainder, remainders, remainders-divisible, divisible-remainders}
 use Rattle.p25_code.proofs.Parities.{mixed, mixed_passes, with_parity, syndrome_of-with_parity}
 use Rattle.p25_golay.specs.Golay24.{IsGolay24}
@@ -23,14 +24,17 @@ heavy : all_bits 12 (is_heavy check_rows 12 8) ≡ true
 unfolding all_bits is_heavy systematic syndrome_of weight_of bits_of
 heavy = refl
 
+-- so the tests of the table say yes
 pub code : IsSystematic check_rows 12 8
 code = record { fit = refl; heavy = heavy }
 
+-- the generator is of this degree
 generator_degree : HasDegree 0xC75 11
 generator_degree = record { highest = omega arith; none_above = omega arith }
 
-some : 1 < 2 ^ 11
-some = omega arith
+-- and not a constant
+not_constant : 1 < 2 ^ 11
+not_constant = omega arith
 
 -- the checks as the set states them: the remainder of the first 23 places, and the parity of all
 stated_columns : List ℕ
@@ -87,13 +91,14 @@ stated_sum word long =
 pub to_checked : (word : List Bool) → IsGolay24 word → IsChecked (check_rows ++ check_columns 12) word
 unfolding check_columns
 to_checked word is =
-    let none = remainders-divisible generator_degree some (take 23 word) is.divisible in
+    let none = remainders-divisible generator_degree not_constant (take 23 word) is.divisible in
     let passes : syndrome_of stated_columns word ≡ 0 = stated_sum word is.long ∙ ap₂ (λ m n. 2 * m + n) none is.even in
     record {
       long = is.long;
       passes = ap (λ cs. syndrome_of cs word) (sym matrix-stated) ∙ mixed_passes mix stated_columns word passes;
     }
 
+-- and the other way round
 pub from_checked : (word : List Bool) → IsChecked (check_rows ++ check_columns 12) word → IsGolay24 word
 from_checked word is =
     let long = length_checked code word is in
@@ -101,13 +106,8 @@ from_checked word is =
     let stated = sym (stated_sum word long) ∙ passes in
     let none : syndrome_of (remainders 0xC75 11 (length (take 23 word))) (take 23 word) ≡ 0 = omega arith in
     let even : weight_of word % 2 ≡ 0 = omega arith in
-    record { long = long; even = even; divisible = divisible-remainders generator_degree some (take 23 word) none }
+    record { long = long; even = even; divisible = divisible-remainders generator_degree not_constant (take 23 word) none }
 
-pub length_golay24 : (word : List Bool) → IsGolay24 word → length word ≡ 24
-length_golay24 word is = is.long
-
-pub one_golay24 : (v w : List Bool) → IsGolay24 v → IsGolay24 w → take 12 v ≡ take 12 w → v ≡ w
-one_golay24 v w isv isw same = one_checked code v w (to_checked v isv) (to_checked w isw) same
-
-pub far_golay24 : (v w : List Bool) → IsGolay24 v → IsGolay24 w → v ≢ w → 8 ≤ distance_of v w
-far_golay24 v w isv isw differ = far_checked code v w (to_checked v isv) (to_checked w isw) differ
+-- the laws of the code
+pub golay24_is_code : IsCode beq IsGolay24 24 12 3 8
+golay24_is_code = is_code code IsGolay24 to_checked 24 3 refl (omega arith)

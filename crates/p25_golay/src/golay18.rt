@@ -1,9 +1,7 @@
 //! The shortened Golay code (18,6).
 
-ghost use Rattle.std.proofs.Common.{arith};
-ghost use Rattle.p25_code.specs.Letters.{same_bit};
 ghost use Rattle.p25_golay.specs.Golay18.{IsGolay18};
-ghost use Rattle.p25_golay.specs.Golay18Laws.{length_golay18, one_golay18, far_golay18};
+ghost use Rattle.p25_golay.specs.Golay18Laws.{golay18_is_code};
 
 use crate::golay24::{COLUMNS, RADIUS};
 use p25_code::{BlockCode, Reading, encode_systematic, read_checked};
@@ -32,17 +30,17 @@ impl BlockCode for Golay18 {
 
     ghost distance_is = { 8 };
 
-    ghost same_letter = { same_bit };
+    ghost same_letter = { golay18_is_code.alike };
 
-    ghost length_of_word = { λ _. length_golay18 };
+    ghost length_of_word = { λ _. golay18_is_code.long };
 
-    ghost one_word = { λ _. one_golay18 };
+    ghost one_word = { λ _. golay18_is_code.one_word };
 
-    ghost far_apart = { λ _. far_golay18 };
+    ghost far_apart = { λ _. golay18_is_code.far_apart };
 
-    ghost within = { λ _. omega arith };
+    ghost within = { λ _. golay18_is_code.close };
 
-    ghost begins = { λ _. omega arith };
+    ghost begins = { λ _. golay18_is_code.begins };
 
     fn radius() -> usize {
         RADIUS as usize

@@ -1,9 +1,7 @@
 //! The Golay code (24,12).
 
-ghost use Rattle.std.proofs.Common.{arith};
-ghost use Rattle.p25_code.specs.Letters.{same_bit};
 ghost use Rattle.p25_golay.specs.Golay24.{IsGolay24};
-ghost use Rattle.p25_golay.specs.Golay24Laws.{length_golay24, one_golay24, far_golay24};
+ghost use Rattle.p25_golay.specs.Golay24Laws.{golay24_is_code};
 
 use p25_code::{BlockCode, Reading, encode_systematic, read_checked};
 
@@ -40,17 +38,17 @@ impl BlockCode for Golay24 {
 
     ghost distance_is = { 8 };
 
-    ghost same_letter = { same_bit };
+    ghost same_letter = { golay24_is_code.alike };
 
-    ghost length_of_word = { λ _. length_golay24 };
+    ghost length_of_word = { λ _. golay24_is_code.long };
 
-    ghost one_word = { λ _. one_golay24 };
+    ghost one_word = { λ _. golay24_is_code.one_word };
 
-    ghost far_apart = { λ _. far_golay24 };
+    ghost far_apart = { λ _. golay24_is_code.far_apart };
 
-    ghost within = { λ _. omega arith };
+    ghost within = { λ _. golay24_is_code.close };
 
-    ghost begins = { λ _. omega arith };
+    ghost begins = { λ _. golay24_is_code.begins };
 
     fn radius() -> usize {
         RADIUS as usize

@@ -76,6 +76,8 @@ fn golay18_reads(rt: HostRuntime) {
     assert_eq!(rt; Golay18::radius(), 3);
     for (received, reading, left) in [
         (0x3C000, Reading::Beyond, 0x3C000),
+        // The end of a word of the code (24,12) that begins with 100000.
+        (0x00C75, Reading::Beyond, 0x00C75),
         (0x0F684, Reading::Found { fixes: 0 }, 0x0F684),
         (0x3886C, Reading::Found { fixes: 0 }, 0x3886C),
         (0x30C94, Reading::Found { fixes: 1 }, 0x32C94),

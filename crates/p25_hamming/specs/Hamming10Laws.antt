@@ -1,9 +1,11 @@
 -- The laws of the Hamming code (10,6).
-use Rattle.std.specs.Prelude.{◌≡◌, ◌≢◌, ◌≤◌, ◌++◌, Bool, true, List, length, take, refl}
-use Rattle.p25_bits.specs.Distance.{distance_of}
+use Rattle.std.specs.Prelude.{◌≡◌, ◌++◌, Bool, true, List, refl}
 use Rattle.p25_code.specs.Binary.{IsChecked, check_columns, systematic, syndrome_of, weight_of}
+use Rattle.p25_code.proofs.ReadingLaws.{IsCode}
 use Rattle.p25_code.proofs.Weights.{all_bits}
-use Rattle.p25_code.proofs.BinaryCodes.{IsSystematic, is_heavy, sum_checked, checked_sum, length_checked, one_checked, far_checked}
+use Rattle.p25_code.proofs.BinaryCodes.{IsSystematic, is_heavy, sum_checked, checked_sum, length_checked, is_code}
+use Rattle.std.specs.Bool.{beq}
+use Rattle.std.proofs.Common.{arith}
 use Rattle.p25_bits.specs.Bits.{bits_of}
 use Rattle.p25_hamming.specs.Hamming10.{check_rows, IsHamming10}
 
@@ -12,6 +14,7 @@ heavy : all_bits 6 (is_heavy check_rows 4 3) ≡ true
 unfolding all_bits is_heavy systematic syndrome_of weight_of bits_of
 heavy = refl
 
+-- so the tests of the table say yes
 pub code : IsSystematic check_rows 4 3
 code = record { fit = refl; heavy = heavy }
 
@@ -19,14 +22,10 @@ code = record { fit = refl; heavy = heavy }
 pub to_checked : (word : List Bool) → IsHamming10 word → IsChecked (check_rows ++ check_columns 4) word
 to_checked word is = sum_checked code word is.long is.checks
 
+-- and the other way round
 pub from_checked : (word : List Bool) → IsChecked (check_rows ++ check_columns 4) word → IsHamming10 word
 from_checked word is = record { long = length_checked code word is; checks = checked_sum code word is }
 
-pub length_hamming10 : (word : List Bool) → IsHamming10 word → length word ≡ 10
-length_hamming10 word is = is.long
-
-pub one_hamming10 : (v w : List Bool) → IsHamming10 v → IsHamming10 w → take 6 v ≡ take 6 w → v ≡ w
-one_hamming10 v w isv isw same = one_checked code v w (to_checked v isv) (to_checked w isw) same
-
-pub far_hamming10 : (v w : List Bool) → IsHamming10 v → IsHamming10 w → v ≢ w → 3 ≤ distance_of v w
-far_hamming10 v w isv isw differ = far_checked code v w (to_checked v isv) (to_checked w isw) differ
+-- the laws of the code
+pub hamming10_is_code : IsCode beq IsHamming10 10 6 1 3
+hamming10_is_code = is_code code IsHamming10 to_checked 10 1 refl (omega arith)

@@ -1,12 +1,13 @@
 -- The laws of the code (16,8) of the low speed data.
-use Rattle.std.specs.Prelude.{◌≡◌, ◌≢◌, ℕ, ◌<◌, ◌≤◌, ◌^◌, ◌++◌, Bool, true, List, [], ◌∷◌, length, take, refl}
+use Rattle.std.specs.Prelude.{◌≡◌, ℕ, ◌<◌, ◌^◌, ◌++◌, Bool, true, List, [], ◌∷◌, length, refl}
 use Rattle.std.proofs.Common.{arith, ap, sym, ◌∙◌}
+use Rattle.std.specs.Bool.{beq}
 use Rattle.p25_bits.specs.Bits.{bits_of}
-use Rattle.p25_bits.specs.Distance.{distance_of}
 use Rattle.p25_bits.specs.Divisible.{HasDegree}
 use Rattle.p25_code.specs.Binary.{IsChecked, check_columns, systematic, syndrome_of, weight_of}
+use Rattle.p25_code.proofs.ReadingLaws.{IsCode}
 use Rattle.p25_code.proofs.Weights.{all_bits}
-use Rattle.p25_code.proofs.BinaryCodes.{IsSystematic, is_heavy, length_checked, one_checked, far_checked}
+use Rattle.p25_code.proofs.BinaryCodes.{IsSystematic, is_heavy, length_checked, is_code}
 use Rattle.p25_code.proofs.Remainders.{power_remainder, remainders, remainders-divisible, divisible-remainders}
 use Rattle.p25_hamming.specs.Lsd16.{IsLsd16}
 
@@ -19,6 +20,7 @@ columns-remainders : check_rows ++ check_columns 8 ≡ remainders 0x139 8 16
 unfolding check_columns remainders power_remainder
 columns-remainders = refl
 
+-- the generator is of this degree
 generator_degree : HasDegree 0x139 8
 generator_degree = record { highest = omega arith; none_above = omega arith }
 
@@ -27,11 +29,13 @@ heavy : all_bits 8 (is_heavy check_rows 8 5) ≡ true
 unfolding all_bits is_heavy systematic syndrome_of weight_of bits_of
 heavy = refl
 
+-- so the tests of the table say yes
 pub code : IsSystematic check_rows 8 5
 code = record { fit = refl; heavy = heavy }
 
-some : 1 < 2 ^ 8
-some = omega arith
+-- and not a constant
+not_constant : 1 < 2 ^ 8
+not_constant = omega arith
 
 -- a word of sixteen bits has the sum 0 by the columns as by the remainders
 same_sum : (word : List Bool) → length word ≡ 16 → syndrome_of (check_rows ++ check_columns 8) word ≡ syndrome_of (remainders 0x139 8 (length word)) word
@@ -40,18 +44,14 @@ same_sum word long = ap (λ cs. syndrome_of cs word) columns-remainders ∙ ap (
 -- the words are those that the check matrix lets pass
 pub to_checked : (word : List Bool) → IsLsd16 word → IsChecked (check_rows ++ check_columns 8) word
 unfolding check_columns
-to_checked word is = record { long = is.long; passes = same_sum word is.long ∙ remainders-divisible generator_degree some word is.divisible }
+to_checked word is = record { long = is.long; passes = same_sum word is.long ∙ remainders-divisible generator_degree not_constant word is.divisible }
 
+-- and the other way round
 pub from_checked : (word : List Bool) → IsChecked (check_rows ++ check_columns 8) word → IsLsd16 word
 from_checked word is =
     let long = length_checked code word is in
-    record { long = long; divisible = divisible-remainders generator_degree some word (sym (same_sum word long) ∙ is.passes) }
+    record { long = long; divisible = divisible-remainders generator_degree not_constant word (sym (same_sum word long) ∙ is.passes) }
 
-pub length_lsd16 : (word : List Bool) → IsLsd16 word → length word ≡ 16
-length_lsd16 word is = is.long
-
-pub one_lsd16 : (v w : List Bool) → IsLsd16 v → IsLsd16 w → take 8 v ≡ take 8 w → v ≡ w
-one_lsd16 v w isv isw same = one_checked code v w (to_checked v isv) (to_checked w isw) same
-
-pub far_lsd16 : (v w : List Bool) → IsLsd16 v → IsLsd16 w → v ≢ w → 5 ≤ distance_of v w
-far_lsd16 v w isv isw differ = far_checked code v w (to_checked v isv) (to_checked w isw) differ
+-- the laws of the code
+pub lsd16_is_code : IsCode beq IsLsd16 16 8 2 5
+lsd16_is_code = is_code code IsLsd16 to_checked 16 2 refl (omega arith)

@@ -1,9 +1,7 @@
 //! The Hamming code (10,6).
 
-ghost use Rattle.std.proofs.Common.{arith};
-ghost use Rattle.p25_code.specs.Letters.{same_bit};
 ghost use Rattle.p25_hamming.specs.Hamming10.{IsHamming10};
-ghost use Rattle.p25_hamming.specs.Hamming10Laws.{length_hamming10, one_hamming10, far_hamming10};
+ghost use Rattle.p25_hamming.specs.Hamming10Laws.{hamming10_is_code};
 
 use p25_code::{BlockCode, Reading, encode_systematic, read_checked};
 
@@ -38,17 +36,17 @@ impl BlockCode for Hamming10 {
 
     ghost distance_is = { 3 };
 
-    ghost same_letter = { same_bit };
+    ghost same_letter = { hamming10_is_code.alike };
 
-    ghost length_of_word = { λ _. length_hamming10 };
+    ghost length_of_word = { λ _. hamming10_is_code.long };
 
-    ghost one_word = { λ _. one_hamming10 };
+    ghost one_word = { λ _. hamming10_is_code.one_word };
 
-    ghost far_apart = { λ _. far_hamming10 };
+    ghost far_apart = { λ _. hamming10_is_code.far_apart };
 
-    ghost within = { λ _. omega arith };
+    ghost within = { λ _. hamming10_is_code.close };
 
-    ghost begins = { λ _. omega arith };
+    ghost begins = { λ _. hamming10_is_code.begins };
 
     fn radius() -> usize {
         RADIUS as usize

@@ -1,9 +1,7 @@
 //! The code of the low speed data (16,8).
 
-ghost use Rattle.std.proofs.Common.{arith};
-ghost use Rattle.p25_code.specs.Letters.{same_bit};
 ghost use Rattle.p25_hamming.specs.Lsd16.{IsLsd16};
-ghost use Rattle.p25_hamming.specs.Lsd16Laws.{length_lsd16, one_lsd16, far_lsd16};
+ghost use Rattle.p25_hamming.specs.Lsd16Laws.{lsd16_is_code};
 
 use p25_code::{BlockCode, Reading, encode_systematic, read_checked};
 
@@ -38,17 +36,17 @@ impl BlockCode for Lsd16 {
 
     ghost distance_is = { 5 };
 
-    ghost same_letter = { same_bit };
+    ghost same_letter = { lsd16_is_code.alike };
 
-    ghost length_of_word = { λ _. length_lsd16 };
+    ghost length_of_word = { λ _. lsd16_is_code.long };
 
-    ghost one_word = { λ _. one_lsd16 };
+    ghost one_word = { λ _. lsd16_is_code.one_word };
 
-    ghost far_apart = { λ _. far_lsd16 };
+    ghost far_apart = { λ _. lsd16_is_code.far_apart };
 
-    ghost within = { λ _. omega arith };
+    ghost within = { λ _. lsd16_is_code.close };
 
-    ghost begins = { λ _. omega arith };
+    ghost begins = { λ _. lsd16_is_code.begins };
 
     fn radius() -> usize {
         RADIUS as usize

@@ -5,17 +5,19 @@ pub returns : goal.returns
 returns g c =
     let m = g.met.C.BlockCode in
     let b = g.C.BlockCode in
-    let laws : IsCode g.C.Letter.PartialEq.eq b.IsWord b.N b.radius_is b.distance_is = record {
+    let laws : IsCode g.C.Letter.PartialEq.eq b.IsWord b.N b.K b.radius_is b.distance_is = record {
       compares = g.met.C.Letter.Eq.laws;
       alike = m.same_letter;
       long = m.length_of_word c.requires.code;
+      one_word = m.one_word c.requires.code;
       far_apart = m.far_apart c.requires.code;
       close = m.within c.requires.code;
+      begins = m.begins c.requires.code;
     } in
     let received = c.args.word.now in
     record {
       reading = c.read.ensures;
       sent = λ sent is near. reading_sent laws received c.read.new.word sent c.read.result c.requires.word c.read.ensures is near;
       fixes = λ sent is near. reading_fixes laws received c.read.new.word sent c.read.result c.requires.word c.read.ensures is near;
-      information = reading_information laws b.K received c.read.new.word c.read.result c.requires.word c.read.ensures;
+      information = reading_information laws received c.read.new.word c.read.result c.requires.word c.read.ensures;
     }
