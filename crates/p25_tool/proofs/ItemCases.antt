@@ -1,7 +1,7 @@
 -- The cases of an item's definition.
 use Rattle.std.proofs.Common.{◌≡◌, ℕ, ◌<◌, ◌≤◌, Bool, true, false, cond, min, List, Option, Some, None, length, take, drop, ltb, eqb, refl, ap, sym, ◌∙◌}
 use Rattle.std.proofs.lemmas.Bool.{cond-true, cond-false, lt-ltb, le-ltb, eq-eqb, ne_eqb}
-use Rattle.p25_tool.specs.Items.{frame_of, nid_of, unit_item, item_after_nid, synced_item, first_item, sync_place}
+use Rattle.p25_tool.specs.Items.{frame_of, fixes_of, nid_of, unit_item, item_after_nid, synced_item, first_item, sync_place}
 use Rattle.p25_tool.specs.declared.item.Field.TheVariants.{Nid, Duid}
 use Rattle.p25_tool.specs.declared.item.Item.{Item}
 use Rattle.p25_tool.specs.declared.item.Item.TheVariants.{Whole, NoUnit, Gap, Cut}
@@ -10,14 +10,14 @@ pub unit_item-other : (at : ℕ) (bits : List Bool) (nid : ℕ × ℕ) → (nid.
 unfolding unit_item
 unit_item-other at bits nid other = cond-false (eqb nid.1 3) _ (NoUnit at Duid) (ne_eqb nid.1 3 other)
 
-unit_item-three : (at : ℕ) (bits : List Bool) (nid : ℕ × ℕ) → nid.1 ≡ 3 → unit_item at bits nid ≡ cond (ltb (length bits) 144) (Cut at (length bits)) (Whole at (frame_of nid.0 (take 144 bits)) 0)
+unit_item-three : (at : ℕ) (bits : List Bool) (nid : ℕ × ℕ) → nid.1 ≡ 3 → unit_item at bits nid ≡ cond (ltb (length bits) 144) (Cut at (length bits)) (Whole at (frame_of nid.0 (take 144 bits)) (fixes_of nid (take 144 bits)))
 unfolding unit_item
 unit_item-three at bits nid three = cond-true (eqb nid.1 3) _ (NoUnit at Duid) (eq-eqb nid.1 3 three)
 
 pub unit_item-cut : (at : ℕ) (bits : List Bool) (nid : ℕ × ℕ) → nid.1 ≡ 3 → length bits < 144 → unit_item at bits nid ≡ Cut at (length bits)
 unit_item-cut at bits nid three short = unit_item-three at bits nid three ∙ cond-true _ _ _ (lt-ltb (length bits) 144 short)
 
-pub unit_item-whole : (at : ℕ) (bits : List Bool) (nid : ℕ × ℕ) → nid.1 ≡ 3 → 144 ≤ length bits → unit_item at bits nid ≡ Whole at (frame_of nid.0 (take 144 bits)) 0
+pub unit_item-whole : (at : ℕ) (bits : List Bool) (nid : ℕ × ℕ) → nid.1 ≡ 3 → 144 ≤ length bits → unit_item at bits nid ≡ Whole at (frame_of nid.0 (take 144 bits)) (fixes_of nid (take 144 bits))
 unit_item-whole at bits nid three long = unit_item-three at bits nid three ∙ cond-false _ _ _ (le-ltb (length bits) 144 long)
 
 pub synced_item-cut : (at : ℕ) (bits : List Bool) → length bits < 114 → synced_item at bits ≡ Cut at (length bits)

@@ -1,7 +1,7 @@
 -- The items of some bits: the first, and then those of what it leaves.
 use Rattle.std.proofs.Common.{◌≡◌, ℕ, zero, suc, ◌+◌, ◌<◌, ◌≤◌, inl, inr, Bool, true, cond, min, eqb, leb, ltb, List, [], ◌∷◌, Some, None, length, take, drop, refl, ap, arith, length-drop}
 use Rattle.std.proofs.lemmas.Bool.{and_parts, cases_Bool, cond_both, leb-true, ltb-true, ltb-false}
-use Rattle.p25_tool.specs.Items.{frame_of, nid_of, has_sync, sync_place, unit_item, item_after_nid, synced_item, first_item, covered, items_in, items_of}
+use Rattle.p25_tool.specs.Items.{frame_of, fixes_of, nid_of, has_sync, sync_place, unit_item, item_after_nid, synced_item, first_item, covered, items_in, items_of}
 use Rattle.p25_tool.specs.declared.item.Field.{Field}
 use Rattle.p25_tool.specs.declared.item.Field.TheVariants.{Nid, Duid}
 use Rattle.p25_tool.specs.declared.item.Item.{Item}
@@ -31,18 +31,18 @@ has_sync-first bit bits first =
 
 -- what holds in each case of a unit's item holds of it
 unit_item-cases : (P : Item → Type 0) (at : ℕ) (bits : List Bool) (nid : ℕ × ℕ)
-    → (length bits < 144 → P (Cut at (length bits))) → (144 ≤ length bits → P (Whole at (frame_of nid.0 (take 144 bits)) 0)) → P (NoUnit at Duid)
+    → (length bits < 144 → P (Cut at (length bits))) → (144 ≤ length bits → P (Whole at (frame_of nid.0 (take 144 bits)) (fixes_of nid (take 144 bits)))) → P (NoUnit at Duid)
     → P (unit_item at bits nid)
 unfolding unit_item
 unit_item-cases P at bits nid cut whole other =
-    let unit = cond (ltb (length bits) 144) (Cut at (length bits)) (Whole at (frame_of nid.0 (take 144 bits)) 0) in
+    let unit = cond (ltb (length bits) 144) (Cut at (length bits)) (Whole at (frame_of nid.0 (take 144 bits)) (fixes_of nid (take 144 bits))) in
     cond_both (eqb nid.1 3) unit (NoUnit at Duid) P
-    (λ three. cond_both (ltb (length bits) 144) (Cut at (length bits)) (Whole at (frame_of nid.0 (take 144 bits)) 0) P (λ short. cut (ltb-true (length bits) 144 short)) (λ long. whole (ltb-false (length bits) 144 long)))
+    (λ three. cond_both (ltb (length bits) 144) (Cut at (length bits)) (Whole at (frame_of nid.0 (take 144 bits)) (fixes_of nid (take 144 bits))) P (λ short. cut (ltb-true (length bits) 144 short)) (λ long. whole (ltb-false (length bits) 144 long)))
     (λ e. other)
 
 -- what holds in each case of the item at a sync holds of it
 pub synced_item-cases : (P : Item → Type 0) (at : ℕ) (bits : List Bool)
-    → (length bits < 144 → P (Cut at (length bits))) → ((nac : ℕ) → 144 ≤ length bits → P (Whole at (frame_of nac (take 144 bits)) 0))
+    → (length bits < 144 → P (Cut at (length bits))) → ((nac fixes : ℕ) → 144 ≤ length bits → P (Whole at (frame_of nac (take 144 bits)) fixes))
     → ((field : Field) → 114 ≤ length bits → P (NoUnit at field)) → P (synced_item at bits)
 unfolding synced_item item_after_nid
 synced_item-cases P at bits cut whole none =
@@ -52,7 +52,7 @@ synced_item-cases P at bits cut whole none =
     let long : 114 ≤ length bits = ltb-false (length bits) 114 e in
     elim (nid_of (take 114 bits)) as (λ nid. P (item_after_nid at bits nid)) [
       | None ↦ none Nid long
-      | Some nid ↦ unit_item-cases P at bits nid cut (whole nid.0) (none Duid long)
+      | Some nid ↦ unit_item-cases P at bits nid cut (whole nid.0 (fixes_of nid (take 144 bits))) (none Duid long)
     ])
 
 -- what holds in each case of the first item holds of it
@@ -75,7 +75,7 @@ covered-first_item at (bit ∷ bits) some =
     (λ later. (omega arith, omega arith))
     (λ first.
     let long : 48 ≤ length all = has_sync-length all (has_sync-first bit bits first) in
-    synced_item-cases Fits at all (λ short. (omega arith, omega arith)) (λ nac enough. (omega arith, omega arith)) (λ field enough. (omega arith, omega arith)))
+    synced_item-cases Fits at all (λ short. (omega arith, omega arith)) (λ nac fixes enough. (omega arith, omega arith)) (λ field enough. (omega arith, omega arith)))
 
 -- with turns enough for every bit it does not matter how many there are
 items_in-enough : (more turns at : ℕ) (bits : List Bool) → length bits ≤ more → length bits ≤ turns → items_in more at bits ≡ items_in turns at bits

@@ -95,7 +95,7 @@ covered-items_of at bits = AreItems-covered (items_of at bits) at bits (AreItems
 place_of-first_item : (at : ℕ) (bits : List Bool) → place_of (first_item at bits) ≡ at
 place_of-first_item at bits =
     let Begins : Item → Type 0 = λ item. place_of item ≡ at in
-    first_item-cases Begins at bits (λ later. refl) (λ first. synced_item-cases Begins at bits (λ short. refl) (λ nac enough. refl) (λ field enough. refl))
+    first_item-cases Begins at bits (λ later. refl) (λ first. synced_item-cases Begins at bits (λ short. refl) (λ nac fixes enough. refl) (λ field enough. refl))
 
 -- an item among others is the first of the bits that those before it leave
 AreItems-among : (before : List Item) (item : Item) (after : List Item) (at : ℕ) (bits : List Bool) → AreItems at bits (before ++ item ∷ after) → AreItems (at + sum_by covered before) (drop (sum_by covered before) bits) (item ∷ after)
@@ -130,7 +130,7 @@ gap-first at bits place count is =
     let IsLong : Item → Type 0 = λ item. Gap place count ≡ item → (0 < sync_place bits) × (count ≡ min (sync_place bits) 4096) in
     first_item-cases IsLong at bits
     (λ later same. (later, cc))
-    (λ first. synced_item-cases IsLong at bits (λ short same. absurd (cc)) (λ nac enough same. absurd (cc)) (λ field enough same. absurd (cc)))
+    (λ first. synced_item-cases IsLong at bits (λ short same. absurd (cc)) (λ nac fixes enough same. absurd (cc)) (λ field enough same. absurd (cc)))
     is
 
 -- no gap is longer than a gap may be

@@ -3,6 +3,7 @@ pub mod Decimals
 pub mod ItemCases
 pub mod ItemsLaws
 pub mod LayoutLaws
+pub mod NidFacts
 pub mod ProgressLaws
 pub mod ScanLaws
 pub mod SeamLaws

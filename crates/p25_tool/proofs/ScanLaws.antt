@@ -1,14 +1,14 @@
 -- Syncs and the window of 48 bits that moves over a recording.
 use Rattle.std.proofs.Common.{◌≡◌, ℕ, zero, suc, ◌+◌, ◌-◌, ◌*◌, ◌/◌, ◌%◌, ◌^◌, ◌<◌, ◌≤◌, inl, inr, Bool, true, false, ◌&&◌, cond, min, eqb, leb, ltb, List, [], ◌∷◌, ◌++◌, length, get_or, take, drop, refl, ap, ap₂, sym, ◌∙◌, subst, arith, length-drop, length-take}
-use Rattle.std.proofs.lemmas.Bool.{cases_Bool, and_left, and_from, and_right, lt-leb, le-leb, leb-true, cond-true, cond-false}
+use Rattle.std.proofs.lemmas.Bool.{cases_Bool, and_left, and_from, and_right, lt-leb, le-leb, leb-true, cond-true, cond-false, false_from_ne_true}
 use Rattle.std.proofs.lemmas.List.{drop_more, length-take-le}
 use Rattle.std.proofs.lemmas.Nat.{mod_low}
 use Rattle.p25_bits.specs.Bits.{digit_of, bits_of, field_of, part}
 use Rattle.p25_bits.specs.Distance.{distance_of}
 use Rattle.p25_bits.proofs.Lists.{part_more}
-use Rattle.p25_bits.proofs.BitsLaws.{field_of-cons, field_of-push, field_of-lt, field_of-bits_of, length-bits_of, same_from_field_of}
-use Rattle.p25_bits.proofs.DistanceLaws.{distance_of-same, same_from_distance_of}
-use Rattle.p25_tool.specs.Items.{sync_word, sync_slack, has_sync, sync_place}
+use Rattle.p25_bits.proofs.BitsLaws.{field_of-cons, field_of-push, field_of-lt, bits_of-field_of}
+use Rattle.p25_status.specs.Sync.{sync_bits}
+use Rattle.p25_tool.specs.Items.{sync_slack, has_sync, sync_place}
 
 -- fewer bits than a sync have none
 pub has_sync-short : (bits : List Bool) → length bits < 48 → has_sync bits ≡ false
@@ -16,35 +16,24 @@ unfolding has_sync
 has_sync-short bits short = and_left (leb 48 (length bits)) _ (lt-leb 48 (length bits) short)
 
 -- enough bits begin with a sync where their distance from it is no more than the slack
-pub has_sync-distance : (bits : List Bool) → 48 ≤ length bits → has_sync bits ≡ leb (distance_of (take 48 bits) (bits_of 48 sync_word)) sync_slack
+pub has_sync-distance : (bits : List Bool) → 48 ≤ length bits → has_sync bits ≡ leb (distance_of (take 48 bits) sync_bits) sync_slack
 unfolding has_sync
-has_sync-distance bits long = ap (λ enough. enough && leb (distance_of (take 48 bits) (bits_of 48 sync_word)) sync_slack) (le-leb 48 (length bits) long)
+has_sync-distance bits long = ap (λ enough. enough && leb (distance_of (take 48 bits) sync_bits) sync_slack) (le-leb 48 (length bits) long)
 
-sync_length : length (bits_of 48 sync_word) ≡ 48
-sync_length = length-bits_of 48 sync_word
-
--- bits that write the sync's number begin with a sync
-pub has_sync-yes : (bits : List Bool) → 48 ≤ length bits → field_of (take 48 bits) ≡ sync_word → has_sync bits ≡ true
+-- 48 bits near the sync have it
+pub has_sync-yes : (bits : List Bool) → 48 ≤ length bits → distance_of (take 48 bits) sync_bits ≤ 4 → has_sync bits ≡ true
 unfolding has_sync
-has_sync-yes bits long same =
-    let alike : take 48 bits ≡ bits_of 48 sync_word
-    = same_from_field_of (take 48 bits) (bits_of 48 sync_word) (length-take-le 48 bits long ∙ sym sync_length) (same ∙ sym (field_of-bits_of 48 sync_word)) in
-    let none : distance_of (take 48 bits) (bits_of 48 sync_word) ≡ 0
-    = ap (λ xs. distance_of xs (bits_of 48 sync_word)) alike ∙ distance_of-same (bits_of 48 sync_word) in
-    and_from (leb 48 (length bits)) _ (le-leb 48 (length bits) long) (ap (λ d. leb d 0) none)
+has_sync-yes bits long near = and_from (leb 48 (length bits)) _ (le-leb 48 (length bits) long) (le-leb _ 4 near)
 
--- bits that write another number do not
-pub has_sync-no : (bits : List Bool) → 48 ≤ length bits → (field_of (take 48 bits) ≡ sync_word → ⊥) → has_sync bits ≡ false
+-- others do not
+pub has_sync-no : (bits : List Bool) → (distance_of (take 48 bits) sync_bits ≤ 4 → ⊥) → has_sync bits ≡ false
 unfolding has_sync
-has_sync-no bits long other =
-    let d = distance_of (take 48 bits) (bits_of 48 sync_word) in
-    elim (cases_Bool (leb d 0)) [
-      | inl near ↦
-          let none : d ≡ 0 = omega (arith, leb-true d 0 near) in
-          let alike = same_from_distance_of (take 48 bits) (bits_of 48 sync_word) (length-take-le 48 bits long ∙ sym sync_length) none in
-          absurd (other (ap field_of alike ∙ field_of-bits_of 48 sync_word))
-      | inr far ↦ and_right (leb 48 (length bits)) (leb d 0) far
-    ]
+has_sync-no bits far =
+    and_right (leb 48 (length bits)) (leb (distance_of (take 48 bits) sync_bits) 4) (false_from_ne_true _ (λ near. far (leb-true _ 4 near)))
+
+-- the bits of a window's number are the window
+pub window_bits : (bits : List Bool) (window : ℕ) → 48 ≤ length bits → window ≡ field_of (take 48 bits) → bits_of 48 window ≡ take 48 bits
+window_bits bits window long is = ap₂ bits_of (sym (length-take-le 48 bits long)) is ∙ bits_of-field_of (take 48 bits)
 
 -- fewer bits than a sync are all without one
 pub sync_place-short : (bits : List Bool) → length bits < 48 → sync_place bits ≡ length bits

@@ -2,9 +2,9 @@
 use Rattle.std.proofs.Common.{◌≡◌, ℕ, zero, suc, ◌+◌, ◌<◌, ◌≤◌, inl, inr, Bool, true, false, ◌&&◌, cond, min, leb, ltb, List, [], ◌∷◌, ◌++◌, Option, Some, None, length, take, refl, ap, ap₂, sym, ◌∙◌, subst, arith, length-append}
 use Rattle.std.proofs.lemmas.Bool.{cases_Bool, cases_lt, cases_eq, cond_both, le-leb, lt-ltb, le-ltb, cond-true, cond-false}
 use Rattle.std.proofs.lemmas.List.{take-append-le}
-use Rattle.p25_bits.specs.Bits.{bits_of}
 use Rattle.p25_bits.specs.Distance.{distance_of}
-use Rattle.p25_tool.specs.Items.{sync_word, sync_slack, frame_of, nid_of, has_sync, sync_place, unit_item, item_after_nid, synced_item, first_item}
+use Rattle.p25_status.specs.Sync.{sync_bits}
+use Rattle.p25_tool.specs.Items.{sync_slack, frame_of, fixes_of, nid_of, has_sync, sync_place, unit_item, item_after_nid, synced_item, first_item}
 use Rattle.p25_tool.specs.Decided.{needed}
 use Rattle.p25_tool.specs.declared.item.Item.{Item}
 use Rattle.p25_tool.specs.declared.item.Item.TheVariants.{Whole, Gap, Cut}
@@ -19,7 +19,7 @@ has_sync-append bits more long =
     let front : take 48 (bits ++ more) ≡ take 48 bits = take-append-le 48 bits more long in
     let enough : leb 48 (length (bits ++ more)) ≡ leb 48 (length bits)
     = le-leb 48 (length (bits ++ more)) (omega (arith, length-append bits more)) ∙ sym (le-leb 48 (length bits) long) in
-    ap₂ (λ long xs. long && leb (distance_of xs (bits_of 48 sync_word)) sync_slack) enough front
+    ap₂ (λ long xs. long && leb (distance_of xs sync_bits) sync_slack) enough front
 
 -- a first place with a sync
 place_here : (bit : Bool) (bits : List Bool) → has_sync (bit ∷ bits) ≡ true → sync_place (bit ∷ bits) ≡ 0
@@ -71,7 +71,7 @@ unit_item-append at bits more nid enough =
             | inl short ↦ absurd (cut_short at bits (unit_item at bits nid) (unit_item-cut at bits nid three short) enough)
             | inr long ↦
                 unit_item-whole at (bits ++ more) nid three (omega (arith, length-append bits more))
-                ∙ ap (λ unit. Whole at (frame_of nid.0 unit) 0) (take-append-le 144 bits more long)
+                ∙ ap (λ unit. Whole at (frame_of nid.0 unit) (fixes_of nid unit)) (take-append-le 144 bits more long)
                 ∙ sym (unit_item-whole at bits nid three long)
           ]
       | inr other ↦ unit_item-other at (bits ++ more) nid other ∙ sym (unit_item-other at bits nid other)
@@ -143,4 +143,4 @@ needed-first_item at (bit ∷ bits) some =
     cond_both (ltb count 4096) (count + 48) (count + 47) (λ n. 48 ≤ n) (λ e. omega arith) (λ e. omega arith))
     (λ first.
     let long = has_sync-length all (has_sync-first bit bits first) in
-    synced_item-cases Long at all (λ short. omega arith) (λ nac enough. omega arith) (λ field enough. omega arith))
+    synced_item-cases Long at all (λ short. omega arith) (λ nac fixes enough. omega arith) (λ field enough. omega arith))

@@ -1,15 +1,14 @@
 //! The item at a place of a recording.
 
-ghost use Rattle.std.specs.Prelude.{◌≡◌, ◌+◌, ◌*◌, ◌%◌, ◌^◌, ◌<◌, ◌≤◌, length, drop, min, MatchOption};
-ghost use Rattle.p25_bits.specs.Bits.{digit_of, field_of, octet_bits};
-ghost use Rattle.p25_tool.specs.Items.{first_item, nid_bits, sync_place, synced_item, unit_item};
+ghost use Rattle.std.specs.Prelude.{◌≡◌, ◌+◌, ◌*◌, ◌%◌, ◌^◌, ◌<◌, ◌≤◌, length, drop, take, min, MatchOption};
+ghost use Rattle.p25_bits.specs.Bits.{bits_of, digit_of, field_of, octet_bits};
+ghost use Rattle.p25_bits.specs.Distance.{distance_of};
+ghost use Rattle.p25_tool.specs.Items.{first_item, nid_bits, nid_word, sync_place, synced_item, unit_item};
 
 use super::item::{Field, Frame, Item};
 use super::octet_bits::{bit_at, field_at};
-use p25_bch_nid::{Nid, exact_nid};
-
-// The 48 bits with which each unit begins (TIA-102.BAAA, Frame Synchronization).
-const SYNC: u64 = 0x5575_F5FF_77FF;
+use p25_bch_nid::{Nid, nid_bits, read_nid};
+use p25_status::{is_sync_window, sync_distance};
 
 // The most bits of a gap item.
 const GAP_MOST: usize = 4_096;
@@ -46,7 +45,7 @@ fn gap_from(octets: &[u8], at: usize) -> usize
     }
     let mut window = field_at(octets, at, 48);
     for k in 0..GAP_MOST {
-        if window == SYNC {
+        if is_sync_window(window) {
             return k;
         }
         if k + 48 == have {
@@ -79,7 +78,7 @@ fn item_at_sync(octets: &[u8], at: usize) -> Item
             have: have as u32,
         };
     }
-    match exact_nid(nid_field(octets, at)) {
+    match read_nid(nid_field(octets, at)) {
         None => Item::NoUnit {
             place: at as u64,
             field: Field::Nid,
@@ -93,7 +92,8 @@ fn item_at_sync(octets: &[u8], at: usize) -> Item
 fn nid_field(octets: &[u8], at: usize) -> u64
     requires there { at + 114 ≤ 8 * length octets.now }
     requires most { length octets.now ≤ 16777216 }
-    ensures { result ≡ field_of (nid_bits (drop at (octet_bits octets.now))) }
+    ensures value { result ≡ field_of (nid_bits (drop at (octet_bits octets.now))) }
+    ensures fits { result < 2 ^ 64 }
 {
     field_at(octets, at + 48, 22) * (1 << 42) + field_at(octets, at + 72, 42)
 }
@@ -124,6 +124,14 @@ fn item_of_unit(octets: &[u8], at: usize, nid: Nid) -> Item
             first_status: field_at(octets, at + 70, 2) as u8,
             last_status: field_at(octets, at + 142, 2) as u8,
         },
-        fixes: 0,
+        fixes: sync_distance(field_at(octets, at, 48)) + nid_distance(nid_field(octets, at), &nid),
     }
+}
+
+// In how many of the first 63 bits a received network identifier differs from what is sent for one.
+fn nid_distance(received: u64, nid: &Nid) -> u32
+    ensures distance { result ≡ distance_of (take 63 (bits_of 64 received)) (nid_word (nid.now.nac, nid.now.duid)) }
+    ensures most { result ≤ 63 }
+{
+    ((received ^ nid_bits(nid)) >> 1).count_ones()
 }

@@ -16,8 +16,8 @@ joined bits at high low there a b =
     ∙ ap (λ n. field_of (part 48 22 (drop at bits)) * 2 ^ n + field_of (part 72 42 (drop at bits))) (sym long)
     ∙ sym (field_of-append (part 48 22 (drop at bits)) (part 72 42 (drop at bits)))
 
-pub returns : goal.returns
-returns c =
+pub returns-clause-value : goal.returns-clause-value
+returns-clause-value c =
     let bits = octet_bits c.args.octets.now in
     let there : c.args.at + 114 ≤ length bits = omega (arith, length-octet_bits c.args.octets.now) in
     joined bits c.args.at c.field_at.result c.field_at-2.result there c.field_at.ensures.value c.field_at-2.ensures.value
