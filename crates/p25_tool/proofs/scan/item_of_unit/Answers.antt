@@ -3,7 +3,7 @@ use Rattle.std.proofs.lemmas.List.{drop-drop}
 use Rattle.p25_bits.specs.Bits.{field_of, octet_bits, part}
 use Rattle.p25_bits.proofs.BitsLaws.{length-octet_bits}
 use Rattle.p25_bits.proofs.Lists.{part-take}
-use Rattle.p25_tool.specs.Items.{status_at, frame_of}
+use Rattle.p25_tool.specs.Items.{status_at}
 use Rattle.p25_tool.specs.declared.item.Frame.{Frame}
 use Rattle.p25_tool.specs.declared.item.Item.TheVariants.{Whole, Cut}
 use Rattle.p25_tool.proofs.ItemCases.{unit_item-other, unit_item-cut, unit_item-whole}
