@@ -1,9 +1,8 @@
 -- The cases of an item's definition.
-use Rattle.std.proofs.Common.{◌≡◌, ℕ, ◌<◌, ◌≤◌, Bool, true, false, cond, min, List, Option, Some, None, length, take, drop, ltb, eqb, refl, ap, sym, ◌∙◌}
+use Rattle.std.proofs.Common.{◌≡◌, ℕ, ◌<◌, ◌≤◌, Bool, cond, min, List, Option, Some, None, length, take, ltb, eqb, refl, ap, ◌∙◌}
 use Rattle.std.proofs.lemmas.Bool.{cond-true, cond-false, lt-ltb, le-ltb, eq-eqb, ne_eqb}
 use Rattle.p25_tool.specs.Items.{frame_of, fixes_of, nid_of, unit_item, item_after_nid, synced_item, first_item, sync_place}
 use Rattle.p25_tool.specs.declared.item.Field.TheVariants.{Nid, Duid}
-use Rattle.p25_tool.specs.declared.item.Item.{Item}
 use Rattle.p25_tool.specs.declared.item.Item.TheVariants.{Whole, NoUnit, Gap, Cut}
 
 pub unit_item-other : (at : ℕ) (bits : List Bool) (nid : ℕ × ℕ) → (nid.1 ≡ 3 → ⊥) → unit_item at bits nid ≡ NoUnit at Duid

@@ -1,5 +1,5 @@
 -- The items that the bits so far decide, whatever bits come later.
-use Rattle.std.specs.Prelude.{ℕ, zero, suc, ◌+◌, Bool, cond, nat_lt, nat_le, nat_eq, List, [], ◌∷◌, length, drop}
+use Rattle.std.specs.Prelude.{ℕ, zero, suc, ◌+◌, Bool, cond, nat_lt, nat_le, List, [], ◌∷◌, length, drop}
 use Rattle.p25_tool.specs.Items.{first_item, covered}
 use Rattle.p25_tool.specs.declared.item.Item.{Item}
 use Rattle.p25_tool.specs.declared.item.Item.TheVariants.{Whole, NoUnit, Gap, Cut}

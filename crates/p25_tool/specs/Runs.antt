@@ -1,5 +1,5 @@
 -- What the outcome of a call says of its source and of its sink.
-use Rattle.std.specs.Prelude.{◌≡◌, ℕ, ◌<◌, ◌≤◌, ◌↔◌, Option, List, length}
+use Rattle.std.specs.Prelude.{◌≡◌, ℕ, ◌<◌, ◌↔◌, Option, List, length}
 use Rattle.p25_io.specs.Octets.{Taken, Kept, Appended, AppendedFront}
 use Rattle.p25_tool.specs.declared.outcome.Outcome.{Outcome}
 use Rattle.p25_tool.specs.declared.outcome.Outcome.TheVariants.{Done, Usage, ReadFault, WriteFault, Memory, TooLong}

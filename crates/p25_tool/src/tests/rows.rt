@@ -192,8 +192,8 @@ fn behind(alloc: Global, lead: usize, octets: &[u8]) -> Result<Vec<u8>, AllocErr
     Ok(recording)
 }
 
-// Want of memory is free in the contract of `run`, so a call that answers `Memory` always is proved: this table alone
-// refuses it, as each row is to end with `Done`.
+// A call may answer `Memory` wherever it likes, since no clause can tell how much memory there is. So no clause refuses
+// a `run` that always answers `Memory`. These rows do, the terminator among them, which are to end with `Done`.
 #[test]
 fn show_writes_these_texts(rt: HostRuntime) -> Result<(), Fail> {
     for row in ROWS {

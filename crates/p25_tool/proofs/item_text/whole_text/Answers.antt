@@ -1,4 +1,3 @@
-use Rattle.std.proofs.Common.{◌≡◌, ◌++◌, refl}
 use Rattle.p25_tool.specs.Texts.{item_text_of}
 use Rattle.p25_tool.proofs.item_text.whole_text.Goals as goal
 

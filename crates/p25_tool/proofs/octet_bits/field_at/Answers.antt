@@ -1,5 +1,4 @@
-use Rattle.std.proofs.Common.{◌≡◌, ℕ, ◌+◌, ◌*◌, ◌<◌, ◌≤◌, ◌^◌, ◌++◌, ◌∷◌, [], Bool, false, length, get_or, ap, ap₂, sym, ◌∙◌, arith, refl}
-use Rattle.std.proofs.Math.Pow.{pow_mono}
+use Rattle.std.proofs.Common.{◌+◌, ◌*◌, ◌<◌, ◌≤◌, false, length, get_or, ap, ap₂, sym, ◌∙◌, arith}
 use Rattle.p25_bits.specs.Bits.{digit_of, field_of, octet_bits, part}
 use Rattle.p25_bits.proofs.Lists.{part_more}
 use Rattle.p25_bits.proofs.BitsLaws.{digit_of-byte, digit_of-le, field_of-nil, field_of-push, length-octet_bits, more-lt}

@@ -1,4 +1,4 @@
-use Rattle.std.proofs.Common.{◌≡◌, ℕ, ◌+◌, ◌<◌, ◌≤◌, List, ◌++◌, length, length-append, length-take, take, refl, arith}
+use Rattle.std.proofs.Common.{◌≡◌, ℕ, ◌+◌, ◌≤◌, List, ◌++◌, length, length-append, length-take, take, refl, arith}
 use Rattle.p25_io.proofs.OctetsLemmas.{Taken-trans}
 use Rattle.p25_tool.proofs.read.read_all.Goals as goal
 

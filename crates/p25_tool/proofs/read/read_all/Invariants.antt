@@ -1,5 +1,5 @@
 -- What is held was taken, is within the limit, and the count never fell.
-use Rattle.std.proofs.Common.{◌≤◌, ◌-◌, ◌+◌, length, vec_len, ◌≡◌}
+use Rattle.std.proofs.Common.{◌≤◌, ◌-◌, length, vec_len, ◌≡◌}
 use Rattle.p25_io.specs.Octets.{Taken}
 use Rattle.p25_tool.proofs.read.read_all.Given as goal
 

@@ -1,8 +1,7 @@
-use Rattle.std.proofs.Common.{◌≡◌, ℕ, ◌+◌, ◌-◌, ◌*◌, ◌<◌, ◌≤◌, Bool, List, [], ◌∷◌, ◌++◌, Option, length, drop, ap, sym, subst, ◌∙◌, arith, length-drop, Result, Ok, Err}
+use Rattle.std.proofs.Common.{◌≡◌, ℕ, ◌+◌, ◌<◌, ◌≤◌, Bool, List, [], ◌∷◌, ◌++◌, length, drop, ap, sym, subst, ◌∙◌, arith, length-drop, Result, Ok, Err}
 use Rattle.std.specs.Prelude.{OnErr}
 use Rattle.p25_bits.specs.Bits.{octet_bits}
 use Rattle.p25_bits.proofs.BitsLaws.{length-octet_bits}
-use Rattle.p25_io.specs.Octets.{Appended, AppendedFront}
 use Rattle.p25_io.proofs.OctetsLemmas.{Appended-same, AppendedFront-same}
 use Rattle.p25_tool.specs.declared.item.Item.{Item}
 use Rattle.p25_tool.specs.Items.{first_item, covered}

@@ -1,4 +1,4 @@
-use Rattle.std.proofs.Common.{◌≡◌, ℕ, ◌<◌, ◌≤◌, ap, sym, ◌∙◌, arith, drop}
+use Rattle.std.proofs.Common.{◌<◌, ◌≤◌, ap, sym, ◌∙◌, arith, drop}
 use Rattle.p25_bits.specs.Bits.{octet_bits}
 use Rattle.p25_tool.specs.Items.{sync_place}
 use Rattle.p25_tool.specs.declared.item.Item.TheVariants.{Gap}

@@ -1,10 +1,8 @@
-use Rattle.std.proofs.Common.{◌≡◌, ℕ, ◌+◌, ◌<◌, ◌≤◌, ◌++◌, Bool, true, false, leb, List, [], length, take, ap, ap₂, sym, ◌∙◌, arith}
+use Rattle.std.proofs.Common.{◌≡◌, ◌++◌, Bool, leb, List, [], length, take, ap, ap₂, sym, ◌∙◌, arith}
 use Rattle.std.proofs.lemmas.List.{length-take-le}
-use Rattle.std.proofs.lemmas.Bool.{le-leb}
 use Rattle.p25_bits.specs.Bits.{bits_of}
 use Rattle.p25_bits.specs.Distance.{distance_of}
-use Rattle.p25_bits.proofs.BitsLaws.{length-bits_of}
-use Rattle.p25_tool.specs.Items.{sync_word, has_sync}
+use Rattle.p25_tool.specs.Items.{sync_word}
 use Rattle.p25_tool.proofs.ScanLaws.{has_sync-short, has_sync-distance}
 use Rattle.p25_tool.proofs.tests.plain.begins_with_sync.Goals as goal
 

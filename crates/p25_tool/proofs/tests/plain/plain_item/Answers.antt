@@ -1,4 +1,4 @@
-use Rattle.std.proofs.Common.{◌≡◌, ℕ, ◌<◌, ◌≤◌, min, ap, sym, ◌∙◌, arith}
+use Rattle.std.proofs.Common.{◌<◌, ◌≤◌, min, ap, sym, ◌∙◌, arith}
 use Rattle.p25_tool.specs.Items.{sync_place}
 use Rattle.p25_tool.specs.declared.item.Item.TheVariants.{Gap}
 use Rattle.p25_tool.proofs.ItemCases.{first_item-gap, first_item-synced}

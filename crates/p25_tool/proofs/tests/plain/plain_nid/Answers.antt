@@ -1,4 +1,4 @@
-use Rattle.std.proofs.Common.{◌≡◌, ℕ, ◌+◌, ◌≤◌, ◌++◌, Bool, List, [], length, take, drop, ap, ap₂, sym, ◌∙◌, arith, length-append, length-drop}
+use Rattle.std.proofs.Common.{◌≡◌, ◌≤◌, ◌++◌, Bool, List, [], length, drop, ap, ◌∙◌, arith, length-append, length-drop}
 use Rattle.std.proofs.lemmas.List.{take_all, length-take-le}
 use Rattle.p25_bits.specs.Bits.{field_of, part}
 use Rattle.p25_bch_nid.specs.ExactReading.{exact_nid_of}

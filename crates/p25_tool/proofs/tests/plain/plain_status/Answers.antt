@@ -1,4 +1,4 @@
-use Rattle.std.proofs.Common.{◌≡◌, ℕ, ◌+◌, ◌*◌, ◌<◌, ◌≤◌, ◌++◌, ◌∷◌, [], Bool, false, List, length, get_or, ap, ap₂, sym, ◌∙◌, arith}
+use Rattle.std.proofs.Common.{◌≡◌, ℕ, ◌+◌, ◌*◌, ◌<◌, ◌≤◌, Bool, false, List, length, get_or, ap, ◌∙◌, arith}
 use Rattle.p25_bits.specs.Bits.{digit_of, field_of, part}
 use Rattle.p25_bits.proofs.Lists.{part_more}
 use Rattle.p25_bits.proofs.BitsLaws.{digit_of-byte, field_of-nil, field_of-push}

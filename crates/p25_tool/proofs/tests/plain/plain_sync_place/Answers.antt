@@ -1,6 +1,6 @@
-use Rattle.std.proofs.Common.{◌≡◌, ℕ, suc, ◌+◌, ◌-◌, ◌<◌, ◌≤◌, Bool, true, false, List, length, take, drop, ap, sym, ◌∙◌, arith, length-drop}
+use Rattle.std.proofs.Common.{◌≡◌, ℕ, ◌-◌, ◌≤◌, Bool, true, false, List, length, take, drop, ap, sym, ◌∙◌, arith, length-drop}
 use Rattle.std.proofs.lemmas.List.{take_all}
-use Rattle.p25_tool.specs.Items.{has_sync, sync_place}
+use Rattle.p25_tool.specs.Items.{has_sync}
 use Rattle.p25_tool.proofs.ItemsLaws.{sync_place-le}
 use Rattle.p25_tool.proofs.ScanLaws.{sync_place-yes, sync_place-no}
 use Rattle.p25_tool.proofs.tests.plain.plain_sync_place.Goals as goal

@@ -1,4 +1,4 @@
-use Rattle.std.proofs.Common.{◌≡◌, ℕ, Option, Some, None, sym, ◌∙◌}
+use Rattle.std.proofs.Common.{ℕ, Some, None, sym, ◌∙◌}
 use Rattle.p25_tool.proofs.ItemCases.{synced_item-cut, synced_item-after, item_after_nid-none, item_after_nid-some}
 use Rattle.p25_tool.proofs.tests.plain.plain_synced_item.Goals as goal
 

@@ -1,4 +1,4 @@
-use Rattle.std.proofs.Common.{◌≡◌, ◌*◌, ◌≤◌, length, ap, arith}
+use Rattle.std.proofs.Common.{length, ap, arith}
 use Rattle.p25_bits.proofs.BitsLaws.{length-octet_bits}
 use Rattle.p25_tool.proofs.tests.plain.plain_text.Goals as goal
 

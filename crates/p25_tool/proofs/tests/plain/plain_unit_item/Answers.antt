@@ -1,4 +1,4 @@
-use Rattle.std.proofs.Common.{◌≡◌, ℕ, ◌≤◌, take, ap₂, sym, ◌∙◌}
+use Rattle.std.proofs.Common.{ℕ, ap₂, sym, ◌∙◌}
 use Rattle.p25_tool.specs.declared.item.Frame.{Frame}
 use Rattle.p25_tool.specs.declared.item.Item.TheVariants.{Whole}
 use Rattle.p25_tool.proofs.ItemCases.{unit_item-other, unit_item-cut, unit_item-whole}

@@ -1,6 +1,5 @@
-use Rattle.std.proofs.Common.{◌≡◌, ℕ, ◌≤◌, List, [], ◌∷◌, Option, None, length, take, ap, subst, sym, ◌∙◌, refl, arith, length-take}
+use Rattle.std.proofs.Common.{◌≡◌, ℕ, List, [], ◌∷◌, None, length, ap, refl, arith, length-take}
 use Rattle.p25_tool.specs.Words.{command_of}
-use Rattle.p25_tool.specs.declared.command.Command.{Command}
 use Rattle.p25_tool.proofs.words.Words.command.Goals as goal
 
 -- no command has another number of words than one
