@@ -1,6 +1,6 @@
 -- Errors at listed places, their power sums and how many there are.
-use Rattle.std.proofs.Common.{◌≡◌, ◌≢◌, ◌⊎◌, ℕ, zero, suc, ◌+◌, ◌-◌, ◌*◌, ◌<◌, ◌≤◌, Bool, true, false, cond, eqb, List, length, get_or, set, inl, inr, refl, ap, ap₂, sym, ◌∙◌, subst, arith}
-use Rattle.std.proofs.lemmas.Bool.{cases_lt, cases_eq, cases_order, cond-true, cond-false, eq-eqb, ne_eqb}
+use Rattle.std.proofs.Common.{◌≡◌, ◌≢◌, ℕ, zero, suc, ◌+◌, ◌<◌, ◌≤◌, cond, eqb, List, length, get_or, set, inl, inr, refl, ap, ap₂, sym, ◌∙◌, arith}
+use Rattle.std.proofs.lemmas.Bool.{cases_eq, cases_order, cond-true, cond-false, eq-eqb, ne_eqb}
 use Rattle.std.proofs.lemmas.List.{length-set, get_or-set_same, get_or-set_other}
 use Rattle.p25_gf64.specs.declared.symbol.Sym.{Sym}
 use Rattle.p25_gf64.specs.Field.{power}
@@ -9,7 +9,7 @@ use Rattle.p25_gf64.proofs.FieldFacts.{add_zero, mul_comm, zero_mul}
 use Rattle.p25_algebra.specs.Sums.{sum_below, power_sum, nonzeros, weight_by}
 use Rattle.p25_algebra.specs.Series.{coefficient}
 use Rattle.p25_algebra.proofs.SumFacts.{sum-none, sum-suc, sum_same, sum_of_zeros, sum_of_one, sum_exchange, sum-mul}
-use Rattle.p25_algebra.proofs.Vanishing.{nonzeros-suc, nonzeros_mono, nonzeros_none, weight-le}
+use Rattle.p25_algebra.proofs.Vanishing.{nonzeros-suc, nonzeros_mono, weight-le}
 use Rattle.p25_reed_solomon.specs.Errors.{element_of, IsListed, placed}
 
 -- one value at its place

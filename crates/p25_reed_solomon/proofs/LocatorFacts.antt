@@ -1,11 +1,11 @@
 -- The locator vanishes at the element of each wrong place, so the errors stand at its zeros.
-use Rattle.std.proofs.Common.{◌≡◌, ◌≢◌, ℕ, suc, ◌+◌, ◌-◌, ◌*◌, ◌/◌, ◌<◌, ◌≤◌, List, length, get_or, ap, ap₂, sym, ◌∙◌, arith}
+use Rattle.std.proofs.Common.{◌≡◌, ◌≢◌, ℕ, ◌+◌, ◌-◌, ◌*◌, ◌<◌, ◌≤◌, List, length, get_or, ap, sym, ◌∙◌, arith}
 use Rattle.p25_gf64.specs.declared.symbol.Sym.{Sym}
 use Rattle.p25_gf64.specs.Field.{power}
 use Rattle.p25_gf64.specs.Gf64.{gf64}
 use Rattle.p25_gf64.proofs.FieldFacts.{mul_comm}
 use Rattle.p25_algebra.specs.Sums.{sum_below, power_sum, dot, nonzeros}
-use Rattle.p25_algebra.specs.Series.{coefficient, value_at}
+use Rattle.p25_algebra.specs.Series.{coefficient}
 use Rattle.p25_algebra.proofs.SumFacts.{sum_same}
 use Rattle.p25_algebra.proofs.Locators.{locator_vanishes}
 use Rattle.p25_reed_solomon.specs.Errors.{element_of, Explains, IsListed, AreZeros, placed}

@@ -1,16 +1,14 @@
 -- Places, their elements, and the zeros of a locator among them.
-use Rattle.std.proofs.Common.{◌≡◌, ◌≢◌, ◌⊎◌, ℕ, zero, suc, ◌+◌, ◌-◌, ◌<◌, ◌≤◌, List, [], ◌∷◌, ◌++◌, length, get_or, inl, inr, refl, ap, sym, ◌∙◌, subst, arith, lit<}
+use Rattle.std.proofs.Common.{◌≡◌, ◌≢◌, ℕ, ◌+◌, ◌<◌, ◌≤◌, List, [], ◌∷◌, ◌++◌, length, get_or, inl, inr, refl, sym, ◌∙◌, subst, arith}
 use Rattle.std.proofs.lemmas.Bool.{cases_lt, cases_eq, cases_order}
 use Rattle.std.proofs.lemmas.List.{get_or_append_left, get_or_at, length_push}
 use Rattle.p25_gf64.specs.declared.symbol.Sym.{Sym}
-use Rattle.p25_gf64.specs.Field.{power}
-use Rattle.p25_gf64.specs.Symbol.{alpha}
 use Rattle.p25_gf64.specs.Gf64.{gf64}
 use Rattle.p25_algebra.specs.Sums.{AreApart}
 use Rattle.p25_algebra.specs.Series.{coefficient, value_at}
 use Rattle.p25_algebra.proofs.Values.{few_zeros}
 use Rattle.p25_reed_solomon.specs.ElementFacts.{same_place}
-use Rattle.p25_reed_solomon.specs.Errors.{element_of, IsListed, AreZeros}
+use Rattle.p25_reed_solomon.specs.Errors.{element_of, AreZeros}
 
 -- a locator with as many zeros as coefficients has no coefficient
 pub AreZeros-few : (n upto : ℕ) (locator : List Sym) (places : List ℕ) → n ≤ 63 → upto ≤ n → AreZeros n locator upto places → (c : ℕ) × (c < length locator) × (coefficient gf64 locator c ≢ gf64.zero) → length places < length locator

@@ -1,15 +1,11 @@
 -- Distances of words by their symbols, and what errors make of a received word.
-use Rattle.std.proofs.Common.{◌≡◌, ◌≢◌, ◌⊎◌, ℕ, zero, suc, ◌+◌, ◌-◌, ◌*◌, ◌/◌, ◌<◌, ◌≤◌, Bool, true, false, cond, eqb, List, [], ◌∷◌, length, get_or, inl, inr, refl, ap, ap₂, sym, ◌∙◌, subst, arith}
-use Rattle.std.proofs.lemmas.Bool.{cases_lt, cond-true, cond-false, eq-eqb, false_from_ne_true}
+use Rattle.std.proofs.Common.{◌≡◌, ℕ, ◌+◌, ◌-◌, ◌<◌, ◌≤◌, List, length, ap, ap₂, sym, ◌∙◌, arith}
 use Rattle.p25_bits.specs.Distance.{distance_by}
 use Rattle.p25_gf64.specs.declared.symbol.Sym.{Sym}
-use Rattle.p25_gf64.specs.Symbol.{number}
 use Rattle.p25_gf64.specs.Gf64.{gf64}
-use Rattle.p25_gf64.proofs.FieldFacts.{add_self, add_zero, add_twice, same_from_sum}
-use Rattle.p25_gf64.proofs.Symbols.{same_from_eq}
-use Rattle.p25_algebra.specs.Sums.{nonzeros, weight_by, power_sum}
+use Rattle.p25_gf64.proofs.FieldFacts.{add_self, add_zero, add_twice}
+use Rattle.p25_algebra.specs.Sums.{nonzeros, power_sum}
 use Rattle.p25_algebra.specs.Series.{coefficient}
-use Rattle.p25_code.specs.Words.{IsFound, NoneWithin}
 use Rattle.p25_reed_solomon.specs.Words.{IsCode, IsWord, value_of, radius_of, same_symbols}
 use Rattle.p25_reed_solomon.specs.DistanceFacts.{distance-nonzeros}
 use Rattle.p25_reed_solomon.specs.Errors.{element_of, Explains}

@@ -1,5 +1,5 @@
 -- Values of words at powers of α.
-use Rattle.std.proofs.Common.{◌≡◌, ℕ, zero, suc, ◌+◌, ◌-◌, ◌*◌, ◌<◌, ◌≤◌, List, refl, ap, ap₂, sym, ◌∙◌, arith}
+use Rattle.std.proofs.Common.{◌≡◌, ℕ, suc, ◌+◌, ◌-◌, ◌*◌, ◌<◌, ap, ap₂, ◌∙◌, arith}
 use Rattle.std.proofs.Math.Nat.{mul_comm as nat_mul_comm, mul-suc}
 use Rattle.p25_gf64.specs.declared.symbol.Sym.{Sym}
 use Rattle.p25_gf64.specs.Field.{power}

@@ -1,5 +1,5 @@
 -- Laws of the Reed-Solomon words: their distance, and that the information determines the word.
-use Rattle.std.specs.Prelude.{◌≡◌, ◌≢◌, ℕ, ◌+◌, ◌-◌, ◌*◌, ◌/◌, ◌<◌, ◌≤◌, List, length, take, drop, IsTrue}
+use Rattle.std.specs.Prelude.{◌≡◌, ◌≢◌, ℕ, ◌+◌, ◌-◌, ◌*◌, ◌/◌, ◌<◌, ◌≤◌, List, length, take, drop}
 use Rattle.std.proofs.Common.{inl, inr, ap, ap₂, sym, ◌∙◌, arith, length-drop, take-append-drop}
 use Rattle.std.proofs.lemmas.Bool.{cases_lt}
 use Rattle.std.proofs.lemmas.List.{ext_get_or, length-take-le}
@@ -11,7 +11,7 @@ use Rattle.p25_gf64.proofs.FieldFacts.{add_zero, same_from_sum}
 use Rattle.p25_algebra.specs.Sums.{nonzeros, power_sum}
 use Rattle.p25_algebra.specs.Series.{coefficient}
 use Rattle.p25_algebra.proofs.Vanishing.{vanishing}
-use Rattle.p25_reed_solomon.specs.Words.{IsCode, IsWord, value_of, same_symbols}
+use Rattle.p25_reed_solomon.specs.Words.{IsCode, IsWord, same_symbols}
 use Rattle.p25_reed_solomon.specs.Errors.{element_of}
 use Rattle.p25_reed_solomon.specs.ValueFacts.{value-power_sum, front_value-add}
 use Rattle.p25_reed_solomon.specs.ElementFacts.{elements_apart, element_ne_zero}

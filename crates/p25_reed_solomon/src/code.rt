@@ -8,7 +8,11 @@ use crate::reader::read;
 use p25_code::{BlockCode, Reading};
 use p25_gf64::Sym;
 
-/// The Reed-Solomon code over GF(64) of N symbols, of which the first K are the information.
+/// The Reed-Solomon code over GF(64) of N symbols, of which the first K are the information (TIA-102.BAAA). Its words
+/// vanish, as polynomials with their first symbol as the highest coefficient, at α^1 to α^(N - K).
+///
+/// N is at most 63, K from 1 to below N, and N - K even and at most 22: the calls of `BlockCode` require this of the
+/// parameters. The radius is (N - K) / 2, and two different words differ in at least N - K + 1 symbols.
 pub struct Rs<const N: usize, const K: usize>;
 
 impl<const N: usize, const K: usize> BlockCode for Rs<N, K> {

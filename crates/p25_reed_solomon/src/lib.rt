@@ -1,4 +1,37 @@
-//! The Reed-Solomon codes over GF(64).
+//! The Reed-Solomon codes of the Project 25 air interface (TIA-102.BAAA), over GF(64).
+//!
+//! A word is a slice of N symbols in the order in which they are sent: the K symbols of information first, then the
+//! N - K check symbols. As a polynomial, its first symbol is the highest coefficient, that of x^(N-1), and its last the
+//! constant. The words of the code are those that vanish at α^1 to α^(N-K), where α is the symbol 2. So the code has one
+//! body for all sizes, and `Rs` takes these as parameters:
+//!
+//! | Code | Words of | Least distance | Radius |
+//! |---|---|---|---|
+//! | `Rs<36, 20>` | the header | 17 | 8 |
+//! | `Rs<24, 12>` | the link control | 13 | 6 |
+//! | `Rs<24, 16>` | the encryption sync | 9 | 4 |
+//!
+//! Distances count symbols: two words of a code differ in at least N - K + 1 of them, and (N - K) / 2 wrong ones are
+//! corrected, whatever stands in them.
+//!
+//! ```text
+//! use p25_code::{BlockCode, Reading};
+//! use p25_gf64::Sym;
+//! use p25_reed_solomon::Rs;
+//!
+//! type LinkControl = Rs<24, 12>;
+//!
+//! let sent = [Sym::default(); 24]; // the word of the information 0
+//! let mut word = sent;
+//! word[..6].fill(Sym::ONE);
+//! assert_eq!(LinkControl::read(&mut word), Reading::Found { fixes: 6 });
+//! assert_eq!(word, sent);
+//! ```
+//!
+//! The encoder divides by the generator polynomial. The reader is that of the textbooks (Peterson, Gorenstein and
+//! Zierler): the syndromes of what was received, a locator that vanishes at the wrong places, and the values there by a
+//! linear system; it answers only once the values explain all of the syndromes. A word without wrong symbols is done
+//! after its syndromes. No call takes memory or fails.
 #![tactic(auto)]
 
 mod code;
@@ -7,5 +40,7 @@ mod errors;
 mod locator;
 mod reader;
 mod syndromes;
+#[cfg(test)]
+mod tests;
 
 pub use code::Rs;

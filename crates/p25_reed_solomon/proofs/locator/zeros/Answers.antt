@@ -1,4 +1,4 @@
-use Rattle.std.proofs.Common.{◌≡◌, ◌≢◌, ◌+◌, ◌<◌, ◌≤◌, ℕ, List, length, ap, sym, ◌∙◌, subst, arith}
+use Rattle.std.proofs.Common.{◌+◌, ℕ, List, ap, sym, ◌∙◌, subst, arith}
 use Rattle.std.proofs.lemmas.Bool.{iff_false}
 use Rattle.p25_reed_solomon.specs.Errors.{AreZeros}
 use Rattle.p25_reed_solomon.proofs.PlaceFacts.{AreZeros-few, AreZeros-none, AreZeros-push, AreZeros-skip}

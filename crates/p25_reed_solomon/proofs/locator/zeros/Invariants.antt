@@ -1,4 +1,3 @@
-use Rattle.std.proofs.Common.{◌≤◌}
 use Rattle.p25_reed_solomon.specs.Errors.{AreZeros}
 use Rattle.p25_reed_solomon.proofs.locator.zeros.Given as goal
 

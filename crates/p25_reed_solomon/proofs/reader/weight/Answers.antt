@@ -1,8 +1,7 @@
-use Rattle.std.proofs.Common.{◌≡◌, ◌+◌, ◌<◌, ◌≤◌, length, sym, ◌∙◌, arith}
+use Rattle.std.proofs.Common.{sym, ◌∙◌, arith}
 use Rattle.std.proofs.lemmas.Bool.{iff_false}
 use Rattle.std.proofs.lemmas.List.{get_or_default}
 use Rattle.p25_gf64.specs.Gf64.{gf64}
-use Rattle.p25_algebra.specs.Sums.{nonzeros}
 use Rattle.p25_algebra.specs.Series.{coefficient}
 use Rattle.p25_reed_solomon.proofs.ErrorFacts.{nonzeros-none, nonzeros_some, nonzeros_skip}
 use Rattle.p25_reed_solomon.proofs.reader.weight.Goals as goal
