@@ -1,5 +1,5 @@
 -- The bits of a network identifier among those of a unit, and their distance from those sent.
-use Rattle.std.proofs.Common.{◌≡◌, ℕ, ◌+◌, ◌/◌, ◌%◌, ◌^◌, ◌<◌, ◌≤◌, Bool, List, ◌++◌, length, take, drop, bit_xor, ap, ap₂, sym, ◌∙◌, arith, length-append, length-drop, mod-eq_of_lt}
+use Rattle.std.proofs.Common.{◌≡◌, ℕ, ◌/◌, ◌^◌, ◌<◌, ◌≤◌, Bool, List, ◌++◌, length, take, drop, bit_xor, ap, ap₂, sym, ◌∙◌, arith, length-append, length-drop, mod-eq_of_lt}
 use Rattle.std.specs.Int.RustNames.{count_ones}
 use Rattle.std.proofs.lemmas.List.{length-take-le, take_at}
 use Rattle.std.proofs.lemmas.Nat.{xor_shr}
@@ -8,7 +8,7 @@ use Rattle.p25_bits.specs.Distance.{distance_of}
 use Rattle.p25_bits.proofs.BitsLaws.{bits_of-add, length-bits_of, field_of-bits_of}
 use Rattle.p25_code.specs.Words.{IsEncoding}
 use Rattle.p25_bch_nid.specs.Bch63.{IsBch63}
-use Rattle.p25_bch_nid.specs.Bch63Laws.{encoded, IsEncoding-encoded, one_word}
+use Rattle.p25_bch_nid.specs.Bch63Laws.{IsEncoding-encoded, one_word}
 use Rattle.p25_status.proofs.SyncLaws.{ones-xor}
 use Rattle.p25_tool.specs.Items.{nid_bits, nid_word}
 

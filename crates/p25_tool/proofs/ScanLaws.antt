@@ -1,6 +1,6 @@
 -- Syncs and the window of 48 bits that moves over a recording.
-use Rattle.std.proofs.Common.{◌≡◌, ℕ, zero, suc, ◌+◌, ◌-◌, ◌*◌, ◌/◌, ◌%◌, ◌^◌, ◌<◌, ◌≤◌, inl, inr, Bool, true, false, ◌&&◌, cond, min, eqb, leb, ltb, List, [], ◌∷◌, ◌++◌, length, get_or, take, drop, refl, ap, ap₂, sym, ◌∙◌, subst, arith, length-drop, length-take}
-use Rattle.std.proofs.lemmas.Bool.{cases_Bool, and_left, and_from, and_right, lt-leb, le-leb, leb-true, cond-true, cond-false, false_from_ne_true}
+use Rattle.std.proofs.Common.{◌≡◌, ℕ, suc, ◌+◌, ◌*◌, ◌%◌, ◌^◌, ◌<◌, ◌≤◌, Bool, true, false, ◌&&◌, leb, List, [], ◌∷◌, length, get_or, take, drop, refl, ap, ap₂, sym, ◌∙◌, subst, arith, length-drop}
+use Rattle.std.proofs.lemmas.Bool.{and_left, and_from, and_right, lt-leb, le-leb, leb-true, cond-true, cond-false, false_from_ne_true}
 use Rattle.std.proofs.lemmas.List.{drop_more, length-take-le}
 use Rattle.std.proofs.lemmas.Nat.{mod_low}
 use Rattle.p25_bits.specs.Bits.{digit_of, bits_of, field_of, part}

@@ -1,11 +1,10 @@
 -- The items of a recording: what stands at each of its places.
-use Rattle.std.specs.Prelude.{◌≡◌, ℕ, zero, suc, ◌+◌, ◌<◌, ◌≤◌, Bool, true, false, ◌&&◌, cond, min, nat_lt, nat_le, nat_eq, List, [], ◌∷◌, ◌++◌, Option, Some, None, length, take, drop}
+use Rattle.std.specs.Prelude.{ℕ, zero, suc, ◌+◌, Bool, ◌&&◌, cond, min, nat_lt, nat_le, nat_eq, List, [], ◌∷◌, ◌++◌, Option, Some, None, length, take, drop}
 use Rattle.p25_bits.specs.Bits.{bits_of, field_of, part}
 use Rattle.p25_bits.specs.Distance.{distance_of}
 use Rattle.p25_bch_nid.specs.NidReading.{nid_reading_of}
 use Rattle.p25_bch_nid.specs.Bch63Laws.{encoded}
 use Rattle.p25_status.specs.Sync.{sync_bits}
-use Rattle.p25_tool.specs.declared.item.Field.{Field}
 use Rattle.p25_tool.specs.declared.item.Field.TheVariants.{Nid, Duid}
 use Rattle.p25_tool.specs.declared.item.Frame.{Frame}
 use Rattle.p25_tool.specs.declared.item.Item.{Item}

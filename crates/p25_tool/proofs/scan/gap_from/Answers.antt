@@ -1,11 +1,10 @@
-use Rattle.std.proofs.Common.{◌≡◌, ℕ, suc, ◌+◌, ◌-◌, ◌*◌, ◌<◌, ◌≤◌, ◌^◌, ◌%◌, min, Bool, List, false, length, get_or, drop, ap, ap₂, sym, ◌∙◌, subst, arith, length-drop}
-use Rattle.std.proofs.lemmas.List.{drop-drop}
+use Rattle.std.proofs.Common.{◌≡◌, ℕ, suc, ◌+◌, ◌-◌, ◌*◌, ◌<◌, ◌≤◌, ◌^◌, ◌%◌, min, Bool, List, false, length, drop, ap, ap₂, sym, ◌∙◌, subst, arith, length-drop}
 use Rattle.std.proofs.lemmas.Bool.{iff_false}
 use Rattle.p25_bits.specs.Distance.{distance_of}
 use Rattle.p25_bits.specs.Bits.{bits_of, digit_of, field_of, octet_bits, part}
 use Rattle.p25_bits.proofs.BitsLaws.{length-octet_bits}
 use Rattle.p25_status.specs.Sync.{sync_bits}
-use Rattle.p25_tool.specs.Items.{has_sync, sync_place}
+use Rattle.p25_tool.specs.Items.{sync_place}
 use Rattle.p25_tool.proofs.ScanLaws.{window_bits, has_sync-yes, has_sync-no, sync_place-short, sync_place-yes, sync_place-no, window_more}
 use Rattle.p25_tool.proofs.scan.gap_from.Goals as goal
 

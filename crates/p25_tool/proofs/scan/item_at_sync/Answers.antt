@@ -1,5 +1,5 @@
-use Rattle.std.proofs.Common.{◌≡◌, ℕ, ◌+◌, ◌-◌, ◌*◌, ◌<◌, ◌≤◌, Bool, List, Option, Some, None, length, ◌++◌, take, drop, ap, ap₂, sym, ◌∙◌, arith, length-drop}
-use Rattle.p25_bits.specs.Bits.{bits_of, field_of, octet_bits, part}
+use Rattle.std.proofs.Common.{◌≡◌, ℕ, ◌-◌, ◌*◌, ◌<◌, ◌≤◌, Bool, List, Option, Some, None, length, ◌++◌, take, drop, ap, ap₂, sym, ◌∙◌, arith, length-drop}
+use Rattle.p25_bits.specs.Bits.{bits_of, field_of, octet_bits}
 use Rattle.p25_bits.proofs.BitsLaws.{length-octet_bits, bits_of-field_of}
 use Rattle.p25_bits.proofs.Lists.{part-take}
 use Rattle.p25_bch_nid.specs.NidReading.{nid_reading_of}
