@@ -43,30 +43,45 @@ fn text_of(line: &[u8]) -> [u8; 32] {
     text
 }
 
-// Zeros; how the call ends, how many lines it writes, and how many octets.
-const SIZES: [(usize, Outcome, u64, u64); 2] = [
-    (16_777_216, Outcome::Done, 32_768, 857_603),
-    (16_777_217, Outcome::TooLong, 0, 0),
+// How many zeros the input has; how the call ends, how many lines and octets it writes, and the first and the last line.
+const SIZES: [(usize, Outcome, u64, u64, &[u8], &[u8]); 2] = [
+    (
+        16_777_216,
+        Outcome::Done,
+        32_768,
+        857_603,
+        b"gap at=0 bits=4096\n",
+        b"gap at=134213632 bits=4096\n",
+    ),
+    (16_777_217, Outcome::TooLong, 0, 0, b"", b""),
 ];
 
 #[test]
 fn the_largest_input_and_one_octet_more(rt: HostRuntime) -> Result<(), Fail> {
-    for (size, want, lines, octets) in SIZES {
+    for (size, want, lines, octets, first, last) in SIZES {
         let recording = vec![in rt.alloc(); 0; size]?;
-        let mut source = SteadySource::new(&recording, 4_096);
-        let mut sink = LineCounter {
-            lines: 0,
-            octets: 0,
-            first: [0; 32],
-            last: [0; 32],
-        };
-        let outcome = run(rt.alloc(), &words_of(&[b"show"]), &mut source, &mut sink);
-        assert_eq!(rt; outcome, want, "{size} octets");
-        assert_eq!(rt; sink.lines, lines, "{size} octets");
-        assert_eq!(rt; sink.octets, octets, "{size} octets");
-        if lines > 0 {
-            assert_eq!(rt; sink.first, text_of(b"gap at=0 bits=4096\n"));
-            assert_eq!(rt; sink.last, text_of(b"gap at=134213632 bits=4096\n"));
+        for piece in [1, 7, size] {
+            let mut source = SteadySource::new(&recording, piece.max(1));
+            let mut sink = LineCounter {
+                lines: 0,
+                octets: 0,
+                first: [0; 32],
+                last: [0; 32],
+            };
+            let outcome = run(rt.alloc(), &words_of(&[b"show"]), &mut source, &mut sink);
+            assert_eq!(rt; outcome, want, "{size} octets in pieces of {piece}");
+            assert_eq!(rt; sink.lines, lines, "{size} octets in pieces of {piece}");
+            assert_eq!(rt; sink.octets, octets, "{size} octets in pieces of {piece}");
+            assert_eq!(rt;
+                sink.first,
+                text_of(first),
+                "{size} octets in pieces of {piece}"
+            );
+            assert_eq!(rt;
+                sink.last,
+                text_of(last),
+                "{size} octets in pieces of {piece}"
+            );
         }
     }
     Ok(())

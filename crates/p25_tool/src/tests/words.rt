@@ -5,7 +5,7 @@ ghost use Rattle.std.specs.Prelude.{◌≡◌, [], ◌∷◌, codes};
 use super::words_of;
 use crate::command::Command;
 use crate::line::Line;
-use crate::{Outcome, Words, outcome_status, outcome_text};
+use crate::{Outcome, Words, item_laws, outcome_status, outcome_text};
 
 // A word of 17 octets keeps its first 16, and a fifth word is ignored.
 fn long_words() -> Words
@@ -44,4 +44,18 @@ fn outcomes_have_these_lines_and_statuses(rt: HostRuntime) {
         assert_eq!(rt; line.octets(), text, "{outcome:?}");
         assert_eq!(rt; outcome_status(&outcome), status, "{outcome:?}");
     }
+}
+
+#[test]
+#[tactic(auto, using(crate::proofs::Decimals::decimal_short))]
+fn a_line_takes_texts_and_numbers(rt: HostRuntime) {
+    item_laws();
+    let mut line = Line::new();
+    line.put(b"at=");
+    line.put_number(134_217_728);
+    line.put(b" ");
+    line.put_hex(&[0x00, 0x0F, 0xA9]);
+    assert_eq!(rt; line.octets(), b"at=134217728 000fa9".as_slice());
+    line.clear();
+    assert_eq!(rt; line.octets().len(), 0);
 }
