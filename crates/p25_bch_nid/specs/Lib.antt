@@ -1,2 +1,6 @@
 pub mod Nid
 pub mod ExactReading
+pub mod BitPolynomials
+pub mod Bch63
+pub mod RemainderValues
+pub mod Bch63Forms

@@ -2,9 +2,11 @@
 //! code (NAC) and a 4-bit data unit identifier (DUID), protected by the BCH code (63,16) and followed by one bit P.
 #![tactic(auto)]
 
+mod laws;
 mod nid;
 mod word;
 
+pub use laws::two_forms;
 pub use nid::Nid;
 pub use word::{exact_nid, nid_bits};
 

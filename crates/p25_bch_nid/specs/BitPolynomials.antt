@@ -1,0 +1,137 @@
+-- Polynomials whose coefficients are bits: their values in a field of characteristic 2.
+use Rattle.std.specs.Prelude.{◌≡◌, ◌≢◌, ℕ, zero, suc, ◌+◌, ◌-◌, ◌<◌, ◌≤◌, Bool, true, false, List, [], ◌∷◌, ◌++◌, length, map, refl}
+use Rattle.std.proofs.Common.{ap, ap₂, sym, ◌∙◌, arith, length-append}
+use Rattle.p25_bits.proofs.BitsLaws.{field_of-nil, field_of-cons}
+use Rattle.p25_bits.specs.Bits.{field_of}
+use Rattle.p25_code.proofs.Weights.{sum_of_words, length-sum_of_words}
+use Rattle.p25_gf64.specs.Field.{Field, power}
+use Rattle.p25_gf64.proofs.FieldFacts.{add_comm, add_assoc, add_left_comm, add_zero, zero_add, add_self, add_twice, add_swap, mul_comm, mul_assoc, mul_left_comm, mul_one, one_mul, mul_add, add_mul, mul_zero, zero_mul}
+use Rattle.p25_gf64.proofs.Powers.{power-zero, power-suc, power-add, power_of_mul}
+use Rattle.p25_algebra.specs.Sums.{sum_below, AreApart}
+use Rattle.p25_algebra.specs.Series.{coefficient, value_at}
+use Rattle.p25_algebra.proofs.SumFacts.{sum-none, sum_first, sum_same, sum_reverse}
+use Rattle.p25_algebra.proofs.Values.{few_zeros}
+
+-- a bit as a coefficient
+abbrev pub coefficient_of : {F : Type 0} → Field F → Bool → F
+coefficient_of K true = K.one
+coefficient_of K false = K.zero
+
+-- the value at x of the polynomial whose coefficients are the bits, the first the highest
+unfoldable pub value_of : {F : Type 0} → Field F → F → List Bool → F
+value_of K x [] = K.zero
+value_of K x (bit ∷ bits) = K.add (K.mul (coefficient_of K bit) (power K x (length bits))) (value_of K x bits)
+
+module _ {F : Type 0} (K : Field F) where
+  open K use {zero as 𝟘, one as 𝟙, add as ◌⊕◌, mul as ◌⊗◌}
+
+  infixl 65 ◌⊕◌
+  infixl 70 ◌⊗◌
+  pub value_of-nil : (x : F) → value_of K x [] ≡ 𝟘
+  unfolding value_of
+  value_of-nil x = refl
+
+  pub value_of-cons : (x : F) (bit : Bool) (bits : List Bool) → value_of K x (bit ∷ bits) ≡ coefficient_of K bit ⊗ power K x (length bits) ⊕ value_of K x bits
+  unfolding value_of
+  value_of-cons x bit bits = refl
+
+  -- the value of two runs of coefficients, the higher first
+  pub value_of-append : (x : F) (high low : List Bool) → value_of K x (high ++ low) ≡ value_of K x high ⊗ power K x (length low) ⊕ value_of K x low
+  unfolding value_of
+  value_of-append x [] low = sym (ap (λ w. w ⊕ value_of K x low) (zero_mul K (power K x (length low))) ∙ zero_add K (value_of K x low))
+  value_of-append x (bit ∷ high) low =
+      ap₂ (λ p v. coefficient_of K bit ⊗ p ⊕ v) (ap (power K x) (length-append high low) ∙ power-add K x (length high) (length low)) (value_of-append x high low)
+      ∙ regroup (coefficient_of K bit) (power K x (length high)) (value_of K x high) (power K x (length low)) (value_of K x low)
+    where
+      regroup : (d p v q w : F) → d ⊗ (p ⊗ q) ⊕ (v ⊗ q ⊕ w) ≡ (d ⊗ p ⊕ v) ⊗ q ⊕ w
+      regroup d p v q w = simp (add_mul K, mul_assoc K, add_assoc K)
+
+  -- one more place before two sums of which the rest is known
+  sum_first_places : (x : F) (a b : List Bool) (e d c : Bool) → length a ≡ length b → coefficient_of K e ≡ coefficient_of K d ⊕ coefficient_of K c → value_of K x (sum_of_words a b) ≡ value_of K x a ⊕ value_of K x b → value_of K x (e ∷ sum_of_words a b) ≡ value_of K x (d ∷ a) ⊕ value_of K x (c ∷ b)
+  unfolding value_of
+  sum_first_places x a b e d c long digit rest =
+      let p = power K x (length a) in
+      ap₂ (λ n v. coefficient_of K e ⊗ power K x n ⊕ v) (length-sum_of_words a b long) rest
+      ∙ ap (λ w. w ⊗ p ⊕ (value_of K x a ⊕ value_of K x b)) digit
+      ∙ ap (λ w. w ⊕ (value_of K x a ⊕ value_of K x b)) (add_mul K (coefficient_of K d) (coefficient_of K c) p)
+      ∙ add_swap K (coefficient_of K d ⊗ p) (coefficient_of K c ⊗ p) (value_of K x a) (value_of K x b)
+      ∙ ap (λ n. coefficient_of K d ⊗ p ⊕ value_of K x a ⊕ (coefficient_of K c ⊗ power K x n ⊕ value_of K x b)) long
+
+  -- the value of a sum is the sum of the values
+  pub value_of-sum : (x : F) (a b : List Bool) → length a ≡ length b → value_of K x (sum_of_words a b) ≡ value_of K x a ⊕ value_of K x b
+  unfolding value_of sum_of_words
+  value_of-sum x [] [] long = sym (add_zero K 𝟘)
+  value_of-sum x [] (c ∷ b) long = absurd (omega arith)
+  value_of-sum x (d ∷ a) [] long = absurd (omega arith)
+  value_of-sum x (true ∷ a) (true ∷ b) long = sum_first_places x a b false true true (omega arith) (sym (add_self K 𝟙)) (value_of-sum x a b (omega arith))
+  value_of-sum x (true ∷ a) (false ∷ b) long = sum_first_places x a b true true false (omega arith) (sym (add_zero K 𝟙)) (value_of-sum x a b (omega arith))
+  value_of-sum x (false ∷ a) (true ∷ b) long = sum_first_places x a b true false true (omega arith) (sym (zero_add K 𝟙)) (value_of-sum x a b (omega arith))
+  value_of-sum x (false ∷ a) (false ∷ b) long = sum_first_places x a b false false false (omega arith) (sym (add_zero K 𝟘)) (value_of-sum x a b (omega arith))
+
+  -- in characteristic 2 the square of a sum is the sum of the squares
+  square_of_sum : (a b : F) → (a ⊕ b) ⊗ (a ⊕ b) ≡ a ⊗ a ⊕ b ⊗ b
+  square_of_sum a b =
+      add_mul K a b (a ⊕ b)
+      ∙ ap₂ ◌⊕◌ (mul_add K a a b) (mul_add K b a b ∙ ap (λ w. w ⊕ b ⊗ b) (mul_comm K b a))
+      ∙ add_assoc K (a ⊗ a) (a ⊗ b) (a ⊗ b ⊕ b ⊗ b)
+      ∙ ap (λ w. a ⊗ a ⊕ w) (add_twice K (a ⊗ b) (b ⊗ b))
+
+  -- a bit is its own square
+  coefficient_square : (bit : Bool) → coefficient_of K bit ⊗ coefficient_of K bit ≡ coefficient_of K bit
+  coefficient_square true = mul_one K 𝟙
+  coefficient_square false = zero_mul K 𝟘
+
+  -- the value at a square is the square of the value
+  pub value_of-square : (x : F) (bits : List Bool) → value_of K (x ⊗ x) bits ≡ value_of K x bits ⊗ value_of K x bits
+  unfolding value_of
+  value_of-square x [] = sym (zero_mul K 𝟘)
+  value_of-square x (bit ∷ bits) =
+      let p = power K x (length bits) in
+      ap₂ (λ q v. coefficient_of K bit ⊗ q ⊕ v) (power_of_mul K x x (length bits)) (value_of-square x bits)
+      ∙ ap (λ q. q ⊕ value_of K x bits ⊗ value_of K x bits) (term (coefficient_of K bit) p (coefficient_square bit))
+      ∙ sym (square_of_sum (coefficient_of K bit ⊗ p) (value_of K x bits))
+    where
+      term : (d p : F) → d ⊗ d ≡ d → d ⊗ (p ⊗ p) ≡ d ⊗ p ⊗ (d ⊗ p)
+      term d p e = ap (λ w. w ⊗ (p ⊗ p)) (sym e) ∙ apart d p
+        where
+          apart : (d p : F) → d ⊗ d ⊗ (p ⊗ p) ≡ d ⊗ p ⊗ (d ⊗ p)
+          apart d p = simp (mul_assoc K, mul_left_comm K)
+
+  -- the value as a sum over the places
+  pub value_of-places : (x : F) (bits : List Bool) → sum_below K (length bits) (λ j. coefficient K (map (coefficient_of K) bits) j ⊗ power K x (length bits - 1 - j)) ≡ value_of K x bits
+  unfolding value_of
+  value_of-places x [] = sum-none K (λ j. coefficient K [] j ⊗ power K x (0 - 1 - j))
+  value_of-places x (bit ∷ bits) =
+      let n = length bits in
+      sum_first K n (λ j. coefficient K (map (coefficient_of K) (bit ∷ bits)) j ⊗ power K x (suc n - 1 - j))
+      ∙ ap₂ (λ m w. coefficient_of K bit ⊗ power K x m ⊕ w) (whole n)
+      (sum_same K n (λ j. coefficient K (map (coefficient_of K) bits) j ⊗ power K x (suc n - 1 - suc j)) (λ j. coefficient K (map (coefficient_of K) bits) j ⊗ power K x (n - 1 - j)) (λ j h. ap (λ m. coefficient K (map (coefficient_of K) bits) j ⊗ power K x m) (less n j))
+      ∙ value_of-places x bits)
+    where
+      whole : (n : ℕ) → suc n - 1 - 0 ≡ n
+      whole n = omega arith
+
+      less : (n i : ℕ) → suc n - 1 - suc i ≡ n - 1 - i
+      less n i = omega arith
+
+  -- where the value is zero at as many different elements as there are bits, each bit is 0
+  pub no_coefficient : (bits : List Bool) (z : ℕ → F) → AreApart (length bits) z → ((j : ℕ) → j < length bits → value_of K (z j) bits ≡ 𝟘) → field_of bits ≡ 0
+  no_coefficient bits z apart zeros =
+      let n = length bits in
+      let f : ℕ → F = λ i. coefficient K (map (coefficient_of K) bits) (n - 1 - i) in
+      let few = few_zeros K n n f z (omega arith) apart (λ j h. sym (reversed (z j)) ∙ value_of-places (z j) bits ∙ zeros j h) in
+      all_zero bits (λ j h. ap (coefficient K (map (coefficient_of K) bits)) (back n j h) ∙ few (n - 1 - j) (omega arith))
+    where
+      back : (n j : ℕ) → j < n → j ≡ n - 1 - (n - 1 - j)
+      back n j h = omega arith
+
+      reversed : (x : F) → sum_below K (length bits) (λ j. coefficient K (map (coefficient_of K) bits) j ⊗ power K x (length bits - 1 - j)) ≡ value_at K (length bits) (λ i. coefficient K (map (coefficient_of K) bits) (length bits - 1 - i)) x
+      reversed x =
+          sym (sum_reverse K (length bits) (λ j. coefficient K (map (coefficient_of K) bits) j ⊗ power K x (length bits - 1 - j)))
+          ∙ sum_same K (length bits) (λ i. coefficient K (map (coefficient_of K) bits) (length bits - 1 - i) ⊗ power K x (length bits - 1 - (length bits - 1 - i))) (λ i. coefficient K (map (coefficient_of K) bits) (length bits - 1 - i) ⊗ power K x i)
+          (λ i h. ap (λ m. coefficient K (map (coefficient_of K) bits) (length bits - 1 - i) ⊗ power K x m) (sym (back (length bits) i h)))
+
+      all_zero : (bits : List Bool) → ((j : ℕ) → j < length bits → coefficient K (map (coefficient_of K) bits) j ≡ 𝟘) → field_of bits ≡ 0
+      all_zero [] none = field_of-nil
+      all_zero (true ∷ bits) none = absurd (K.laws.one_ne_zero (none 0 (omega arith)))
+      all_zero (false ∷ bits) none = omega (arith, field_of-cons false bits, all_zero bits (λ j h. none (suc j) (omega arith)))
