@@ -1,1 +1,5 @@
 pub mod NidLaws
+pub mod Maps
+pub mod SymbolReadings
+pub mod Readings
+pub mod NidWords

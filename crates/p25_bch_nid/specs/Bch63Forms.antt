@@ -9,7 +9,7 @@ use Rattle.p25_bits.proofs.BitsLaws.{length-bits_of, field_of-bits_of}
 use Rattle.p25_code.specs.Binary.{syndrome_of}
 use Rattle.p25_code.proofs.Remainders.{remainders, IsRemainder-word, remainders-divisible, divisible-remainders}
 use Rattle.p25_gf64.specs.Field.{power}
-use Rattle.p25_gf64.specs.Product.{product, product_by, product_power, shifted}
+use Rattle.p25_gf64.specs.Product.{product, product_by, product_power, times_x}
 use Rattle.p25_gf64.specs.ProductLaws.{all_below, all_below_at, all_pairs_below, all_pairs_below_at}
 use Rattle.p25_gf64.specs.Symbol.{number, alpha}
 use Rattle.p25_gf64.specs.Gf64.{gf64}
@@ -21,9 +21,10 @@ use Rattle.p25_algebra.specs.Sums.{sum_below, AreApart}
 use Rattle.p25_algebra.specs.Series.{coefficient}
 use Rattle.p25_algebra.proofs.SumFacts.{sum_same}
 use Rattle.p25_bch_nid.specs.Nid.{generator}
-use Rattle.p25_bch_nid.specs.BitPolynomials.{coefficient_of, value_of, value_of-nil, value_of-cons, value_of-square, value_of-places, no_coefficient}
+use Rattle.p25_bch_nid.specs.BitPolynomials.{coefficient_of, bit_value, bit_value-nil, bit_value-cons, bit_value-square, bit_value-places, no_coefficient}
 use Rattle.p25_bch_nid.specs.RemainderValues.{number_value, number_value-zero, word_value}
-use Rattle.p25_bch_nid.specs.Bch63.{IsBch63, check_sum, symbols_of}
+use Rattle.p25_reed_solomon.specs.Words.{value_of}
+use Rattle.p25_bch_nid.specs.Bch63.{IsBch63, symbols_of}
 
 -- the generator has degree 47
 pub generator_degree : HasDegree generator 47
@@ -35,12 +36,12 @@ some = lit< tt
 -- ---- sums over places are values
 
 -- the sum over the places is the value of the word's polynomial at α^i
-pub check_sum-value : (word : List Bool) (n i : ℕ) → length word ≡ n → check_sum n (symbols_of word) i ≡ value_of gf64 (power gf64 alpha i) word
-check_sum-value word n i long =
-    subst (λ m. check_sum m (symbols_of word) i ≡ value_of gf64 (power gf64 alpha i) word) long
+pub value_of-symbols : (word : List Bool) (n i : ℕ) → length word ≡ n → value_of n (symbols_of word) i ≡ bit_value gf64 (power gf64 alpha i) word
+value_of-symbols word n i long =
+    subst (λ m. value_of m (symbols_of word) i ≡ bit_value gf64 (power gf64 alpha i) word) long
     (sum_same gf64 (length word) (λ j. gf64.mul (coefficient gf64 (symbols_of word) j) (power gf64 alpha (i * (length word - 1 - j)))) (λ j. gf64.mul (coefficient gf64 (symbols_of word) j) (power gf64 (power gf64 alpha i) (length word - 1 - j)))
     (λ j h. ap (gf64.mul (coefficient gf64 (symbols_of word) j)) (power-mul gf64 alpha i (length word - 1 - j)))
-    ∙ value_of-places gf64 (power gf64 alpha i) word)
+    ∙ bit_value-places gf64 (power gf64 alpha i) word)
 
 -- ---- the generator is zero at α^1 to α^22
 
@@ -54,17 +55,17 @@ digit_number true = number_one
 digit_number false = number_zero
 
 -- it is the value, after what stands before
-horner-value : (x high : Sym) (bits : List Bool) → horner (number x) (number high) bits ≡ number (gf64.add (gf64.mul high (power gf64 x (length bits))) (value_of gf64 x bits))
+horner-value : (x high : Sym) (bits : List Bool) → horner (number x) (number high) bits ≡ number (gf64.add (gf64.mul high (power gf64 x (length bits))) (bit_value gf64 x bits))
 unfolding horner
 horner-value x high [] =
-    ap number (sym (ap₂ gf64.add (ap (gf64.mul high) (power-zero gf64 x) ∙ mul_one gf64 high) (value_of-nil gf64 x) ∙ add_zero gf64 high))
+    ap number (sym (ap₂ gf64.add (ap (gf64.mul high) (power-zero gf64 x) ∙ mul_one gf64 high) (bit_value-nil gf64 x) ∙ add_zero gf64 high))
 horner-value x high (bit ∷ bits) =
     let c = coefficient_of gf64 bit in
     let next = gf64.add (gf64.mul x high) c in
     let e : bit_xor (product (number x) (number high)) (digit_of bit) ≡ number next = sym (number-add (gf64.mul x high) c ∙ ap₂ bit_xor (number-mul x high) (digit_number bit)) in
     ap (λ n. horner (number x) n bits) e
     ∙ horner-value x next bits
-    ∙ ap number (regroup x high c (power gf64 x (length bits)) (value_of gf64 x bits) ∙ sym (ap₂ (λ p v. gf64.add (gf64.mul high p) v) (power-suc gf64 x (length bits)) (value_of-cons gf64 x bit bits)))
+    ∙ ap number (regroup x high c (power gf64 x (length bits)) (bit_value gf64 x bits) ∙ sym (ap₂ (λ p v. gf64.add (gf64.mul high p) v) (power-suc gf64 x (length bits)) (bit_value-cons gf64 x bit bits)))
   where
     regroup : (x h c p v : Sym) → gf64.add (gf64.mul (gf64.add (gf64.mul x h) c) p) v ≡ gf64.add (gf64.mul h (gf64.mul x p)) (gf64.add (gf64.mul c p) v)
     regroup x h c p v =
@@ -72,7 +73,7 @@ horner-value x high (bit ∷ bits) =
         ∙ add_assoc gf64 (gf64.mul h (gf64.mul x p)) (gf64.mul c p) v
 
 roots_computed : all_below 22 (λ i. horner (product_power 2 (suc i)) 0 (bits_of 48 generator) == 0) ≡ true
-unfolding all_below horner product product_by product_power shifted bits_of
+unfolding all_below horner product product_by product_power times_x bits_of
 roots_computed = refl
 
 generator_root : (i : ℕ) → 1 ≤ i → i ≤ 22 → number_value gf64 (power gf64 alpha i) 48 generator ≡ gf64.zero
@@ -81,14 +82,14 @@ generator_root (suc i) low high =
     let x = power gf64 alpha (suc i) in
     let bits = bits_of 48 generator in
     let none = eqb-true _ _ (all_below_at 22 (λ i. horner (product_power 2 (suc i)) 0 (bits_of 48 generator) == 0) roots_computed i (omega arith)) in
-    zero_from_number (value_of gf64 x bits)
-    (ap number (sym (ap (λ w. gf64.add w (value_of gf64 x bits)) (zero_mul gf64 (power gf64 x (length bits))) ∙ zero_add gf64 (value_of gf64 x bits)))
+    zero_from_number (bit_value gf64 x bits)
+    (ap number (sym (ap (λ w. gf64.add w (bit_value gf64 x bits)) (zero_mul gf64 (power gf64 x (length bits))) ∙ zero_add gf64 (bit_value gf64 x bits)))
     ∙ sym (horner-value x gf64.zero bits)
     ∙ ap₂ (λ a b. horner a b bits) (number-power alpha (suc i) ∙ ap (λ a. product_power a (suc i)) number_alpha) number_zero
     ∙ none)
 
 -- at these the remainder of a word has the value of the word
-remainder_value : (word : List Bool) (i : ℕ) → 1 ≤ i → i ≤ 22 → number_value gf64 (power gf64 alpha i) 47 (syndrome_of (remainders generator 47 (length word)) word) ≡ value_of gf64 (power gf64 alpha i) word
+remainder_value : (word : List Bool) (i : ℕ) → 1 ≤ i → i ≤ 22 → number_value gf64 (power gf64 alpha i) 47 (syndrome_of (remainders generator 47 (length word)) word) ≡ bit_value gf64 (power gf64 alpha i) word
 remainder_value word i low high = word_value gf64 (power gf64 alpha i) generator 47 generator_degree some (generator_root i low high) word
 
 -- ---- a remainder that is zero at α^1 to α^22 is 0
@@ -139,20 +140,20 @@ zeros_apart = record { apart = apart }
           | inr same ↦ eqb-true _ _ same
         ]
 
-module _ (bits : List Bool) (zeros : (i : ℕ) → 1 ≤ i → i ≤ 22 → value_of gf64 (power gf64 alpha i) bits ≡ gf64.zero) where
+module _ (bits : List Bool) (zeros : (i : ℕ) → 1 ≤ i → i ≤ 22 → bit_value gf64 (power gf64 alpha i) bits ≡ gf64.zero) where
   -- with an exponent its double is one of a zero
-  doubled : (e : ℕ) → value_of gf64 (power gf64 alpha e) bits ≡ gf64.zero → value_of gf64 (power gf64 alpha (2 * e % 63)) bits ≡ gf64.zero
+  doubled : (e : ℕ) → bit_value gf64 (power gf64 alpha e) bits ≡ gf64.zero → bit_value gf64 (power gf64 alpha (2 * e % 63)) bits ≡ gf64.zero
   doubled e none =
       let twice : 2 * e ≡ e + e = omega arith in
       let square : power gf64 alpha (2 * e % 63) ≡ gf64.mul (power gf64 alpha e) (power gf64 alpha e)
       = sym (power-mod gf64 alpha 63 (2 * e) alpha_to_63 (omega arith)) ∙ ap (power gf64 alpha) twice ∙ power-add gf64 alpha e e in
-      ap (λ x. value_of gf64 x bits) square
-      ∙ value_of-square gf64 (power gf64 alpha e) bits
-      ∙ ap (λ v. gf64.mul v (value_of gf64 (power gf64 alpha e) bits)) none
-      ∙ zero_mul gf64 (value_of gf64 (power gf64 alpha e) bits)
+      ap (λ x. bit_value gf64 x bits) square
+      ∙ bit_value-square gf64 (power gf64 alpha e) bits
+      ∙ ap (λ v. gf64.mul v (bit_value gf64 (power gf64 alpha e) bits)) none
+      ∙ zero_mul gf64 (bit_value gf64 (power gf64 alpha e) bits)
 
   -- so each of the table is one
-  each_zero : (j : ℕ) → j < 47 → value_of gf64 (power gf64 alpha (exponent j)) bits ≡ gf64.zero
+  each_zero : (j : ℕ) → j < 47 → bit_value gf64 (power gf64 alpha (exponent j)) bits ≡ gf64.zero
   unfolding is_next exponent exponents
   each_zero zero h = zeros 1 (omega arith) (omega arith)
   each_zero (suc j) h =
@@ -160,7 +161,7 @@ module _ (bits : List Bool) (zeros : (i : ℕ) → 1 ≤ i → i ≤ 22 → valu
         | inl given ↦
             let parts = and_parts (leb 1 (exponent (suc j))) (leb (exponent (suc j)) 22) given in
             zeros (exponent (suc j)) (leb-true _ _ parts.0) (leb-true _ _ parts.1)
-        | inr next ↦ ap (λ e. value_of gf64 (power gf64 alpha e) bits) (eqb-true _ _ next) ∙ doubled (exponent j) (each_zero j (omega arith))
+        | inr next ↦ ap (λ e. bit_value gf64 (power gf64 alpha e) bits) (eqb-true _ _ next) ∙ doubled (exponent j) (each_zero j (omega arith))
       ]
 
   -- 47 bits with 47 zeros are all 0
@@ -175,8 +176,8 @@ pub to_divisible : (word : List Bool) → IsBch63 word → IsDivisible generator
 to_divisible word is =
     let r = syndrome_of (remainders generator 47 (length word)) word in
     let bits = bits_of 47 r in
-    let zeros : (i : ℕ) → 1 ≤ i → i ≤ 22 → value_of gf64 (power gf64 alpha i) bits ≡ gf64.zero
-    = λ i low high. remainder_value word i low high ∙ sym (check_sum-value word 63 i is.long) ∙ is.vanishes i low high in
+    let zeros : (i : ℕ) → 1 ≤ i → i ≤ 22 → bit_value gf64 (power gf64 alpha i) bits ≡ gf64.zero
+    = λ i low high. remainder_value word i low high ∙ sym (value_of-symbols word 63 i is.long) ∙ is.vanishes i low high in
     let low : r < 2 ^ 47 = (IsRemainder-word generator_degree some word).lower in
     divisible-remainders generator_degree some word (sym (mod-eq_of_lt low) ∙ sym (field_of-bits_of 47 r) ∙ only_zeros bits zeros (length-bits_of 47 r))
 
@@ -187,7 +188,7 @@ from_divisible word long divisible =
     record {
       long = long;
       vanishes = λ i low high.
-          check_sum-value word 63 i long
+          value_of-symbols word 63 i long
           ∙ sym (remainder_value word i low high)
           ∙ ap (number_value gf64 (power gf64 alpha i) 47) none
           ∙ number_value-zero gf64 (power gf64 alpha i) 47;

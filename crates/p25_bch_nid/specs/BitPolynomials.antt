@@ -18,55 +18,55 @@ coefficient_of K true = K.one
 coefficient_of K false = K.zero
 
 -- the value at x of the polynomial whose coefficients are the bits, the first the highest
-unfoldable pub value_of : {F : Type 0} → Field F → F → List Bool → F
-value_of K x [] = K.zero
-value_of K x (bit ∷ bits) = K.add (K.mul (coefficient_of K bit) (power K x (length bits))) (value_of K x bits)
+unfoldable pub bit_value : {F : Type 0} → Field F → F → List Bool → F
+bit_value K x [] = K.zero
+bit_value K x (bit ∷ bits) = K.add (K.mul (coefficient_of K bit) (power K x (length bits))) (bit_value K x bits)
 
 module _ {F : Type 0} (K : Field F) where
   open K use {zero as 𝟘, one as 𝟙, add as ◌⊕◌, mul as ◌⊗◌}
 
   infixl 65 ◌⊕◌
   infixl 70 ◌⊗◌
-  pub value_of-nil : (x : F) → value_of K x [] ≡ 𝟘
-  unfolding value_of
-  value_of-nil x = refl
+  pub bit_value-nil : (x : F) → bit_value K x [] ≡ 𝟘
+  unfolding bit_value
+  bit_value-nil x = refl
 
-  pub value_of-cons : (x : F) (bit : Bool) (bits : List Bool) → value_of K x (bit ∷ bits) ≡ coefficient_of K bit ⊗ power K x (length bits) ⊕ value_of K x bits
-  unfolding value_of
-  value_of-cons x bit bits = refl
+  pub bit_value-cons : (x : F) (bit : Bool) (bits : List Bool) → bit_value K x (bit ∷ bits) ≡ coefficient_of K bit ⊗ power K x (length bits) ⊕ bit_value K x bits
+  unfolding bit_value
+  bit_value-cons x bit bits = refl
 
   -- the value of two runs of coefficients, the higher first
-  pub value_of-append : (x : F) (high low : List Bool) → value_of K x (high ++ low) ≡ value_of K x high ⊗ power K x (length low) ⊕ value_of K x low
-  unfolding value_of
-  value_of-append x [] low = sym (ap (λ w. w ⊕ value_of K x low) (zero_mul K (power K x (length low))) ∙ zero_add K (value_of K x low))
-  value_of-append x (bit ∷ high) low =
-      ap₂ (λ p v. coefficient_of K bit ⊗ p ⊕ v) (ap (power K x) (length-append high low) ∙ power-add K x (length high) (length low)) (value_of-append x high low)
-      ∙ regroup (coefficient_of K bit) (power K x (length high)) (value_of K x high) (power K x (length low)) (value_of K x low)
+  pub bit_value-append : (x : F) (high low : List Bool) → bit_value K x (high ++ low) ≡ bit_value K x high ⊗ power K x (length low) ⊕ bit_value K x low
+  unfolding bit_value
+  bit_value-append x [] low = sym (ap (λ w. w ⊕ bit_value K x low) (zero_mul K (power K x (length low))) ∙ zero_add K (bit_value K x low))
+  bit_value-append x (bit ∷ high) low =
+      ap₂ (λ p v. coefficient_of K bit ⊗ p ⊕ v) (ap (power K x) (length-append high low) ∙ power-add K x (length high) (length low)) (bit_value-append x high low)
+      ∙ regroup (coefficient_of K bit) (power K x (length high)) (bit_value K x high) (power K x (length low)) (bit_value K x low)
     where
       regroup : (d p v q w : F) → d ⊗ (p ⊗ q) ⊕ (v ⊗ q ⊕ w) ≡ (d ⊗ p ⊕ v) ⊗ q ⊕ w
       regroup d p v q w = simp (add_mul K, mul_assoc K, add_assoc K)
 
   -- one more place before two sums of which the rest is known
-  sum_first_places : (x : F) (a b : List Bool) (e d c : Bool) → length a ≡ length b → coefficient_of K e ≡ coefficient_of K d ⊕ coefficient_of K c → value_of K x (sum_of_words a b) ≡ value_of K x a ⊕ value_of K x b → value_of K x (e ∷ sum_of_words a b) ≡ value_of K x (d ∷ a) ⊕ value_of K x (c ∷ b)
-  unfolding value_of
+  sum_first_places : (x : F) (a b : List Bool) (e d c : Bool) → length a ≡ length b → coefficient_of K e ≡ coefficient_of K d ⊕ coefficient_of K c → bit_value K x (sum_of_words a b) ≡ bit_value K x a ⊕ bit_value K x b → bit_value K x (e ∷ sum_of_words a b) ≡ bit_value K x (d ∷ a) ⊕ bit_value K x (c ∷ b)
+  unfolding bit_value
   sum_first_places x a b e d c long digit rest =
       let p = power K x (length a) in
       ap₂ (λ n v. coefficient_of K e ⊗ power K x n ⊕ v) (length-sum_of_words a b long) rest
-      ∙ ap (λ w. w ⊗ p ⊕ (value_of K x a ⊕ value_of K x b)) digit
-      ∙ ap (λ w. w ⊕ (value_of K x a ⊕ value_of K x b)) (add_mul K (coefficient_of K d) (coefficient_of K c) p)
-      ∙ add_swap K (coefficient_of K d ⊗ p) (coefficient_of K c ⊗ p) (value_of K x a) (value_of K x b)
-      ∙ ap (λ n. coefficient_of K d ⊗ p ⊕ value_of K x a ⊕ (coefficient_of K c ⊗ power K x n ⊕ value_of K x b)) long
+      ∙ ap (λ w. w ⊗ p ⊕ (bit_value K x a ⊕ bit_value K x b)) digit
+      ∙ ap (λ w. w ⊕ (bit_value K x a ⊕ bit_value K x b)) (add_mul K (coefficient_of K d) (coefficient_of K c) p)
+      ∙ add_swap K (coefficient_of K d ⊗ p) (coefficient_of K c ⊗ p) (bit_value K x a) (bit_value K x b)
+      ∙ ap (λ n. coefficient_of K d ⊗ p ⊕ bit_value K x a ⊕ (coefficient_of K c ⊗ power K x n ⊕ bit_value K x b)) long
 
   -- the value of a sum is the sum of the values
-  pub value_of-sum : (x : F) (a b : List Bool) → length a ≡ length b → value_of K x (sum_of_words a b) ≡ value_of K x a ⊕ value_of K x b
-  unfolding value_of sum_of_words
-  value_of-sum x [] [] long = sym (add_zero K 𝟘)
-  value_of-sum x [] (c ∷ b) long = absurd (omega arith)
-  value_of-sum x (d ∷ a) [] long = absurd (omega arith)
-  value_of-sum x (true ∷ a) (true ∷ b) long = sum_first_places x a b false true true (omega arith) (sym (add_self K 𝟙)) (value_of-sum x a b (omega arith))
-  value_of-sum x (true ∷ a) (false ∷ b) long = sum_first_places x a b true true false (omega arith) (sym (add_zero K 𝟙)) (value_of-sum x a b (omega arith))
-  value_of-sum x (false ∷ a) (true ∷ b) long = sum_first_places x a b true false true (omega arith) (sym (zero_add K 𝟙)) (value_of-sum x a b (omega arith))
-  value_of-sum x (false ∷ a) (false ∷ b) long = sum_first_places x a b false false false (omega arith) (sym (add_zero K 𝟘)) (value_of-sum x a b (omega arith))
+  pub bit_value-sum : (x : F) (a b : List Bool) → length a ≡ length b → bit_value K x (sum_of_words a b) ≡ bit_value K x a ⊕ bit_value K x b
+  unfolding bit_value sum_of_words
+  bit_value-sum x [] [] long = sym (add_zero K 𝟘)
+  bit_value-sum x [] (c ∷ b) long = absurd (omega arith)
+  bit_value-sum x (d ∷ a) [] long = absurd (omega arith)
+  bit_value-sum x (true ∷ a) (true ∷ b) long = sum_first_places x a b false true true (omega arith) (sym (add_self K 𝟙)) (bit_value-sum x a b (omega arith))
+  bit_value-sum x (true ∷ a) (false ∷ b) long = sum_first_places x a b true true false (omega arith) (sym (add_zero K 𝟙)) (bit_value-sum x a b (omega arith))
+  bit_value-sum x (false ∷ a) (true ∷ b) long = sum_first_places x a b true false true (omega arith) (sym (zero_add K 𝟙)) (bit_value-sum x a b (omega arith))
+  bit_value-sum x (false ∷ a) (false ∷ b) long = sum_first_places x a b false false false (omega arith) (sym (add_zero K 𝟘)) (bit_value-sum x a b (omega arith))
 
   -- in characteristic 2 the square of a sum is the sum of the squares
   square_of_sum : (a b : F) → (a ⊕ b) ⊗ (a ⊕ b) ≡ a ⊗ a ⊕ b ⊗ b
@@ -82,14 +82,14 @@ module _ {F : Type 0} (K : Field F) where
   coefficient_square false = zero_mul K 𝟘
 
   -- the value at a square is the square of the value
-  pub value_of-square : (x : F) (bits : List Bool) → value_of K (x ⊗ x) bits ≡ value_of K x bits ⊗ value_of K x bits
-  unfolding value_of
-  value_of-square x [] = sym (zero_mul K 𝟘)
-  value_of-square x (bit ∷ bits) =
+  pub bit_value-square : (x : F) (bits : List Bool) → bit_value K (x ⊗ x) bits ≡ bit_value K x bits ⊗ bit_value K x bits
+  unfolding bit_value
+  bit_value-square x [] = sym (zero_mul K 𝟘)
+  bit_value-square x (bit ∷ bits) =
       let p = power K x (length bits) in
-      ap₂ (λ q v. coefficient_of K bit ⊗ q ⊕ v) (power_of_mul K x x (length bits)) (value_of-square x bits)
-      ∙ ap (λ q. q ⊕ value_of K x bits ⊗ value_of K x bits) (term (coefficient_of K bit) p (coefficient_square bit))
-      ∙ sym (square_of_sum (coefficient_of K bit ⊗ p) (value_of K x bits))
+      ap₂ (λ q v. coefficient_of K bit ⊗ q ⊕ v) (power_of_mul K x x (length bits)) (bit_value-square x bits)
+      ∙ ap (λ q. q ⊕ bit_value K x bits ⊗ bit_value K x bits) (term (coefficient_of K bit) p (coefficient_square bit))
+      ∙ sym (square_of_sum (coefficient_of K bit ⊗ p) (bit_value K x bits))
     where
       term : (d p : F) → d ⊗ d ≡ d → d ⊗ (p ⊗ p) ≡ d ⊗ p ⊗ (d ⊗ p)
       term d p e = ap (λ w. w ⊗ (p ⊗ p)) (sym e) ∙ apart d p
@@ -98,15 +98,15 @@ module _ {F : Type 0} (K : Field F) where
           apart d p = simp (mul_assoc K, mul_left_comm K)
 
   -- the value as a sum over the places
-  pub value_of-places : (x : F) (bits : List Bool) → sum_below K (length bits) (λ j. coefficient K (map (coefficient_of K) bits) j ⊗ power K x (length bits - 1 - j)) ≡ value_of K x bits
-  unfolding value_of
-  value_of-places x [] = sum-none K (λ j. coefficient K [] j ⊗ power K x (0 - 1 - j))
-  value_of-places x (bit ∷ bits) =
+  pub bit_value-places : (x : F) (bits : List Bool) → sum_below K (length bits) (λ j. coefficient K (map (coefficient_of K) bits) j ⊗ power K x (length bits - 1 - j)) ≡ bit_value K x bits
+  unfolding bit_value
+  bit_value-places x [] = sum-none K (λ j. coefficient K [] j ⊗ power K x (0 - 1 - j))
+  bit_value-places x (bit ∷ bits) =
       let n = length bits in
       sum_first K n (λ j. coefficient K (map (coefficient_of K) (bit ∷ bits)) j ⊗ power K x (suc n - 1 - j))
       ∙ ap₂ (λ m w. coefficient_of K bit ⊗ power K x m ⊕ w) (whole n)
       (sum_same K n (λ j. coefficient K (map (coefficient_of K) bits) j ⊗ power K x (suc n - 1 - suc j)) (λ j. coefficient K (map (coefficient_of K) bits) j ⊗ power K x (n - 1 - j)) (λ j h. ap (λ m. coefficient K (map (coefficient_of K) bits) j ⊗ power K x m) (less n j))
-      ∙ value_of-places x bits)
+      ∙ bit_value-places x bits)
     where
       whole : (n : ℕ) → suc n - 1 - 0 ≡ n
       whole n = omega arith
@@ -115,11 +115,11 @@ module _ {F : Type 0} (K : Field F) where
       less n i = omega arith
 
   -- where the value is zero at as many different elements as there are bits, each bit is 0
-  pub no_coefficient : (bits : List Bool) (z : ℕ → F) → AreApart (length bits) z → ((j : ℕ) → j < length bits → value_of K (z j) bits ≡ 𝟘) → field_of bits ≡ 0
+  pub no_coefficient : (bits : List Bool) (z : ℕ → F) → AreApart (length bits) z → ((j : ℕ) → j < length bits → bit_value K (z j) bits ≡ 𝟘) → field_of bits ≡ 0
   no_coefficient bits z apart zeros =
       let n = length bits in
       let f : ℕ → F = λ i. coefficient K (map (coefficient_of K) bits) (n - 1 - i) in
-      let few = few_zeros K n n f z (omega arith) apart (λ j h. sym (reversed (z j)) ∙ value_of-places (z j) bits ∙ zeros j h) in
+      let few = few_zeros K n n f z (omega arith) apart (λ j h. sym (reversed (z j)) ∙ bit_value-places (z j) bits ∙ zeros j h) in
       all_zero bits (λ j h. ap (coefficient K (map (coefficient_of K) bits)) (back n j h) ∙ few (n - 1 - j) (omega arith))
     where
       back : (n j : ℕ) → j < n → j ≡ n - 1 - (n - 1 - j)

@@ -103,3 +103,9 @@ IsNidReading-unique bits None (Some n) long x y = absurd (omega (arith, x.farthe
 IsNidReading-unique bits (Some m) None long x y = absurd (omega (arith, y.farther x.word x.word_of_set, x.within))
 IsNidReading-unique bits (Some m) (Some n) long x y =
     ap Some (x.begins ∙ ap nid_of (one_within (take 63 bits) x.word y.word (length-take-le 63 bits long) x.word_of_set y.word_of_set x.within y.within) ∙ sym y.begins)
+
+-- wherever a word lies within 11 bits of the first 63, the reading is what it begins with
+pub nid_reading_of-word : (bits word : List Bool) → 63 ≤ length bits → IsBch63 word → distance_of (take 63 bits) word ≤ 11 → nid_reading_of bits ≡ Some (nid_of word)
+unfolding IsNidReading
+nid_reading_of-word bits word long isw near =
+    IsNidReading-unique bits (nid_reading_of bits) (Some (nid_of word)) long (IsNidReading-nid_reading_of bits) (record { word = word; word_of_set = isw; within = near; begins = refl })

@@ -14,7 +14,7 @@ use Rattle.p25_code.proofs.Remainders.{power_remainder, remainders, IsRemainder-
 use Rattle.p25_gf64.specs.Field.{Field, power}
 use Rattle.p25_gf64.proofs.FieldFacts.{add_zero, zero_add, mul_comm, mul_one, one_mul, mul_zero, zero_mul}
 use Rattle.p25_gf64.proofs.Powers.{power-zero, power-one, power-suc}
-use Rattle.p25_bch_nid.specs.BitPolynomials.{coefficient_of, value_of, value_of-append, value_of-sum, value_of-nil, value_of-cons}
+use Rattle.p25_bch_nid.specs.BitPolynomials.{coefficient_of, bit_value, bit_value-append, bit_value-sum, bit_value-nil, bit_value-cons}
 
 module _ {F : Type 0} (K : Field F) (x : F) where
   open K use {zero as 𝟘, one as 𝟙, add as ◌⊕◌, mul as ◌⊗◌}
@@ -23,20 +23,20 @@ module _ {F : Type 0} (K : Field F) (x : F) where
   infixl 70 ◌⊗◌
   -- the value of the polynomial that a number is, by so many of its coefficients
   abbrev pub number_value : ℕ → ℕ → F
-  number_value width number = value_of K x (bits_of width number)
+  number_value width number = bit_value K x (bits_of width number)
 
   -- a coefficient that a number does not have changes no value
   pub number_value-suc : (width number : ℕ) → number < 2 ^ width → number_value (suc width) number ≡ number_value width number
   number_value-suc width number low =
-      ap (value_of K x) (bits_of-suc width number)
-      ∙ value_of-cons K x (eqb (bit_at number width) 1) (bits_of width number)
+      ap (bit_value K x) (bits_of-suc width number)
+      ∙ bit_value-cons K x (eqb (bit_at number width) 1) (bits_of width number)
       ∙ ap (λ bit. coefficient_of K (eqb bit 1) ⊗ power K x (length (bits_of width number)) ⊕ number_value width number) (bit_at_above number width width low (omega arith))
       ∙ ap (λ w. w ⊕ number_value width number) (zero_mul K (power K x (length (bits_of width number))))
       ∙ zero_add K (number_value width number)
 
   -- the value of 0 is zero
   pub number_value-zero : (width : ℕ) → number_value width 0 ≡ 𝟘
-  number_value-zero zero = ap (value_of K x) (bits_of-zero 0) ∙ value_of-nil K x
+  number_value-zero zero = ap (bit_value K x) (bits_of-zero 0) ∙ bit_value-nil K x
   number_value-zero (suc width) = number_value-suc width 0 (pow_pos width) ∙ number_value-zero width
 
   -- one more coefficient below the others
@@ -49,8 +49,8 @@ module _ {F : Type 0} (K : Field F) (x : F) where
       let high : n / 2 ^ 1 ≡ number = ap (λ m. m / 2) swapped ∙ div-mul-add number 2 (digit_of bit) low in
       let last : n % 2 ≡ digit_of bit = ap (λ m. m % 2) swapped ∙ mod-mul-add number 2 (digit_of bit) low in
       ap (λ w. number_value w n) e
-      ∙ ap (value_of K x) (bits_of-add width 1 n)
-      ∙ value_of-append K x (bits_of width (n / 2 ^ 1)) (bits_of 1 n)
+      ∙ ap (bit_value K x) (bits_of-add width 1 n)
+      ∙ bit_value-append K x (bits_of width (n / 2 ^ 1)) (bits_of 1 n)
       ∙ ap₂ (λ v w. v ⊗ power K x w ⊕ number_value 1 n) (ap (number_value width) high) (length-bits_of 1 n)
       ∙ ap₂ ◌⊕◌ (ap (λ p. number_value width number ⊗ p) (power-one K x) ∙ mul_comm K (number_value width number) x) (one_bit n bit last)
     where
@@ -64,9 +64,9 @@ module _ {F : Type 0} (K : Field F) (x : F) where
 
       one_bit : (n : ℕ) (bit : Bool) → n % 2 ≡ digit_of bit → number_value 1 n ≡ coefficient_of K bit
       one_bit n bit last =
-          ap (value_of K x) (bits_of-suc 0 n)
-          ∙ value_of-cons K x (eqb (bit_at n 0) 1) (bits_of 0 n)
-          ∙ ap₂ ◌⊕◌ (ap₂ (λ b w. coefficient_of K b ⊗ power K x w) (ap (λ m. eqb m 1) (bit_at_lowest n ∙ last) ∙ test bit) (length-bits_of 0 n) ∙ ap (λ p. coefficient_of K bit ⊗ p) (power-zero K x) ∙ mul_one K (coefficient_of K bit)) (ap (value_of K x) (bits_of-zero n) ∙ value_of-nil K x)
+          ap (bit_value K x) (bits_of-suc 0 n)
+          ∙ bit_value-cons K x (eqb (bit_at n 0) 1) (bits_of 0 n)
+          ∙ ap₂ ◌⊕◌ (ap₂ (λ b w. coefficient_of K b ⊗ power K x w) (ap (λ m. eqb m 1) (bit_at_lowest n ∙ last) ∙ test bit) (length-bits_of 0 n) ∙ ap (λ p. coefficient_of K bit ⊗ p) (power-zero K x) ∙ mul_one K (coefficient_of K bit)) (ap (bit_value K x) (bits_of-zero n) ∙ bit_value-nil K x)
           ∙ add_zero K (coefficient_of K bit)
 
   -- the value of 1 is one
@@ -81,8 +81,8 @@ module _ {F : Type 0} (K : Field F) (x : F) where
   -- the value of a sum is the sum of the values
   pub number_value-xor : (width a b : ℕ) → number_value width (bit_xor a b) ≡ number_value width a ⊕ number_value width b
   number_value-xor width a b =
-      ap (value_of K x) (bits_of-xor width a b)
-      ∙ value_of-sum K x (bits_of width a) (bits_of width b) (length-bits_of width a ∙ sym (length-bits_of width b))
+      ap (bit_value K x) (bits_of-xor width a b)
+      ∙ bit_value-sum K x (bits_of width a) (bits_of width b) (length-bits_of width a ∙ sym (length-bits_of width b))
 
   module _ (generator degree : ℕ) (has : HasDegree generator degree) (some : 1 < 2 ^ degree) (root : number_value (suc degree) generator ≡ 𝟘) where
     -- the remainder of a power has the value of the power
@@ -107,13 +107,13 @@ module _ {F : Type 0} (K : Field F) (x : F) where
         ]
 
     -- the remainder of a word's polynomial has the value of the word
-    pub word_value : (word : List Bool) → number_value degree (syndrome_of (remainders generator degree (length word)) word) ≡ value_of K x word
+    pub word_value : (word : List Bool) → number_value degree (syndrome_of (remainders generator degree (length word)) word) ≡ bit_value K x word
     unfolding syndrome_of remainders
-    word_value [] = number_value-zero degree ∙ sym (value_of-nil K x)
+    word_value [] = number_value-zero degree ∙ sym (bit_value-nil K x)
     word_value (bit ∷ word) =
         number_value-xor degree (cond bit (power_remainder generator degree (length word)) 0) (syndrome_of (remainders generator degree (length word)) word)
         ∙ ap₂ ◌⊕◌ (chosen bit) (word_value word)
-        ∙ sym (value_of-cons K x bit word)
+        ∙ sym (bit_value-cons K x bit word)
       where
         chosen : (bit : Bool) → number_value degree (cond bit (power_remainder generator degree (length word)) 0) ≡ coefficient_of K bit ⊗ power K x (length word)
         chosen true = power_remainder_value (length word) ∙ sym (one_mul K (power K x (length word)))

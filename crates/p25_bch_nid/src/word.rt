@@ -1,7 +1,11 @@
 //! Identifiers as the 64 bits that are sent.
 
-ghost use Rattle.std.specs.Prelude.{◌≡◌, ℕ, option_map};
+ghost use Rattle.std.specs.Prelude.{◌≡◌, ℕ, ◌++◌, Some, take, option_map};
+ghost use Rattle.p25_bits.specs.Bits.{bits_of};
+ghost use Rattle.p25_code.specs.Words.{IsEncoding};
+ghost use Rattle.p25_bch_nid.specs.Bch63.{IsBch63};
 ghost use Rattle.p25_bch_nid.specs.Nid.{IsSent, parity_of};
+ghost use Rattle.p25_bch_nid.specs.NidReading.{nid_reading_of};
 ghost use Rattle.p25_bch_nid.specs.ExactReading.{IsExactReading, exact_nid_of};
 
 use super::nid::Nid;
@@ -14,6 +18,8 @@ const GENERATOR: u64 = 0xCD93_0BDD_3B2B;
 /// (63,16), and P, which is 1 for DUID 5 and A hex and 0 for every other.
 pub fn nid_bits(nid: &Nid) -> u64
     ensures sent { IsSent nid.now.nac nid.now.duid result }
+    ensures word { IsEncoding IsBch63 16 (bits_of 12 nid.now.nac ++ bits_of 4 nid.now.duid) (take 63 (bits_of 64 result)) }
+    ensures read { nid_reading_of (bits_of 64 result) ≡ Some (nid.now.nac, nid.now.duid) }
     ensures only { (bits : ℕ) → IsSent nid.now.nac nid.now.duid bits → bits ≡ result }
 {
     let information = 16 * u64::from(nid.nac) + u64::from(nid.duid);

@@ -2,6 +2,7 @@ use Rattle.std.proofs.Common.{◌≡◌, ℕ, ◌+◌, ◌*◌, ◌%◌, ◌^◌
 use Rattle.p25_bits.specs.Divisible.{IsRemainder}
 use Rattle.p25_bch_nid.specs.Nid.{generator, IsSent}
 use Rattle.p25_bch_nid.proofs.NidLaws.{IsSent-from_parts, IsSent-unique}
+use Rattle.p25_bch_nid.proofs.NidWords.{IsEncoding-from_sent, reading_of_sent}
 use Rattle.p25_bch_nid.proofs.word.nid_bits.Goals as goal
 
 sent_of : goal.returns-clause-sent
@@ -24,3 +25,18 @@ returns-clause-sent c = sent_of c
 -- the number that was made is the only one
 pub returns-clause-only : goal.returns-clause-only
 returns-clause-only c = λ bits is. IsSent-unique c.args.nid.now.nac c.args.nid.now.duid bits _ is (sent_of c)
+
+-- its first 63 bits are the word that begins with the identifier
+pub returns-clause-word : goal.returns-clause-word
+returns-clause-word c =
+    let nid = c.args.nid.now in
+    let small : nid.duid < 16 = omega (arith, nid.duid_fits) in
+    IsEncoding-from_sent nid.nac nid.duid _ small (sent_of c)
+
+-- and it is read as that
+pub returns-clause-read : goal.returns-clause-read
+returns-clause-read c =
+    let nid = c.args.nid.now in
+    let low : nid.nac < 2 ^ 12 = omega (arith, nid.nac_fits) in
+    let small : nid.duid < 2 ^ 4 = omega (arith, nid.duid_fits) in
+    reading_of_sent nid.nac nid.duid _ low small (sent_of c)

@@ -1,0 +1,17 @@
+use Rattle.std.proofs.Common.{◌≡◌, ◌<◌, ◌≤◌, false, length, arith, ap, ◌∙◌}
+use Rattle.p25_gf64.specs.Gf64.{gf64}
+use Rattle.p25_bch_nid.specs.BitPolynomials.{coefficient_of}
+use Rattle.p25_bch_nid.proofs.Maps.{filled_more, filled_all}
+use Rattle.p25_bch_nid.proofs.bits.put_symbols.Goals as goal
+
+pub loop-i-preserved : goal.loop-i-preserved
+loop-i-preserved c =
+    let inside : c.loop-i.i < length c.args.bits.now = omega (arith, c.requires) in
+    let here : c.loop-i.i < length c.loop-i.symbols = omega arith in
+    filled_more (coefficient_of gf64) c.args.bits.now c.loop-i.symbols c.loop-i.i false c.symbol_of.result inside here c.loop-i.invariant c.symbol_of.ensures
+
+pub returns : goal.returns
+returns c =
+    let whole : length c.args.bits.now ≤ c.loop-i.i = omega (arith, c.requires) in
+    let done : length c.loop-i.symbols ≤ c.loop-i.i = omega arith in
+    filled_all (coefficient_of gf64) c.args.bits.now c.loop-i.symbols c.loop-i.i whole done c.loop-i.invariant

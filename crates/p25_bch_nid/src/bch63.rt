@@ -1,0 +1,74 @@
+//! The BCH code (63,16).
+
+ghost use Rattle.p25_code.specs.Letters.{same_bit};
+ghost use Rattle.p25_bch_nid.specs.Bch63.{IsBch63};
+ghost use Rattle.p25_bch_nid.specs.Bch63Laws.{length_of_word, one_word, far_apart, within, begins};
+
+use crate::bits::{are_bits, number_of, put_bits, put_number, put_symbols};
+use p25_bits::number_remainder;
+use p25_code::{BlockCode, Reading};
+use p25_gf64::Sym;
+use p25_reed_solomon::Rs;
+
+// The generator polynomial: bit i is the coefficient of x^i.
+pub(crate) const GENERATOR: u64 = 0xCD93_0BDD_3B2B;
+
+/// The BCH code (63,16): 63 bits, the first the coefficient of x^62, whose polynomial is zero at α^1 to α^22 in GF(64);
+/// that is the same as being divisible by the generator polynomial CD930BDD3B2B hex (octal 6331141367235453). The first 16
+/// bits are the information. Any two words differ in at least 23 bits; eleven wrong bits are corrected. TIA-102.BAAA,
+/// Network Identifier.
+pub struct Bch63;
+
+impl BlockCode for Bch63 {
+    const N: usize = 63;
+
+    const K: usize = 16;
+
+    type Letter = bool;
+
+    ghost N = { 63 };
+
+    ghost K = { 16 };
+
+    ghost HasCode = { Unit {0} };
+
+    ghost IsWord = { IsBch63 };
+
+    ghost radius_is = { 11 };
+
+    ghost distance_is = { 23 };
+
+    ghost same_letter = { same_bit };
+
+    ghost length_of_word = { λ _. length_of_word };
+
+    ghost one_word = { λ _. one_word };
+
+    ghost far_apart = { λ _. far_apart };
+
+    ghost within = { λ _. within };
+
+    ghost begins = { λ _. begins };
+
+    fn radius() -> usize {
+        11
+    }
+
+    fn encode(info: &[bool], word: &mut [bool]) {
+        let remainder = number_remainder(number_of(info) << 47, GENERATOR, 47);
+        let (front, checks) = word.split_at_mut(16);
+        front.copy_from_slice(info);
+        put_number(remainder, checks);
+    }
+
+    fn read(word: &mut [bool]) -> Reading {
+        let mut symbols = [Sym::ZERO; 63];
+        put_symbols(word, &mut symbols);
+        let reading = Rs::<63, 41>::read(&mut symbols);
+        if !are_bits(&symbols) {
+            return Reading::Beyond;
+        }
+        put_bits(&symbols, word);
+        reading
+    }
+}
