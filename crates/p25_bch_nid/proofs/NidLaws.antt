@@ -1,5 +1,5 @@
 -- Identifiers as the bits that are sent, and their exact reading.
-use Rattle.std.proofs.Common.{◌≡◌, ℕ, ◌+◌, ◌-◌, ◌*◌, ◌/◌, ◌%◌, ◌^◌, ◌<◌, ◌≤◌, ◌⊎◌, inl, inr, Bool, true, false, cond, eqb, ◌||◌, Option, Some, None, bit_xor, bit_and, option_map, refl, ap, ap₂, sym, ◌∙◌, subst, arith, lit≤, lit<}
+use Rattle.std.proofs.Common.{◌≡◌, ℕ, ◌+◌, ◌*◌, ◌/◌, ◌%◌, ◌^◌, ◌<◌, Bool, true, false, cond, eqb, ◌||◌, Option, Some, None, bit_xor, bit_and, option_map, ap, ap₂, sym, ◌∙◌, subst, arith, lit≤, lit<}
 use Rattle.std.specs.Prelude.{IsSome, IfSome}
 use Rattle.std.specs.Int.Bits.{xor_self}
 use Rattle.std.proofs.lemmas.Bool.{false≢true}

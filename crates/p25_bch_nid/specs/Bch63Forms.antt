@@ -1,6 +1,6 @@
 -- The two forms of the set: zero at α^1 to α^22, and divisible by the generator.
-use Rattle.std.specs.Prelude.{◌≡◌, ◌≢◌, ℕ, zero, suc, ◌+◌, ◌-◌, ◌*◌, ◌/◌, ◌%◌, ◌^◌, ◌<◌, ◌≤◌, ◌==◌, ◌||◌, ◌&&◌, not, Bool, true, false, List, [], ◌∷◌, length, bit_xor, refl}
-use Rattle.std.proofs.Common.{ap, ap₂, sym, subst, ◌∙◌, inl, inr, eqb, leb, ltb, get_or, arith, lit≤, lit<}
+use Rattle.std.specs.Prelude.{◌≡◌, ℕ, zero, suc, ◌+◌, ◌-◌, ◌*◌, ◌%◌, ◌^◌, ◌<◌, ◌≤◌, ◌==◌, ◌||◌, ◌&&◌, not, Bool, true, false, List, [], ◌∷◌, length, bit_xor, refl}
+use Rattle.std.proofs.Common.{ap, ap₂, sym, subst, ◌∙◌, inl, inr, leb, ltb, get_or, arith, lit≤, lit<}
 use Rattle.std.proofs.Math.Nat.{mod-eq_of_lt}
 use Rattle.std.proofs.lemmas.Bool.{and_parts, or_cases, eqb-true, eq-eqb, leb-true, ltb-true, not-true, both_ways}
 use Rattle.p25_bits.specs.Bits.{digit_of, bits_of, field_of}
@@ -14,10 +14,10 @@ use Rattle.p25_gf64.specs.ProductLaws.{all_below, all_below_at, all_pairs_below,
 use Rattle.p25_gf64.specs.Symbol.{number, alpha}
 use Rattle.p25_gf64.specs.Gf64.{gf64}
 use Rattle.p25_gf64.specs.declared.symbol.Sym.{Sym}
-use Rattle.p25_gf64.proofs.FieldFacts.{add_zero, zero_add, add_assoc, mul_assoc, mul_left_comm, add_mul, mul_comm, mul_one, zero_mul}
+use Rattle.p25_gf64.proofs.FieldFacts.{add_zero, zero_add, add_assoc, mul_assoc, mul_left_comm, add_mul, mul_one, zero_mul}
 use Rattle.p25_gf64.proofs.Powers.{power-zero, power-suc, power-add, power-mul, power-mod}
 use Rattle.p25_gf64.proofs.Symbols.{number_zero, number_one, number_alpha, number-add, number-mul, number-power, zero_from_number, alpha_to_63, alpha_exponents}
-use Rattle.p25_algebra.specs.Sums.{sum_below, AreApart}
+use Rattle.p25_algebra.specs.Sums.{AreApart}
 use Rattle.p25_algebra.specs.Series.{coefficient}
 use Rattle.p25_algebra.proofs.SumFacts.{sum_same}
 use Rattle.p25_bch_nid.specs.Nid.{generator}

@@ -1,12 +1,12 @@
 -- Polynomials whose coefficients are bits: their values in a field of characteristic 2.
-use Rattle.std.specs.Prelude.{◌≡◌, ◌≢◌, ℕ, zero, suc, ◌+◌, ◌-◌, ◌<◌, ◌≤◌, Bool, true, false, List, [], ◌∷◌, ◌++◌, length, map, refl}
+use Rattle.std.specs.Prelude.{◌≡◌, ℕ, suc, ◌-◌, ◌<◌, Bool, true, false, List, [], ◌∷◌, ◌++◌, length, map, refl}
 use Rattle.std.proofs.Common.{ap, ap₂, sym, ◌∙◌, arith, length-append}
 use Rattle.p25_bits.proofs.BitsLaws.{field_of-nil, field_of-cons}
 use Rattle.p25_bits.specs.Bits.{field_of}
 use Rattle.p25_code.proofs.Weights.{sum_of_words, length-sum_of_words}
 use Rattle.p25_gf64.specs.Field.{Field, power}
-use Rattle.p25_gf64.proofs.FieldFacts.{add_comm, add_assoc, add_left_comm, add_zero, zero_add, add_self, add_twice, add_swap, mul_comm, mul_assoc, mul_left_comm, mul_one, one_mul, mul_add, add_mul, mul_zero, zero_mul}
-use Rattle.p25_gf64.proofs.Powers.{power-zero, power-suc, power-add, power_of_mul}
+use Rattle.p25_gf64.proofs.FieldFacts.{add_assoc, add_zero, zero_add, add_self, add_twice, add_swap, mul_comm, mul_assoc, mul_left_comm, mul_one, mul_add, add_mul, zero_mul}
+use Rattle.p25_gf64.proofs.Powers.{power-add, power_of_mul}
 use Rattle.p25_algebra.specs.Sums.{sum_below, AreApart}
 use Rattle.p25_algebra.specs.Series.{coefficient, value_at}
 use Rattle.p25_algebra.proofs.SumFacts.{sum-none, sum_first, sum_same, sum_reverse}

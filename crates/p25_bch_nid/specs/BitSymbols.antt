@@ -1,6 +1,6 @@
 -- Symbols that are bits: words of bits as words of the Reed-Solomon code (63,41).
 use Rattle.std.specs.Prelude.{◌≡◌, ℕ, zero, suc, ◌+◌, ◌<◌, ◌≤◌, ◌==◌, Bool, true, false, List, [], ◌∷◌, length, map, refl}
-use Rattle.std.proofs.Common.{ap, ap₂, sym, subst, ◌∙◌, cond, eqb, arith, lit≤, lit<}
+use Rattle.std.proofs.Common.{ap, ap₂, sym, ◌∙◌, cond, eqb, arith, lit≤, lit<}
 use Rattle.std.specs.Bool.{beq}
 use Rattle.std.proofs.lemmas.Bool.{false_from_ne_true}
 use Rattle.std.proofs.lemmas.List.{length-map}

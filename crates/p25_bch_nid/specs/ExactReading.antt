@@ -1,5 +1,5 @@
 -- The reading of an undamaged network identifier.
-use Rattle.std.specs.Prelude.{◌≡◌, ◌⊎◌, ℕ, ◌+◌, ◌*◌, ◌/◌, ◌%◌, ◌^◌, Option, Some, None}
+use Rattle.std.specs.Prelude.{◌≡◌, ℕ, ◌/◌, ◌%◌, ◌^◌, Option, Some, None}
 use Rattle.std.proofs.Common.{inl, inr, refl, ap, sym, ◌∙◌, lit≤, lit<}
 use Rattle.p25_bits.specs.Divisible.{IsDivisible}
 use Rattle.p25_bits.proofs.Divisions.{divisible_or_not}

@@ -6,7 +6,7 @@ use Rattle.std.specs.Bool.{beq}
 use Rattle.p25_bits.specs.Bits.{field_of, part}
 use Rattle.p25_bits.specs.Distance.{distance_of}
 use Rattle.p25_bits.proofs.DistanceLaws.{distance_of-sym, distance_of-triangle, distance_of-same, same_from_distance_of}
-use Rattle.p25_code.specs.Words.{IsEncoding, NoneWithin}
+use Rattle.p25_code.specs.Words.{NoneWithin}
 use Rattle.std.proofs.lemmas.List.{length-take-le}
 use Rattle.p25_bch_nid.specs.Bch63.{IsBch63}
 use Rattle.p25_bch_nid.specs.Bch63Laws.{encoded, IsEncoding-encoded, one_word, far_apart}

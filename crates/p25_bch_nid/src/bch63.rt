@@ -13,6 +13,8 @@ use p25_reed_solomon::Rs;
 // The generator polynomial: bit i is the coefficient of x^i.
 pub(crate) const GENERATOR: u64 = 0xCD93_0BDD_3B2B;
 
+const RADIUS: usize = 11;
+
 /// The BCH code (63,16): 63 bits, the first the coefficient of x^62, whose polynomial is zero at α^1 to α^22 in GF(64);
 /// that is the same as being divisible by the generator polynomial CD930BDD3B2B hex (octal 6331141367235453). The first 16
 /// bits are the information. Any two words differ in at least 23 bits; eleven wrong bits are corrected. TIA-102.BAAA,
@@ -51,7 +53,7 @@ impl BlockCode for Bch63 {
     ghost begins = { λ _. begins };
 
     fn radius() -> usize {
-        11
+        RADIUS
     }
 
     fn encode(info: &[bool], word: &mut [bool]) {
@@ -61,6 +63,8 @@ impl BlockCode for Bch63 {
         put_number(remainder, checks);
     }
 
+    // A word of bits is a word of the Reed-Solomon code (63,41), which is zero at the same powers of α. Where a word of
+    // that code within the radius has other symbols than 0 and 1, no word of bits is that near, since it is the only one.
     fn read(word: &mut [bool]) -> Reading {
         let mut symbols = [Sym::ZERO; 63];
         put_symbols(word, &mut symbols);

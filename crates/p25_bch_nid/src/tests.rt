@@ -1,6 +1,8 @@
 //! Values from outside, and each call once.
 
 use super::*;
+use crate::bits::{number_of, put_number};
+use p25_code::{BlockCode, Reading};
 
 // An identifier and the 64 bits that it is sent as. P, the last bit, is 1 for DUID 5 and A hex alone.
 const SENT: [(u16, u8, u64); 6] = [
@@ -54,5 +56,121 @@ fn identifiers_of_parts_that_fit(rt: HostRuntime) {
     for (nac, duid, fits) in PARTS {
         let parts = Nid::new(nac, duid).map(|nid| (nid.nac, nid.duid));
         assert_eq!(rt; parts, fits.then_some((nac, duid)), "{nac} {duid}");
+    }
+}
+
+// Received words of 63 bits, the words that they are read as, and how many bits change; read by another program.
+const FOUND: [(u64, u64, u32); 9] = [
+    (0x0848_3548_9CBF_78B4, 0x0848_3548_9CBF_78B4, 0),
+    (0x214E_C9F6_4C49_BD49, 0x214E_C9F6_4C49_BD69, 1),
+    (0x0A04_BBD3_56E3_E467, 0x0A04_BBD3_56C3_E467, 1),
+    (0x722A_305B_8CB8_DBD7, 0x522A_A05B_8CB0_DBD7, 4),
+    (0x656A_CE21_992B_8104, 0x446A_CE21_910B_8115, 6),
+    (0x38DE_73DC_AB36_3408, 0x3A5F_7B7C_AB76_3408, 7),
+    (0x0919_F055_BAB2_46D7, 0x0921_F035_BAB2_46EF, 8),
+    (0x3D75_4E63_CB9E_CCB3, 0x0D77_D363_CBBE_CEB3, 10),
+    (0x7FF0_0000_0000_0000, 0x0000_0000_0000_0000, 11),
+];
+
+// Received words that are farther than 11 bits from every word.
+const BEYOND: [u64; 5] = [
+    0x43B7_8B0C_DB17_5F9C,
+    0x6C4B_198E_6004_0547,
+    0x44B5_66CB_180B_119B,
+    0x143B_2B72_DB83_DBF8,
+    0x47FA_6DC4_DD8E_6E47,
+];
+
+// Reads 63 bits, and answers what they became too.
+fn read_bits(received: u64) -> (Reading, u64) {
+    let mut word = [false; 63];
+    put_number(received, &mut word);
+    let reading = Bch63::read(&mut word);
+    (reading, number_of(&word))
+}
+
+#[test]
+fn words_of_another_reader(rt: HostRuntime) {
+    for (received, word, fixes) in FOUND {
+        assert_eq!(rt;
+            read_bits(received),
+            (Reading::Found { fixes }, word),
+            "{received:x}"
+        );
+    }
+    for received in BEYOND {
+        assert_eq!(rt;
+            read_bits(received),
+            (Reading::Beyond, received),
+            "{received:x}"
+        );
+    }
+}
+
+#[test]
+fn information_becomes_the_word_that_is_sent(rt: HostRuntime) {
+    assert_eq!(rt; Bch63::radius(), 11);
+    for (nac, duid, bits) in SENT {
+        let mut info = [false; 16];
+        put_number(bits >> 48, &mut info);
+        let mut word = [false; 63];
+        Bch63::encode(&info, &mut word);
+        assert_eq!(rt; number_of(&word), bits >> 1, "{nac:x} {duid:x}");
+    }
+}
+
+#[test]
+fn identifiers_with_wrong_bits(rt: HostRuntime) {
+    for (nac, duid, bits) in SENT {
+        let nid = Nid::new(nac, duid);
+        assert_eq!(rt; read_nid(bits), nid, "{nac:x} {duid:x}");
+        assert_eq!(rt; read_nid(bits ^ 1), nid, "{nac:x} {duid:x} with P inverted");
+        for start in 1..54_u32 {
+            assert_eq!(rt;
+                read_nid(bits ^ (0x7FF << start)),
+                nid,
+                "{nac:x} {duid:x} with a run from {start}"
+            );
+        }
+        for (teeth, shifts) in COMBS {
+            for shift in 0..shifts {
+                assert_eq!(rt;
+                    read_nid(bits ^ (teeth << shift)),
+                    nid,
+                    "{nac:x} {duid:x} with {teeth:x} from {shift}"
+                );
+            }
+        }
+    }
+    // It differs from each word in 21 places at least.
+    assert_eq!(rt; read_nid(0x0003_682D_4527_4B06), None);
+}
+
+// Eleven bits at every second to sixth place, none the lowest, and at how many places they can begin.
+const COMBS: [(u64, u32); 5] = [
+    (0x0000_0000_002A_AAAA, 43),
+    (0x0000_0000_9249_2492, 33),
+    (0x0000_0222_2222_2222, 23),
+    (0x0008_4210_8421_0842, 13),
+    (0x2082_0820_8208_2082, 3),
+];
+
+#[test]
+fn single_and_double_errors(rt: HostRuntime) {
+    let word = 0x4000_66C9_85EE_9D95;
+    for first in 0..63_u32 {
+        let received = word ^ (1 << first);
+        assert_eq!(rt;
+            read_bits(received),
+            (Reading::Found { fixes: 1 }, word),
+            "{first}"
+        );
+        for second in 0..first {
+            assert_eq!(rt;
+                read_bits(received ^ (1 << second)),
+                (Reading::Found { fixes: 2 }, word),
+                "{first} {second}"
+            );
+        }
     }
 }

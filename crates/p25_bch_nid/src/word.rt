@@ -8,11 +8,9 @@ ghost use Rattle.p25_bch_nid.specs.Nid.{IsSent, parity_of};
 ghost use Rattle.p25_bch_nid.specs.NidReading.{nid_reading_of};
 ghost use Rattle.p25_bch_nid.specs.ExactReading.{IsExactReading, exact_nid_of};
 
-use super::nid::Nid;
+use crate::bch63::GENERATOR;
+use crate::nid::Nid;
 use p25_bits::number_remainder;
-
-// The generator of the BCH code (63,16): bit i is the coefficient of x^i.
-const GENERATOR: u64 = 0xCD93_0BDD_3B2B;
 
 /// Answers the 64 bits of an identifier, the first bit highest: NAC 12, DUID 4, the 47 check bits of the BCH code
 /// (63,16), and P, which is 1 for DUID 5 and A hex and 0 for every other.

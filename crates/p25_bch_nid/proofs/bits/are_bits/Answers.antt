@@ -1,4 +1,4 @@
-use Rattle.std.proofs.Common.{◌≡◌, ◌<◌, ◌≤◌, length, below_more, subst, refl, arith, ap, sym, ◌∙◌}
+use Rattle.std.proofs.Common.{◌<◌, length, below_more, refl, arith, ap}
 use Rattle.std.proofs.lemmas.List.{get_or_read}
 use Rattle.p25_gf64.specs.Symbol.{number}
 use Rattle.p25_gf64.specs.Gf64.{gf64}

@@ -1,4 +1,4 @@
-use Rattle.std.proofs.Common.{◌≡◌, ◌<◌, ◌≤◌, false, length, arith, ap, ◌∙◌}
+use Rattle.std.proofs.Common.{◌<◌, ◌≤◌, false, length, arith}
 use Rattle.p25_gf64.specs.Gf64.{gf64}
 use Rattle.p25_bch_nid.specs.BitPolynomials.{coefficient_of}
 use Rattle.p25_bch_nid.proofs.Maps.{filled_more, filled_all}

@@ -1,4 +1,3 @@
-use Rattle.p25_bch_nid.specs.NidReading.{nid_reading_of}
 use Rattle.p25_bch_nid.specs.Bch63Forms.{to_divisible, from_divisible}
 use Rattle.p25_bch_nid.proofs.laws.two_forms.Goals as goal
 

@@ -1,6 +1,6 @@
-use Rattle.std.proofs.Common.{◌≡◌, ◌<◌, ◌≤◌, ◌^◌, ◌*◌, ap, sym, ◌∙◌, subst, arith, drop}
+use Rattle.std.proofs.Common.{◌≤◌, subst, arith, drop}
 use Rattle.std.specs.Bool.{beq}
-use Rattle.p25_bits.specs.Bits.{bits_of, field_of}
+use Rattle.p25_bits.specs.Bits.{bits_of}
 use Rattle.p25_code.specs.Words.{IsReading}
 use Rattle.p25_code.specs.declared.code.Reading.TheVariants.{Found}
 use Rattle.p25_bch_nid.specs.Bch63.{IsBch63}

@@ -1,5 +1,5 @@
-use Rattle.std.proofs.Common.{◌≡◌, ℕ, ◌+◌, ◌*◌, ◌/◌, ◌%◌, ◌^◌, ◌<◌, ◌≤◌, bit_and, ap, subst, sym, ◌∙◌, arith}
-use Rattle.std.proofs.lemmas.Nat.{and_mask, div_below}
+use Rattle.std.proofs.Common.{◌/◌, ◌^◌, ◌≤◌, bit_and, subst, arith}
+use Rattle.std.proofs.lemmas.Nat.{and_mask}
 use Rattle.p25_bits.specs.Divisible.{IsRemainder}
 use Rattle.p25_bch_nid.specs.Nid.{generator}
 use Rattle.p25_bch_nid.specs.ExactReading.{IsExactReading-exact_nid_of, IsExactReading-unique}

@@ -1,4 +1,4 @@
-use Rattle.std.proofs.Common.{◌≡◌, ℕ, ◌+◌, ◌*◌, ◌%◌, ◌^◌, ◌<◌, ap, ap₂, subst, sym, ◌∙◌, arith, mod-eq_of_lt}
+use Rattle.std.proofs.Common.{◌≡◌, ℕ, ◌+◌, ◌*◌, ◌%◌, ◌^◌, ◌<◌, ap₂, subst, sym, ◌∙◌, arith, mod-eq_of_lt}
 use Rattle.p25_bits.specs.Divisible.{IsRemainder}
 use Rattle.p25_bch_nid.specs.Nid.{generator, IsSent}
 use Rattle.p25_bch_nid.proofs.NidLaws.{IsSent-from_parts, IsSent-unique}
