@@ -1,13 +1,15 @@
 -- The reading of a network identifier to radius 11.
-use Rattle.std.specs.Prelude.{◌≡◌, ◌≢◌, ◌⊎◌, ℕ, zero, suc, ◌<◌, ◌≤◌, Bool, true, false, List, [], ◌∷◌, length, take, Option, Some, None, refl}
-use Rattle.std.proofs.Common.{ap, sym, subst, ◌∙◌, inl, inr, arith}
+use Rattle.std.specs.Prelude.{◌≡◌, ◌≢◌, ◌⊎◌, ℕ, zero, suc, ◌<◌, ◌≤◌, Bool, true, false, List, [], ◌∷◌, ◌++◌, length, take, drop, Option, Some, None, refl}
+use Rattle.std.proofs.Common.{ap, ap₂, sym, subst, ◌∙◌, inl, inr, arith, length-drop}
+use Rattle.std.proofs.Math.Seq.{take-add}
 use Rattle.std.proofs.lemmas.Bool.{cases_eq, cases_lt}
+use Rattle.std.proofs.lemmas.List.{length-take-le}
 use Rattle.std.specs.Bool.{beq}
 use Rattle.p25_bits.specs.Bits.{field_of, part}
 use Rattle.p25_bits.specs.Distance.{distance_of}
+use Rattle.p25_bits.proofs.BitsLaws.{same_from_field_of}
 use Rattle.p25_bits.proofs.DistanceLaws.{distance_of-sym, distance_of-triangle, distance_of-same, same_from_distance_of}
 use Rattle.p25_code.specs.Words.{NoneWithin}
-use Rattle.std.proofs.lemmas.List.{length-take-le}
 use Rattle.p25_bch_nid.specs.Bch63.{IsBch63}
 use Rattle.p25_bch_nid.specs.Bch63Laws.{encoded, IsEncoding-encoded, one_word, far_apart}
 
@@ -109,3 +111,27 @@ pub nid_reading_of-word : (bits word : List Bool) → 63 ≤ length bits → IsB
 unfolding IsNidReading
 nid_reading_of-word bits word long isw near =
     IsNidReading-unique bits (nid_reading_of bits) (Some (nid_of word)) long (IsNidReading-nid_reading_of bits) (record { word = word; word_of_set = isw; within = near; begins = refl })
+
+-- the last bit is not looked at
+pub nid_reading_of-first : (a b : List Bool) → take 63 a ≡ take 63 b → nid_reading_of a ≡ nid_reading_of b
+unfolding nid_reading_of
+nid_reading_of-first a b same = ap (λ received. elim (word_or_none received) [ inl found ↦ Some (nid_of found.0) | inr without ↦ None ]) same
+
+-- words that begin with one NAC and one DUID are one
+same_word_of_nid : (v w : List Bool) → IsBch63 v → IsBch63 w → nid_of v ≡ nid_of w → v ≡ w
+same_word_of_nid v w isv isw same =
+    one_word v w isv isw (take-add 12 4 v ∙ ap₂ ◌++◌ (same_part 12 (take 12 v) (take 12 w) (long_first v isv) (long_first w isw) (ap (λ nid. nid.0) same)) (same_part 4 (part 12 4 v) (part 12 4 w) (long_next v isv) (long_next w isw) (ap (λ nid. nid.1) same)) ∙ sym (take-add 12 4 w))
+  where
+    same_part : (n : ℕ) (xs ys : List Bool) → length xs ≡ n → length ys ≡ n → field_of xs ≡ field_of ys → xs ≡ ys
+    same_part n xs ys left right same = same_from_field_of xs ys (left ∙ sym right) same
+
+    long_first : (word : List Bool) → IsBch63 word → length (take 12 word) ≡ 12
+    long_first word is = length-take-le 12 word (omega (arith, is.long))
+
+    long_next : (word : List Bool) → IsBch63 word → length (part 12 4 word) ≡ 4
+    long_next word is = length-take-le 4 (drop 12 word) (omega (arith, is.long, length-drop 12 word))
+
+-- the word of an identifier that was read lies within 11 bits of what was received
+pub nid_word_near : (received word : List Bool) (nid : ℕ × ℕ) → IsNidFound received nid → IsBch63 word → nid_of word ≡ nid → distance_of received word ≤ 11
+nid_word_near received word nid found isw same =
+    subst (λ w. distance_of received w ≤ 11) (same_word_of_nid found.word word found.word_of_set isw (sym found.begins ∙ sym same)) found.within
