@@ -1,18 +1,15 @@
 -- Identifiers as the bits that are sent, and their exact reading.
-use Rattle.std.proofs.Common.{◌≡◌, ℕ, ◌+◌, ◌*◌, ◌/◌, ◌%◌, ◌^◌, ◌<◌, Bool, true, false, cond, eqb, ◌||◌, Option, Some, None, bit_xor, bit_and, option_map, ap, ap₂, sym, ◌∙◌, subst, arith, lit≤, lit<}
+use Rattle.std.proofs.Common.{◌≡◌, ℕ, ◌+◌, ◌*◌, ◌/◌, ◌%◌, ◌^◌, ◌<◌, Bool, true, false, cond, eqb, ◌||◌, Option, Some, None, bit_xor, bit_and, option_map, ap, ap₂, sym, ◌∙◌, subst, arith, lit<}
 use Rattle.std.specs.Prelude.{IsSome, IfSome}
 use Rattle.std.specs.Int.Bits.{xor_self}
 use Rattle.std.proofs.lemmas.Bool.{false≢true}
 use Rattle.std.proofs.lemmas.Nat.{shr_high, shr_split, shr-shr, xor_shr, mod_below, pow_pos, div-mul-add, mod-mul-add, and_mask, div-add-mod'}
-use Rattle.p25_bits.specs.Divisible.{IsDivisible, HasDegree, IsRemainder}
+use Rattle.p25_bits.specs.Divisible.{IsDivisible, IsRemainder}
 use Rattle.p25_bits.proofs.Divisions.{xor_apart, same_from_xor, IsDivisible-lower, IsDivisible-sum, IsRemainder-unique, remainder_from_divisible, divisible_from_remainder}
+use Rattle.p25_bch_nid.specs.Bch63Forms.{generator_degree}
 use Rattle.p25_bch_nid.specs.Nid.{generator, parity_of, IsSent}
 use Rattle.p25_bch_nid.specs.ExactReading.{IsExactReading}
 use Rattle.p25_bch_nid.specs.declared.nid.Nid.{Nid}
-
--- the generator has degree 47
-pub HasDegree-generator : HasDegree generator 47
-HasDegree-generator = record { highest = lit≤ tt; none_above = lit< tt }
 
 cond-lt_two : (b : Bool) → cond b 1 0 < 2
 cond-lt_two true = lit< tt
@@ -41,7 +38,7 @@ IsSent-from_parts nac duid r parity small low word is =
 -- no identifier where a remainder is left
 pub IsExactReading-none : (bits r : ℕ) → IsRemainder generator 47 (bits / 2) r → (r ≡ 0 → ⊥) → IsExactReading bits None
 unfolding IsExactReading
-IsExactReading-none bits r is other = λ word. other (IsRemainder-unique generator 47 (bits / 2) r 0 HasDegree-generator is (remainder_from_divisible generator 47 (bits / 2) word))
+IsExactReading-none bits r is other = λ word. other (IsRemainder-unique generator 47 (bits / 2) r 0 generator_degree is (remainder_from_divisible generator 47 (bits / 2) word))
 
 -- the identifier in front of a word
 pub IsExactReading-some : (bits : ℕ) (nid : Option Nid) → IsRemainder generator 47 (bits / 2) 0 → IsSome nid → IfSome nid (λ n. (n.nac ≡ bits / 2 ^ 52) × (n.duid ≡ bits / 2 ^ 48 % 16)) → IsExactReading bits (option_map (λ n. (n.nac, n.duid)) nid)
@@ -64,6 +61,6 @@ xor_same_high a b k same =
 pub IsSent-unique : (nac duid a b : ℕ) → IsSent nac duid a → IsSent nac duid b → a ≡ b
 IsSent-unique nac duid a b x y =
     let high : (a / 2) / 2 ^ 47 ≡ (b / 2) / 2 ^ 47 = shr-shr a 1 47 ∙ x.information ∙ sym y.information ∙ sym (shr-shr b 1 47) in
-    let none = IsDivisible-lower generator 47 (bit_xor (a / 2) (b / 2)) HasDegree-generator (IsDivisible-sum generator (a / 2) (b / 2) x.word y.word) (xor_same_high (a / 2) (b / 2) 47 high) in
+    let none = IsDivisible-lower generator 47 (bit_xor (a / 2) (b / 2)) generator_degree (IsDivisible-sum generator (a / 2) (b / 2) x.word y.word) (xor_same_high (a / 2) (b / 2) 47 high) in
     let halves : a / 2 ≡ b / 2 = same_from_xor (a / 2) (b / 2) none in
     omega (arith, x.parity, y.parity, div-add-mod' a 2, div-add-mod' b 2, halves)

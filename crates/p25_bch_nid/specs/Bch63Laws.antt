@@ -23,7 +23,7 @@ use Rattle.p25_bch_nid.specs.Bch63Forms.{generator_degree, to_divisible, from_di
 unfoldable pub encoded_by : List Bool → ℕ → List Bool
 encoded_by info remainder = info ++ bits_of 47 remainder
 
--- it is a word that begins with the information
+-- where that is the remainder, it is a word that begins with the information
 pub IsEncoding-encoded_by : (info : List Bool) (remainder : ℕ) → length info ≡ 16 → IsRemainder generator 47 (field_of info * 2 ^ 47) remainder → IsEncoding IsBch63 16 info (encoded_by info remainder)
 unfolding encoded_by
 IsEncoding-encoded_by info remainder long is =
@@ -42,6 +42,7 @@ IsEncoding-encoded_by info remainder long is =
 pub encoded : List Bool → List Bool
 encoded info = encoded_by info (some_remainder generator 47 (field_of info * 2 ^ 47) generator_degree).0
 
+-- it is a word that begins with the information
 pub IsEncoding-encoded : (info : List Bool) → length info ≡ 16 → IsEncoding IsBch63 16 info (encoded info)
 unfolding encoded
 IsEncoding-encoded info long =

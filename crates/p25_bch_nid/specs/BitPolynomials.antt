@@ -27,10 +27,12 @@ module _ {F : Type 0} (K : Field F) where
 
   infixl 65 ◌⊕◌
   infixl 70 ◌⊗◌
+  -- no coefficients
   pub bit_value-nil : (x : F) → bit_value K x [] ≡ 𝟘
   unfolding bit_value
   bit_value-nil x = refl
 
+  -- one coefficient above the others
   pub bit_value-cons : (x : F) (bit : Bool) (bits : List Bool) → bit_value K x (bit ∷ bits) ≡ coefficient_of K bit ⊗ power K x (length bits) ⊕ bit_value K x bits
   unfolding bit_value
   bit_value-cons x bit bits = refl
