@@ -4,6 +4,7 @@ pub mod ItemCases
 pub mod ItemsLaws
 pub mod LayoutLaws
 pub mod NidFacts
+pub mod PlainLists
 pub mod ProgressLaws
 pub mod ScanLaws
 pub mod SeamLaws

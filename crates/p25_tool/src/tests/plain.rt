@@ -3,7 +3,9 @@
 
 ghost use Rattle.std.specs.Prelude.{◌≡◌, ◌+◌, ◌≤◌, ◌++◌, length, option_map, IfOk, OnOk};
 ghost use Rattle.p25_bits.specs.Bits.{octet_bits};
-ghost use Rattle.p25_tool.specs.Items.{first_item, has_sync, nid_of, status_at, sync_place, synced_item, unit_item};
+ghost use Rattle.p25_bits.specs.Distance.{distance_of};
+ghost use Rattle.p25_status.specs.Sync.{sync_bits};
+ghost use Rattle.p25_tool.specs.Items.{first_item, fixes_of, has_sync, nid_of, status_at, sync_place, synced_item, unit_item};
 ghost use Rattle.p25_tool.specs.Texts.{output_of, rendered, shown};
 
 use crate::command::Command;
@@ -11,7 +13,7 @@ use crate::item::{Field, Frame, Item};
 use crate::item_text::item_text;
 use crate::line::Line;
 use crate::octet_bits::bit_at;
-use p25_bch_nid::{Nid, exact_nid};
+use p25_bch_nid::{Nid, nid_bits, read_nid};
 use p25_bits::BitBuf;
 use std::alloc::{AllocError, Global};
 
@@ -88,18 +90,24 @@ fn plain_sync_place(bits: &[bool]) -> usize
     bits.len()
 }
 
-// Whether bits begin with a sync: 48 bits that differ from it in no place.
+// Whether bits begin with a sync: 48 bits that differ from it in four places at most.
 fn begins_with_sync(bits: &[bool]) -> bool
     ensures { result ≡ has_sync bits.now }
 {
-    if bits.len() < 48 {
-        return false;
-    }
+    bits.len() >= 48 && plain_sync_distance(&bits[..48]) <= 4
+}
+
+// In how many places 48 bits differ from the sync.
+fn plain_sync_distance(bits: &[bool]) -> u32
+    requires { length bits.now ≡ 48 }
+    ensures distance { result ≡ distance_of bits.now sync_bits }
+    ensures most { result ≤ 48 }
+{
     let mut received = BitBuf::new();
-    received.extend(&bits[..48]);
+    received.extend(bits);
     let mut sync = BitBuf::new();
     sync.put_field(0x5575_F5FF_77FF, 48);
-    BitBuf::distance(&received, &sync) <= 0
+    BitBuf::distance(&received, &sync)
 }
 
 // The item of bits that begin with a sync.
@@ -130,7 +138,7 @@ fn plain_nid(unit: &[bool]) -> Option<Nid>
     let mut bits = BitBuf::new();
     bits.extend(&unit[48..70]);
     bits.extend(&unit[72..114]);
-    exact_nid(bits.field(0, 64))
+    read_nid(bits.field(0, 64))
 }
 
 // The item behind a network identifier that was read.
@@ -158,7 +166,7 @@ fn plain_unit_item(at: usize, bits: &[bool], nid: Nid) -> Item
             first_status: plain_status(&bits[..144], 70),
             last_status: plain_status(&bits[..144], 142),
         },
-        fixes: 0,
+        fixes: plain_fixes(&bits[..144], &nid),
     }
 }
 
@@ -168,4 +176,17 @@ fn plain_status(unit: &[bool], place: usize) -> u8
     ensures { result ≡ status_at place unit.now }
 {
     2 * u8::from(unit[place]) + u8::from(unit[place + 1])
+}
+
+// In how many places the sync and the first 63 bits of the identifier of a unit differ from those of its frame.
+fn plain_fixes(unit: &[bool], nid: &Nid) -> u32
+    requires { length unit.now ≡ 144 }
+    ensures { result ≡ fixes_of (nid.now.nac, nid.now.duid) unit.now }
+{
+    let mut received = BitBuf::new();
+    received.extend(&unit[48..70]);
+    received.extend(&unit[72..113]);
+    let mut sent = BitBuf::new();
+    sent.put_field(nid_bits(nid) >> 1, 63);
+    plain_sync_distance(&unit[..48]) + BitBuf::distance(&received, &sent)
 }

@@ -77,7 +77,7 @@ const ROWS: [Row; 24] = [
         name: "a terminator with 11 wrong identifier bits",
         lead: 0,
         octets: b"\x55\x75\xF5\xFF\x77\xFF\xFF\xE3\x35\x93\x0B\xDD\x3B\x2B\x00\x00\x00\x01",
-        text: b"nounit at=0 field=nid\ngap at=1 bits=143\n",
+        text: b"unit at=0 bits=144 fix=11 status=11 tdu nac=000\n",
     },
     Row {
         name: "a terminator with other network access code and status symbols",
@@ -89,7 +89,7 @@ const ROWS: [Row; 24] = [
         name: "4 wrong sync bits",
         lead: 0,
         octets: b"\xA5\x75\xF5\xFF\x77\xFF\x00\x03\x35\x93\x0B\xDD\x3B\x2B\x00\x00\x00\x01",
-        text: b"gap at=0 bits=144\n",
+        text: b"unit at=0 bits=144 fix=4 status=11 tdu nac=000\n",
     },
     Row {
         name: "5 wrong sync bits",
@@ -101,7 +101,7 @@ const ROWS: [Row; 24] = [
         name: "the last sync bit wrong",
         lead: 0,
         octets: b"\x55\x75\xF5\xFF\x77\xFE\x00\x03\x35\x93\x0B\xDD\x3B\x2B\x00\x00\x00\x01",
-        text: b"gap at=0 bits=144\n",
+        text: b"unit at=0 bits=144 fix=1 status=11 tdu nac=000\n",
     },
     Row {
         name: "an identifier of DUID 0",

@@ -1,8 +1,10 @@
-use Rattle.std.proofs.Common.{◌≡◌, ◌≤◌, ◌++◌, Bool, List, [], length, drop, ap, ◌∙◌, arith, length-append, length-drop}
+use Rattle.std.proofs.Common.{◌≡◌, ◌≤◌, ◌++◌, Bool, List, [], length, drop, ap, ap₂, sym, ◌∙◌, arith, length-append, length-drop}
 use Rattle.std.proofs.lemmas.List.{take_all, length-take-le}
-use Rattle.p25_bits.specs.Bits.{field_of, part}
-use Rattle.p25_bch_nid.specs.ExactReading.{exact_nid_of}
+use Rattle.p25_bits.specs.Bits.{bits_of, field_of, part}
+use Rattle.p25_bits.proofs.BitsLaws.{bits_of-field_of}
+use Rattle.p25_bch_nid.specs.NidReading.{nid_reading_of}
 use Rattle.p25_tool.specs.Items.{nid_bits}
+use Rattle.p25_tool.proofs.NidFacts.{length-nid_bits}
 use Rattle.p25_tool.proofs.tests.plain.plain_nid.Goals as goal
 
 -- the two runs of bits one behind the other are those of the identifier
@@ -18,4 +20,6 @@ joined unit none first both long a b d =
 pub returns : goal.returns
 returns c =
     let bits = joined c.args.unit.now _ _ _ c.requires c.new-bits.ensures c.extend.ensures.list c.extend-2.ensures.list in
-    c.exact_nid.ensures.reading ∙ ap exact_nid_of (c.field.ensures ∙ ap field_of bits)
+    let long = length-nid_bits c.args.unit.now (omega (arith, c.requires)) in
+    let number = c.field.ensures ∙ ap field_of bits in
+    c.read_nid.ensures.value ∙ ap nid_reading_of (ap₂ bits_of (sym long) number ∙ bits_of-field_of (nid_bits c.args.unit.now))
