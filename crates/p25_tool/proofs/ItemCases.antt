@@ -1,9 +1,16 @@
 -- The cases of an item's definition.
-use Rattle.std.proofs.Common.{◌≡◌, ℕ, ◌<◌, ◌≤◌, Bool, cond, min, List, Option, Some, None, length, take, ltb, eqb, refl, ap, ◌∙◌}
+use Rattle.std.proofs.Common.{◌≡◌, ℕ, ◌<◌, ◌≤◌, Bool, cond, min, List, Option, Some, None, length, take, ltb, eqb, refl, ap, ap₂, ◌∙◌}
 use Rattle.std.proofs.lemmas.Bool.{cond-true, cond-false, lt-ltb, le-ltb, eq-eqb, ne_eqb}
 use Rattle.p25_tool.specs.Items.{frame_of, fixes_of, nid_of, unit_item, item_after_nid, synced_item, first_item, sync_place}
 use Rattle.p25_tool.specs.declared.item.Field.TheVariants.{Nid, Duid}
+use Rattle.p25_tool.specs.declared.item.Frame.{Frame}
 use Rattle.p25_tool.specs.declared.item.Item.TheVariants.{Whole, NoUnit, Gap, Cut}
+
+-- a terminator is named by its NAC, its two status symbols and its fixes
+pub whole-same : (at nac : ℕ) {first last fixes first' last' fixes' : ℕ} → first ≡ first' → last ≡ last' → fixes ≡ fixes' → Whole at (record { nac = nac; first_status = first; last_status = last }) fixes ≡ Whole at (record { nac = nac; first_status = first'; last_status = last' }) fixes'
+whole-same at nac {first} {last} {fixes} {first'} {last'} {fixes'} a b c =
+    ap₂ (λ (f l : ℕ). let frame : Frame = record { nac = nac; first_status = f; last_status = l } in Whole at frame fixes) a b
+    ∙ ap (λ (n : ℕ). let frame : Frame = record { nac = nac; first_status = first'; last_status = last' } in Whole at frame n) c
 
 pub unit_item-other : (at : ℕ) (bits : List Bool) (nid : ℕ × ℕ) → (nid.1 ≡ 3 → ⊥) → unit_item at bits nid ≡ NoUnit at Duid
 unfolding unit_item

@@ -1,7 +1,8 @@
 -- The bits of a network identifier among those of a unit, and their distance from those sent.
-use Rattle.std.proofs.Common.{◌≡◌, ℕ, ◌/◌, ◌^◌, ◌<◌, ◌≤◌, Bool, List, ◌++◌, length, take, drop, bit_xor, ap, ap₂, sym, ◌∙◌, arith, length-append, length-drop, mod-eq_of_lt}
+use Rattle.std.proofs.Common.{◌≡◌, ℕ, ◌+◌, ◌/◌, ◌^◌, ◌<◌, ◌≤◌, Bool, List, ◌++◌, length, take, drop, bit_xor, ap, ap₂, sym, ◌∙◌, arith, length-append, length-drop, mod-eq_of_lt}
 use Rattle.std.specs.Int.RustNames.{count_ones}
-use Rattle.std.proofs.lemmas.List.{length-take-le, take_at}
+use Rattle.std.proofs.lemmas.List.{length-take-le, take_at, take-take}
+use Rattle.std.proofs.Math.Seq.{take-append-add}
 use Rattle.std.proofs.lemmas.Nat.{xor_shr}
 use Rattle.p25_bits.specs.Bits.{bits_of, field_of, part}
 use Rattle.p25_bits.specs.Distance.{distance_of}
@@ -18,8 +19,17 @@ length-nid_bits unit long =
     length-append (part 48 22 unit) (part 72 42 unit)
     ∙ omega (arith, length-take-le 22 (drop 48 unit) (omega (arith, length-drop 48 unit)), length-take-le 42 (drop 72 unit) (omega (arith, length-drop 72 unit)))
 
+-- the first 63 bits of an identifier
+pub take_63 : (unit : List Bool) → 114 ≤ length unit → take 63 (nid_bits unit) ≡ part 48 22 unit ++ part 72 41 unit
+take_63 unit long =
+    let front : length (part 48 22 unit) ≡ 22 = length-take-le 22 (drop 48 unit) (omega (arith, length-drop 48 unit)) in
+    let split : 63 ≡ length (part 48 22 unit) + 41 = omega (arith, front) in
+    ap (λ n. take n (nid_bits unit)) split
+    ∙ take-append-add (part 48 22 unit) (part 72 42 unit) 41
+    ∙ ap (λ (xs : List Bool). part 48 22 unit ++ xs) (take-take 41 42 (drop 72 unit) (omega arith))
+
 -- the first 63 of 64 bits
-first_63 : (number : ℕ) → take 63 (bits_of 64 number) ≡ bits_of 63 (number / 2)
+pub first_63 : (number : ℕ) → take 63 (bits_of 64 number) ≡ bits_of 63 (number / 2)
 first_63 number =
     ap (take 63) (bits_of-add 63 1 number) ∙ take_at (bits_of 63 (number / 2 ^ 1)) (bits_of 1 number) 63 (length-bits_of 63 (number / 2 ^ 1))
 

@@ -1,5 +1,6 @@
 //! Values from outside, each refusal, and a slow program that the tool is compared with.
 
+mod damage;
 mod plain;
 mod refusals;
 mod rows;

@@ -183,10 +183,11 @@ fn plain_fixes(unit: &[bool], nid: &Nid) -> u32
     requires { length unit.now ≡ 144 }
     ensures { result ≡ fixes_of (nid.now.nac, nid.now.duid) unit.now }
 {
+    let sync = plain_sync_distance(&unit[0..48]);
     let mut received = BitBuf::new();
     received.extend(&unit[48..70]);
     received.extend(&unit[72..113]);
     let mut sent = BitBuf::new();
     sent.put_field(nid_bits(nid) >> 1, 63);
-    plain_sync_distance(&unit[..48]) + BitBuf::distance(&received, &sent)
+    sync + BitBuf::distance(&received, &sent)
 }

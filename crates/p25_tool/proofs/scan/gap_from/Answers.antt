@@ -1,4 +1,4 @@
-use Rattle.std.proofs.Common.{◌≡◌, ℕ, suc, ◌+◌, ◌-◌, ◌*◌, ◌<◌, ◌≤◌, ◌^◌, ◌%◌, min, Bool, List, false, length, drop, ap, ap₂, sym, ◌∙◌, subst, arith, length-drop}
+use Rattle.std.proofs.Common.{◌≡◌, ℕ, suc, ◌+◌, ◌-◌, ◌*◌, ◌<◌, ◌≤◌, ◌^◌, ◌%◌, Bool, List, length, drop, ap, ap₂, sym, ◌∙◌, subst, arith, length-drop}
 use Rattle.std.proofs.lemmas.Bool.{iff_false}
 use Rattle.p25_bits.specs.Distance.{distance_of}
 use Rattle.p25_bits.specs.Bits.{bits_of, digit_of, field_of, octet_bits, part}

@@ -4,20 +4,13 @@ use Rattle.p25_bits.specs.Bits.{bits_of, field_of, octet_bits, part}
 use Rattle.p25_bits.proofs.BitsLaws.{length-octet_bits, bits_of-field_of}
 use Rattle.p25_bits.proofs.Lists.{part-take}
 use Rattle.p25_tool.specs.Items.{status_at, nid_bits, nid_word, fixes_of}
-use Rattle.p25_tool.specs.declared.item.Frame.{Frame}
-use Rattle.p25_tool.specs.declared.item.Item.TheVariants.{Whole, Cut}
+use Rattle.p25_tool.specs.declared.item.Item.TheVariants.{Cut}
 use Rattle.p25_bits.specs.Distance.{distance_of}
 use Rattle.p25_status.specs.Sync.{sync_bits}
 use Rattle.p25_tool.proofs.NidFacts.{length-nid_bits}
 use Rattle.p25_tool.proofs.ScanLaws.{window_bits}
-use Rattle.p25_tool.proofs.ItemCases.{unit_item-other, unit_item-cut, unit_item-whole}
+use Rattle.p25_tool.proofs.ItemCases.{whole-same, unit_item-other, unit_item-cut, unit_item-whole}
 use Rattle.p25_tool.proofs.scan.item_of_unit.Goals as goal
-
--- a terminator is named by its NAC, its two status symbols and its fixes
-whole : (at nac : ℕ) {first last fixes first' last' fixes' : ℕ} → first ≡ first' → last ≡ last' → fixes ≡ fixes' → Whole at (record { nac = nac; first_status = first; last_status = last }) fixes ≡ Whole at (record { nac = nac; first_status = first'; last_status = last' }) fixes'
-whole at nac {first} {last} {fixes} {first'} {last'} {fixes'} a b c =
-    ap₂ (λ (f l : ℕ). let frame : Frame = record { nac = nac; first_status = f; last_status = l } in Whole at frame fixes) a b
-    ∙ ap (λ (n : ℕ). let frame : Frame = record { nac = nac; first_status = first'; last_status = last' } in Whole at frame n) c
 
 pub returns-then-nid-ne3 : goal.returns-then-nid-ne3
 returns-then-nid-ne3 c = sym (unit_item-other c.args.at _ (c.args.nid.nac, c.args.nid.duid) c.if-nid-ne3.true)
@@ -59,7 +52,7 @@ returns c =
     let last = status bits c.args.at 142 c.field_at-2.result (omega arith) c.field_at-2.ensures.value in
     let fixes : c.sync_distance.result + c.nid_distance.result ≡ fixes_of nid (take 144 rest)
     = ap₂ ◌+◌
-        (c.sync_distance.ensures.distance ∙ sync_at rest c.field_at-3.result long c.field_at-3.ensures.value)
-        (c.nid_distance.ensures.distance ∙ nid_at rest nid c.nid_field.result long c.nid_field.ensures.value) in
-    whole c.args.at c.args.nid.nac first last fixes
+    (c.sync_distance.ensures.distance ∙ sync_at rest c.field_at-3.result long c.field_at-3.ensures.value)
+    (c.nid_distance.ensures.distance ∙ nid_at rest nid c.nid_field.result long c.nid_field.ensures.value) in
+    whole-same c.args.at c.args.nid.nac first last fixes
     ∙ sym (unit_item-whole c.args.at rest nid c.if-nid-ne3.false long)
