@@ -1,15 +1,11 @@
--- Identifiers as the bits that are sent, and their exact reading.
-use Rattle.std.proofs.Common.{◌≡◌, ℕ, ◌+◌, ◌*◌, ◌/◌, ◌%◌, ◌^◌, ◌<◌, Bool, true, false, cond, eqb, ◌||◌, Option, Some, None, bit_xor, bit_and, option_map, ap, ap₂, sym, ◌∙◌, subst, arith, lit<}
-use Rattle.std.specs.Prelude.{IsSome, IfSome}
+-- Identifiers as the bits that are sent.
+use Rattle.std.proofs.Common.{◌≡◌, ℕ, ◌+◌, ◌*◌, ◌/◌, ◌%◌, ◌^◌, ◌<◌, Bool, true, false, cond, eqb, ◌||◌, bit_xor, ap, sym, ◌∙◌, subst, arith, lit<}
 use Rattle.std.specs.Int.Bits.{xor_self}
-use Rattle.std.proofs.lemmas.Bool.{false≢true}
-use Rattle.std.proofs.lemmas.Nat.{shr_high, shr_split, shr-shr, xor_shr, mod_below, pow_pos, div-mul-add, mod-mul-add, and_mask, div-add-mod'}
-use Rattle.p25_bits.specs.Divisible.{IsDivisible, IsRemainder}
-use Rattle.p25_bits.proofs.Divisions.{xor_apart, same_from_xor, IsDivisible-lower, IsDivisible-sum, IsRemainder-unique, remainder_from_divisible, divisible_from_remainder}
+use Rattle.std.proofs.lemmas.Nat.{shr_high, shr_split, shr-shr, xor_shr, mod_below, pow_pos, div-mul-add, mod-mul-add, div-add-mod'}
+use Rattle.p25_bits.specs.Divisible.{IsDivisible}
+use Rattle.p25_bits.proofs.Divisions.{xor_apart, same_from_xor, IsDivisible-lower, IsDivisible-sum}
 use Rattle.p25_bch_nid.specs.Bch63Forms.{generator_degree}
 use Rattle.p25_bch_nid.specs.Nid.{generator, parity_of, IsSent}
-use Rattle.p25_bch_nid.specs.ExactReading.{IsExactReading}
-use Rattle.p25_bch_nid.specs.declared.nid.Nid.{Nid}
 
 cond-lt_two : (b : Bool) → cond b 1 0 < 2
 cond-lt_two true = lit< tt
@@ -34,22 +30,6 @@ IsSent-from_parts nac duid r parity small low word is =
       parity = ap (λ n. n % 2) halves ∙ mod-mul-add (information * 2 ^ 47 + r) 2 parity bit ∙ is;
       fits = omega arith;
     }
-
--- no identifier where a remainder is left
-pub IsExactReading-none : (bits r : ℕ) → IsRemainder generator 47 (bits / 2) r → (r ≡ 0 → ⊥) → IsExactReading bits None
-unfolding IsExactReading
-IsExactReading-none bits r is other = λ word. other (IsRemainder-unique generator 47 (bits / 2) r 0 generator_degree is (remainder_from_divisible generator 47 (bits / 2) word))
-
--- the identifier in front of a word
-pub IsExactReading-some : (bits : ℕ) (nid : Option Nid) → IsRemainder generator 47 (bits / 2) 0 → IsSome nid → IfSome nid (λ n. (n.nac ≡ bits / 2 ^ 52) × (n.duid ≡ bits / 2 ^ 48 % 16)) → IsExactReading bits (option_map (λ n. (n.nac, n.duid)) nid)
-unfolding IsExactReading
-IsExactReading-some bits None is some value = absurd (false≢true some)
-IsExactReading-some bits (Some n) is some value = (divisible_from_remainder generator 47 (bits / 2) is, ap₂ (λ a b. (a, b)) value.0 value.1)
-
--- the low four bits are the remainder by 16
-pub in_front : (bits : ℕ) (nid : Option Nid) → IfSome nid (λ n. (n.nac ≡ bits / 2 ^ 52) × (n.duid ≡ bit_and (bits / 2 ^ 48) 15)) → IfSome nid (λ n. (n.nac ≡ bits / 2 ^ 52) × (n.duid ≡ bits / 2 ^ 48 % 16))
-in_front bits None value = tt
-in_front bits (Some n) value = (value.0, value.1 ∙ and_mask (bits / 2 ^ 48) 4)
 
 -- two numbers with the same high part differ by one of lower degree
 xor_same_high : (a b k : ℕ) → a / 2 ^ k ≡ b / 2 ^ k → bit_xor a b < 2 ^ k

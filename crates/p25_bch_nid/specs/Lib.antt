@@ -1,5 +1,4 @@
 pub mod Nid
-pub mod ExactReading
 pub mod BitPolynomials
 pub mod RemainderValues
 pub mod Bch63

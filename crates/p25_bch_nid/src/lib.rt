@@ -27,7 +27,7 @@ pub use bch63::Bch63;
 pub use laws::two_forms;
 pub use nid::Nid;
 pub use reading::read_nid;
-pub use word::{exact_nid, nid_bits};
+pub use word::nid_bits;
 
 #[cfg(test)]
 mod tests;

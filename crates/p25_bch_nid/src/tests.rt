@@ -15,7 +15,7 @@ const SENT: [(u16, u8, u64); 6] = [
 ];
 
 #[test]
-fn sent_bits_and_their_exact_reading(rt: HostRuntime) {
+fn sent_bits(rt: HostRuntime) {
     for (nac, duid, bits) in SENT {
         let nid = Nid::new(nac, duid);
         assert_eq!(rt;
@@ -23,22 +23,7 @@ fn sent_bits_and_their_exact_reading(rt: HostRuntime) {
             Some(bits),
             "{nac:x} {duid:x}"
         );
-        assert_eq!(rt; exact_nid(bits), nid, "{nac:x} {duid:x}");
-        assert_eq!(rt;
-            exact_nid(bits ^ 1),
-            nid,
-            "{nac:x} {duid:x} with P inverted"
-        );
-        for place in 1..64_u32 {
-            assert_eq!(rt;
-                exact_nid(bits ^ (1 << place)),
-                None,
-                "{nac:x} {duid:x} with x^{place} inverted"
-            );
-        }
     }
-    // It differs from each word in 21 places at least.
-    assert_eq!(rt; exact_nid(0x0003_682D_4527_4B06), None);
 }
 
 // A network access code and a data unit identifier, and whether they make an identifier.

@@ -1,12 +1,11 @@
 //! Identifiers as the 64 bits that are sent.
 
-ghost use Rattle.std.specs.Prelude.{◌≡◌, ℕ, ◌++◌, Some, take, option_map};
+ghost use Rattle.std.specs.Prelude.{◌≡◌, ℕ, ◌++◌, Some, take};
 ghost use Rattle.p25_bits.specs.Bits.{bits_of};
 ghost use Rattle.p25_code.specs.Words.{IsEncoding};
 ghost use Rattle.p25_bch_nid.specs.Bch63.{IsBch63};
 ghost use Rattle.p25_bch_nid.specs.Nid.{IsSent, parity_of};
 ghost use Rattle.p25_bch_nid.specs.NidReading.{nid_reading_of};
-ghost use Rattle.p25_bch_nid.specs.ExactReading.{IsExactReading, exact_nid_of};
 
 use crate::bch63::GENERATOR;
 use crate::nid::Nid;
@@ -31,17 +30,4 @@ fn parity(duid: u8) -> u64
     ensures { result ≡ parity_of duid }
 {
     if duid == 5 || duid == 10 { 1 } else { 0 }
-}
-
-/// Answers the identifier that 64 received bits begin with, the first bit highest; `None` exactly where the first 63
-/// bits are no word of the BCH code, that is where their polynomial is not divisible by the generator. The last
-/// bit, P, is not looked at.
-pub fn exact_nid(bits: u64) -> Option<Nid>
-    ensures exact { IsExactReading bits (option_map (λ nid. (nid.nac, nid.duid)) result) }
-    ensures reading { option_map (λ nid. (nid.nac, nid.duid)) result ≡ exact_nid_of bits }
-{
-    if number_remainder(bits >> 1, GENERATOR, 47) != 0 {
-        return None;
-    }
-    Nid::new((bits >> 52) as u16, ((bits >> 48) & 15) as u8)
 }
