@@ -30,7 +30,7 @@ pub(super) const TERMINATOR_TEXT: &[u8] = b"unit at=0 bits=144 fix=0 status=11 t
 
 pub(super) const NID_BEYOND_TEXT: &[u8] = b"nounit at=0 field=nid\ngap at=1 bits=143\n";
 
-const ROWS: [Row; 24] = [
+const ROWS: [Row; 25] = [
     Row {
         name: "no octets",
         lead: 0,
@@ -170,10 +170,16 @@ const ROWS: [Row; 24] = [
         text: b"unit at=0 bits=144 fix=0 status=11 tdu nac=000\nunit at=144 bits=144 fix=0 status=11 tdu nac=000\n",
     },
     Row {
-        name: "two false starts of a sync, and a sync without an identifier",
+        name: "three syncs that overlap, two with wrong bits, and no identifier behind them",
         lead: 0,
         octets: b"\x55\x75\xF5\xFF\x77\x55\x75\xF5\xFF\x77\xFE\x55\x75\xF5\xFF\x77\xFF\x55\x75\xF5\xFF\x77\xFF\x00\x03\x35\x93\x0B\xDD\x3B\x2B\x00\x00\x00\x01",
-        text: b"gap at=0 bits=88\nnounit at=88 field=nid\ngap at=89 bits=47\nunit at=136 bits=144 fix=0 status=11 tdu nac=000\n",
+        text: b"nounit at=0 field=nid\ngap at=1 bits=39\nnounit at=40 field=nid\ngap at=41 bits=47\nnounit at=88 field=nid\ngap at=89 bits=47\nunit at=136 bits=144 fix=0 status=11 tdu nac=000\n",
+    },
+    Row {
+        name: "a false start of a sync",
+        lead: 0,
+        octets: b"\x55\x75\xF5\xFF\x55\x75\xF5\xFF\x77\xFF\x00\x03\x35\x93\x0B\xDD\x3B\x2B\x00\x00\x00\x01",
+        text: b"gap at=0 bits=32\nunit at=32 bits=144 fix=0 status=11 tdu nac=000\n",
     },
 ];
 
