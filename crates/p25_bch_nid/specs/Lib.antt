@@ -7,3 +7,4 @@ pub mod BitSymbols
 pub mod Bch63Laws
 pub mod Bch63Readings
 pub mod NidReading
+pub mod NidWord
