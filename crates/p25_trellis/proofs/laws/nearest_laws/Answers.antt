@@ -1,4 +1,4 @@
-use Rattle.std.proofs.Common.{◌≡◌, ℕ, ◌*◌, length, arith}
+use Rattle.std.proofs.Common.{◌≡◌, ◌*◌, length, arith}
 use Rattle.p25_trellis.specs.Nearest.{nearest_octets, nearest_distance, block_from}
 use Rattle.p25_trellis.proofs.Apart.{same_from_sent_bits, IsNearReading-from}
 use Rattle.p25_trellis.proofs.NearestLaws.{nearest_reading, same_nearest, IsBlock-block_from}
