@@ -4,11 +4,11 @@ use Rattle.std.proofs.lemmas.List.{take_all}
 use Rattle.p25_bits.specs.Bits.{bits_of}
 use Rattle.p25_bits.specs.Numbers.{number_bits}
 use Rattle.p25_bits.proofs.NumbersLaws.{more_bits, number_bits-nil, number_bits_more}
-use Rattle.p25_trellis.proofs.fields.put_numbers.Goals as goal
+use Rattle.p25_bits.proofs.bit_buf.BitBuf.put_numbers.Goals as goal
 
 pub loop-number-init : goal.loop-number-init
 loop-number-init c = (
-  sym (append-nil c.args.bits.now) ∙ ap (λ (xs : List Bool). c.args.bits.now ++ xs) (sym (number_bits-nil c.args.width)),
+  sym (append-nil c.args.self.now) ∙ ap (λ (xs : List Bool). c.args.self.now ++ xs) (sym (number_bits-nil c.args.width)),
   omega (arith, mul-zero c.args.width),
 )
 
@@ -20,7 +20,7 @@ put_field-requires c =
     let more : i + 1 ≤ length numbers = omega arith in record {
       width = omega arith;
       fits = rw c.from.ensures (c.requires.fits i 0 c.loop-number-test.true);
-      room = omega (arith, more_bits (length c.args.bits.now) w i, mul-le-mul_left w more);
+      room = omega (arith, more_bits (length c.args.self.now) w i, mul-le-mul_left w more);
     }
 
 pub loop-number-preserved : goal.loop-number-preserved
@@ -30,17 +30,17 @@ loop-number-preserved c =
     let numbers = c.args.numbers.now in (
       c.put_field.ensures.list
           ∙ ap (λ (xs : List Bool). xs ++ bits_of w c.from.result) c.loop-number.invariant.0
-          ∙ ap (λ n. (c.args.bits.now ++ number_bits w (take i numbers)) ++ bits_of w n) c.from.ensures
-          ∙ number_bits_more c.args.bits.now w numbers i c.loop-number-test.true,
-      c.put_field.ensures.len ∙ ap (λ n. n + w) c.loop-number.invariant.1 ∙ more_bits (length c.args.bits.now) w i,
+          ∙ ap (λ n. (c.args.self.now ++ number_bits w (take i numbers)) ++ bits_of w n) c.from.ensures
+          ∙ number_bits_more c.args.self.now w numbers i c.loop-number-test.true,
+      c.put_field.ensures.len ∙ ap (λ n. n + w) c.loop-number.invariant.1 ∙ more_bits (length c.args.self.now) w i,
     )
 
 pub returns-clause-list : goal.returns-clause-list
 returns-clause-list c =
     let numbers = c.args.numbers.now in
-    c.loop-number.invariant.0 ∙ ap (λ (ns : List ℕ). c.args.bits.now ++ number_bits c.args.width ns) (take_all c.loop-number.number-index numbers c.loop-number-test.false)
+    c.loop-number.invariant.0 ∙ ap (λ (ns : List ℕ). c.args.self.now ++ number_bits c.args.width ns) (take_all c.loop-number.number-index numbers c.loop-number-test.false)
 
 pub returns-clause-len : goal.returns-clause-len
 returns-clause-len c =
     let done : c.loop-number.number-index ≡ length c.args.numbers.now = omega arith in
-    c.loop-number.invariant.1 ∙ ap (λ n. length c.args.bits.now + c.args.width * n) done
+    c.loop-number.invariant.1 ∙ ap (λ n. length c.args.self.now + c.args.width * n) done
