@@ -1,4 +1,6 @@
 pub mod Lists
+pub mod PartLaws
 pub mod BitsLaws
+pub mod NumbersLaws
 pub mod DistanceLaws
 pub mod Divisions
