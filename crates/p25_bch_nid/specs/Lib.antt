@@ -6,3 +6,4 @@ pub mod Bch63Forms
 pub mod BitSymbols
 pub mod Bch63Laws
 pub mod NidReading
+pub mod NidWord
