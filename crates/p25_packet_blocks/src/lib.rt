@@ -22,7 +22,7 @@ mod slots;
 mod whole;
 
 pub use block::{Block, Slot};
-pub use flags::Flags;
+pub use flags::{Flags, flags_make, flags_read};
 pub use head::PacketHead;
 pub use octets::Octets;
 pub use packet::{Confirmed, Packet, Plain};

@@ -32,6 +32,7 @@ fn are_good(slots: &Slots) -> bool
 }
 
 /// Answers whether no slot is Bad: true of each packet that is not confirmed.
+#[tactic(auto, unfolding(crate::specs::Whole::IsWholePacket))]
 pub fn is_whole(packet: &Packet) -> bool
     ensures { IsTrue result ↔ IsWholePacket packet.now }
 {
