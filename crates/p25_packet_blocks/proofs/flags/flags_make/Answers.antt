@@ -28,7 +28,7 @@ pub returns-then-len-eq128-clause-octets : goal.returns-then-len-eq128-clause-oc
 returns-then-len-eq128-clause-octets c =
     let count : length c.args.flags.now ≡ 128 = sym (counted c.before.before.before) ∙ c.if-len-eq128.true in
     c.push_rest.ensures
-    ∙ ap (λ (xs : List ℕ). xs ++ 0 ∷ 0 ∷ 0 ∷ 0 ∷ []) (pushed c.before.before ∙ ap (λ n. octets_from (n / 8) c.args.flags.now) count)
+    ∙ ap (λ (xs : List ℕ). xs ++ 0 ∷ 0 ∷ 0 ∷ 0 ∷ []) (pushed c.before.before.before ∙ ap (λ n. octets_from (n / 8) c.args.flags.now) count)
     ∙ sym (flag_octets-128 c.args.flags.now count)
 
 pub returns-then-len-eq128-clause-read : goal.returns-then-len-eq128-clause-read
