@@ -1,17 +1,10 @@
 -- The steps of the loops of flags: one more octet or flag, by the laws of lists that grow at their end.
-use Rattle.std.proofs.Common.{◌≡◌, ℕ, ◌+◌, ◌*◌, ◌<◌, Bool, false, List, [], ◌∷◌, ◌++◌, length, take, get_or, set, slice_get, Some, ap, ap₂, sym, ◌∙◌, arith, append_assoc}
+use Rattle.std.proofs.Common.{◌≡◌, ℕ, ◌+◌, ◌*◌, ◌<◌, Bool, false, List, [], ◌∷◌, ◌++◌, length, take, set, slice_get, Some, ap, ap₂, sym, ◌∙◌, append_assoc}
 use Rattle.std.proofs.lemmas.List.{take_more, take_more_set}
 use Rattle.std.proofs.lemmas.Option.{get_or_from_slice_get}
-use Rattle.p25_bits.specs.Bits.{bits_of, field_of, octet_bits, part}
+use Rattle.p25_bits.specs.Bits.{field_of, part}
 use Rattle.p25_bits.specs.Numbers.{octets_from}
-use Rattle.p25_bits.proofs.NumbersLaws.{number_bits-octets, number_bits_more, numbers_from-more}
-
--- one more octet written to bits
-pub octet_bits_more : (bits : List Bool) (octets : List ℕ) (i value : ℕ) → i < length octets → value ≡ get_or octets i 0 → (bits ++ octet_bits (take i octets)) ++ bits_of 8 value ≡ bits ++ octet_bits (take (i + 1) octets)
-octet_bits_more bits octets i value inside is =
-    ap₂ (λ (xs : List Bool) n. (bits ++ xs) ++ bits_of 8 n) (sym (number_bits-octets (take i octets))) is
-    ∙ number_bits_more bits 8 octets i inside
-    ∙ ap (λ (xs : List Bool). bits ++ xs) (number_bits-octets (take (i + 1) octets))
+use Rattle.p25_bits.proofs.NumbersLaws.{numbers_from-more}
 
 -- one more octet read from bits
 pub octets_from_more : (octets : List ℕ) (n value : ℕ) (bits : List Bool) → value ≡ field_of (part (8 * n) 8 bits) → (octets ++ octets_from n bits) ++ value ∷ [] ≡ octets ++ octets_from (n + 1) bits

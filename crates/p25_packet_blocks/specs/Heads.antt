@@ -1,5 +1,5 @@
 -- The fields of a packet header's ten octets, and the headers that this project's stations send.
-use Rattle.std.specs.Prelude.{ℕ, ◌+◌, ◌*◌, ◌/◌, ◌%◌, Bool, cond, eqb, List, [], ◌∷◌, slice_index}
+use Rattle.std.specs.Prelude.{ℕ, ◌+◌, ◌*◌, ◌/◌, ◌%◌, Bool, cond, eqb, [], ◌∷◌, slice_index}
 use Rattle.p25_packet_blocks.specs.declared.head.PacketHead.{PacketHead}
 
 -- the format: the last five bits of octet 0

@@ -27,7 +27,7 @@ impl Block {
     /// Answers the block of a serial number, at most 127, and sixteen octets.
     pub fn new(serial: u8, octets: [u8; 16]) -> Block
         requires { serial < 128 }
-        ensures { result ≡ record { serial = serial; octets = octets.entry } }
+        ensures { result ≡ record { serial = serial; octets = octets } }
     {
         Block { serial, octets }
     }

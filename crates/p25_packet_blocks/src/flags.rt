@@ -102,24 +102,13 @@ pub fn flags_make(flags: &Flags) -> Octets
     octets
 }
 
-// Appends the bits of octets.
-fn put_octets(octets: &[u8], bits: &mut BitBuf)
-    requires { length bits.old + 8 * length octets.now ≤ 25928 }
-    ensures list { bits.new ≡ bits.old ++ octet_bits octets.now }
-    ensures len { length bits.new ≡ length bits.old + 8 * length octets.now }
-{
-    for octet in octets {
-        bits.put_field(u64::from(*octet), 8);
-    }
-}
-
 // The flags that octets write, eight an octet.
 fn flags_in(octets: &[u8]) -> Flags
     requires { (length octets.now ≡ 8) ⊎ (length octets.now ≡ 16) }
     ensures { result ≡ octet_bits octets.now }
 {
     let mut bits = BitBuf::new();
-    put_octets(octets, &mut bits);
+    bits.put_numbers(octets, 8);
     let mut flags = Flags::new(bits.len());
     for i in 0..bits.len() {
         flags.set(i, bits.get(i));

@@ -1,7 +1,7 @@
-use Rattle.std.proofs.Common.{◌≡◌, ℕ, ◌/◌, ◌⊎◌, inl, inr, Bool, List, [], ◌∷◌, ◌++◌, length, take, ap, ap₂, sym, ◌∙◌, arith}
+use Rattle.std.proofs.Common.{◌≡◌, ℕ, ◌/◌, ◌⊎◌, inl, inr, Bool, List, [], ◌∷◌, ◌++◌, length, ap, ap₂, sym, ◌∙◌, arith}
 use Rattle.std.proofs.lemmas.List.{length-take}
 use Rattle.p25_bits.specs.Numbers.{octets_from}
-use Rattle.p25_packet_blocks.specs.FlagOctets.{flag_octets, flags_of_octets}
+use Rattle.p25_packet_blocks.specs.FlagOctets.{flags_of_octets}
 use Rattle.p25_packet_blocks.proofs.FlagLaws.{flag_octets-64, flag_octets-128, flags_of_octets-flag_octets}
 use Rattle.p25_packet_blocks.proofs.flags.flags_make.Goals as goal
 use Rattle.p25_packet_blocks.proofs.flags.flags_make.Goals.{After-len-2}

@@ -1,4 +1,4 @@
-use Rattle.std.proofs.Common.{◌≡◌, ◌≢◌, ap, sym, ◌∙◌, arith, Some, length, List, ℕ, take}
+use Rattle.std.proofs.Common.{◌≢◌, ap, sym, ◌∙◌, arith, Some, length, List, ℕ, take}
 use Rattle.p25_bits.specs.Bits.{octet_bits}
 use Rattle.p25_packet_blocks.proofs.FlagLaws.{flags_of_octets-8, flags_of_octets-20, flags_of_octets-none}
 use Rattle.p25_packet_blocks.proofs.flags.flags_read.Goals as goal

@@ -1,4 +1,4 @@
-use Rattle.std.proofs.Common.{List, Bool, ℕ, ◌<◌, ap, ◌∙◌, slice_set, length, arith}
+use Rattle.std.proofs.Common.{List, Bool, ◌<◌, ap, ◌∙◌, slice_set, length, arith}
 use Rattle.std.proofs.lemmas.List.{length-take}
 use Rattle.std.proofs.Math.Seq.{take-set-lt}
 use Rattle.p25_packet_blocks.proofs.flags.Flags.set.Goals as goal
