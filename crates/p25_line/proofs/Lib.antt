@@ -1,0 +1,5 @@
+pub mod WordsLaws
+pub mod WordsSteps
+pub mod HexLaws
+pub mod ValuesSteps
+pub mod JoinLaws
