@@ -1,4 +1,4 @@
-use Rattle.std.proofs.Common.{◌≡◌, ◌*◌, Bool, true, length, sym, subst, ◌∙◌, arith}
+use Rattle.std.proofs.Common.{◌≡◌, ◌*◌, true, length, sym, subst, ◌∙◌, arith}
 use Rattle.std.specs.List.{list_all}
 use Rattle.p25_line.specs.Values.{AllOctets, is_lower_digit}
 use Rattle.p25_line.proofs.HexLaws.{octets_of-facts}

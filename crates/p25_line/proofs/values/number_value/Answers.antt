@@ -1,4 +1,4 @@
-use Rattle.std.proofs.Common.{◌≡◌, ◌^◌, ◌<◌, Ok, sym, ap, ◌∙◌, arith, decimal}
+use Rattle.std.proofs.Common.{◌≡◌, ◌^◌, ◌<◌, sym, ap, ◌∙◌, arith, decimal}
 use Rattle.p25_line.proofs.ValuesSteps.{decimal-utf8, parsed-number, equal-texts}
 use Rattle.p25_line.proofs.values.number_value.Goals as goal
 use Rattle.p25_line.proofs.values.number_value.Goals.{else-number-most-via-then-number-most+else-eq, else-number-most-via-else-number-most}
