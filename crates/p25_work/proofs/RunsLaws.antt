@@ -96,11 +96,11 @@ module _ {K : Type 0} (written : K → Option (List ℕ)) (first last : K) (futu
         few = omega arith;
         meets = record {
           front = λ rest is.
-            let e : octets ++ rest ≡ octets = ap (λ (zs : List ℕ). octets ++ zs) (none rest is) ∙ append-nil octets in
-            let whole : moved.text ++ now.writes true [] ≡ future.writes true octets = sym (writes-more true []) ∙ ap (future.writes true) (append-nil octets) in
-            AppendedFront-same
-            (whole ∙ sym (not-long input_most (length octets) (future.writes false (take input_most octets)) (future.writes true octets) few) ∙ ap (all_written future) (sym e))
-            (AppendedFront-next moved.appended cut.0);
+              let e : octets ++ rest ≡ octets = ap (λ (zs : List ℕ). octets ++ zs) (none rest is) ∙ append-nil octets in
+              let whole : moved.text ++ now.writes true [] ≡ future.writes true octets = sym (writes-more true []) ∙ ap (future.writes true) (append-nil octets) in
+              AppendedFront-same
+              (whole ∙ sym (not-long input_most (length octets) (future.writes false (take input_most octets)) (future.writes true octets) few) ∙ ap (all_written future) (sym e))
+              (AppendedFront-next moved.appended cut.0);
         };
       }
   ends-final told left (Ended ending) third few taken none all ended =
@@ -130,8 +130,8 @@ stops-final written first third future fed tail told left Fault few most taken c
       few = most;
       meets = record {
         front = λ rest is.
-          subst (λ (zs : List ℕ). AppendedFront (written first) (all_written future zs) (written third)) (sym (append_assoc fed tail rest))
-          (all_written-from future (λ (zs : List ℕ). AppendedFront (written first) zs (written third)) fed (tail ++ rest) few (λ b m. cut.front b m));
+            subst (λ (zs : List ℕ). AppendedFront (written first) (all_written future zs) (written third)) (sym (append_assoc fed tail rest))
+            (all_written-from future (λ (zs : List ℕ). AppendedFront (written first) zs (written third)) fed (tail ++ rest) few (λ b m. cut.front b m));
       };
     }
 stops-final written first third future fed tail told left (Ended ending) few most taken ended =

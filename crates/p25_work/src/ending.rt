@@ -1,14 +1,6 @@
 //! How the work on an input ends.
 
-// (for now)
-#[derive(Clone, Copy, Debug, PartialEq, Eq)]
-pub enum LineFault {
-    Long,
-    Form,
-    Kind,
-    Key,
-    Value,
-}
+use p25_line::LineFault;
 
 /// How the work on an input ends by what the input holds.
 #[derive(Clone, Copy, Debug, PartialEq, Eq)]

@@ -8,10 +8,10 @@ ghost use Rattle.p25_work.specs.Futures.{EndsBy, IsIdle, IsStopped, Moved};
 ghost use Rattle.p25_work.specs.Runs.{Worked, all_written};
 
 use super::ending::{Ending, Stop, WorkEnd};
-use super::line::Line;
 use super::page::{flush, gather};
 use super::worker::Worker;
 use p25_io::{Sink, Source};
+use p25_line::Line;
 
 // The most octets of an input.
 const INPUT_MOST: usize = 16_777_216;

@@ -8,11 +8,9 @@
 
 mod ending;
 mod input;
-mod line;
 mod page;
 mod worker;
 
 pub use ending::{Ending, WorkEnd};
 pub use input::work;
-pub use line::{LINE_MOST, Line};
 pub use worker::Worker;

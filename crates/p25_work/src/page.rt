@@ -5,8 +5,8 @@ ghost use Rattle.p25_io.specs.Faults.{HasCause};
 ghost use Rattle.p25_io.specs.Octets.{Appended, AppendedFront};
 ghost use Rattle.p25_work.specs.Pages.{Gathered};
 
-use super::line::{LINE_MOST, Line};
 use p25_io::{Failed, Sink};
+use p25_line::{LINE_MOST, Line};
 
 // Writes what is on the page, and empties it. An empty page is not written.
 pub(crate) fn flush<K: Sink>(page: &mut Line, sink: &mut K) -> Result<(), Failed>

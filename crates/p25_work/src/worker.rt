@@ -4,7 +4,7 @@ ghost use Rattle.std.specs.Prelude.{◌≡◌, ℕ, ◌+◌, ◌^◌, ◌<◌, �
 ghost use Rattle.p25_work.specs.Futures.{Future, Progress, IsClosed, IsIdle, NextPiece};
 
 use super::ending::Ending;
-use super::line::Line;
+use p25_line::Line;
 
 /// A command at work: octets go in one at a time, and what it writes for them comes out in pieces.
 ///

@@ -16,8 +16,8 @@ pub returns-in_default-clause-untouched : goal.returns-in_default-clause-untouch
 returns-in_default-clause-untouched g c =
     let inv = c.loop-count.invariant in
     λ input same none.
-      let parts = told-parts _ _ inv.octets input inv.taken same in
-      nothing-touched g.K.Sink.written _ _ _ _ inv.octets inv.moved input parts.0 (omega (arith, inv.count, inv.few)) parts.1 none
+    let parts = told-parts _ _ inv.octets input inv.taken same in
+    nothing-touched g.K.Sink.written _ _ _ _ inv.octets inv.moved input parts.0 (omega (arith, inv.count, inv.few)) parts.1 none
 
 pub returns-then-count-eq0-clause-worked : goal.returns-then-count-eq0-clause-worked
 returns-then-count-eq0-clause-worked g c =
