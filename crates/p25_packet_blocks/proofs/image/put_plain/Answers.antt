@@ -21,7 +21,7 @@ loop-j-preserved c =
     let twelve : 12 * j + 12 - 12 * j ≡ 12 = omega arith in
     record {
       list =
-        c.encode_block.ensures.value
-        ∙ put_more c.args.out.now c.loop-j.out _ (body_block (Plain packet)) j c.loop-j.invariant.list (ap₂ (λ n (xs : List ℕ). half_block (take n (drop (12 * j) xs))) twelve octets ∙ sym (body_block-plain packet j));
+          c.encode_block.ensures.value
+          ∙ put_more c.args.out.now c.loop-j.out _ (body_block (Plain packet)) j c.loop-j.invariant.list (ap₂ (λ n (xs : List ℕ). half_block (take n (drop (12 * j) xs))) twelve octets ∙ sym (body_block-plain packet j));
       len = omega arith;
     }

@@ -10,8 +10,8 @@ loop-j-init c = record { so_far = c.new-slots.ensures ∙ sym (slots_read-zero c
 pub loop-j-preserved : goal.loop-j-preserved
 loop-j-preserved c = record {
   so_far =
-    c.push.ensures.list
-    ∙ ap₂ (λ (xs : List Slot) x. xs ++ x ∷ []) c.loop-j.invariant.so_far (c.slot_in.ensures ∙ ap slot_from c.read_block.ensures.octets)
-    ∙ sym (slots_read-more c.loop-j.j c.args.plain.now);
+      c.push.ensures.list
+      ∙ ap₂ (λ (xs : List Slot) x. xs ++ x ∷ []) c.loop-j.invariant.so_far (c.slot_in.ensures ∙ ap slot_from c.read_block.ensures.octets)
+      ∙ sym (slots_read-more c.loop-j.j c.args.plain.now);
   len = omega arith;
 }
