@@ -4,3 +4,5 @@ pub mod Values
 pub mod Products
 pub mod Locators
 pub mod ProductValues
+pub mod Quotients
+pub mod ForneyLaws

@@ -1,8 +1,8 @@
 -- Products of polynomials by their coefficients.
-use Rattle.std.proofs.Common.{◌≡◌, ◌≢◌, ◌⊎◌, ℕ, zero, suc, ◌+◌, ◌-◌, ◌<◌, ◌≤◌, cond, sym, ap, ap₂, ◌∙◌, inl, inr, arith}
-use Rattle.std.proofs.lemmas.Bool.{cases_eq, cases_lt, lt-ltb, le-ltb}
+use Rattle.std.proofs.Common.{◌≡◌, ◌≢◌, ◌⊎◌, ℕ, zero, suc, ◌+◌, ◌-◌, ◌<◌, ◌≤◌, cond, eqb, refl, sym, ap, ap₂, ◌∙◌, inl, inr, arith}
+use Rattle.std.proofs.lemmas.Bool.{cases_eq, cases_lt, lt-ltb, le-ltb, eq-eqb, ne_eqb}
 use Rattle.p25_gf64.specs.Field.{Field}
-use Rattle.p25_gf64.proofs.FieldFacts.{mul_assoc, add_assoc, add_zero, add_self, add_twice, same_from_sum, mul_comm, mul_add, mul_zero, zero_mul, mul_ne_zero}
+use Rattle.p25_gf64.proofs.FieldFacts.{mul_assoc, add_assoc, add_zero, add_self, add_twice, same_from_sum, mul_comm, mul_one, mul_add, mul_zero, zero_mul, mul_ne_zero}
 use Rattle.p25_algebra.specs.Sums.{sum_below}
 use Rattle.p25_algebra.specs.Series.{product_at, IsZero, IsShort, IsDegree, shifted}
 use Rattle.p25_algebra.proofs.SumFacts.{sum-mul, sum_first, sum_same, sum_of_zeros, sum-add, sum_longer, sum_of_one, sum_reverse}
@@ -31,6 +31,9 @@ module _ {F : Type 0} (K : Field F) where
 
   pub product_same : (f g h : ℕ → F) → ((i : ℕ) → g i ≡ h i) → (n : ℕ) → product_at K f g n ≡ product_at K f h n
   product_same f g h e n = sum_same K (suc n) (λ i. f i ⊗ g (n - i)) (λ i. f i ⊗ h (n - i)) (λ i low. ap (λ w. f i ⊗ w) (e (n - i)))
+
+  pub product_same_left : (f g h : ℕ → F) → ((i : ℕ) → f i ≡ g i) → (n : ℕ) → product_at K f h n ≡ product_at K g h n
+  product_same_left f g h e n = sum_same K (suc n) (λ i. f i ⊗ h (n - i)) (λ i. g i ⊗ h (n - i)) (λ i low. ap (λ w. w ⊗ h (n - i)) (e i))
 
   pub product_comm : (f g : ℕ → F) (n : ℕ) → product_at K f g n ≡ product_at K g f n
   product_comm f g n =
@@ -82,17 +85,12 @@ module _ {F : Type 0} (K : Field F) where
   product_assoc f g h (suc n) =
       product_first (product_at K f g) h n
       ∙ ap₂ (λ a b. a ⊗ h (suc n) ⊕ b) (product_at_zero f g)
-      (product_same_left n
+      (product_same_left (λ i. product_at K f g (suc i)) (λ i. f 0 ⊗ g (suc i) ⊕ product_at K (λ i. f (suc i)) g i) h (product_first f g) n
       ∙ product-add_left (λ i. f 0 ⊗ g (suc i)) (product_at K (λ i. f (suc i)) g) h n
       ∙ ap₂ ◌⊕◌ (product-mul_left (f 0) (λ i. g (suc i)) h n) (product_assoc (λ i. f (suc i)) g h n))
       ∙ regroup (f 0) (g 0) (h (suc n)) (product_at K (λ i. g (suc i)) h n) (product_at K (λ i. f (suc i)) (product_at K g h) n)
       ∙ sym (product_first f (product_at K g h) n ∙ ap (λ w. f 0 ⊗ w ⊕ product_at K (λ i. f (suc i)) (product_at K g h) n) (product_first g h n))
     where
-      product_same_left : (n : ℕ) → product_at K (λ i. product_at K f g (suc i)) h n ≡ product_at K (λ i. f 0 ⊗ g (suc i) ⊕ product_at K (λ i. f (suc i)) g i) h n
-      product_same_left n =
-          sum_same K (suc n) (λ i. product_at K f g (suc i) ⊗ h (n - i)) (λ i. (f 0 ⊗ g (suc i) ⊕ product_at K (λ i. f (suc i)) g i) ⊗ h (n - i))
-          (λ i low. ap (λ w. w ⊗ h (n - i)) (product_first f g i))
-
       regroup : (a b c p q : F) → a ⊗ b ⊗ c ⊕ (a ⊗ p ⊕ q) ≡ a ⊗ (b ⊗ c ⊕ p) ⊕ q
       regroup a b c p q = simp (mul_add K, mul_assoc K, add_assoc K)
 
@@ -112,6 +110,32 @@ module _ {F : Type 0} (K : Field F) where
     where
       back : s ≤ n → n - (n - s) ≡ s
       back above = omega arith
+
+  -- terms below n make the shifted coefficient of x^n
+  pub shifted_agree : (s count n : ℕ) (f g : ℕ → F) → n < count → ((i : ℕ) → i < count → f i ≡ g i) → shifted K s f n ≡ shifted K s g n
+  shifted_agree s count n f g low same =
+      elim (cases_lt n s) [
+        | inl below ↦ shifted_below s f n below ∙ sym (shifted_below s g n below)
+        | inr from ↦ shifted_from s f n from ∙ same (n - s) (omega arith) ∙ sym (shifted_from s g n from)
+      ]
+
+  -- a shift of a factor shifts the product
+  pub product-shifted : (s : ℕ) (g h : ℕ → F) (n : ℕ) → product_at K (shifted K s g) h n ≡ shifted K s (product_at K g h) n
+  product-shifted s g h n =
+      product_same_left (shifted K s g) (product_at K g unit) h (λ i. sym (monomial g i)) n
+      ∙ product_assoc g unit h n
+      ∙ product_same g (product_at K unit h) (product_at K h unit) (product_comm unit h) n
+      ∙ sym (product_assoc g h unit n)
+      ∙ monomial (product_at K g h) n
+    where
+      unit : ℕ → F
+      unit i = cond (eqb i s) 𝟙 𝟘
+
+      monomial : (f : ℕ → F) (i : ℕ) → product_at K f unit i ≡ shifted K s f i
+      monomial f i =
+          product_monomial f unit 𝟙 s (ap (λ t. cond t 𝟙 𝟘) (eq-eqb s s refl)) (λ k other. ap (λ t. cond t 𝟙 𝟘) (ne_eqb k s other)) i
+          ∙ mul_comm K 𝟙 (shifted K s f i)
+          ∙ mul_one K (shifted K s f i)
 
   -- the product has no coefficient where the terms that would make it are zero
   pub product_zero : (f g : ℕ → F) (n : ℕ) → ((i j : ℕ) → i + j ≡ n → (f i ≡ 𝟘) ⊎ (g j ≡ 𝟘)) → product_at K f g n ≡ 𝟘

@@ -26,10 +26,10 @@ module _ {F : Type 0} (K : Field F) where
   unfolding nonzeros
   nonzeros-suc n f = refl
 
-  weight_zero : (x : F) → x ≡ 𝟘 → weight_by (K.is_zero x) ≡ 0
+  pub weight_zero : (x : F) → x ≡ 𝟘 → weight_by (K.is_zero x) ≡ 0
   weight_zero x e = elim (K.is_zero x) as (λ w. weight_by w ≡ 0) [ inl same ↦ refl | inr apart ↦ absurd (apart e) ]
 
-  weight_one : (x : F) → x ≢ 𝟘 → weight_by (K.is_zero x) ≡ 1
+  pub weight_one : (x : F) → x ≢ 𝟘 → weight_by (K.is_zero x) ≡ 1
   weight_one x h = elim (K.is_zero x) as (λ w. weight_by w ≡ 1) [ inl same ↦ absurd (h same) | inr apart ↦ refl ]
 
   pub nonzeros-le : (n : ℕ) (f : ℕ → F) → nonzeros K n f ≤ n
@@ -62,7 +62,7 @@ module _ {F : Type 0} (K : Field F) where
       ]
 
   -- each factor times the sum of its element and another
-  abbrev lowered : (ℕ → F) → (ℕ → F) → F → ℕ → F
+  abbrev pub lowered : (ℕ → F) → (ℕ → F) → F → ℕ → F
   lowered x v y j = v j ⊗ (x j ⊕ y)
 
   lowered_term : (x v p y : F) → v ⊗ (x ⊕ y) ⊗ p ≡ v ⊗ (x ⊗ p) ⊕ y ⊗ (v ⊗ p)
@@ -73,7 +73,7 @@ module _ {F : Type 0} (K : Field F) where
       ∙ ap (λ w. v ⊗ (x ⊗ p) ⊕ w) (mul_left_comm K v y p)
 
   -- the sum of the lowered factors is the next sum and y times this one
-  power_sum-lowered : (n : ℕ) (x v : ℕ → F) (y : F) (i : ℕ) → power_sum K n x (lowered x v y) i ≡ power_sum K n x v (suc i) ⊕ y ⊗ power_sum K n x v i
+  pub power_sum-lowered : (n : ℕ) (x v : ℕ → F) (y : F) (i : ℕ) → power_sum K n x (lowered x v y) i ≡ power_sum K n x v (suc i) ⊕ y ⊗ power_sum K n x v i
   power_sum-lowered n x v y i =
       sum_same K n (λ j. v j ⊗ (x j ⊕ y) ⊗ power K (x j) i) (λ j. v j ⊗ power K (x j) (suc i) ⊕ y ⊗ (v j ⊗ power K (x j) i))
       (λ j h. lowered_term (x j) (v j) (power K (x j) i) y ∙ ap (λ w. v j ⊗ w ⊕ y ⊗ (v j ⊗ power K (x j) i)) (sym (power-suc K (x j) i)))

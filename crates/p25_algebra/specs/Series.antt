@@ -1,5 +1,5 @@
 -- Polynomials by their coefficients: the coefficient of x^i at each i.
-use Rattle.std.specs.Prelude.{◌≡◌, ◌≢◌, ℕ, suc, ◌-◌, ◌<◌, ◌≤◌, List, slice_index_or, nat_lt, if◌then◌else◌}
+use Rattle.std.specs.Prelude.{◌≡◌, ◌≢◌, ℕ, suc, ◌+◌, ◌-◌, ◌<◌, ◌≤◌, List, slice_index_or, nat_lt, if◌then◌else◌}
 use Rattle.p25_gf64.specs.Field.{Field, power}
 use Rattle.p25_algebra.specs.Sums.{sum_below}
 
@@ -31,3 +31,16 @@ pub record IsDegree {F : Type 0} (K : Field F) (f : ℕ → F) (d : ℕ) : Type 
 -- the coefficients times x^s
 unfoldable pub shifted : {F : Type 0} → Field F → ℕ → (ℕ → F) → ℕ → F
 shifted K s f n = if nat_lt n s then K.zero else f (n - s)
+
+-- the coefficients times 1 + y x
+abbrev pub times_linear : {F : Type 0} → Field F → F → (ℕ → F) → ℕ → F
+times_linear K y f i = K.add (f i) (K.mul y (shifted K 1 f i))
+
+-- the coefficient of x^k in the quotient by x + z of a polynomial with n coefficients: what Horner's rule at z has before it comes
+-- to the coefficient of x^k
+abbrev pub rest_at : {F : Type 0} → Field F → ℕ → (ℕ → F) → F → ℕ → F
+rest_at K n f z k = value_at K (n - suc k) (λ i. f (suc k + i)) z
+
+-- the slope at z: the value there of the quotient by x + z. At a zero it is the value of the derivative
+abbrev pub slope_at : {F : Type 0} → Field F → ℕ → (ℕ → F) → F → F
+slope_at K n f z = value_at K n (rest_at K n f z) z

@@ -12,5 +12,5 @@
 mod polynomials;
 mod power_sums;
 
-pub use polynomials::{few_zeros, product_laws, unique_division, value_laws};
-pub use power_sums::{alpha_powers, locator_vanishes, vanishing_sums};
+pub use polynomials::{few_zeros, product_laws, slope_laws, unique_division, value_laws};
+pub use power_sums::{alpha_powers, forney, locator_vanishes, vanishing_sums};

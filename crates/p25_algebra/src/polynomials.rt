@@ -1,10 +1,10 @@
 //! Polynomials by their coefficients.
 
-ghost use Rattle.std.specs.Prelude.{◌≡◌, ℕ, ◌+◌, ◌<◌, ◌≤◌};
+ghost use Rattle.std.specs.Prelude.{◌≡◌, ℕ, suc, ◌+◌, ◌<◌, ◌≤◌};
 ghost use Rattle.p25_gf64.specs.declared.symbol.Sym.{Sym};
 ghost use Rattle.p25_gf64.specs.Gf64.{gf64};
 ghost use Rattle.p25_algebra.specs.Sums.{AreApart};
-ghost use Rattle.p25_algebra.specs.Series.{value_at, product_at, IsShort, IsDegree};
+ghost use Rattle.p25_algebra.specs.Series.{value_at, product_at, IsShort, IsDegree, times_linear, slope_at};
 
 /// A polynomial of `length` coefficients that has as many different zeros is zero.
 pub fn few_zeros()
@@ -30,6 +30,16 @@ pub fn value_laws()
         → value_at gf64 n (λ i. gf64.add (f i) (g i)) x ≡ gf64.add (value_at gf64 n f x) (value_at gf64 n g x) }
     ensures products { (m k n : ℕ) (f g : ℕ → Sym) (x : Sym) → IsShort gf64 m f → IsShort gf64 k g → m + k ≤ n
         → value_at gf64 n (product_at gf64 f g) x ≡ gf64.mul (value_at gf64 m f x) (value_at gf64 k g x) }
+{}
+
+/// Where a polynomial f is multiplied by 1 + y x, a zero of f keeps its slope times 1 + y z, and the zero of 1 + y x has the slope
+/// y times the value of f.
+pub fn slope_laws()
+    ensures kept { (n : ℕ) (y : Sym) (f : ℕ → Sym) (z : Sym) → 0 < n → IsShort gf64 n f
+        → value_at gf64 n f z ≡ gf64.zero
+        → slope_at gf64 (suc n) (times_linear gf64 y f) z ≡ gf64.mul (gf64.add gf64.one (gf64.mul y z)) (slope_at gf64 n f z) }
+    ensures made { (n : ℕ) (y : Sym) (f : ℕ → Sym) (z : Sym) → IsShort gf64 n f → gf64.mul y z ≡ gf64.one
+        → slope_at gf64 (suc n) (times_linear gf64 y f) z ≡ gf64.mul y (value_at gf64 n f z) }
 {}
 
 /// Quotient and remainder by a polynomial of degree d are determined, where the remainder has no

@@ -1,11 +1,11 @@
 //! The BCH code (63,16).
 
-ghost use Rattle.p25_code.specs.Letters.{same_bit};
 ghost use Rattle.p25_bch_nid.specs.Bch63.{IsBch63};
-ghost use Rattle.p25_bch_nid.specs.Bch63Laws.{length_of_word, one_word, far_apart, within, begins};
+ghost use Rattle.p25_bch_nid.specs.Bch63Laws.{bch63_is_code};
+ghost use Rattle.p25_bch_nid.specs.Bch63Readings.{bch63_reading_of, bch63_reads_as};
 
-use crate::bits::{are_bits, number_of, put_bits, put_number, put_symbols};
-use p25_bits::number_remainder;
+use crate::symbols::{are_bits, put_bits, put_symbols};
+use p25_bits::{number_of, number_remainder, put_number};
 use p25_code::{BlockCode, Reading};
 use p25_gf64::Sym;
 use p25_reed_solomon::Rs;
@@ -40,17 +40,21 @@ impl BlockCode for Bch63 {
 
     ghost distance_is = { 23 };
 
-    ghost same_letter = { same_bit };
+    ghost reading_is = { bch63_reading_of };
 
-    ghost length_of_word = { λ _. length_of_word };
+    ghost reads_as = { λ _. bch63_reads_as };
 
-    ghost one_word = { λ _. one_word };
+    ghost same_letter = { bch63_is_code.alike };
 
-    ghost far_apart = { λ _. far_apart };
+    ghost length_of_word = { λ _. bch63_is_code.long };
 
-    ghost within = { λ _. within };
+    ghost one_word = { λ _. bch63_is_code.one_word };
 
-    ghost begins = { λ _. begins };
+    ghost far_apart = { λ _. bch63_is_code.far_apart };
+
+    ghost within = { λ _. bch63_is_code.close };
+
+    ghost begins = { λ _. bch63_is_code.begins };
 
     fn radius() -> usize {
         RADIUS

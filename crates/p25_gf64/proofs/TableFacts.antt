@@ -51,10 +51,9 @@ logarithm_entry_is x apart =
     same_symbol (power gf64 alpha (slice_index_or LOGARITHMS (number x) 0)) x
     (number-power alpha _ ∙ ap (λ a. product_power a (slice_index_or LOGARITHMS (number x) 0)) number_alpha ∙ (logarithm_entry (number x) x.below (number_ne_zero x apart)).1)
 
--- the product by logarithms
-pub mul_by_logarithms : (x y : Sym) (i j : ℕ) → power gf64 alpha i ≡ x → power gf64 alpha j ≡ y → power gf64 alpha ((i + j) % 63) ≡ gf64.mul x y
-mul_by_logarithms x y i j hx hy =
-    sym (power-mod gf64 alpha 63 (i + j) alpha_to_63 (omega arith)) ∙ power-add gf64 alpha i j ∙ ap₂ gf64.mul hx hy
+-- each symbol but zero is a power of α
+pub alpha_exponent_of : (x : Sym) → x ≢ gf64.zero → (i : ℕ) × (i < 63) × (power gf64 alpha i ≡ x)
+alpha_exponent_of x apart = (slice_index_or LOGARITHMS (number x) 0, logarithm_entry-lt x apart, logarithm_entry_is x apart)
 
 -- the inverse by the logarithm
 pub inverse_by_logarithm : (x : Sym) (i : ℕ) → i < 63 → power gf64 alpha i ≡ x → gf64.mul x (power gf64 alpha ((63 - i) % 63)) ≡ gf64.one

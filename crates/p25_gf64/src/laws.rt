@@ -1,6 +1,6 @@
 //! The laws of the field, for those who prove what they compute with symbols.
 
-ghost use Rattle.std.specs.Prelude.{◌≡◌, ◌⊎◌, ℕ, true, ◌<◌};
+ghost use Rattle.std.specs.Prelude.{◌≡◌, ◌≢◌, ◌⊎◌, ℕ, true, ◌<◌};
 ghost use Rattle.p25_gf64.specs.declared.symbol.Sym.{Sym};
 ghost use Rattle.p25_gf64.specs.Field.{FieldLaws, power};
 ghost use Rattle.p25_gf64.specs.Symbol.{number, alpha};
@@ -21,8 +21,9 @@ pub fn symbol_laws()
     ensures alpha { number alpha ≡ 2 }
 {}
 
-/// α has the order 63.
+/// α has the order 63, and its powers are all symbols but 0.
 pub fn alpha_order()
     ensures one { power gf64 alpha 63 ≡ gf64.one }
     ensures apart { (i j : ℕ) → i < 63 → j < 63 → power gf64 alpha i ≡ power gf64 alpha j → i ≡ j }
+    ensures all { (x : Sym) → x ≢ gf64.zero → (i : ℕ) × (i < 63) × (power gf64 alpha i ≡ x) }
 {}

@@ -16,6 +16,7 @@
 #![tactic(auto)]
 
 mod laws;
+mod products;
 mod symbol;
 mod tables;
 

@@ -1,5 +1,6 @@
 ghost use Rattle.std.specs.Prelude.{◌≡◌, ◌≢◌, ℕ, ◌<◌, ◌↔◌, IsTrue, IsSome, IfSome, bit_xor};
 
+use crate::products::product;
 use crate::tables::{LOGARITHMS, POWERS};
 
 /// An element of GF(64): a number from 0 to 63, whose bit k is the coefficient of x^k.
@@ -31,6 +32,14 @@ impl Sym {
 
     /// The symbol 1.
     pub const ONE: Sym = Sym { value: 1 };
+
+    /// Answers the two symbols that have names, `Sym::ZERO` and `Sym::ONE`: the 0 and the 1 of the field.
+    pub fn named() -> (Sym, Sym)
+        ensures zero { result.0 ≡ gf64.zero }
+        ensures one { result.1 ≡ gf64.one }
+    {
+        (Sym::ZERO, Sym::ONE)
+    }
 
     /// The symbol of a number. None comes exactly above 63.
     pub fn new(value: u8) -> Option<Sym>
@@ -74,10 +83,9 @@ impl Sym {
         ensures product { result ≡ gf64.mul self other }
         ensures number { number result ≡ product (number self) (number other) }
     {
-        if self.is_zero() || other.is_zero() {
-            return Sym::ZERO;
+        Sym {
+            value: product(self.value, other.value),
         }
-        Sym::power_below((self.logarithm() + other.logarithm()) % 63)
     }
 
     /// The inverse of a symbol that isn't 0: the one symbol whose product with it is 1.

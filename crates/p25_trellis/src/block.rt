@@ -4,8 +4,8 @@ ghost use Rattle.std.specs.Prelude.{◌≡◌, ℕ, ◌+◌, ◌*◌, ◌^◌, �
 ghost use Rattle.p25_bits.specs.Bits.{part};
 ghost use Rattle.p25_trellis.specs.Trellis.{IsBlock, IsFirstLeastReading, IsNearReading, distance_from};
 ghost use Rattle.p25_trellis.specs.Least.{IsDistanceTable};
+ghost use Rattle.p25_trellis.specs.Nearest.{nearest_octets, nearest_distance, block_from};
 
-use super::fields::{put_numbers, take_numbers};
 use super::interleave::{gather, spread};
 use super::least::{BLOCK_COSTS, read_costs};
 use super::path::{nibbles_of, path_of};
@@ -19,10 +19,11 @@ pub fn encode_block<R: Rate>(octets: &[u8], out: &mut BitBuf)
     requires room { length out.old + 196 ≤ 25928 }
     ensures block { (block : List Bool) × IsBlock R.STATES R.BITS_PER_SYMBOL R.point_of octets.now block × (out.new ≡ out.old ++ block) }
     ensures only { (block : List Bool) → IsBlock R.STATES R.BITS_PER_SYMBOL R.point_of octets.now block → out.new ≡ out.old ++ block }
+    ensures value { out.new ≡ out.old ++ block_from R.BITS_PER_SYMBOL R.point_of octets.now }
     ensures len { length out.new ≡ length out.old + 196 }
 {
     let path = path_of::<R>(octets);
-    put_numbers(out, &spread(&nibbles_of::<R>(&path)), 4);
+    out.put_numbers(&spread(&nibbles_of::<R>(&path)), 4);
 }
 
 // The table of costs where a nibble costs its distance from the one received at its step.
@@ -47,10 +48,12 @@ pub fn read_block<R: Rate>(bits: &BitBuf, at: usize, octets: &mut [u8]) -> u32
     requires there { at + 196 ≤ length bits.now }
     requires octets { length octets.old ≡ R.OCTETS }
     ensures nearest { IsFirstLeastReading R.STATES R.BITS_PER_SYMBOL (distance_from R.point_of (part at 196 bits.now)) octets.new result }
+    ensures octets { octets.new ≡ nearest_octets R.STATES R.BITS_PER_SYMBOL R.point_of (part at 196 bits.now) }
+    ensures distance { result ≡ nearest_distance R.STATES R.point_of (part at 196 bits.now) }
     ensures near { IsNearReading R.STATES R.BITS_PER_SYMBOL R.point_of R.APART (part at 196 bits.now) octets.new result }
 {
     let mut received = [0; 49];
-    take_numbers(bits, at, 4, &mut received, 49);
+    bits.take_numbers(at, 4, &mut received);
     read_costs::<R>(&distance_costs(&gather(&received)), octets)
 }
 

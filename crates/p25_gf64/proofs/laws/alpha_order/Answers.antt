@@ -1,4 +1,5 @@
 use Rattle.p25_gf64.proofs.Symbols.{alpha_to_63, alpha_exponents}
+use Rattle.p25_gf64.proofs.TableFacts.{alpha_exponent_of}
 use Rattle.p25_gf64.proofs.laws.alpha_order.Goals as goal
 
 pub returns-clause-one : goal.returns-clause-one
@@ -6,3 +7,6 @@ returns-clause-one c = alpha_to_63
 
 pub returns-clause-apart : goal.returns-clause-apart
 returns-clause-apart c = alpha_exponents
+
+pub returns-clause-all : goal.returns-clause-all
+returns-clause-all c = alpha_exponent_of

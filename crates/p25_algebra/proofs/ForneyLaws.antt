@@ -1,0 +1,139 @@
+-- Forney's formula: the factors of power sums by a polynomial that vanishes at the inverses of the elements with factors other than
+-- zero. The coefficient of x^m in the quotient's product with the sums is computed twice: as a sum over the elements, of which one
+-- term is left, and from the product of the polynomial and the sums.
+use Rattle.std.proofs.Common.{◌≡◌, ◌≢◌, ℕ, zero, suc, ◌+◌, ◌-◌, ◌<◌, ◌≤◌, sym, ap, ap₂, ◌∙◌, inl, inr, arith}
+use Rattle.p25_gf64.specs.Field.{Field, power}
+use Rattle.p25_gf64.proofs.FieldFacts.{add_comm, add_zero, zero_add, add_twice, same_from_sum, mul_comm, mul_assoc, mul_left_comm, mul_one, one_mul, mul_add, mul_zero, zero_mul, mul_inverse, mul_cancel, other_zero}
+use Rattle.p25_gf64.proofs.Powers.{power-zero, power-suc, power-add, power_of_mul, power_of_one, power_ne_zero}
+use Rattle.p25_algebra.specs.Sums.{sum_below, power_sum, AreApart}
+use Rattle.p25_algebra.specs.Series.{value_at, product_at, shifted, IsShort, rest_at, slope_at}
+use Rattle.p25_algebra.proofs.SumFacts.{sum-none, sum-suc, sum_same, sum-mul, sum_exchange, sum_of_one}
+use Rattle.p25_algebra.proofs.Products.{product_same_left, product-add_left, product-mul_left, product-shifted}
+use Rattle.p25_algebra.proofs.ProductValues.{value_longer}
+use Rattle.p25_algebra.proofs.Quotients.{shifted-first, shifted-next, short_rest, factored, value-factored}
+
+module _ {F : Type 0} (K : Field F) where
+  open K use {zero as 𝟘, one as 𝟙, add as ◌⊕◌, mul as ◌⊗◌, inverse}
+
+  infixl 65 ◌⊕◌
+  infixl 70 ◌⊗◌
+  -- the product with a quotient
+  pub factored_product : (f q s : ℕ → F) (z : F) → ((k : ℕ) → f k ≡ z ⊗ q k ⊕ shifted K 1 q k) → (i : ℕ) → product_at K f s i ≡ z ⊗ product_at K q s i ⊕ shifted K 1 (product_at K q s) i
+  factored_product f q s z whole i =
+      product_same_left K f (λ k. z ⊗ q k ⊕ shifted K 1 q k) s whole i
+      ∙ product-add_left K (λ k. z ⊗ q k) (shifted K 1 q) s i
+      ∙ ap₂ ◌⊕◌ (product-mul_left K z q s i) (product-shifted K 1 q s i)
+
+  -- a coefficient of the quotient by x + z, by the first coefficients
+  pub front_sum : (x z : F) (w e : ℕ → F) → x ⊗ z ≡ 𝟙 → ((i : ℕ) → e i ≡ z ⊗ w i ⊕ shifted K 1 w i) → (i : ℕ) → w i ≡ power K x (suc i) ⊗ value_at K (suc i) e z
+  front_sum x z w e one whole zero =
+      sym (one_mul K (w 0))
+      ∙ ap (λ v. v ⊗ w 0) (sym one)
+      ∙ mul_assoc K x z (w 0)
+      ∙ ap (λ v. x ⊗ v) (sym (whole 0 ∙ ap (λ v. z ⊗ w 0 ⊕ v) (shifted-first K w) ∙ add_zero K (z ⊗ w 0)))
+      ∙ ap₂ ◌⊗◌ (sym (power-suc K x 0 ∙ ap (λ v. x ⊗ v) (power-zero K x) ∙ mul_one K x)) (sym constant)
+    where
+      constant : value_at K 1 e z ≡ e 0
+      constant =
+          sum-suc K 0 (λ i. e i ⊗ power K z i)
+          ∙ ap₂ ◌⊕◌ (sum-none K (λ i. e i ⊗ power K z i)) (ap (λ v. e 0 ⊗ v) (power-zero K z) ∙ mul_one K (e 0))
+          ∙ zero_add K (e 0)
+  front_sum x z w e one whole (suc i) =
+      sym (one_mul K (w (suc i)))
+      ∙ ap (λ v. v ⊗ w (suc i)) (sym one)
+      ∙ mul_assoc K x z (w (suc i))
+      ∙ ap (λ v. x ⊗ v) (sym (add_twice K (w i) (z ⊗ w (suc i))) ∙ ap (λ v. w i ⊕ v) (add_comm K (w i) (z ⊗ w (suc i)) ∙ ap (λ v. z ⊗ w (suc i) ⊕ v) (sym (shifted-next K w i)) ∙ sym (whole (suc i))))
+      ∙ mul_add K x (w i) (e (suc i))
+      ∙ ap₂ ◌⊕◌ (ap (λ v. x ⊗ v) (front_sum x z w e one whole i) ∙ sym (mul_assoc K x (power K x (suc i)) (value_at K (suc i) e z)) ∙ ap (λ v. v ⊗ value_at K (suc i) e z) (sym (power-suc K x (suc i))))
+      (ap (λ v. x ⊗ v) (sym (one_mul K (e (suc i))) ∙ ap (λ v. v ⊗ e (suc i)) (sym (power_of_one K (suc i)) ∙ ap (λ v. power K v (suc i)) (sym one) ∙ power_of_mul K x z (suc i)))
+      ∙ last (power K x (suc i)) (power K z (suc i)) (e (suc i))
+      ∙ ap (λ v. v ⊗ (e (suc i) ⊗ power K z (suc i))) (sym (power-suc K x (suc i))))
+      ∙ sym (mul_add K (power K x (suc (suc i))) (value_at K (suc i) e z) (e (suc i) ⊗ power K z (suc i)))
+      ∙ ap (λ v. power K x (suc (suc i)) ⊗ v) (sym (sum-suc K (suc i) (λ i. e i ⊗ power K z i)))
+    where
+      last : (p q c : F) → x ⊗ (p ⊗ q ⊗ c) ≡ x ⊗ p ⊗ (c ⊗ q)
+      last p q c = simp (mul_assoc K, mul_comm K)
+
+  lower_power : (x y : F) (m k : ℕ) → x ⊗ y ≡ 𝟙 → k ≤ m → power K x (m - k + 1) ≡ power K x (m + 1) ⊗ power K y k
+  lower_power x y m k one low =
+      let split : m + 1 ≡ (m - k + 1) + k = omega arith in
+      sym (mul_one K (power K x (m - k + 1)))
+      ∙ ap (λ w. power K x (m - k + 1) ⊗ w) (sym (power_of_one K k) ∙ ap (λ w. power K w k) (sym one) ∙ power_of_mul K x y k)
+      ∙ sym (mul_assoc K (power K x (m - k + 1)) (power K x k) (power K y k))
+      ∙ ap (λ w. w ⊗ power K y k) (sym (power-add K x (m - k + 1) k) ∙ ap (power K x) (sym split))
+
+  -- the product of a polynomial with power sums, as a sum over the elements
+  product_sums : (n m : ℕ) (x v q s : ℕ → F) → ((j : ℕ) → j < n → x j ⊗ inverse (x j) ≡ 𝟙) → ((i : ℕ) → i ≤ m → s i ≡ power_sum K n x v (i + 1)) → product_at K q s m ≡ sum_below K n (λ j. v j ⊗ power K (x j) (m + 1) ⊗ value_at K (suc m) q (inverse (x j)))
+  product_sums n m x v q s live sums =
+      sum_same K (suc m) (λ i. q i ⊗ s (m - i)) (λ i. sum_below K n (λ j. v j ⊗ power K (x j) (m + 1) ⊗ (q i ⊗ power K (inverse (x j)) i)))
+      (λ i low. ap (λ w. q i ⊗ w) (sums (m - i) (omega arith)) ∙ sym (sum-mul K n (q i) (λ j. v j ⊗ power K (x j) (m - i + 1)))
+      ∙ sum_same K n (λ j. q i ⊗ (v j ⊗ power K (x j) (m - i + 1))) (λ j. v j ⊗ power K (x j) (m + 1) ⊗ (q i ⊗ power K (inverse (x j)) i))
+      (λ j inside. ap (λ w. q i ⊗ (v j ⊗ w)) (lower_power (x j) (inverse (x j)) m i (live j inside) (omega arith)) ∙ regroup (q i) (v j) (power K (x j) (m + 1)) (power K (inverse (x j)) i)))
+      ∙ sum_exchange K (suc m) n (λ i j. v j ⊗ power K (x j) (m + 1) ⊗ (q i ⊗ power K (inverse (x j)) i))
+      ∙ sum_same K n (λ j. sum_below K (suc m) (λ i. v j ⊗ power K (x j) (m + 1) ⊗ (q i ⊗ power K (inverse (x j)) i))) (λ j. v j ⊗ power K (x j) (m + 1) ⊗ value_at K (suc m) q (inverse (x j)))
+      (λ j inside. sum-mul K (suc m) (v j ⊗ power K (x j) (m + 1)) (λ i. q i ⊗ power K (inverse (x j)) i))
+    where
+      regroup : (a b c e : F) → a ⊗ (b ⊗ (c ⊗ e)) ≡ b ⊗ c ⊗ (a ⊗ e)
+      regroup a b c e = simp (mul_assoc K, mul_left_comm K)
+
+  -- Forney's formula
+  pub forney : (n m : ℕ) (x v f s : ℕ → F) → AreApart n x → ((j : ℕ) → j < n → x j ≢ 𝟘) → IsShort K (suc (suc m)) f → ((i : ℕ) → i ≤ m → s i ≡ power_sum K n x v (i + 1)) → ((l : ℕ) → l < n → v l ≢ 𝟘 → value_at K (suc (suc m)) f (inverse (x l)) ≡ 𝟘) → (j : ℕ) → j < n → value_at K (suc (suc m)) f (inverse (x j)) ≡ 𝟘 → v j ⊗ slope_at K (suc (suc m)) f (inverse (x j)) ≡ value_at K (suc m) (product_at K f s) (inverse (x j))
+  forney n m x v f s apart live short sums zeros j inside here =
+      mul_cancel K (power K (x j) (m + 1)) (v j ⊗ slope_at K (suc (suc m)) f z) (value_at K (suc m) (product_at K f s) z) (power_ne_zero K (x j) (m + 1) (live j inside))
+      (
+      ap (λ w. power K (x j) (m + 1) ⊗ (v j ⊗ w)) (value_longer K (suc m) (suc (suc m)) q z (omega arith) short_q)
+      ∙ regroup (power K (x j) (m + 1)) (v j) (value_at K (suc m) q z)
+      ∙ sym (sum_of_one K n j (λ l. v l ⊗ power K (x l) (m + 1) ⊗ value_at K (suc m) q (inverse (x l))) inside others)
+      ∙ sym (product_sums n m x v q s one sums)
+      ∙ front_sum (x j) z (product_at K q s) (product_at K f s) (one j inside) (factored_product f q s z whole) m
+      ∙ ap (λ k. power K (x j) k ⊗ value_at K (suc m) (product_at K f s) z) next
+      )
+    where
+      z : F
+      z = inverse (x j)
+
+      q : ℕ → F
+      q = rest_at K (suc (suc m)) f z
+
+      next : suc m ≡ m + 1
+      next = omega arith
+
+      less : suc (suc m) - 1 ≡ suc m
+      less = omega arith
+
+      short_q : IsShort K (suc m) q
+      short_q = rw less at (short_rest K (suc (suc m)) f z)
+
+      one : (l : ℕ) → l < n → x l ⊗ inverse (x l) ≡ 𝟙
+      one l low = mul_inverse K (x l) (live l low)
+
+      whole : (k : ℕ) → f k ≡ z ⊗ q k ⊕ shifted K 1 q k
+      whole = factored K (suc (suc m)) f z (omega arith) short here
+
+      regroup : (a b c : F) → a ⊗ (b ⊗ c) ≡ b ⊗ a ⊗ c
+      regroup a b c = simp (mul_assoc K, mul_left_comm K)
+
+      other_element : (l : ℕ) → l < n → l ≢ j → z ⊕ inverse (x l) ≢ 𝟘
+      other_element l low other same =
+          other (apart.apart l j low inside (
+          sym (mul_one K (x l))
+          ∙ ap (λ w. x l ⊗ w) (sym (one j inside))
+          ∙ mul_left_comm K (x l) (x j) z
+          ∙ ap (λ w. x j ⊗ (x l ⊗ w)) (same_from_sum K z (inverse (x l)) same)
+          ∙ ap (λ w. x j ⊗ w) (one l low)
+          ∙ mul_one K (x j)))
+
+      others : (l : ℕ) → l < n → l ≢ j → v l ⊗ power K (x l) (m + 1) ⊗ value_at K (suc m) q (inverse (x l)) ≡ 𝟘
+      others l low other =
+          elim (K.is_zero (v l)) [
+            | inl none ↦
+                ap (λ w. w ⊗ power K (x l) (m + 1) ⊗ value_at K (suc m) q (inverse (x l))) none
+                ∙ ap (λ w. w ⊗ value_at K (suc m) q (inverse (x l))) (zero_mul K (power K (x l) (m + 1)))
+                ∙ zero_mul K (value_at K (suc m) q (inverse (x l)))
+            | inr some ↦
+                ap (λ w. v l ⊗ power K (x l) (m + 1) ⊗ w)
+                (sym (value_longer K (suc m) (suc (suc m)) q (inverse (x l)) (omega arith) short_q)
+                ∙ other_zero K (z ⊕ inverse (x l)) (value_at K (suc (suc m)) q (inverse (x l))) (other_element l low other)
+                (sym (value-factored K (suc (suc m)) f q z (inverse (x l)) (omega arith) (short_rest K (suc (suc m)) f z) whole) ∙ zeros l low some))
+                ∙ mul_zero K (v l ⊗ power K (x l) (m + 1))
+          ]
