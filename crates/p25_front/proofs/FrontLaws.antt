@@ -19,36 +19,11 @@ use Rattle.p25_status.proofs.WovenLaws.{part-plain_of}
 use Rattle.p25_bch_nid.specs.Bch63.{IsBch63}
 use Rattle.p25_bch_nid.specs.Bch63Laws.{encoded, IsEncoding-encoded, one_word}
 use Rattle.p25_bch_nid.specs.Nid.{parity_of}
-use Rattle.p25_bch_nid.specs.NidReading.{IsNidFound, IsNidReading, IsNidReading-nid_reading_of, nid_reading_of, nid_reading_of-word}
-use Rattle.p25_bch_nid.proofs.NidWords.{nid_of-encoding}
+use Rattle.p25_bch_nid.specs.NidReading.{IsNidFound, IsNidReading, nid_reading_of}
+use Rattle.p25_bch_nid.proofs.NidReadingLaws.{IsNidReading-nid_reading_of, nid_reading_of-word}
+use Rattle.p25_bch_nid.proofs.NidWordLaws.{take-nid_word, drop-nid_word, IsEncoding-nid_word, length-nid_word, identifier_of_word-encoding}
 use Rattle.p25_bch_nid.specs.NidWord.{nid_word}
 use Rattle.p25_front.specs.Front.{unit_front, IsFront, identifier_bits, identifier_of, front_of, front_fixes_of}
-
--- the information of an identifier
-info_of : ℕ → ℕ → List Bool
-info_of nac duid = bits_of 12 nac ++ bits_of 4 duid
-
-word_encodes : (nac duid : ℕ) → IsEncoding IsBch63 16 (bits_of 12 nac ++ bits_of 4 duid) (encoded (bits_of 12 nac ++ bits_of 4 duid))
-word_encodes nac duid =
-    IsEncoding-encoded (bits_of 12 nac ++ bits_of 4 duid) (omega (arith, length-append (bits_of 12 nac) (bits_of 4 duid), length-bits_of 12 nac, length-bits_of 4 duid))
-
--- the first 63 bits of an identifier are a word of the code, and one bit follows
-pub take-nid_word : (nac duid : ℕ) → take 63 (nid_word nac duid) ≡ encoded (bits_of 12 nac ++ bits_of 4 duid)
-unfolding nid_word
-take-nid_word nac duid = front 63 (encoded (bits_of 12 nac ++ bits_of 4 duid)) (eqb (parity_of duid) 1 ∷ []) (word_encodes nac duid).word_of_set.long
-
-pub drop-nid_word : (nac duid : ℕ) → drop 63 (nid_word nac duid) ≡ eqb (parity_of duid) 1 ∷ []
-unfolding nid_word
-drop-nid_word nac duid = back 63 (encoded (bits_of 12 nac ++ bits_of 4 duid)) (eqb (parity_of duid) 1 ∷ []) (word_encodes nac duid).word_of_set.long
-
-pub IsEncoding-nid_word : (nac duid : ℕ) → IsEncoding IsBch63 16 (bits_of 12 nac ++ bits_of 4 duid) (take 63 (nid_word nac duid))
-IsEncoding-nid_word nac duid = subst (λ (w : List Bool). IsEncoding IsBch63 16 (bits_of 12 nac ++ bits_of 4 duid) w) (sym (take-nid_word nac duid)) (word_encodes nac duid)
-
-pub length-nid_word : (nac duid : ℕ) → length (nid_word nac duid) ≡ 64
-unfolding nid_word
-length-nid_word nac duid =
-    let long : length (encoded (bits_of 12 nac ++ bits_of 4 duid)) ≡ 63 = (word_encodes nac duid).word_of_set.long in
-    length-append (encoded (bits_of 12 nac ++ bits_of 4 duid)) (eqb (parity_of duid) 1 ∷ []) ∙ omega arith
 
 -- the parts of a front
 pub take-unit_front : (nac duid : ℕ) → take 48 (unit_front nac duid) ≡ sync_bits
@@ -179,7 +154,7 @@ identifier_of-near nac duid sent nac_fits duid_fits long near =
     let word = take 63 (nid_word nac duid) in
     let encoding = IsEncoding-nid_word nac duid in
     nid_reading_of-word (identifier_bits sent) word (omega (arith, length-identifier_bits sent long)) encoding.word_of_set near
-    ∙ ap Some (nid_of-encoding nac duid word nac_fits duid_fits encoding)
+    ∙ ap Some (identifier_of_word-encoding nac duid word nac_fits duid_fits encoding)
 
 -- the fixes of a front hang on the first 114 bits alone
 pub front_fixes_of-take : (nid : ℕ × ℕ) (count : ℕ) (sent : List Bool) → 114 ≤ count → front_fixes_of nid (take count sent) ≡ front_fixes_of nid sent

@@ -1,5 +1,5 @@
 -- The bits of units: each kind has its length and begins with its front.
-use Rattle.std.proofs.Common.{◌≡◌, ℕ, ◌*◌, ◌/◌, ◌%◌, ◌<◌, ◌≤◌, length, take, Some, ap, sym, ◌∙◌, arith}
+use Rattle.std.proofs.Common.{◌≡◌, List, ℕ, ◌*◌, ◌/◌, ◌%◌, ◌<◌, ◌≤◌, length, take, Some, ap, sym, ◌∙◌, arith}
 use Rattle.p25_status.specs.Woven.{plain_of, statuses_of}
 use Rattle.p25_status.proofs.Parts.{front}
 use Rattle.p25_status.proofs.WovenLaws.{length-woven, plain_of-woven, statuses_of-woven}
@@ -9,8 +9,9 @@ use Rattle.p25_voice_units.specs.declared.unit.VoiceUnit.TheVariants.{End}
 use Rattle.p25_voice_units.specs.Images.{voice_body, voice_image_of}
 use Rattle.p25_voice_units.specs.Lengths.{voice_duid, voice_length_of}
 use Rattle.p25_voice_units.proofs.VoiceLaws.{length-voice_image_of, voice_lengths}
+use Rattle.p25_status.specs.declared.symbols.Status.{Status}
 use Rattle.p25_units.specs.UnitParts.{UnitParts}
-use Rattle.p25_units.specs.Units.{body_duid, body_image_of, unit_image_of, sent_length, frame_length_of, image_of, IsSoundFrame}
+use Rattle.p25_units.specs.Units.{body_duid, body_image_of, unit_image_of, sent_length, frame_length_of, image_of, frame_as, IsSoundFrame}
 use Rattle.p25_units.specs.declared.unit.Body.{Body}
 use Rattle.p25_units.specs.declared.unit.Body.TheVariants.{Voice}
 use Rattle.p25_units.specs.declared.frame.Frame.{Frame}
@@ -92,3 +93,17 @@ front_of-image_of frame sound =
     sym (front_of-plain_of (length frame.statuses) (image_of frame) (blocks-sound frame sound).0 (length-image_of-blocks frame sound))
     ∙ ap (take 112) (plain_of-image_of frame sound)
     ∙ unit_image_of-front frame.unit
+
+-- a frame under another network access code
+length_as : (duid plain : ℕ) (other : ℕ) → voice_length_of duid ≡ Some plain → voice_length_of duid ≡ Some other → other ≡ plain
+length_as duid plain other a b = let two : Some other ≡ Some plain = sym b ∙ a in cc
+
+length-body_image_of : (nac other : ℕ) (body : Body) → length (body_image_of other body) ≡ length (body_image_of nac body)
+length-body_image_of nac other (Voice voice) =
+    length_as (voice_duid voice) (length (voice_image_of nac voice)) (length (voice_image_of other voice)) (length-voice_image_of nac voice) (length-voice_image_of other voice)
+
+pub IsSoundFrame-frame_as : (nac : ℕ) (statuses : List Status) (frame : Frame) → IsSoundFrame frame → length statuses ≡ length frame.statuses → IsSoundFrame (frame_as nac statuses frame)
+unfolding frame_length_of unit_image_of
+IsSoundFrame-frame_as nac statuses frame sound same = record {
+  symbols = ap (λ n. 72 * n) same ∙ sound.symbols ∙ ap sent_length (sym (length-body_image_of frame.unit.nac nac frame.unit.body));
+}

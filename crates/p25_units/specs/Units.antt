@@ -1,6 +1,7 @@
 -- The bits of units, with and without status symbols.
 use Rattle.std.specs.Prelude.{◌≡◌, ℕ, ◌*◌, ◌/◌, Bool, List, length}
 use Rattle.p25_status.specs.Woven.{woven}
+use Rattle.p25_status.specs.declared.symbols.Status.{Status}
 use Rattle.p25_voice_units.specs.Images.{voice_image_of}
 use Rattle.p25_voice_units.specs.Lengths.{voice_duid}
 use Rattle.p25_units.specs.UnitParts.{UnitParts}
@@ -31,6 +32,12 @@ frame_length_of unit = sent_length (length (unit_image_of unit))
 -- the bits of a frame as they are sent
 unfoldable pub image_of : Frame → List Bool
 image_of frame = woven (unit_image_of frame.unit) frame.statuses
+
+-- a frame under another network access code, with other status symbols
+abbrev pub frame_as : ℕ → List Status → Frame → Frame
+frame_as nac statuses frame =
+    let unit : UnitParts = record { nac = nac; body = frame.unit.body } in
+    record { unit = unit; statuses = statuses }
 
 -- a frame is sound: there is a status symbol for each 72 of its bits
 pub record IsSoundFrame (frame : Frame) : Type 0 where

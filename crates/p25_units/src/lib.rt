@@ -38,5 +38,5 @@ pub use p25_status::{Field, FieldList, Status, Statuses};
 pub use p25_voice_units::VoiceUnit;
 pub use read::{fixes, read_unit};
 pub use scan::{need, need_begun};
-pub use sending::image;
+pub use sending::{image, image_as};
 pub use unit::{Body, Unit};
