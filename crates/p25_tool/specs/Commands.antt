@@ -1,12 +1,12 @@
 -- The reports of the commands, item by item.
 use Rattle.std.specs.Prelude.{ℕ, ◌+◌, ◌*◌, ◌/◌, Bool, cond, List, [], ◌++◌, length, drop}
 use Rattle.p25_units.specs.declared.item.Item.{Item}
-use Rattle.p25_stream.specs.Changes.{repaired, bridged}
+use Rattle.p25_stream.specs.Repeats.{bridged, is_whole_item, repaired}
 use Rattle.p25_work.specs.declared.ending.Ending.TheVariants.{Done}
 use Rattle.p25_tool.specs.declared.reports.show.Show.{Show}
 use Rattle.p25_tool.specs.declared.reports.check.Check.{Check}
 use Rattle.p25_tool.specs.declared.reports.bridge.Bridge.{Bridge}
-use Rattle.p25_tool.specs.Outputs.{whole_octets, shown, faulty, is_whole_item, check_line, check_ending}
+use Rattle.p25_tool.specs.Outputs.{whole_octets, shown, faulty, check_line, check_ending}
 use Rattle.p25_tool.specs.Reports.{Reporting}
 
 abbrev pub show_reporting : Reporting Show
@@ -30,7 +30,7 @@ repair_reporting = record {
 
 abbrev pub bridge_reporting : Reporting Bridge
 bridge_reporting = record {
-  piece = λ report item raw. whole_octets (bridged report.nac report.status item raw);
+  piece = λ report item raw. whole_octets (bridged report.nac report.status item []);
   behind = λ report item raw. report;
   closing = λ report. [];
   ending = λ report. Done;

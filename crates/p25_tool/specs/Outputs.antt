@@ -10,9 +10,8 @@ use Rattle.p25_units.specs.Units.{frame_length_of, image_of}
 use Rattle.p25_units.specs.Items.{covered}
 use Rattle.p25_units.specs.declared.frame.Frame.{Frame}
 use Rattle.p25_units.specs.declared.item.Item.{Item}
-use Rattle.p25_units.specs.declared.item.Item.TheVariants.{Whole, Broken, NoUnit, Gap, Cut}
 use Rattle.p25_stream.specs.Items.{items_by}
-use Rattle.p25_stream.specs.Changes.{repaired, bridged}
+use Rattle.p25_stream.specs.Repeats.{bridged, is_whole_item, repaired}
 use Rattle.p25_text.specs.ItemTexts.{item_text_of}
 use Rattle.p25_text.specs.Grammar.{read_line_of}
 use Rattle.p25_work.specs.declared.ending.Ending.{Ending}
@@ -27,14 +26,6 @@ whole_octets bits = octets_from (length bits / 8) bits
 -- the text of an item and the end of its line
 abbrev pub shown : Item → List ℕ
 shown item = item_text_of item ++ 10 ∷ []
-
--- the item is a whole unit
-abbrev pub is_whole_item : Item → Bool
-is_whole_item (Whole place frame fixes) = true
-is_whole_item (Broken place count nac duid fields) = false
-is_whole_item (NoUnit place field) = false
-is_whole_item (Gap place count) = false
-is_whole_item (Cut place have) = false
 
 -- the text of an item that is not a whole unit, and the end of its line
 abbrev pub faulty : Item → List ℕ
@@ -98,7 +89,7 @@ output_by Check ended octets =
     let items = items_by ended 0 (octet_bits octets) in
     flat_map faulty items ++ cond ended (check_line (units_in items) (faults_in items)) []
 output_by Repair ended octets = whole_octets (changed_bits repaired (items_by ended 0 (octet_bits octets)) (octet_bits octets))
-output_by (Bridge nac status) ended octets = whole_octets (changed_bits (bridged nac status) (items_by ended 0 (octet_bits octets)) (octet_bits octets))
+output_by (Bridge nac status) ended octets = whole_octets (changed_bits (λ item raw. bridged nac status item []) (items_by ended 0 (octet_bits octets)) (octet_bits octets))
 output_by (Build status) ended octets = images_of status (lines_in ended [] octets)
 
 -- how a call of a command ends by the octets of its input, whether they are all or more may come

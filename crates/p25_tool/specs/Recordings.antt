@@ -2,7 +2,7 @@
 use Rattle.std.specs.Prelude.{◌≡◌, ℕ, Bool, true, false, cond, List, [], ◌++◌, Option, Some, None}
 use Rattle.p25_bits.specs.Bits.{octet_bits}
 use Rattle.p25_stream.specs.Items.{items_by}
-use Rattle.p25_stream.specs.Scans.{Scan}
+use Rattle.p25_stream.specs.Scan.{Scan}
 use Rattle.p25_work.specs.Futures.{Future}
 use Rattle.p25_work.specs.declared.ending.Ending.{Ending}
 use Rattle.p25_tool.specs.declared.recording.Phase.{Phase}

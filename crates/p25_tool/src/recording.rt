@@ -72,7 +72,7 @@ impl<R: Report> Recording<R> {
 
 impl<R: Report> Worker for Recording<R> {
     ghost use Rattle.std.specs.Prelude.{◌≡◌, ◌≢◌, ◌+◌, [], length};
-    ghost use Rattle.p25_stream.specs.Scans.{given};
+    ghost use Rattle.p25_stream.specs.Scan.{given};
     ghost use Rattle.p25_tool.specs.declared.recording.Phase.TheVariants.{Ended};
     ghost use Rattle.p25_tool.specs.Recordings.{has_ended, pieces_of, recording_future};
 
