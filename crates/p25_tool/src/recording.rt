@@ -23,7 +23,7 @@ pub(crate) enum Phase {
 
 // A report at work on a recording.
 #[derive(Drop)]
-pub(crate) struct Recording<R> {
+pub(crate) struct Recording<R: Report> {
     report: R,
     scanner: Scanner,
     raw: BitBuf,
