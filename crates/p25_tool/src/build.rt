@@ -1,6 +1,6 @@
 //! The work of `build`: each line of the input as the unit that it describes.
 
-ghost use Rattle.std.specs.Prelude.{◌≡◌, ◌≤◌, [], length};
+ghost use Rattle.std.specs.Prelude.{◌≡◌, ◌≤◌, [], replicate};
 ghost use Rattle.p25_tool.specs.Buildings.{first_line, IsLineTaken};
 ghost use Rattle.p25_tool.specs.Outputs.{filled_frame, image_octets};
 
@@ -135,7 +135,8 @@ fn put_image(unit: Unit, status: Status, out: &mut Line)
     let statuses = filled(status, frame_length(&unit) / 72);
     let mut bits = BitBuf::new();
     image(&Frame { unit, statuses }, &mut bits);
-    put_octets(&mut bits, out);
+    out.clear();
+    put_octets(&bits, 0, out);
 }
 
 // So many times one status symbol.

@@ -11,7 +11,7 @@ use super::build::Build;
 use super::command::Command;
 use super::outcome::{Outcome, outcome_of};
 use super::recording::Recording;
-use super::reports::{Bridge, Check, Repair, Show};
+use super::reports::{Change, Changed, Check, Show};
 use super::words::Words;
 use p25_io::{Sink, Source};
 use p25_work::{WorkEnd, work};
@@ -66,10 +66,16 @@ fn run_command<S: Source, K: Sink>(command: Command, source: &mut S, sink: &mut 
             source,
             sink,
         ),
-        Command::Repair => work(&mut Recording::new(Repair::new()), source, sink),
-        Command::Bridge { nac, status } => {
-            work(&mut Recording::new(Bridge { nac, status }), source, sink)
-        }
+        Command::Repair => work(
+            &mut Recording::new(Changed::new(Change::Repaired)),
+            source,
+            sink,
+        ),
+        Command::Bridge { nac, status } => work(
+            &mut Recording::new(Changed::new(Change::Bridged { nac, status })),
+            source,
+            sink,
+        ),
         Command::Build { status } => work(&mut Build::new(status), source, sink),
     }
 }

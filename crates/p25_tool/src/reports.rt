@@ -1,11 +1,9 @@
 //! The reports of the commands that read recordings.
 
-mod bridge;
+mod changed;
 mod check;
-mod repair;
 mod show;
 
-pub(crate) use bridge::Bridge;
+pub(crate) use changed::{Change, Changed, put_octets};
 pub(crate) use check::Check;
-pub(crate) use repair::{Repair, put_octets};
 pub(crate) use show::Show;

@@ -1,0 +1,4 @@
+pub mod Decimals
+pub mod OctetsLaws
+pub mod ReportsLaws
+pub mod RecordingsLaws
