@@ -1,9 +1,9 @@
 -- A message is read back of its blocks, in whatever order they come. By recursion on the slots: a block that is put stays,
 -- as only the same block can come to its place again.
-use Rattle.std.proofs.Common.{◌≡◌, ℕ, zero, suc, ◌+◌, ◌-◌, ◌*◌, ◌/◌, ◌%◌, ◌^◌, ◌<◌, ◌≤◌, ◌⊎◌, inl, inr, Bool, true, false, cond, ◌&&◌, List, [], ◌∷◌, ◌++◌, length, take, drop, get_or, set, replicate, Option, Some, None, refl, ap, ap₂, sym, ◌∙◌, arith, length-append, zero-add}
-use Rattle.std.specs.Prelude.{nat_lt, nat_le, eqb, slice_set}
+use Rattle.std.proofs.Common.{◌≡◌, ℕ, zero, suc, ◌+◌, ◌-◌, ◌*◌, ◌/◌, ◌%◌, ◌^◌, ◌<◌, ◌≤◌, inl, inr, Bool, true, false, cond, List, [], ◌∷◌, ◌++◌, length, take, drop, get_or, set, replicate, Option, Some, None, refl, ap, sym, ◌∙◌, arith, length-append, zero-add}
+use Rattle.std.specs.Prelude.{nat_lt, nat_le, eqb}
 use Rattle.std.proofs.lemmas.List.{get_or-set_same, get_or-set_other, ext_get_or, take_at, drop_at, length-replicate, take-append-le, append-nil}
-use Rattle.std.proofs.lemmas.Bool.{cases_eq, cond-true, cond-false, and_from}
+use Rattle.std.proofs.lemmas.Bool.{cases_eq, cond-true, and_from}
 use Rattle.std.proofs.lemmas.Bool.Decides.{nat_tests}
 use Rattle.p25_bits.specs.Bits.{part}
 use Rattle.p25_bits.specs.Numbers.{octets_number, each_below, joined_below}
@@ -16,8 +16,8 @@ use Rattle.p25_packet_blocks.specs.declared.block.Slot.TheVariants.{Good, Bad}
 use Rattle.p25_stations.specs.MessageBlocks.{block_count, pad_count, crc_octets, padded_octets, message_octets, message_block, unpadded}
 use Rattle.p25_stations.specs.Places.{put_block, put_slots, before_octets, all_octets}
 use Rattle.p25_stations.specs.Carried.{AreBlocksOf, HoldsSerial, CarriesMessage, unpadded_option, read_back}
-use Rattle.p25_stations.proofs.PlacesLaws.{length-put_block, length-put_slots, both_octets, all_octets-append, all_octets-nil}
-use Rattle.p25_stations.proofs.MessageBlocksLaws.{octets_number-four, length-crc_octets, length-padded_octets, length-message_octets}
+use Rattle.p25_stations.proofs.PlacesLaws.{length-put_block, length-put_slots, both_octets, all_octets-append}
+use Rattle.p25_stations.proofs.MessageBlocksLaws.{octets_number-four, length-crc_octets, length-message_octets}
 
 -- the number of the packet CRC's octets
 four_octets : (n : ℕ) → 16777216 * (n / 2 ^ 24) + 65536 * (n / 2 ^ 16 % 256) + 256 * (n / 2 ^ 8 % 256) + n % 256 ≡ n
@@ -79,9 +79,9 @@ put_slots-stays message (Bad ∷ slots) places j are h held = put_slots-stays me
 put_slots-stays message (Good block ∷ slots) places j are h held =
     let same : get_or (put_block places block) j None ≡ Some (message_block message j)
     = elim (cases_eq block.serial j) [
-        inl e ↦ put_block-here places block j h e ∙ ap (λ (b : BlockParts). Some b) are.0 ∙ ap (λ (k : ℕ). Some (message_block message k)) e
-        | inr n ↦ put_block-other places block j n ∙ held
-      ] in
+      | inl e ↦ put_block-here places block j h e ∙ ap (λ (b : BlockParts). Some b) are.0 ∙ ap (λ (k : ℕ). Some (message_block message k)) e
+      | inr n ↦ put_block-other places block j n ∙ held
+    ] in
     put_slots-stays message slots (put_block places block) j are.1 (omega (arith, length-put_block places block)) same
 
 -- a block that comes is held

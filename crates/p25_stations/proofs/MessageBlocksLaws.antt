@@ -1,8 +1,8 @@
 -- The octets of a message and of its blocks. By the laws of lists, and of numbers in base 256.
-use Rattle.std.proofs.Common.{◌≡◌, ℕ, zero, suc, ◌+◌, ◌-◌, ◌*◌, ◌/◌, ◌%◌, ◌^◌, ◌<◌, ◌≤◌, List, [], ◌∷◌, ◌++◌, length, get_or, replicate, Option, Some, None, refl, ap, sym, ◌∙◌, arith, length-append}
+use Rattle.std.proofs.Common.{◌≡◌, ℕ, ◌+◌, ◌*◌, List, [], ◌∷◌, length, get_or, replicate, refl, arith, length-append}
 use Rattle.std.proofs.lemmas.List.{length-replicate}
 use Rattle.p25_bits.specs.Numbers.{octets_number, number_after}
-use Rattle.p25_stations.specs.MessageBlocks.{block_count, pad_count, crc_octets, padded_octets, message_octets, unpadded}
+use Rattle.p25_stations.specs.MessageBlocks.{block_count, pad_count, crc_octets, padded_octets, message_octets}
 
 -- the number of four octets
 pub octets_number-four : (octets : List ℕ) → length octets ≡ 4 → octets_number octets ≡ 16777216 * get_or octets 0 0 + 65536 * get_or octets 1 0 + 256 * get_or octets 2 0 + get_or octets 3 0

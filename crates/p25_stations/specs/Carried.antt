@@ -1,9 +1,8 @@
 -- The blocks of a message among the slots of packets, in whatever order they come, and the message read back of them.
 use Rattle.std.specs.Prelude.{◌≡◌, ℕ, ◌<◌, ◌⊎◌, List, [], ◌∷◌, length, replicate, Option, None, Some}
-use Rattle.p25_packet_blocks.specs.Parts.{BlockParts}
 use Rattle.p25_packet_blocks.specs.declared.block.Slot.{Slot}
 use Rattle.p25_packet_blocks.specs.declared.block.Slot.TheVariants.{Good, Bad}
-use Rattle.p25_stations.specs.MessageBlocks.{block_count, pad_count, message_block, unpadded}
+use Rattle.p25_stations.specs.MessageBlocks.{block_count, message_block, unpadded}
 use Rattle.p25_stations.specs.Places.{put_slots, all_octets}
 
 -- each block that slots hold is the block of a message with its serial number

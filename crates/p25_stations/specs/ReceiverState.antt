@@ -1,5 +1,5 @@
 -- What a receiver keeps.
-use Rattle.std.specs.Prelude.{ℕ, ◌<◌, ◌≤◌, List, length, Option, Some, None}
+use Rattle.std.specs.Prelude.{ℕ, List, Option}
 use Rattle.p25_packet_blocks.specs.Parts.{BlockParts}
 
 -- the places of a message that has not come whole, each empty or with its block, and the number of its pad octets

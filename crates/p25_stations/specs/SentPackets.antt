@@ -1,5 +1,5 @@
 -- The packets that this project's stations send. Those of data go one way, and the responses the other.
-use Rattle.std.specs.Prelude.{ℕ, ◌%◌, Bool, true, false, nat_le, List, [], ◌∷◌, length, map, slice_index_or, if◌then◌else◌}
+use Rattle.std.specs.Prelude.{ℕ, Bool, true, false, nat_le, List, [], ◌∷◌, length, map, slice_index_or, if◌then◌else◌}
 use Rattle.p25_bits.specs.Numbers.{joined_below}
 use Rattle.p25_packet_blocks.specs.Parts.{BlockParts}
 use Rattle.p25_packet_blocks.specs.Heads.{confirmed_head, response_head, opening_head}

@@ -10,5 +10,4 @@ ghost use Rattle.p25_stations.specs.Carried.{CarriesMessage, read_back};
 pub fn messages_read_back()
     ensures octets { (message : List ℕ) → unpadded (message_octets message) (pad_count (length message)) ≡ Some message }
     ensures blocks { (message : List ℕ) (slots : List Slot) → CarriesMessage message slots → read_back (block_count (length message)) (pad_count (length message)) slots ≡ Some message }
-{
-}
+{}

@@ -1,8 +1,7 @@
 ghost use Rattle.std.specs.Prelude.{◌≡◌, ◌<◌, IfNone};
 
-use crate::LLID;
 use crate::kept::Kept;
-use crate::sent;
+use crate::{LLID, sent};
 use p25_messages::Message;
 use p25_packet_blocks::{Confirmed, Flags, Packet, PacketHead};
 use std::marker::Model;
@@ -17,9 +16,15 @@ pub enum Heard {
         answer: Packet,
     },
     /// The link is opened anew, by the opening packet with this number.
-    Opened { number: u8, answer: Packet },
+    Opened {
+        number: u8,
+        answer: Packet,
+    },
     /// The last message came again.
-    Again { number: u8, answer: Packet },
+    Again {
+        number: u8,
+        answer: Packet,
+    },
     /// Blocks are missing: the flags of those that are held.
     Kept {
         number: u8,
@@ -27,9 +32,15 @@ pub enum Heard {
         answer: Packet,
     },
     /// All blocks have come, but the packet CRC does not agree, or the pad is longer than the blocks.
-    RefusedCrc { number: u8, answer: Packet },
+    RefusedCrc {
+        number: u8,
+        answer: Packet,
+    },
     /// The number is neither that of the last message nor that of the next one.
-    RefusedOrder { last: u8, answer: Packet },
+    RefusedOrder {
+        last: u8,
+        answer: Packet,
+    },
     /// The packet is not confirmed, has another LLID, or tells nothing that can be kept.
     Ignored,
 }

@@ -42,9 +42,13 @@ pub enum Resend {
 #[derive(Drop)]
 pub enum SenderHeard {
     /// The message with this number has come.
-    Acknowledged { number: u8 },
+    Acknowledged {
+        number: u8,
+    },
     /// The link is open again, by the opening packet with this number.
-    Opened { number: u8 },
+    Opened {
+        number: u8,
+    },
     /// The blocks whose flags in `wanted` are true are to be sent again.
     Retry {
         number: u8,

@@ -7,7 +7,9 @@ ghost use Rattle.p25_stations.specs.SentPackets.{message_packet, blocks_packet, 
 use crate::LLID;
 use crate::message_octets::{MessageOctets, blocks_for, pad_for};
 use p25_messages::Message;
-use p25_packet_blocks::{Confirmed, Flags, Octets, Packet, PacketHead, Plain, Slot, Slots, flags_make};
+use p25_packet_blocks::{
+    Confirmed, Flags, Octets, Packet, PacketHead, Plain, Slot, Slots, flags_make,
+};
 
 // The whole packet of a message.
 pub(crate) fn message(number: u8, message: &Message) -> Packet

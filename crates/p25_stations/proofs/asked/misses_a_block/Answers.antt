@@ -1,4 +1,4 @@
-use Rattle.std.proofs.Common.{◌≡◌, arith}
+use Rattle.std.proofs.Common.{arith}
 use Rattle.p25_stations.proofs.AskedLaws.{misses_here, misses_none_yet}
 use Rattle.p25_stations.proofs.asked.misses_a_block.Goals as goal
 

@@ -1,4 +1,4 @@
-use Rattle.std.proofs.Common.{◌≡◌, ℕ, ◌∙◌, ap, length, false}
+use Rattle.std.proofs.Common.{ℕ, ◌∙◌, ap, false}
 use Rattle.p25_packet_blocks.specs.ConfirmedParts.{ConfirmedParts}
 use Rattle.p25_packet_blocks.specs.Heads.{confirmed_head}
 use Rattle.p25_packet_blocks.specs.declared.packet.Packet.TheVariants.{Confirmed}

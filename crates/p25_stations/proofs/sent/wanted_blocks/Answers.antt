@@ -1,7 +1,6 @@
-use Rattle.std.proofs.Common.{◌≡◌, ℕ, ◌+◌, ◌≤◌, ◌∙◌, List, ap, length, true, false, Some, refl, sym, arith}
+use Rattle.std.proofs.Common.{◌≡◌, ℕ, ◌∙◌, ap, length, true, false, Some, arith}
 use Rattle.std.specs.Prelude.{slice_get}
 use Rattle.p25_bits.specs.Numbers.{joined_below}
-use Rattle.p25_packet_blocks.specs.declared.block.Slot.{Slot}
 use Rattle.p25_stations.specs.SentPackets.{wanted_slots}
 use Rattle.p25_stations.proofs.SentSteps.{wanted_slot, block_of_octets, wanted_more, wanted_same}
 use Rattle.p25_stations.proofs.sent.wanted_blocks.Goals as goal
@@ -15,13 +14,13 @@ pub loop-serial-preserved : goal.loop-serial-preserved
 loop-serial-preserved c =
     let message = c.args.message.now in
     elim c.if-get.branch [
-      then-get w ↦
-        (let here : slice_get c.args.wanted.now c.loop-serial.serial ≡ Some true = c.get.ensures ∙ ap Some w.if-get.true in
-        let more = wanted_more message c.args.wanted.now c.loop-serial.slots w.push.new.self c.loop-serial.serial w.block.result c.loop-serial.invariant.list here (block_of_octets message c.of-octets.result c.loop-serial.serial w.block.result c.of-octets.ensures.list w.block.ensures) w.push.ensures.list in
-        record { list = w.slots-is ∙ more; len = omega (arith, ap length w.slots-is, w.push.ensures.len) })
+      | then-get w ↦
+          (let here : slice_get c.args.wanted.now c.loop-serial.serial ≡ Some true = c.get.ensures ∙ ap Some w.if-get.true in
+          let more = wanted_more message c.args.wanted.now c.loop-serial.slots w.push.new.self c.loop-serial.serial w.block.result c.loop-serial.invariant.list here (block_of_octets message c.of-octets.result c.loop-serial.serial w.block.result c.of-octets.ensures.list w.block.ensures) w.push.ensures.list in
+          record { list = w.slots-is ∙ more; len = omega (arith, ap length w.slots-is, w.push.ensures.len) })
       | else-get w ↦
-        (let here : slice_get c.args.wanted.now c.loop-serial.serial ≡ Some false = c.get.ensures ∙ ap Some w.if-get.false in
-        record { list = w.slots-is ∙ wanted_same message c.args.wanted.now c.loop-serial.slots c.loop-serial.serial c.loop-serial.invariant.list here; len = omega (arith, ap length w.slots-is) })
+          (let here : slice_get c.args.wanted.now c.loop-serial.serial ≡ Some false = c.get.ensures ∙ ap Some w.if-get.false in
+          record { list = w.slots-is ∙ wanted_same message c.args.wanted.now c.loop-serial.slots c.loop-serial.serial c.loop-serial.invariant.list here; len = omega (arith, ap length w.slots-is) })
     ]
 
 pub returns-clause-list : goal.returns-clause-list

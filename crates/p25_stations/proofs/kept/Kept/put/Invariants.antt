@@ -1,4 +1,4 @@
-use Rattle.std.proofs.Common.{◌≡◌, take, length}
+use Rattle.std.proofs.Common.{◌≡◌, take}
 use Rattle.p25_stations.specs.Places.{put_slots}
 use Rattle.p25_stations.proofs.kept.Kept.put.Given as goal
 

@@ -1,7 +1,5 @@
-use Rattle.std.proofs.Common.{◌≡◌, ℕ, ◌∙◌, Option, Some, ap, sym}
+use Rattle.std.proofs.Common.{◌≡◌, ◌∙◌, Some, ap}
 use Rattle.p25_packet_blocks.specs.Heads.{head_number}
-use Rattle.p25_packet_blocks.specs.declared.head.PacketHead.{PacketHead}
-use Rattle.p25_stations.specs.ReceiverState.{Keeping}
 use Rattle.p25_stations.specs.ReceiverRules.{filled, keeping_for}
 use Rattle.p25_stations.proofs.ReceiverSteps.{filled-whole}
 use Rattle.p25_stations.proofs.receiver.Receiver.fill.Goals as goal
