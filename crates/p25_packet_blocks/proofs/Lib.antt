@@ -5,3 +5,5 @@ pub mod ReadingLaws
 pub mod ReadingSteps
 pub mod ImageLaws
 pub mod ImageSteps
+pub mod SendableLaws
+pub mod PlacesLaws
