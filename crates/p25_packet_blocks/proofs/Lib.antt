@@ -7,3 +7,5 @@ pub mod ImageLaws
 pub mod ImageSteps
 pub mod SendableLaws
 pub mod PlacesLaws
+pub mod UnitLaws
+pub mod RadiusLaws
