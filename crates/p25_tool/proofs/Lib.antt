@@ -2,3 +2,4 @@ pub mod Decimals
 pub mod OctetsLaws
 pub mod ReportsLaws
 pub mod RecordingsLaws
+pub mod BuildingsLaws
