@@ -16,15 +16,23 @@
 mod block;
 mod flags;
 mod head;
+mod image;
+mod laws;
 mod octets;
 mod packet;
+mod read;
 mod slots;
+mod unit;
 mod whole;
 
 pub use block::{Block, Slot};
 pub use flags::{Flags, flags_make, flags_read};
 pub use head::PacketHead;
+pub use image::{packet_image, packet_length};
+pub use laws::one_image;
 pub use octets::Octets;
 pub use packet::{Confirmed, Packet, Plain};
+pub use read::{read_head, read_packet, read_packet_of_head};
 pub use slots::Slots;
+pub use unit::{read_packet_unit, read_sent_head};
 pub use whole::is_whole;
