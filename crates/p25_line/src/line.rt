@@ -40,6 +40,14 @@ impl Line {
         self.len = 0;
     }
 
+    /// Answers the number of octets of the line, at most 8,192.
+    pub fn len(&self) -> usize
+        ensures value { result ≡ length self.now }
+        ensures most { result ≤ 8192 }
+    {
+        self.len
+    }
+
     /// Answers the octets of the line.
     pub fn octets(&self) -> &[u8]
         ensures { result.now ≡ self.now }
