@@ -32,13 +32,13 @@ unfolding report_behind
 behind-nil reporting report bits = refl
 
 -- nothing is written at the end
-no_closing : (ended : Bool) → cond ended [] [] ≡ []
-no_closing true = refl
-no_closing false = refl
+no_closing : (ended : Bool) (none : List ℕ) → cond ended none none ≡ none
+no_closing true none = refl
+no_closing false none = refl
 
 -- the texts of all items
 pub reported-show : (ended : Bool) (report : Show) (items : List Item) (bits : List Bool) → reported show_reporting ended report items bits ≡ flat_map shown items
-reported-show ended report [] bits = reported-nil show_reporting ended report bits ∙ no_closing ended
+reported-show ended report [] bits = reported-nil show_reporting ended report bits ∙ no_closing ended []
 reported-show ended report (item ∷ items) bits =
     reported-cons show_reporting ended report item items bits
     ∙ ap (λ (zs : List ℕ). shown item ++ zs) (reported-show ended report items (drop (covered item) bits))
@@ -47,7 +47,10 @@ reported-show ended report (item ∷ items) bits =
 pub reported-check : (ended : Bool) (report : Check) (items : List Item) (bits : List Bool)
     → reported check_reporting ended report items bits ≡ flat_map faulty items ++ cond ended (check_line (report.units + units_in items) (report.faults + faults_in items)) []
 unfolding units_in faults_in
-reported-check ended report [] bits = reported-nil check_reporting ended report bits
+reported-check ended report [] bits =
+    let units : report.units ≡ report.units + 0 = omega arith in
+    let faults : report.faults ≡ report.faults + 0 = omega arith in
+    reported-nil check_reporting ended report bits ∙ ap₂ (λ (u f : ℕ). cond ended (check_line u f) []) units faults
 reported-check ended report (item ∷ items) bits =
     let next : Check = record { units = report.units + cond (is_whole_item item) 1 0; faults = report.faults + cond (is_whole_item item) 0 1 } in
     let units : next.units + units_in items ≡ report.units + (cond (is_whole_item item) 1 0 + units_in items) = omega arith in
@@ -58,7 +61,9 @@ reported-check ended report (item ∷ items) bits =
 
 pub behind-check : (report : Check) (items : List Item) (bits : List Bool) → (report_behind check_reporting report items bits).faults ≡ report.faults + faults_in items
 unfolding faults_in
-behind-check report [] bits = ap (λ (r : Check). r.faults) (behind-nil check_reporting report bits)
+behind-check report [] bits =
+    let faults : report.faults ≡ report.faults + 0 = omega arith in
+    ap (λ (r : Check). r.faults) (behind-nil check_reporting report bits) ∙ faults
 behind-check report (item ∷ items) bits =
     let next : Check = record { units = report.units + cond (is_whole_item item) 1 0; faults = report.faults + cond (is_whole_item item) 0 1 } in
     let faults : next.faults + faults_in items ≡ report.faults + (cond (is_whole_item item) 0 1 + faults_in items) = omega arith in
@@ -69,7 +74,7 @@ pub reported-changed : (ended : Bool) (report : ChangedParts) (items : List Item
     → reported changed_reporting ended report items bits ≡ whole_octets (report.kept ++ changed_bits (change_of report.change) items bits)
 unfolding changed_bits
 reported-changed ended report [] bits few =
-    reported-nil changed_reporting ended report bits ∙ no_closing ended ∙ sym (whole_octets-few report.kept few) ∙ ap whole_octets (sym (append-nil report.kept))
+    reported-nil changed_reporting ended report bits ∙ no_closing ended [] ∙ sym (whole_octets-few report.kept few) ∙ ap whole_octets (sym (append-nil report.kept))
 reported-changed ended report (item ∷ items) bits few =
     let raw = take (covered item) bits in
     let rest = drop (covered item) bits in

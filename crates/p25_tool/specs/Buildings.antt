@@ -19,9 +19,12 @@ pub record Building : Type 0 where
   pub lines : ℕ
   pub phase : LinePhase
 
+abbrev pub building : Status → List ℕ → ℕ → LinePhase → Building
+building status line lines phase = record { status = status; line = line; lines = lines; phase = phase }
+
 -- before the first octet
 abbrev pub first_line : Status → Building
-first_line status = record { status = status; line = []; lines = 0; phase = Reading }
+first_line status = building status [] 0 Reading
 
 -- how many lines are there to be read
 abbrev pub lines_ready : LinePhase → ℕ
@@ -53,15 +56,15 @@ ends_with Ended ended = true
 
 -- what is still written, and how the call ends
 unfoldable pub building_future : Building → Future
-building_future building = record {
-  writes = λ ended more. images_of building.status (lines_left building.phase building.line ended more);
-  ends = λ ended more. lines_ending (ends_with building.phase ended) (refusal_in (building.lines + 1) (lines_left building.phase building.line ended more));
+building_future work = record {
+  writes = λ ended more. images_of work.status (lines_left work.phase work.line ended more);
+  ends = λ ended more. lines_ending (ends_with work.phase ended) (refusal_in (work.lines + 1) (lines_left work.phase work.line ended more));
 }
 
 -- a line that is there was read: its unit's image was given, or it is refused and all is as it was
 abbrev pub IsLineTakenBy : Result UnitParts LineFault → LinePhase → Building → Result Bool Ending → List ℕ → Building → Type 0
 IsLineTakenBy (Ok unit) phase before answer out now =
-    (answer ≡ Ok true) × (out ≡ image_octets before.status unit) × (now ≡ record { status = before.status; line = []; lines = before.lines + 1; phase = phase })
+    (answer ≡ Ok true) × (out ≡ image_octets before.status unit) × (now ≡ building before.status [] (before.lines + 1) phase)
 IsLineTakenBy (Err fault) phase before answer out now = (answer ≡ Err (BadLine (before.lines + 1) fault)) × (now ≡ before)
 
 abbrev pub IsLineTaken : LinePhase → Building → Result Bool Ending → List ℕ → Building → Type 0

@@ -2,7 +2,7 @@
 use Rattle.std.specs.Prelude.{◌≡◌, ℕ, Bool, true, false, cond, List, [], ◌++◌, Option, Some, None}
 use Rattle.p25_bits.specs.Bits.{octet_bits}
 use Rattle.p25_stream.specs.Items.{items_by}
-use Rattle.p25_stream.specs.Scan.{Scan}
+use Rattle.p25_stream.specs.Scan.{Scan, given}
 use Rattle.p25_work.specs.Futures.{Future}
 use Rattle.p25_work.specs.declared.ending.Ending.{Ending}
 use Rattle.p25_tool.specs.declared.recording.Phase.{Phase}
@@ -26,6 +26,10 @@ abbrev pub pieces_of : Phase → ℕ
 pieces_of Reading = 0
 pieces_of Ended = 1
 pieces_of Closed = 0
+
+-- once what is written at the end was given, no item is left
+abbrev pub HasClosed : Phase → Scan → Type 0
+HasClosed phase scan = phase ≡ Closed → given scan ≡ []
 
 -- before the first octet
 abbrev pub fresh : {R : Type 0} → R → RecordingParts R

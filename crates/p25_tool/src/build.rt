@@ -1,7 +1,7 @@
 //! The work of `build`: each line of the input as the unit that it describes.
 
 ghost use Rattle.std.specs.Prelude.{◌≡◌, ◌≤◌, [], replicate};
-ghost use Rattle.p25_tool.specs.Buildings.{first_line, IsLineTaken};
+ghost use Rattle.p25_tool.specs.Buildings.{first_line, lines_ready, IsLineTaken};
 ghost use Rattle.p25_tool.specs.Outputs.{filled_frame, image_octets};
 
 use crate::reports::put_octets;
@@ -107,11 +107,11 @@ impl Worker for Build {
     }
 
     fn finish(&mut self) {
-        self.phase = if self.line.is_empty() {
-            LinePhase::Ended
-        } else {
-            LinePhase::ReadyLast
-        };
+        if self.line.len() == 0 {
+            self.phase = LinePhase::Ended;
+            return;
+        }
+        self.phase = LinePhase::ReadyLast;
     }
 
     fn next(&mut self, out: &mut Line) -> Result<bool, Ending> {
@@ -145,7 +145,7 @@ fn filled(status: Status, count: usize) -> Statuses
     ensures { result ≡ replicate count status }
 {
     let mut statuses = Statuses::new();
-    for _ in 0..count {
+    while statuses.len() < count {
         statuses.push(status);
     }
     statuses

@@ -2,7 +2,9 @@
 
 ghost use Rattle.std.specs.Prelude.{◌≡◌, ◌≢◌, ℕ, ◌≤◌, ◌↔◌, List, [], None, Some, IfSome};
 ghost use Rattle.p25_io.specs.Faults.{Rose};
-ghost use Rattle.p25_work.specs.Runs.{all_written};
+ghost use Rattle.p25_work.specs.Runs.{Worked, all_written};
+ghost use Rattle.p25_tool.specs.Buildings.{building_future, first_line};
+ghost use Rattle.p25_tool.specs.Recordings.{fresh, recording_future};
 ghost use Rattle.p25_tool.specs.Runs.{Ran, answer_of, command_future};
 ghost use Rattle.p25_tool.specs.Words.{IsSoundCommand, command_of};
 ghost use Rattle.p25_tool.specs.declared.command.Command.{Command};
@@ -11,9 +13,11 @@ use super::build::Build;
 use super::command::Command;
 use super::outcome::{Outcome, outcome_of};
 use super::recording::Recording;
+use super::report::Report;
 use super::reports::{Change, Changed, Check, Show};
 use super::words::Words;
 use p25_io::{Sink, Source};
+use p25_status::Status;
 use p25_work::{WorkEnd, work};
 use std::alloc::Global;
 
@@ -55,27 +59,47 @@ pub fn run<S: Source, K: Sink>(
 // The work of a command.
 fn run_command<S: Source, K: Sink>(command: Command, source: &mut S, sink: &mut K) -> WorkEnd
     requires { IsSoundCommand command }
+    ensures worked { Worked (S.left source.old) (S.left source.new) (K.written sink.old) (K.written sink.new) (command_future command) result }
+    ensures quiet { (input : List ℕ) → S.left source.old ≡ Some input → all_written (command_future command) input ≡ [] → sink.new ≡ sink.old }
+    ensures source_later { S.faults source.old ≤ S.faults source.new }
+    ensures sink_later { K.faults sink.old ≤ K.faults sink.new }
+    ensures read_fault { result ≡ WorkEnd.ReadFault → Rose (S.faults source.old) (S.faults source.new) }
+    ensures write_fault { result ≡ WorkEnd.WriteFault → Rose (K.faults sink.old) (K.faults sink.new) }
 {
     match command {
-        Command::Show => work(&mut Recording::new(Show), source, sink),
-        Command::Check => work(
-            &mut Recording::new(Check {
-                units: 0,
-                faults: 0,
-            }),
-            source,
-            sink,
-        ),
-        Command::Repair => work(
-            &mut Recording::new(Changed::new(Change::Repaired)),
-            source,
-            sink,
-        ),
-        Command::Bridge { nac, status } => work(
-            &mut Recording::new(Changed::new(Change::Bridged { nac, status })),
-            source,
-            sink,
-        ),
-        Command::Build { status } => work(&mut Build::new(status), source, sink),
+        Command::Show => run_report(Show, source, sink),
+        Command::Check => run_report(Check::new(), source, sink),
+        Command::Repair => run_report(Changed::new(Change::Repaired), source, sink),
+        Command::Bridge { nac, status } => {
+            run_report(Changed::new(Change::Bridged { nac, status }), source, sink)
+        }
+        Command::Build { status } => run_build(status, source, sink),
     }
+}
+
+// The work of a report on a recording.
+fn run_report<R: Report + Drop, S: Source, K: Sink>(report: R, source: &mut S, sink: &mut K) -> WorkEnd
+    requires { R.counted report ≡ 0 }
+    ensures worked { Worked (S.left source.old) (S.left source.new) (K.written sink.old) (K.written sink.new) (recording_future R.reporting (fresh report)) result }
+    ensures quiet { (input : List ℕ) → S.left source.old ≡ Some input → all_written (recording_future R.reporting (fresh report)) input ≡ [] → sink.new ≡ sink.old }
+    ensures source_later { S.faults source.old ≤ S.faults source.new }
+    ensures sink_later { K.faults sink.old ≤ K.faults sink.new }
+    ensures read_fault { result ≡ WorkEnd.ReadFault → Rose (S.faults source.old) (S.faults source.new) }
+    ensures write_fault { result ≡ WorkEnd.WriteFault → Rose (K.faults sink.old) (K.faults sink.new) }
+{
+    let mut recording = Recording::new(report);
+    work(&mut recording, source, sink)
+}
+
+// The work of `build`.
+fn run_build<S: Source, K: Sink>(status: Status, source: &mut S, sink: &mut K) -> WorkEnd
+    ensures worked { Worked (S.left source.old) (S.left source.new) (K.written sink.old) (K.written sink.new) (building_future (first_line status)) result }
+    ensures quiet { (input : List ℕ) → S.left source.old ≡ Some input → all_written (building_future (first_line status)) input ≡ [] → sink.new ≡ sink.old }
+    ensures source_later { S.faults source.old ≤ S.faults source.new }
+    ensures sink_later { K.faults sink.old ≤ K.faults sink.new }
+    ensures read_fault { result ≡ WorkEnd.ReadFault → Rose (S.faults source.old) (S.faults source.new) }
+    ensures write_fault { result ≡ WorkEnd.WriteFault → Rose (K.faults sink.old) (K.faults sink.new) }
+{
+    let mut build = Build::new(status);
+    work(&mut build, source, sink)
 }

@@ -1,12 +1,13 @@
 //! The work of a command on a recording: its items, as they are decided, and what a report writes of them.
 
 ghost use Rattle.std.specs.Prelude.{◌≡◌, [], Result, Ok};
+ghost use Rattle.p25_stream.specs.Scan.{given};
 ghost use Rattle.p25_tool.specs.Recordings.{fresh, IsClosing};
 
 use crate::report::Report;
 use p25_bits::BitBuf;
 use p25_line::Line;
-use p25_stream::Scanner;
+use p25_stream::{Scanner, item_laws};
 use p25_work::{Ending, Worker};
 use std::marker::Model;
 
@@ -32,13 +33,13 @@ pub(crate) struct Recording<R: Report> {
 
 impl<R: Report> Model for Recording<R> {
     ghost use Rattle.std.specs.Prelude.{◌≡◌, ◌+◌, ◌^◌, ◌<◌, ◌≤◌, length};
-    ghost use Rattle.p25_tool.specs.Recordings.{RecordingParts, has_ended};
+    ghost use Rattle.p25_tool.specs.Recordings.{HasClosed, RecordingParts, has_ended};
 
     ghost Value = { RecordingParts R };
 
     ghost view = { λ s. record { report = s.report; scan = s.scanner; phase = s.phase } };
 
-    ghost invariant = { λ s. (s.scanner.finished ≡ has_ended s.phase) × (R.counted s.report ≤ s.scanner.place) × (s.scanner.place + length s.scanner.held < 2 ^ 61) };
+    ghost invariant = { λ s. (s.scanner.finished ≡ has_ended s.phase) × (R.counted s.report ≤ s.scanner.place) × (s.scanner.place + length s.scanner.held < 2 ^ 61) × HasClosed s.phase s.scanner };
 }
 
 impl<R: Report> Recording<R> {
@@ -57,6 +58,7 @@ impl<R: Report> Recording<R> {
 
     // Sets `out` to what is written at the end of the input, once it has ended, and answers whether it did.
     fn close(&mut self, out: &mut Line) -> bool
+        requires { given self.old.scan ≡ [] }
         ensures { IsClosing R.reporting self.old result out.new self.new }
     {
         match self.phase {
@@ -99,6 +101,7 @@ impl<R: Report> Worker for Recording<R> {
     fn next(&mut self, out: &mut Line) -> Result<bool, Ending> {
         match self.scanner.next(&mut self.raw) {
             Some(item) => {
+                item_laws();
                 self.report.put(&item, &mut self.raw, out);
                 Ok(true)
             }

@@ -1,8 +1,7 @@
 //! What a command writes of the items of a recording.
 
-ghost use Rattle.std.specs.Prelude.{◌≡◌, ℕ, ◌+◌, ◌^◌, ◌<◌, ◌≤◌, List, Bool, length};
-ghost use Rattle.p25_units.specs.declared.item.Item.{Item};
-ghost use Rattle.p25_units.specs.Items.{IsSoundItem, covered};
+ghost use Rattle.std.specs.Prelude.{◌≡◌, ℕ, ◌+◌, ◌^◌, ◌<◌, ◌≤◌};
+ghost use Rattle.p25_units.specs.Items.{IsSoundItem};
 ghost use Rattle.p25_tool.specs.Reports.{Reporting};
 
 use p25_bits::BitBuf;
@@ -21,8 +20,6 @@ pub(crate) trait Report {
     // Sets `out` to what is written of an item and the bits that it covers, and changes these.
     fn put(&mut self, item: &Item, raw: &mut BitBuf, out: &mut Line)
         requires sound { IsSoundItem item.now }
-        requires raw { length raw.old ≡ covered item.now }
-        requires most { covered item.now ≤ 25920 }
         requires few { counted self.old < 2 ^ 61 }
         ensures piece { out.new ≡ reporting.piece self.old item.now raw.old }
         ensures behind { self.new ≡ reporting.behind self.old item.now raw.old }

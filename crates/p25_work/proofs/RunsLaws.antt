@@ -114,6 +114,7 @@ module _ {K : Type 0} (written : K → Option (List ℕ)) (first last : K) (futu
         meets = record {
           ended = true;
           all = λ same. (few, all);
+          stays = λ same. cc;
           ends = ap (future.ends true) first_octets ∙ ap (future.ends true) (sym (append-nil octets)) ∙ moved.ends true [] ∙ ended.1;
           wrote = Appended-same (whole ∙ ap (future.writes true) (sym first_octets)) (Appended-trans moved.appended ended.0);
         };
@@ -145,6 +146,10 @@ stops-final written first third future fed tail told left (Ended ending) few mos
         ended = false;
         all = λ same. cc;
         ends = ap (future.ends false) e ∙ ended.ends false (take (input_most - length fed) tail);
+        stays = λ same is more.
+          ap (λ (zs : List ℕ). future.ends is (zs ++ more)) e
+          ∙ ap (future.ends is) (append_assoc fed (take (input_most - length fed) tail) more)
+          ∙ ended.ends is (take (input_most - length fed) tail ++ more);
         wrote = Appended-same (ap (future.writes false) (sym e)) (ended.wrote false (take (input_most - length fed) tail));
       };
     }
@@ -319,6 +324,7 @@ Worked-same told left first last f g (WorkEnded ending) writes ends worked =
         ended = worked.meets.ended;
         all = worked.meets.all;
         ends = sym (ends worked.meets.ended (take input_most worked.octets)) ∙ worked.meets.ends;
+        stays = λ same is more. sym (ends is (take input_most worked.octets ++ more)) ∙ worked.meets.stays same is more;
         wrote = Appended-same (writes worked.meets.ended (take input_most worked.octets)) worked.meets.wrote;
       };
     }

@@ -11,8 +11,20 @@ use p25_work::Ending;
 // The text of each item that is not a whole unit, and at the end how many units and others there were.
 #[derive(Drop)]
 pub(crate) struct Check {
-    pub(crate) units: u64,
-    pub(crate) faults: u64,
+    units: u64,
+    faults: u64,
+}
+
+impl Check {
+    // Before the first item.
+    pub(crate) fn new() -> Check
+        ensures { result ≡ record { units = 0; faults = 0 } }
+    {
+        Check {
+            units: 0,
+            faults: 0,
+        }
+    }
 }
 
 impl Report for Check {

@@ -1,4 +1,5 @@
-ghost use Rattle.std.specs.Prelude.{◌≡◌, ◌+◌, ◌≤◌, ◌++◌, [], ◌∷◌, length};
+ghost use Rattle.std.specs.Prelude.{◌≡◌};
+ghost use Rattle.p25_units.specs.Items.{IsSoundItem};
 ghost use Rattle.p25_tool.specs.Outputs.{shown};
 
 use crate::report::Report;
