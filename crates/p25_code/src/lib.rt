@@ -16,13 +16,13 @@
 //! radius, least distance and bounded-distance reading are those of any textbook of coding theory.
 //!
 //! `read_received` and `encode_then_read` say what this comes to for any code, proved from the trait alone.
-//! `encode_systematic` and `read_checked` serve as the bodies of small binary codes, given by their check matrix.
+//! `encode_systematic` and `read_systematic` serve as the bodies of small binary codes, given by their check matrix.
 #![tactic(auto)]
 
 mod binary;
 mod callers;
 mod code;
 
-pub use binary::{encode_systematic, read_checked};
+pub use binary::{encode_systematic, read_systematic};
 pub use callers::{encode_then_read, read_marked, read_received};
 pub use code::{BlockCode, ErasedCode, Reading};
