@@ -12,7 +12,7 @@ fn zero_block() -> BitBuf
     ensures { length result ≡ 196 }
 {
     let mut bits = BitBuf::new();
-    put_numbers(&mut bits, &[2; 49], 4);
+    bits.put_numbers(&[2; 49], 4);
     bits
 }
 
@@ -68,7 +68,7 @@ fn half_rate_nibbles(octets: &[u8; 12]) -> [u8; 49]
     let mut bits = BitBuf::new();
     encode_block::<Half>(octets, &mut bits);
     let mut nibbles = [0; 49];
-    take_numbers(&bits, 0, 4, &mut nibbles, 49);
+    bits.take_numbers(0, 4, &mut nibbles);
     nibbles
 }
 
