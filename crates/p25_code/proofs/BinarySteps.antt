@@ -1,5 +1,5 @@
 -- The steps of a search for a correction: change the check bits alone, or leave the first bit, or flip it, or give up.
-use Rattle.std.proofs.Common.{◌≡◌, ◌≢◌, ℕ, suc, ◌+◌, ◌-◌, ◌^◌, ◌<◌, ◌≤◌, inl, inr, Bool, true, false, not, List, [], ◌∷◌, ◌++◌, ltb, length, bit_xor, Option, Some, None, refl, ap, ap₂, sym, ◌∙◌, subst, arith, mod-eq_of_lt, length-append}
+use Rattle.std.proofs.Common.{◌≡◌, ◌≢◌, ℕ, suc, ◌+◌, ◌-◌, ◌^◌, ◌<◌, ◌≤◌, inl, inr, Bool, true, false, not, List, [], ◌∷◌, ◌++◌, ltb, length, bit_xor, Option, Some, None, refl, ap, ap₂, sym, ◌∙◌, subst, arith, mod-eq_of_lt}
 use Rattle.std.specs.Bool.{beq}
 use Rattle.std.specs.Int.Bits.{xor_assoc, xor_self, xor_zero_l}
 use Rattle.std.proofs.lemmas.Nat.{xor_comm, xor_lt}
@@ -8,7 +8,7 @@ use Rattle.p25_bits.specs.Bits.{bits_of, field_of}
 use Rattle.p25_bits.proofs.BitsLaws.{length-bits_of, field_of-bits_of, field_of-lt}
 use Rattle.std.proofs.lemmas.Bool.{cases_eq, and_parts, ltb-true}
 use Rattle.p25_bits.specs.Distance.{distance_by, distance_of}
-use Rattle.p25_bits.proofs.DistanceLaws.{distance_of-same, same_from_distance_of, ones-xor}
+use Rattle.p25_bits.proofs.DistanceLaws.{same_from_distance_of, ones-xor}
 use Rattle.p25_code.specs.Words.{IsReading}
 use Rattle.p25_code.specs.Binary.{syndrome_of, check_columns, rows_fit, IsChecked, change_of, IsCorrected, IsUncorrected, IsCorrection}
 use Rattle.p25_code.specs.declared.code.Reading.TheVariants.{Found, Beyond}

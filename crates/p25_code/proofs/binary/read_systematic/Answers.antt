@@ -1,4 +1,4 @@
-use Rattle.std.proofs.Common.{◌≡◌, ◌+◌, ◌-◌, ◌^◌, ◌<◌, ◌≤◌, ◌++◌, ℕ, List, Bool, bit_xor, length, take, drop, refl, ap, ap₂, sym, subst, ◌∙◌, arith, length-append, length-drop}
+use Rattle.std.proofs.Common.{◌≡◌, ◌-◌, ◌^◌, ◌<◌, ◌≤◌, ◌++◌, ℕ, List, Bool, bit_xor, length, take, drop, refl, ap, ap₂, sym, subst, ◌∙◌, arith, length-append, length-drop}
 use Rattle.std.proofs.lemmas.Nat.{xor_lt}
 use Rattle.p25_bits.specs.Bits.{field_of}
 use Rattle.p25_code.specs.Binary.{check_columns, syndrome_of}
