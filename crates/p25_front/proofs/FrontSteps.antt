@@ -10,12 +10,6 @@ use Rattle.p25_status.proofs.SyncLaws.{ones-xor}
 use Rattle.p25_front.specs.Front.{identifier_bits}
 use Rattle.p25_front.proofs.FrontLaws.{length-identifier_bits}
 
--- a part that is there has its length, and its number fits
-pub field_of-part-lt : (at count : ℕ) (bits : List Bool) → at + count ≤ length bits → field_of (part at count bits) < 2 ^ count
-field_of-part-lt at count bits there =
-    let long : length (part at count bits) ≡ count = length-take-le count (drop at bits) (omega (arith, length-drop at bits)) in
-    subst (λ (n : ℕ). field_of (part at count bits) < 2 ^ n) long (field_of-lt (part at count bits))
-
 -- the number of an identifier is that of the bits before the status symbol, and then of those behind it
 pub identifier_number : (bits : List Bool) (at before behind : ℕ) → at + 114 ≤ length bits → before ≡ field_of (part (at + 48) 22 bits) → behind ≡ field_of (part (at + 72) 42 bits) → before * 2 ^ 42 + behind ≡ field_of (identifier_bits (drop at bits))
 unfolding identifier_bits
