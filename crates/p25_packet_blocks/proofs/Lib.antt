@@ -5,3 +5,7 @@ pub mod ReadingLaws
 pub mod ReadingSteps
 pub mod ImageLaws
 pub mod ImageSteps
+pub mod SendableLaws
+pub mod PlacesLaws
+pub mod UnitLaws
+pub mod RadiusLaws

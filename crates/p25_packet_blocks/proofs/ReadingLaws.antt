@@ -15,7 +15,7 @@ use Rattle.p25_packet_blocks.specs.declared.packet.Packet.TheVariants.{Confirmed
 use Rattle.p25_packet_blocks.specs.Heads.{head_format, head_blocks}
 use Rattle.p25_packet_blocks.specs.Kinds.{IsPlainFormat}
 use Rattle.p25_packet_blocks.specs.Lengths.{packet_bits}
-use Rattle.p25_packet_blocks.specs.Reading.{header_bits, block_bits, head_from, head_reading_of, slot_from, slots_read, octets_read, plain_from, body_reading_of, packet_from, packet_reading_of, HasItsLength}
+use Rattle.p25_packet_blocks.specs.Reading.{header_bits, block_bits, head_from, head_reading_of, slot_from, slots_read, octets_read, plain_from, packet_of_head, packet_from, packet_reading_of, HasItsLength}
 
 -- The header.
 
@@ -105,18 +105,18 @@ plain_from-bad head octets some differs =
 
 -- The packet by its format.
 
-pub body_reading_of-confirmed : (head : PacketHead) (plain : List Bool) → head_format head ≡ 0x16 → body_reading_of head plain ≡ Ok (Confirmed (record { head = head; slots = slots_read (head_blocks head) plain }))
-unfolding body_reading_of
-body_reading_of-confirmed head plain is = cond-true (eqb (head_format head) 0x16) _ _ (eq-eqb _ _ is)
+pub packet_of_head-confirmed : (head : PacketHead) (plain : List Bool) → head_format head ≡ 0x16 → packet_of_head head plain ≡ Ok (Confirmed (record { head = head; slots = slots_read (head_blocks head) plain }))
+unfolding packet_of_head
+packet_of_head-confirmed head plain is = cond-true (eqb (head_format head) 0x16) _ _ (eq-eqb _ _ is)
 
-pub body_reading_of-plain : (head : PacketHead) (plain : List Bool) → IsPlainFormat (head_format head) → body_reading_of head plain ≡ plain_from head (octets_read (head_blocks head) plain)
-unfolding body_reading_of
-body_reading_of-plain head plain (inl is) = rw is refl
-body_reading_of-plain head plain (inr is) = rw is refl
+pub packet_of_head-plain : (head : PacketHead) (plain : List Bool) → IsPlainFormat (head_format head) → packet_of_head head plain ≡ plain_from head (octets_read (head_blocks head) plain)
+unfolding packet_of_head
+packet_of_head-plain head plain (inl is) = rw is refl
+packet_of_head-plain head plain (inr is) = rw is refl
 
-pub body_reading_of-other : (head : PacketHead) (plain : List Bool) → head_format head ≢ 0x16 → head_format head ≢ 0x15 → head_format head ≢ 0x03 → body_reading_of head plain ≡ Err Format
-unfolding body_reading_of
-body_reading_of-other head plain not_16 not_15 not_03 =
+pub packet_of_head-other : (head : PacketHead) (plain : List Bool) → head_format head ≢ 0x16 → head_format head ≢ 0x15 → head_format head ≢ 0x03 → packet_of_head head plain ≡ Err Format
+unfolding packet_of_head
+packet_of_head-other head plain not_16 not_15 not_03 =
     cond-false (eqb (head_format head) 0x16) _ _ (ne_eqb _ _ not_16)
     ∙ cond-false (eqb (head_format head) 0x15 || eqb (head_format head) 0x03) _ _ (or_none _ _ (ne_eqb _ _ not_15) (ne_eqb _ _ not_03))
 
@@ -126,7 +126,7 @@ pub packet_reading_of-bad : (plain : List Bool) (field : Field) → head_reading
 unfolding packet_reading_of packet_from
 packet_reading_of-bad plain field is = rw is refl
 
-pub packet_reading_of-good : (plain : List Bool) (head : PacketHead) → head_reading_of plain ≡ Ok head → packet_reading_of plain ≡ body_reading_of head plain
+pub packet_reading_of-good : (plain : List Bool) (head : PacketHead) → head_reading_of plain ≡ Ok head → packet_reading_of plain ≡ packet_of_head head plain
 unfolding packet_reading_of packet_from
 packet_reading_of-good plain head is = rw is refl
 

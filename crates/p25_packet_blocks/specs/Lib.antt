@@ -10,3 +10,4 @@ pub mod Image
 pub mod Sendable
 pub mod Places
 pub mod Within
+pub mod UnitReading

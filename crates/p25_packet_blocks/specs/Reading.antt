@@ -55,14 +55,14 @@ plain_from head octets =
     if eqb (head_blocks head) 0 || eqb (octets_number (drop count octets)) (crc32_of (take count octets)) then Ok (Plain (record { head = head; octets = take count octets })) else Err PacketCrc
 
 -- the packet of a header and the bits of its unit, by the format
-unfoldable pub body_reading_of : PacketHead → List Bool → Result Packet Field
-body_reading_of head plain =
+unfoldable pub packet_of_head : PacketHead → List Bool → Result Packet Field
+packet_of_head head plain =
     if eqb (head_format head) 0x16 then Ok (Confirmed (record { head = head; slots = slots_read (head_blocks head) plain })) else (if eqb (head_format head) 0x15 || eqb (head_format head) 0x03 then plain_from head (octets_read (head_blocks head) plain) else Err Format)
 
 -- the packet answer: PacketHeader, Format and PacketCrc are tested in this order
 unfoldable pub packet_from : Result PacketHead Field → List Bool → Result Packet Field
 packet_from (Err field) plain = Err field
-packet_from (Ok head) plain = body_reading_of head plain
+packet_from (Ok head) plain = packet_of_head head plain
 
 unfoldable pub packet_reading_of : List Bool → Result Packet Field
 packet_reading_of plain = packet_from (head_reading_of plain) plain

@@ -23,7 +23,7 @@ use p25_front::put_front;
 use p25_trellis::{Half, ThreeQuarter, encode_block};
 
 // The data unit identifier of a packet.
-const PACKET_DUID: u8 = 12;
+pub(crate) const PACKET_DUID: u8 = 12;
 
 /// Answers the length of the unit of a packet as it is sent, by the blocks to follow of its header: 112 bits, 196 for each
 /// block and the header block, filled to a multiple of 70, and two status bits for each 70.

@@ -5,7 +5,7 @@ ghost use Rattle.p25_bits.specs.Numbers.{octets_number};
 ghost use Rattle.p25_crc.specs.Values.{crc32_of};
 ghost use Rattle.p25_packet_blocks.specs.Heads.{head_format, head_blocks};
 ghost use Rattle.p25_packet_blocks.specs.Kinds.{IsPlainFormat};
-ghost use Rattle.p25_packet_blocks.specs.Reading.{head_from, head_reading_of, slot_from, slots_read, octets_read, plain_from, body_reading_of, packet_reading_of, HasItsLength};
+ghost use Rattle.p25_packet_blocks.specs.Reading.{head_from, head_reading_of, slot_from, slots_read, octets_read, plain_from, packet_of_head, packet_reading_of, HasItsLength};
 
 use crate::block::{Block, Slot};
 use crate::head::PacketHead;
@@ -27,7 +27,7 @@ const BLOCKS_AT: usize = 308;
 const BLOCK_LENGTH: usize = 196;
 
 // The header that the octets of a header block hold.
-fn head_in(octets: &[u8; 12]) -> Result<PacketHead, Field>
+pub(crate) fn head_in(octets: &[u8; 12]) -> Result<PacketHead, Field>
     ensures { result ≡ head_from octets.now }
 {
     let mut head = [0; 10];
@@ -141,10 +141,11 @@ fn read_plain(head: PacketHead, plain: &BitBuf) -> Result<Packet, Field>
     plain_in(head, octets)
 }
 
-// The packet of a header and the bits of its unit.
-pub(crate) fn read_body(head: PacketHead, plain: &BitBuf) -> Result<Packet, Field>
+/// Answers the packet of a header that was read and of its unit without status symbols, which has at least as many bits as
+/// the blocks to follow ask for. Format and PacketCrc come as in `read_packet`.
+pub fn read_packet_of_head(head: PacketHead, plain: &BitBuf) -> Result<Packet, Field>
     requires { 308 + 196 * head_blocks head ≤ length plain.now }
-    ensures { result ≡ body_reading_of head plain.now }
+    ensures { result ≡ packet_of_head head plain.now }
 {
     match head.format() {
         0x16 => {
@@ -167,5 +168,5 @@ pub fn read_packet(plain: &BitBuf) -> Result<Packet, Field>
     ensures { result ≡ packet_reading_of plain.now }
 {
     let head = read_head(plain)?;
-    read_body(head, plain)
+    read_packet_of_head(head, plain)
 }
