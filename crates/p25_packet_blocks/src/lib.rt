@@ -23,6 +23,8 @@ mod packet;
 mod radius;
 mod read;
 mod slots;
+#[cfg(test)]
+mod tests;
 mod unit;
 mod whole;
 
