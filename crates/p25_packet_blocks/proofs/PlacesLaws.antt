@@ -1,6 +1,6 @@
 -- The image by its places: the list has what the standard says at each place, and nothing else has. Each place of the list
 -- is found by the lengths of what stands before it; a list is put together again from its parts that touch.
-use Rattle.std.proofs.Common.{◌≡◌, ℕ, ◌+◌, ◌-◌, ◌*◌, ◌/◌, ◌<◌, ◌≤◌, Bool, false, List, [], ◌++◌, length, take, drop, get_or, replicate, slice_get, Some, refl, ap, ap₂, sym, subst, ◌∙◌, arith, length-append, length-drop, All, append_assoc, take-append-drop}
+use Rattle.std.proofs.Common.{◌≡◌, ℕ, ◌+◌, ◌-◌, ◌*◌, ◌<◌, ◌≤◌, Bool, false, List, ◌++◌, length, take, drop, get_or, replicate, slice_get, Some, refl, ap, ap₂, sym, subst, ◌∙◌, arith, length-append, length-drop, All, append_assoc, take-append-drop}
 use Rattle.std.proofs.lemmas.List.{take_at, get_or-append_right, get_or-replicate, get_or-drop, same_lists, length-replicate}
 use Rattle.std.proofs.lemmas.Option.{slice_get-get_or, get_or_from_slice_get}
 use Rattle.p25_bits.specs.Bits.{part}
@@ -14,8 +14,6 @@ use Rattle.p25_trellis.specs.Tables.{half_point, three_quarter_point}
 use Rattle.p25_trellis.specs.Nearest.{half_block, three_quarter_block}
 use Rattle.p25_trellis.proofs.Apart.{length-block}
 use Rattle.p25_trellis.proofs.NearestLaws.{IsBlock-block_from, same_block_from}
-use Rattle.p25_packet_blocks.specs.declared.block.Block.{Block}
-use Rattle.p25_packet_blocks.specs.declared.block.Slot.TheVariants.{Good, Bad}
 use Rattle.p25_packet_blocks.specs.declared.packet.Packet.{Packet}
 use Rattle.p25_packet_blocks.specs.declared.packet.Packet.TheVariants.{Confirmed, Plain}
 use Rattle.p25_packet_blocks.specs.Heads.{head_blocks}
@@ -23,9 +21,9 @@ use Rattle.p25_packet_blocks.specs.Whole.{packet_head}
 use Rattle.p25_packet_blocks.specs.Lengths.{packet_bits, packet_plain_length}
 use Rattle.p25_packet_blocks.specs.Reading.{header_bits, block_bits}
 use Rattle.p25_packet_blocks.specs.Image.{header_octets, confirmed_octets, checked_octets, body_block, packet_nulls, packet_image_of}
-use Rattle.p25_packet_blocks.specs.Sendable.{IsHead, IsDataBlock, IsSendable}
+use Rattle.p25_packet_blocks.specs.Sendable.{IsDataBlock, IsSendable}
 use Rattle.p25_packet_blocks.specs.Places.{IsBodyBlock, IsPacketImage}
-use Rattle.p25_packet_blocks.proofs.ImageLaws.{length-header_octets, AreOctets-header_octets, length-confirmed_octets, AreOctets-confirmed_octets, length-checked_octets, AreOctets-checked_octets, body_block-confirmed, body_block-plain}
+use Rattle.p25_packet_blocks.proofs.ImageLaws.{length-header_octets, AreOctets-header_octets, length-confirmed_octets, AreOctets-confirmed_octets, body_block-confirmed, body_block-plain}
 use Rattle.p25_packet_blocks.proofs.SendableLaws.{IsSendable-head, octets_of_block}
 
 -- What is sent for each block.

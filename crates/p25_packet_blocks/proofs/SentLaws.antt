@@ -1,18 +1,18 @@
 -- A sent unit of a packet: its header block between status symbols, and that it reads as the packet within radius. The front
 -- is read by the laws of fronts, the rest without status symbols.
-use Rattle.std.proofs.Common.{◌≡◌, ℕ, ◌+◌, ◌*◌, ◌<◌, ◌≤◌, Bool, List, ◌++◌, length, take, drop, Result, Ok, Some, refl, ap, ap₂, sym, subst, ◌∙◌, arith}
+use Rattle.std.proofs.Common.{◌≡◌, ℕ, ◌*◌, ◌<◌, ◌≤◌, Bool, List, ◌++◌, length, take, Ok, refl, ap, ap₂, sym, subst, ◌∙◌, arith}
 use Rattle.std.proofs.lemmas.List.{take_all}
 use Rattle.p25_bits.specs.Bits.{part}
 use Rattle.p25_bits.specs.Distance.{distance_of}
 use Rattle.p25_bits.proofs.PartLaws.{part_add}
 use Rattle.p25_bits.proofs.DistanceLaws.{distance_of-same}
 use Rattle.p25_status.specs.declared.symbols.Status.{Status}
-use Rattle.p25_status.specs.Sync.{has_sync, sync_bits, sync_slack}
+use Rattle.p25_status.specs.Sync.{sync_bits, sync_slack}
 use Rattle.p25_status.specs.Woven.{woven, plain_of}
 use Rattle.p25_status.proofs.SyncLaws.{has_sync-yes}
 use Rattle.p25_status.proofs.WovenLaws.{length-woven, plain_of-woven, part-plain_of}
 use Rattle.p25_bch_nid.specs.NidWord.{nid_word}
-use Rattle.p25_front.specs.Front.{unit_front, front_of, identifier_bits, identifier_of}
+use Rattle.p25_front.specs.Front.{unit_front, front_of, identifier_bits}
 use Rattle.p25_front.proofs.FrontLaws.{front_of-plain_of, front_of-sync, front_of-identifier, identifier_of-near}
 use Rattle.p25_trellis.specs.Nearest.{half_octets}
 use Rattle.p25_packet_blocks.specs.declared.packet.Packet.{Packet}
@@ -23,7 +23,7 @@ use Rattle.p25_packet_blocks.specs.Reading.{header_bits, block_bits, head_from, 
 use Rattle.p25_packet_blocks.specs.Image.{packet_image_of}
 use Rattle.p25_packet_blocks.specs.Sendable.{IsSendable}
 use Rattle.p25_packet_blocks.specs.Within.{block_radius, AreBlocksWithin, IsPacketWithin}
-use Rattle.p25_packet_blocks.specs.UnitReading.{sent_header_bits, sent_head_of, sent_packet_of, packet_unit_of}
+use Rattle.p25_packet_blocks.specs.UnitReading.{sent_header_bits, sent_head_of, packet_unit_of}
 use Rattle.p25_packet_blocks.proofs.ReadingLaws.{head_reading_of-is}
 use Rattle.p25_packet_blocks.proofs.UnitLaws.{sent_header_bits-is, sent_head_of-is, sent_packet_of-whole, packet_unit_of-good}
 use Rattle.p25_packet_blocks.proofs.SendableLaws.{IsSendable-head}
