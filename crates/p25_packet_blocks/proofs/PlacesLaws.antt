@@ -44,8 +44,12 @@ header_block packet sendable =
 pub IsBodyBlock-body_block : (packet : Packet) → IsSendable packet → (j : ℕ) → j < head_blocks (packet_head packet) → IsBodyBlock packet j (body_block packet j)
 unfolding IsSendable IsBodyBlock
 IsBodyBlock-body_block (Confirmed packet) sendable j inside =
-    let good = sendable.good.at j inside in
-    (good.0, good.1, subst (IsBlock 8 3 three_quarter_point (confirmed_octets good.0)) (sym (body_block-confirmed packet j good.0 good.1)) (IsBlock-three_quarter (confirmed_octets good.0) (length-confirmed_octets good.0 good.2) (AreOctets-confirmed_octets good.0 good.2)))
+    let good = sendable.good.at j inside in (
+      good.0,
+      good.1,
+      subst (IsBlock 8 3 three_quarter_point (confirmed_octets good.0)) (sym (body_block-confirmed packet j good.0 good.1))
+          (IsBlock-three_quarter (confirmed_octets good.0) (length-confirmed_octets good.0 good.2) (AreOctets-confirmed_octets good.0 good.2)),
+    )
 IsBodyBlock-body_block (Plain packet) sendable j inside =
     let octets = octets_of_block packet sendable j inside in
     subst (IsBlock 4 2 half_point (part (12 * j) 12 (checked_octets packet.octets))) (sym (body_block-plain packet j)) (IsBlock-half (part (12 * j) 12 (checked_octets packet.octets)) octets.0 octets.1)
@@ -144,7 +148,8 @@ module _ (nac : ℕ) (packet : Packet) (sendable : IsSendable packet) where
   image_nulls place behind inside =
       let left : place - packet_bits count < packet_plain_length count - packet_bits count = omega (arith, image_long) in
       slice_get-get_or (packet_image_of nac packet) place false inside
-      ∙ ap Some (ap (λ (xs : List Bool). get_or xs place false) grouped ∙ get_or-append_right (front ++ header ++ body) (packet_nulls count) (packet_bits count) place false long_bits behind ∙ get_or-replicate (packet_plain_length count - packet_bits count) (place - packet_bits count) false false left)
+      ∙ ap Some (ap (λ (xs : List Bool). get_or xs place false) grouped ∙ get_or-append_right (front ++ header ++ body) (packet_nulls count) (packet_bits count) place false long_bits behind
+      ∙ get_or-replicate (packet_plain_length count - packet_bits count) (place - packet_bits count) false false left)
 
   -- the image is as the standard says
   pub IsPacketImage-image : IsPacketImage nac packet (packet_image_of nac packet)
@@ -167,7 +172,8 @@ module _ (nac : ℕ) (packet : Packet) (sendable : IsSendable packet) where
       let third : part 308 (196 * count) bits ≡ body
       = sym (joined_below-parts 308 196 count bits) ∙ joined_below-same count (λ j. part (308 + 196 * j) 196 bits) (body_block packet) (λ j inside. body_block-only packet sendable j inside (block_bits bits j) (is.blocks j inside)) in
       let rest : drop (packet_bits count) bits ≡ replicate (packet_plain_length count - packet_bits count) false
-      = all_false (drop (packet_bits count) bits) (packet_plain_length count - packet_bits count) (length-drop (packet_bits count) bits ∙ ap (λ k. k - packet_bits count) is.long) (λ i inside. get_or-drop (packet_bits count) bits i false ∙ get_or_from_slice_get bits (packet_bits count + i) false false (is.nulls (packet_bits count + i) (omega arith) (omega (arith, length-drop (packet_bits count) bits)))) in
+      = all_false (drop (packet_bits count) bits) (packet_plain_length count - packet_bits count) (length-drop (packet_bits count) bits ∙ ap (λ k. k - packet_bits count) is.long)
+      (λ i inside. get_or-drop (packet_bits count) bits i false ∙ get_or_from_slice_get bits (packet_bits count + i) false false (is.nulls (packet_bits count + i) (omega arith) (omega (arith, length-drop (packet_bits count) bits)))) in
       let place : 308 + 196 * count ≡ packet_bits count = omega arith in
       sym (take-append-drop (packet_bits count) bits)
       ∙ ap₂ (λ (xs ys : List Bool). xs ++ ys)

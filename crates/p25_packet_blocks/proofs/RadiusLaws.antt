@@ -94,22 +94,26 @@ module _ (half : HalfNear) (three_quarter : ThreeQuarterNear) (nac : ℕ) where
   head_within packet received sendable within =
       let head = IsSendable-head packet sendable in
       let long : length received ≡ packet_plain_length (head_blocks (packet_head packet)) = within.long ∙ image_long nac packet sendable in
-      half (header_octets (packet_head packet)) (header_bits received) (length-header_octets (packet_head packet) head) (AreOctets-header_octets (packet_head packet) head) (length-part 112 196 received (omega arith)) (subst (λ xs. distance_of xs (header_bits received) ≤ 2) (image_header nac packet sendable) within.header)
+      half (header_octets (packet_head packet)) (header_bits received) (length-header_octets (packet_head packet) head) (AreOctets-header_octets (packet_head packet) head)
+      (length-part 112 196 received (omega arith)) (subst (λ xs. distance_of xs (header_bits received) ≤ 2) (image_header nac packet sendable) within.header)
 
   -- a slot
-  slot_within : (packet : ConfirmedParts) (received : List Bool) (sendable : IsSendable (Confirmed packet)) → AreBlocksWithin (Confirmed packet) (packet_image_of nac (Confirmed packet)) received → (j : ℕ) → j < head_blocks packet.head → slot_from (three_quarter_octets (block_bits received j)) ≡ get_or packet.slots j Bad
+  slot_within : (packet : ConfirmedParts) (received : List Bool) (sendable : IsSendable (Confirmed packet)) → AreBlocksWithin (Confirmed packet) (packet_image_of nac (Confirmed packet)) received
+      → (j : ℕ) → j < head_blocks packet.head → slot_from (three_quarter_octets (block_bits received j)) ≡ get_or packet.slots j Bad
   unfolding IsSendable
   slot_within packet received sendable within j inside =
       let good = sendable.good.at j inside in
       let block = good.0 in
       let sent = image_block nac (Confirmed packet) sendable j inside ∙ body_block-confirmed packet j block good.1 in
       let long = long_block (Confirmed packet) received (within.long ∙ image_long nac (Confirmed packet) sendable) j inside in
-      ap slot_from (three_quarter (confirmed_octets block) (block_bits received j) (length-confirmed_octets block good.2) (AreOctets-confirmed_octets block good.2) long (subst (λ xs. distance_of xs (block_bits received j) ≤ 1) sent (within.blocks j inside)))
+      ap slot_from (three_quarter (confirmed_octets block) (block_bits received j) (length-confirmed_octets block good.2) (AreOctets-confirmed_octets block good.2) long
+      (subst (λ xs. distance_of xs (block_bits received j) ≤ 1) sent (within.blocks j inside)))
       ∙ slot_again block good.2
       ∙ sym good.1
 
   -- the octets of a half-rate block
-  octets_within : (packet : PlainParts) (received : List Bool) (sendable : IsSendable (Plain packet)) → AreBlocksWithin (Plain packet) (packet_image_of nac (Plain packet)) received → (j : ℕ) → j < head_blocks packet.head → half_octets (block_bits received j) ≡ part (12 * j) 12 (checked_octets packet.octets)
+  octets_within : (packet : PlainParts) (received : List Bool) (sendable : IsSendable (Plain packet)) → AreBlocksWithin (Plain packet) (packet_image_of nac (Plain packet)) received
+      → (j : ℕ) → j < head_blocks packet.head → half_octets (block_bits received j) ≡ part (12 * j) 12 (checked_octets packet.octets)
   unfolding IsSendable
   octets_within packet received sendable within j inside =
       let octets = octets_of_block packet sendable j inside in
@@ -135,7 +139,8 @@ module _ (half : HalfNear) (three_quarter : ThreeQuarterNear) (nac : ℕ) where
       let checked = checked_octets octets in
       let make : List ℕ → PlainParts = λ carried. record { head = packet.head; octets = carried } in
       let read : octets_read n received ≡ take (12 * n) checked
-      = joined_below-same n (λ j. half_octets (block_bits received j)) (λ j. part (0 + 12 * j) 12 checked) (λ j inside. octets_within packet received sendable within j inside ∙ ap (λ k. part k 12 checked) (let here : 12 * j ≡ 0 + 12 * j = omega arith in here))
+      = joined_below-same n (λ j. half_octets (block_bits received j)) (λ j. part (0 + 12 * j) 12 checked)
+      (λ j inside. octets_within packet received sendable within j inside ∙ ap (λ k. part k 12 checked) (let here : 12 * j ≡ 0 + 12 * j = omega arith in here))
       ∙ joined_below-parts 0 12 n checked in
       let counted : length octets ≡ 12 * n - 4 = sendable.kind.count in
       let front : take (12 * n - 4) (octets_read n received) ≡ octets

@@ -31,7 +31,8 @@ head_reading_of-is plain = refl
 
 -- The slots of a confirmed packet.
 
-pub slot_from-good : (octets : List ℕ) → 256 * (slice_index octets 0 % 2) + slice_index octets 1 ≡ crc9_of (slice_index octets 0 / 2) (drop 2 octets) → slot_from octets ≡ Good (record { serial = slice_index octets 0 / 2; octets = drop 2 octets })
+pub slot_from-good : (octets : List ℕ) → 256 * (slice_index octets 0 % 2) + slice_index octets 1 ≡ crc9_of (slice_index octets 0 / 2) (drop 2 octets)
+    → slot_from octets ≡ Good (record { serial = slice_index octets 0 / 2; octets = drop 2 octets })
 unfolding slot_from
 slot_from-good octets agrees = cond-true (eqb (256 * (slice_index octets 0 % 2) + slice_index octets 1) (crc9_of (slice_index octets 0 / 2) (drop 2 octets))) _ _ (eq-eqb _ _ agrees)
 
@@ -90,13 +91,15 @@ plain_from-none head octets none =
     cond-true (eqb (head_blocks head) 0 || eqb (octets_number (drop (12 * head_blocks head - 4) octets)) (crc32_of (take (12 * head_blocks head - 4) octets))) _ _ (or_left _ _ (eq-eqb _ _ none))
 
 -- the packet CRC agrees
-pub plain_from-good : (head : PacketHead) (octets : List ℕ) → eqb (octets_number (drop (12 * head_blocks head - 4) octets)) (crc32_of (take (12 * head_blocks head - 4) octets)) ≡ true → plain_from head octets ≡ Ok (Plain (record { head = head; octets = take (12 * head_blocks head - 4) octets }))
+pub plain_from-good : (head : PacketHead) (octets : List ℕ) → eqb (octets_number (drop (12 * head_blocks head - 4) octets)) (crc32_of (take (12 * head_blocks head - 4) octets)) ≡ true
+    → plain_from head octets ≡ Ok (Plain (record { head = head; octets = take (12 * head_blocks head - 4) octets }))
 unfolding plain_from
 plain_from-good head octets agrees =
     cond-true (eqb (head_blocks head) 0 || eqb (octets_number (drop (12 * head_blocks head - 4) octets)) (crc32_of (take (12 * head_blocks head - 4) octets))) _ _ (or_right _ _ agrees)
 
 -- there is a block to follow, and the packet CRC does not agree
-pub plain_from-bad : (head : PacketHead) (octets : List ℕ) → head_blocks head ≢ 0 → eqb (octets_number (drop (12 * head_blocks head - 4) octets)) (crc32_of (take (12 * head_blocks head - 4) octets)) ≡ false → plain_from head octets ≡ Err PacketCrc
+pub plain_from-bad : (head : PacketHead) (octets : List ℕ) → head_blocks head ≢ 0 → eqb (octets_number (drop (12 * head_blocks head - 4) octets)) (crc32_of (take (12 * head_blocks head - 4) octets)) ≡ false
+    → plain_from head octets ≡ Err PacketCrc
 unfolding plain_from
 plain_from-bad head octets some differs =
     cond-false (eqb (head_blocks head) 0 || eqb (octets_number (drop (12 * head_blocks head - 4) octets)) (crc32_of (take (12 * head_blocks head - 4) octets))) _ _ (or_none _ _ (ne_eqb _ _ some) differs)

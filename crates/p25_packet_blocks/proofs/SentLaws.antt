@@ -8,7 +8,7 @@ use Rattle.p25_bits.proofs.PartLaws.{part_add}
 use Rattle.p25_bits.proofs.DistanceLaws.{distance_of-same}
 use Rattle.p25_status.specs.declared.symbols.Status.{Status}
 use Rattle.p25_status.specs.Sync.{sync_bits, sync_slack}
-use Rattle.p25_status.specs.Woven.{woven, plain_of}
+use Rattle.p25_status.specs.Woven.{plain_of}
 use Rattle.p25_status.proofs.SyncLaws.{has_sync-yes}
 use Rattle.p25_status.proofs.WovenLaws.{length-woven, plain_of-woven, part-plain_of}
 use Rattle.p25_bch_nid.specs.NidWord.{nid_word}
@@ -22,7 +22,7 @@ use Rattle.p25_packet_blocks.specs.Lengths.{packet_plain_length, packet_sent_len
 use Rattle.p25_packet_blocks.specs.Reading.{header_bits, block_bits, head_from, head_reading_of, packet_of_head}
 use Rattle.p25_packet_blocks.specs.Image.{packet_image_of}
 use Rattle.p25_packet_blocks.specs.Sendable.{IsSendable}
-use Rattle.p25_packet_blocks.specs.Within.{block_radius, AreBlocksWithin, IsPacketWithin}
+use Rattle.p25_packet_blocks.specs.Within.{block_radius, AreBlocksWithin, IsPacketWithin, IsSending, sent_unit}
 use Rattle.p25_packet_blocks.specs.UnitReading.{sent_header_bits, sent_head_of, packet_unit_of}
 use Rattle.p25_packet_blocks.proofs.ReadingLaws.{head_reading_of-is}
 use Rattle.p25_packet_blocks.proofs.UnitLaws.{sent_header_bits-is, sent_head_of-is, sent_packet_of-whole, packet_unit_of-good}
@@ -50,9 +50,15 @@ pub sent_head_of-plain_of : (blocks : ℕ) (sent : List Bool) → 5 ≤ blocks �
 sent_head_of-plain_of blocks sent five long =
     sent_head_of-is sent ∙ ap (λ xs. head_from (half_octets xs)) (sent_header_bits-plain_of blocks sent five long) ∙ sym (head_reading_of-is (plain_of sent))
 
-module _ (half : HalfNear) (three_quarter : ThreeQuarterNear) (nac : ℕ) (packet : Packet) (statuses : List Status) (fits : nac < 4096) (sendable : IsSendable packet) (counted : 70 * length statuses ≡ packet_plain_length (head_blocks (packet_head packet))) where
+module _ (half : HalfNear) (three_quarter : ThreeQuarterNear) (nac : ℕ) (packet : Packet) (statuses : List Status) (sending : IsSending nac packet statuses) where
+  sendable : IsSendable packet
+  sendable = sending.sendable
+
+  counted : 70 * length statuses ≡ packet_plain_length (head_blocks (packet_head packet))
+  counted = sending.counted
+
   abbrev pub whole : List Bool
-  whole = woven (packet_image_of nac packet) statuses
+  whole = sent_unit nac packet statuses
 
   image_counted : length (packet_image_of nac packet) ≡ 70 * length statuses
   image_counted = image_long nac packet sendable ∙ sym counted
@@ -80,10 +86,11 @@ module _ (half : HalfNear) (three_quarter : ThreeQuarterNear) (nac : ℕ) (packe
       let near_identifier : distance_of (take 63 (identifier_bits received)) (take 63 (nid_word nac 12)) ≤ 11
       = subst (λ (xs : List Bool). distance_of (take 63 (identifier_bits received)) (take 63 xs) ≤ 11) (front_of-identifier nac 12 whole (omega (arith, long_whole, five)) front) within.identifier in
       let read : sent_head_of received ≡ Ok head
-      = sent_head_of-plain_of (length statuses) received five long ∙ head_reading_of-is (plain_of received) ∙ ap head_from (head_within half three_quarter nac packet (plain_of received) sendable blocks) ∙ head_again head (IsSendable-head packet sendable) in
+      = sent_head_of-plain_of (length statuses) received five long ∙ head_reading_of-is (plain_of received)
+      ∙ ap head_from (head_within half three_quarter nac packet (plain_of received) sendable blocks) ∙ head_again head (IsSendable-head packet sendable) in
       let enough : packet_sent_length (head_blocks head) ≡ length received = omega (arith, long, counted) in
       let all : take (packet_sent_length (head_blocks head)) received ≡ received = take_all (packet_sent_length (head_blocks head)) received (omega (arith, enough)) in
-      packet_unit_of-good received (nac, 12) packet (has_sync-yes received (omega (arith, long, five)) near_sync) (identifier_of-near nac 12 received fits (omega arith) (omega (arith, long, five)) near_identifier) refl
+      packet_unit_of-good received (nac, 12) packet (has_sync-yes received (omega (arith, long, five)) near_sync) (identifier_of-near nac 12 received sending.nac_fits (omega arith) (omega (arith, long, five)) near_identifier) refl
       (sent_packet_of-whole received head read (omega (arith, enough)) ∙ ap (λ (xs : List Bool). packet_of_head head (plain_of xs)) all ∙ body_within half three_quarter nac packet (plain_of received) sendable blocks)
 
   none_wrong : (bits : List Bool) (most : ℕ) → distance_of bits bits ≤ most

@@ -9,12 +9,17 @@ use p25_bits::BitBuf;
 use p25_status::{Field, Status, Statuses, weave};
 use std::test::Fail;
 
-// The first bits of some words, the most significant bit first.
-fn unit(words: &[u64; 11], len: usize) -> BitBuf {
+// The first bits of some words, the most significant bit first, and then bits 0.
+fn unit(words: &[u64], len: usize) -> BitBuf {
     let mut bits = BitBuf::new();
-    for place in 0..len.min(704) {
+    for place in 0..len {
         if bits.len() < 704 {
-            bits.push((words[place / 64] >> (63 - place % 64)) & 1 == 1);
+            let word = if place / 64 < words.len() {
+                words[place / 64]
+            } else {
+                0
+            };
+            bits.push((word >> (63 - place % 64)) & 1 == 1);
         }
     }
     bits
@@ -49,11 +54,11 @@ fn read_whole(plain: &BitBuf) -> Result<Packet, Field> {
 
 #[test]
 fn units_are_read_and_written(rt: HostRuntime) -> Result<(), Fail> {
-    let rows: [(u16, usize, [u64; 11]); 5] = [
+    let rows: [(u16, usize, &[u64]); 5] = [
         (
             0x293,
             560,
-            [
+            &[
                 0x5575_F5FF_77FF_293C,
                 0xD60B_E02B_B372_C422,
                 0x22DE_2224_5052_2229,
@@ -62,15 +67,12 @@ fn units_are_read_and_written(rt: HostRuntime) -> Result<(), Fail> {
                 0x2222_2222_222E_2222,
                 0x2222_221F_2222_2222,
                 0x2252_2222_2222_2200,
-                0,
-                0,
-                0,
             ],
         ),
         (
             0x293,
             560,
-            [
+            &[
                 0x5575_F5FF_77FF_293C,
                 0xD60B_E02B_B372_2322,
                 0x22DE_22CD_9F52_2229,
@@ -79,32 +81,23 @@ fn units_are_read_and_written(rt: HostRuntime) -> Result<(), Fail> {
                 0x2222_2F88_8522_2222,
                 0x2288_8822_2222_2288,
                 0x8822_2222_2288_8800,
-                0,
-                0,
-                0,
             ],
         ),
         (
             0x293,
             350,
-            [
+            &[
                 0x5575_F5FF_77FF_293C,
                 0xD60B_E02B_B372_2522,
                 0x22D2_222D_5122_2229,
                 0x2221_A912_2222_222A,
                 0xAF92_22C2_2227_4000,
-                0,
-                0,
-                0,
-                0,
-                0,
-                0,
             ],
         ),
         (
             0x123,
             700,
-            [
+            &[
                 0x5575_F5FF_77FF_123C,
                 0x9B8F_E05E_7D3E_2322,
                 0x9CA9_22F5_2C52_CF09,
@@ -121,7 +114,7 @@ fn units_are_read_and_written(rt: HostRuntime) -> Result<(), Fail> {
         (
             0xABC,
             700,
-            [
+            &[
                 0x5575_F5FF_77FF_ABCC,
                 0xC425_E74B_DC0A_C42F,
                 0x4199_52CC_2052_8B42,
@@ -137,7 +130,7 @@ fn units_are_read_and_written(rt: HostRuntime) -> Result<(), Fail> {
         ),
     ];
     for (nac, len, words) in rows {
-        let plain = unit(&words, len);
+        let plain = unit(words, len);
         let packet = read_whole(&plain)?;
         assert!(rt; is_whole(&packet));
         assert!(rt; nac < 4096);
@@ -160,12 +153,12 @@ fn units_are_read_and_written(rt: HostRuntime) -> Result<(), Fail> {
 
 #[test]
 fn damaged_units(rt: HostRuntime) {
-    let rows: [(Option<Field>, usize, [u64; 11]); 8] = [
+    let rows: [(Option<Field>, usize, &[u64]); 8] = [
         // a confirmed block zeroed
         (
             None,
             560,
-            [
+            &[
                 0x5575_F5FF_77FF_293C,
                 0xD60B_E02B_B372_C422,
                 0x22DE_2224_5052_2229,
@@ -174,16 +167,13 @@ fn damaged_units(rt: HostRuntime) {
                 0x2222_2222_2222_2222,
                 0x2222_2222_2222_2222,
                 0x2222_2222_2222_2200,
-                0,
-                0,
-                0,
             ],
         ),
         // a plain block zeroed
         (
             Some(Field::PacketCrc),
             560,
-            [
+            &[
                 0x5575_F5FF_77FF_293C,
                 0xD60B_E02B_B372_2322,
                 0x22DE_22CD_9F52_2229,
@@ -192,122 +182,84 @@ fn damaged_units(rt: HostRuntime) {
                 0x2222_2222_2222_2222,
                 0x2222_2222_2222_2222,
                 0x2222_2222_2222_2200,
-                0,
-                0,
-                0,
             ],
         ),
         // the header block zeroed
         (
             Some(Field::PacketHeader),
             350,
-            [
+            &[
                 0x5575_F5FF_77FF_293C,
                 0xD60B_E02B_B372_2222,
                 0x2222_2222_2222_2222,
                 0x2222_2222_2222_2222,
                 0x2222_2222_2222_2000,
-                0,
-                0,
-                0,
-                0,
-                0,
-                0,
             ],
         ),
         // format 17 hex
         (
             Some(Field::Format),
             350,
-            [
+            &[
                 0x5575_F5FF_77FF_293C,
                 0xD60B_E02B_B372_2822,
                 0x22D2_22F1_EC52_2229,
                 0x2226_7022_2222_2229,
                 0xE322_22C2_2222_C000,
-                0,
-                0,
-                0,
-                0,
-                0,
-                0,
             ],
         ),
         // the beginning of a packet of 127 blocks
         (
             Some(Field::Length),
             350,
-            [
+            &[
                 0x5575_F5FF_77FF_293C,
                 0xD60B_E02B_B372_C422,
                 0x2235_22F4_2052_2228,
                 0x2226_8022_2228_2129,
                 0x8D22_22C8_2921_5282,
                 0x2222_2220_0000_0000,
-                0,
-                0,
-                0,
-                0,
-                0,
             ],
         ),
         // five wrong bits of the sync
         (
             Some(Field::Sync),
             350,
-            [
+            &[
                 0xAD75_F5FF_77FF_293C,
                 0xD60B_E02B_B372_2522,
                 0x22D2_222D_5122_2229,
                 0x2221_A912_2222_222A,
                 0xAF92_22C2_2227_4000,
-                0,
-                0,
-                0,
-                0,
-                0,
-                0,
             ],
         ),
         // twelve wrong bits of the identifier
         (
             Some(Field::Nid),
             350,
-            [
+            &[
                 0x5575_F5FF_77FF_D6CC,
                 0xD60B_E02B_B372_2522,
                 0x22D2_222D_5122_2229,
                 0x2221_A912_2222_222A,
                 0xAF92_22C2_2227_4000,
-                0,
-                0,
-                0,
-                0,
-                0,
-                0,
             ],
         ),
         // DUID 3
         (
             Some(Field::Duid),
             350,
-            [
+            &[
                 0x5575_F5FF_77FF_2933,
                 0x3977_728C_ED6E_2522,
                 0x22D2_222D_5122_2229,
                 0x2221_A912_2222_222A,
                 0xAF92_22C2_2227_4000,
-                0,
-                0,
-                0,
-                0,
-                0,
-                0,
             ],
         ),
     ];
     for (fails, len, words) in rows {
-        let bits = sent(&unit(&words, len));
+        let bits = sent(&unit(words, len));
         assert!(rt; bits.len() >= 360);
         match read_packet_unit(&bits) {
             Ok((_, packet)) => {

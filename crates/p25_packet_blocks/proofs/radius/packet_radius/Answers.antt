@@ -6,7 +6,7 @@ pub returns-clause-plain : goal.returns-clause-plain
 returns-clause-plain c = λ nac packet received sendable within. packet_within c.half_rate_near.ensures c.three_quarter_rate_near.ensures nac packet received sendable within
 
 pub returns-clause-sent : goal.returns-clause-sent
-returns-clause-sent c = λ nac packet statuses received fits sendable counted within. sent_within c.half_rate_near.ensures c.three_quarter_rate_near.ensures nac packet statuses fits sendable counted received within
+returns-clause-sent c = λ nac packet statuses received sending within. sent_within c.half_rate_near.ensures c.three_quarter_rate_near.ensures nac packet statuses sending received within
 
 pub returns-clause-undamaged : goal.returns-clause-undamaged
-returns-clause-undamaged c = λ nac packet statuses fits sendable counted. sent_again c.half_rate_near.ensures c.three_quarter_rate_near.ensures nac packet statuses fits sendable counted
+returns-clause-undamaged c = λ nac packet statuses sending. sent_again c.half_rate_near.ensures c.three_quarter_rate_near.ensures nac packet statuses sending
