@@ -3,10 +3,10 @@ use Rattle.std.proofs.Common.{◌≡◌, ℕ, ◌+◌, ◌*◌, ◌/◌, ◌^◌
 use Rattle.std.specs.Int.RustNames.{count_ones}
 use Rattle.std.proofs.lemmas.List.{length-take-le, take_at, drop-drop}
 use Rattle.std.proofs.lemmas.Nat.{xor_shr}
+use Rattle.p25_bits.proofs.DistanceLaws.{ones-xor}
 use Rattle.p25_bits.specs.Bits.{bits_of, field_of, part}
 use Rattle.p25_bits.specs.Distance.{distance_of}
 use Rattle.p25_bits.proofs.BitsLaws.{bits_of-add, length-bits_of, field_of-bits_of, bits_of-field_of, field_of-append, field_of-lt}
-use Rattle.p25_status.proofs.SyncLaws.{ones-xor}
 use Rattle.p25_front.specs.Front.{identifier_bits}
 use Rattle.p25_front.proofs.FrontLaws.{length-identifier_bits}
 

@@ -16,15 +16,19 @@
 mod block;
 mod flags;
 mod head;
+mod image;
 mod octets;
 mod packet;
+mod read;
 mod slots;
 mod whole;
 
 pub use block::{Block, Slot};
 pub use flags::{Flags, flags_make, flags_read};
 pub use head::PacketHead;
+pub use image::{packet_image, packet_length};
 pub use octets::Octets;
 pub use packet::{Confirmed, Packet, Plain};
+pub use read::{read_head, read_packet};
 pub use slots::Slots;
 pub use whole::is_whole;
