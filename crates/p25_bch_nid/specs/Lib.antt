@@ -5,4 +5,6 @@ pub mod Bch63
 pub mod Bch63Forms
 pub mod BitSymbols
 pub mod Bch63Laws
+pub mod Bch63Readings
 pub mod NidReading
+pub mod NidWord

@@ -3,6 +3,7 @@
 ghost use Rattle.p25_code.specs.Letters.{same_bit};
 ghost use Rattle.p25_bch_nid.specs.Bch63.{IsBch63};
 ghost use Rattle.p25_bch_nid.specs.Bch63Laws.{length_of_word, one_word, far_apart, within, begins};
+ghost use Rattle.p25_bch_nid.specs.Bch63Readings.{bch63_reading_of, bch63_reads_as};
 
 use crate::bits::{are_bits, number_of, put_bits, put_number, put_symbols};
 use p25_bits::number_remainder;
@@ -39,6 +40,10 @@ impl BlockCode for Bch63 {
     ghost radius_is = { 11 };
 
     ghost distance_is = { 23 };
+
+    ghost reading_is = { bch63_reading_of };
+
+    ghost reads_as = { λ _. bch63_reads_as };
 
     ghost same_letter = { same_bit };
 

@@ -6,6 +6,7 @@ ghost use Rattle.p25_code.specs.Words.{IsEncoding};
 ghost use Rattle.p25_bch_nid.specs.Bch63.{IsBch63};
 ghost use Rattle.p25_bch_nid.specs.Nid.{IsSent, parity_of};
 ghost use Rattle.p25_bch_nid.specs.NidReading.{nid_reading_of};
+ghost use Rattle.p25_bch_nid.specs.NidWord.{nid_word};
 
 use crate::bch63::GENERATOR;
 use crate::nid::Nid;
@@ -16,6 +17,7 @@ use p25_bits::number_remainder;
 pub fn nid_bits(nid: &Nid) -> u64
     ensures sent { IsSent nid.now.nac nid.now.duid result }
     ensures word { IsEncoding IsBch63 16 (bits_of 12 nid.now.nac ++ bits_of 4 nid.now.duid) (take 63 (bits_of 64 result)) }
+    ensures list { bits_of 64 result ≡ nid_word nid.now.nac nid.now.duid }
     ensures read { nid_reading_of (bits_of 64 result) ≡ Some (nid.now.nac, nid.now.duid) }
     ensures only { (bits : ℕ) → IsSent nid.now.nac nid.now.duid bits → bits ≡ result }
 {

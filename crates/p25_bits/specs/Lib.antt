@@ -1,3 +1,4 @@
 pub mod Bits
 pub mod Distance
 pub mod Divisible
+pub mod Numbers

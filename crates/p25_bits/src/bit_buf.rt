@@ -2,7 +2,8 @@ ghost use Rattle.std.specs.Prelude.{◌≡◌, ℕ, ◌+◌, ◌-◌, ◌*◌, �
 ghost use Rattle.p25_bits.specs.Bits.{bits_of, field_of, part, flipped};
 ghost use Rattle.p25_bits.specs.Distance.{distance_of};
 
-use super::slices::{differing, number_of, shift_down};
+use super::numbers::number_of;
+use super::slices::{differing, shift_down};
 use std::marker::Model;
 
 /// The most bits that a `BitBuf` holds.
@@ -91,7 +92,8 @@ impl BitBuf {
     pub fn field(&self, at: usize, width: u32) -> u64
         requires width { width ≤ 64 }
         requires there { at + width ≤ length self.now }
-        ensures { result ≡ field_of (part at width self.now) }
+        ensures value { result ≡ field_of (part at width self.now) }
+        ensures fits { result < 2 ^ width }
     {
         let _ = &self.len;
         number_of(&self.bits[at..at + width as usize])

@@ -3,10 +3,12 @@
 
 mod bit_buf;
 mod division;
+mod numbers;
 mod slices;
 
 pub use bit_buf::{BITS_MOST, BitBuf};
 pub use division::{next_remainder, number_remainder};
+pub use numbers::{number_of, put_number};
 
 #[cfg(test)]
 mod tests;

@@ -1,20 +1,7 @@
 //! The loops over slices of bits that stand below `BitBuf`.
 
 ghost use Rattle.std.specs.Prelude.{◌≡◌, ◌+◌, ◌≤◌, length, take, drop};
-ghost use Rattle.p25_bits.specs.Bits.{field_of};
 ghost use Rattle.p25_bits.specs.Distance.{distance_of};
-
-// The number that the bits write, first bit highest.
-pub(crate) fn number_of(bits: &[bool]) -> u64
-    requires { length bits.now ≤ 64 }
-    ensures { result ≡ field_of bits.now }
-{
-    let mut number: u64 = 0;
-    for bit in bits {
-        number = 2 * number + u64::from(*bit);
-    }
-    number
-}
 
 // In how many places two lists differ.
 pub(crate) fn differing(a: &[bool], b: &[bool]) -> u32

@@ -8,7 +8,7 @@ use Rattle.std.specs.Int.Bits.{xor_self}
 use Rattle.std.proofs.Math.Nat.{mod-eq_of_lt}
 use Rattle.std.proofs.Math.Seq.{take-append_seam, drop-append_seam}
 use Rattle.std.proofs.lemmas.List.{length-take-le}
-use Rattle.std.proofs.lemmas.Bool.{and_parts, or_cases, eqb-true, leb-true, ltb-true}
+use Rattle.std.proofs.lemmas.Bool.{cases_eq, and_parts, or_cases, eqb-true, leb-true, ltb-true}
 use Rattle.std.proofs.lemmas.Nat.{xor_lt, pow_pos}
 use Rattle.p25_bits.specs.Bits.{bits_of, field_of}
 use Rattle.p25_bits.specs.Distance.{distance_of}
@@ -17,11 +17,23 @@ use Rattle.p25_bits.proofs.Divisions.{same_from_xor}
 use Rattle.p25_bits.proofs.DistanceLaws.{same_from_distance_of}
 use Rattle.p25_code.specs.declared.code.Reading.{Reading}
 use Rattle.p25_code.specs.Words.{IsEncoding, IsReading}
+use Rattle.p25_code.specs.Readings.{Tested}
 use Rattle.p25_code.specs.Letters.{same_bit}
 use Rattle.p25_code.specs.Binary.{syndrome_of, IsChecked, check_columns, systematic, weight_of}
 use Rattle.p25_code.proofs.Weights.{all_bits, all_bits-each, sum_of_words, length-sum_of_words, weight_of-append, weight_of-bits_of, weight_of-sum_of_words, syndrome_of-zeros, syndrome_of-sum_of_words}
-use Rattle.p25_code.proofs.ReadingLaws.{IsCode, reading_of_same_set}
+use Rattle.p25_code.proofs.ReadingLaws.{IsBlockCode, reading_of_same_set}
 use Rattle.p25_code.proofs.Syndromes.{syndrome_of-append, syndrome_of-check_columns, length-check_columns, change_of-is}
+
+-- whether a word passes can be tested
+pub IsChecked-tested : (columns : List ℕ) → Tested (IsChecked columns)
+IsChecked-tested columns word =
+    elim (cases_eq (length word) (length columns)) [
+      | inl long ↦ elim (cases_eq (syndrome_of columns word) 0) [
+        | inl passes ↦ inl (record { long = long; passes = passes })
+        | inr other ↦ inr (λ is. other is.passes)
+      ]
+      | inr other ↦ inr (λ is. other is.long)
+    ]
 
 -- each row has a bit for each check
 abbrev pub rows_fit : ℕ → List ℕ → Bool
@@ -169,7 +181,7 @@ module _ {rows : List ℕ} {checks apart : ℕ} (code : IsSystematic rows checks
       (subst (λ cs. IsReading beq (IsChecked cs) radius received word reading) e is)
 
   -- the laws of the code, in a set whose words are those that pass
-  pub is_code : (IsWord : List Bool → Type 0) → ((w : List Bool) → IsWord w → IsChecked (rows ++ check_columns checks) w) → (n radius : ℕ) → length rows + checks ≡ n → 2 * radius < apart → IsCode beq IsWord n (length rows) radius apart
+  pub is_code : (IsWord : List Bool → Type 0) → ((w : List Bool) → IsWord w → IsChecked (rows ++ check_columns checks) w) → (n radius : ℕ) → length rows + checks ≡ n → 2 * radius < apart → IsBlockCode beq IsWord n (length rows) radius apart
   is_code IsWord to n radius whole close = record {
     compares = bool_eq_equiv;
     alike = same_bit;

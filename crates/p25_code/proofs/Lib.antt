@@ -1,4 +1,5 @@
 pub mod ReadingLaws
+pub mod MarkedLaws
 pub mod Bits
 pub mod Syndromes
 pub mod Corrections

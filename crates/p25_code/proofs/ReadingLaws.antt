@@ -1,15 +1,16 @@
 -- What follows from the laws of a block code: a reading leaves the word within the radius and no other.
-use Rattle.std.proofs.Common.{◌≡◌, ◌≢◌, ℕ, ◌+◌, ◌*◌, ◌<◌, ◌≤◌, inl, inr, Bool, true, List, length, take, ap, sym, ◌∙◌, subst, arith}
+use Rattle.std.proofs.Common.{◌≡◌, ◌≢◌, ℕ, ◌+◌, ◌*◌, ◌<◌, ◌≤◌, inl, inr, Bool, true, List, length, take, Option, Some, None, ap, sym, ◌∙◌, subst, refl, arith}
 use Rattle.std.specs.Cmp.{IsEquivalence}
 use Rattle.std.proofs.lemmas.Bool.{cases_eq}
 use Rattle.p25_bits.specs.Distance.{distance_by}
 use Rattle.p25_bits.proofs.DistanceLaws.{distance_by-same, distance_by-sym, distance_by-triangle, same_from_distance_by}
 use Rattle.p25_code.specs.Words.{IsEncoding, IsFound, IsReading, IsInformation}
+use Rattle.p25_code.specs.Readings.{IsNear, IsReadAs, word_read}
 use Rattle.p25_code.specs.declared.code.Reading.{Reading}
 use Rattle.p25_code.specs.declared.code.Reading.TheVariants.{Found, Beyond}
 
 -- the laws of a block code, as one record
-pub record IsCode {L : Type 0} (same : L → L → Bool) (IsWord : List L → Type 0) (n k radius apart : ℕ) : Type 0 where
+pub record IsBlockCode {L : Type 0} (same : L → L → Bool) (IsWord : List L → Type 0) (n k radius apart : ℕ) : Type 0 where
   pub compares : IsEquivalence same
   pub alike : (x y : L) → same x y ≡ true → x ≡ y
   pub long : (word : List L) → IsWord word → length word ≡ n
@@ -18,7 +19,7 @@ pub record IsCode {L : Type 0} (same : L → L → Bool) (IsWord : List L → Ty
   pub close : 2 * radius < apart
   pub begins : k ≤ n
 
-module _ {L : Type 0} {same : L → L → Bool} {IsWord : List L → Type 0} {n k radius apart : ℕ} (code : IsCode same IsWord n k radius apart) where
+module _ {L : Type 0} {same : L → L → Bool} {IsWord : List L → Type 0} {n k radius apart : ℕ} (code : IsBlockCode same IsWord n k radius apart) where
   -- a distance does not depend on the direction
   pub turned : (xs ys : List L) → distance_by same xs ys ≡ distance_by same ys xs
   turned = distance_by-sym same code.compares.symm
@@ -73,6 +74,30 @@ module _ {L : Type 0} {same : L → L → Bool} {IsWord : List L → Type 0} {n 
     of_word = λ sent sent_is near. absurd (omega (arith, is.none_within.farther sent sent_is));
     of_received = λ none. ap (take k) is.unchanged;
   }
+
+  -- two words of the set within the radius of what was received are one
+  one_near : (received v w : List L) → length received ≡ n → IsNear same IsWord radius received v → IsNear same IsWord radius received w → v ≡ w
+  one_near received v w long first second =
+      found_sent received v w (distance_by same received v) long (record { word_of_set = first.word_of_set; fixes_is = refl; within = first.within }) second.word_of_set second.within
+
+  -- so what was received has one reading
+  pub one_reading : (received : List L) (a b : Option (List L)) → length received ≡ n → IsReadAs same IsWord radius received a → IsReadAs same IsWord radius received b → a ≡ b
+  unfolding IsReadAs
+  one_reading received None None long first second = refl
+  one_reading received None (Some w) long first second = absurd (omega (arith, first.farther w second.word_of_set, second.within))
+  one_reading received (Some v) None long first second = absurd (omega (arith, second.farther v first.word_of_set, first.within))
+  one_reading received (Some v) (Some w) long first second = ap Some (one_near received v w long first second)
+
+  -- a word of the set within the radius is the reading
+  pub read_as_sent : (received sent : List L) (answer : Option (List L)) → length received ≡ n → IsReadAs same IsWord radius received answer → IsWord sent → distance_by same received sent ≤ radius → answer ≡ Some sent
+  unfolding IsReadAs
+  read_as_sent received sent answer long is sent_is near = one_reading received answer (Some sent) long is (record { word_of_set = sent_is; within = near })
+
+  -- what a reader answers and leaves is the reading
+  pub word_read_as : (received word : List L) (reading : Reading) → IsReading same IsWord radius received word reading → IsReadAs same IsWord radius received (word_read reading word)
+  unfolding IsReading IsReadAs word_read
+  word_read_as received word (Found fixes) is = record { word_of_set = is.word_of_set; within = omega (arith, is.fixes_is, is.within) }
+  word_read_as received word Beyond is = is.none_within
 
   -- the encoding of some information is one word
   pub encoding_unique : (info v w : List L) → IsEncoding IsWord k info v → IsEncoding IsWord k info w → v ≡ w

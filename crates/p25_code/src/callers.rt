@@ -1,10 +1,12 @@
 //! What any block code gives its callers, proved from the trait alone.
 
-ghost use Rattle.std.specs.Prelude.{◌≡◌, ◌≤◌, List, length, take};
+ghost use Rattle.std.specs.Prelude.{◌≡◌, ◌*◌, ◌-◌, ◌≤◌, List, false, length, take, All};
 ghost use Rattle.p25_bits.specs.Distance.{distance_by};
 ghost use Rattle.p25_code.specs.Words.{IsEncoding, IsReading, IsInformation};
+ghost use Rattle.p25_code.specs.Readings.{word_read};
+ghost use Rattle.p25_code.specs.Marks.{marked, marked_cost, IsMarkedReading};
 
-use crate::code::{BlockCode, Reading};
+use crate::code::{BlockCode, ErasedCode, Reading};
 
 /// Reads a received word. Wherever a word of the code lies within the radius of what was received, exactly that word is
 /// left, and the answer is Found with the distance between the two. The first K letters that are left are the inner
@@ -13,11 +15,27 @@ pub fn read_received<C: BlockCode>(word: &mut [C::Letter]) -> Reading
     requires code { C.HasCode }
     requires word { length word.old ≡ C.N }
     ensures reading { IsReading C.Letter.eq C.IsWord C.radius_is word.old word.new result }
+    ensures value { word_read result word.new ≡ C.reading_is word.old }
     ensures sent { (sent : List C.Letter) → C.IsWord sent → distance_by C.Letter.eq word.old sent ≤ C.radius_is → word.new ≡ sent }
     ensures fixes { (sent : List C.Letter) → C.IsWord sent → distance_by C.Letter.eq word.old sent ≤ C.radius_is → result ≡ Reading.Found (distance_by C.Letter.eq word.old sent) }
     ensures information { IsInformation C.Letter.eq C.IsWord C.radius_is C.K word.old (take C.K word.new) }
 {
     C::read(word)
+}
+
+/// Reads a received word of which some letters are erased. Wherever a word of the code costs at most N - K, two for each
+/// wrong letter that is not erased and one for each erased one, exactly that word is left. Where nothing is erased and
+/// twice the radius is N - K, the answer and what is left are those of `read_received`.
+pub fn read_marked<C: ErasedCode>(word: &mut [C::Letter], erased: &[bool]) -> Reading
+    requires code { C.HasCode }
+    requires word { length word.old ≡ C.N }
+    requires erased { length erased.now ≡ C.N }
+    ensures reading { IsMarkedReading C.Letter.eq C.IsWord (C.N - C.K) (marked word.old erased.now) word.old word.new result }
+    ensures value { word_read result word.new ≡ C.marked_reading_is (marked word.old erased.now) }
+    ensures sent { (sent : List C.Letter) → C.IsWord sent → marked_cost C.Letter.eq (marked word.old erased.now) sent ≤ C.N - C.K → word.new ≡ sent }
+    ensures plain { C.N - C.K ≡ 2 * C.radius_is → All (λ gone. gone ≡ false) erased.now → IsReading C.Letter.eq C.IsWord C.radius_is word.old word.new result }
+{
+    C::read_erased(word, erased)
 }
 
 /// Encodes information and reads the word at once: it is left as it was encoded, and the answer is Found without fixes.

@@ -1,6 +1,6 @@
 //! The trait of block codes.
 
-ghost use Rattle.std.specs.Prelude.{◌≡◌, ℕ, ◌*◌, ◌<◌, ◌≤◌, ◌≢◌, List, length, take, IsTrue};
+ghost use Rattle.std.specs.Prelude.{◌≡◌, ℕ, ◌*◌, ◌-◌, ◌<◌, ◌≤◌, ◌≢◌, List, Option, length, take, IsTrue};
 ghost use Rattle.p25_bits.specs.Distance.{distance_by};
 
 /// What became of a received word.
@@ -18,6 +18,7 @@ pub enum Reading {
 /// Contracts see the set itself as `IsWord`, so an instance is proved against its set and not against its method.
 pub trait BlockCode {
     ghost use Rattle.p25_code.specs.Words.{IsEncoding, IsReading};
+    ghost use Rattle.p25_code.specs.Readings.{IsReadAs};
 
     /// The number of letters of a word.
     const N: usize;
@@ -43,6 +44,9 @@ pub trait BlockCode {
     // No two words are nearer to each other than this.
     ghost distance_is: { ℕ };
 
+    // The reading of a received word as a function: the word of the code within the radius, or none.
+    ghost reading_is: { List Self.Letter → Option (List Self.Letter) };
+
     /// Answers the radius: the most wrong letters that are corrected.
     fn radius() -> usize
         requires { HasCode }
@@ -63,6 +67,9 @@ pub trait BlockCode {
         requires word { length word.old ≡ N }
         ensures { IsReading Self.Letter.eq IsWord radius_is word.old word.new result };
 
+    // The reading is a word of the code within the radius, and none exactly where no word is that near.
+    ghost reads_as: { HasCode → (received : List Self.Letter) → IsReadAs Self.Letter.eq IsWord radius_is received (reading_is received) };
+
     // Letters that compare equal are the same letter.
     ghost same_letter: { (x y : Self.Letter) → IsTrue (Self.Letter.eq x y) → x ≡ y };
 
@@ -80,4 +87,32 @@ pub trait BlockCode {
 
     // The information is part of the word.
     ghost begins: { HasCode → K ≤ N };
+}
+
+/// A block code that reads words with some letters erased too. A letter that is not known costs one and a wrong letter
+/// two; a word is read where a word of the code costs at most N - K.
+///
+/// Contracts see the received letters and what is erased as one list with marks.
+pub trait ErasedCode: BlockCode {
+    ghost use Rattle.p25_code.specs.Marks.{marked, IsMarkedReading};
+    ghost use Rattle.p25_code.specs.MarkedReadings.{IsMarkedReadAs};
+
+    // The reading of a list with marks as a function: the word of the code within the cost N - K, or none.
+    ghost marked_reading_is: { List (Option Self.Letter) → Option (List Self.Letter) };
+
+    /// Reads a received word of N letters of which those where `erased` is true are not known (errors-and-erasures
+    /// decoding). Answers Found exactly where twice the wrong letters among the others, and the erased ones, of some word
+    /// of the code are at most N - K together: `word` becomes that one, and `fixes` is how many letters changed. Answers
+    /// Beyond exactly where there is none: `word` is then unchanged.
+    fn read_erased(word: &mut [Self::Letter], erased: &[bool]) -> Reading
+        requires code { Self.HasCode }
+        requires word { length word.old ≡ Self.N }
+        requires erased { length erased.now ≡ Self.N }
+        ensures { IsMarkedReading Self.Letter.eq Self.IsWord (Self.N - Self.K) (marked word.old erased.now) word.old word.new result };
+
+    // The reading is a word of the code within the cost, and none exactly where no word costs so little.
+    ghost marked_reads_as: { Self.HasCode → (list : List (Option Self.Letter)) → IsMarkedReadAs Self.Letter.eq Self.IsWord (Self.N - Self.K) list (marked_reading_is list) };
+
+    // So at most one word is within the cost of any list.
+    ghost marks_within: { Self.HasCode → Self.N - Self.K < Self.distance_is };
 }

@@ -24,5 +24,5 @@ mod callers;
 mod code;
 
 pub use binary::{encode_systematic, read_checked};
-pub use callers::{encode_then_read, read_received};
-pub use code::{BlockCode, Reading};
+pub use callers::{encode_then_read, read_marked, read_received};
+pub use code::{BlockCode, ErasedCode, Reading};

@@ -19,11 +19,14 @@
 
 ghost use Rattle.std.specs.Prelude.{◌≡◌, ℕ, ◌^◌, ◌<◌};
 ghost use Rattle.p25_crc.specs.Checks.{IsCrc9, IsCrc16, IsCrc32};
+ghost use Rattle.p25_crc.specs.Values.{crc9_of, crc16_of, crc32_of};
 
+mod laws;
 mod register;
 #[cfg(test)]
 mod tests;
 
+pub use laws::check_laws;
 use register::{Divisor, check_of, take_number, take_octets};
 
 /// The divisor of a confirmed block: x^9 + x^6 + x^4 + x^3 + 1.
@@ -49,6 +52,7 @@ const PACKET: Divisor = Divisor {
 /// octets after it. TIA-102.BAAA, Packet Data, CRC-9.
 pub fn crc9(serial: u8, octets: &[u8; 16]) -> u16
     requires { serial < 128 }
+    ensures value { result ≡ crc9_of serial octets.now }
     ensures check { IsCrc9 serial octets.now result }
     ensures only { (other : ℕ) → IsCrc9 serial octets.now other → other ≡ result }
     ensures width { result < 2 ^ 9 }
@@ -59,6 +63,7 @@ pub fn crc9(serial: u8, octets: &[u8; 16]) -> u16
 
 /// Answers the sixteen check bits of a packet header's octets. TIA-102.BAAA, Packet Data, Header CRC.
 pub fn crc16(octets: &[u8]) -> u16
+    ensures value { result ≡ crc16_of octets.now }
     ensures check { IsCrc16 octets.now result }
     ensures only { (other : ℕ) → IsCrc16 octets.now other → other ≡ result }
 {
@@ -67,6 +72,7 @@ pub fn crc16(octets: &[u8]) -> u16
 
 /// Answers the 32 check bits of a packet's data and pad octets. TIA-102.BAAA, Packet Data, Packet CRC.
 pub fn crc32(octets: &[u8]) -> u32
+    ensures value { result ≡ crc32_of octets.now }
     ensures check { IsCrc32 octets.now result }
     ensures only { (other : ℕ) → IsCrc32 octets.now other → other ≡ result }
 {

@@ -5,7 +5,7 @@ use Rattle.std.proofs.Common.{arith, sym, ◌∙◌}
 use Rattle.std.specs.Bool.{beq}
 use Rattle.p25_bits.specs.Bits.{bits_of}
 use Rattle.p25_code.specs.Binary.{IsChecked, check_columns, systematic, syndrome_of, weight_of}
-use Rattle.p25_code.proofs.ReadingLaws.{IsCode}
+use Rattle.p25_code.proofs.ReadingLaws.{IsBlockCode}
 use Rattle.p25_code.proofs.Weights.{all_bits}
 use Rattle.p25_code.proofs.BinaryCodes.{IsSystematic, is_heavy, is_code}
 use Rattle.p25_golay.specs.Golay18.{IsGolay18}
@@ -54,5 +54,5 @@ from_short word is = record {
 }
 
 -- the laws of the code
-pub golay18_is_code : IsCode beq IsGolay18 18 6 3 8
+pub golay18_is_code : IsBlockCode beq IsGolay18 18 6 3 8
 golay18_is_code = is_code short_code IsGolay18 to_short 18 3 refl (omega arith)

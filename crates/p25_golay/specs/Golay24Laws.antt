@@ -7,7 +7,7 @@ use Rattle.std.specs.Bool.{beq}
 use Rattle.p25_bits.specs.Bits.{bits_of}
 use Rattle.p25_bits.specs.Divisible.{HasDegree}
 use Rattle.p25_code.specs.Binary.{IsChecked, check_columns, systematic, syndrome_of, weight_of}
-use Rattle.p25_code.proofs.ReadingLaws.{IsCode}
+use Rattle.p25_code.proofs.ReadingLaws.{IsBlockCode}
 use Rattle.p25_code.proofs.Weights.{all_bits}
 use Rattle.p25_code.proofs.Syndromes.{syndrome_of-append}
 use Rattle.p25_code.proofs.BinaryCodes.{IsSystematic, is_heavy, length_checked, is_code}
@@ -109,5 +109,5 @@ from_checked word is =
     record { long = long; even = even; divisible = divisible-remainders generator_degree not_constant (take 23 word) none }
 
 -- the laws of the code
-pub golay24_is_code : IsCode beq IsGolay24 24 12 3 8
+pub golay24_is_code : IsBlockCode beq IsGolay24 24 12 3 8
 golay24_is_code = is_code code IsGolay24 to_checked 24 3 refl (omega arith)

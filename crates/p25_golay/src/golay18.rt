@@ -2,6 +2,7 @@
 
 ghost use Rattle.p25_golay.specs.Golay18.{IsGolay18};
 ghost use Rattle.p25_golay.specs.Golay18Laws.{golay18_is_code};
+ghost use Rattle.p25_golay.specs.Golay18Readings.{golay18_reading_of, golay18_reads_as};
 
 use crate::golay24::{COLUMNS, RADIUS};
 use p25_code::{BlockCode, Reading, encode_systematic, read_checked};
@@ -29,6 +30,10 @@ impl BlockCode for Golay18 {
     ghost radius_is = { 3 };
 
     ghost distance_is = { 8 };
+
+    ghost reading_is = { golay18_reading_of };
+
+    ghost reads_as = { λ _. golay18_reads_as };
 
     ghost same_letter = { golay18_is_code.alike };
 

@@ -2,6 +2,7 @@
 
 ghost use Rattle.p25_golay.specs.Golay24.{IsGolay24};
 ghost use Rattle.p25_golay.specs.Golay24Laws.{golay24_is_code};
+ghost use Rattle.p25_golay.specs.Golay24Readings.{golay24_reading_of, golay24_reads_as};
 
 use p25_code::{BlockCode, Reading, encode_systematic, read_checked};
 
@@ -37,6 +38,10 @@ impl BlockCode for Golay24 {
     ghost radius_is = { 3 };
 
     ghost distance_is = { 8 };
+
+    ghost reading_is = { golay24_reading_of };
+
+    ghost reads_as = { λ _. golay24_reads_as };
 
     ghost same_letter = { golay24_is_code.alike };
 

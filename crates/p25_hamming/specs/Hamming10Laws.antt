@@ -1,7 +1,7 @@
 -- The laws of the Hamming code (10,6).
 use Rattle.std.specs.Prelude.{◌≡◌, ◌++◌, Bool, true, List, refl}
 use Rattle.p25_code.specs.Binary.{IsChecked, check_columns, systematic, syndrome_of, weight_of}
-use Rattle.p25_code.proofs.ReadingLaws.{IsCode}
+use Rattle.p25_code.proofs.ReadingLaws.{IsBlockCode}
 use Rattle.p25_code.proofs.Weights.{all_bits}
 use Rattle.p25_code.proofs.BinaryCodes.{IsSystematic, is_heavy, sum_checked, checked_sum, length_checked, is_code}
 use Rattle.std.specs.Bool.{beq}
@@ -27,5 +27,5 @@ pub from_checked : (word : List Bool) → IsChecked (check_rows ++ check_columns
 from_checked word is = record { long = length_checked code word is; checks = checked_sum code word is }
 
 -- the laws of the code
-pub hamming10_is_code : IsCode beq IsHamming10 10 6 1 3
+pub hamming10_is_code : IsBlockCode beq IsHamming10 10 6 1 3
 hamming10_is_code = is_code code IsHamming10 to_checked 10 1 refl (omega arith)

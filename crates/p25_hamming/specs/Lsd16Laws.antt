@@ -5,7 +5,7 @@ use Rattle.std.specs.Bool.{beq}
 use Rattle.p25_bits.specs.Bits.{bits_of}
 use Rattle.p25_bits.specs.Divisible.{HasDegree}
 use Rattle.p25_code.specs.Binary.{IsChecked, check_columns, systematic, syndrome_of, weight_of}
-use Rattle.p25_code.proofs.ReadingLaws.{IsCode}
+use Rattle.p25_code.proofs.ReadingLaws.{IsBlockCode}
 use Rattle.p25_code.proofs.Weights.{all_bits}
 use Rattle.p25_code.proofs.BinaryCodes.{IsSystematic, is_heavy, length_checked, is_code}
 use Rattle.p25_code.proofs.Remainders.{power_remainder, remainders, remainders-divisible, divisible-remainders}
@@ -53,5 +53,5 @@ from_checked word is =
     record { long = long; divisible = divisible-remainders generator_degree not_constant word (sym (same_sum word long) ∙ is.passes) }
 
 -- the laws of the code
-pub lsd16_is_code : IsCode beq IsLsd16 16 8 2 5
+pub lsd16_is_code : IsBlockCode beq IsLsd16 16 8 2 5
 lsd16_is_code = is_code code IsLsd16 to_checked 16 2 refl (omega arith)

@@ -2,6 +2,7 @@
 
 ghost use Rattle.p25_hamming.specs.Hamming10.{IsHamming10};
 ghost use Rattle.p25_hamming.specs.Hamming10Laws.{hamming10_is_code};
+ghost use Rattle.p25_hamming.specs.Hamming10Readings.{hamming10_reading_of, hamming10_reads_as};
 
 use p25_code::{BlockCode, Reading, encode_systematic, read_checked};
 
@@ -35,6 +36,10 @@ impl BlockCode for Hamming10 {
     ghost radius_is = { 1 };
 
     ghost distance_is = { 3 };
+
+    ghost reading_is = { hamming10_reading_of };
+
+    ghost reads_as = { λ _. hamming10_reads_as };
 
     ghost same_letter = { hamming10_is_code.alike };
 

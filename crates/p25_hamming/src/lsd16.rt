@@ -2,6 +2,7 @@
 
 ghost use Rattle.p25_hamming.specs.Lsd16.{IsLsd16};
 ghost use Rattle.p25_hamming.specs.Lsd16Laws.{lsd16_is_code};
+ghost use Rattle.p25_hamming.specs.Lsd16Readings.{lsd16_reading_of, lsd16_reads_as};
 
 use p25_code::{BlockCode, Reading, encode_systematic, read_checked};
 
@@ -35,6 +36,10 @@ impl BlockCode for Lsd16 {
     ghost radius_is = { 2 };
 
     ghost distance_is = { 5 };
+
+    ghost reading_is = { lsd16_reading_of };
+
+    ghost reads_as = { λ _. lsd16_reads_as };
 
     ghost same_letter = { lsd16_is_code.alike };
 

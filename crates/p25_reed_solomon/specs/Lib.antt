@@ -5,3 +5,4 @@ pub mod ValueFacts
 pub mod ElementFacts
 pub mod DistanceFacts
 pub mod WordLaws
+pub mod RsReadings

@@ -2,6 +2,7 @@ ghost use Rattle.std.specs.Prelude.{◌≡◌, ◌+◌, ◌-◌, ◌/◌};
 ghost use Rattle.p25_gf64.proofs.Symbols.{same_from_eq};
 ghost use Rattle.p25_reed_solomon.specs.Words.{IsCode, IsWord, radius_of};
 ghost use Rattle.p25_reed_solomon.specs.WordLaws.{begins_of, length_of_word_of, one_word_of, within_of, words_apart};
+ghost use Rattle.p25_reed_solomon.specs.RsReadings.{rs_reading_of, rs_reads_as};
 
 use crate::encoder::encode;
 use crate::reader::read;
@@ -33,6 +34,10 @@ impl<const N: usize, const K: usize> BlockCode for Rs<N, K> {
     ghost radius_is = { radius_of N K };
 
     ghost distance_is = { N - K + 1 };
+
+    ghost reading_is = { rs_reading_of N K };
+
+    ghost reads_as = { λ _. rs_reads_as N K };
 
     ghost same_letter = { same_from_eq };
 

@@ -1,12 +1,21 @@
 ghost use Rattle.std.specs.Prelude.{◌≡◌, ◌+◌, ◌^◌, ◌<◌, ◌≤◌, ◌↔◌, IsTrue, length};
 ghost use Rattle.p25_bits.specs.Bits.{bits_of, part};
 ghost use Rattle.p25_bits.specs.Distance.{distance_of};
-ghost use Rattle.p25_status.specs.Sync.{sync_bits};
+ghost use Rattle.p25_status.specs.Sync.{sync_bits, sync_slack};
 
 use p25_bits::BitBuf;
 
 /// The 48 bits of the frame sync as a number, the first bit highest. TIA-102.BAAA, Frame Synchronization.
 pub const SYNC: u64 = 0x5575_F5FF_77FF;
+
+/// How many bits a frame sync has. TIA-102.BAAA, Frame Synchronization.
+pub const SYNC_LENGTH: usize = 48;
+
+/// In how many of its places a frame sync may be wrong. That number is this project's choice.
+pub const SYNC_SLACK: u32 = 4;
+
+/// How many bits the network identifier has, which stands behind the sync. TIA-102.BAAA, Network Identifier.
+pub const IDENTIFIER_LENGTH: usize = 64;
 
 /// Answers in how many places 48 bits differ from the frame sync. `window` is the number of the bits, the first highest.
 pub fn sync_distance(window: u64) -> u32
@@ -21,15 +30,15 @@ pub fn sync_distance(window: u64) -> u32
 /// first highest. That four wrong bits are accepted is this project's choice.
 pub fn is_sync_window(window: u64) -> bool
     requires { window < 2 ^ 48 }
-    ensures { IsTrue result ↔ (distance_of (bits_of 48 window) sync_bits ≤ 4) }
+    ensures { IsTrue result ↔ (distance_of (bits_of 48 window) sync_bits ≤ sync_slack) }
 {
-    sync_distance(window) <= 4
+    sync_distance(window) <= SYNC_SLACK
 }
 
 /// Answers whether the 48 bits from place `at` on differ from the frame sync in at most four places.
 pub fn is_sync(bits: &BitBuf, at: usize) -> bool
     requires { at + 48 ≤ length bits.now }
-    ensures { IsTrue result ↔ (distance_of (part at 48 bits.now) sync_bits ≤ 4) }
+    ensures { IsTrue result ↔ (distance_of (part at 48 bits.now) sync_bits ≤ sync_slack) }
 {
-    is_sync_window(bits.field(at, 48))
+    is_sync_window(bits.field(at, SYNC_LENGTH as u32))
 }

@@ -22,6 +22,8 @@ mod tests;
 mod weaving;
 
 pub use fields::{Field, FieldList};
-pub use frame_sync::{SYNC, is_sync, is_sync_window, sync_distance};
+pub use frame_sync::{
+    IDENTIFIER_LENGTH, SYNC, SYNC_LENGTH, SYNC_SLACK, is_sync, is_sync_window, sync_distance,
+};
 pub use symbols::{Status, Statuses};
-pub use weaving::{unweave, weave};
+pub use weaving::{PLAIN_BLOCK_LENGTH, SENT_BLOCK_LENGTH, unweave, weave};

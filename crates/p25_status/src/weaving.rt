@@ -5,6 +5,12 @@ ghost use Rattle.p25_status.specs.Woven.{woven, plain_of, statuses_of, StandsByP
 use crate::symbols::{Status, Statuses};
 use p25_bits::BitBuf;
 
+/// How many bits of a unit stand before each of its status symbols. TIA-102.BAAA, Status Symbols.
+pub const PLAIN_BLOCK_LENGTH: usize = 70;
+
+/// How many bits are sent for them: a status symbol has two. TIA-102.BAAA, Status Symbols.
+pub const SENT_BLOCK_LENGTH: usize = 72;
+
 /// Replaces `out` by a unit's bits as they are sent: after every 70 bits of `plain` comes one of the status symbols, in
 /// order. There are 70 bits for each symbol. TIA-102.BAAA, Status Symbols.
 pub fn weave(plain: &BitBuf, statuses: &Statuses, out: &mut BitBuf)

@@ -10,7 +10,7 @@ use Rattle.p25_trellis.specs.Tables.{nibble_distance}
 use Rattle.p25_trellis.specs.Trellis.{IsPath, IsBlock, Carries, IsFirstLeastReading, IsNearReading, nibbles_from, sent_bits, distance_from}
 use Rattle.p25_trellis.specs.Least.{IsEnd}
 use Rattle.p25_trellis.proofs.InterleaveLaws.{weighed, length-interleaved}
-use Rattle.p25_trellis.proofs.NumberBits.{length-number_bits}
+use Rattle.p25_bits.proofs.NumbersLaws.{length-number_bits}
 use Rattle.p25_trellis.proofs.Paths.{length-nibbles_from, same_octets}
 use Rattle.p25_trellis.proofs.FirstPath.{IsEnd-from_path}
 use Rattle.p25_trellis.proofs.Distances.{distance_of-interleaved}

@@ -12,7 +12,8 @@ use Rattle.p25_bits.proofs.DistanceLaws.{distance_by-append, distance_by-nil, di
 use Rattle.p25_trellis.specs.Interleave.{interleaved}
 use Rattle.p25_trellis.specs.Tables.{nibble_distance}
 use Rattle.p25_trellis.specs.TableLaws.{passed_below, passed_below-at}
-use Rattle.p25_trellis.specs.Trellis.{number_bits, nibbles_from, sent_bits, distance_from, IsPath, IsFirstLeastReading}
+use Rattle.p25_bits.specs.Numbers.{number_bits}
+use Rattle.p25_trellis.specs.Trellis.{nibbles_from, sent_bits, distance_from, IsPath, IsFirstLeastReading}
 use Rattle.p25_trellis.specs.Costs.{total_cost, symbols_cost, path_cost, cost_in}
 use Rattle.p25_trellis.specs.Least.{IsDistanceTable}
 use Rattle.p25_trellis.proofs.InterleaveLaws.{weighed, weighed-interleaved, length-interleaved}

@@ -1,8 +1,8 @@
-pub mod Codes
+pub mod RateSteps
 pub mod InterleaveLaws
-pub mod NumberBits
 pub mod Paths
 pub mod Costs
 pub mod FirstPath
+pub mod NearestLaws
 pub mod Distances
 pub mod Apart

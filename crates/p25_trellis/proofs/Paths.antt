@@ -4,8 +4,9 @@ use Rattle.std.proofs.lemmas.List.{take-append-drop, take_more_set, drop_more, t
 use Rattle.std.proofs.lemmas.List.Elements.{All-cons, All-nil, All-append, All-same, All-take}
 use Rattle.std.proofs.lemmas.Nat.{pow_pos}
 use Rattle.p25_bits.specs.Bits.{part}
-use Rattle.p25_trellis.specs.Trellis.{IsPath, IsBlock, Carries, nibbles_from, number_bits, sent_bits}
-use Rattle.p25_trellis.proofs.NumberBits.{length-number_bits, number_bits-octets, same_from_number_bits}
+use Rattle.p25_bits.specs.Numbers.{number_bits}
+use Rattle.p25_trellis.specs.Trellis.{IsPath, IsBlock, Carries, nibbles_from, sent_bits}
+use Rattle.p25_bits.proofs.NumbersLaws.{length-number_bits, number_bits-octets, same_from_number_bits}
 
 -- few symbols and then 0 are a path
 pub IsPath-from_front : (states : ℕ) (path : List ℕ) → 0 < states → length path ≡ 49 → All (λ n. n < states) (take 48 path) → drop 48 path ≡ 0 ∷ [] → IsPath states path

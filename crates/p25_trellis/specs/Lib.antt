@@ -1,6 +1,7 @@
 pub mod Interleave
 pub mod Tables
 pub mod Trellis
+pub mod Nearest
 pub mod Costs
 pub mod Least
 pub mod TableLaws

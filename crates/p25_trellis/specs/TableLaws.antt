@@ -6,8 +6,9 @@ use Rattle.std.proofs.lemmas.List.Elements.{All-cons, All-replicate}
 use Rattle.p25_bits.specs.Bits.{bits_of}
 use Rattle.p25_bits.specs.Distance.{distance_by, distance_of}
 use Rattle.p25_trellis.specs.Interleave.{each_fourth, interleaved}
-use Rattle.p25_trellis.specs.Trellis.{nibbles_from, number_bits, sent_bits, SomeApart}
-use Rattle.p25_trellis.specs.Tables.{nibble_distance, half_point, three_quarter_point}
+use Rattle.p25_bits.specs.Numbers.{number_bits}
+use Rattle.p25_trellis.specs.Trellis.{nibbles_from, sent_bits, SomeApart}
+use Rattle.p25_trellis.specs.Tables.{point_nibbles, half_rows, three_quarter_rows, point_in, nibble_distance, half_point, three_quarter_point}
 
 -- in how many bits at least the half-rate paths from two states differ until they meet
 unfoldable pub half_parted : ℕ → ℕ → ℕ
@@ -83,15 +84,15 @@ apart-first states first apart point some below other distance = record {
 }
 
 pub half_nibbles : nibbles_test 4 half_point ≡ true
-unfolding nibbles_test passed_below half_point
+unfolding nibbles_test passed_below half_point point_in half_rows point_nibbles
 half_nibbles = refl
 
 pub half_stays_parted : parted_test 4 half_point half_parted ≡ true
-unfolding parted_test passed_below half_point half_parted nibble_distance bits_of distance_by
+unfolding parted_test passed_below half_point point_in half_rows point_nibbles half_parted nibble_distance bits_of distance_by
 half_stays_parted = refl
 
 pub half_parts : parts_test 4 5 half_point half_parted ≡ true
-unfolding parts_test passed_below half_point half_parted nibble_distance bits_of distance_by
+unfolding parts_test passed_below half_point point_in half_rows point_nibbles half_parted nibble_distance bits_of distance_by
 half_parts = refl
 
 pub half_together : half_parted 0 0 ≡ 0
@@ -99,22 +100,22 @@ unfolding half_parted
 half_together = refl
 
 half_distance : distance_of (sent_bits half_point (replicate 49 0)) (sent_bits half_point (1 ∷ replicate 48 0)) ≡ 5
-unfolding sent_bits number_bits interleaved each_fourth nibbles_from half_point bits_of distance_by
+unfolding sent_bits number_bits interleaved each_fourth nibbles_from half_point point_in half_rows point_nibbles bits_of distance_by
 half_distance = refl
 
 pub half_reached : SomeApart 4 half_point 5
 half_reached = apart-first 4 1 5 half_point (omega arith) (omega arith) (omega arith) half_distance
 
 pub three_quarter_nibbles : nibbles_test 8 three_quarter_point ≡ true
-unfolding nibbles_test passed_below three_quarter_point
+unfolding nibbles_test passed_below three_quarter_point point_in three_quarter_rows point_nibbles
 three_quarter_nibbles = refl
 
 pub three_quarter_stays_parted : parted_test 8 three_quarter_point three_quarter_parted ≡ true
-unfolding parted_test passed_below three_quarter_point three_quarter_parted nibble_distance bits_of distance_by
+unfolding parted_test passed_below three_quarter_point point_in three_quarter_rows point_nibbles three_quarter_parted nibble_distance bits_of distance_by
 three_quarter_stays_parted = refl
 
 pub three_quarter_parts : parts_test 8 3 three_quarter_point three_quarter_parted ≡ true
-unfolding parts_test passed_below three_quarter_point three_quarter_parted nibble_distance bits_of distance_by
+unfolding parts_test passed_below three_quarter_point point_in three_quarter_rows point_nibbles three_quarter_parted nibble_distance bits_of distance_by
 three_quarter_parts = refl
 
 pub three_quarter_together : three_quarter_parted 0 0 ≡ 0
@@ -122,7 +123,7 @@ unfolding three_quarter_parted
 three_quarter_together = refl
 
 three_quarter_distance : distance_of (sent_bits three_quarter_point (replicate 49 0)) (sent_bits three_quarter_point (2 ∷ replicate 48 0)) ≡ 3
-unfolding sent_bits number_bits interleaved each_fourth nibbles_from three_quarter_point bits_of distance_by
+unfolding sent_bits number_bits interleaved each_fourth nibbles_from three_quarter_point point_in three_quarter_rows point_nibbles bits_of distance_by
 three_quarter_distance = refl
 
 pub three_quarter_reached : SomeApart 8 three_quarter_point 3

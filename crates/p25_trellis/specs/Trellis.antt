@@ -1,8 +1,8 @@
 -- Paths of a trellis code, the bits that are sent for them, and the path that is nearest to received bits.
 use Rattle.std.specs.Prelude.{◌≡◌, ◌≢◌, ℕ, ◌*◌, ◌<◌, ◌≤◌, ◌⊎◌, Bool, List, [], ◌∷◌, length, take, drop, All}
-use Rattle.std.specs.List.{flat_map}
-use Rattle.p25_bits.specs.Bits.{bits_of, octet_bits}
+use Rattle.p25_bits.specs.Bits.{octet_bits}
 use Rattle.p25_bits.specs.Distance.{distance_of}
+use Rattle.p25_bits.specs.Numbers.{number_bits}
 use Rattle.p25_trellis.specs.Interleave.{interleaved}
 
 -- a path: 49 symbols below the number of states, of which the last is 0
@@ -16,10 +16,6 @@ pub record IsPath (states : ℕ) (path : List ℕ) : Type 0 where
 unfoldable pub nibbles_from : (ℕ → ℕ → ℕ) → ℕ → List ℕ → List ℕ
 nibbles_from point state [] = []
 nibbles_from point state (symbol ∷ symbols) = point state symbol ∷ nibbles_from point symbol symbols
-
--- the bits of numbers, `width` bits each
-unfoldable pub number_bits : ℕ → List ℕ → List Bool
-number_bits width numbers = flat_map (bits_of width) numbers
 
 -- the sent bits of a path: its nibbles from state 0, interleaved
 unfoldable pub sent_bits : (ℕ → ℕ → ℕ) → List ℕ → List Bool

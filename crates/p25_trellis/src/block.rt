@@ -4,6 +4,7 @@ ghost use Rattle.std.specs.Prelude.{◌≡◌, ℕ, ◌+◌, ◌*◌, ◌^◌, �
 ghost use Rattle.p25_bits.specs.Bits.{part};
 ghost use Rattle.p25_trellis.specs.Trellis.{IsBlock, IsFirstLeastReading, IsNearReading, distance_from};
 ghost use Rattle.p25_trellis.specs.Least.{IsDistanceTable};
+ghost use Rattle.p25_trellis.specs.Nearest.{nearest_octets, nearest_distance, block_from};
 
 use super::fields::{put_numbers, take_numbers};
 use super::interleave::{gather, spread};
@@ -19,6 +20,7 @@ pub fn encode_block<R: Rate>(octets: &[u8], out: &mut BitBuf)
     requires room { length out.old + 196 ≤ 25928 }
     ensures block { (block : List Bool) × IsBlock R.STATES R.BITS_PER_SYMBOL R.point_of octets.now block × (out.new ≡ out.old ++ block) }
     ensures only { (block : List Bool) → IsBlock R.STATES R.BITS_PER_SYMBOL R.point_of octets.now block → out.new ≡ out.old ++ block }
+    ensures value { out.new ≡ out.old ++ block_from R.BITS_PER_SYMBOL R.point_of octets.now }
     ensures len { length out.new ≡ length out.old + 196 }
 {
     let path = path_of::<R>(octets);
@@ -47,6 +49,8 @@ pub fn read_block<R: Rate>(bits: &BitBuf, at: usize, octets: &mut [u8]) -> u32
     requires there { at + 196 ≤ length bits.now }
     requires octets { length octets.old ≡ R.OCTETS }
     ensures nearest { IsFirstLeastReading R.STATES R.BITS_PER_SYMBOL (distance_from R.point_of (part at 196 bits.now)) octets.new result }
+    ensures octets { octets.new ≡ nearest_octets R.STATES R.BITS_PER_SYMBOL R.point_of (part at 196 bits.now) }
+    ensures distance { result ≡ nearest_distance R.STATES R.point_of (part at 196 bits.now) }
     ensures near { IsNearReading R.STATES R.BITS_PER_SYMBOL R.point_of R.APART (part at 196 bits.now) octets.new result }
 {
     let mut received = [0; 49];

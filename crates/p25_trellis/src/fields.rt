@@ -2,7 +2,7 @@
 
 ghost use Rattle.std.specs.Prelude.{◌≡◌, ◌+◌, ◌*◌, ◌^◌, ◌<◌, ◌≤◌, ◌++◌, All, length, take, drop};
 ghost use Rattle.p25_bits.specs.Bits.{part};
-ghost use Rattle.p25_trellis.specs.Trellis.{number_bits};
+ghost use Rattle.p25_bits.specs.Numbers.{number_bits};
 
 use p25_bits::BitBuf;
 

@@ -1,9 +1,11 @@
-//! How far the paths of a rate differ. The bodies are empty: each function states what is proved.
+//! Laws of the rates: how far their paths differ, and what the functions of blocks and readings are. The bodies are empty:
+//! each function states what is proved.
 
-ghost use Rattle.std.specs.Prelude.{◌≡◌, ℕ, ◌<◌, List};
+ghost use Rattle.std.specs.Prelude.{◌≡◌, ℕ, ◌*◌, ◌<◌, ◌≤◌, Bool, List, All, length};
 ghost use Rattle.p25_bits.specs.Distance.{distance_of};
+ghost use Rattle.p25_trellis.specs.Nearest.{nearest_octets, nearest_distance, block_from, half_octets, three_quarter_octets, half_block, three_quarter_block};
 ghost use Rattle.p25_trellis.specs.Tables.{half_point, three_quarter_point};
-ghost use Rattle.p25_trellis.specs.Trellis.{IsPath, SomeApart, sent_bits};
+ghost use Rattle.p25_trellis.specs.Trellis.{IsPath, IsBlock, IsFirstLeastReading, SomeApart, distance_from, sent_bits};
 
 use super::rate::{Half, Rate, ThreeQuarter};
 
@@ -27,4 +29,27 @@ pub fn three_quarter_rate_apart()
     ensures reached { SomeApart 8 three_quarter_point 3 }
 {
     paths_apart::<ThreeQuarter>()
+}
+
+/// The octets and the distance that `nearest_octets` and `nearest_distance` give are those of the first nearest path, and
+/// no others are. The block that `block_from` gives is the block of octets.
+pub fn nearest_laws<R: Rate>()
+    ensures reading { (received : List Bool) → IsFirstLeastReading R.STATES R.BITS_PER_SYMBOL (distance_from R.point_of received) (nearest_octets R.STATES R.BITS_PER_SYMBOL R.point_of received) (nearest_distance R.STATES R.point_of received) }
+    ensures only { (received : List Bool) (octets : List ℕ) (distance : ℕ) → IsFirstLeastReading R.STATES R.BITS_PER_SYMBOL (distance_from R.point_of received) octets distance → (octets ≡ nearest_octets R.STATES R.BITS_PER_SYMBOL R.point_of received) × (distance ≡ nearest_distance R.STATES R.point_of received) }
+    ensures block { (octets : List ℕ) → length octets ≡ R.OCTETS → All (λ octet. octet < 256) octets → IsBlock R.STATES R.BITS_PER_SYMBOL R.point_of octets (block_from R.BITS_PER_SYMBOL R.point_of octets) }
+    ensures near { (octets : List ℕ) (received : List Bool) → length octets ≡ R.OCTETS → All (λ octet. octet < 256) octets → length received ≡ 196 → 2 * distance_of (block_from R.BITS_PER_SYMBOL R.point_of octets) received < R.APART → (nearest_octets R.STATES R.BITS_PER_SYMBOL R.point_of received ≡ octets) × (nearest_distance R.STATES R.point_of received ≡ distance_of (block_from R.BITS_PER_SYMBOL R.point_of octets) received) }
+{}
+
+/// A half-rate block with at most two wrong bits reads as the octets that were sent.
+pub fn half_rate_near()
+    ensures { (octets : List ℕ) (received : List Bool) → length octets ≡ 12 → All (λ octet. octet < 256) octets → length received ≡ 196 → distance_of (half_block octets) received ≤ 2 → half_octets received ≡ octets }
+{
+    nearest_laws::<Half>()
+}
+
+/// A three-quarter-rate block with at most one wrong bit reads as the octets that were sent.
+pub fn three_quarter_rate_near()
+    ensures { (octets : List ℕ) (received : List Bool) → length octets ≡ 18 → All (λ octet. octet < 256) octets → length received ≡ 196 → distance_of (three_quarter_block octets) received ≤ 1 → three_quarter_octets received ≡ octets }
+{
+    nearest_laws::<ThreeQuarter>()
 }

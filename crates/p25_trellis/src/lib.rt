@@ -28,6 +28,9 @@ mod rate;
 
 pub use block::{encode_block, read_block};
 pub use interleave::{gather, spread};
-pub use laws::{half_rate_apart, paths_apart, three_quarter_rate_apart};
+pub use laws::{
+    half_rate_apart, half_rate_near, nearest_laws, paths_apart, three_quarter_rate_apart,
+    three_quarter_rate_near,
+};
 pub use least::{BLOCK_COSTS, read_costs};
-pub use rate::{Half, Rate, ThreeQuarter};
+pub use rate::{Half, Rate, ThreeQuarter, tables_are_the_standards};

@@ -2,7 +2,8 @@
 
 ghost use Rattle.std.specs.Prelude.{◌≡◌, ◌≢◌, ℕ, ◌+◌, ◌*◌, ◌^◌, ◌<◌, ◌≤◌};
 ghost use Rattle.p25_trellis.specs.Trellis.{SomeApart};
-ghost use Rattle.p25_trellis.specs.Tables.{nibble_distance};
+ghost use Rattle.std.specs.List.{concat};
+ghost use Rattle.p25_trellis.specs.Tables.{nibble_distance, point_nibbles, half_rows, three_quarter_rows};
 
 /// A rate of the trellis code: a table of points with a row for each state and a column for each symbol. The state after
 /// a symbol is that symbol (TIA-102.BAAA, Trellis Coding).
@@ -92,6 +93,13 @@ const THREE_QUARTER_POINTS: [u8; 64] = [
     2, 10, 6, 14, 0, 8, 4, 12, //
     6, 14, 0, 8, 4, 12, 2, 10,
 ];
+
+/// The tables of points that the code reads are those of the standard, row by row, and so are the nibbles of the points.
+pub fn tables_are_the_standards()
+    ensures nibbles { NIBBLES ≡ point_nibbles }
+    ensures half { HALF_POINTS ≡ concat half_rows }
+    ensures three_quarter { THREE_QUARTER_POINTS ≡ concat three_quarter_rows }
+{}
 
 /// Half rate: 12 octets as 48 symbols of two bits.
 pub struct Half;

@@ -4,6 +4,7 @@ use Rattle.p25_bits.specs.Divisible.{IsRemainder}
 use Rattle.p25_crc.specs.Checks.{IsCrc9}
 use Rattle.p25_crc.proofs.Registers.{empty_register, field_of-bits}
 use Rattle.p25_crc.proofs.ChecksLaws.{IsCrc9-unique}
+use Rattle.p25_crc.specs.Values.{crc9_of, IsCrc9-crc9_of}
 use Rattle.p25_crc.proofs.crc9.Goals as goal
 
 pub returns-clause-check : goal.returns-clause-check
@@ -18,3 +19,6 @@ returns-clause-check c =
 
 pub returns-clause-only : goal.returns-clause-only
 returns-clause-only c = λ other is. IsCrc9-unique c.args.serial c.args.octets.now other c.check_of.result is (returns-clause-check c)
+
+pub returns-clause-value : goal.returns-clause-value
+returns-clause-value c = IsCrc9-unique c.args.serial c.args.octets.now c.check_of.result (crc9_of c.args.serial c.args.octets.now) (returns-clause-check c) (IsCrc9-crc9_of c.args.serial c.args.octets.now)

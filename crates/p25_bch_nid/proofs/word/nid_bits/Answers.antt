@@ -1,6 +1,7 @@
 use Rattle.std.proofs.Common.{◌≡◌, ℕ, ◌+◌, ◌*◌, ◌%◌, ◌^◌, ◌<◌, ap₂, subst, sym, ◌∙◌, arith, mod-eq_of_lt}
 use Rattle.p25_bits.specs.Divisible.{IsRemainder}
 use Rattle.p25_bch_nid.specs.Nid.{generator, IsSent}
+use Rattle.p25_bch_nid.specs.NidWord.{nid_word-sent}
 use Rattle.p25_bch_nid.proofs.NidLaws.{IsSent-from_parts, IsSent-unique}
 use Rattle.p25_bch_nid.proofs.NidWords.{IsEncoding-from_sent, reading_of_sent}
 use Rattle.p25_bch_nid.proofs.word.nid_bits.Goals as goal
@@ -40,3 +41,10 @@ returns-clause-read c =
     let low : nid.nac < 2 ^ 12 = omega (arith, nid.nac_fits) in
     let small : nid.duid < 2 ^ 4 = omega (arith, nid.duid_fits) in
     reading_of_sent nid.nac nid.duid _ low small (sent_of c)
+
+-- as a list they are the word and P
+pub returns-clause-list : goal.returns-clause-list
+returns-clause-list c =
+    let nid = c.args.nid.now in
+    let small : nid.duid < 16 = omega (arith, nid.duid_fits) in
+    nid_word-sent nid.nac nid.duid _ (sent_of c) (IsEncoding-from_sent nid.nac nid.duid _ small (sent_of c))

@@ -1,8 +1,10 @@
-use Rattle.std.proofs.Common.{ℕ, ◌<◌, ◌++◌, List, Bool, ap, ◌∙◌}
+use Rattle.std.proofs.Common.{◌≡◌, ℕ, ◌*◌, ◌<◌, ◌++◌, List, Bool, length, ap, ◌∙◌, arith}
 use Rattle.p25_trellis.proofs.Paths.{same_block}
+use Rattle.p25_trellis.proofs.NearestLaws.{same_block_from}
 use Rattle.std.proofs.lemmas.List.Elements.{All-same}
 use Rattle.p25_trellis.specs.Interleave.{interleaved}
-use Rattle.p25_trellis.specs.Trellis.{number_bits, sent_bits}
+use Rattle.p25_bits.specs.Numbers.{number_bits}
+use Rattle.p25_trellis.specs.Trellis.{sent_bits}
 use Rattle.p25_trellis.proofs.InterleaveLaws.{All-interleaved}
 use Rattle.p25_trellis.proofs.block.encode_block.Goals as goal
 
@@ -30,3 +32,10 @@ returns-clause-only g c =
     λ block is.
     sent.2
     ∙ ap (λ (bits : List Bool). c.args.out.now ++ bits) (same_block g.R.Rate.STATES g.R.Rate.BITS_PER_SYMBOL g.R.Rate.point_of c.args.octets.now sent.0 block g.met.R.Rate.states_of_bits sent.1 is)
+
+pub returns-clause-value : goal.returns-clause-value
+returns-clause-value g c =
+    let sent = returns-clause-block g c in
+    let long : length c.args.octets.now ≡ 6 * g.R.Rate.BITS_PER_SYMBOL = omega (arith, c.requires.octets, g.met.R.Rate.octets_of_bits) in
+    sent.2
+    ∙ ap (λ (bits : List Bool). c.args.out.now ++ bits) (same_block_from g.R.Rate.STATES g.R.Rate.BITS_PER_SYMBOL g.R.Rate.point_of c.args.octets.now sent.0 g.met.R.Rate.states_of_bits long sent.1)

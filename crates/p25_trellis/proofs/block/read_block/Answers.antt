@@ -4,11 +4,13 @@ use Rattle.std.proofs.lemmas.List.Elements.{All-same}
 use Rattle.p25_bits.specs.Bits.{part}
 use Rattle.p25_trellis.specs.Interleave.{interleaved}
 use Rattle.p25_trellis.specs.Costs.{path_cost, cost_in}
-use Rattle.p25_trellis.specs.Trellis.{number_bits, distance_from}
+use Rattle.p25_bits.specs.Numbers.{number_bits}
+use Rattle.p25_trellis.specs.Trellis.{distance_from}
 use Rattle.p25_trellis.proofs.InterleaveLaws.{All-from_interleaved}
 use Rattle.p25_trellis.proofs.Paths.{power-pos}
+use Rattle.p25_trellis.proofs.NearestLaws.{same_nearest}
 use Rattle.p25_trellis.proofs.Distances.{path_cost-distance, IsFirstLeastReading-same}
-use Rattle.p25_trellis.proofs.NumberBits.{length-part}
+use Rattle.p25_bits.proofs.PartLaws.{length-part}
 use Rattle.p25_trellis.proofs.Apart.{same_from_sent_bits, IsNearReading-from}
 use Rattle.p25_trellis.proofs.block.read_block.Goals as goal
 
@@ -31,6 +33,14 @@ returns-clause-nearest g c =
     IsFirstLeastReading-same states g.R.Rate.BITS_PER_SYMBOL (path_cost point (cost_in costs)) (distance_from point bits) c.read_costs.new.octets c.read_costs.result
     (path_cost-distance states point c.gather.result costs bits (power-pos g.R.Rate.BITS_PER_SYMBOL states g.met.R.Rate.states_of_bits) g.met.R.Rate.nibbles c.distance_costs.ensures.costs c.gather.ensures.len are)
     c.read_costs.ensures
+
+pub returns-clause-octets : goal.returns-clause-octets
+returns-clause-octets g c =
+    (same_nearest g.R.Rate.STATES g.R.Rate.BITS_PER_SYMBOL g.R.Rate.point_of (part c.args.at 196 c.args.bits.now) c.read_costs.new.octets c.read_costs.result (power-pos g.R.Rate.BITS_PER_SYMBOL g.R.Rate.STATES g.met.R.Rate.states_of_bits) (returns-clause-nearest g c)).0
+
+pub returns-clause-distance : goal.returns-clause-distance
+returns-clause-distance g c =
+    (same_nearest g.R.Rate.STATES g.R.Rate.BITS_PER_SYMBOL g.R.Rate.point_of (part c.args.at 196 c.args.bits.now) c.read_costs.new.octets c.read_costs.result (power-pos g.R.Rate.BITS_PER_SYMBOL g.R.Rate.STATES g.met.R.Rate.states_of_bits) (returns-clause-nearest g c)).1
 
 pub returns-clause-near : goal.returns-clause-near
 returns-clause-near g c =

@@ -2,8 +2,8 @@ use Rattle.std.proofs.Common.{◌≡◌, ℕ, ◌+◌, ◌*◌, ◌≤◌, ◌++
 use Rattle.std.proofs.Math.Nat.{mul-le-mul_left, mul-zero}
 use Rattle.std.proofs.lemmas.List.{take_all}
 use Rattle.p25_bits.specs.Bits.{bits_of}
-use Rattle.p25_trellis.specs.Trellis.{number_bits}
-use Rattle.p25_trellis.proofs.NumberBits.{more_bits, number_bits-nil, number_bits_more}
+use Rattle.p25_bits.specs.Numbers.{number_bits}
+use Rattle.p25_bits.proofs.NumbersLaws.{more_bits, number_bits-nil, number_bits_more}
 use Rattle.p25_trellis.proofs.fields.put_numbers.Goals as goal
 
 pub loop-number-init : goal.loop-number-init

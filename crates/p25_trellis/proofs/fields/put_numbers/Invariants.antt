@@ -1,5 +1,5 @@
 use Rattle.std.proofs.Common.{◌≡◌, ◌+◌, ◌*◌, ◌++◌, length, take}
-use Rattle.p25_trellis.specs.Trellis.{number_bits}
+use Rattle.p25_bits.specs.Numbers.{number_bits}
 use Rattle.p25_trellis.proofs.fields.put_numbers.Given as goal
 
 abbrev pub invariant-loop-number : goal.invariant-loop-number

@@ -3,7 +3,7 @@ use Rattle.std.proofs.Math.Nat.{mul-le-mul_left, mul-zero, pow-le-pow_right}
 use Rattle.std.proofs.lemmas.List.{take_more_set, drop-set-lt}
 use Rattle.std.proofs.lemmas.List.Elements.{All-nil, All-push, All-same}
 use Rattle.p25_bits.specs.Bits.{part}
-use Rattle.p25_trellis.proofs.NumberBits.{more_bits, number_bits-nil, number_bits-take_more, field-lt}
+use Rattle.p25_bits.proofs.NumbersLaws.{more_bits, number_bits-nil, number_bits-take_more, field-lt}
 use Rattle.p25_trellis.proofs.fields.take_numbers.Goals as goal
 
 pub loop-i-init : goal.loop-i-init
@@ -32,7 +32,7 @@ overflow_cast-numbers c =
     let more : i + 1 ≤ c.args.count = omega arith in
     let there : c.args.at + w * i + w ≤ length c.args.bits.now = omega (arith, more_bits c.args.at w i, mul-le-mul_left w more) in
     let two : 0 < 2 = omega arith in
-    omega (arith, field-lt w (c.args.at + w * i) c.args.bits.now there, pow-le-pow_right two c.requires.width, c.field.ensures)
+    omega (arith, field-lt w (c.args.at + w * i) c.args.bits.now, pow-le-pow_right two c.requires.width, c.field.ensures.value)
 
 pub loop-i-preserved : goal.loop-i-preserved
 loop-i-preserved c =
@@ -43,8 +43,8 @@ loop-i-preserved c =
     let more : i + 1 ≤ c.args.count = omega arith in
     let there : c.args.at + w * i + w ≤ length bits = omega (arith, more_bits c.args.at w i, mul-le-mul_left w more) in
     let inside : i < length numbers = omega arith in
-    let small = subst (λ (n : ℕ). n < 2 ^ w) (sym c.field.ensures) (field-lt w (c.args.at + w * i) bits there) in record {
-      read = number_bits-take_more bits c.args.at w numbers i c.field.result inside there c.field.ensures c.loop-i.invariant.read;
+    let small = subst (λ (n : ℕ). n < 2 ^ w) (sym c.field.ensures.value) (field-lt w (c.args.at + w * i) bits) in record {
+      read = number_bits-take_more bits c.args.at w numbers i c.field.result inside there c.field.ensures.value c.loop-i.invariant.read;
       fits
           = All-same (λ (n : ℕ). n < 2 ^ w) (take (i + 1) (set numbers i c.field.result)) (take i numbers ++ c.field.result ∷ []) (take_more_set numbers i c.field.result inside) (All-push (λ (n : ℕ). n < 2 ^ w) (take i numbers) c.field.result c.loop-i.invariant.fits small);
       rest = drop-set-lt c.args.count numbers i c.field.result c.loop-i-test.true ∙ c.loop-i.invariant.rest;

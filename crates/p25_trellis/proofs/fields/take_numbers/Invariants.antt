@@ -1,6 +1,6 @@
 use Rattle.std.proofs.Common.{◌≡◌, ℕ, ◌*◌, ◌<◌, ◌^◌, All, take, drop}
 use Rattle.p25_bits.specs.Bits.{part}
-use Rattle.p25_trellis.specs.Trellis.{number_bits}
+use Rattle.p25_bits.specs.Numbers.{number_bits}
 use Rattle.p25_trellis.proofs.fields.take_numbers.Given as goal
 
 abbrev pub invariant-loop-i : goal.invariant-loop-i

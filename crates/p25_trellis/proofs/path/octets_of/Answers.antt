@@ -1,7 +1,8 @@
 use Rattle.std.proofs.Common.{◌≡◌, ℕ, ◌*◌, ◌^◌, ◌<◌, ◌≤◌, ◌++◌, List, Bool, length, take, subst, ap, sym, ◌∙◌, arith, All}
 use Rattle.std.proofs.lemmas.List.{length-take-le, take_all}
 use Rattle.std.proofs.lemmas.List.Elements.{All-take, All-same}
-use Rattle.p25_trellis.specs.Trellis.{Carries, number_bits}
+use Rattle.p25_bits.specs.Numbers.{number_bits}
+use Rattle.p25_trellis.specs.Trellis.{Carries}
 use Rattle.p25_trellis.proofs.Paths.{Carries-from_octets}
 use Rattle.p25_trellis.proofs.path.octets_of.Goals as goal
 

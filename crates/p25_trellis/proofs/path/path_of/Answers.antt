@@ -1,7 +1,7 @@
 use Rattle.std.proofs.Common.{◌≡◌, ℕ, ◌*◌, ◌^◌, ◌<◌, ◌++◌, List, Bool, take, subst, ap, sym, ◌∙◌, arith, All}
 use Rattle.std.proofs.lemmas.List.Elements.{All-from_get_or}
 use Rattle.p25_bits.specs.Bits.{part}
-use Rattle.p25_trellis.specs.Trellis.{number_bits}
+use Rattle.p25_bits.specs.Numbers.{number_bits}
 use Rattle.p25_trellis.proofs.Paths.{IsPath-from_front, Carries-from_bits, power-pos}
 use Rattle.p25_trellis.proofs.path.path_of.Goals as goal
 

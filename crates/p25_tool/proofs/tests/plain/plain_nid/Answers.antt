@@ -21,5 +21,5 @@ pub returns : goal.returns
 returns c =
     let bits = joined c.args.unit.now _ _ _ c.requires c.new-bits.ensures c.extend.ensures.list c.extend-2.ensures.list in
     let long = length-nid_bits c.args.unit.now (omega (arith, c.requires)) in
-    let number = c.field.ensures ∙ ap field_of bits in
+    let number = c.field.ensures.value ∙ ap field_of bits in
     c.read_nid.ensures.value ∙ ap nid_reading_of (ap₂ bits_of (sym long) number ∙ bits_of-field_of (nid_bits c.args.unit.now))

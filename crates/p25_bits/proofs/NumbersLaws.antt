@@ -1,0 +1,421 @@
+-- Numbers as bits and back, numbers in base 256, and lists made place by place. Each law is by induction on the list or on the count.
+use Rattle.std.proofs.Common.{◌≡◌, ℕ, zero, suc, ◌+◌, ◌-◌, ◌*◌, ◌^◌, ◌<◌, ◌≤◌, inl, inr, Bool, List, [], ◌∷◌, ◌++◌, length, take, drop, get_or, set, refl, ap, ap₂, sym, ◌∙◌, arith, length-append, length-drop, append-nil, add-one, pow-add, All}
+use Rattle.std.specs.List.{flat_map}
+use Rattle.std.proofs.Math.Nat.{mul-suc, mul_comm, mul_assoc, add-mul, pow-suc, mod-eq_of_lt, mul-le-mul_left}
+use Rattle.std.proofs.Math.Pow.{pow_mono}
+use Rattle.std.proofs.Math.Seq.{take-add}
+use Rattle.std.proofs.lemmas.Bool.{cases_lt}
+use Rattle.std.proofs.lemmas.List.{flat_map_more, take_more, take_more_set, drop-drop, drop-append-le, take-append-le, take_at, drop_at, get_or_append_left, get_or-append_right, length-take, take_all, take-append-drop}
+use Rattle.std.proofs.lemmas.List.Elements.{All-nil, All-cons, All-head, All-tail, All-append}
+use Rattle.std.proofs.lemmas.List.Concat.{flat_map-append}
+use Rattle.p25_bits.specs.Bits.{bits_of, field_of, octet_bits, part}
+use Rattle.p25_bits.specs.Numbers.{number_bits, numbers_from, octets_from, number_after, octets_number, each_below, joined_below}
+use Rattle.p25_bits.proofs.PartLaws.{length-part, part_add, part_left, part_last, part-drop}
+use Rattle.p25_bits.proofs.BitsLaws.{length-bits_of, bits_of-field_of, field_of-bits_of, field_of-lt, field_of-append, field_of-nil, length-octet_bits, octet_bits-cons, octet_bits-nil}
+
+-- The bits of numbers.
+
+-- octets are numbers of eight bits
+pub number_bits-octets : (octets : List ℕ) → number_bits 8 octets ≡ octet_bits octets
+unfolding number_bits octet_bits
+number_bits-octets octets = refl
+
+pub number_bits-nil : (width : ℕ) → number_bits width [] ≡ []
+unfolding number_bits
+number_bits-nil width = refl
+
+pub number_bits-cons : (width number : ℕ) (numbers : List ℕ) → number_bits width (number ∷ numbers) ≡ bits_of width number ++ number_bits width numbers
+unfolding number_bits
+number_bits-cons width number numbers = refl
+
+pub number_bits-append : (width : ℕ) (xs ys : List ℕ) → number_bits width (xs ++ ys) ≡ number_bits width xs ++ number_bits width ys
+unfolding number_bits
+number_bits-append width xs ys = flat_map-append (bits_of width) xs ys
+
+pub number_bits-one : (width number : ℕ) → number_bits width (number ∷ []) ≡ bits_of width number
+number_bits-one width number = number_bits-cons width number [] ∙ ap (λ (bits : List Bool). bits_of width number ++ bits) (number_bits-nil width) ∙ append-nil (bits_of width number)
+
+pub length-number_bits : (width : ℕ) (numbers : List ℕ) → length (number_bits width numbers) ≡ width * length numbers
+unfolding number_bits
+length-number_bits width [] = omega arith
+length-number_bits width (number ∷ numbers) =
+    length-append (bits_of width number) (number_bits width numbers)
+    ∙ omega (arith, length-bits_of width number, length-number_bits width numbers, mul-suc width (length numbers))
+
+-- what a list of numbers adds to bits
+pub more_bits : (before width count : ℕ) → (before + width * count) + width ≡ before + width * (count + 1)
+more_bits before width count = rw add-one (omega (arith, mul-suc width count))
+
+-- one more number after bits
+pub number_bits_more : (bits : List Bool) (width : ℕ) (numbers : List ℕ) (i : ℕ) → i < length numbers → (bits ++ number_bits width (take i numbers)) ++ bits_of width (get_or numbers i 0) ≡ bits ++ number_bits width (take (i + 1) numbers)
+unfolding number_bits
+number_bits_more bits width numbers i inside =
+    flat_map_more (bits_of width) bits (take i numbers) (get_or numbers i 0) ∙ ap (λ (ns : List ℕ). bits ++ flat_map (bits_of width) ns) (sym (take_more numbers i 0 inside))
+
+-- the bits of a field are the part that it was read from
+pub bits_of-field : (width at : ℕ) (bits : List Bool) → at + width ≤ length bits → bits_of width (field_of (part at width bits)) ≡ part at width bits
+bits_of-field width at bits there =
+    ap (λ n. bits_of n (field_of (part at width bits))) (sym (length-part at width bits there)) ∙ bits_of-field_of (part at width bits)
+
+-- a number read from bits, after those read before it
+pub number_bits-take_more : (bits : List Bool) (at width : ℕ) (numbers : List ℕ) (i value : ℕ) → i < length numbers → at + width * i + width ≤ length bits → value ≡ field_of (part (at + width * i) width bits) → number_bits width (take i numbers) ≡ part at (width * i) bits → number_bits width (take (i + 1) (set numbers i value)) ≡ part at (width * (i + 1)) bits
+number_bits-take_more bits at width numbers i value inside there read so_far =
+    ap (number_bits width) (take_more_set numbers i value inside)
+    ∙ number_bits-append width (take i numbers) (value ∷ [])
+    ∙ ap₂ (λ (xs ys : List Bool). xs ++ ys) so_far (number_bits-one width value ∙ ap (bits_of width) read ∙ bits_of-field width (at + width * i) bits there)
+    ∙ part_add at (width * i) width bits
+    ∙ ap (λ n. part at n bits) (let more : width * i + width ≡ width * (i + 1) = omega (arith, more_bits 0 width i) in more)
+
+-- a number read from so many bits is below that power of two
+pub field-lt : (width at : ℕ) (bits : List Bool) → field_of (part at width bits) < 2 ^ width
+field-lt width at bits =
+    let few : length (part at width bits) ≤ width = omega (arith, length-take width (drop at bits)) in
+    omega (arith, field_of-lt (part at width bits), pow_mono few)
+
+-- small numbers that write the same bits are the same
+pub same_from_number_bits : (width : ℕ) (xs ys : List ℕ) → All (λ n. n < 2 ^ width) xs → All (λ n. n < 2 ^ width) ys → length xs ≡ length ys → number_bits width xs ≡ number_bits width ys → xs ≡ ys
+unfolding number_bits
+same_from_number_bits width [] [] small_x small_y long same = refl
+same_from_number_bits width [] (y ∷ ys) small_x small_y long same = absurd (omega arith)
+same_from_number_bits width (x ∷ xs) [] small_x small_y long same = absurd (omega arith)
+same_from_number_bits width (x ∷ xs) (y ∷ ys) small_x small_y long same =
+    let P : ℕ → Type 0 = λ n. n < 2 ^ width in
+    let front : bits_of width x ≡ bits_of width y
+    = sym (take_at (bits_of width x) (number_bits width xs) width (length-bits_of width x))
+    ∙ ap (λ (zs : List Bool). take width zs) same
+    ∙ take_at (bits_of width y) (number_bits width ys) width (length-bits_of width y) in
+    let back : number_bits width xs ≡ number_bits width ys
+    = sym (drop_at (bits_of width x) (number_bits width xs) width (length-bits_of width x))
+    ∙ ap (λ (zs : List Bool). drop width zs) same
+    ∙ drop_at (bits_of width y) (number_bits width ys) width (length-bits_of width y) in
+    ap₂ ◌∷◌
+    (sym (mod-eq_of_lt (All-head P x xs small_x)) ∙ sym (field_of-bits_of width x) ∙ ap field_of front ∙ field_of-bits_of width y ∙ mod-eq_of_lt (All-head P y ys small_y))
+    (same_from_number_bits width xs ys (All-tail P x xs small_x) (All-tail P y ys small_y) (omega arith) back)
+
+-- The numbers that bits write.
+
+pub numbers_from-zero : (width : ℕ) (bits : List Bool) → numbers_from width 0 bits ≡ []
+unfolding numbers_from
+numbers_from-zero width bits = refl
+
+pub numbers_from-suc : (width n : ℕ) (bits : List Bool) → numbers_from width (suc n) bits ≡ field_of (take width bits) ∷ numbers_from width n (drop width bits)
+unfolding numbers_from
+numbers_from-suc width n bits = refl
+
+pub length-numbers_from : (width n : ℕ) (bits : List Bool) → length (numbers_from width n bits) ≡ n
+unfolding numbers_from
+length-numbers_from width zero bits = refl
+length-numbers_from width (suc n) bits = ap suc (length-numbers_from width n (drop width bits))
+
+-- each of them is below that power of two
+pub All-numbers_from : (width n : ℕ) (bits : List Bool) → All (λ number. number < 2 ^ width) (numbers_from width n bits)
+unfolding numbers_from
+All-numbers_from width zero bits = All-nil (λ number. number < 2 ^ width)
+All-numbers_from width (suc n) bits = All-cons (λ number. number < 2 ^ width) (field_of (take width bits)) (numbers_from width n (drop width bits)) (field-lt width 0 bits) (All-numbers_from width n (drop width bits))
+
+-- the number at a place
+pub get_or-numbers_from : (width n : ℕ) (bits : List Bool) (j d : ℕ) → j < n → get_or (numbers_from width n bits) j d ≡ field_of (part (width * j) width bits)
+unfolding numbers_from
+get_or-numbers_from width zero bits j d inside = absurd (omega arith)
+get_or-numbers_from width (suc n) bits zero d inside = let first : 0 ≡ width * 0 = omega arith in ap (λ k. field_of (part k width bits)) first
+get_or-numbers_from width (suc n) bits (suc j) d inside =
+    let next : width + width * j ≡ width * suc j = omega (arith, mul-suc width j) in
+    get_or-numbers_from width n (drop width bits) j d (omega arith)
+    ∙ ap field_of (part-drop (width * j) width width bits)
+    ∙ ap (λ k. field_of (part k width bits)) next
+
+-- numbers, and then others
+pub numbers_from-add : (width m n : ℕ) (bits : List Bool) → numbers_from width (m + n) bits ≡ numbers_from width m bits ++ numbers_from width n (drop (width * m) bits)
+unfolding numbers_from
+numbers_from-add width zero n bits =
+    let none : zero + n ≡ n = omega arith in
+    let first : 0 ≡ width * 0 = omega arith in
+    ap (λ k. numbers_from width k bits) none ∙ ap (λ k. numbers_from width n (drop k bits)) first
+numbers_from-add width (suc m) n bits =
+    let one_more : suc m + n ≡ suc (m + n) = omega arith in
+    let next : width + width * m ≡ width * suc m = omega (arith, mul-suc width m) in
+    ap (λ k. numbers_from width k bits) one_more
+    ∙ ap (λ numbers. field_of (take width bits) ∷ numbers) (numbers_from-add width m n (drop width bits))
+    ∙ ap (λ rest. field_of (take width bits) ∷ (numbers_from width m (drop width bits) ++ numbers_from width n rest)) (drop-drop (width * m) width bits ∙ ap (λ k. drop k bits) next)
+
+-- one more number
+pub numbers_from-more : (width n : ℕ) (bits : List Bool) → numbers_from width (n + 1) bits ≡ numbers_from width n bits ++ field_of (part (width * n) width bits) ∷ []
+numbers_from-more width n bits =
+    numbers_from-add width n 1 bits
+    ∙ ap (λ (more : List ℕ). numbers_from width n bits ++ more) (numbers_from-suc width 0 (drop (width * n) bits) ∙ ap (λ (more : List ℕ). field_of (part (width * n) width bits) ∷ more) (numbers_from-zero width (drop width (drop (width * n) bits))))
+
+-- bits behind those that the numbers are read from change nothing
+pub numbers_from-append : (width n : ℕ) (xs ys : List Bool) → width * n ≤ length xs → numbers_from width n (xs ++ ys) ≡ numbers_from width n xs
+unfolding numbers_from
+numbers_from-append width zero xs ys inside = refl
+numbers_from-append width (suc n) xs ys inside =
+    let here : width ≤ length xs = omega (arith, mul-suc width n) in
+    let rest : width * n ≤ length (drop width xs) = omega (arith, mul-suc width n, length-drop width xs) in
+    ap₂ ◌∷◌ (ap field_of (take-append-le width xs ys here)) (ap (numbers_from width n) (drop-append-le width xs ys here) ∙ numbers_from-append width n (drop width xs) ys rest)
+
+-- so the beginning of bits is enough
+pub numbers_from-take : (width n count : ℕ) (bits : List Bool) → width * n ≤ count → width * n ≤ length bits → numbers_from width n (take count bits) ≡ numbers_from width n bits
+numbers_from-take width n count bits enough there =
+    let inside : width * n ≤ length (take count bits) = omega (arith, length-take count bits) in
+    sym (numbers_from-append width n (take count bits) (drop count bits) inside) ∙ ap (numbers_from width n) (take-append-drop count bits)
+
+-- the numbers of the bits of small numbers are those numbers
+pub numbers_from-number_bits : (width : ℕ) (numbers : List ℕ) → All (λ number. number < 2 ^ width) numbers → numbers_from width (length numbers) (number_bits width numbers) ≡ numbers
+unfolding numbers_from
+numbers_from-number_bits width [] small = refl
+numbers_from-number_bits width (number ∷ numbers) small =
+    let P : ℕ → Type 0 = λ n. n < 2 ^ width in
+    let long = length-bits_of width number in
+    ap₂ ◌∷◌
+    (ap (λ bits. field_of (take width bits)) (number_bits-cons width number numbers)
+    ∙ ap field_of (take_at (bits_of width number) (number_bits width numbers) width long)
+    ∙ field_of-bits_of width number
+    ∙ mod-eq_of_lt (All-head P number numbers small))
+    (ap (λ bits. numbers_from width (length numbers) (drop width bits)) (number_bits-cons width number numbers)
+    ∙ ap (numbers_from width (length numbers)) (drop_at (bits_of width number) (number_bits width numbers) width long)
+    ∙ numbers_from-number_bits width numbers (All-tail P number numbers small))
+
+-- the bits of the numbers that bits write are those bits
+pub number_bits-numbers_from : (width n : ℕ) (bits : List Bool) → width * n ≤ length bits → number_bits width (numbers_from width n bits) ≡ take (width * n) bits
+unfolding numbers_from
+number_bits-numbers_from width zero bits there = number_bits-nil width ∙ (let none : 0 ≡ width * 0 = omega arith in ap (λ k. take k bits) none)
+number_bits-numbers_from width (suc n) bits there =
+    let here : 0 + width ≤ length bits = omega (arith, mul-suc width n) in
+    let rest : width * n ≤ length (drop width bits) = omega (arith, mul-suc width n, length-drop width bits) in
+    let next : width + width * n ≡ width * suc n = omega (arith, mul-suc width n) in
+    number_bits-cons width (field_of (take width bits)) (numbers_from width n (drop width bits))
+    ∙ ap₂ (λ (xs ys : List Bool). xs ++ ys) (bits_of-field width 0 bits here) (number_bits-numbers_from width n (drop width bits) rest)
+    ∙ sym (take-add width (width * n) bits)
+    ∙ ap (λ k. take k bits) next
+
+-- Numbers in base 256.
+
+pub octets_number-nil : octets_number [] ≡ 0
+unfolding octets_number number_after
+octets_number-nil = refl
+
+pub number_after-nil : (high : ℕ) → number_after high [] ≡ high
+unfolding number_after
+number_after-nil high = refl
+
+pub number_after-cons : (high octet : ℕ) (octets : List ℕ) → number_after high (octet ∷ octets) ≡ number_after (256 * high + octet) octets
+unfolding number_after
+number_after-cons high octet octets = refl
+
+pub octets_number-after : (octets : List ℕ) → octets_number octets ≡ number_after 0 octets
+unfolding octets_number
+octets_number-after octets = refl
+
+-- octets after others count on from the number of those before
+pub number_after-append : (high : ℕ) (xs ys : List ℕ) → number_after high (xs ++ ys) ≡ number_after (number_after high xs) ys
+unfolding number_after
+number_after-append high [] ys = refl
+number_after-append high (x ∷ xs) ys = number_after-append (256 * high + x) xs ys
+
+-- a number with one more octet, times a power of 256
+raised : (high octet power next : ℕ) → next ≡ power * 256 → (256 * high + octet) * power ≡ high * next + octet * power
+raised high octet power next e = rw (e, add-mul) (ap (λ n. n + octet * power) (ap (λ n. n * power) (mul_comm 256 high) ∙ mul_assoc high 256 power ∙ ap (λ n. high * n) (mul_comm 256 power)))
+
+-- what stands before the octets counts as often as the octets have values
+pub number_after-is : (high : ℕ) (octets : List ℕ) → number_after high octets ≡ high * 256 ^ length octets + octets_number octets
+unfolding number_after octets_number
+number_after-is high [] = omega arith
+number_after-is high (x ∷ xs) =
+    number_after-is (256 * high + x) xs
+    ∙ omega (arith, number_after-is (256 * 0 + x) xs, raised high x (256 ^ length xs) (256 ^ suc (length xs)) (pow-suc 256 (length xs)))
+
+-- a first octet is the highest
+pub octets_number-cons : (octet : ℕ) (octets : List ℕ) → octets_number (octet ∷ octets) ≡ octet * 256 ^ length octets + octets_number octets
+unfolding number_after octets_number
+octets_number-cons octet octets = number_after-is (256 * 0 + octet) octets ∙ ap (λ n. n * 256 ^ length octets + octets_number octets) (omega arith)
+
+-- two runs of octets, one after the other
+pub octets_number-append : (xs ys : List ℕ) → octets_number (xs ++ ys) ≡ octets_number xs * 256 ^ length ys + octets_number ys
+unfolding octets_number
+octets_number-append xs ys = number_after-append 0 xs ys ∙ number_after-is (octets_number xs) ys
+
+-- one more octet behind others
+pub octets_number-push : (octets : List ℕ) (octet : ℕ) → octets_number (octets ++ octet ∷ []) ≡ 256 * octets_number octets + octet
+unfolding octets_number number_after
+octets_number-push octets octet = number_after-append 0 octets (octet ∷ [])
+
+-- the powers of 256 are powers of two
+pub pow_256 : (n : ℕ) → 256 ^ n ≡ 2 ^ (8 * n)
+pow_256 zero = refl
+pow_256 (suc n) =
+    let next : 8 + 8 * n ≡ 8 * suc n = omega arith in
+    pow-suc 256 n ∙ ap (λ k. k * 256) (pow_256 n) ∙ mul_comm (2 ^ (8 * n)) 256 ∙ sym (pow-add 2 8 (8 * n)) ∙ ap (λ k. 2 ^ k) next
+
+-- the number that small octets write is the number that their bits write
+pub octets_number-bits : (octets : List ℕ) → All (λ octet. octet < 256) octets → octets_number octets ≡ field_of (octet_bits octets)
+octets_number-bits [] small = octets_number-nil ∙ sym field_of-nil ∙ sym (ap field_of octet_bits-nil)
+octets_number-bits (octet ∷ octets) small =
+    let P : ℕ → Type 0 = λ n. n < 256 in
+    let fits : octet < 2 ^ 8 = All-head P octet octets small in
+    octets_number-cons octet octets
+    ∙ ap₂ ◌+◌
+    (ap₂ ◌*◌ (sym (mod-eq_of_lt fits) ∙ sym (field_of-bits_of 8 octet)) (pow_256 (length octets) ∙ ap (λ n. 2 ^ n) (sym (length-octet_bits octets))))
+    (octets_number-bits octets (All-tail P octet octets small))
+    ∙ sym (field_of-append (bits_of 8 octet) (octet_bits octets))
+    ∙ sym (ap field_of (octet_bits-cons octet octets))
+
+-- small octets write a number below that power of 256
+pub octets_number-lt : (octets : List ℕ) → All (λ octet. octet < 256) octets → octets_number octets < 256 ^ length octets
+octets_number-lt octets small =
+    omega (arith, octets_number-bits octets small, field_of-lt (octet_bits octets), ap (λ n. 2 ^ n) (length-octet_bits octets), pow_256 (length octets))
+
+-- the octets that the number of small octets writes are those octets
+pub octets_from-octets_number : (octets : List ℕ) → All (λ octet. octet < 256) octets → octets_from (length octets) (bits_of (8 * length octets) (octets_number octets)) ≡ octets
+octets_from-octets_number octets small =
+    ap (λ bits. octets_from (length octets) bits)
+    (ap₂ bits_of (sym (length-octet_bits octets)) (octets_number-bits octets small) ∙ bits_of-field_of (octet_bits octets) ∙ sym (number_bits-octets octets))
+    ∙ numbers_from-number_bits 8 octets small
+
+-- the number of the octets that bits write is the number that the bits write
+pub octets_number-octets_from : (n : ℕ) (bits : List Bool) → length bits ≡ 8 * n → octets_number (octets_from n bits) ≡ field_of bits
+octets_number-octets_from n bits long =
+    let there : 8 * n ≤ length bits = omega arith in
+    let all : length bits ≤ 8 * n = omega arith in
+    octets_number-bits (octets_from n bits) (All-numbers_from 8 n bits)
+    ∙ ap field_of (sym (number_bits-octets (octets_from n bits)) ∙ number_bits-numbers_from 8 n bits there ∙ take_all (8 * n) bits all)
+
+-- two lists of small octets, of one length and number, are one list
+pub same_from_octets_number : (xs ys : List ℕ) → All (λ octet. octet < 256) xs → All (λ octet. octet < 256) ys → length xs ≡ length ys → octets_number xs ≡ octets_number ys → xs ≡ ys
+same_from_octets_number xs ys small_x small_y long same =
+    sym (octets_from-octets_number xs small_x)
+    ∙ ap₂ (λ n number. octets_from n (bits_of (8 * n) number)) long same
+    ∙ octets_from-octets_number ys small_y
+
+-- Lists made place by place.
+
+pub each_below-zero : {X : Type 0} (f : ℕ → X) → each_below 0 f ≡ []
+unfolding each_below
+each_below-zero f = refl
+
+pub each_below-suc : {X : Type 0} (n : ℕ) (f : ℕ → X) → each_below (suc n) f ≡ each_below n f ++ f n ∷ []
+unfolding each_below
+each_below-suc n f = refl
+
+-- one more place, as a loop counts
+pub each_below-more : {X : Type 0} (n : ℕ) (f : ℕ → X) → each_below (n + 1) f ≡ each_below n f ++ f n ∷ []
+each_below-more n f = rw add-one (each_below-suc n f)
+
+pub length-each_below : {X : Type 0} (n : ℕ) (f : ℕ → X) → length (each_below n f) ≡ n
+unfolding each_below
+length-each_below zero f = refl
+length-each_below (suc n) f = length-append (each_below n f) (f n ∷ []) ∙ omega (arith, length-each_below n f)
+
+-- the element at a place
+pub get_or-each_below : {X : Type 0} (n : ℕ) (f : ℕ → X) (j : ℕ) (d : X) → j < n → get_or (each_below n f) j d ≡ f j
+unfolding each_below
+get_or-each_below zero f j d inside = absurd (omega arith)
+get_or-each_below (suc n) f j d inside =
+    let long = length-each_below n f in
+    elim (cases_lt j n) [
+      | inl before ↦
+          let within : j < length (each_below n f) = omega arith in
+          get_or_append_left (each_below n f) (f n ∷ []) d j within ∙ get_or-each_below n f j d before
+      | inr last ↦
+          let here : j ≡ n = omega arith in
+          let first : j - n ≡ 0 = omega arith in
+          get_or-append_right (each_below n f) (f n ∷ []) n j d long last ∙ ap (λ k. get_or (f n ∷ []) k d) first ∙ ap f (sym here)
+    ]
+
+-- only the values below the count matter
+pub each_below-same : {X : Type 0} (n : ℕ) (f g : ℕ → X) → ((j : ℕ) → j < n → f j ≡ g j) → each_below n f ≡ each_below n g
+unfolding each_below
+each_below-same zero f g same = refl
+each_below-same (suc n) f g same = ap₂ (λ (xs : List _) x. xs ++ x ∷ []) (each_below-same n f g (λ j inside. same j (omega arith))) (same n (omega arith))
+
+-- what each value has, each element has
+pub All-each_below : {X : Type 0} (P : X → Type 0) (n : ℕ) (f : ℕ → X) → ((j : ℕ) → j < n → P (f j)) → All P (each_below n f)
+unfolding each_below
+All-each_below P zero f each = All-nil P
+All-each_below P (suc n) f each = All-append P (each_below n f) (f n ∷ []) (All-each_below P n f (λ j inside. each j (omega arith))) (All-cons P (f n) [] (each n (omega arith)) (All-nil P))
+
+-- the first m of the elements
+pub take-each_below : {X : Type 0} (m n : ℕ) (f : ℕ → X) → m ≤ n → take m (each_below n f) ≡ each_below m f
+unfolding each_below
+take-each_below m zero f fits = let none : m ≡ 0 = omega arith in ap (λ k. take k []) none ∙ ap (λ k. each_below k f) (sym none)
+take-each_below m (suc n) f fits =
+    let long = length-each_below n f in
+    elim (cases_lt m (suc n)) [
+      | inl fewer ↦
+          let within : m ≤ length (each_below n f) = omega arith in
+          take-append-le m (each_below n f) (f n ∷ []) within ∙ take-each_below m n f (omega arith)
+      | inr every ↦
+          let here : m ≡ suc n = omega arith in
+          let all : length (each_below (suc n) f) ≤ m = omega (arith, length-each_below (suc n) f) in
+          take_all m (each_below (suc n) f) all ∙ ap (λ k. each_below k f) (sym here)
+    ]
+
+-- a list has at each place its element there
+pub each_below-list : {X : Type 0} (xs : List X) (d : X) (n : ℕ) → n ≤ length xs → each_below n (λ j. get_or xs j d) ≡ take n xs
+unfolding each_below
+each_below-list xs d zero inside = refl
+each_below-list xs d (suc n) inside =
+    let one : suc n ≡ n + 1 = omega arith in
+    ap (λ (ys : List _). ys ++ get_or xs n d ∷ []) (each_below-list xs d n (omega arith)) ∙ sym (take_more xs n d (omega arith)) ∙ ap (λ k. take k xs) (sym one)
+
+-- the bits of numbers made place by place
+pub number_bits-each_below : (width n : ℕ) (f : ℕ → ℕ) → number_bits width (each_below n f) ≡ joined_below n (λ j. bits_of width (f j))
+unfolding each_below joined_below
+number_bits-each_below width zero f = number_bits-nil width
+number_bits-each_below width (suc n) f = number_bits-append width (each_below n f) (f n ∷ []) ∙ ap₂ (λ (xs ys : List Bool). xs ++ ys) (number_bits-each_below width n f) (number_bits-one width (f n))
+
+pub joined_below-zero : {X : Type 0} (f : ℕ → List X) → joined_below 0 f ≡ []
+unfolding joined_below
+joined_below-zero f = refl
+
+pub joined_below-suc : {X : Type 0} (n : ℕ) (f : ℕ → List X) → joined_below (suc n) f ≡ joined_below n f ++ f n
+unfolding joined_below
+joined_below-suc n f = refl
+
+-- one more list, as a loop counts
+pub joined_below-more : {X : Type 0} (n : ℕ) (f : ℕ → List X) → joined_below (n + 1) f ≡ joined_below n f ++ f n
+joined_below-more n f = rw add-one (joined_below-suc n f)
+
+-- lists of one length
+pub length-joined_below : {X : Type 0} (size n : ℕ) (f : ℕ → List X) → ((j : ℕ) → j < n → length (f j) ≡ size) → length (joined_below n f) ≡ size * n
+unfolding joined_below
+length-joined_below size zero f long = omega arith
+length-joined_below size (suc n) f long =
+    length-append (joined_below n f) (f n)
+    ∙ omega (arith, length-joined_below size n f (λ j inside. long j (omega arith)), long n (omega arith), mul-suc size n)
+
+-- the list at a place
+pub part-joined_below : {X : Type 0} (size n : ℕ) (f : ℕ → List X) (j : ℕ) → ((i : ℕ) → i < n → length (f i) ≡ size) → j < n → part (size * j) size (joined_below n f) ≡ f j
+unfolding joined_below
+part-joined_below size zero f j long inside = absurd (omega arith)
+part-joined_below size (suc n) f j long inside =
+    let before : length (joined_below n f) ≡ size * n = length-joined_below size n f (λ i there. long i (omega arith)) in
+    elim (cases_lt j n) [
+      | inl earlier ↦
+          let next : suc j ≤ n = omega arith in
+          let within : size * j + size ≤ length (joined_below n f) = omega (arith, mul-suc size j, mul-le-mul_left size next) in
+          part_left (size * j) size (joined_below n f) (f n) within ∙ part-joined_below size n f j (λ i there. long i (omega arith)) earlier
+      | inr last ↦
+          let here : j ≡ n = omega arith in
+          let place : length (joined_below n f) ≡ size * j = before ∙ ap (λ k. size * k) (sym here) in
+          part_last (size * j) size (joined_below n f) (f n) place (long n (omega arith)) ∙ ap f (sym here)
+    ]
+
+-- only the lists below the count matter
+pub joined_below-same : {X : Type 0} (n : ℕ) (f g : ℕ → List X) → ((j : ℕ) → j < n → f j ≡ g j) → joined_below n f ≡ joined_below n g
+unfolding joined_below
+joined_below-same zero f g same = refl
+joined_below-same (suc n) f g same = ap₂ (λ (xs ys : List _). xs ++ ys) (joined_below-same n f g (λ j inside. same j (omega arith))) (same n (omega arith))
+
+-- what all elements of each list have, all elements have
+pub All-joined_below : {X : Type 0} (P : X → Type 0) (n : ℕ) (f : ℕ → List X) → ((j : ℕ) → j < n → All P (f j)) → All P (joined_below n f)
+unfolding joined_below
+All-joined_below P zero f each = All-nil P
+All-joined_below P (suc n) f each = All-append P (joined_below n f) (f n) (All-joined_below P n f (λ j inside. each j (omega arith))) (each n (omega arith))
+
+-- parts that touch, joined
+pub joined_below-parts : {X : Type 0} (at size n : ℕ) (xs : List X) → joined_below n (λ j. part (at + size * j) size xs) ≡ part at (size * n) xs
+unfolding joined_below
+joined_below-parts at size zero xs = let none : 0 ≡ size * 0 = omega arith in ap (λ k. part at k xs) none
+joined_below-parts at size (suc n) xs =
+    let next : size * n + size ≡ size * suc n = omega (arith, mul-suc size n) in
+    ap (λ (ys : List _). ys ++ part (at + size * n) size xs) (joined_below-parts at size n xs) ∙ part_add at (size * n) size xs ∙ ap (λ k. part at k xs) next

@@ -1,0 +1,36 @@
+-- Lists of numbers: those that bits write, so many bits each, numbers in base 256, and lists made place by place.
+use Rattle.std.specs.Prelude.{ℕ, zero, suc, ◌+◌, ◌*◌, Bool, List, [], ◌∷◌, ◌++◌, take, drop}
+use Rattle.std.specs.List.{flat_map}
+use Rattle.p25_bits.specs.Bits.{bits_of, field_of}
+
+-- the bits of numbers, `width` bits each
+unfoldable pub number_bits : ℕ → List ℕ → List Bool
+number_bits width numbers = flat_map (bits_of width) numbers
+
+-- the numbers that bits write, `width` bits each, as many as are asked for
+unfoldable pub numbers_from : ℕ → ℕ → List Bool → List ℕ
+numbers_from width zero bits = []
+numbers_from width (suc n) bits = field_of (take width bits) ∷ numbers_from width n (drop width bits)
+
+-- the octets that bits write, as many as are asked for
+abbrev pub octets_from : ℕ → List Bool → List ℕ
+octets_from n bits = numbers_from 8 n bits
+
+-- the number that octets write after a number that stands before them
+unfoldable pub number_after : ℕ → List ℕ → ℕ
+number_after high [] = high
+number_after high (octet ∷ octets) = number_after (256 * high + octet) octets
+
+-- the number that octets write in base 256, the first octet highest
+unfoldable pub octets_number : List ℕ → ℕ
+octets_number octets = number_after 0 octets
+
+-- the list of n elements, each given by its place
+unfoldable pub each_below : {X : Type 0} → ℕ → (ℕ → X) → List X
+each_below zero f = []
+each_below (suc n) f = each_below n f ++ f n ∷ []
+
+-- n lists, each given by its place, one after the other
+unfoldable pub joined_below : {X : Type 0} → ℕ → (ℕ → List X) → List X
+joined_below zero f = []
+joined_below (suc n) f = joined_below n f ++ f n

@@ -1,0 +1,60 @@
+//! Numbers and the bits that write them, the first bit highest: one number in a slice of bits, and numbers of one width in
+//! a list of bits.
+
+ghost use Rattle.std.specs.Prelude.{◌≡◌, ◌+◌, ◌*◌, ◌^◌, ◌<◌, ◌≤◌, ◌++◌, All, length, drop};
+ghost use Rattle.p25_bits.specs.Bits.{bits_of, field_of};
+ghost use Rattle.p25_bits.specs.Numbers.{number_bits, numbers_from};
+
+use super::bit_buf::BitBuf;
+
+/// Answers the number that at most 64 bits write, the first bit highest.
+pub fn number_of(bits: &[bool]) -> u64
+    requires { length bits.now ≤ 64 }
+    ensures value { result ≡ field_of bits.now }
+    ensures fits { result < 2 ^ length bits.now }
+{
+    let mut number: u64 = 0;
+    for bit in bits {
+        number = 2 * number + u64::from(*bit);
+    }
+    number
+}
+
+/// Sets at most 64 bits to the lowest ones of a number, the highest of them first.
+pub fn put_number(number: u64, bits: &mut [bool])
+    requires { length bits.old ≤ 64 }
+    ensures { bits.new ≡ bits_of (length bits.old) number }
+{
+    let width = bits.len();
+    for (i, bit) in bits.iter_mut().enumerate() {
+        *bit = (number >> (width - 1 - i)) & 1 == 1;
+    }
+}
+
+impl BitBuf {
+    /// Appends numbers in order, `width` bits each, the highest bit first.
+    pub fn put_numbers(&mut self, numbers: &[u8], width: u32)
+        requires width { width ≤ 8 }
+        requires fits { All (λ number. number < 2 ^ width) numbers.now }
+        requires room { length self.old + width * length numbers.now ≤ 25928 }
+        ensures list { self.new ≡ self.old ++ number_bits width numbers.now }
+        ensures len { length self.new ≡ length self.old + width * length numbers.now }
+    {
+        for number in numbers {
+            self.put_field(u64::from(*number), width);
+        }
+    }
+
+    /// Sets the numbers to those that the bits from place `at` on write, `width` bits each, the first bit highest.
+    pub fn take_numbers(&self, at: usize, width: u32, numbers: &mut [u8])
+        requires width { width ≤ 8 }
+        requires there { at + width * length numbers.old ≤ length self.now }
+        ensures { numbers.new ≡ numbers_from width (length numbers.old) (drop at self.now) }
+    {
+        // The number of bits held bounds every place below.
+        let _ = self.len();
+        for i in 0..numbers.len() {
+            numbers[i] = self.field(at + width as usize * i, width) as u8;
+        }
+    }
+}

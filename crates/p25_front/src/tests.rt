@@ -1,0 +1,41 @@
+//! Each call once, with a front computed apart from this code.
+
+use super::{front_fixes, put_front, read_identifier};
+use p25_bch_nid::Nid;
+use p25_bits::BitBuf;
+use std::test::Fail;
+
+// The front of a terminator of NAC 0 as it is sent, with the status symbol 0 within its identifier.
+fn sent_front(wrong_sync: u64, wrong_identifier: u64) -> BitBuf {
+    let mut sent = BitBuf::new();
+    sent.put_field(0x5575_F5FF_77FF ^ (wrong_sync & 0xFFFF_FFFF_FFFF), 48);
+    let identifier = 0x0003_3593_0BDD_3B2A ^ wrong_identifier;
+    sent.put_field(identifier >> 42, 22);
+    sent.put_field(0, 2);
+    sent.put_field(identifier % (1 << 42), 42);
+    sent
+}
+
+#[test]
+fn fronts(rt: HostRuntime) -> Result<(), Fail> {
+    let nid = Nid::new(0, 3).ok_or("an identifier")?;
+    let mut plain = BitBuf::new();
+    put_front(&nid, &mut plain);
+    assert_eq!(rt; plain.len(), 112);
+    assert_eq!(rt; plain.field(0, 48), 0x5575_F5FF_77FF);
+    // Rows: wrong bits of the sync, wrong bits of the identifier, whether it is read, and the fixes.
+    let rows: [(u64, u64, bool, u32); 4] = [
+        (0, 0, true, 0),
+        (0, 1, true, 0),
+        (0xF, 0x7FF0, true, 15),
+        (1, 0xFFF0, false, 13),
+    ];
+    for (wrong_sync, wrong_identifier, read, fixes) in rows {
+        let sent = sent_front(wrong_sync, wrong_identifier);
+        if read {
+            assert_eq!(rt; read_identifier(&sent, 0), Some(nid));
+        }
+        assert_eq!(rt; front_fixes(&sent, 0, &nid), fixes);
+    }
+    Ok(())
+}

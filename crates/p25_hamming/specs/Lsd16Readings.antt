@@ -1,0 +1,21 @@
+-- The reading of the code (16,8) of the low speed data as a function.
+use Rattle.std.specs.Prelude.{◌++◌, Bool, List, Option}
+use Rattle.std.specs.Bool.{beq}
+use Rattle.p25_code.specs.Binary.{IsChecked, check_columns}
+use Rattle.p25_code.specs.Readings.{Tested, bits_searched, tested_as, reading_of, IsReadAs, IsReadAs-reading_of}
+use Rattle.p25_code.proofs.BinaryCodes.{IsChecked-tested}
+use Rattle.p25_hamming.specs.Lsd16.{IsLsd16}
+use Rattle.p25_hamming.specs.Lsd16Laws.{check_rows, to_checked, from_checked, lsd16_is_code}
+
+-- whether a list of bits is a word can be tested
+IsLsd16-tested : Tested IsLsd16
+IsLsd16-tested = tested_as (IsChecked (check_rows ++ check_columns 8)) IsLsd16 from_checked to_checked (IsChecked-tested (check_rows ++ check_columns 8))
+
+-- the word within 2 bits of what was received, or none
+pub lsd16_reading_of : List Bool → Option (List Bool)
+lsd16_reading_of = reading_of bits_searched beq IsLsd16 IsLsd16-tested 16 2
+
+-- it is the reading
+pub lsd16_reads_as : (received : List Bool) → IsReadAs beq IsLsd16 2 received (lsd16_reading_of received)
+unfolding lsd16_reading_of
+lsd16_reads_as = IsReadAs-reading_of bits_searched beq IsLsd16 IsLsd16-tested 16 2 lsd16_is_code.long

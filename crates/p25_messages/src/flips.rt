@@ -1,0 +1,64 @@
+ghost use Rattle.std.specs.Prelude.{◌≡◌, ◌+◌, ◌<◌, ◌≤◌, Some, List, [], ◌∷◌, ◌++◌, length, slice_get, All};
+ghost use Rattle.std.specs.List.Sorted.{IsStrictlyIncreasing};
+
+use arrayvec::ArrayVec;
+use std::marker::Model;
+
+/// The places of wrong bits in a transmission: a strictly ascending list of at most 4,096 numbers below 25,920, the length
+/// of the longest unit as it is sent.
+#[derive(Drop)]
+pub struct Flips {
+    items: ArrayVec<u16, 4096>,
+}
+
+impl Model for Flips {
+    ghost use Rattle.std.specs.Prelude.{ℕ, ◌<◌, List, All};
+    ghost use Rattle.std.specs.List.Sorted.{IsStrictlyIncreasing};
+
+    ghost Value = { List ℕ };
+
+    ghost view = { λ s. s.items.items };
+
+    ghost invariant = { λ s. IsStrictlyIncreasing s.items.items × All (λ place. place < 25920) s.items.items };
+}
+
+impl Flips {
+    /// Answers an empty list.
+    pub fn new() -> Flips
+        ensures { result ≡ [] }
+    {
+        Flips {
+            items: ArrayVec::new(),
+        }
+    }
+
+    /// Answers the number of places held.
+    pub fn len(&self) -> usize
+        ensures value { result ≡ length self.now }
+        ensures most { result ≤ 4096 }
+        ensures ascending { IsStrictlyIncreasing self.now }
+        ensures below { All (λ place. place < 25920) self.now }
+    {
+        self.items.len()
+    }
+
+    /// Answers place `i` of the list.
+    pub fn get(&self, i: usize) -> u16
+        requires { i < length self.now }
+        ensures place { slice_get self.now i ≡ Some result }
+        ensures below { result < 25920 }
+    {
+        self.items.as_slice()[i]
+    }
+
+    /// Appends a place, which is below 25,920 and above all places held.
+    pub fn push(&mut self, entry: u16)
+        requires room { length self.old < 4096 }
+        requires below { entry < 25920 }
+        requires above { All (λ place. place < entry) self.old }
+        ensures list { self.new ≡ self.old ++ entry ∷ [] }
+        ensures len { length self.new ≡ length self.old + 1 }
+    {
+        self.items.push(entry);
+    }
+}

@@ -1,0 +1,95 @@
+-- The readings of the Reed-Solomon codes as functions, of symbols and of lists with marks: symbols are searched by their numbers, and
+-- whether a word vanishes is tested at each power of α.
+use Rattle.std.specs.Prelude.{◌≡◌, ◌⊎◌, ℕ, zero, suc, ◌+◌, ◌-◌, ◌*◌, ◌<◌, ◌≤◌, List, length, Option}
+use Rattle.std.proofs.Common.{ap, sym, subst, ◌∙◌, inl, inr, arith, lit≤}
+use Rattle.std.proofs.lemmas.Bool.{cases_eq}
+use Rattle.p25_code.specs.Readings.{Tested, Searched, reading_of, IsReadAs, IsReadAs-reading_of}
+use Rattle.p25_code.specs.MarkedReadings.{marked_reading_of, IsMarkedReadAs, IsMarkedReadAs-marked_reading_of}
+use Rattle.p25_gf64.specs.declared.symbol.Sym.{Sym}
+use Rattle.p25_gf64.specs.Symbol.{number, symbol_of, same_symbol}
+use Rattle.p25_gf64.specs.Gf64.{gf64}
+use Rattle.p25_reed_solomon.specs.Words.{IsCode, IsWord, value_of, radius_of, same_symbols}
+use Rattle.p25_reed_solomon.specs.WordLaws.{length_of_word_of}
+
+-- some symbol below a number meets a condition, or none does
+symbol_below : (P : Sym → Type 0) → Tested P → (n : ℕ) → n ≤ 64 → ((x : Sym) × P x) ⊎ ((x : Sym) → number x < n → ¬ P x)
+symbol_below P test zero most = inr (λ x below. absurd (omega arith))
+symbol_below P test (suc n) most =
+    elim (test last) [
+      | inl met ↦ inl (last, met)
+      | inr other ↦ elim (symbol_below P test n (omega arith)) [
+        | inl found ↦ inl found
+        | inr without ↦ inr (none other without)
+      ]
+    ]
+  where
+    last : Sym
+    last = symbol_of n (omega arith)
+
+    none : ¬ P last → ((x : Sym) → number x < n → ¬ P x) → (x : Sym) → number x < suc n → ¬ P x
+    none other without x below =
+        elim (cases_eq (number x) n) [
+          | inl same ↦ subst (λ y. ¬ P y) (same_symbol last x (sym same)) other
+          | inr apart ↦ without x (omega arith)
+        ]
+
+-- symbols can be searched
+pub symbols_searched : Searched Sym
+symbols_searched P test =
+    elim (symbol_below P test 64 (lit≤ tt)) [ inl found ↦ inl found | inr without ↦ inr (λ x. without x x.below) ]
+
+-- a word vanishes at each of the first powers of α, or at some it does not
+vanishes_tested : (n : ℕ) (word : List Sym) (checks : ℕ) → ((i : ℕ) → 1 ≤ i → i ≤ checks → value_of n word i ≡ gf64.zero) ⊎ ¬ ((i : ℕ) → 1 ≤ i → i ≤ checks → value_of n word i ≡ gf64.zero)
+vanishes_tested n word zero = inl (λ i some most. absurd (omega arith))
+vanishes_tested n word (suc checks) =
+    elim (gf64.is_zero (value_of n word (suc checks))) [
+      | inl last ↦ elim (vanishes_tested n word checks) [
+        | inl before ↦ inl (all last before)
+        | inr other ↦ inr (λ each. other (λ i some most. each i some (omega arith)))
+      ]
+      | inr other ↦ inr (λ each. other (each (suc checks) (omega arith) (omega arith)))
+    ]
+  where
+    all : value_of n word (suc checks) ≡ gf64.zero → ((i : ℕ) → 1 ≤ i → i ≤ checks → value_of n word i ≡ gf64.zero) → (i : ℕ) → 1 ≤ i → i ≤ suc checks → value_of n word i ≡ gf64.zero
+    all last before i some most =
+        elim (cases_eq i (suc checks)) [
+          | inl same ↦ ap (λ j. value_of n word j) same ∙ last
+          | inr lower ↦ before i some (omega arith)
+        ]
+
+-- whether a list of symbols is a word can be tested
+pub IsWord-tested : (n k : ℕ) → Tested (IsWord n k)
+IsWord-tested n k word =
+    elim (cases_eq (length word) n) [
+      | inl long ↦ elim (vanishes_tested n word (n - k)) [
+        | inl vanishes ↦ inl (record { long = long; vanishes = vanishes })
+        | inr other ↦ inr (λ is. other is.vanishes)
+      ]
+      | inr other ↦ inr (λ is. other is.long)
+    ]
+
+-- the word within the radius of what was received, or none
+pub rs_reading_of : (n k : ℕ) → List Sym → Option (List Sym)
+rs_reading_of n k = reading_of symbols_searched same_symbols (IsWord n k) (IsWord-tested n k) n (radius_of n k)
+
+-- it is the reading
+pub rs_reads_as : (n k : ℕ) (received : List Sym) → IsReadAs same_symbols (IsWord n k) (radius_of n k) received (rs_reading_of n k received)
+unfolding rs_reading_of
+rs_reads_as n k = IsReadAs-reading_of symbols_searched same_symbols (IsWord n k) (IsWord-tested n k) n (radius_of n k) (length_of_word_of n k)
+
+-- the word that costs at most n - k, two for each wrong symbol and one for each mark, or none
+pub rs_marked_reading_of : (n k : ℕ) → List (Option Sym) → Option (List Sym)
+rs_marked_reading_of n k = marked_reading_of symbols_searched same_symbols (IsWord n k) (IsWord-tested n k) n (n - k)
+
+-- it is the reading
+pub rs_marked_reads_as : (n k : ℕ) (list : List (Option Sym)) → IsMarkedReadAs same_symbols (IsWord n k) (n - k) list (rs_marked_reading_of n k list)
+unfolding rs_marked_reading_of
+rs_marked_reads_as n k = IsMarkedReadAs-marked_reading_of symbols_searched same_symbols (IsWord n k) (IsWord-tested n k) n (n - k) (length_of_word_of n k)
+
+-- twice the radius is the number of check symbols, so a list without a mark is read as the symbols are
+pub checks_twice_radius : (n k : ℕ) → IsCode n k → n - k ≡ 2 * radius_of n k
+checks_twice_radius n k code = sym code.even
+
+-- fewer marks are allowed than two words differ in symbols
+pub marks_within_of : (n k : ℕ) → n - k < n - k + 1
+marks_within_of n k = omega arith

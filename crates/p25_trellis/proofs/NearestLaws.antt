@@ -1,0 +1,145 @@
+-- The first nearest path, as a function, is the first least path; what is read by it and the block of octets follow. The
+-- path goes by induction on the symbols that are left: the lowest symbol with the cheapest best end goes before that end.
+use Rattle.std.proofs.Common.{◌≡◌, ℕ, zero, suc, ◌*◌, ◌^◌, ◌<◌, ◌≤◌, inl, inr, Bool, cond, ltb, List, [], ◌∷◌, length, take, refl, ap, sym, subst, ◌∙◌, arith, All, add-one, length-append}
+use Rattle.std.proofs.lemmas.Bool.{cases_lt, cond-true, cond-false, lt-ltb, le-ltb}
+use Rattle.std.proofs.lemmas.List.{length-take-le, take_all, take_at, drop_at}
+use Rattle.std.proofs.lemmas.List.Elements.{All-append, All-cons, All-nil}
+use Rattle.p25_bits.specs.Bits.{octet_bits}
+use Rattle.p25_bits.specs.Numbers.{number_bits, numbers_from, octets_from}
+use Rattle.p25_bits.proofs.BitsLaws.{length-octet_bits}
+use Rattle.p25_bits.proofs.NumbersLaws.{number_bits-octets, length-number_bits, length-numbers_from, All-numbers_from, number_bits-numbers_from}
+use Rattle.p25_trellis.specs.Trellis.{IsPath, Carries, IsBlock, IsNotAfter, IsFirstLeast, IsFirstLeastReading, distance_from}
+use Rattle.p25_trellis.specs.Least.{IsEnd, IsLowestLeast}
+use Rattle.p25_trellis.specs.Nearest.{lowest_least, first_least_end, nearest_path, nearest_octets, nearest_distance, path_from, block_from}
+use Rattle.p25_trellis.proofs.Costs.{IsLowestLeast-one, IsLowestLeast-less, IsLowestLeast-kept}
+use Rattle.p25_trellis.proofs.FirstPath.{IsFirstLeastEnd, IsFirstLeastEnd-last, IsFirstLeast-from_end, same_reading}
+use Rattle.p25_trellis.proofs.Paths.{power-pos, same_block}
+
+-- one number more is the lowest least where it has less
+IsLowestLeast-more : (states : ℕ) (value : ℕ → ℕ) (symbol : ℕ) → IsLowestLeast states value symbol (value symbol) → let next = cond (ltb (value states) (value symbol)) states symbol in IsLowestLeast (suc states) value next (value next)
+IsLowestLeast-more states value symbol was =
+    let P : ℕ → ℕ → Type 0 = λ bound next. IsLowestLeast bound value next (value next) in
+    elim (cases_lt (value states) (value symbol)) [
+      | inl less ↦
+          subst (λ (next : ℕ). P (suc states) next) (sym (cond-true (ltb (value states) (value symbol)) states symbol (lt-ltb (value states) (value symbol) less)))
+          (subst (λ (bound : ℕ). P bound states) (add-one states) (IsLowestLeast-less states value symbol (value symbol) (value states) was refl less))
+      | inr more ↦
+          subst (λ (next : ℕ). P (suc states) next) (sym (cond-false (ltb (value states) (value symbol)) states symbol (le-ltb (value states) (value symbol) more)))
+          (subst (λ (bound : ℕ). P bound symbol) (add-one states) (IsLowestLeast-kept states value symbol (value symbol) (value states) was refl more))
+    ]
+
+-- the function gives the lowest least
+IsLowestLeast-lowest_least : (states : ℕ) (value : ℕ → ℕ) → 0 < states → IsLowestLeast states value (lowest_least states value) (value (lowest_least states value))
+unfolding lowest_least
+IsLowestLeast-lowest_least zero value some = absurd (omega arith)
+IsLowestLeast-lowest_least (suc zero) value some =
+    let none : cond (ltb (value 0) (value 0)) 0 0 ≡ 0 = cond-false (ltb (value 0) (value 0)) 0 0 (le-ltb (value 0) (value 0) (omega arith)) in
+    subst (λ (next : ℕ). IsLowestLeast 1 value next (value next)) (sym none) (IsLowestLeast-one value (value 0) refl)
+IsLowestLeast-lowest_least (suc (suc n)) value some = IsLowestLeast-more (suc n) value (lowest_least (suc n) value) (IsLowestLeast-lowest_least (suc n) value (omega arith))
+
+-- the lowest symbol with the cheapest best end goes before that end
+IsFirstLeastEnd-lowest : (states before : ℕ) (cost : List ℕ → ℕ) (best : ℕ → List ℕ) (symbol : ℕ) → ((s : ℕ) → s < states → IsFirstLeastEnd states before (λ end. cost (s ∷ end)) (best s)) → IsLowestLeast states (λ s. cost (s ∷ best s)) symbol (cost (symbol ∷ best symbol)) → IsFirstLeastEnd states (suc before) cost (symbol ∷ best symbol)
+IsFirstLeastEnd-lowest states before cost best symbol ends choice =
+    record { is_end = (choice.below, (ends symbol choice.below).is_end); least = no_less; first = first_of_all }
+  where
+    no_less : (other : List ℕ) → IsEnd states (suc before) other → cost (symbol ∷ best symbol) ≤ cost other
+    no_less [] is = absurd is
+    no_less (y ∷ ys) is = omega (arith, choice.none_less y is.0, (ends y is.0).least ys is.1)
+
+    same_first : (y : ℕ) (ys : List ℕ) → y ≡ symbol → IsEnd states before ys → cost (y ∷ ys) ≡ cost (symbol ∷ best symbol) → IsNotAfter (best symbol) ys
+    same_first y ys one is same = (ends symbol choice.below).first ys is (ap (λ s. cost (s ∷ ys)) (sym one) ∙ same)
+
+    first_of_all : (other : List ℕ) → IsEnd states (suc before) other → cost other ≡ cost (symbol ∷ best symbol) → IsNotAfter (symbol ∷ best symbol) other
+    first_of_all [] is same = absurd is
+    first_of_all (y ∷ ys) is same = elim (cases_lt symbol y) [
+      | inl lower ↦ inl lower
+      | inr not_lower ↦ elim (cases_lt y symbol) [
+        | inl higher ↦ absurd (omega (arith, same, choice.lowest y higher, (ends y is.0).least ys is.1))
+        | inr not_higher ↦ let one : y ≡ symbol = omega arith in inr (sym one, same_first y ys one is.1 same)
+      ]
+    ]
+
+-- the function gives the first of the ends that cost least
+IsFirstLeastEnd-first_least_end : (states before : ℕ) (cost : List ℕ → ℕ) → 0 < states → IsFirstLeastEnd states before cost (first_least_end states before cost)
+unfolding first_least_end
+IsFirstLeastEnd-first_least_end states zero cost some = IsFirstLeastEnd-last states cost
+IsFirstLeastEnd-first_least_end states (suc before) cost some =
+    let best : ℕ → List ℕ = λ symbol. first_least_end states before (λ end. cost (symbol ∷ end)) in
+    IsFirstLeastEnd-lowest states before cost best (lowest_least states (λ symbol. cost (symbol ∷ best symbol)))
+    (λ symbol below. IsFirstLeastEnd-first_least_end states before (λ end. cost (symbol ∷ end)) some)
+    (IsLowestLeast-lowest_least states (λ symbol. cost (symbol ∷ best symbol)) some)
+
+-- the function gives the first nearest path
+pub IsFirstLeast-nearest_path : (states : ℕ) (point : ℕ → ℕ → ℕ) (received : List Bool) → 0 < states → IsFirstLeast states (distance_from point received) (nearest_path states point received)
+unfolding nearest_path
+IsFirstLeast-nearest_path states point received some =
+    IsFirstLeast-from_end states (distance_from point received) (first_least_end states 48 (distance_from point received)) some
+    (IsFirstLeastEnd-first_least_end states 48 (distance_from point received) some)
+
+-- the octets that a path's symbols write are those that it carries
+Carries-octets_from : (states width : ℕ) (path : List ℕ) → IsPath states path → Carries width path (octets_from (6 * width) (number_bits width (take 48 path)))
+Carries-octets_from states width path is =
+    let bits = number_bits width (take 48 path) in
+    let there : 48 ≤ length path = omega (arith, is.long) in
+    let long : length bits ≡ 48 * width = omega (arith, length-number_bits width (take 48 path), ap (λ n. width * n) (length-take-le 48 path there)) in
+    let fits : 8 * (6 * width) ≤ length bits = omega arith in
+    let all : length bits ≤ 8 * (6 * width) = omega arith in record {
+      are_octets = All-numbers_from 8 (6 * width) bits;
+      information = sym (take_all (8 * (6 * width)) bits all) ∙ sym (number_bits-numbers_from 8 (6 * width) bits fits) ∙ number_bits-octets (octets_from (6 * width) bits);
+    }
+
+-- the octets and the distance that the functions give are those of the first nearest path
+pub nearest_reading : (states width : ℕ) (point : ℕ → ℕ → ℕ) (received : List Bool) → 0 < states → IsFirstLeastReading states width (distance_from point received) (nearest_octets states width point received) (nearest_distance states point received)
+unfolding nearest_octets nearest_distance
+nearest_reading states width point received some =
+    let first = IsFirstLeast-nearest_path states point received some in record {
+      path = nearest_path states point received;
+      first_least = first;
+      carries = Carries-octets_from states width (nearest_path states point received) first.is_path;
+      total_is = refl;
+    }
+
+-- and no others are
+pub same_nearest : (states width : ℕ) (point : ℕ → ℕ → ℕ) (received : List Bool) (octets : List ℕ) (distance : ℕ) → 0 < states → IsFirstLeastReading states width (distance_from point received) octets distance → (octets ≡ nearest_octets states width point received) × (distance ≡ nearest_distance states point received)
+same_nearest states width point received octets distance some reading =
+    same_reading states width (distance_from point received) octets (nearest_octets states width point received) distance (nearest_distance states point received) reading (nearest_reading states width point received some)
+
+-- the symbols that octets write, and then 0, are a path
+IsPath-path_from : (states width : ℕ) (octets : List ℕ) → states ≡ 2 ^ width → IsPath states (path_from width octets)
+unfolding path_from
+IsPath-path_from states width octets states_is =
+    let P : ℕ → Type 0 = λ symbol. symbol < states in
+    let symbols = numbers_from width 48 (octet_bits octets) in
+    let long : length symbols ≡ 48 = length-numbers_from width 48 (octet_bits octets) in
+    let small = subst (λ (n : ℕ). All (λ (symbol : ℕ). symbol < n) symbols) (sym states_is) (All-numbers_from width 48 (octet_bits octets)) in record {
+      long = omega (arith, length-append symbols (0 ∷ []), long);
+      below = All-append P symbols (0 ∷ []) small (All-cons P 0 [] (power-pos width states states_is) (All-nil P));
+      last = drop_at symbols (0 ∷ []) 48 long;
+    }
+
+-- and it carries them
+Carries-path_from : (width : ℕ) (octets : List ℕ) → length octets ≡ 6 * width → All (λ octet. octet < 256) octets → Carries width (path_from width octets) octets
+unfolding path_from
+Carries-path_from width octets long small =
+    let bits = octet_bits octets in
+    let symbols = numbers_from width 48 bits in
+    let fits : width * 48 ≤ length bits = omega (arith, length-octet_bits octets) in
+    let all : length bits ≤ width * 48 = omega (arith, length-octet_bits octets) in record {
+      are_octets = small;
+      information = ap (number_bits width) (take_at symbols (0 ∷ []) 48 (length-numbers_from width 48 bits)) ∙ number_bits-numbers_from width 48 bits fits ∙ take_all (width * 48) bits all;
+    }
+
+-- the block that the function gives is the block of octets
+pub IsBlock-block_from : (states width : ℕ) (point : ℕ → ℕ → ℕ) (octets : List ℕ) → states ≡ 2 ^ width → length octets ≡ 6 * width → All (λ octet. octet < 256) octets → IsBlock states width point octets (block_from width point octets)
+unfolding block_from
+IsBlock-block_from states width point octets states_is long small = record {
+  path = path_from width octets;
+  is_path = IsPath-path_from states width octets states_is;
+  carries = Carries-path_from width octets long small;
+  sent = refl;
+}
+
+-- and no other is
+pub same_block_from : (states width : ℕ) (point : ℕ → ℕ → ℕ) (octets : List ℕ) (block : List Bool) → states ≡ 2 ^ width → length octets ≡ 6 * width → IsBlock states width point octets block → block ≡ block_from width point octets
+same_block_from states width point octets block states_is long is =
+    same_block states width point octets block (block_from width point octets) states_is is (IsBlock-block_from states width point octets states_is long is.carries.are_octets)

@@ -1,0 +1,2 @@
+pub mod VoiceLaws
+pub mod ImageSteps

@@ -1,0 +1,19 @@
+//! Each call once.
+
+use super::{VoiceUnit, read_voice, voice_image, voice_length};
+use p25_bits::BitBuf;
+use std::test::Fail;
+
+#[test]
+fn a_terminator(rt: HostRuntime) -> Result<(), Fail> {
+    let unit = VoiceUnit::End;
+    let mut plain = BitBuf::new();
+    voice_image(0, &unit, &mut plain);
+    assert_eq!(rt; Some(plain.len()), voice_length(unit.duid()));
+    assert_eq!(rt; plain.field(0, 48), 0x5575_F5FF_77FF);
+    assert_eq!(rt; plain.field(48, 64), 0x0003_3593_0BDD_3B2A);
+    assert_eq!(rt; plain.field(112, 28), 0);
+    assert!(rt; read_voice(3, &plain).is_ok());
+    assert_eq!(rt; voice_length(7), None);
+    Ok(())
+}
