@@ -4,3 +4,6 @@ pub mod LocatorFacts
 pub mod ReadingFacts
 pub mod Encoding
 pub mod Encoders
+pub mod MarksLaws
+pub mod LocatorLaws
+pub mod LaneSteps

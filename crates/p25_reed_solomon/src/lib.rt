@@ -38,9 +38,14 @@ mod code;
 mod encoder;
 mod errors;
 mod locator;
+mod marks;
+mod points;
 mod reader;
+mod sums;
 mod syndromes;
 #[cfg(test)]
 mod tests;
+mod values;
+mod zeros;
 
 pub use code::Rs;
