@@ -13,13 +13,13 @@ use Rattle.p25_algebra.proofs.Vanishing.{nonzeros-suc, nonzeros_mono, weight-le}
 use Rattle.p25_reed_solomon.specs.Errors.{element_of, IsListed, placed}
 
 -- one value at its place
-abbrev at_place : List ℕ → (ℕ → Sym) → ℕ → ℕ → Sym
+abbrev pub at_place : List ℕ → (ℕ → Sym) → ℕ → ℕ → Sym
 at_place places values j c = cond (eqb (get_or places c 0) j) (values c) gf64.zero
 
 there : (places : List ℕ) (values : ℕ → Sym) (j c : ℕ) → get_or places c 0 ≡ j → at_place places values j c ≡ values c
 there places values j c same = cond-true (eqb (get_or places c 0) j) (values c) gf64.zero (eq-eqb (get_or places c 0) j same)
 
-elsewhere : (places : List ℕ) (values : ℕ → Sym) (j c : ℕ) → (get_or places c 0 ≡ j → ⊥) → at_place places values j c ≡ gf64.zero
+pub elsewhere : (places : List ℕ) (values : ℕ → Sym) (j c : ℕ) → (get_or places c 0 ≡ j → ⊥) → at_place places values j c ≡ gf64.zero
 elsewhere places values j c other = cond-false (eqb (get_or places c 0) j) (values c) gf64.zero (ne_eqb (get_or places c 0) j other)
 
 -- the power sums of values at their places are those over the places alone

@@ -1,9 +1,9 @@
 pub mod PlaceFacts
 pub mod ErrorFacts
-pub mod LocatorFacts
 pub mod ReadingFacts
 pub mod Encoding
 pub mod Encoders
 pub mod MarksLaws
 pub mod LocatorLaws
 pub mod LaneSteps
+pub mod ErrorsSteps

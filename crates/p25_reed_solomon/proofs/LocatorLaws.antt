@@ -31,7 +31,7 @@ point_ne_zero : (n j : ℕ) → point_of n j ≢ gf64.zero
 point_ne_zero n j = inverse_ne_zero gf64 (element_of n j) (element_ne_zero n j)
 
 -- functions of equal values are equal
-same_function : (f g : ℕ → Sym) → ((i : ℕ) → f i ≡ g i) → f ≡ g
+pub same_function : (f g : ℕ → Sym) → ((i : ℕ) → f i ≡ g i) → f ≡ g
 same_function f g e = λ i k. e k i
 
 -- the first 32 coefficients of a short polynomial are all

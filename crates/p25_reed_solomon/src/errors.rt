@@ -29,13 +29,14 @@ pub(crate) fn find_errors(syndromes: &[Sym], checks: usize, erased: &[bool], out
     let mut evaluator = [Sym::default(); 32];
     let most = locate(syndromes, checks, erased, &mut locator, &mut evaluator);
     let locator = &locator[..most + 1];
-    let places = zeros(locator, n);
+    let listed = zeros(locator, n);
+    let places = listed.as_slice();
     let mut values = [Sym::default(); 32];
-    fill_errors(locator, &evaluator[..most], n, places.as_slice(), &mut values);
-    if !are_sums(&syndromes[..checks], n, places.as_slice(), &values) {
+    fill_errors(locator, &evaluator[..most], n, places, &mut values);
+    if !are_sums(&syndromes[..checks], n, places, &values) {
         return false;
     }
-    place(places.as_slice(), &values, out);
+    place(places, &values, out);
     true
 }
 

@@ -24,7 +24,7 @@ pub(crate) fn are_sums(syndromes: &[Sym], n: usize, places: &[usize], values: &[
     terms.copy_from_slice(values);
     for syndrome in syndromes {
         multiply(&mut terms, &elements);
-        if sum(&terms) != *syndrome {
+        if !sum(&terms).add(*syndrome).is_zero() {
             return false;
         }
     }
