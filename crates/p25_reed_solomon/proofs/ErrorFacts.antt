@@ -71,7 +71,7 @@ nonzeros_bump (suc n) q f g same =
           omega (arith, nonzeros_bump n q f g same, same_weight)
     ]
 
-zeros_count : (n : ℕ) (f : ℕ → Sym) → ((j : ℕ) → f j ≡ gf64.zero) → nonzeros gf64 n f ≤ 0
+pub zeros_count : (n : ℕ) (f : ℕ → Sym) → ((j : ℕ) → f j ≡ gf64.zero) → nonzeros gf64 n f ≤ 0
 unfolding nonzeros
 zeros_count zero f none = omega arith
 zeros_count (suc n) f none = omega (arith, zeros_count n f none, elim (gf64.is_zero (f n)) as (λ w. weight_by w ≡ 0) [ inl same ↦ refl | inr other ↦ absurd (other (none n)) ])

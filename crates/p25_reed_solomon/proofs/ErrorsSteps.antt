@@ -1,6 +1,6 @@
 -- The errors that a locator gives: any errors that explain the syndromes stand at its zeros and have the values that Forney's formula
 -- gives there; and values at its zeros with the right power sums explain the syndromes, since each mark is one of few zeros.
-use Rattle.std.proofs.Common.{◌≡◌, ◌≢◌, ℕ, zero, suc, ◌+◌, ◌-◌, ◌*◌, ◌<◌, ◌≤◌, Bool, true, false, cond, List, length, take, get_or, inl, inr, refl, ap, ap₂, sym, ◌∙◌, subst, arith}
+use Rattle.std.proofs.Common.{◌≡◌, ◌≢◌, ℕ, zero, suc, ◌+◌, ◌*◌, ◌<◌, ◌≤◌, Bool, cond, List, length, take, get_or, inl, inr, ap, ap₂, sym, ◌∙◌, subst, arith}
 use Rattle.std.proofs.lemmas.Bool.{cases_eq, cases_lt, cases_Bool, cond-true, cond-false}
 use Rattle.std.proofs.lemmas.List.{get_or-take, length-take}
 use Rattle.p25_gf64.specs.declared.symbol.Sym.{Sym}
@@ -8,7 +8,7 @@ use Rattle.p25_gf64.specs.Field.{power}
 use Rattle.p25_gf64.specs.Gf64.{gf64}
 use Rattle.p25_gf64.proofs.FieldFacts.{add_zero, mul_comm, mul_cancel}
 use Rattle.p25_algebra.specs.Sums.{sum_below, power_sum, nonzeros, weight_by}
-use Rattle.p25_algebra.specs.Series.{coefficient, value_at, slope_at, IsZero}
+use Rattle.p25_algebra.specs.Series.{coefficient, value_at, slope_at}
 use Rattle.p25_algebra.proofs.SumFacts.{sum-none, sum-suc, sum_same}
 use Rattle.p25_algebra.proofs.Vanishing.{nonzeros-suc, weight_zero, weight_one}
 use Rattle.p25_algebra.proofs.Values.{value_same}

@@ -7,3 +7,4 @@ pub mod MarksLaws
 pub mod LocatorLaws
 pub mod LaneSteps
 pub mod ErrorsSteps
+pub mod MarkedWords

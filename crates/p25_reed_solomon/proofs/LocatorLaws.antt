@@ -1,7 +1,7 @@
 -- A solution of the key equation of the lowered syndromes, times a factor for each mark, is a locator. The wrong places without a mark
 -- are zeros of the key's locator; its zeros have slopes, since key and evaluator have no zero in common; and a factor more keeps the
 -- slopes of old zeros and makes a new zero with a slope.
-use Rattle.std.proofs.Common.{◌≡◌, ◌≢◌, ℕ, zero, suc, ◌+◌, ◌-◌, ◌*◌, ◌/◌, ◌<◌, ◌≤◌, Bool, true, false, List, length, take, drop, refl, sym, ap, ap₂, ◌∙◌, subst, inl, inr, arith}
+use Rattle.std.proofs.Common.{◌≡◌, ◌≢◌, ℕ, zero, suc, ◌+◌, ◌-◌, ◌*◌, ◌/◌, ◌<◌, ◌≤◌, Bool, true, false, List, length, take, drop, sym, ap, ap₂, ◌∙◌, subst, inl, inr, arith}
 use Rattle.std.proofs.lemmas.Bool.{cases_eq, cases_lt, cases_Bool, both_ways}
 use Rattle.std.proofs.lemmas.List.{get_or-take, get_or-drop, length-take, length-drop}
 use Rattle.p25_gf64.specs.declared.symbol.Sym.{Sym}
@@ -10,7 +10,7 @@ use Rattle.p25_gf64.specs.Gf64.{gf64}
 use Rattle.p25_gf64.proofs.Powers.{power-zero}
 use Rattle.p25_gf64.proofs.FieldFacts.{add_comm, zero_add, mul_comm, mul_one, mul_zero, zero_mul, mul_ne_zero, other_zero, inverse_ne_zero}
 use Rattle.p25_algebra.specs.Sums.{power_sum, nonzeros}
-use Rattle.p25_algebra.specs.Series.{coefficient, value_at, product_at, shifted, slope_at, times_linear, IsZero, IsShort}
+use Rattle.p25_algebra.specs.Series.{coefficient, value_at, product_at, shifted, slope_at, IsZero, IsShort}
 use Rattle.p25_algebra.proofs.SumFacts.{sum_of_one}
 use Rattle.p25_algebra.proofs.Values.{value-none, value_same}
 use Rattle.p25_algebra.proofs.Products.{product_agree, product_same, product_same_left, product_comm, product_first, product_at_zero}
@@ -23,7 +23,7 @@ use Rattle.p25_poly.specs.Polynomial.{coefficient_of}
 use Rattle.p25_poly.specs.Key.{IsKey}
 use Rattle.p25_poly.proofs.Coefficients.{coefficient_past}
 use Rattle.p25_reed_solomon.specs.ElementFacts.{elements_apart, element_ne_zero}
-use Rattle.p25_reed_solomon.specs.Errors.{element_of, point_of, is_marked, marks_below, unmarked, Explains}
+use Rattle.p25_reed_solomon.specs.Errors.{element_of, point_of, is_marked, marks_below, Explains}
 use Rattle.p25_reed_solomon.specs.Locator.{times_marks, IsLocator}
 use Rattle.p25_reed_solomon.proofs.MarksLaws.{marks_below-none, marks_below-marked, marks_below-plain, times_marks-none, times_marks-marked, times_marks-plain, short_times_marks, zero_from_times_marks, product-times_marks, point_inverse, factor_ne_zero, value-times_marks, value-times_plain, zero_stays, mark_vanishes, lowered_by, lowered_sums, lowered_zero, lowered_gone, lowered_kept, nonzeros-lowered}
 

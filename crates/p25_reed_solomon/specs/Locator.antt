@@ -1,8 +1,8 @@
 -- Locators of the places of a received word that are marked or wrong, and their evaluators.
-use Rattle.std.specs.Prelude.{◌≡◌, ◌≢◌, ℕ, zero, suc, ◌+◌, ◌-◌, ◌<◌, ◌≤◌, Bool, true, false, List, cond}
+use Rattle.std.specs.Prelude.{◌≡◌, ◌≢◌, ℕ, zero, suc, ◌+◌, ◌<◌, Bool, true, false, List, cond}
 use Rattle.p25_gf64.specs.declared.symbol.Sym.{Sym}
 use Rattle.p25_gf64.specs.Gf64.{gf64}
-use Rattle.p25_algebra.specs.Series.{coefficient, value_at, slope_at, times_linear, IsZero, IsShort}
+use Rattle.p25_algebra.specs.Series.{value_at, slope_at, times_linear, IsZero, IsShort}
 use Rattle.p25_reed_solomon.specs.Errors.{element_of, point_of, is_marked, Explains}
 
 -- a polynomial times 1 + x times the element of each marked place below `upto`, among n

@@ -1,9 +1,9 @@
-use Rattle.std.proofs.Common.{◌≡◌, ℕ, List, ◌+◌, ◌*◌, ◌≤◌, ◌<◌, length, take, get_or, ap, sym, subst, ◌∙◌, arith}
+use Rattle.std.proofs.Common.{◌≡◌, ℕ, List, ◌+◌, ◌≤◌, ◌<◌, length, take, ap, sym, subst, ◌∙◌, arith}
 use Rattle.std.proofs.lemmas.Bool.{both_ways}
 use Rattle.std.proofs.lemmas.List.{get_or-take, length-take}
 use Rattle.p25_gf64.specs.Gf64.{gf64}
 use Rattle.p25_algebra.specs.Series.{coefficient}
-use Rattle.p25_reed_solomon.specs.Errors.{AreZeros, placed}
+use Rattle.p25_reed_solomon.specs.Errors.{AreZeros}
 use Rattle.p25_reed_solomon.proofs.ErrorsSteps.{part_is_locator, value_is_error, sums_of_errors, placed_explains}
 use Rattle.p25_reed_solomon.proofs.errors.find_errors.Goals as goal
 

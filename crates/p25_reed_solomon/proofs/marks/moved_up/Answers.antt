@@ -1,6 +1,4 @@
-use Rattle.std.proofs.Common.{◌≡◌, ℕ, zero, suc, ◌+◌, ap, sym, ◌∙◌, inl, inr, arith}
-use Rattle.p25_gf64.specs.Gf64.{gf64}
-use Rattle.p25_algebra.specs.Series.{coefficient}
+use Rattle.std.proofs.Common.{arith}
 use Rattle.p25_reed_solomon.proofs.LaneSteps.{moved_everywhere}
 use Rattle.p25_reed_solomon.proofs.marks.moved_up.Goals as goal
 

@@ -1,5 +1,4 @@
 use Rattle.std.proofs.Common.{suc, ◌≡◌, ◌+◌, ap, ap₂, sym, ◌∙◌, arith}
-use Rattle.std.proofs.lemmas.List.{get_or_default}
 use Rattle.p25_gf64.specs.Gf64.{gf64}
 use Rattle.p25_algebra.specs.Sums.{sum_below}
 use Rattle.p25_algebra.specs.Series.{coefficient}

@@ -1,5 +1,5 @@
-use Rattle.std.proofs.Common.{◌-◌, length, replicate, ap, ap₂, sym, ◌∙◌, refl, arith}
-use Rattle.std.proofs.lemmas.List.{get_or_default, length-replicate}
+use Rattle.std.proofs.Common.{◌-◌, length, ap₂, sym, ◌∙◌, arith}
+use Rattle.std.proofs.lemmas.List.{length-replicate}
 use Rattle.p25_gf64.specs.Gf64.{gf64}
 use Rattle.p25_algebra.specs.Series.{coefficient, rest_at}
 use Rattle.p25_poly.proofs.Coefficients.{coefficient_blank, coefficient_read, horner_step}
