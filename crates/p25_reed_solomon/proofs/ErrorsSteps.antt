@@ -70,13 +70,25 @@ nonzeros-with_marks zero erased errors = omega (arith, nonzeros-none (with_marks
 nonzeros-with_marks (suc n) erased errors =
     elim (cases_Bool (is_marked erased n)) [
       | inl here ↦
-          omega (arith, nonzeros-with_marks n erased errors, nonzeros-suc gf64 n (with_marks erased errors), nonzeros-suc gf64 n (unmarked erased errors), marks_below-marked erased n here,
-          weight_one gf64 (with_marks erased errors n) (λ none. gf64.laws.one_ne_zero (sym (cond-true (is_marked erased n) gf64.one (errors n) here) ∙ none)),
-          weight_zero gf64 (unmarked erased errors n) (cond-true (is_marked erased n) gf64.zero (errors n) here))
+          omega (
+            arith,
+            nonzeros-with_marks n erased errors,
+            nonzeros-suc gf64 n (with_marks erased errors),
+            nonzeros-suc gf64 n (unmarked erased errors),
+            marks_below-marked erased n here,
+            weight_one gf64 (with_marks erased errors n) (λ none. gf64.laws.one_ne_zero (sym (cond-true (is_marked erased n) gf64.one (errors n) here) ∙ none)),
+            weight_zero gf64 (unmarked erased errors n) (cond-true (is_marked erased n) gf64.zero (errors n) here),
+          )
       | inr plain ↦
           let same : with_marks erased errors n ≡ unmarked erased errors n = cond-false (is_marked erased n) gf64.one (errors n) plain ∙ sym (cond-false (is_marked erased n) gf64.zero (errors n) plain) in
-          omega (arith, nonzeros-with_marks n erased errors, nonzeros-suc gf64 n (with_marks erased errors), nonzeros-suc gf64 n (unmarked erased errors), marks_below-plain erased n plain,
-          ap {B = ℕ} (λ (s : Sym). weight_by (gf64.is_zero s)) same)
+          omega (
+            arith,
+            nonzeros-with_marks n erased errors,
+            nonzeros-suc gf64 n (with_marks erased errors),
+            nonzeros-suc gf64 n (unmarked erased errors),
+            marks_below-plain erased n plain,
+            ap {B = ℕ} (λ (s : Sym). weight_by (gf64.is_zero s)) same,
+          )
     ]
 
 module _ (n checks most : ℕ) (syndromes locator evaluator : List Sym) (erased : List Bool) (places : List ℕ) (long : length locator ≡ most + 1) (high : length evaluator ≡ most) (is : IsLocator n checks syndromes erased most (coefficient gf64 locator) (coefficient gf64 evaluator)) (are : AreZeros n locator n places) where

@@ -122,10 +122,10 @@ module _ (n checks half : ℕ) (syndromes symbols : List Sym) (erased : List Boo
           | inr something ↦
               let slope = slope_at gf64 (half + 1) (coefficient_of locator) (point_of n j) in
               let product = forney gf64 n half (element_of n) left (coefficient_of locator) (coefficient gf64 symbols) (omega arith) (elements_apart n places) (λ l h. element_ne_zero n l) key_short (λ i low. sums_left i (omega arith)) key_vanishes j inside none in
-              let value = value_same gf64 half (product_at gf64 (coefficient_of locator) (coefficient gf64 symbols)) (coefficient_of evaluator) (point_of n j) (λ i low. key.equation i (omega (arith, long))) in
-              (
-              (λ gone. apart (point_of n j) (point_ne_zero n j) none (sym value ∙ sym product ∙ ap (λ w. gf64.mul w slope) gone ∙ zero_mul gf64 slope)),
-              (λ flat. apart (point_of n j) (point_ne_zero n j) none (sym value ∙ sym product ∙ ap (gf64.mul (left j)) flat ∙ mul_zero gf64 (left j))))
+              let value = value_same gf64 half (product_at gf64 (coefficient_of locator) (coefficient gf64 symbols)) (coefficient_of evaluator) (point_of n j) (λ i low. key.equation i (omega (arith, long))) in (
+                (λ gone. apart (point_of n j) (point_ne_zero n j) none (sym value ∙ sym product ∙ ap (λ w. gf64.mul w slope) gone ∙ zero_mul gf64 slope)),
+                (λ flat. apart (point_of n j) (point_ne_zero n j) none (sym value ∙ sym product ∙ ap (gf64.mul (left j)) flat ∙ mul_zero gf64 (left j))),
+              )
         ]
 
     -- a marked place is no zero before its factor

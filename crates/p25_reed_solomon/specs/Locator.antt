@@ -18,11 +18,11 @@ pub record IsLocator (n checks : ℕ) (syndromes : List Sym) (erased : List Bool
   pub nonzero : IsZero gf64 locator → ⊥
   pub marked : (j : ℕ) → j < n → is_marked erased j ≡ true → value_at gf64 (most + 1) locator (point_of n j) ≡ gf64.zero
   pub wrong : (errors : ℕ → Sym) → Explains n checks syndromes erased errors → (j : ℕ) → j < n → errors j ≢ gf64.zero
-    → value_at gf64 (most + 1) locator (point_of n j) ≡ gf64.zero
+      → value_at gf64 (most + 1) locator (point_of n j) ≡ gf64.zero
   pub slope : (errors : ℕ → Sym) → Explains n checks syndromes erased errors → (j : ℕ) → j < n
-    → value_at gf64 (most + 1) locator (point_of n j) ≡ gf64.zero → slope_at gf64 (most + 1) locator (point_of n j) ≢ gf64.zero
+      → value_at gf64 (most + 1) locator (point_of n j) ≡ gf64.zero → slope_at gf64 (most + 1) locator (point_of n j) ≢ gf64.zero
   pub value : (errors : ℕ → Sym) → Explains n checks syndromes erased errors → (j : ℕ) → j < n
-    → value_at gf64 (most + 1) locator (point_of n j) ≡ gf64.zero
-    → gf64.mul (errors j) (slope_at gf64 (most + 1) locator (point_of n j)) ≡ value_at gf64 most evaluator (point_of n j)
+      → value_at gf64 (most + 1) locator (point_of n j) ≡ gf64.zero
+      → gf64.mul (errors j) (slope_at gf64 (most + 1) locator (point_of n j)) ≡ value_at gf64 most evaluator (point_of n j)
   pub found : (errors : ℕ → Sym) → Explains n checks syndromes erased errors → (j : ℕ) → j < n → is_marked erased j ≡ false
-    → value_at gf64 (most + 1) locator (point_of n j) ≡ gf64.zero → errors j ≢ gf64.zero
+      → value_at gf64 (most + 1) locator (point_of n j) ≡ gf64.zero → errors j ≢ gf64.zero

@@ -13,7 +13,12 @@ use crate::zeros::zeros;
 use p25_gf64::Sym;
 
 // Sets `out` to errors that explain the first `checks` syndromes of a word with these marks, and answers true, exactly where some do.
-pub(crate) fn find_errors(syndromes: &[Sym], checks: usize, erased: &[bool], out: &mut [Sym]) -> bool
+pub(crate) fn find_errors(
+    syndromes: &[Sym],
+    checks: usize,
+    erased: &[bool],
+    out: &mut [Sym],
+) -> bool
     requires places { length erased.now ≤ 63 }
     requires marks { marks_below erased.now (length erased.now) ≤ checks }
     requires some { 2 ≤ checks }

@@ -14,7 +14,13 @@ use p25_poly::{Key, Poly, key_solve};
 
 // Sets `locator` and `evaluator` to a locator of the first `checks` syndromes of a word with marks, and its evaluator: the solution
 // of the key equation of the syndromes times the factor of each mark, and this factor again.
-pub(crate) fn locate(syndromes: &[Sym], checks: usize, erased: &[bool], locator: &mut [Sym], evaluator: &mut [Sym]) -> usize
+pub(crate) fn locate(
+    syndromes: &[Sym],
+    checks: usize,
+    erased: &[bool],
+    locator: &mut [Sym],
+    evaluator: &mut [Sym],
+) -> usize
     requires places { length erased.now ≤ 63 }
     requires marks { marks_below erased.now (length erased.now) ≤ checks }
     requires some { 2 ≤ checks }

@@ -11,7 +11,13 @@ use p25_gf64::Sym;
 
 // Sets `out` to the errors at listed places among n, and zeros behind them. Times the locator's slope at the point of its place, where
 // this isn't zero, each is the evaluator's value there.
-pub(crate) fn fill_errors(locator: &[Sym], evaluator: &[Sym], n: usize, places: &[usize], out: &mut [Sym])
+pub(crate) fn fill_errors(
+    locator: &[Sym],
+    evaluator: &[Sym],
+    n: usize,
+    places: &[usize],
+    out: &mut [Sym],
+)
     requires places { n ≤ 63 }
     requires few { length places.now ≤ 24 }
     requires inside { (c : ℕ) → c < length places.now → slice_index_or places.now c 0 < n }

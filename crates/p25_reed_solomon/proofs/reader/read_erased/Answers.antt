@@ -31,7 +31,7 @@ returns-then-all_zero c =
     let k = c.args.k in
     record {
       word_of_set = without_errors n k c.args.word.now c.fill_syndromes.new.out refl (λ r low. c.fill_syndromes.ensures.values r (omega (arith, c.requires.code.few)))
-      (λ r low. sym (get_or-take (n - k) c.fill_syndromes.new.out r gf64.zero low) ∙ c.all_zero.ensures.0 c.if-all_zero.true r (omega (arith, length-take (n - k) c.fill_syndromes.new.out, c.requires.code.few)));
+          (λ r low. sym (get_or-take (n - k) c.fill_syndromes.new.out r gf64.zero low) ∙ c.all_zero.ensures.0 c.if-all_zero.true r (omega (arith, length-take (n - k) c.fill_syndromes.new.out, c.requires.code.few)));
       fixes_is = sym (distance_by-same same_symbols same_symbols-same c.args.word.now);
       within = omega (arith, cost_of_received n c.args.word.now c.args.erased.now refl c.requires.erased, c.count_marks.ensures.count, ap (marks_below c.args.erased.now) c.requires.erased);
     }
