@@ -1,12 +1,11 @@
 //! The BCH code (63,16).
 
-ghost use Rattle.p25_code.specs.Letters.{same_bit};
 ghost use Rattle.p25_bch_nid.specs.Bch63.{IsBch63};
-ghost use Rattle.p25_bch_nid.specs.Bch63Laws.{length_of_word, one_word, far_apart, within, begins};
+ghost use Rattle.p25_bch_nid.specs.Bch63Laws.{bch63_is_code};
 ghost use Rattle.p25_bch_nid.specs.Bch63Readings.{bch63_reading_of, bch63_reads_as};
 
-use crate::bits::{are_bits, number_of, put_bits, put_number, put_symbols};
-use p25_bits::number_remainder;
+use crate::symbols::{are_bits, put_bits, put_symbols};
+use p25_bits::{number_of, number_remainder, put_number};
 use p25_code::{BlockCode, Reading};
 use p25_gf64::Sym;
 use p25_reed_solomon::Rs;
@@ -45,17 +44,17 @@ impl BlockCode for Bch63 {
 
     ghost reads_as = { λ _. bch63_reads_as };
 
-    ghost same_letter = { same_bit };
+    ghost same_letter = { bch63_is_code.alike };
 
-    ghost length_of_word = { λ _. length_of_word };
+    ghost length_of_word = { λ _. bch63_is_code.long };
 
-    ghost one_word = { λ _. one_word };
+    ghost one_word = { λ _. bch63_is_code.one_word };
 
-    ghost far_apart = { λ _. far_apart };
+    ghost far_apart = { λ _. bch63_is_code.far_apart };
 
-    ghost within = { λ _. within };
+    ghost within = { λ _. bch63_is_code.close };
 
-    ghost begins = { λ _. begins };
+    ghost begins = { λ _. bch63_is_code.begins };
 
     fn radius() -> usize {
         RADIUS

@@ -17,17 +17,17 @@
 #![tactic(auto)]
 
 mod bch63;
-mod bits;
 mod laws;
 mod nid;
 mod reading;
-mod word;
+mod sent;
+mod symbols;
 
 pub use bch63::Bch63;
-pub use laws::two_forms;
+pub use laws::{reading_laws, two_forms};
 pub use nid::Nid;
 pub use reading::read_nid;
-pub use word::nid_bits;
+pub use sent::nid_bits;
 
 #[cfg(test)]
 mod tests;

@@ -1,7 +1,7 @@
 //! Values from outside, and each call once.
 
 use super::*;
-use crate::bits::{number_of, put_number};
+use p25_bits::{number_of, put_number};
 use p25_code::{BlockCode, Reading};
 
 // An identifier and the 64 bits that it is sent as. P, the last bit, is 1 for DUID 5 and A hex alone.

@@ -4,7 +4,7 @@
 mod bit_buf;
 mod division;
 mod numbers;
-mod slices;
+mod words;
 
 pub use bit_buf::{BITS_MOST, BitBuf};
 pub use division::{next_remainder, number_remainder};

@@ -12,6 +12,7 @@ ghost use Rattle.p25_code.specs.Words.{IsReading};
 ghost use Rattle.p25_code.specs.Binary.{syndrome_of, systematic, IsChecked, IsCorrection};
 
 use crate::code::Reading;
+use p25_bits::put_number;
 
 // Answers the sum over GF(2) of the columns at whose places the word is 1.
 fn syndrome(columns: &[u16], word: &[bool]) -> u16
@@ -27,17 +28,6 @@ fn syndrome(columns: &[u16], word: &[bool]) -> u16
     sum
 }
 
-// Sets the bits to those of a number, highest first.
-fn put_bits(number: u16, bits: &mut [bool])
-    requires { length bits.old ≤ 16 }
-    ensures { bits.new ≡ bits_of (length bits.old) number }
-{
-    let width = bits.len();
-    for (i, bit) in bits.iter_mut().enumerate() {
-        *bit = (number >> (width - 1 - i)) & 1 == 1;
-    }
-}
-
 /// Sets `word` to the information followed by its check bits: the sum over GF(2) of the rows at whose places the
 /// information is 1, highest bit first. The word has room for the information and at most 16 check bits.
 pub fn encode_systematic(rows: &[u16], info: &[bool], word: &mut [bool])
@@ -48,7 +38,7 @@ pub fn encode_systematic(rows: &[u16], info: &[bool], word: &mut [bool])
 {
     let (front, checks) = word.split_at_mut(info.len());
     front.copy_from_slice(info);
-    put_bits(syndrome(rows, info), checks);
+    put_number(u64::from(syndrome(rows, info)), checks);
 }
 
 // Changes at most `budget` bits so that the syndrome changes by `sum`. Answers how many, or None where no such change

@@ -1,5 +1,7 @@
 pub mod RateSteps
 pub mod InterleaveLaws
+pub mod QueueSteps
+pub mod PathSteps
 pub mod Paths
 pub mod Costs
 pub mod FirstPath

@@ -6,7 +6,6 @@ ghost use Rattle.p25_trellis.specs.Trellis.{IsBlock, IsFirstLeastReading, IsNear
 ghost use Rattle.p25_trellis.specs.Least.{IsDistanceTable};
 ghost use Rattle.p25_trellis.specs.Nearest.{nearest_octets, nearest_distance, block_from};
 
-use super::fields::{put_numbers, take_numbers};
 use super::interleave::{gather, spread};
 use super::least::{BLOCK_COSTS, read_costs};
 use super::path::{nibbles_of, path_of};
@@ -24,7 +23,7 @@ pub fn encode_block<R: Rate>(octets: &[u8], out: &mut BitBuf)
     ensures len { length out.new ≡ length out.old + 196 }
 {
     let path = path_of::<R>(octets);
-    put_numbers(out, &spread(&nibbles_of::<R>(&path)), 4);
+    out.put_numbers(&spread(&nibbles_of::<R>(&path)), 4);
 }
 
 // The table of costs where a nibble costs its distance from the one received at its step.
@@ -54,7 +53,7 @@ pub fn read_block<R: Rate>(bits: &BitBuf, at: usize, octets: &mut [u8]) -> u32
     ensures near { IsNearReading R.STATES R.BITS_PER_SYMBOL R.point_of R.APART (part at 196 bits.now) octets.new result }
 {
     let mut received = [0; 49];
-    take_numbers(bits, at, 4, &mut received, 49);
+    bits.take_numbers(at, 4, &mut received);
     read_costs::<R>(&distance_costs(&gather(&received)), octets)
 }
 

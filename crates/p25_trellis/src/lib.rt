@@ -19,11 +19,11 @@
 #![tactic(auto)]
 
 mod block;
-mod fields;
 mod interleave;
 mod laws;
 mod least;
 mod path;
+mod queue;
 mod rate;
 
 pub use block::{encode_block, read_block};

@@ -1,5 +1,5 @@
 use Rattle.std.proofs.Common.{◌<◌, refl, arith}
-use Rattle.p25_code.proofs.Corrections.{nothing_to_do, no_budget, no_columns, first_kept, first_flipped, first_given_up, fixes_within, of_parts}
+use Rattle.p25_code.proofs.BinarySteps.{nothing_to_do, no_budget, no_columns, first_kept, first_flipped, first_given_up, fixes_within, of_parts}
 use Rattle.p25_code.proofs.binary.+correct.Goals as goal
 
 pub returns-then-sum-eq0 : goal.returns-then-sum-eq0

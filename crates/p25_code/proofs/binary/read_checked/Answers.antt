@@ -1,4 +1,4 @@
-use Rattle.p25_code.proofs.Corrections.{corrected, uncorrected}
+use Rattle.p25_code.proofs.BinarySteps.{corrected, uncorrected}
 use Rattle.p25_code.proofs.binary.read_checked.Goals as goal
 
 pub returns-in-Some : goal.returns-in-Some

@@ -4,8 +4,8 @@ use Rattle.std.proofs.lemmas.Bool.{false≢true}
 use Rattle.p25_code.specs.Words.{IsReading}
 use Rattle.p25_reed_solomon.specs.Words.{IsWord, same_symbols}
 use Rattle.p25_bch_nid.specs.Bch63.{IsBch63}
-use Rattle.p25_bch_nid.specs.BitSymbols.{AreBits}
-use Rattle.p25_bch_nid.proofs.SymbolReadings.{reading_of_bits, reading_of_others}
+use Rattle.p25_bch_nid.specs.Bch63Symbols.{AreBits}
+use Rattle.p25_bch_nid.proofs.Bch63Steps.{reading_of_bits, reading_of_others}
 use Rattle.p25_bch_nid.proofs.bch63.Bch63BlockCode.read.Goals as goal
 
 pub returns-then-not-are_bits : goal.returns-then-not-are_bits

@@ -1,6 +1,6 @@
 use Rattle.std.proofs.Common.{refl}
 use Rattle.p25_code.specs.Binary.{check_columns}
-use Rattle.p25_code.proofs.BinaryCodes.{reads}
+use Rattle.p25_code.proofs.BinaryLaws.{reads}
 use Rattle.p25_golay.specs.Golay24.{IsGolay24}
 use Rattle.p25_golay.specs.Golay24Laws.{code, to_checked, from_checked}
 use Rattle.p25_golay.proofs.golay24.Golay24BlockCode.read.Goals as goal

@@ -1,6 +1,6 @@
 use Rattle.std.proofs.Common.{refl}
 use Rattle.p25_code.specs.Binary.{check_columns}
-use Rattle.p25_code.proofs.BinaryCodes.{reads}
+use Rattle.p25_code.proofs.BinaryLaws.{reads}
 use Rattle.p25_hamming.specs.Hamming10.{IsHamming10}
 use Rattle.p25_hamming.specs.Hamming10Laws.{code, to_checked, from_checked}
 use Rattle.p25_hamming.proofs.hamming10.Hamming10BlockCode.read.Goals as goal

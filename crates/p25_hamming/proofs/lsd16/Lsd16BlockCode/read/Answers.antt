@@ -1,6 +1,6 @@
 use Rattle.std.proofs.Common.{refl}
 use Rattle.p25_code.specs.Binary.{check_columns}
-use Rattle.p25_code.proofs.BinaryCodes.{reads}
+use Rattle.p25_code.proofs.BinaryLaws.{reads}
 use Rattle.p25_hamming.specs.Lsd16.{IsLsd16}
 use Rattle.p25_hamming.specs.Lsd16Laws.{code, to_checked, from_checked}
 use Rattle.p25_hamming.proofs.lsd16.Lsd16BlockCode.read.Goals as goal

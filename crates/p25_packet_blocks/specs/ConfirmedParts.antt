@@ -1,0 +1,9 @@
+-- What contracts see of a confirmed packet: its parts alone.
+use Rattle.std.specs.Prelude.{List}
+use Rattle.p25_packet_blocks.specs.declared.head.PacketHead.{PacketHead}
+use Rattle.p25_packet_blocks.specs.declared.block.Slot.{Slot}
+
+-- the header of a confirmed packet, and a slot for each block to follow
+pub record ConfirmedParts : Type 0 where
+  pub head : PacketHead
+  pub slots : List Slot

@@ -1,0 +1,58 @@
+-- The fields of a packet header's ten octets, and the headers that this project's stations send.
+use Rattle.std.specs.Prelude.{ℕ, ◌+◌, ◌*◌, ◌/◌, ◌%◌, Bool, cond, eqb, [], ◌∷◌, slice_index}
+use Rattle.p25_packet_blocks.specs.declared.head.PacketHead.{PacketHead}
+
+-- the format: the last five bits of octet 0
+unfoldable pub head_format : PacketHead → ℕ
+head_format head = slice_index head.0 0 % 32
+
+-- the full message flag: the first bit of octet 6
+unfoldable pub head_is_full : PacketHead → Bool
+head_is_full head = eqb (slice_index head.0 6 / 128) 1
+
+-- the number of blocks to follow: the last seven bits of octet 6
+unfoldable pub head_blocks : PacketHead → ℕ
+head_blocks head = slice_index head.0 6 % 128
+
+-- the pad count: the last five bits of octet 7
+unfoldable pub head_pad : PacketHead → ℕ
+head_pad head = slice_index head.0 7 % 32
+
+-- the LLID: octets 3 to 5
+unfoldable pub head_llid : PacketHead → ℕ
+head_llid head = 65536 * slice_index head.0 3 + 256 * slice_index head.0 4 + slice_index head.0 5
+
+-- Syn: the first bit of octet 8
+unfoldable pub head_syn : PacketHead → Bool
+head_syn head = eqb (slice_index head.0 8 / 128) 1
+
+-- N(S): the three bits of octet 8 after the first
+unfoldable pub head_number : PacketHead → ℕ
+head_number head = slice_index head.0 8 / 16 % 8
+
+-- of a response its class: the first two bits of octet 1
+unfoldable pub response_class : PacketHead → ℕ
+response_class head = slice_index head.0 1 / 64
+
+-- of a response its type: the three bits of octet 1 after the class
+unfoldable pub response_kind : PacketHead → ℕ
+response_kind head = slice_index head.0 1 / 8 % 8
+
+-- of a response its status: the last three bits of octet 1
+unfoldable pub response_status : PacketHead → ℕ
+response_status head = slice_index head.0 1 % 8
+
+-- the header of a confirmed packet, by its LLID, full message flag, blocks to follow, pad count and N(S)
+unfoldable pub confirmed_head : ℕ → Bool → ℕ → ℕ → ℕ → PacketHead
+confirmed_head llid full blocks pad number =
+    record { 0 = 0x56 ∷ 0xC0 ∷ 0 ∷ llid / 65536 ∷ llid / 256 % 256 ∷ llid % 256 ∷ (cond full 128 0 + blocks) ∷ pad ∷ (16 * number + 8) ∷ 0 ∷ [] }
+
+-- the header of a response, by its LLID, class, type, status and blocks to follow
+unfoldable pub response_head : ℕ → ℕ → ℕ → ℕ → ℕ → PacketHead
+response_head llid class kind status blocks =
+    record { 0 = 0x23 ∷ (64 * class + 8 * kind + status) ∷ 0 ∷ llid / 65536 ∷ llid / 256 % 256 ∷ llid % 256 ∷ (128 + blocks) ∷ 0 ∷ 0 ∷ 0 ∷ [] }
+
+-- the header of the packet that opens a link, by its LLID and number: a confirmed packet of no blocks with Syn
+unfoldable pub opening_head : ℕ → ℕ → PacketHead
+opening_head llid number =
+    record { 0 = 0x56 ∷ 0xC0 ∷ 0 ∷ llid / 65536 ∷ llid / 256 % 256 ∷ llid % 256 ∷ 0x80 ∷ 0 ∷ (0x88 + 16 * number) ∷ 0 ∷ [] }

@@ -1,0 +1,22 @@
+-- Packets of which nothing failed.
+use Rattle.std.specs.Prelude.{◌≢◌, ℕ, ◌<◌, List, length}
+use Rattle.std.proofs.Common.{get_or}
+use Rattle.p25_packet_blocks.specs.declared.head.PacketHead.{PacketHead}
+use Rattle.p25_packet_blocks.specs.declared.block.Slot.{Slot}
+use Rattle.p25_packet_blocks.specs.declared.block.Slot.TheVariants.{Bad}
+use Rattle.p25_packet_blocks.specs.declared.packet.Packet.{Packet}
+use Rattle.p25_packet_blocks.specs.declared.packet.Packet.TheVariants.{Confirmed, Plain}
+
+-- the header of a packet
+abbrev pub packet_head : Packet → PacketHead
+packet_head (Confirmed packet) = packet.head
+packet_head (Plain packet) = packet.head
+
+-- no slot is Bad
+pub record AreGood (slots : List Slot) : Type 0 where
+  pub at : (j : ℕ) → j < length slots → get_or slots j Bad ≢ Bad
+
+-- no slot of a packet is Bad
+unfoldable pub IsWholePacket : Packet → Type 0
+IsWholePacket (Confirmed packet) = AreGood packet.slots
+IsWholePacket (Plain packet) = Unit {0}

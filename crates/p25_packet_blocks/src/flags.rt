@@ -1,0 +1,131 @@
+ghost use Rattle.std.specs.Prelude.{◌≡◌, ◌+◌, ◌*◌, ◌<◌, ◌≤◌, ◌⊎◌, ◌↔◌, false, [], ◌∷◌, ◌++◌, length, replicate, slice_get, slice_set, Some, IsSome};
+ghost use Rattle.p25_bits.specs.Bits.{octet_bits};
+ghost use Rattle.p25_bits.specs.Numbers.{octets_from};
+ghost use Rattle.p25_packet_blocks.specs.FlagOctets.{flag_octets, flags_of_octets};
+
+use crate::octets::Octets;
+use p25_bits::BitBuf;
+use std::marker::Model;
+
+/// The flags of a selective retry, one for each block of a message: true means that the block was received. There are 64
+/// or 128.
+#[derive(Drop)]
+pub struct Flags {
+    flags: [bool; 128],
+    count: usize,
+}
+
+impl Model for Flags {
+    ghost use Rattle.std.specs.Prelude.{◌≡◌, ◌⊎◌, List, Bool, take};
+
+    ghost Value = { List Bool };
+
+    ghost view = { λ flags. take flags.count flags.flags };
+
+    ghost invariant = { λ flags. (flags.count ≡ 64) ⊎ (flags.count ≡ 128) };
+}
+
+impl Flags {
+    /// Answers flags that are all false. Their number is 64 or 128.
+    pub fn new(count: usize) -> Flags
+        requires { (count ≡ 64) ⊎ (count ≡ 128) }
+        ensures { result ≡ replicate count false }
+    {
+        Flags {
+            flags: [false; 128],
+            count,
+        }
+    }
+
+    /// Answers the number of flags.
+    pub fn len(&self) -> usize
+        ensures value { result ≡ length self.now }
+        ensures counts { (result ≡ 64) ⊎ (result ≡ 128) }
+    {
+        self.count
+    }
+
+    /// Answers flag `i`.
+    pub fn get(&self, i: usize) -> bool
+        requires { i < length self.now }
+        ensures { slice_get self.now i ≡ Some result }
+    {
+        self.flags[i]
+    }
+
+    /// Sets flag `i`.
+    pub fn set(&mut self, i: usize, flag: bool)
+        requires { i < length self.old }
+        ensures { self.new ≡ slice_set self.old i flag }
+    {
+        self.flags[i] = flag;
+    }
+}
+
+// Appends the octets that bits write, as many as are asked for.
+fn push_octets(bits: &BitBuf, count: usize, octets: &mut Octets)
+    requires there { 8 * count ≤ length bits.now }
+    requires room { length octets.old + count ≤ 1520 }
+    ensures list { octets.new ≡ octets.old ++ octets_from count bits.now }
+    ensures len { length octets.new ≡ length octets.old + count }
+{
+    let _ = bits.len();
+    for place in 0..count {
+        octets.push(bits.field(8 * place, 8) as u8);
+    }
+}
+
+// Appends the four octets of 0 that stand behind 128 flags.
+fn push_rest(octets: &mut Octets)
+    requires { length octets.old ≤ 1516 }
+    ensures { octets.new ≡ octets.old ++ 0 ∷ 0 ∷ 0 ∷ 0 ∷ [] }
+{
+    octets.push(0);
+    octets.push(0);
+    octets.push(0);
+    octets.push(0);
+}
+
+/// Answers the octets that a selective retry carries for flags, before its packet CRC: 8 octets of 64 flags, and 20 of
+/// 128 flags, of which the last four are 0. The first flag is the most significant bit of the first octet.
+pub fn flags_make(flags: &Flags) -> Octets
+    ensures octets { result ≡ flag_octets flags.now }
+    ensures read { flags_of_octets result ≡ Some flags.now }
+{
+    let mut bits = BitBuf::new();
+    bits.extend(&flags.flags[..flags.count]);
+    let mut octets = Octets::new();
+    push_octets(&bits, bits.len() / 8, &mut octets);
+    if bits.len() == 128 {
+        push_rest(&mut octets);
+    }
+    octets
+}
+
+// The flags that octets write, eight an octet.
+fn flags_in(octets: &[u8]) -> Flags
+    requires { (length octets.now ≡ 8) ⊎ (length octets.now ≡ 16) }
+    ensures { result ≡ octet_bits octets.now }
+{
+    let mut bits = BitBuf::new();
+    bits.put_numbers(octets, 8);
+    let mut flags = Flags::new(bits.len());
+    for i in 0..bits.len() {
+        flags.set(i, bits.get(i));
+    }
+    flags
+}
+
+/// Answers the flags of the octets that a selective retry carried before its packet CRC: 64 of 8 octets, or 128 of the
+/// first 16 of 20 octets. None comes exactly where there are neither 8 nor 20 octets.
+pub fn flags_read(octets: &Octets) -> Option<Flags>
+    ensures flags { result ≡ flags_of_octets octets.now }
+    ensures there { IsSome result ↔ ((length octets.now ≡ 8) ⊎ (length octets.now ≡ 20)) }
+{
+    let all = octets.octets();
+    match all.len() {
+        8 => Some(flags_in(all)),
+        20 => Some(flags_in(&all[..16])),
+        _ => None,
+    }
+}

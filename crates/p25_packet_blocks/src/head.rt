@@ -1,0 +1,177 @@
+ghost use Rattle.std.specs.Prelude.{◌≡◌, ◌^◌, ◌<◌, true, false};
+ghost use Rattle.p25_packet_blocks.specs.Heads.{head_format, head_is_full, head_blocks, head_pad, head_llid, head_syn, head_number, response_class, response_kind, response_status, confirmed_head, response_head, opening_head};
+
+/// The ten octets of a packet's header, without its CRC. All are kept as they are; only the fields that are read below
+/// mean something here. TIA-102.BAAA, Packet Data, Header Block.
+#[derive(Clone, Copy, Debug, PartialEq, Eq)]
+pub struct PacketHead(pub [u8; 10]);
+
+#[tactic(auto, unfolding(crate::specs::Heads::head_format, crate::specs::Heads::head_is_full, crate::specs::Heads::head_blocks, crate::specs::Heads::head_pad, crate::specs::Heads::head_llid, crate::specs::Heads::head_syn, crate::specs::Heads::head_number, crate::specs::Heads::response_class, crate::specs::Heads::response_kind, crate::specs::Heads::response_status))]
+impl PacketHead {
+    /// Answers the format, five bits: 16 hex of a confirmed packet, 15 hex of an unconfirmed one and 03 hex of a response.
+    pub fn format(&self) -> u8
+        ensures value { result ≡ head_format self.now }
+        ensures below { result < 32 }
+    {
+        self.0[0] % 32
+    }
+
+    /// Answers the full message flag.
+    pub fn is_full(&self) -> bool
+        ensures { result ≡ head_is_full self.now }
+    {
+        self.0[6] / 128 == 1
+    }
+
+    /// Answers the number of blocks to follow, seven bits.
+    pub fn blocks(&self) -> u8
+        ensures value { result ≡ head_blocks self.now }
+        ensures below { result < 128 }
+    {
+        self.0[6] % 128
+    }
+
+    /// Answers the number of pad octets, five bits.
+    pub fn pad(&self) -> u8
+        ensures value { result ≡ head_pad self.now }
+        ensures below { result < 32 }
+    {
+        self.0[7] % 32
+    }
+
+    /// Answers the number N(S) of a confirmed packet, three bits.
+    pub fn number(&self) -> u8
+        ensures value { result ≡ head_number self.now }
+        ensures below { result < 8 }
+    {
+        self.0[8] / 16 % 8
+    }
+
+    /// Answers Syn, the flag of a confirmed packet that opens a link.
+    pub fn syn(&self) -> bool
+        ensures { result ≡ head_syn self.now }
+    {
+        self.0[8] / 128 == 1
+    }
+
+    /// Answers the logical link identifier, LLID, 24 bits.
+    pub fn llid(&self) -> u32
+        ensures value { result ≡ head_llid self.now }
+        ensures below { result < 2 ^ 24 }
+    {
+        65536 * u32::from(self.0[3]) + 256 * u32::from(self.0[4]) + u32::from(self.0[5])
+    }
+
+    /// Answers the class of a response, two bits.
+    pub fn class(&self) -> u8
+        ensures value { result ≡ response_class self.now }
+        ensures below { result < 4 }
+    {
+        self.0[1] / 64
+    }
+
+    /// Answers the type of a response, three bits.
+    pub fn kind(&self) -> u8
+        ensures value { result ≡ response_kind self.now }
+        ensures below { result < 8 }
+    {
+        self.0[1] / 8 % 8
+    }
+
+    /// Answers the status of a response, three bits.
+    pub fn status(&self) -> u8
+        ensures value { result ≡ response_status self.now }
+        ensures below { result < 8 }
+    {
+        self.0[1] % 8
+    }
+}
+
+#[tactic(auto, unfolding(crate::specs::Heads::head_format, crate::specs::Heads::head_is_full, crate::specs::Heads::head_blocks, crate::specs::Heads::head_pad, crate::specs::Heads::head_llid, crate::specs::Heads::head_syn, crate::specs::Heads::head_number, crate::specs::Heads::response_class, crate::specs::Heads::response_kind, crate::specs::Heads::response_status, crate::specs::Heads::confirmed_head, crate::specs::Heads::response_head, crate::specs::Heads::opening_head))]
+impl PacketHead {
+    /// Answers the header of a confirmed packet of data: format 16 hex, and Syn 0.
+    pub fn confirmed(llid: u32, full: bool, blocks: u8, pad: u8, number: u8) -> PacketHead
+        requires llid { llid < 2 ^ 24 }
+        requires blocks { blocks < 128 }
+        requires pad { pad < 32 }
+        requires number { number < 8 }
+        ensures octets { result ≡ confirmed_head llid full blocks pad number }
+        ensures format { head_format result ≡ 0x16 }
+        ensures full { head_is_full result ≡ full }
+        ensures blocks { head_blocks result ≡ blocks }
+        ensures pad { head_pad result ≡ pad }
+        ensures number { head_number result ≡ number }
+        ensures syn { head_syn result ≡ false }
+        ensures llid { head_llid result ≡ llid }
+    {
+        PacketHead([
+            0x56,
+            0xC0,
+            0,
+            (llid / 65536) as u8,
+            (llid / 256 % 256) as u8,
+            (llid % 256) as u8,
+            128 * u8::from(full) + blocks,
+            pad,
+            16 * number + 8,
+            0,
+        ])
+    }
+
+    /// Answers the header of a response: format 03 hex, with the full message flag.
+    pub fn response(llid: u32, class: u8, kind: u8, status: u8, blocks: u8) -> PacketHead
+        requires llid { llid < 2 ^ 24 }
+        requires class { class < 4 }
+        requires kind { kind < 8 }
+        requires status { status < 8 }
+        requires blocks { blocks < 128 }
+        ensures octets { result ≡ response_head llid class kind status blocks }
+        ensures format { head_format result ≡ 0x03 }
+        ensures full { head_is_full result ≡ true }
+        ensures blocks { head_blocks result ≡ blocks }
+        ensures class { response_class result ≡ class }
+        ensures kind { response_kind result ≡ kind }
+        ensures status { response_status result ≡ status }
+        ensures llid { head_llid result ≡ llid }
+    {
+        PacketHead([
+            0x23,
+            64 * class + 8 * kind + status,
+            0,
+            (llid / 65536) as u8,
+            (llid / 256 % 256) as u8,
+            (llid % 256) as u8,
+            128 + blocks,
+            0,
+            0,
+            0,
+        ])
+    }
+
+    /// Answers the header of the packet that opens a link anew: a confirmed packet of no blocks with Syn 1.
+    pub fn opening(llid: u32, number: u8) -> PacketHead
+        requires llid { llid < 2 ^ 24 }
+        requires number { number < 8 }
+        ensures octets { result ≡ opening_head llid number }
+        ensures format { head_format result ≡ 0x16 }
+        ensures full { head_is_full result ≡ true }
+        ensures blocks { head_blocks result ≡ 0 }
+        ensures pad { head_pad result ≡ 0 }
+        ensures number { head_number result ≡ number }
+        ensures syn { head_syn result ≡ true }
+        ensures llid { head_llid result ≡ llid }
+    {
+        PacketHead([
+            0x56,
+            0xC0,
+            0,
+            (llid / 65536) as u8,
+            (llid / 256 % 256) as u8,
+            (llid % 256) as u8,
+            0x80,
+            0,
+            0x88 + 16 * number,
+            0,
+        ])
+    }
+}

@@ -1,0 +1,56 @@
+ghost use Rattle.std.specs.Prelude.{◌≡◌, ◌+◌, ◌<◌, ◌≤◌, [], ◌∷◌, ◌++◌, length, slice_get, Some};
+
+use crate::block::Slot;
+use arrayvec::ArrayVec;
+use std::marker::Model;
+
+/// A list of at most 127 slots, one for each block to follow, in the order of sending.
+#[derive(Drop)]
+pub struct Slots {
+    items: ArrayVec<Slot, 127>,
+}
+
+impl Model for Slots {
+    ghost use Rattle.std.specs.Prelude.{List};
+    ghost use Rattle.p25_packet_blocks.specs.declared.block.Slot.{Slot};
+
+    ghost Value = { List Slot };
+
+    ghost view = { λ s. s.items.items };
+}
+
+impl Slots {
+    /// Answers an empty list.
+    pub fn new() -> Slots
+        ensures { result ≡ [] }
+    {
+        Slots {
+            items: ArrayVec::new(),
+        }
+    }
+
+    /// Answers the number of slots held.
+    pub fn len(&self) -> usize
+        ensures value { result ≡ length self.now }
+        ensures most { result ≤ 127 }
+    {
+        self.items.len()
+    }
+
+    /// Answers a copy of slot `i`.
+    pub fn get(&self, i: usize) -> Slot
+        requires { i < length self.now }
+        ensures { slice_get self.now i ≡ Some result }
+    {
+        self.items.as_slice()[i]
+    }
+
+    /// Appends a slot.
+    pub fn push(&mut self, entry: Slot)
+        requires { length self.old < 127 }
+        ensures list { self.new ≡ self.old ++ entry ∷ [] }
+        ensures len { length self.new ≡ length self.old + 1 }
+    {
+        self.items.push(entry);
+    }
+}

@@ -1,0 +1,43 @@
+ghost use Rattle.std.specs.Prelude.{◌≡◌, ◌↔◌, IsTrue};
+ghost use Rattle.p25_packet_blocks.specs.Whole.{packet_head, AreGood, IsWholePacket};
+
+use crate::block::Slot;
+use crate::head::PacketHead;
+use crate::packet::Packet;
+use crate::slots::Slots;
+
+impl Packet {
+    /// Answers the header.
+    pub fn head(&self) -> PacketHead
+        ensures { result ≡ packet_head self.now }
+    {
+        match self {
+            Packet::Confirmed(packet) => packet.head(),
+            Packet::Plain(packet) => packet.head(),
+        }
+    }
+}
+
+// Whether no slot is Bad.
+fn are_good(slots: &Slots) -> bool
+    ensures { IsTrue result ↔ AreGood slots.now }
+{
+    for j in 0..slots.len() {
+        match slots.get(j) {
+            Slot::Good(_) => {}
+            Slot::Bad => return false,
+        }
+    }
+    true
+}
+
+/// Answers whether no slot is Bad: true of each packet that is not confirmed.
+#[tactic(auto, unfolding(crate::specs::Whole::IsWholePacket))]
+pub fn is_whole(packet: &Packet) -> bool
+    ensures { IsTrue result ↔ IsWholePacket packet.now }
+{
+    match packet {
+        Packet::Confirmed(packet) => are_good(packet.slots()),
+        Packet::Plain(_) => true,
+    }
+}

@@ -1,0 +1,9 @@
+pub mod MessageBlocks
+pub mod Places
+pub mod Carried
+pub mod SenderState
+pub mod ReceiverState
+pub mod SentPackets
+pub mod Asked
+pub mod SenderRules
+pub mod ReceiverRules
