@@ -8,3 +8,4 @@ pub mod LocatorLaws
 pub mod LaneSteps
 pub mod ErrorsSteps
 pub mod MarkedWords
+pub mod WrongSteps

@@ -34,6 +34,11 @@ pub record Explains (n checks : ℕ) (syndromes : List Sym) (erased : List Bool)
   pub few : 2 * nonzeros gf64 n (unmarked erased errors) + marks_below erased n ≤ checks
   pub sums : (r : ℕ) → r < checks → power_sum gf64 n (element_of n) errors (r + 1) ≡ coefficient gf64 syndromes r
 
+-- these errors, without a mark, explain so many syndromes: they are half as many at most
+pub record AreErrors (n checks : ℕ) (syndromes : List Sym) (errors : ℕ → Sym) : Type 0 where
+  pub few : 2 * nonzeros gf64 n errors ≤ checks
+  pub sums : (r : ℕ) → r < checks → power_sum gf64 n (element_of n) errors (r + 1) ≡ coefficient gf64 syndromes r
+
 -- a place among n is listed
 pub record IsListed (places : List ℕ) (j : ℕ) : Type 0 where
   pub index : ℕ

@@ -58,6 +58,9 @@ mod syndromes;
 #[cfg(test)]
 mod tests;
 mod values;
+mod wrong;
 mod zeros;
 
 pub use code::Rs;
+pub use syndromes::fill_syndromes;
+pub use wrong::mark_wrong;

@@ -8,8 +8,9 @@ ghost use Rattle.p25_reed_solomon.specs.Words.{value_of};
 use crate::points::{fill_powers, horner_step};
 use p25_gf64::Sym;
 
-// Sets `out` to the values of a word at α^1 to α^32.
-pub(crate) fn fill_syndromes(word: &[Sym], out: &mut [Sym])
+/// Sets `out`, of 32 symbols, to the values of a word of at most 63 symbols at α^1 to α^32. Its first symbol is the highest
+/// coefficient.
+pub fn fill_syndromes(word: &[Sym], out: &mut [Sym])
     requires word { length word.now ≤ 63 }
     requires room { length out.old ≡ 32 }
     ensures values { (r : ℕ) → r < 32 → coefficient gf64 out.new r ≡ value_of (length word.now) word.now (r + 1) }

@@ -31,7 +31,7 @@ pub(crate) fn zeros(polynomial: &[Sym], n: usize) -> ArrayVec<usize, 24>
 }
 
 // Sets the first of the points to those of the places among n: successive powers of α.
-fn fill_points(n: usize, points: &mut [Sym])
+pub(crate) fn fill_points(n: usize, points: &mut [Sym])
     requires places { n ≤ 63 }
     requires room { length points.old ≡ 64 }
     ensures { (j : ℕ) → j < n → coefficient gf64 points.new j ≡ point_of n j }
