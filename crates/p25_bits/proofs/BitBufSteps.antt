@@ -12,8 +12,7 @@ use Rattle.std.proofs.lemmas.List.{take-take, drop-take, length-take-le, take-ap
 use Rattle.p25_bits.specs.Bits.{digit_of, bits_of, field_of, part, flipped}
 use Rattle.p25_bits.specs.Distance.{distance_of}
 use Rattle.p25_bits.specs.Numbers.{number_bits}
-use Rattle.p25_bits.proofs.Lists.{part-take}
-use Rattle.p25_bits.proofs.PartLaws.{take-part}
+use Rattle.p25_bits.proofs.PartLaws.{part-take, take-part}
 use Rattle.p25_bits.proofs.DistanceLaws.{distance_by-append, ones-xor}
 use Rattle.p25_bits.proofs.BitsLaws.{length-bits_of, bits_of-field_of, field_of-bits_of, take-bits_of, get_or-bits_of}
 use Rattle.p25_bits.proofs.NumbersLaws.{bits_of-field, number_bits-append, number_bits-cons, length-number_bits, drop-number_bits, number_bits-drop_more}

@@ -3,14 +3,14 @@ ghost use Rattle.p25_bits.specs.Bits.{bits_of, field_of, part, flipped};
 ghost use Rattle.p25_bits.specs.Distance.{distance_of};
 ghost use Rattle.p25_bits.specs.Numbers.{number_bits};
 
-use super::numbers::{number_of, put_number};
+use super::numbers::number_of;
 use super::words::{append_windows, beginning, differing, put_window, shift_down, window};
 use std::marker::Model;
 
-/// The most bits that a `BitBuf` holds.
+/// The most bits that a `BitBuf` holds: those of the longest unit, 25,920, and one octet more.
 pub const BITS_MOST: usize = 25_928;
 
-/// A list of at most 25,928 bits, the longest unit and one octet more.
+/// A list of at most 25,928 bits.
 #[derive(Drop)]
 pub struct BitBuf {
     words: [u64; 407],
@@ -36,10 +36,11 @@ impl BitBuf {
         }
     }
 
-    /// Answers the number of bits held.
+    /// Answers the number of bits held, at most `BITS_MOST`.
     pub fn len(&self) -> usize
         ensures value { result ≡ length self.now }
         ensures most { result ≤ 25928 }
+        ensures limit { BITS_MOST ≡ 25928 }
     {
         self.len
     }
@@ -147,18 +148,6 @@ impl BitBuf {
         }
         let rest = &bits[64 * (bits.len() / 64)..];
         self.put_field(number_of(rest), rest.len() as u32);
-    }
-
-    /// Copies the bits from place `at` on into a slice, as many as it has room for.
-    pub fn copy_to(&self, at: usize, out: &mut [bool])
-        requires { at + length out.old ≤ length self.now }
-        ensures { out.new ≡ part at (length out.old) self.now }
-    {
-        // The number of bits held bounds every place below.
-        let _ = self.len();
-        for i in 0..out.len() {
-            out[i] = self.get(at + i);
-        }
     }
 
     /// Takes the first `n` bits away.

@@ -7,7 +7,7 @@ use Rattle.p25_bits.specs.Bits.{bits_of, field_of, part}
 use Rattle.p25_bits.proofs.NumbersLaws.{field-lt}
 use Rattle.p25_bits.specs.Distance.{distance_of}
 use Rattle.p25_bits.proofs.BitsLaws.{length-bits_of}
-use Rattle.p25_bits.proofs.Lists.{part-take}
+use Rattle.p25_bits.proofs.PartLaws.{part-take}
 use Rattle.p25_bits.proofs.DistanceLaws.{distance_of-same, distance_by-append}
 use Rattle.std.specs.Bool.{beq}
 use Rattle.p25_code.specs.Words.{IsEncoding}

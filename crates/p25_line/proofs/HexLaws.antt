@@ -22,11 +22,12 @@ passes_below-at (suc n) test i all below =
       | inr top ↦ let same : i ≡ n = omega arith in ap test same ∙ parts.0
     ]
 
--- the digit of a number below 16 is read back
+-- a test that the digit of a number below 16 is read back
 abbrev reads_back : ℕ → Bool
 reads_back nibble = is_lower_digit (slice_index lower_digits nibble) && (nibble_of (slice_index lower_digits nibble) == nibble)
 
-digit_facts : (nibble : ℕ) → nibble < 16 → (is_lower_digit (slice_index lower_digits nibble) ≡ true) × (nibble_of (slice_index lower_digits nibble) ≡ nibble)
+-- the digit of a number below 16, and its value
+pub digit_facts : (nibble : ℕ) → nibble < 16 → (is_lower_digit (slice_index lower_digits nibble) ≡ true) × (nibble_of (slice_index lower_digits nibble) ≡ nibble)
 digit_facts nibble below =
     let parts = and_parts (is_lower_digit (slice_index lower_digits nibble)) (nibble_of (slice_index lower_digits nibble) == nibble) (passes_below-at 16 reads_back nibble refl below) in
     (parts.0, eqb-true (nibble_of (slice_index lower_digits nibble)) nibble parts.1)

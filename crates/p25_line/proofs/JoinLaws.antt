@@ -1,10 +1,12 @@
 -- Splitting undoes joining: parts that lack the octet between them are read back from their join, and a line of words is the join of its words.
-use Rattle.std.proofs.Common.{◌≡◌, ℕ, ◌<◌, ◌≤◌, ◌==◌, Bool, true, false, List, [], ◌∷◌, length, Some, Ok, inl, inr, refl, sym, ap, ◌∙◌, arith}
+use Rattle.std.proofs.Common.{◌≡◌, ℕ, ◌<◌, ◌≤◌, ◌==◌, Bool, true, false, List, [], ◌∷◌, length, take, Some, Result, Ok, Err, inl, inr, refl, sym, ap, ◌∙◌, arith}
 use Rattle.std.specs.Prelude.{nat_lt}
 use Rattle.std.specs.List.{slice_split, join_with_byte, list_all, All}
 use Rattle.std.proofs.lemmas.Bool.{and_parts, cases_Bool, cases_lt, eq-eqb}
 use Rattle.std.proofs.lemmas.List.Splits.{slice_split_none, slice_split_at, length-slice_split, join_with_byte-slice_split}
-use Rattle.p25_line.specs.Words.{is_printed, is_word, parts_of, words_in, words_or_fault, or_form}
+use Rattle.p25_line.specs.Words.{is_printed, is_word, parts_of, words_in, words_or_fault, or_form, LiesIn, marked, WordsFound, WordsAnswer}
+use Rattle.p25_line.specs.Marks.{Marks}
+use Rattle.p25_line.specs.declared.fault.LineFault.{LineFault}
 use Rattle.p25_line.proofs.WordsLaws.{printed-spaces, words_in-words, words_in-none, words_or_fault-long, words_or_fault-words}
 
 -- an octet does not stand among others
@@ -62,3 +64,21 @@ Accepted-words line words found =
       | inl long ↦ let known = words_or_fault-long line long in cc
       | inr short ↦ accepted-words line words short (sym (words_or_fault-words line short) ∙ found)
     ]
+
+-- what a list of words tells of an accepted line
+pub record Known (line : List ℕ) (list : Marks) (words : List (List ℕ)) : Type 0 where
+  pub found : words_or_fault line ≡ Ok words
+  pub some : 0 < length words
+  pub count : list.count ≡ length words
+  pub places : marked line list.places ≡ take 16 words
+  pub lies : All (LiesIn line) list.places
+
+known : (line : List ℕ) (list : Marks) (answer : Result (List (List ℕ)) LineFault) → words_or_fault line ≡ answer → WordsFound line list (Ok tt) answer
+    → (words : List (List ℕ)) × Known line list words
+known line list (Ok words) same facts =
+    let accepted = Accepted-words line words same in
+    (words, record { found = same; some = accepted.some; count = facts.1; places = facts.2; lies = facts.3 })
+known line list (Err fault) same facts = cc facts.0
+
+pub Known-words : (line : List ℕ) (list : Marks) → WordsAnswer line list (Ok tt) → (words : List (List ℕ)) × Known line list words
+Known-words line list answer = known line list (words_or_fault line) refl answer

@@ -3,7 +3,8 @@ use Rattle.std.proofs.Common.{◌≡◌, ℕ, suc, ◌+◌, ◌-◌, ◌*◌, �
 use Rattle.std.proofs.lemmas.Option.{slice_get_within}
 use Rattle.std.proofs.lemmas.List.{drop_more, drop-drop, get_or-drop, get_or-take}
 use Rattle.p25_bits.specs.Bits.{bits_of, part}
-use Rattle.p25_bits.proofs.Lists.{slice_get-get_or, part-take}
+use Rattle.std.proofs.lemmas.Option.{get_or_from_slice_get}
+use Rattle.p25_bits.proofs.PartLaws.{part-take}
 use Rattle.p25_status.specs.Status.{status_number, symbol_of}
 use Rattle.p25_status.specs.Woven.{woven, plain_in, statuses_in}
 use Rattle.p25_status.specs.declared.symbols.Status.{Status}
@@ -15,7 +16,7 @@ unfolding woven
 woven_block bits statuses i status h =
     let inside = slice_get_within statuses i status h in
     let next : 70 * i + 70 ≡ 70 * (i + 1) = omega arith in
-    let here : drop i statuses ≡ status ∷ drop (i + 1) statuses = drop_more statuses i status inside ∙ ap (λ s. s ∷ drop (i + 1) statuses) (slice_get-get_or statuses i status status h) in
+    let here : drop i statuses ≡ status ∷ drop (i + 1) statuses = drop_more statuses i status inside ∙ ap (λ s. s ∷ drop (i + 1) statuses) (get_or_from_slice_get statuses i status status h) in
     ap (woven (drop (70 * i) bits)) here
     ∙ ap (λ l. part (70 * i) 70 bits ++ (bits_of 2 (status_number status) ++ woven l (drop (i + 1) statuses))) (drop-drop 70 (70 * i) bits ∙ ap (λ n. drop n bits) next)
 
@@ -95,4 +96,4 @@ statuses_more blocks i sent out longer status h same is =
 pub bit_of_part : (bits : List Bool) (at len from k : ℕ) (bit : Bool) → from + k < len → slice_get bits (at + from + k) ≡ Some bit → bit ≡ get_or (part at len bits) (from + k) false
 bit_of_part bits at len from k bit h read =
     let place : at + (from + k) ≡ at + from + k = omega arith in
-    sym (slice_get-get_or bits (at + from + k) bit false read) ∙ ap (λ n. get_or bits n false) (sym place) ∙ sym (get_or-part bits at len (from + k) h)
+    sym (get_or_from_slice_get bits (at + from + k) bit false read) ∙ ap (λ n. get_or bits n false) (sym place) ∙ sym (get_or-part bits at len (from + k) h)

@@ -5,7 +5,7 @@ use Rattle.std.proofs.Math.Nat.{mod-eq_of_lt}
 use Rattle.std.proofs.Math.Seq.{drop-cons}
 use Rattle.std.proofs.lemmas.List.{take-append-drop, length-take-le, nil_from_length, get_or-drop, drop-drop}
 use Rattle.p25_bits.specs.Bits.{digit_of, bits_of, field_of, field_after, part}
-use Rattle.p25_bits.proofs.Lists.{part-take}
+use Rattle.p25_bits.proofs.PartLaws.{part-take}
 use Rattle.p25_bits.proofs.BitsLaws.{length-bits_of, field_of-bits_of}
 use Rattle.p25_status.specs.Status.{status_number, symbol_of, same_status}
 use Rattle.p25_status.specs.Woven.{woven, plain_in, plain_of, statuses_in, statuses_of}

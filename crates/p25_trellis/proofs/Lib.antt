@@ -7,4 +7,5 @@ pub mod Costs
 pub mod FirstPath
 pub mod NearestLaws
 pub mod Distances
+pub mod ReceivedCostsSteps
 pub mod Apart

@@ -3,13 +3,13 @@
 ghost use Rattle.std.specs.Prelude.{◌≡◌, ℕ, ◌+◌, ◌*◌, ◌^◌, ◌<◌, ◌≤◌, List, Bool, ◌++◌, All, length, take, drop};
 ghost use Rattle.p25_bits.specs.Bits.{part};
 ghost use Rattle.p25_trellis.specs.Trellis.{IsBlock, IsFirstLeastReading, IsNearReading, distance_from};
-ghost use Rattle.p25_trellis.specs.Least.{IsDistanceTable};
 ghost use Rattle.p25_trellis.specs.Nearest.{nearest_octets, nearest_distance, block_from};
 
 use super::interleave::{gather, spread};
-use super::least::{BLOCK_COSTS, read_costs};
+use super::least::read_costs;
 use super::path::{nibbles_of, path_of};
 use super::rate::Rate;
+use super::received_costs::distance_costs;
 use p25_bits::BitBuf;
 
 /// Appends the block of octets: 196 bits, the sent bits of the one path that carries them (TIA-102.BAAA, Trellis Coding
@@ -24,20 +24,6 @@ pub fn encode_block<R: Rate>(octets: &[u8], out: &mut BitBuf)
 {
     let path = path_of::<R>(octets);
     out.put_numbers(&spread(&nibbles_of::<R>(&path)), 4);
-}
-
-// The table of costs where a nibble costs its distance from the one received at its step.
-fn distance_costs(received: &[u8; 49]) -> [u32; BLOCK_COSTS]
-    requires { All (λ n. n < 16) received.now }
-    ensures costs { IsDistanceTable received.now result }
-    ensures low { All (λ cost. cost ≤ 2 ^ 24) result }
-    ensures len { length result ≡ 784 }
-{
-    let mut costs = [0; BLOCK_COSTS];
-    for place in 0..BLOCK_COSTS {
-        costs[place] = (received[place / 16] ^ (place % 16) as u8).count_ones();
-    }
-    costs
 }
 
 /// Writes the octets of the first nearest path to the 196 bits from place `at`, and answers its distance, the number of

@@ -25,6 +25,7 @@ mod least;
 mod path;
 mod queue;
 mod rate;
+mod received_costs;
 
 pub use block::{encode_block, read_block};
 pub use interleave::{gather, spread};

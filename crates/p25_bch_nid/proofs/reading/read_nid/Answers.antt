@@ -11,7 +11,7 @@ use Rattle.p25_bch_nid.proofs.reading.read_nid.Goals as goal
 
 clean : goal.returns-then-number_remainder-eq0-clause-value
 clean c =
-    c.identifier_in.ensures ∙ sym (clean_reading c.args.bits (omega arith) (subst (IsRemainder generator 47 (c.args.bits / 2 ^ 1)) c.if-number_remainder-eq0.true c.number_remainder.ensures))
+    c.identifier_in.ensures ∙ sym (clean_reading c.args.bits (omega arith) (subst (IsRemainder generator 47 (c.args.bits / 2 ^ 1)) c.if-number_remainder-eq0.true c.number_remainder.ensures.is))
 
 pub returns-then-number_remainder-eq0-clause-value : goal.returns-then-number_remainder-eq0-clause-value
 returns-then-number_remainder-eq0-clause-value c = clean c

@@ -1,8 +1,7 @@
 use Rattle.std.proofs.Common.{◌+◌, ◌*◌, ◌≤◌, ◌++◌, List, Bool, length, ap, sym, ◌∙◌, arith}
 use Rattle.p25_bits.specs.Bits.{part}
 use Rattle.p25_bits.specs.Numbers.{number_bits}
-use Rattle.p25_bits.proofs.Lists.{part-take}
-use Rattle.p25_bits.proofs.PartLaws.{take-part}
+use Rattle.p25_bits.proofs.PartLaws.{part-take, take-part}
 use Rattle.p25_bits.proofs.BitBufSteps.{length-held, take_appended}
 use Rattle.p25_bits.proofs.bit_buf.BitBuf.append.Goals as goal
 
