@@ -24,7 +24,13 @@ pub fn mark_wrong(syndromes: &[Sym], checks: usize, wrong: &mut [bool])
     let n = wrong.len();
     let mut locator = [Sym::default(); 32];
     let mut evaluator = [Sym::default(); 32];
-    let most = locate(syndromes, checks, &[false; 63][..n], &mut locator, &mut evaluator);
+    let most = locate(
+        syndromes,
+        checks,
+        &[false; 63][..n],
+        &mut locator,
+        &mut evaluator,
+    );
     let mut points = [Sym::default(); 64];
     fill_points(n, &mut points);
     let mut values = [Sym::default(); 64];
