@@ -1,6 +1,6 @@
 -- How the work of `build` goes on: an octet comes, a line is read, the input ends. A line that is too long is refused
 -- whatever its octets are, so what is kept of it serves as well as all of it: by induction on the octets that come.
-use Rattle.std.proofs.Common.{◌≡◌, ◌≢◌, ℕ, ◌+◌, ◌<◌, ◌≤◌, Bool, true, false, ◌&&◌, cond, nat_eq, nat_lt, List, [], ◌∷◌, ◌++◌, length, Option, Some, None, Result, Ok, Err, refl, ap, ap₂, sym, subst, ◌∙◌, arith, append-nil, length-append}
+use Rattle.std.proofs.Common.{◌≡◌, ◌≢◌, ℕ, ◌+◌, ◌<◌, Bool, true, false, cond, nat_eq, nat_lt, List, [], ◌∷◌, ◌++◌, length, Option, Some, None, Result, Ok, Err, refl, ap, ap₂, sym, subst, ◌∙◌, arith, length-append}
 use Rattle.std.proofs.lemmas.Bool.Decides.{nat_tests}
 use Rattle.p25_line.specs.declared.fault.LineFault.{LineFault}
 use Rattle.p25_line.specs.declared.fault.LineFault.TheVariants.{Long}
@@ -8,7 +8,7 @@ use Rattle.p25_line.specs.Words.{words_or_fault}
 use Rattle.p25_status.specs.declared.symbols.Status.{Status}
 use Rattle.p25_text.specs.Grammar.{read_line_of}
 use Rattle.p25_units.specs.UnitParts.{UnitParts}
-use Rattle.p25_work.specs.Futures.{Future, IsClosed, IsIdle, IsRefused, NextPiece, Progress}
+use Rattle.p25_work.specs.Futures.{IsClosed, IsIdle, NextPiece, Progress}
 use Rattle.p25_work.specs.declared.ending.Ending.{Ending}
 use Rattle.p25_work.specs.declared.ending.Ending.TheVariants.{BadLine, Done}
 use Rattle.p25_tool.specs.declared.build.LinePhase.{LinePhase}
@@ -238,3 +238,25 @@ module _ (status : Status) (line : List ℕ) (lines : ℕ) (phase : LinePhase) (
 -- the same for a building as a whole
 pub building-ended : (work : Building) → is_ended_phase work.phase ≡ true → lines_ready work.phase ≡ 0 → (ended : Bool) (more : List ℕ) → (building_future work).ends ended more ≡ Some Done
 building-ended work is none = step-done work.status work.line work.lines work.phase none is
+
+-- the steps of `next`
+line-by : (next : LinePhase) (status : Status) (line : List ℕ) (lines : ℕ) (phase at : LinePhase) (now : Building) (answer : Result Bool Ending) (out : List ℕ) → phase ≡ at
+    → (IsLineTaken next (building status line lines at) answer out now → NextPiece (building_future (building status line lines at)) answer out (building_future now))
+    → IsLineTaken next (building status line lines phase) answer out now → NextPiece (building_future (building status line lines phase)) answer out (building_future now)
+line-by next status line lines phase at now answer out is given =
+    subst (λ (p : LinePhase). IsLineTaken next (building status line lines p) answer out now → NextPiece (building_future (building status line lines p)) answer out (building_future now)) (sym is) given
+
+pub step-line : (before now : Building) (answer : Result Bool Ending) (out : List ℕ) → before.phase ≡ Ready → IsLineTaken Reading before answer out now → NextPiece (building_future before) answer out (building_future now)
+step-line before now answer out is taken =
+    line-by Reading before.status before.line before.lines before.phase Ready now answer out is (building-line before.status before.line before.lines now answer out) taken
+
+pub step-last : (before now : Building) (answer : Result Bool Ending) (out : List ℕ) → before.phase ≡ ReadyLast → IsLineTaken Ended before answer out now → NextPiece (building_future before) answer out (building_future now)
+step-last before now answer out is taken =
+    line-by Ended before.status before.line before.lines before.phase ReadyLast now answer out is (building-last before.status before.line before.lines now answer out) taken
+
+pub step-none : (before : Building) (out : List ℕ) → NextPiece (building_future before) (Ok false) out (building_future before)
+unfolding NextPiece
+step-none before out = refl
+
+pub step-idle : (work : Building) → lines_ready work.phase ≡ 0 → IsIdle (is_ended_phase work.phase) (building_future work)
+step-idle work none = building-idle work.status work.line work.lines work.phase none

@@ -1,5 +1,5 @@
 -- How a recording's work goes on: octets come, an item is given, the input ends. Each is one unfolding of what is reported.
-use Rattle.std.proofs.Common.{◌≡◌, ◌≢◌, ℕ, ◌+◌, ◌<◌, ◌≤◌, Bool, true, false, cond, List, [], ◌∷◌, ◌++◌, length, take, drop, Option, Some, None, Result, Ok, refl, ap, ap₂, sym, subst, ◌∙◌, arith, append_assoc, append-nil}
+use Rattle.std.proofs.Common.{◌≡◌, ◌≢◌, ℕ, Bool, true, false, cond, List, [], ◌∷◌, ◌++◌, take, drop, Some, None, Ok, refl, ap, ap₂, sym, subst, ◌∙◌, append_assoc, append-nil}
 use Rattle.std.proofs.lemmas.List.{take-append-le, drop-append-le}
 use Rattle.p25_bits.specs.Bits.{bits_of, octet_bits}
 use Rattle.p25_bits.proofs.BitsLaws.{octet_bits-cons, octet_bits-nil}
@@ -8,8 +8,7 @@ use Rattle.p25_units.specs.Items.{covered}
 use Rattle.p25_stream.specs.Items.{items_by, items_in}
 use Rattle.p25_stream.specs.ItemLaws.{GaveItems}
 use Rattle.p25_stream.specs.Scan.{Scan, Gave, given}
-use Rattle.p25_work.specs.Futures.{Future, IsClosed, IsIdle, NextPiece, Progress}
-use Rattle.p25_work.specs.declared.ending.Ending.{Ending}
+use Rattle.p25_work.specs.Futures.{IsClosed, IsIdle, NextPiece, Progress}
 use Rattle.p25_tool.specs.declared.recording.Phase.{Phase}
 use Rattle.p25_tool.specs.declared.recording.Phase.TheVariants.{Reading, Ended, Closed}
 use Rattle.p25_tool.specs.Recordings.{HasClosed, IsClosing, IsClosingBy, RecordingParts, bits_ending, bits_written, fresh, has_ended, phase_future, recording_future}
@@ -198,14 +197,21 @@ module _ {R : Type 0} (reporting : Reporting R) where
       → (now.phase ≡ Ended → ⊥) × (given now.scan ≡ []) × IsIdle (has_ended now.phase) (recording_future reporting now)
   step-idle before now answer out same none no_piece closing = idle-by before.phase before.report before.scan now answer out same none no_piece closing
 
-  pub step-ending : (recording : RecordingParts R) → has_ended recording.phase ≡ true → (recording.phase ≡ Ended → ⊥) → (ended : Bool) (more : List ℕ) → (recording_future reporting recording).ends ended more ≡ Some (reporting.ending recording.report)
+  pub step-ending : (work : RecordingParts R) → has_ended work.phase ≡ true → (work.phase ≡ Ended → ⊥) → (ended : Bool) (more : List ℕ) → (recording_future reporting work).ends ended more ≡ Some (reporting.ending work.report)
   unfolding recording_future
-  step-ending recording is other ended more = ap (λ (p : Phase). (phase_future reporting recording.report recording.scan p).ends ended more) (is-closed recording.phase is other)
+  step-ending work is other ended more = ap (λ (p : Phase). (phase_future reporting work.report work.scan p).ends ended more) (is-closed work.phase is other)
 
   -- before the first octet nothing is decided
+  pub fresh-none : (report : R) → given (fresh report).scan ≡ []
+  unfolding items_by items_in
+  fresh-none report = refl
+
   pub fresh-idle : (report : R) → IsIdle false (recording_future reporting (fresh report))
   unfolding recording_future
-  fresh-idle report = future-idle Reading report (record { place = 0; held = []; finished = false }) refl (λ is. cc) none_given
-    where
-      none_given : given (record { place = 0; held = []; finished = false }) ≡ []
-      none_given = unfold items_by in (unfold items_in in refl)
+  fresh-idle report = future-idle Reading report (fresh report).scan refl (λ is. cc) (fresh-none report)
+
+-- while more octets may come, nothing was written at the end
+pub going-open : (phase : Phase) → has_ended phase ≡ false → phase ≡ Closed → ⊥
+going-open Reading going is = cc
+going-open Ended going is = cc
+going-open Closed going is = cc

@@ -1,9 +1,8 @@
 -- What each command writes for its input, and how a call ends by its input.
-use Rattle.std.specs.Prelude.{ℕ, zero, suc, ◌+◌, ◌*◌, ◌/◌, Bool, true, false, ◌&&◌, cond, nat_eq, nat_lt, List, [], ◌∷◌, ◌++◌, length, take, drop, replicate, codes, decimal, Option, Some, None, Result, Ok, Err}
+use Rattle.std.specs.Prelude.{ℕ, ◌+◌, ◌/◌, Bool, ◌&&◌, cond, nat_eq, nat_lt, List, [], ◌∷◌, ◌++◌, length, take, drop, replicate, codes, decimal, Option, Some, None, Ok, Err}
 use Rattle.std.specs.List.{flat_map}
 use Rattle.p25_bits.specs.Bits.{octet_bits}
 use Rattle.p25_bits.specs.Numbers.{octets_from}
-use Rattle.p25_line.specs.declared.fault.LineFault.{LineFault}
 use Rattle.p25_status.specs.declared.symbols.Status.{Status}
 use Rattle.p25_units.specs.UnitParts.{UnitParts}
 use Rattle.p25_units.specs.Units.{frame_length_of, image_of}

@@ -15,6 +15,9 @@ pub record RecordingParts (R : Type 0) : Type 0 where
   pub scan : Scan
   pub phase : Phase
 
+abbrev pub recording : {R : Type 0} → R → Scan → Phase → RecordingParts R
+recording report scan phase = record { report = report; scan = scan; phase = phase }
+
 -- the input has ended
 abbrev pub has_ended : Phase → Bool
 has_ended Reading = false
@@ -58,7 +61,7 @@ phase_future reporting report scan Closed = record {
 }
 
 unfoldable pub recording_future : {R : Type 0} → Reporting R → RecordingParts R → Future
-recording_future reporting recording = phase_future reporting recording.report recording.scan recording.phase
+recording_future reporting work = phase_future reporting work.report work.scan work.phase
 
 -- what asking for the piece at the end answers: once the input has ended and before it was given, it is given
 abbrev pub IsClosingBy : {R : Type 0} → Reporting R → Phase → RecordingParts R → Bool → List ℕ → RecordingParts R → Type 0

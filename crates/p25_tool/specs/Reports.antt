@@ -1,5 +1,5 @@
 -- Reports of the items of a recording, item by item.
-use Rattle.std.specs.Prelude.{ℕ, Bool, true, false, cond, List, [], ◌∷◌, ◌++◌, take, drop}
+use Rattle.std.specs.Prelude.{ℕ, Bool, cond, List, [], ◌∷◌, ◌++◌, take, drop}
 use Rattle.p25_units.specs.declared.item.Item.{Item}
 use Rattle.p25_units.specs.Items.{covered}
 use Rattle.p25_work.specs.declared.ending.Ending.{Ending}

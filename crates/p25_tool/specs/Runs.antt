@@ -1,5 +1,5 @@
 -- What a call leaves, and how it answers an input without faults.
-use Rattle.std.specs.Prelude.{◌≡◌, ℕ, Bool, true, false, cond, nat_lt, List, length, take, Option, Some, None}
+use Rattle.std.specs.Prelude.{◌≡◌, ℕ, true, false, cond, nat_lt, List, length, take, Option, Some, None}
 use Rattle.p25_work.specs.Futures.{Future}
 use Rattle.p25_work.specs.Runs.{Worked, input_most}
 use Rattle.p25_work.specs.declared.ending.Ending.{Ending}

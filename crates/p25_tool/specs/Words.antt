@@ -1,8 +1,8 @@
 -- The words of a call, and the commands that they name.
-use Rattle.std.specs.Prelude.{ℕ, ◌<◌, ◌≡◌, List, [], ◌∷◌, ◌++◌, Option, Some, None, cond, nat_eq, ltb, length, take, codes}
+use Rattle.std.specs.Prelude.{ℕ, ◌<◌, List, [], ◌∷◌, ◌++◌, Option, Some, None, cond, nat_eq, ltb, length, take, codes}
 use Rattle.std.specs.Str.{bytes_eq}
 use Rattle.std.proofs.Common.{lit<}
-use Rattle.p25_status.specs.Status.{status_of}
+use Rattle.p25_status.specs.Status.{status_at_number}
 use Rattle.p25_status.specs.declared.symbols.Status.{Status}
 use Rattle.p25_text.specs.Grammar.{nac_in}
 use Rattle.p25_tool.specs.declared.command.Command.{Command}
@@ -16,8 +16,8 @@ added words word = cond (ltb (length words) 4) (words ++ take 16 word ∷ []) wo
 abbrev pub status_in : List ℕ → Option Status
 status_in [] = None
 status_in (digit ∷ []) =
-    cond (nat_eq digit 48) (Some (status_of 0 (lit< tt)))
-    (cond (nat_eq digit 49) (Some (status_of 1 (lit< tt))) (cond (nat_eq digit 50) (Some (status_of 2 (lit< tt))) (cond (nat_eq digit 51) (Some (status_of 3 (lit< tt))) None)))
+    cond (nat_eq digit 48) (Some (status_at_number 0 (lit< tt)))
+    (cond (nat_eq digit 49) (Some (status_at_number 1 (lit< tt))) (cond (nat_eq digit 50) (Some (status_at_number 2 (lit< tt))) (cond (nat_eq digit 51) (Some (status_at_number 3 (lit< tt))) None)))
 status_in (first ∷ second ∷ digits) = None
 
 -- the command of one word

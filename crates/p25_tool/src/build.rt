@@ -1,8 +1,8 @@
 //! The work of `build`: each line of the input as the unit that it describes.
 
-ghost use Rattle.std.specs.Prelude.{◌≡◌, ◌≤◌, [], replicate};
+ghost use Rattle.std.specs.Prelude.{◌≡◌};
 ghost use Rattle.p25_tool.specs.Buildings.{first_line, lines_ready, IsLineTaken};
-ghost use Rattle.p25_tool.specs.Outputs.{filled_frame, image_octets};
+ghost use Rattle.p25_tool.specs.Outputs.{image_octets};
 
 use crate::reports::put_octets;
 use arrayvec::ArrayVec;
@@ -65,7 +65,8 @@ impl Build {
 
     // Reads the line that is there. Sets `out` to the image of its unit and goes on to a phase, or answers its fault.
     fn take_line(&mut self, phase: LinePhase, out: &mut Line) -> Result<bool, Ending>
-        requires { lines_ready phase ≡ 0 }
+        requires ready { lines_ready self.old.phase ≡ 1 }
+        requires read { lines_ready phase ≡ 0 }
         ensures { IsLineTaken phase self.old result out.new self.new }
     {
         match read_line(self.line.as_slice()) {
@@ -116,7 +117,8 @@ impl Worker for Build {
 
     fn next(&mut self, out: &mut Line) -> Result<bool, Ending> {
         match self.phase {
-            LinePhase::Reading | LinePhase::Ended => Ok(false),
+            LinePhase::Reading => Ok(false),
+            LinePhase::Ended => Ok(false),
             LinePhase::Ready => self.take_line(LinePhase::Reading, out),
             LinePhase::ReadyLast => self.take_line(LinePhase::Ended, out),
         }
@@ -132,21 +134,9 @@ impl Worker for Build {
 fn put_image(unit: Unit, status: Status, out: &mut Line)
     ensures { out.new ≡ image_octets status unit }
 {
-    let statuses = filled(status, frame_length(&unit) / 72);
+    let statuses = Statuses::filled(status, frame_length(&unit) / 72);
     let mut bits = BitBuf::new();
     image(&Frame { unit, statuses }, &mut bits);
     out.clear();
     put_octets(&bits, 0, out);
-}
-
-// So many times one status symbol.
-fn filled(status: Status, count: usize) -> Statuses
-    requires { count ≤ 360 }
-    ensures { result ≡ replicate count status }
-{
-    let mut statuses = Statuses::new();
-    while statuses.len() < count {
-        statuses.push(status);
-    }
-    statuses
 }

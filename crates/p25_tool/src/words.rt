@@ -147,8 +147,12 @@ fn three_words(word: &[u8], nac: &[u8], status: &[u8]) -> Option<Command>
 fn status_value(word: &[u8]) -> Option<Status>
     ensures { result ≡ status_in word.now }
 {
-    match word {
-        [digit @ b'0'..=b'3'] => Status::new(digit - b'0'),
-        _ => None,
+    if word.len() != 1 {
+        return None;
     }
+    let digit = word[0];
+    if digit < b'0' || digit > b'3' {
+        return None;
+    }
+    Status::new(digit - b'0')
 }

@@ -1,4 +1,4 @@
-use Rattle.std.proofs.Common.{◌≡◌, List, ℕ, subst, ap, ◌∙◌, arith}
+use Rattle.std.proofs.Common.{subst, ap, ◌∙◌, arith}
 use Rattle.p25_work.specs.Futures.{IsClosed}
 use Rattle.p25_tool.specs.declared.build.LinePhase.TheVariants.{Ended, ReadyLast}
 use Rattle.p25_tool.specs.Buildings.{Building, building, building_future, is_ended_phase, lines_ready}
