@@ -10,7 +10,7 @@ use Rattle.p25_bits.proofs.BitsLaws.{bits_of-add, length-bits_of, field_of-bits_
 use Rattle.p25_code.specs.Words.{IsEncoding}
 use Rattle.p25_bch_nid.specs.Bch63.{IsBch63}
 use Rattle.p25_bch_nid.specs.Bch63Laws.{IsEncoding-encoded, one_word}
-use Rattle.p25_status.proofs.SyncLaws.{ones-xor}
+use Rattle.p25_bits.proofs.DistanceLaws.{ones-xor}
 use Rattle.p25_tool.specs.Items.{nid_bits, nid_word}
 
 -- an identifier has 64 bits where the unit reaches so far
