@@ -1,4 +1,3 @@
-pub mod Lists
 pub mod PartLaws
 pub mod BitsLaws
 pub mod NumbersLaws
