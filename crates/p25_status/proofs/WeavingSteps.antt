@@ -1,11 +1,11 @@
--- One block more, as the loops over the blocks of a unit take it.
-use Rattle.std.proofs.Common.{◌≡◌, ℕ, suc, ◌+◌, ◌-◌, ◌*◌, ◌<◌, ◌≤◌, Bool, false, List, [], ◌∷◌, ◌++◌, take, drop, get_or, slice_get, Some, ap, ap₂, sym, ◌∙◌, arith, append_assoc}
+-- What the loops over the blocks of a unit need at each step: one block more. The blocks from a place on begin with that block.
+use Rattle.std.proofs.Common.{◌≡◌, ℕ, suc, ◌+◌, ◌-◌, ◌*◌, ◌<◌, ◌≤◌, Bool, false, List, [], ◌∷◌, ◌++◌, length, take, drop, get_or, slice_get, Some, ap, ap₂, sym, ◌∙◌, arith, append_assoc}
 use Rattle.std.proofs.lemmas.Option.{slice_get_within}
-use Rattle.std.proofs.lemmas.List.{drop_more, drop-drop, get_or-drop, get_or-take}
-use Rattle.p25_bits.specs.Bits.{bits_of, part}
+use Rattle.std.proofs.lemmas.List.{drop_more, drop-drop, get_or-drop}
+use Rattle.p25_bits.specs.Bits.{digit_of, bits_of, field_of, field_after, part}
 use Rattle.std.proofs.lemmas.Option.{get_or_from_slice_get}
-use Rattle.p25_bits.proofs.PartLaws.{part-take}
-use Rattle.p25_status.specs.Status.{status_number, symbol_of}
+use Rattle.p25_bits.proofs.PartLaws.{get_or-part}
+use Rattle.p25_status.specs.Status.{status_number, status_from_bits, same_status}
 use Rattle.p25_status.specs.Woven.{woven, plain_in, statuses_in}
 use Rattle.p25_status.specs.declared.symbols.Status.{Status}
 
@@ -34,14 +34,14 @@ plain_block blocks i sent h =
     ∙ ap (λ l. part (72 * i) 70 sent ++ plain_in (blocks - (i + 1)) l) (drop-drop 72 (72 * i) sent ∙ ap (λ n. drop n sent) next)
 
 pub statuses_block : (blocks i : ℕ) (sent : List Bool) → i < blocks
-    → statuses_in (blocks - i) (drop (72 * i) sent) ≡ symbol_of (get_or sent (72 * i + 70) false) (get_or sent (72 * i + 71) false) ∷ statuses_in (blocks - (i + 1)) (drop (72 * (i + 1)) sent)
+    → statuses_in (blocks - i) (drop (72 * i) sent) ≡ status_from_bits (get_or sent (72 * i + 70) false) (get_or sent (72 * i + 71) false) ∷ statuses_in (blocks - (i + 1)) (drop (72 * (i + 1)) sent)
 unfolding statuses_in
 statuses_block blocks i sent h =
     let more : blocks - i ≡ suc (blocks - (i + 1)) = omega arith in
     let next : 72 * i + 72 ≡ 72 * (i + 1) = omega arith in
     ap (λ n. statuses_in n (drop (72 * i) sent)) more
     ∙ ap₂ ◌∷◌
-    (ap₂ symbol_of (get_or-drop (72 * i) sent 70 false) (get_or-drop (72 * i) sent 71 false))
+    (ap₂ status_from_bits (get_or-drop (72 * i) sent 70 false) (get_or-drop (72 * i) sent 71 false))
     (ap (statuses_in (blocks - (i + 1))) (drop-drop 72 (72 * i) sent ∙ ap (λ n. drop n sent) next))
 
 pub plain_none : (blocks i : ℕ) (sent : List Bool) → blocks ≤ i → plain_in (blocks - i) sent ≡ []
@@ -51,14 +51,6 @@ plain_none blocks i sent h = let none : blocks - i ≡ 0 = omega arith in ap (λ
 pub statuses_none : (blocks i : ℕ) (sent : List Bool) → blocks ≤ i → statuses_in (blocks - i) sent ≡ []
 unfolding statuses_in
 statuses_none blocks i sent h = let none : blocks - i ≡ 0 = omega arith in ap (λ n. statuses_in n sent) none
-
--- a part of a part
-pub part_of_part : (bits : List Bool) (at len from count : ℕ) → from + count ≤ len → part from count (part at len bits) ≡ part (at + from) count bits
-part_of_part bits at len from count h = part-take from count len (drop at bits) h ∙ ap (take count) (drop-drop from at bits)
-
--- a bit of a part
-pub get_or-part : (bits : List Bool) (at len i : ℕ) → i < len → get_or (part at len bits) i false ≡ get_or bits (at + i) false
-get_or-part bits at len i h = get_or-take len (drop at bits) i false h ∙ get_or-drop at bits i false
 
 -- what stands before a block, with that block, before the blocks after it
 pub woven_more : (bits : List Bool) (statuses : List Status) (i : ℕ) (status : Status) (out longer : List Bool) → slice_get statuses i ≡ Some status
@@ -84,16 +76,35 @@ plain_more blocks i sent out longer block h same is =
 
 -- the same for its symbol
 pub statuses_more : (blocks i : ℕ) (sent : List Bool) (out longer : List Status) (status : Status) → i < blocks
-    → status ≡ symbol_of (get_or sent (72 * i + 70) false) (get_or sent (72 * i + 71) false) → longer ≡ out ++ status ∷ []
+    → status ≡ status_from_bits (get_or sent (72 * i + 70) false) (get_or sent (72 * i + 71) false) → longer ≡ out ++ status ∷ []
     → longer ++ statuses_in (blocks - (i + 1)) (drop (72 * (i + 1)) sent) ≡ out ++ statuses_in (blocks - i) (drop (72 * i) sent)
 statuses_more blocks i sent out longer status h same is =
     let rest = statuses_in (blocks - (i + 1)) (drop (72 * (i + 1)) sent) in
     ap (λ xs. xs ++ rest) (is ∙ ap (λ s. out ++ s ∷ []) same)
-    ∙ append_assoc out (symbol_of (get_or sent (72 * i + 70) false) (get_or sent (72 * i + 71) false) ∷ []) rest
+    ∙ append_assoc out (status_from_bits (get_or sent (72 * i + 70) false) (get_or sent (72 * i + 71) false) ∷ []) rest
     ∙ ap (λ xs. out ++ xs) (sym (statuses_block blocks i sent h))
 
--- a bit that was read is that bit of the part
-pub bit_of_part : (bits : List Bool) (at len from k : ℕ) (bit : Bool) → from + k < len → slice_get bits (at + from + k) ≡ Some bit → bit ≡ get_or (part at len bits) (from + k) false
-bit_of_part bits at len from k bit h read =
-    let place : at + (from + k) ≡ at + from + k = omega arith in
-    sym (get_or_from_slice_get bits (at + from + k) bit false read) ∙ ap (λ n. get_or bits n false) (sym place) ∙ sym (get_or-part bits at len (from + k) h)
+-- two bits as a number
+field_of-two : (bits : List Bool) (k : ℕ) → k + 2 ≤ length bits → field_of (part k 2 bits) ≡ 2 * digit_of (get_or bits k false) + digit_of (get_or bits (k + 1) false)
+unfolding field_of field_after
+field_of-two bits k there =
+    let first : k < length bits = omega arith in
+    let second : k + 1 < length bits = omega arith in
+    ap (λ rest. field_of (take 2 rest)) (drop_more bits k false first ∙ ap (λ rest. get_or bits k false ∷ rest) (drop_more bits (k + 1) false second)) ∙ omega arith
+
+-- the symbol of two bits that were read is the one of those bits of the part
+pub status_read : (bits : List Bool) (at len from number : ℕ) (status : Status) → from + 2 ≤ len → at + len ≤ length bits → status_number status ≡ number → number ≡ field_of (part (at + from) 2 bits)
+    → status ≡ status_from_bits (get_or (part at len bits) from false) (get_or (part at len bits) (from + 1) false)
+unfolding status_from_bits
+status_read bits at len from number status inside there is read =
+    let both : at + from + 2 ≤ length bits = omega arith in
+    let next : at + (from + 1) ≡ at + from + 1 = omega arith in
+    let low : from < len = omega arith in
+    let high : from + 1 < len = omega arith in
+    same_status
+    status
+    _
+    (is
+    ∙ read
+    ∙ field_of-two bits (at + from) both
+    ∙ sym (ap₂ (λ x y. 2 * digit_of x + digit_of y) (get_or-part at len from bits false low) (get_or-part at len (from + 1) bits false high ∙ ap (λ k. get_or bits k false) next)))
