@@ -2,6 +2,6 @@ pub mod NidLaws
 pub mod NidReadingLaws
 pub mod NidWordLaws
 pub mod SymbolsSteps
-pub mod Bch63Steps
+pub mod CorrectionSteps
 pub mod ReadingSteps
 pub mod SentSteps

@@ -1,56 +1,22 @@
 -- Symbols that are bits: words of bits as words of the Reed-Solomon code (63,41).
-use Rattle.std.specs.Prelude.{◌≡◌, ℕ, zero, suc, ◌+◌, ◌<◌, ◌≤◌, ◌==◌, Bool, true, false, List, [], ◌∷◌, length, map, refl}
-use Rattle.std.proofs.Common.{ap, ap₂, sym, ◌∙◌, cond, eqb, arith, lit≤, lit<}
+use Rattle.std.specs.Prelude.{◌≡◌, ◌+◌, ◌==◌, Bool, true, false, List, [], ◌∷◌, map, refl}
+use Rattle.std.proofs.Common.{ap, ap₂, sym, ◌∙◌, cond, eqb, lit≤, lit<}
 use Rattle.std.specs.Bool.{beq}
 use Rattle.std.proofs.lemmas.Bool.{false_from_ne_true}
 use Rattle.std.proofs.lemmas.List.{length-map}
 use Rattle.p25_bits.specs.Distance.{distance_by, distance_of}
 use Rattle.p25_gf64.specs.declared.symbol.Sym.{Sym}
-use Rattle.p25_gf64.specs.Symbol.{number, same_symbol}
+use Rattle.p25_gf64.specs.Symbol.{number}
 use Rattle.p25_gf64.specs.Gf64.{gf64}
 use Rattle.p25_gf64.proofs.Symbols.{number_zero, number_one, same_from_eq}
-use Rattle.p25_algebra.specs.Series.{coefficient}
 use Rattle.p25_bch_nid.specs.BitValues.{bit_coefficient}
 use Rattle.p25_reed_solomon.specs.Words.{IsCode, IsWord, same_symbols}
 use Rattle.p25_reed_solomon.specs.DistanceFacts.{same_symbols-same}
 use Rattle.p25_bch_nid.specs.Bch63.{IsBch63, symbols_of}
 
--- each symbol is 0 or 1
-pub record AreBits (symbols : List Sym) : Type 0 where
-  pub each : (k : ℕ) → k < length symbols → number (coefficient gf64 symbols k) ≤ 1
-
 -- symbols as bits: 1 is 1, and every other is 0
 abbrev pub bits_in : List Sym → List Bool
 bits_in symbols = map (λ symbol. number symbol == 1) symbols
-
-bit_number : (bit : Bool) → number (bit_coefficient gf64 bit) ≤ 1
-bit_number true = omega (arith, number_one)
-bit_number false = omega (arith, number_zero)
-
--- the symbols of bits are bits
-pub AreBits-symbols_of : (bits : List Bool) → AreBits (symbols_of bits)
-AreBits-symbols_of bits = record { each = each bits }
-  where
-    each : (bits : List Bool) (k : ℕ) → k < length (symbols_of bits) → number (coefficient gf64 (symbols_of bits) k) ≤ 1
-    each [] k h = absurd (omega arith)
-    each (bit ∷ bits) zero h = bit_number bit
-    each (bit ∷ bits) (suc k) h = each bits k (omega arith)
-
-bit_again : (symbol : Sym) → number symbol ≤ 1 → bit_coefficient gf64 (number symbol == 1) ≡ symbol
-bit_again symbol h = by_number (number symbol) refl h
-  where
-    by_number : (n : ℕ) → number symbol ≡ n → n ≤ 1 → bit_coefficient gf64 (n == 1) ≡ symbol
-    by_number zero e h = same_symbol _ _ (number_zero ∙ sym e)
-    by_number (suc zero) e h = same_symbol _ _ (number_one ∙ sym e)
-    by_number (suc (suc n)) e h = absurd (omega arith)
-
--- symbols that are bits are the symbols of these bits
-pub symbols_of-bits_in : (symbols : List Sym) → AreBits symbols → symbols_of (bits_in symbols) ≡ symbols
-symbols_of-bits_in symbols are = again symbols are.each
-  where
-    again : (symbols : List Sym) → ((k : ℕ) → k < length symbols → number (coefficient gf64 symbols k) ≤ 1) → symbols_of (bits_in symbols) ≡ symbols
-    again [] each = refl
-    again (symbol ∷ symbols) each = ap₂ ◌∷◌ (bit_again symbol (each 0 (omega arith))) (again symbols (λ k h. each (suc k) (omega arith)))
 
 -- the bit of a bit's symbol is that bit
 pub bits_in-symbols_of : (bits : List Bool) → bits_in (symbols_of bits) ≡ bits

@@ -1,5 +1,5 @@
 -- The image of a packet by its places, as the standard says it.
-use Rattle.std.specs.Prelude.{◌≡◌, ℕ, ◌+◌, ◌*◌, ◌<◌, ◌≤◌, Bool, false, List, length, take, slice_get, Some}
+use Rattle.std.specs.Prelude.{◌≡◌, ℕ, ◌*◌, ◌<◌, ◌≤◌, Bool, false, List, length, take, slice_get, Some}
 use Rattle.std.proofs.Common.{get_or}
 use Rattle.p25_bits.specs.Bits.{part}
 use Rattle.p25_trellis.specs.Trellis.{IsBlock}

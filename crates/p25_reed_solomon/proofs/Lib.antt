@@ -1,6 +1,11 @@
-pub mod PlaceFacts
-pub mod ErrorFacts
-pub mod LocatorFacts
-pub mod ReadingFacts
-pub mod Encoding
-pub mod Encoders
+pub mod ZerosSteps
+pub mod ErrorsLaws
+pub mod ReaderSteps
+pub mod MultiplesLaws
+pub mod EncoderSteps
+pub mod MarksLaws
+pub mod LocatorLaws
+pub mod ListSteps
+pub mod ErrorsSteps
+pub mod CostLaws
+pub mod WrongSteps

@@ -1,7 +1,7 @@
-use Rattle.std.proofs.Common.{◌≡◌, ◌≢◌, ◌<◌, ◌≤◌, true, false, Err, Ok, take, ap, sym, ◌∙◌, arith}
+use Rattle.std.proofs.Common.{◌<◌, ◌≤◌, Err, take, ap, sym, ◌∙◌, arith}
 use Rattle.std.proofs.lemmas.Result.{err_from_is_err_and}
 use Rattle.p25_bits.specs.Distance.{distance_of}
-use Rattle.p25_status.specs.Sync.{has_sync, sync_bits, sync_slack}
+use Rattle.p25_status.specs.Sync.{sync_bits, sync_slack}
 use Rattle.p25_status.proofs.SyncLaws.{has_sync-yes, has_sync-no}
 use Rattle.p25_packet_blocks.proofs.UnitLaws.{packet_unit_of-sync, packet_unit_of-nid, packet_unit_of-duid, packet_unit_of-bad, packet_unit_of-good}
 use Rattle.p25_packet_blocks.proofs.unit.read_packet_unit.Goals as goal
