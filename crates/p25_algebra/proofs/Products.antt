@@ -29,6 +29,10 @@ module _ {F : Type 0} (K : Field F) where
         | inr above ↦ sum_longer K m (suc n) (λ i. f i ⊗ shifted K i g n) (omega arith) (λ i low high. ap (λ w. w ⊗ shifted K i g n) (short.above i low) ∙ zero_mul K (shifted K i g n))
       ]
 
+  -- coefficients up to n make that of x^n
+  pub product_agree : (f g h : ℕ → F) (n : ℕ) → ((i : ℕ) → i ≤ n → g i ≡ h i) → product_at K f g n ≡ product_at K f h n
+  product_agree f g h n e = sum_same K (suc n) (λ i. f i ⊗ g (n - i)) (λ i. f i ⊗ h (n - i)) (λ i low. ap (λ w. f i ⊗ w) (e (n - i) (omega arith)))
+
   pub product_same : (f g h : ℕ → F) → ((i : ℕ) → g i ≡ h i) → (n : ℕ) → product_at K f g n ≡ product_at K f h n
   product_same f g h e n = sum_same K (suc n) (λ i. f i ⊗ g (n - i)) (λ i. f i ⊗ h (n - i)) (λ i low. ap (λ w. f i ⊗ w) (e (n - i)))
 
@@ -73,7 +77,7 @@ module _ {F : Type 0} (K : Field F) where
       less : (i : ℕ) → suc n - suc i ≡ n - i
       less i = omega arith
 
-  product_at_zero : (f g : ℕ → F) → product_at K f g 0 ≡ f 0 ⊗ g 0
+  pub product_at_zero : (f g : ℕ → F) → product_at K f g 0 ≡ f 0 ⊗ g 0
   product_at_zero f g = sum_of_one K 1 0 (λ i. f i ⊗ g (0 - i)) (omega arith) (λ i h apart. absurd (omega arith))
 
   pub product_assoc : (f g h : ℕ → F) (n : ℕ) → product_at K (product_at K f g) h n ≡ product_at K f (product_at K g h) n

@@ -123,7 +123,7 @@ module _ {F : Type 0} (K : Field F) where
       product-add_left K f (λ i. y ⊗ shifted K 1 f i) g n
       ∙ ap (λ w. product_at K f g n ⊕ w) (product-mul_left K y (shifted K 1 f) g n ∙ ap (λ w. y ⊗ w) (product-shifted K 1 f g n))
 
-  times_linear_same : (y : F) (f g : ℕ → F) → ((i : ℕ) → f i ≡ g i) → (n : ℕ) → times_linear K y f n ≡ times_linear K y g n
+  pub times_linear_same : (y : F) (f g : ℕ → F) → ((i : ℕ) → f i ≡ g i) → (n : ℕ) → times_linear K y f n ≡ times_linear K y g n
   times_linear_same y f g e zero = ap₂ (λ a b. a ⊕ y ⊗ b) (e 0) (shifted-first f ∙ sym (shifted-first g))
   times_linear_same y f g e (suc n) = ap₂ (λ a b. a ⊕ y ⊗ b) (e (suc n)) (shifted-next f n ∙ e n ∙ sym (shifted-next g n))
 

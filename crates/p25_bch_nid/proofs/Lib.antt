@@ -1,5 +1,7 @@
 pub mod NidLaws
-pub mod Maps
-pub mod SymbolReadings
-pub mod Readings
-pub mod NidWords
+pub mod NidReadingLaws
+pub mod NidWordLaws
+pub mod SymbolsSteps
+pub mod CorrectionSteps
+pub mod ReadingSteps
+pub mod SentSteps

@@ -3,11 +3,11 @@ use Rattle.std.specs.Prelude.{◌≡◌, ℕ, ◌≤◌, Bool, List, length, map
 use Rattle.p25_gf64.specs.declared.symbol.Sym.{Sym}
 use Rattle.p25_gf64.specs.Gf64.{gf64}
 use Rattle.p25_reed_solomon.specs.Words.{value_of}
-use Rattle.p25_bch_nid.specs.BitPolynomials.{coefficient_of}
+use Rattle.p25_bch_nid.specs.BitValues.{bit_coefficient}
 
 -- bits as the symbols 0 and 1
 abbrev pub symbols_of : List Bool → List Sym
-symbols_of bits = map (coefficient_of gf64) bits
+symbols_of bits = map (bit_coefficient gf64) bits
 
 -- 63 bits for which, at each i from 1 to 22, the sum over j of bit j times α^(i · (62 − j)) is 0
 pub record IsBch63 (word : List Bool) : Type 0 where

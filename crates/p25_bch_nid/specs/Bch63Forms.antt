@@ -7,7 +7,7 @@ use Rattle.p25_bits.specs.Bits.{digit_of, bits_of, field_of}
 use Rattle.p25_bits.specs.Divisible.{IsDivisible, HasDegree}
 use Rattle.p25_bits.proofs.BitsLaws.{length-bits_of, field_of-bits_of}
 use Rattle.p25_code.specs.Binary.{syndrome_of}
-use Rattle.p25_code.proofs.Remainders.{remainders, IsRemainder-word, remainders-divisible, divisible-remainders}
+use Rattle.p25_code.proofs.RemainderLaws.{remainders, IsRemainder-word, remainders-divisible, divisible-remainders}
 use Rattle.p25_gf64.specs.Field.{power}
 use Rattle.p25_gf64.specs.Product.{product, product_by, product_power, times_x}
 use Rattle.p25_gf64.specs.ProductLaws.{all_below, all_below_at, all_pairs_below, all_pairs_below_at}
@@ -21,7 +21,7 @@ use Rattle.p25_algebra.specs.Sums.{AreApart}
 use Rattle.p25_algebra.specs.Series.{coefficient}
 use Rattle.p25_algebra.proofs.SumFacts.{sum_same}
 use Rattle.p25_bch_nid.specs.Nid.{generator}
-use Rattle.p25_bch_nid.specs.BitPolynomials.{coefficient_of, bit_value, bit_value-nil, bit_value-cons, bit_value-square, bit_value-places, no_coefficient}
+use Rattle.p25_bch_nid.specs.BitValues.{bit_coefficient, bit_value, bit_value-nil, bit_value-cons, bit_value-square, bit_value-places, no_coefficient}
 use Rattle.p25_bch_nid.specs.RemainderValues.{number_value, number_value-zero, word_value}
 use Rattle.p25_reed_solomon.specs.Words.{value_of}
 use Rattle.p25_bch_nid.specs.Bch63.{IsBch63, symbols_of}
@@ -50,7 +50,7 @@ unfoldable horner : ℕ → ℕ → List Bool → ℕ
 horner x high [] = high
 horner x high (bit ∷ bits) = horner x (bit_xor (product x high) (digit_of bit)) bits
 
-digit_number : (bit : Bool) → number (coefficient_of gf64 bit) ≡ digit_of bit
+digit_number : (bit : Bool) → number (bit_coefficient gf64 bit) ≡ digit_of bit
 digit_number true = number_one
 digit_number false = number_zero
 
@@ -60,7 +60,7 @@ unfolding horner
 horner-value x high [] =
     ap number (sym (ap₂ gf64.add (ap (gf64.mul high) (power-zero gf64 x) ∙ mul_one gf64 high) (bit_value-nil gf64 x) ∙ add_zero gf64 high))
 horner-value x high (bit ∷ bits) =
-    let c = coefficient_of gf64 bit in
+    let c = bit_coefficient gf64 bit in
     let next = gf64.add (gf64.mul x high) c in
     let e : bit_xor (product (number x) (number high)) (digit_of bit) ≡ number next = sym (number-add (gf64.mul x high) c ∙ ap₂ bit_xor (number-mul x high) (digit_number bit)) in
     ap (λ n. horner (number x) n bits) e

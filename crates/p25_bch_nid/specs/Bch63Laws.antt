@@ -10,11 +10,15 @@ use Rattle.p25_bits.specs.Distance.{distance_of}
 use Rattle.p25_bits.specs.Divisible.{IsDivisible, IsRemainder}
 use Rattle.p25_bits.proofs.BitsLaws.{length-bits_of, field_of-append, field_of-bits_of, field_of-lt, same_from_field_of}
 use Rattle.p25_bits.proofs.Divisions.{xor_apart, same_from_xor, some_remainder, IsDivisible-lower, IsDivisible-sum}
+use Rattle.std.specs.Bool.{beq}
+use Rattle.std.specs.Cmp.{bool_eq_equiv}
 use Rattle.p25_code.specs.Words.{IsEncoding}
+use Rattle.p25_code.specs.Letters.{same_bit}
+use Rattle.p25_code.proofs.ReadingLaws.{IsBlockCode}
 use Rattle.p25_reed_solomon.specs.WordLaws.{words_apart}
 use Rattle.p25_bch_nid.specs.Nid.{generator}
 use Rattle.p25_bch_nid.specs.Bch63.{IsBch63, symbols_of}
-use Rattle.p25_bch_nid.specs.BitSymbols.{bits_in, bits_in-symbols_of, distance_of_symbols, IsCode-63_41, IsWord-symbols_of}
+use Rattle.p25_bch_nid.specs.Bch63Symbols.{bits_in, bits_in-symbols_of, distance_of_symbols, IsCode-63_41, IsWord-symbols_of}
 use Rattle.p25_bch_nid.specs.Bch63Forms.{generator_degree, to_divisible, from_divisible}
 
 -- ---- the word of some information
@@ -91,13 +95,25 @@ far_apart v w isv isw differ =
     omega (arith, words_apart 63 41 IsCode-63_41 (symbols_of v) (symbols_of w) (IsWord-symbols_of v isv) (IsWord-symbols_of w isw) other, distance_of_symbols v w)
 
 -- each word has 63 bits
-pub length_of_word : (word : List Bool) → IsBch63 word → length word ≡ 63
+length_of_word : (word : List Bool) → IsBch63 word → length word ≡ 63
 length_of_word word is = is.long
 
 -- so at most one word lies within 11 bits of any list
-pub within : 2 * 11 < 23
+within : 2 * 11 < 23
 within = lit< tt
 
 -- the information is part of the word
-pub begins : 16 ≤ 63
+begins : 16 ≤ 63
 begins = lit≤ tt
+
+-- the laws of the code
+pub bch63_is_code : IsBlockCode beq IsBch63 63 16 11 23
+bch63_is_code = record {
+  compares = bool_eq_equiv;
+  alike = same_bit;
+  long = length_of_word;
+  one_word = one_word;
+  far_apart = far_apart;
+  close = within;
+  begins = begins;
+}

@@ -5,8 +5,8 @@ use Rattle.p25_code.specs.Readings.{Tested, bits_searched, reading_of, IsReadAs,
 use Rattle.std.proofs.Common.{inl, inr}
 use Rattle.p25_reed_solomon.specs.RsReadings.{IsWord-tested}
 use Rattle.p25_bch_nid.specs.Bch63.{IsBch63, symbols_of}
-use Rattle.p25_bch_nid.specs.Bch63Laws.{length_of_word}
-use Rattle.p25_bch_nid.specs.BitSymbols.{IsWord-symbols_of, IsBch63-from_symbols}
+use Rattle.p25_bch_nid.specs.Bch63Laws.{bch63_is_code}
+use Rattle.p25_bch_nid.specs.Bch63Symbols.{IsWord-symbols_of, IsBch63-from_symbols}
 
 -- whether a list of bits is a word can be tested, as its symbols are
 IsBch63-tested : Tested IsBch63
@@ -23,4 +23,4 @@ bch63_reading_of = reading_of bits_searched beq IsBch63 IsBch63-tested 63 11
 -- it is the reading
 pub bch63_reads_as : (received : List Bool) → IsReadAs beq IsBch63 11 received (bch63_reading_of received)
 unfolding bch63_reading_of
-bch63_reads_as = IsReadAs-reading_of bits_searched beq IsBch63 IsBch63-tested 63 11 length_of_word
+bch63_reads_as = IsReadAs-reading_of bits_searched beq IsBch63 IsBch63-tested 63 11 bch63_is_code.long

@@ -1,9 +1,9 @@
 pub mod Nid
-pub mod BitPolynomials
+pub mod BitValues
 pub mod RemainderValues
 pub mod Bch63
 pub mod Bch63Forms
-pub mod BitSymbols
+pub mod Bch63Symbols
 pub mod Bch63Laws
 pub mod Bch63Readings
 pub mod NidReading

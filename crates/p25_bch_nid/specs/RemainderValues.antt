@@ -9,12 +9,12 @@ use Rattle.p25_bits.specs.Bits.{digit_of, bits_of}
 use Rattle.p25_bits.specs.Divisible.{HasDegree}
 use Rattle.p25_bits.proofs.BitsLaws.{bits_of-suc, bits_of-zero, bits_of-add, length-bits_of}
 use Rattle.p25_code.specs.Binary.{syndrome_of}
-use Rattle.p25_code.proofs.Parities.{bits_of-xor}
-use Rattle.p25_code.proofs.Remainders.{power_remainder, remainders, IsRemainder-power}
+use Rattle.p25_code.proofs.ParityLaws.{bits_of-xor}
+use Rattle.p25_code.proofs.RemainderLaws.{power_remainder, remainders, IsRemainder-power}
 use Rattle.p25_gf64.specs.Field.{Field, power}
 use Rattle.p25_gf64.proofs.FieldFacts.{add_zero, zero_add, mul_comm, mul_one, one_mul, mul_zero, zero_mul}
 use Rattle.p25_gf64.proofs.Powers.{power-zero, power-one, power-suc}
-use Rattle.p25_bch_nid.specs.BitPolynomials.{coefficient_of, bit_value, bit_value-append, bit_value-sum, bit_value-nil, bit_value-cons}
+use Rattle.p25_bch_nid.specs.BitValues.{bit_coefficient, bit_value, bit_value-append, bit_value-sum, bit_value-nil, bit_value-cons}
 
 module _ {F : Type 0} (K : Field F) (x : F) where
   open K use {zero as 𝟘, one as 𝟙, add as ◌⊕◌, mul as ◌⊗◌}
@@ -30,7 +30,7 @@ module _ {F : Type 0} (K : Field F) (x : F) where
   number_value-suc width number low =
       ap (bit_value K x) (bits_of-suc width number)
       ∙ bit_value-cons K x (eqb (bit_at number width) 1) (bits_of width number)
-      ∙ ap (λ bit. coefficient_of K (eqb bit 1) ⊗ power K x (length (bits_of width number)) ⊕ number_value width number) (bit_at_above number width width low (omega arith))
+      ∙ ap (λ bit. bit_coefficient K (eqb bit 1) ⊗ power K x (length (bits_of width number)) ⊕ number_value width number) (bit_at_above number width width low (omega arith))
       ∙ ap (λ w. w ⊕ number_value width number) (zero_mul K (power K x (length (bits_of width number))))
       ∙ zero_add K (number_value width number)
 
@@ -40,7 +40,7 @@ module _ {F : Type 0} (K : Field F) (x : F) where
   number_value-zero (suc width) = number_value-suc width 0 (pow_pos width) ∙ number_value-zero width
 
   -- one more coefficient below the others
-  pub number_value-more : (width number : ℕ) (bit : Bool) → number_value (suc width) (2 * number + digit_of bit) ≡ x ⊗ number_value width number ⊕ coefficient_of K bit
+  pub number_value-more : (width number : ℕ) (bit : Bool) → number_value (suc width) (2 * number + digit_of bit) ≡ x ⊗ number_value width number ⊕ bit_coefficient K bit
   number_value-more width number bit =
       let e : suc width ≡ width + 1 = omega arith in
       let n = 2 * number + digit_of bit in
@@ -62,12 +62,12 @@ module _ {F : Type 0} (K : Field F) (x : F) where
       test true = refl
       test false = refl
 
-      one_bit : (n : ℕ) (bit : Bool) → n % 2 ≡ digit_of bit → number_value 1 n ≡ coefficient_of K bit
+      one_bit : (n : ℕ) (bit : Bool) → n % 2 ≡ digit_of bit → number_value 1 n ≡ bit_coefficient K bit
       one_bit n bit last =
           ap (bit_value K x) (bits_of-suc 0 n)
           ∙ bit_value-cons K x (eqb (bit_at n 0) 1) (bits_of 0 n)
-          ∙ ap₂ ◌⊕◌ (ap₂ (λ b w. coefficient_of K b ⊗ power K x w) (ap (λ m. eqb m 1) (bit_at_lowest n ∙ last) ∙ test bit) (length-bits_of 0 n) ∙ ap (λ p. coefficient_of K bit ⊗ p) (power-zero K x) ∙ mul_one K (coefficient_of K bit)) (ap (bit_value K x) (bits_of-zero n) ∙ bit_value-nil K x)
-          ∙ add_zero K (coefficient_of K bit)
+          ∙ ap₂ ◌⊕◌ (ap₂ (λ b w. bit_coefficient K b ⊗ power K x w) (ap (λ m. eqb m 1) (bit_at_lowest n ∙ last) ∙ test bit) (length-bits_of 0 n) ∙ ap (λ p. bit_coefficient K bit ⊗ p) (power-zero K x) ∙ mul_one K (bit_coefficient K bit)) (ap (bit_value K x) (bits_of-zero n) ∙ bit_value-nil K x)
+          ∙ add_zero K (bit_coefficient K bit)
 
   -- the value of 1 is one
   number_value-one : (width : ℕ) → 1 < 2 ^ width → number_value width 1 ≡ 𝟙
@@ -115,6 +115,6 @@ module _ {F : Type 0} (K : Field F) (x : F) where
         ∙ ap₂ ◌⊕◌ (chosen bit) (word_value word)
         ∙ sym (bit_value-cons K x bit word)
       where
-        chosen : (bit : Bool) → number_value degree (cond bit (power_remainder generator degree (length word)) 0) ≡ coefficient_of K bit ⊗ power K x (length word)
+        chosen : (bit : Bool) → number_value degree (cond bit (power_remainder generator degree (length word)) 0) ≡ bit_coefficient K bit ⊗ power K x (length word)
         chosen true = power_remainder_value (length word) ∙ sym (one_mul K (power K x (length word)))
         chosen false = number_value-zero degree ∙ sym (zero_mul K (power K x (length word)))

@@ -1,15 +1,12 @@
 //! The BCH code (63,16).
 
-ghost use Rattle.p25_code.specs.Letters.{same_bit};
 ghost use Rattle.p25_bch_nid.specs.Bch63.{IsBch63};
-ghost use Rattle.p25_bch_nid.specs.Bch63Laws.{length_of_word, one_word, far_apart, within, begins};
+ghost use Rattle.p25_bch_nid.specs.Bch63Laws.{bch63_is_code};
 ghost use Rattle.p25_bch_nid.specs.Bch63Readings.{bch63_reading_of, bch63_reads_as};
 
-use crate::bits::{are_bits, number_of, put_bits, put_number, put_symbols};
-use p25_bits::number_remainder;
+use crate::correction::{corrected, distance, is_word};
+use p25_bits::{number_of, number_remainder, put_number};
 use p25_code::{BlockCode, Reading};
-use p25_gf64::Sym;
-use p25_reed_solomon::Rs;
 
 // The generator polynomial: bit i is the coefficient of x^i.
 pub(crate) const GENERATOR: u64 = 0xCD93_0BDD_3B2B;
@@ -45,17 +42,17 @@ impl BlockCode for Bch63 {
 
     ghost reads_as = { λ _. bch63_reads_as };
 
-    ghost same_letter = { same_bit };
+    ghost same_letter = { bch63_is_code.alike };
 
-    ghost length_of_word = { λ _. length_of_word };
+    ghost length_of_word = { λ _. bch63_is_code.long };
 
-    ghost one_word = { λ _. one_word };
+    ghost one_word = { λ _. bch63_is_code.one_word };
 
-    ghost far_apart = { λ _. far_apart };
+    ghost far_apart = { λ _. bch63_is_code.far_apart };
 
-    ghost within = { λ _. within };
+    ghost within = { λ _. bch63_is_code.close };
 
-    ghost begins = { λ _. begins };
+    ghost begins = { λ _. bch63_is_code.begins };
 
     fn radius() -> usize {
         RADIUS
@@ -68,16 +65,21 @@ impl BlockCode for Bch63 {
         put_number(remainder, checks);
     }
 
-    // A word of bits is a word of the Reed-Solomon code (63,41), which is zero at the same powers of α. Where a word of
-    // that code within the radius has other symbols than 0 and 1, no word of bits is that near, since it is the only one.
+    // A word without wrong bits is answered from its remainder by the generator. Of any other the wrong bits are inverted, and
+    // the word that this makes is tested again.
     fn read(word: &mut [bool]) -> Reading {
-        let mut symbols = [Sym::ZERO; 63];
-        put_symbols(word, &mut symbols);
-        let reading = Rs::<63, 41>::read(&mut symbols);
-        if !are_bits(&symbols) {
+        if is_word(word) {
+            return Reading::Found { fixes: 0 };
+        }
+        let sent = corrected(word);
+        let fixes = distance(word, &sent);
+        if fixes > 11 {
             return Reading::Beyond;
         }
-        put_bits(&symbols, word);
-        reading
+        if !is_word(&sent) {
+            return Reading::Beyond;
+        }
+        word.copy_from_slice(&sent);
+        Reading::Found { fixes }
     }
 }

@@ -1,12 +1,30 @@
-//! The laws of the code, for those who prove what they read.
+//! The laws of the code and of the reading of identifiers, for those who prove what they read.
 
-ghost use Rattle.std.specs.Prelude.{◌≡◌, ◌↔◌, Bool, List, length};
+ghost use Rattle.std.specs.Prelude.{◌≡◌, ◌↔◌, ℕ, ◌^◌, ◌<◌, ◌≤◌, Bool, List, Option, Some, length, take};
 ghost use Rattle.p25_bits.specs.Bits.{field_of};
+ghost use Rattle.p25_bits.specs.Distance.{distance_of};
 ghost use Rattle.p25_bits.specs.Divisible.{IsDivisible};
 ghost use Rattle.p25_bch_nid.specs.Nid.{generator};
 ghost use Rattle.p25_bch_nid.specs.Bch63.{IsBch63};
+ghost use Rattle.p25_bch_nid.specs.NidReading.{IsNidReading, identifier_of_word, nid_reading_of};
+ghost use Rattle.p25_bch_nid.specs.NidWord.{nid_word};
 
 /// The words of the code, which are zero at α^1 to α^22, are the lists of 63 bits that are divisible by the generator.
 pub fn two_forms()
     ensures { (word : List Bool) → IsBch63 word ↔ ((length word ≡ 63) × IsDivisible generator (field_of word)) }
+{}
+
+/// Does nothing: its contract is the laws of reading identifiers.
+///
+/// - `only`: what is read is the one answer that `IsNidReading` allows.
+/// - `word`: wherever a word of the code lies within 11 bits of the first 63, its NAC and DUID are read.
+/// - `near`: what was received lies within 11 bits of what is sent for the identifier that was read.
+/// - `sent`: what is sent for an identifier is read as that.
+/// - `first`: the last bit, P, is not looked at.
+pub fn reading_laws()
+    ensures only { (bits : List Bool) (answer : Option (ℕ × ℕ)) → 63 ≤ length bits → IsNidReading bits answer ↔ (answer ≡ nid_reading_of bits) }
+    ensures word { (bits word : List Bool) → 63 ≤ length bits → IsBch63 word → distance_of (take 63 bits) word ≤ 11 → nid_reading_of bits ≡ Some (identifier_of_word word) }
+    ensures near { (bits : List Bool) (nid : ℕ × ℕ) → nid_reading_of bits ≡ Some nid → distance_of (take 63 bits) (take 63 (nid_word nid.0 nid.1)) ≤ 11 }
+    ensures sent { (nac duid : ℕ) → nac < 2 ^ 12 → duid < 2 ^ 4 → nid_reading_of (nid_word nac duid) ≡ Some (nac, duid) }
+    ensures first { (a b : List Bool) → take 63 a ≡ take 63 b → nid_reading_of a ≡ nid_reading_of b }
 {}

@@ -1,7 +1,7 @@
 //! Values from outside, and each call once.
 
 use super::*;
-use crate::bits::{number_of, put_number};
+use p25_bits::{number_of, put_number};
 use p25_code::{BlockCode, Reading};
 
 // An identifier and the 64 bits that it is sent as. P, the last bit, is 1 for DUID 5 and A hex alone.
@@ -110,6 +110,14 @@ fn identifiers_with_wrong_bits(rt: HostRuntime) {
         let nid = Nid::new(nac, duid);
         assert_eq!(rt; read_nid(bits), nid, "{nac:x} {duid:x}");
         assert_eq!(rt; read_nid(bits ^ 1), nid, "{nac:x} {duid:x} with P inverted");
+        assert_eq!(rt;
+            nid.map(|nid| (
+                nid_distance(bits ^ 1, &nid),
+                nid_distance(bits ^ 0xFFF0, &nid)
+            )),
+            Some((0, 12)),
+            "{nac:x} {duid:x}"
+        );
         for start in 1..54_u32 {
             assert_eq!(rt;
                 read_nid(bits ^ (0x7FF << start)),
@@ -129,6 +137,18 @@ fn identifiers_with_wrong_bits(rt: HostRuntime) {
     }
     // It differs from each word in 21 places at least.
     assert_eq!(rt; read_nid(0x0003_682D_4527_4B06), None);
+}
+
+// The sum of the last of these identifiers and of what is sent for NAC 0 and DUID 3. The code is linear, so what is sent for any other
+// NAC becomes as far from each word by it.
+#[test]
+fn far_from_each_access_code(rt: HostRuntime) {
+    for nac in 0..4096_u16 {
+        let read = Nid::new(nac, 3).and_then(|nid| read_nid(
+            nid_bits(&nid) ^ 0x0000_5E61_6A53_A7AA,
+        ));
+        assert_eq!(rt; read, None, "{nac:x}");
+    }
 }
 
 // Eleven bits at every second to sixth place, none the lowest, and at how many places they can begin.

@@ -1,11 +1,11 @@
 -- Numbers and the bits that write them.
-use Rattle.std.proofs.Common.{◌≡◌, ℕ, zero, suc, ◌+◌, ◌-◌, ◌*◌, ◌/◌, ◌%◌, ◌^◌, ◌<◌, ◌≤◌, inl, inr, Bool, true, false, eqb, List, [], ◌∷◌, ◌++◌, length, drop, refl, ap, ap₂, sym, ◌∙◌, arith, length-append, get_or, add-one, bit_and}
+use Rattle.std.proofs.Common.{◌≡◌, ℕ, zero, suc, ◌+◌, ◌-◌, ◌*◌, ◌/◌, ◌%◌, ◌^◌, ◌<◌, ◌≤◌, inl, inr, Bool, true, false, eqb, List, [], ◌∷◌, ◌++◌, length, take, drop, refl, ap, ap₂, sym, ◌∙◌, arith, length-append, get_or, add-one, bit_and}
 use Rattle.std.specs.Int.{bit_at}
 use Rattle.std.proofs.Math.Nat.{pow-suc, add-mul, mul_comm, mul_assoc, mod-one}
 use Rattle.std.proofs.lemmas.Bool.{cases_lt}
-use Rattle.std.proofs.lemmas.Nat.{mod-pow-add, shr_high, shr-shr}
+use Rattle.std.proofs.lemmas.Nat.{mod-pow-add, shr_high, shr-shr, shr_split, div-mul-add}
 use Rattle.std.proofs.lemmas.Nat.Bits.{bit_at-lt, bit_at_cat_low, shr_and_one}
-use Rattle.std.proofs.lemmas.List.{drop_more, get_or_append_left, get_or-append_right}
+use Rattle.std.proofs.lemmas.List.{drop_more, take_at, drop_at, get_or_append_left, get_or-append_right}
 use Rattle.std.proofs.lemmas.List.Concat.{flat_map-append}
 use Rattle.p25_bits.specs.Bits.{digit_of, bits_of, field_after, field_of, octet_bits}
 
@@ -83,7 +83,7 @@ field_of-bits_of (suc width) number =
     ∙ (let e : 1 + width ≡ suc width = omega arith in ap (λ n. number % 2 ^ n) e)
 
 -- the low bits of a number are not changed by what stands above them
-bits_of-above : (width k high low : ℕ) → width ≤ k → bits_of width (high * 2 ^ k + low) ≡ bits_of width low
+pub bits_of-above : (width k high low : ℕ) → width ≤ k → bits_of width (high * 2 ^ k + low) ≡ bits_of width low
 unfolding bits_of
 bits_of-above zero k high low h = refl
 bits_of-above (suc width) k high low h =
@@ -115,6 +115,34 @@ bits_of-add (suc high) low number =
     let swapped : low + high ≡ high + low = omega arith in
     ap (λ n. bits_of n number) e
     ∙ ap₂ ◌∷◌ (ap (λ n. eqb (n % 2) 1) (sym (shr-shr number low high ∙ ap (λ n. number / 2 ^ n) swapped))) (bits_of-add high low number)
+
+-- the first bits of a number are those of what stands above the others
+pub take-bits_of : (k width number : ℕ) → k ≤ width → take k (bits_of width number) ≡ bits_of k (number / 2 ^ (width - k))
+take-bits_of k width number h =
+    let split : width ≡ k + (width - k) = omega arith in
+    ap (λ n. take k (bits_of n number)) split
+    ∙ ap (take k) (bits_of-add k (width - k) number)
+    ∙ take_at (bits_of k (number / 2 ^ (width - k))) (bits_of (width - k) number) k (length-bits_of k (number / 2 ^ (width - k)))
+
+-- the bits behind them are the low bits
+pub drop-bits_of : (k width number : ℕ) → k ≤ width → drop k (bits_of width number) ≡ bits_of (width - k) number
+drop-bits_of k width number h =
+    let split : width ≡ k + (width - k) = omega arith in
+    ap (λ n. drop k (bits_of n number)) split
+    ∙ ap (drop k) (bits_of-add k (width - k) number)
+    ∙ drop_at (bits_of k (number / 2 ^ (width - k))) (bits_of (width - k) number) k (length-bits_of k (number / 2 ^ (width - k)))
+
+-- what stands above the bits does not matter
+pub bits_of-mod : (width number : ℕ) → bits_of width (number % 2 ^ width) ≡ bits_of width number
+bits_of-mod width number =
+    let all : width ≤ width = omega arith in
+    sym (bits_of-above width width (number / 2 ^ width) (number % 2 ^ width) all) ∙ ap (bits_of width) (shr_split number width)
+
+-- the bits of a number that is written after another
+pub bits_of-joined : (k width high low : ℕ) → low < 2 ^ width → bits_of (k + width) (high * 2 ^ width + low) ≡ bits_of k high ++ bits_of width low
+bits_of-joined k width high low small =
+    let all : width ≤ width = omega arith in
+    bits_of-add k width (high * 2 ^ width + low) ∙ ap₂ ◌++◌ (ap (bits_of k) (div-mul-add high (2 ^ width) low small)) (bits_of-above width width high low all)
 
 -- octets, one run after the other
 pub octet_bits-append : (xs ys : List ℕ) → octet_bits (xs ++ ys) ≡ octet_bits xs ++ octet_bits ys

@@ -1,8 +1,13 @@
--- Laws of the distance of two lists, for any test that calls letters equal exactly where they are one letter.
-use Rattle.std.proofs.Common.{◌≡◌, ℕ, zero, suc, ◌+◌, ◌<◌, ◌≤◌, inl, inr, Bool, true, false, cond, List, [], ◌∷◌, ◌++◌, length, get_or, drop, refl, ap, ap₂, sym, subst, arith, add-one}
+-- Laws of the distance of two lists, for any test that calls letters equal exactly where they are one letter, and of the distance of bits as the
+-- weight of an exclusive or. By induction on both lists.
+use Rattle.std.proofs.Common.{◌≡◌, ℕ, zero, suc, ◌+◌, ◌*◌, ◌^◌, ◌<◌, ◌≤◌, inl, inr, Bool, true, false, cond, List, [], ◌∷◌, ◌++◌, length, get_or, drop, refl, ap, ap₂, sym, ◌∙◌, subst, arith, add-one, bit_xor, mod-eq_of_lt}
 use Rattle.std.specs.Bool.{beq}
 use Rattle.std.proofs.lemmas.Bool.{cases_Bool, cond-true, cond-false}
+use Rattle.std.specs.Int.RustNames.{count_ones}
+use Rattle.std.proofs.lemmas.Nat.{ones_cat, xor_block, xor_lt}
+use Rattle.p25_bits.specs.Bits.{digit_of, bits_of, field_of}
 use Rattle.p25_bits.specs.Distance.{distance_by, distance_of}
+use Rattle.p25_bits.proofs.BitsLaws.{length-bits_of, field_of-cons, field_of-lt, field_of-nil, field_of-bits_of}
 
 -- a list is at no distance from itself
 pub distance_by-same : {X : Type 0} (same : X → X → Bool) → ((x : X) → same x x ≡ true) → (xs : List X) → distance_by same xs xs ≡ 0
@@ -111,3 +116,39 @@ same_from_distance_of = same_from_distance_by beq beq-alike
 
 pub distance_of-triangle : (xs ys zs : List Bool) → length xs ≡ length ys → distance_of xs zs ≤ distance_of xs ys + distance_of ys zs
 distance_of-triangle = distance_by-triangle beq (λ x y z a b. subst (λ w. beq x w ≡ true) (beq-alike y z b) a)
+
+-- the exclusive or of two digits has a 1 exactly where they differ
+ones_digits : (x y : Bool) → count_ones (bit_xor (digit_of x) (digit_of y)) ≡ cond (beq x y) 0 1
+unfolding count_ones
+ones_digits true true = refl
+ones_digits true false = refl
+ones_digits false true = refl
+ones_digits false false = refl
+
+-- the number of places in which two lists of one length differ is the weight of the exclusive or of their numbers
+pub ones-xor : (xs ys : List Bool) → length xs ≡ length ys → count_ones (bit_xor (field_of xs) (field_of ys)) ≡ distance_of xs ys
+unfolding distance_by count_ones
+ones-xor [] [] same = ap (λ n. count_ones (bit_xor n n)) field_of-nil
+ones-xor [] (y ∷ ys) same = absurd (omega arith)
+ones-xor (x ∷ xs) [] same = absurd (omega arith)
+ones-xor (x ∷ xs) (y ∷ ys) same =
+    let k = length xs in
+    let long : length ys ≡ k = omega arith in
+    let long' : k ≡ length ys = omega arith in
+    let below = field_of-lt xs in
+    let below' : field_of ys < 2 ^ k = subst (λ n. field_of ys < 2 ^ n) long (field_of-lt ys) in
+    let second = field_of-cons y ys ∙ ap (λ n. digit_of y * 2 ^ n + field_of ys) long in
+    ap count_ones (ap₂ bit_xor (field_of-cons x xs) second ∙ xor_block k (digit_of x) (digit_of y) (field_of xs) (field_of ys) below below')
+    ∙ ones_cat k (bit_xor (digit_of x) (digit_of y)) (bit_xor (field_of xs) (field_of ys)) (xor_lt k (field_of xs) (field_of ys) below below')
+    ∙ ap₂ ◌+◌ (ones_digits x y) (ones-xor xs ys long')
+
+-- so the weight of the exclusive or of two numbers is the distance of their bits
+pub distance_of-bits_of : (width m n : ℕ) → m < 2 ^ width → n < 2 ^ width → distance_of (bits_of width m) (bits_of width n) ≡ count_ones (bit_xor m n)
+distance_of-bits_of width m n small_m small_n =
+    sym (ones-xor (bits_of width m) (bits_of width n) (length-bits_of width m ∙ sym (length-bits_of width n)))
+    ∙ ap₂ (λ a b. count_ones (bit_xor a b)) (field_of-bits_of width m ∙ mod-eq_of_lt small_m) (field_of-bits_of width n ∙ mod-eq_of_lt small_n)
+
+-- and the weight of the exclusive or of two short numbers is small
+pub ones-xor-le : (width m n : ℕ) → m < 2 ^ width → n < 2 ^ width → count_ones (bit_xor m n) ≤ width
+ones-xor-le width m n small_m small_n =
+    omega (arith, distance_of-bits_of width m n small_m small_n, distance_by-le beq (bits_of width m) (bits_of width n), length-bits_of width m)

@@ -3,7 +3,7 @@ use Rattle.std.proofs.Common.{◌⊎◌, zero, suc, ◌≡◌, ℕ, suc, ◌+◌
 use Rattle.std.specs.Int.Bits.{xor_assoc, xor_self, xor_zero_l, xor_zero_r}
 use Rattle.std.proofs.Math.Nat.{pow-suc}
 use Rattle.std.proofs.lemmas.Bool.{cases_lt, cases_eq}
-use Rattle.std.proofs.lemmas.Nat.{xor_comm, xor_lt, xor_block, xor_shr, shr_high, le-div, pow_pos, shr_split, shr-shr, div_below}
+use Rattle.std.proofs.lemmas.Nat.{xor_comm, xor_lt, xor_block, xor_shr, shr_high, le-div, pow_pos, shr_split, shr-shr, shr_below, div_below}
 use Rattle.std.proofs.lemmas.Nat.Bits.{shr_and_one}
 use Rattle.p25_bits.specs.Bits.{digit_of, bits_of, field_after}
 use Rattle.p25_bits.proofs.BitsLaws.{digit_of-bit_at, digit_of-le, field_of-after, field_of-bits_of}
@@ -210,9 +210,14 @@ high_more number k h =
     let digit : digit_of (eqb (bit_and n 1) 1) ≡ n % 2 = ap (λ b. digit_of (eqb b 1)) (shr_and_one number (63 - k)) ∙ digit_of-bit_at number (63 - k) in
     ap (λ j. number / 2 ^ j) low ∙ omega (arith, shr_split n 1, halved, digit)
 
--- a number of 64 bits has nothing above them
-pub high_none : (number : ℕ) → number < 2 ^ 64 → number / 2 ^ (64 - 0) ≡ 0
-high_none number below = none_left number 64 below
+-- the highest coefficients of a number of 64 bits, as many as the degree, are their own remainder
+pub IsRemainder-highest : (generator degree number : ℕ) → degree < 63 → number < 2 ^ 64 → IsRemainder generator degree (number / 2 ^ (64 - degree)) (number / 2 / 2 ^ (63 - degree))
+IsRemainder-highest generator degree number fits small =
+    let whole : 64 ≡ degree + (64 - degree) = omega arith in
+    let both : 1 + (63 - degree) ≡ 64 - degree = omega arith in
+    let same : number / 2 / 2 ^ (63 - degree) ≡ number / 2 ^ (64 - degree) = shr-shr number 1 (63 - degree) ∙ ap (λ n. number / 2 ^ n) both in
+    let below : number / 2 ^ (64 - degree) < 2 ^ degree = shr_below number degree (64 - degree) (subst (λ n. number < 2 ^ n) whole small) in
+    subst (IsRemainder generator degree (number / 2 ^ (64 - degree))) (sym same) (IsRemainder-lower generator degree (number / 2 ^ (64 - degree)) below)
 
 -- a sum of two numbers that share no bit
 pub xor_apart : (high k low : ℕ) → low < 2 ^ k → bit_xor (high * 2 ^ k) low ≡ high * 2 ^ k + low

@@ -5,3 +5,5 @@ pub mod NumbersLaws
 pub mod NumbersSteps
 pub mod DistanceLaws
 pub mod Divisions
+pub mod WordsSteps
+pub mod BitBufSteps

@@ -5,7 +5,7 @@ use Rattle.std.proofs.Math.Nat.{mul-suc, mul_comm, mul_assoc, add-mul, pow-suc, 
 use Rattle.std.proofs.Math.Pow.{pow_mono}
 use Rattle.std.proofs.Math.Seq.{take-add}
 use Rattle.std.proofs.lemmas.Bool.{cases_lt}
-use Rattle.std.proofs.lemmas.List.{flat_map_more, take_more, take_more_set, drop-drop, drop-append-le, take-append-le, take_at, drop_at, get_or_append_left, get_or-append_right, length-take, take_all, take-append-drop}
+use Rattle.std.proofs.lemmas.List.{flat_map_more, take_more, take_more_set, drop-drop, drop-append-le, take-append-le, take_at, drop_at, get_or_append_left, get_or-append_right, length-take, length-take-le, drop_more, take_all, take-append-drop}
 use Rattle.std.proofs.lemmas.List.Elements.{All-nil, All-cons, All-head, All-tail, All-append}
 use Rattle.std.proofs.lemmas.List.Concat.{flat_map-append}
 use Rattle.p25_bits.specs.Bits.{bits_of, field_of, octet_bits, part}
@@ -41,6 +41,24 @@ length-number_bits width [] = omega arith
 length-number_bits width (number ∷ numbers) =
     length-append (bits_of width number) (number_bits width numbers)
     ∙ omega (arith, length-bits_of width number, length-number_bits width numbers, mul-suc width (length numbers))
+
+-- the bits of the first numbers
+pub take-number_bits : (width i : ℕ) (numbers : List ℕ) → i ≤ length numbers → take (width * i) (number_bits width numbers) ≡ number_bits width (take i numbers)
+take-number_bits width i numbers inside =
+    let long : length (number_bits width (take i numbers)) ≡ width * i = length-number_bits width (take i numbers) ∙ ap (λ n. width * n) (length-take-le i numbers inside) in
+    ap (take (width * i)) (ap (number_bits width) (sym (take-append-drop i numbers)) ∙ number_bits-append width (take i numbers) (drop i numbers))
+    ∙ take_at (number_bits width (take i numbers)) (number_bits width (drop i numbers)) (width * i) long
+
+-- the bits of the numbers behind them
+pub drop-number_bits : (width i : ℕ) (numbers : List ℕ) → i ≤ length numbers → drop (width * i) (number_bits width numbers) ≡ number_bits width (drop i numbers)
+drop-number_bits width i numbers inside =
+    let long : length (number_bits width (take i numbers)) ≡ width * i = length-number_bits width (take i numbers) ∙ ap (λ n. width * n) (length-take-le i numbers inside) in
+    ap (drop (width * i)) (ap (number_bits width) (sym (take-append-drop i numbers)) ∙ number_bits-append width (take i numbers) (drop i numbers))
+    ∙ drop_at (number_bits width (take i numbers)) (number_bits width (drop i numbers)) (width * i) long
+
+-- the bits from a number on: its own, and those of the numbers behind it
+pub number_bits-drop_more : (width i : ℕ) (numbers : List ℕ) → i < length numbers → number_bits width (drop i numbers) ≡ bits_of width (get_or numbers i 0) ++ number_bits width (drop (i + 1) numbers)
+number_bits-drop_more width i numbers inside = ap (number_bits width) (drop_more numbers i 0 inside) ∙ number_bits-cons width (get_or numbers i 0) (drop (i + 1) numbers)
 
 -- what a list of numbers adds to bits
 pub more_bits : (before width count : ℕ) → (before + width * count) + width ≡ before + width * (count + 1)

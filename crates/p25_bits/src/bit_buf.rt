@@ -1,25 +1,26 @@
 ghost use Rattle.std.specs.Prelude.{◌≡◌, ℕ, ◌+◌, ◌-◌, ◌*◌, ◌^◌, ◌<◌, ◌≤◌, Bool, List, [], ◌∷◌, ◌++◌, length, take, drop, slice_get, slice_set};
 ghost use Rattle.p25_bits.specs.Bits.{bits_of, field_of, part, flipped};
 ghost use Rattle.p25_bits.specs.Distance.{distance_of};
+ghost use Rattle.p25_bits.specs.Numbers.{number_bits};
 
 use super::numbers::number_of;
-use super::slices::{differing, shift_down};
+use super::words::{append_windows, beginning, differing, put_window, shift_down, window};
 use std::marker::Model;
 
-/// The most bits that a `BitBuf` holds.
+/// The most bits that a `BitBuf` holds: those of the longest unit, 25,920, and one octet more.
 pub const BITS_MOST: usize = 25_928;
 
-/// A list of at most 25,928 bits, the longest unit and one octet more.
+/// A list of at most 25,928 bits.
 #[derive(Drop)]
 pub struct BitBuf {
-    bits: [bool; 25_928],
+    words: [u64; 407],
     len: usize,
 }
 
 impl Model for BitBuf {
     ghost Value = { List Bool };
 
-    ghost view = { λ b. take b.len b.bits };
+    ghost view = { λ b. take b.len (number_bits 64 b.words) };
 
     ghost invariant = { λ b. b.len ≤ 25928 };
 }
@@ -30,15 +31,16 @@ impl BitBuf {
         ensures { result ≡ [] }
     {
         BitBuf {
-            bits: [false; 25_928],
+            words: [0; 407],
             len: 0,
         }
     }
 
-    /// Answers the number of bits held.
+    /// Answers the number of bits held, at most `BITS_MOST`.
     pub fn len(&self) -> usize
         ensures value { result ≡ length self.now }
         ensures most { result ≤ 25928 }
+        ensures limit { BITS_MOST ≡ 25928 }
     {
         self.len
     }
@@ -56,7 +58,12 @@ impl BitBuf {
         ensures list { self.new ≡ self.old ++ bit ∷ [] }
         ensures len { length self.new ≡ length self.old + 1 }
     {
-        self.bits[self.len] = bit;
+        let word = self.len / 64;
+        self.words[word] = beginning(
+            self.words[word],
+            (self.len % 64) as u32,
+            u64::from(bit) << 63,
+        );
         self.len += 1;
     }
 
@@ -65,7 +72,7 @@ impl BitBuf {
         requires { i < length self.now }
         ensures { slice_get self.now i ≡ Some result }
     {
-        self.bits[i]
+        (self.words[i / 64] >> (63 - i % 64)) & 1 == 1
     }
 
     /// Replaces the bit at place `i`.
@@ -74,7 +81,9 @@ impl BitBuf {
         ensures list { self.new ≡ slice_set self.old i bit }
         ensures len { length self.new ≡ length self.old }
     {
-        self.bits[i] = bit;
+        if self.get(i) != bit {
+            self.flip(i);
+        }
     }
 
     /// Inverts the bit at place `i`.
@@ -83,7 +92,7 @@ impl BitBuf {
         ensures list { self.new ≡ flipped self.old i }
         ensures len { length self.new ≡ length self.old }
     {
-        self.bits[i] = !self.bits[i];
+        self.words[i / 64] ^= 1 << (63 - i % 64);
     }
 }
 
@@ -95,8 +104,10 @@ impl BitBuf {
         ensures value { result ≡ field_of (part at width self.now) }
         ensures fits { result < 2 ^ width }
     {
-        let _ = &self.len;
-        number_of(&self.bits[at..at + width as usize])
+        if width == 0 {
+            return 0;
+        }
+        window(&self.words, at) >> (64 - width)
     }
 
     /// Appends `width` bits of a number, the highest first.
@@ -107,9 +118,11 @@ impl BitBuf {
         ensures list { self.new ≡ self.old ++ bits_of width value }
         ensures len { length self.new ≡ length self.old + width }
     {
-        for k in 0..width {
-            self.push((value >> (width - 1 - k)) & 1 == 1);
+        if width == 0 {
+            return;
         }
+        put_window(&mut self.words, self.len, value << (64 - width));
+        self.len += width as usize;
     }
 
     /// Appends `count` bits of another list, those from place `at` on.
@@ -119,10 +132,9 @@ impl BitBuf {
         ensures list { self.new ≡ self.old ++ part at count other.now }
         ensures len { length self.new ≡ length self.old + count }
     {
-        let _ = &other.len;
-        for i in 0..count {
-            self.push(other.get(at + i));
-        }
+        let words = count.div_ceil(64);
+        append_windows(&mut self.words, self.len, &other.words, at, words);
+        self.len += count;
     }
 
     /// Appends the bits of a slice, in order.
@@ -131,19 +143,11 @@ impl BitBuf {
         ensures list { self.new ≡ self.old ++ bits.now }
         ensures len { length self.new ≡ length self.old + length bits.now }
     {
-        for bit in bits {
-            self.push(*bit);
+        for k in 0..bits.len() / 64 {
+            self.put_field(number_of(&bits[64 * k..64 * k + 64]), 64);
         }
-    }
-
-    /// Copies the bits from place `at` on into a slice, as many as it has room for.
-    pub fn copy_to(&self, at: usize, out: &mut [bool])
-        requires { at + length out.old ≤ length self.now }
-        ensures { out.new ≡ part at (length out.old) self.now }
-    {
-        for i in 0..out.len() {
-            out[i] = self.bits[at + i];
-        }
+        let rest = &bits[64 * (bits.len() / 64)..];
+        self.put_field(number_of(rest), rest.len() as u32);
     }
 
     /// Takes the first `n` bits away.
@@ -153,7 +157,7 @@ impl BitBuf {
         ensures len { length self.new + n ≡ length self.old }
     {
         let left = self.len - n;
-        shift_down(&mut self.bits, n, left);
+        shift_down(&mut self.words, n, left.div_ceil(64));
         self.len = left;
     }
 
@@ -162,6 +166,9 @@ impl BitBuf {
         requires { length a.now ≡ length b.now }
         ensures { result ≡ distance_of a.now b.now }
     {
-        differing(&a.bits[..a.len], &b.bits[..b.len])
+        let words = a.len / 64;
+        let rest = (a.len % 64) as u32;
+        differing(&a.words, &b.words, words)
+            + (a.field(64 * words, rest) ^ b.field(64 * words, rest)).count_ones()
     }
 }

@@ -6,7 +6,7 @@ ghost use Rattle.p25_bits.specs.Bits.{digit_of};
 ghost use Rattle.p25_bits.specs.Divisible.{HasDegree, IsRemainder};
 
 /// Answers the remainder after one more coefficient: where `remainder` is that of some polynomial P by the generator,
-/// the answer is that of x·P plus `bit`. `degree` is the generator's.
+/// the answer is that of x·P plus `bit`. `degree` is the generator's, at most 62.
 pub fn next_remainder(remainder: u64, bit: bool, generator: u64, degree: u32) -> u64
     requires fits { degree < 63 }
     requires generator { HasDegree generator degree }
@@ -22,14 +22,17 @@ pub fn next_remainder(remainder: u64, bit: bool, generator: u64, degree: u32) ->
     }
 }
 
-/// Answers the remainder of a number's polynomial by a generator of the given degree.
+/// Answers the remainder of a number's polynomial by a generator of the given degree, at most 62: the only polynomial of
+/// lower degree that differs from it by a multiple of the generator.
 pub fn number_remainder(number: u64, generator: u64, degree: u32) -> u64
     requires fits { degree < 63 }
     requires generator { HasDegree generator degree }
-    ensures { IsRemainder generator degree number result }
+    ensures is { IsRemainder generator degree number result }
+    ensures only { (other : ℕ) → IsRemainder generator degree number other → other ≡ result }
 {
-    let mut remainder: u64 = 0;
-    for k in 0..64u32 {
+    // The highest coefficients, as many as the degree, are a polynomial of lower degree.
+    let mut remainder: u64 = (number >> 1) >> (63 - degree);
+    for k in degree..64 {
         remainder = next_remainder(remainder, (number >> (63 - k)) & 1 == 1, generator, degree);
     }
     remainder

@@ -1,10 +1,26 @@
-//! Lists of bits, as the air interface sends them.
+//! Lists of bits, as the air interface sends them: the first bit of a list is the highest of the number that it writes.
+//!
+//! A `BitBuf` holds at most `BITS_MOST` bits, in words of 64. Contracts see it as a list of truth values, `true` for a 1,
+//! and a number as the bits that write it. Places are counted from 0, from the first bit on.
+//!
+//! ```text
+//! let mut bits = BitBuf::new();
+//! bits.put_field(0x5575_F5FF_77FF, 48);
+//! bits.push(true);
+//! assert_eq!(bits.field(0, 4), 0x5);
+//! assert_eq!(bits.field(44, 5), 0x1F);
+//! bits.drop_front(8);
+//! assert_eq!(bits.field(0, 8), 0x75);
+//! ```
+//!
+//! `number_of` and `put_number` do the same with a slice of bits. `number_remainder` divides a number as a polynomial over
+//! GF(2), whose coefficient of x^i is the number's bit i: the first bit is the coefficient of the highest power.
 #![tactic(auto)]
 
 mod bit_buf;
 mod division;
 mod numbers;
-mod slices;
+mod words;
 
 pub use bit_buf::{BITS_MOST, BitBuf};
 pub use division::{next_remainder, number_remainder};

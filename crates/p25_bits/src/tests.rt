@@ -1,32 +1,59 @@
 //! Values from outside, and each call once.
 
-ghost use Rattle.std.specs.Prelude.{◌≡◌, ◌<◌, ◌^◌, length};
+ghost use Rattle.std.specs.Prelude.{◌≡◌, ◌<◌, length};
 
 use super::*;
 
-// The list that a number of 24 bits writes.
-fn of_24(value: u64) -> BitBuf
-    requires { value < 2 ^ 24 }
-    ensures { length result ≡ 24 }
+// A full list: 405 times 64 bits, and 8 more.
+fn full() -> BitBuf
+    ensures { length result ≡ 25928 }
 {
     let mut bits = BitBuf::new();
-    bits.put_field(value, 24);
+    for _word in 0..405u32 {
+        bits.put_field(0x0123_4567_89AB_CDEF, 64);
+    }
+    bits.put_field(0x5A, 8);
     bits
 }
 
+// In how many places a list differs from itself with one bit inverted.
+fn distance_inverted(bits: &BitBuf, place: usize) -> u32
+    requires { place < length bits.now }
+{
+    let mut other = BitBuf::new();
+    other.append(bits, 0, bits.len());
+    other.flip(place);
+    BitBuf::distance(bits, &other)
+}
+
+// Fields that begin about the seam of two words, and the last bits.
 #[test]
-fn fields(rt: HostRuntime) {
-    let bits = of_24(0x5575F5);
-    assert_eq!(rt; bits.field(0, 4), 5);
-    assert_eq!(rt; bits.field(4, 8), 0x57);
-    assert_eq!(rt; bits.field(9, 3), 7);
-    assert_eq!(rt; bits.field(0, 24), 0x5575F5);
-    assert_eq!(rt; bits.field(24, 0), 0);
+fn fields_by_place(rt: HostRuntime) {
+    let bits = full();
+    for (at, width, want) in [
+        (0, 64, 0x0123_4567_89AB_CDEF),
+        (1, 64, 0x0246_8ACF_1357_9BDE),
+        (63, 8, 0x80),
+        (64, 12, 0x012),
+        (65, 11, 0x012),
+        (25_864, 64, 0x2345_6789_ABCD_EF5A),
+        (25_927, 1, 0),
+    ] {
+        assert!(rt; at < 25_928 && width <= 64 && width <= 25_928 - at);
+        assert_eq!(rt; bits.field(at, width as u32), want);
+        let mut part = BitBuf::new();
+        part.push(true);
+        part.append(&bits, at, width);
+        assert_eq!(rt; part.field(1, width as u32), want);
+        assert_eq!(rt; distance_inverted(&bits, at), 1);
+    }
+    assert_eq!(rt; bits.field(25_928, 0), 0);
 }
 
 #[test]
 fn changes(rt: HostRuntime) {
-    let mut bits = of_24(0x5575F5);
+    let mut bits = BitBuf::new();
+    bits.put_field(0x5575F5, 24);
     bits.flip(23);
     bits.set(0, true);
     assert_eq!(rt; bits.field(0, 24), 0xD575F4);
@@ -36,19 +63,22 @@ fn changes(rt: HostRuntime) {
     assert_eq!(rt; bits.field(0, 21), 0xAEBE9);
     bits.clear();
     assert_eq!(rt; bits.len(), 0);
+    assert_eq!(rt; BITS_MOST, 25_928);
 }
 
 #[test]
-fn parts(rt: HostRuntime) {
-    let source = of_24(0x5575F5);
+fn numbers(rt: HostRuntime) {
     let mut bits = BitBuf::new();
-    bits.append(&source, 4, 12);
+    bits.put_numbers(&[5, 2, 7], 3);
     bits.extend(&[true, false, true, true]);
-    assert_eq!(rt; bits.field(0, 16), 0x575B);
-    let mut out = [false; 4];
-    bits.copy_to(12, &mut out);
-    assert_eq!(rt; out, [true, false, true, true]);
-    assert_eq!(rt; BitBuf::distance(&source, &of_24(0x5575FF)), 2);
+    assert_eq!(rt; bits.field(0, 13), 0b101_010_111_1011);
+    let mut numbers = [0; 3];
+    bits.take_numbers(1, 4, &mut numbers);
+    assert_eq!(rt; numbers, [5, 7, 11]);
+    let mut word = [true; 5];
+    put_number(0b1_0110, &mut word);
+    assert_eq!(rt; word, [true, false, true, true, false]);
+    assert_eq!(rt; number_of(&word), 0b1_0110);
 }
 
 // The generator of the BCH code (63,16), two of its words, and a word with one bit wrong.

@@ -1,9 +1,8 @@
 pub mod ReadingLaws
 pub mod MarkedLaws
-pub mod Bits
-pub mod Syndromes
-pub mod Corrections
-pub mod Weights
-pub mod BinaryCodes
-pub mod Remainders
-pub mod Parities
+pub mod SyndromeLaws
+pub mod WeightLaws
+pub mod BinaryLaws
+pub mod RemainderLaws
+pub mod ParityLaws
+pub mod BinarySteps

@@ -1,12 +1,13 @@
 -- The laws of a unit's front: its two parts, its form by places, and where it stands in a sent unit. Each goes by cutting
 -- lists at known lengths.
-use Rattle.std.proofs.Common.{◌≡◌, ◌↔◌, ℕ, ◌+◌, ◌*◌, ◌≤◌, Bool, eqb, List, [], ◌∷◌, ◌++◌, length, take, drop, ap, ap₂, sym, ◌∙◌, subst, arith, length-append, length-drop}
+use Rattle.std.proofs.Common.{◌≡◌, ◌↔◌, ◌<◌, Option, Some, ℕ, ◌+◌, ◌*◌, ◌≤◌, Bool, eqb, List, [], ◌∷◌, ◌++◌, length, take, drop, ap, ap₂, sym, ◌∙◌, subst, arith, length-append, length-drop}
 use Rattle.std.proofs.Math.Seq.{take-add, take-append-add, take-length}
-use Rattle.std.proofs.lemmas.List.{length-take-le, take-append-drop, drop-drop, take-append-le}
-use Rattle.p25_bits.specs.Bits.{bits_of, part}
+use Rattle.std.proofs.lemmas.List.{length-take-le, take-append-drop, drop-drop, take-append-le, take-take}
+use Rattle.p25_bits.specs.Bits.{bits_of, field_of, part}
+use Rattle.p25_bits.proofs.NumbersLaws.{field-lt}
 use Rattle.p25_bits.specs.Distance.{distance_of}
 use Rattle.p25_bits.proofs.BitsLaws.{length-bits_of}
-use Rattle.p25_bits.proofs.Lists.{part-take}
+use Rattle.p25_bits.proofs.PartLaws.{part-take}
 use Rattle.p25_bits.proofs.DistanceLaws.{distance_of-same, distance_by-append}
 use Rattle.std.specs.Bool.{beq}
 use Rattle.p25_code.specs.Words.{IsEncoding}
@@ -18,35 +19,11 @@ use Rattle.p25_status.proofs.WovenLaws.{part-plain_of}
 use Rattle.p25_bch_nid.specs.Bch63.{IsBch63}
 use Rattle.p25_bch_nid.specs.Bch63Laws.{encoded, IsEncoding-encoded, one_word}
 use Rattle.p25_bch_nid.specs.Nid.{parity_of}
-use Rattle.p25_bch_nid.specs.NidReading.{nid_reading_of}
+use Rattle.p25_bch_nid.specs.NidReading.{IsNidFound, IsNidReading, nid_reading_of}
+use Rattle.p25_bch_nid.proofs.NidReadingLaws.{IsNidReading-nid_reading_of, nid_reading_of-word}
+use Rattle.p25_bch_nid.proofs.NidWordLaws.{take-nid_word, drop-nid_word, IsEncoding-nid_word, length-nid_word, identifier_of_word-encoding}
 use Rattle.p25_bch_nid.specs.NidWord.{nid_word}
 use Rattle.p25_front.specs.Front.{unit_front, IsFront, identifier_bits, identifier_of, front_of, front_fixes_of}
-
--- the information of an identifier
-info_of : ℕ → ℕ → List Bool
-info_of nac duid = bits_of 12 nac ++ bits_of 4 duid
-
-word_encodes : (nac duid : ℕ) → IsEncoding IsBch63 16 (bits_of 12 nac ++ bits_of 4 duid) (encoded (bits_of 12 nac ++ bits_of 4 duid))
-word_encodes nac duid =
-    IsEncoding-encoded (bits_of 12 nac ++ bits_of 4 duid) (omega (arith, length-append (bits_of 12 nac) (bits_of 4 duid), length-bits_of 12 nac, length-bits_of 4 duid))
-
--- the first 63 bits of an identifier are a word of the code, and one bit follows
-pub take-nid_word : (nac duid : ℕ) → take 63 (nid_word nac duid) ≡ encoded (bits_of 12 nac ++ bits_of 4 duid)
-unfolding nid_word
-take-nid_word nac duid = front 63 (encoded (bits_of 12 nac ++ bits_of 4 duid)) (eqb (parity_of duid) 1 ∷ []) (word_encodes nac duid).word_of_set.long
-
-pub drop-nid_word : (nac duid : ℕ) → drop 63 (nid_word nac duid) ≡ eqb (parity_of duid) 1 ∷ []
-unfolding nid_word
-drop-nid_word nac duid = back 63 (encoded (bits_of 12 nac ++ bits_of 4 duid)) (eqb (parity_of duid) 1 ∷ []) (word_encodes nac duid).word_of_set.long
-
-pub IsEncoding-nid_word : (nac duid : ℕ) → IsEncoding IsBch63 16 (bits_of 12 nac ++ bits_of 4 duid) (take 63 (nid_word nac duid))
-IsEncoding-nid_word nac duid = subst (λ (w : List Bool). IsEncoding IsBch63 16 (bits_of 12 nac ++ bits_of 4 duid) w) (sym (take-nid_word nac duid)) (word_encodes nac duid)
-
-pub length-nid_word : (nac duid : ℕ) → length (nid_word nac duid) ≡ 64
-unfolding nid_word
-length-nid_word nac duid =
-    let long : length (encoded (bits_of 12 nac ++ bits_of 4 duid)) ≡ 63 = (word_encodes nac duid).word_of_set.long in
-    length-append (encoded (bits_of 12 nac ++ bits_of 4 duid)) (eqb (parity_of duid) 1 ∷ []) ∙ omega arith
 
 -- the parts of a front
 pub take-unit_front : (nac duid : ℕ) → take 48 (unit_front nac duid) ≡ sync_bits
@@ -149,3 +126,39 @@ front_of-plain_of blocks sent two long =
     ∙ ap₂ (λ (xs ys : List Bool). xs ++ ys)
     (part-plain_of blocks 0 48 22 sent long (omega arith) (omega arith))
     (ap (take 42) (drop-drop 22 48 plain) ∙ part-plain_of blocks 1 0 42 sent long (omega arith) (omega arith)))
+
+-- a sent unit whose front is the one that is sent has the sync and the identifier of it
+pub front_of-sync : (nac duid : ℕ) (sent : List Bool) → 48 ≤ length sent → front_of sent ≡ unit_front nac duid → take 48 sent ≡ sync_bits
+unfolding front_of
+front_of-sync nac duid sent long same =
+    sym (front 48 (take 48 sent) (identifier_bits sent) (length-take-le 48 sent long)) ∙ ap (take 48) same ∙ take-unit_front nac duid
+
+pub front_of-identifier : (nac duid : ℕ) (sent : List Bool) → 48 ≤ length sent → front_of sent ≡ unit_front nac duid → identifier_bits sent ≡ nid_word nac duid
+unfolding front_of
+front_of-identifier nac duid sent long same =
+    sym (back 48 (take 48 sent) (identifier_bits sent) (length-take-le 48 sent long)) ∙ ap (drop 48) same ∙ drop-unit_front nac duid
+
+-- an identifier that was read has 12 and 4 bits
+pub identifier_of-fits : (sent : List Bool) (nid : ℕ × ℕ) → identifier_of sent ≡ Some nid → (nid.0 < 4096) × (nid.1 < 16)
+unfolding identifier_of IsNidReading
+identifier_of-fits sent nid is =
+    let found : IsNidFound (take 63 (identifier_bits sent)) nid = subst (λ (r : Option (ℕ × ℕ)). IsNidReading (identifier_bits sent) r) is (IsNidReading-nid_reading_of (identifier_bits sent)) in
+    let nac : nid.0 ≡ field_of (part 0 12 found.word) = ap (λ n. n.0) found.begins in
+    let duid : nid.1 ≡ field_of (part 12 4 found.word) = ap (λ n. n.1) found.begins in
+    (omega (arith, nac, field-lt 12 0 found.word), omega (arith, duid, field-lt 4 12 found.word))
+
+-- wherever a word of the code lies within 11 bits, its identifier is read
+pub identifier_of-near : (nac duid : ℕ) (sent : List Bool) → nac < 4096 → duid < 16 → 114 ≤ length sent → distance_of (take 63 (identifier_bits sent)) (take 63 (nid_word nac duid)) ≤ 11 → identifier_of sent ≡ Some (nac, duid)
+unfolding identifier_of
+identifier_of-near nac duid sent nac_fits duid_fits long near =
+    let word = take 63 (nid_word nac duid) in
+    let encoding = IsEncoding-nid_word nac duid in
+    nid_reading_of-word (identifier_bits sent) word (omega (arith, length-identifier_bits sent long)) encoding.word_of_set near
+    ∙ ap Some (identifier_of_word-encoding nac duid word nac_fits duid_fits encoding)
+
+-- the fixes of a front hang on the first 114 bits alone
+pub front_fixes_of-take : (nid : ℕ × ℕ) (count : ℕ) (sent : List Bool) → 114 ≤ count → front_fixes_of nid (take count sent) ≡ front_fixes_of nid sent
+unfolding front_fixes_of front_of
+front_fixes_of-take nid count sent long =
+    ap (λ (xs : List Bool). distance_of (take 111 xs) (take 111 (unit_front nid.0 nid.1)))
+    (ap₂ (λ (xs ys : List Bool). xs ++ ys) (take-take 48 count sent (omega arith)) (identifier_bits-take count sent long))

@@ -3,18 +3,12 @@ use Rattle.std.proofs.Common.{◌≡◌, ℕ, ◌+◌, ◌*◌, ◌/◌, ◌^◌
 use Rattle.std.specs.Int.RustNames.{count_ones}
 use Rattle.std.proofs.lemmas.List.{length-take-le, take_at, drop-drop}
 use Rattle.std.proofs.lemmas.Nat.{xor_shr}
+use Rattle.p25_bits.proofs.DistanceLaws.{ones-xor}
 use Rattle.p25_bits.specs.Bits.{bits_of, field_of, part}
 use Rattle.p25_bits.specs.Distance.{distance_of}
 use Rattle.p25_bits.proofs.BitsLaws.{bits_of-add, length-bits_of, field_of-bits_of, bits_of-field_of, field_of-append, field_of-lt}
-use Rattle.p25_status.proofs.SyncLaws.{ones-xor}
 use Rattle.p25_front.specs.Front.{identifier_bits}
 use Rattle.p25_front.proofs.FrontLaws.{length-identifier_bits}
-
--- a part that is there has its length, and its number fits
-pub field_of-part-lt : (at count : ℕ) (bits : List Bool) → at + count ≤ length bits → field_of (part at count bits) < 2 ^ count
-field_of-part-lt at count bits there =
-    let long : length (part at count bits) ≡ count = length-take-le count (drop at bits) (omega (arith, length-drop at bits)) in
-    subst (λ (n : ℕ). field_of (part at count bits) < 2 ^ n) long (field_of-lt (part at count bits))
 
 -- the number of an identifier is that of the bits before the status symbol, and then of those behind it
 pub identifier_number : (bits : List Bool) (at before behind : ℕ) → at + 114 ≤ length bits → before ≡ field_of (part (at + 48) 22 bits) → behind ≡ field_of (part (at + 72) 42 bits) → before * 2 ^ 42 + behind ≡ field_of (identifier_bits (drop at bits))

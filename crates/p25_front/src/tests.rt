@@ -9,7 +9,7 @@ use std::test::Fail;
 fn sent_front(wrong_sync: u64, wrong_identifier: u64) -> BitBuf {
     let mut sent = BitBuf::new();
     sent.put_field(0x5575_F5FF_77FF ^ (wrong_sync & 0xFFFF_FFFF_FFFF), 48);
-    let identifier = 0x0003_3593_0BDD_3B2A ^ wrong_identifier;
+    let identifier = 0x0003_364C_2F74_ECAC ^ wrong_identifier;
     sent.put_field(identifier >> 42, 22);
     sent.put_field(0, 2);
     sent.put_field(identifier % (1 << 42), 42);

@@ -6,8 +6,8 @@ use Rattle.std.specs.Bool.{beq}
 use Rattle.p25_bits.specs.Bits.{bits_of}
 use Rattle.p25_code.specs.Binary.{IsChecked, check_columns, systematic, syndrome_of, weight_of}
 use Rattle.p25_code.proofs.ReadingLaws.{IsBlockCode}
-use Rattle.p25_code.proofs.Weights.{all_bits}
-use Rattle.p25_code.proofs.BinaryCodes.{IsSystematic, is_heavy, is_code}
+use Rattle.p25_code.proofs.WeightLaws.{all_bits}
+use Rattle.p25_code.proofs.BinaryLaws.{IsSystematic, is_heavy, is_code}
 use Rattle.p25_golay.specs.Golay18.{IsGolay18}
 use Rattle.p25_golay.specs.Golay24Laws.{to_checked, from_checked}
 

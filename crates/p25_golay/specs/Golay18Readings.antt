@@ -3,7 +3,7 @@ use Rattle.std.specs.Prelude.{◌++◌, Bool, List, Option}
 use Rattle.std.specs.Bool.{beq}
 use Rattle.p25_code.specs.Binary.{IsChecked, check_columns}
 use Rattle.p25_code.specs.Readings.{Tested, bits_searched, tested_as, reading_of, IsReadAs, IsReadAs-reading_of}
-use Rattle.p25_code.proofs.BinaryCodes.{IsChecked-tested}
+use Rattle.p25_code.proofs.BinaryLaws.{IsChecked-tested}
 use Rattle.p25_golay.specs.Golay18.{IsGolay18}
 use Rattle.p25_golay.specs.Golay18Laws.{short_rows, to_short, from_short, golay18_is_code}
 

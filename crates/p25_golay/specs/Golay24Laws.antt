@@ -8,11 +8,11 @@ use Rattle.p25_bits.specs.Bits.{bits_of}
 use Rattle.p25_bits.specs.Divisible.{HasDegree}
 use Rattle.p25_code.specs.Binary.{IsChecked, check_columns, systematic, syndrome_of, weight_of}
 use Rattle.p25_code.proofs.ReadingLaws.{IsBlockCode}
-use Rattle.p25_code.proofs.Weights.{all_bits}
-use Rattle.p25_code.proofs.Syndromes.{syndrome_of-append}
-use Rattle.p25_code.proofs.BinaryCodes.{IsSystematic, is_heavy, length_checked, is_code}
-use Rattle.p25_code.proofs.Remainders.{power_remainder, remainders, remainders-divisible, divisible-remainders}
-use Rattle.p25_code.proofs.Parities.{mixed, mixed_passes, with_parity, syndrome_of-with_parity}
+use Rattle.p25_code.proofs.WeightLaws.{all_bits}
+use Rattle.p25_code.proofs.SyndromeLaws.{syndrome_of-append}
+use Rattle.p25_code.proofs.BinaryLaws.{IsSystematic, is_heavy, length_checked, is_code}
+use Rattle.p25_code.proofs.RemainderLaws.{power_remainder, remainders, remainders-divisible, divisible-remainders}
+use Rattle.p25_code.proofs.ParityLaws.{mixed, mixed_passes, with_parity, syndrome_of-with_parity}
 use Rattle.p25_golay.specs.Golay24.{IsGolay24}
 
 -- the check bits of the messages with one 1: the remainder by the generator, then the bit that makes the weight even

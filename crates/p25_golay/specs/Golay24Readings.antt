@@ -3,7 +3,7 @@ use Rattle.std.specs.Prelude.{◌++◌, Bool, List, Option}
 use Rattle.std.specs.Bool.{beq}
 use Rattle.p25_code.specs.Binary.{IsChecked, check_columns}
 use Rattle.p25_code.specs.Readings.{Tested, bits_searched, tested_as, reading_of, IsReadAs, IsReadAs-reading_of}
-use Rattle.p25_code.proofs.BinaryCodes.{IsChecked-tested}
+use Rattle.p25_code.proofs.BinaryLaws.{IsChecked-tested}
 use Rattle.p25_golay.specs.Golay24.{IsGolay24}
 use Rattle.p25_golay.specs.Golay24Laws.{check_rows, to_checked, from_checked, golay24_is_code}
 

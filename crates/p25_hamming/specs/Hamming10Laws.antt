@@ -2,8 +2,8 @@
 use Rattle.std.specs.Prelude.{◌≡◌, ◌++◌, Bool, true, List, refl}
 use Rattle.p25_code.specs.Binary.{IsChecked, check_columns, systematic, syndrome_of, weight_of}
 use Rattle.p25_code.proofs.ReadingLaws.{IsBlockCode}
-use Rattle.p25_code.proofs.Weights.{all_bits}
-use Rattle.p25_code.proofs.BinaryCodes.{IsSystematic, is_heavy, sum_checked, checked_sum, length_checked, is_code}
+use Rattle.p25_code.proofs.WeightLaws.{all_bits}
+use Rattle.p25_code.proofs.BinaryLaws.{IsSystematic, is_heavy, sum_checked, checked_sum, length_checked, is_code}
 use Rattle.std.specs.Bool.{beq}
 use Rattle.std.proofs.Common.{arith}
 use Rattle.p25_bits.specs.Bits.{bits_of}

@@ -6,9 +6,9 @@ use Rattle.p25_bits.specs.Bits.{bits_of}
 use Rattle.p25_bits.specs.Divisible.{HasDegree}
 use Rattle.p25_code.specs.Binary.{IsChecked, check_columns, systematic, syndrome_of, weight_of}
 use Rattle.p25_code.proofs.ReadingLaws.{IsBlockCode}
-use Rattle.p25_code.proofs.Weights.{all_bits}
-use Rattle.p25_code.proofs.BinaryCodes.{IsSystematic, is_heavy, length_checked, is_code}
-use Rattle.p25_code.proofs.Remainders.{power_remainder, remainders, remainders-divisible, divisible-remainders}
+use Rattle.p25_code.proofs.WeightLaws.{all_bits}
+use Rattle.p25_code.proofs.BinaryLaws.{IsSystematic, is_heavy, length_checked, is_code}
+use Rattle.p25_code.proofs.RemainderLaws.{power_remainder, remainders, remainders-divisible, divisible-remainders}
 use Rattle.p25_hamming.specs.Lsd16.{IsLsd16}
 
 -- the remainders of x^15 to x^8 by the generator: the check bits of the messages with one 1

@@ -18,7 +18,7 @@ pub struct ReadSource<R> {
 }
 
 impl<R: Read> ReadSource<R> {
-    /// A source over this reader, which counts no fault so far.
+    /// Answers a source over this reader, which counts no fault so far.
     pub fn new(inner: R) -> ReadSource<R>
         ensures reader { reader_of result ≡ inner }
         ensures faults { read_faults result ≡ 0 }
@@ -32,7 +32,7 @@ impl<R: Read> Source for ReadSource<R> {
 
     ghost faults = { read_faults };
 
-    /// Makes one read of the reader.
+    /// Sets the beginning of `buf` to what one read of the reader gives, and answers how many octets that is.
     fn read(&mut self, buf: &mut [u8]) -> Result<usize, Failed>
         requires { 0 < length buf.old }
         ensures given { IfOk result (Gives None None buf.new) }
@@ -61,7 +61,7 @@ mod tests {
     use std::io;
     use std::io::ErrorKind;
 
-    // Gives two octets, fails once, gives one more octet, and ends.
+    // Gives two octets, is interrupted once, gives one more octet, ends, and would give another octet behind the end.
     #[derive(Drop)]
     struct Stuttering {
         calls: u8,
@@ -72,9 +72,10 @@ mod tests {
             self.calls = self.calls.saturating_add(1);
             let octets: &[u8] = match self.calls {
                 1 => b"ab",
-                2 => return Err(io::Error::from(ErrorKind::Other)),
+                2 => return Err(io::Error::from(ErrorKind::Interrupted)),
                 3 => b"c",
-                _ => b"",
+                4 => b"",
+                _ => b"d",
             };
             let count = octets.len().min(buf.len());
             buf[..count].copy_from_slice(&octets[..count]);
@@ -82,20 +83,32 @@ mod tests {
         }
     }
 
+    // Each call makes one read of the reader, and an interrupted read is a fault as any other.
     #[test]
-    fn an_err_in_mid_stream_is_a_fault(rt: HostRuntime) {
+    fn an_interrupted_read_is_a_fault(rt: HostRuntime) {
         let mut source = ReadSource::new(Stuttering { calls: 0 });
         let mut buf = [0; 4];
-        let wants = [(Ok(2), 0), (Err(Failed), 1), (Ok(1), 1), (Ok(0), 1)];
-        for (want, faults) in wants {
+        let wants = [
+            (Ok(2), 0, 1),
+            (Err(Failed), 1, 2),
+            (Ok(1), 1, 3),
+            (Ok(0), 1, 4),
+        ];
+        for (want, faults, calls) in wants {
             assert_eq!(rt; source.read(&mut buf), want);
             assert_eq!(rt; source.faults, faults);
+            assert_eq!(rt; source.inner.calls, calls);
         }
         assert_eq!(rt; &buf[..2], b"cb".as_slice());
-        assert_eq!(rt;
-            gather(&mut ReadSource::new(b"xyz".as_slice()), &mut buf),
-            Ok(3)
-        );
-        assert_eq!(rt; &buf[..3], b"xyz".as_slice());
+    }
+
+    // What reads to the end makes no read behind it.
+    #[test]
+    fn no_read_behind_the_end(rt: HostRuntime) {
+        let mut source = ReadSource::new(Stuttering { calls: 2 });
+        let mut buf = [0; 4];
+        assert_eq!(rt; gather(&mut source, &mut buf), Ok(1));
+        assert_eq!(rt; source.inner.calls, 4);
+        assert_eq!(rt; buf[0], b'c');
     }
 }

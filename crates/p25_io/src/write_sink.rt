@@ -19,7 +19,7 @@ pub struct WriteSink<W> {
 }
 
 impl<W: Write> WriteSink<W> {
-    /// A sink over this writer, which counts no fault so far.
+    /// Answers a sink over this writer, which counts no fault so far.
     pub fn new(inner: W) -> WriteSink<W>
         ensures writer { writer_of result ≡ inner }
         ensures faults { write_faults result ≡ 0 }
@@ -33,7 +33,7 @@ impl<W: Write> Sink for WriteSink<W> {
 
     ghost faults = { write_faults };
 
-    /// Writes until the writer has taken the whole piece, and flushes it.
+    /// Appends the piece: writes until the writer has taken all of it, and flushes the writer.
     fn write(&mut self, piece: &[u8]) -> Result<(), Failed>
         ensures ok { OnOk result (Appended None piece.now None) }
         ensures err { OnErr result (AppendedFront None piece.now None) }
@@ -74,11 +74,11 @@ mod tests {
     use std::io;
     use std::io::ErrorKind;
 
-    // Takes at most so many octets a call, and fails at the call of that number and, if it is to, at each flush.
+    // Takes at most so many octets a call, is interrupted at the call of that number and, if it is to, fails at each flush.
     #[derive(Drop)]
     struct Fussy {
         most: usize,
-        failing_call: u8,
+        interrupted_call: u8,
         flush_fails: bool,
         calls: u8,
         taken: usize,
@@ -87,8 +87,8 @@ mod tests {
     impl Write for Fussy {
         fn write(&mut self, buf: &[u8]) -> io::Result<usize> {
             self.calls = self.calls.saturating_add(1);
-            if self.calls == self.failing_call {
-                return Err(io::Error::from(ErrorKind::Other));
+            if self.calls == self.interrupted_call {
+                return Err(io::Error::from(ErrorKind::Interrupted));
             }
             let count = buf.len().min(self.most);
             self.taken = self.taken.saturating_add(count);
@@ -103,7 +103,7 @@ mod tests {
         }
     }
 
-    // The piece, the most octets a call, the failing call, whether a flush fails; the answer, the octets taken and the faults.
+    // The piece, the most octets a call, the interrupted call, whether a flush fails; the answer, the octets taken and the faults.
     const WRITERS: [(&[u8], usize, u8, bool, Result<(), Failed>, usize, u64); 5] = [
         (b"abcde", 2, 0, false, Ok(()), 5, 0),
         (b"abcde", 0, 0, false, Err(Failed), 0, 1),
@@ -114,10 +114,10 @@ mod tests {
 
     #[test]
     fn each_fault_of_a_writer_counts(rt: HostRuntime) {
-        for (piece, most, failing_call, flush_fails, want, taken, faults) in WRITERS {
+        for (piece, most, interrupted_call, flush_fails, want, taken, faults) in WRITERS {
             let mut sink = WriteSink::new(Fussy {
                 most,
-                failing_call,
+                interrupted_call,
                 flush_fails,
                 calls: 0,
                 taken: 0,

@@ -1,2 +1,12 @@
 pub mod FlagLaws
 pub mod FlagSteps
+pub mod HeadLaws
+pub mod ReadingLaws
+pub mod ReadingSteps
+pub mod ImageLaws
+pub mod ImageSteps
+pub mod SendableLaws
+pub mod PlacesLaws
+pub mod UnitLaws
+pub mod RadiusLaws
+pub mod SentLaws

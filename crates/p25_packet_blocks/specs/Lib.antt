@@ -4,3 +4,10 @@ pub mod ConfirmedParts
 pub mod Kinds
 pub mod Whole
 pub mod FlagOctets
+pub mod Lengths
+pub mod Reading
+pub mod Image
+pub mod Sendable
+pub mod Places
+pub mod Within
+pub mod UnitReading

@@ -1,7 +1,18 @@
 ghost use Rattle.std.specs.Prelude.{◌≡◌, ◌+◌, ◌<◌, ◌≤◌, [], ◌∷◌, ◌++◌, length, slice_get, Some};
+ghost use Rattle.arrayvec.specs.ArrayVec.{array_vec_len};
 
 use arrayvec::ArrayVec;
 use std::marker::Model;
+
+// Appends octets, in order.
+pub(crate) fn append<const N: usize>(items: &mut ArrayVec<u8, N>, more: &[u8])
+    requires { array_vec_len items.old + length more.now ≤ N }
+    ensures { items.new.items ≡ items.old.items ++ more.now }
+{
+    for octet in more {
+        items.push(*octet);
+    }
+}
 
 /// A list of at most 1,520 octets, as many as a packet of 127 blocks that is not confirmed has before its CRC.
 #[derive(Drop)]
@@ -58,5 +69,13 @@ impl Octets {
         ensures len { length self.new ≡ length self.old + 1 }
     {
         self.items.push(entry);
+    }
+    /// Appends octets, in order.
+    pub fn extend(&mut self, more: &[u8])
+        requires { length self.old + length more.now ≤ 1520 }
+        ensures list { self.new ≡ self.old ++ more.now }
+        ensures len { length self.new ≡ length self.old + length more.now }
+    {
+        append(&mut self.items, more);
     }
 }

@@ -1,11 +1,10 @@
--- Sums of products of two lists, and how many factors are not zero after one changes.
-use Rattle.std.proofs.Common.{◌≡◌, ◌≢◌, ℕ, zero, suc, ◌+◌, ◌<◌, ◌≤◌, sym, ap, ◌∙◌, inl, inr, arith}
+-- Sums of products of two lists, after one of them changes.
+use Rattle.std.proofs.Common.{◌≡◌, ◌≢◌, ℕ, suc, ◌+◌, ◌<◌, sym, ap, ◌∙◌, inl, inr, arith}
 use Rattle.std.proofs.lemmas.Bool.{cases_eq}
 use Rattle.p25_gf64.specs.Field.{Field}
 use Rattle.p25_gf64.proofs.FieldFacts.{add_self, add_comm, add_twice, mul_add, mul_assoc, mul_left_comm, mul_zero, zero_mul, add_mul, mul_inverse, mul_one}
-use Rattle.p25_algebra.specs.Sums.{dot, weight_by, nonzeros}
+use Rattle.p25_algebra.specs.Sums.{dot}
 use Rattle.p25_algebra.proofs.SumFacts.{sum-suc, sum_same, sum_of_zeros, sum-add, sum-mul, sum_of_one}
-use Rattle.p25_algebra.proofs.Vanishing.{weight-le, nonzeros_mono}
 
 module _ {F : Type 0} (K : Field F) where
   open K use {zero as 𝟘, one as 𝟙, add as ◌⊕◌, mul as ◌⊗◌, inverse}
@@ -22,10 +21,6 @@ module _ {F : Type 0} (K : Field F) where
   -- a row of zeros gives zero
   pub dot_of_zeros : (n : ℕ) (a x : ℕ → F) → ((k : ℕ) → k < n → a k ≡ 𝟘) → dot K n a x ≡ 𝟘
   dot_of_zeros n a x none = sum_of_zeros K n (λ k. a k ⊗ x k) (λ k h. ap (λ w. w ⊗ x k) (none k h) ∙ zero_mul K (x k))
-
-  -- unknowns that are zero give zero
-  pub dot_at_zeros : (n : ℕ) (a x : ℕ → F) → ((k : ℕ) → k < n → x k ≡ 𝟘) → dot K n a x ≡ 𝟘
-  dot_at_zeros n a x none = sum_of_zeros K n (λ k. a k ⊗ x k) (λ k h. ap (λ w. a k ⊗ w) (none k h) ∙ mul_zero K (a k))
 
   -- equal rows give equal sums
   pub dot_same : (n : ℕ) (a b x : ℕ → F) → ((k : ℕ) → k < n → a k ≡ b k) → dot K n a x ≡ dot K n b x
@@ -71,23 +66,3 @@ module _ {F : Type 0} (K : Field F) where
       ∙ mul_one K (r ⊕ s)
       ∙ add_comm K r s)
       ∙ add_twice K s r
-
-  -- where one factor changes, at most one fewer is not zero
-  pub nonzeros_but_one : (n c : ℕ) (f g : ℕ → F) → ((k : ℕ) → k ≢ c → f k ≡ g k) → nonzeros K n f ≤ nonzeros K n g + 1
-  unfolding nonzeros
-  nonzeros_but_one zero c f g same = omega arith
-  nonzeros_but_one (suc n) c f g same =
-      elim (cases_eq n c) [
-        | inl here ↦ omega (arith, weight-le (K.is_zero (f n)), nonzeros_mono K n f g (λ k h e. same k (omega arith) ∙ e))
-        | inr apart ↦ omega (arith, nonzeros_but_one n c f g same, ap (λ w. weight_by (K.is_zero w)) (same n apart))
-      ]
-
-  -- where some are not zero, one is not
-  pub some_nonzero : (n : ℕ) (f : ℕ → F) → 0 < nonzeros K n f → (k : ℕ) × (k < n) × (f k ≢ 𝟘)
-  unfolding nonzeros
-  some_nonzero zero f h = absurd (omega arith)
-  some_nonzero (suc n) f h =
-      elim (K.is_zero (f n)) as (λ w. 0 < nonzeros K n f + weight_by w → (k : ℕ) × (k < suc n) × (f k ≢ 𝟘)) [
-        | inl same ↦ λ few. (let (k, inside, live) = some_nonzero n f (omega arith) in (k, (omega arith), live))
-        | inr apart ↦ λ few. (n, (omega arith), apart)
-      ] h

@@ -4,3 +4,4 @@ pub mod PolyFacts
 pub mod DotFacts
 pub mod RowFacts
 pub mod SystemFacts
+pub mod EuclidLaws

@@ -5,11 +5,11 @@ use Rattle.std.proofs.lemmas.List.{get_or-drop, length-drop}
 use Rattle.p25_gf64.specs.declared.symbol.Sym.{Sym}
 use Rattle.p25_gf64.specs.Gf64.{gf64}
 use Rattle.p25_gf64.proofs.FieldFacts.{add_self, add_comm, add_twice, mul_comm, mul_assoc, mul_inverse, mul_one}
-use Rattle.p25_algebra.specs.Sums.{dot, nonzeros}
+use Rattle.p25_algebra.specs.Sums.{dot}
 use Rattle.p25_algebra.specs.Series.{coefficient}
 use Rattle.p25_poly.specs.declared.row.Row.{Row}
-use Rattle.p25_poly.specs.LinearSystem.{IsMet, blank_row, row_of, AreMet, IsCleared, AreCleared, AgreeBut, KeepsOne}
-use Rattle.p25_poly.proofs.DotFacts.{dot_of_zeros, dot_same, dot_multiple, dot_elsewhere, dot_gained, short_made_up, some_nonzero}
+use Rattle.p25_poly.specs.LinearSystem.{IsMet, blank_row, row_of, AreMet, IsCleared, AreCleared, AgreeBut}
+use Rattle.p25_poly.proofs.DotFacts.{dot_of_zeros, dot_same, dot_multiple, dot_elsewhere, dot_gained, short_made_up}
 
 -- a row that has gained the multiple of the front row which takes its cell in the column
 pub cleared_row : (column : ℕ) (front old new : Row) (factor : Sym) → coefficient gf64 front.cells column ≢ gf64.zero → factor ≡ gf64.mul (coefficient gf64 old.cells column) (gf64.inverse (coefficient gf64 front.cells column)) → ((k : ℕ) → coefficient gf64 new.cells k ≡ gf64.add (coefficient gf64 old.cells k) (gf64.mul factor (coefficient gf64 front.cells k))) → new.right ≡ gf64.add old.right (gf64.mul factor front.right) → IsCleared column front old new
@@ -102,24 +102,6 @@ module _ (n column : ℕ) (rows cleared : List Row) (front : Row) (inside : colu
   pub solution_cleared : (x : ℕ → Sym) → AreMet n rows x → AreMet n cleared x
   solution_cleared x met =
       cleared_forth n column front (drop 1 rows) cleared x clears (rw is_front (met.each 0 some)) (met_rest n rows x met)
-
--- an unknown that is kept beside the column's is kept
-pub kept_beside : (n column : ℕ) (old blanked left new : ℕ → Sym) → blanked column ≡ gf64.zero → AgreeBut column old blanked → KeepsOne n blanked left → AgreeBut column left new → KeepsOne n old new
-kept_beside n column old blanked left new blank agree keeps corrected = record {
-  place = keeps.place;
-  inside = keeps.inside;
-  before = λ none. keeps.before (agree.same keeps.place apart ∙ none);
-  after = λ none. keeps.after (sym (corrected.same keeps.place apart) ∙ none);
-}
-  where
-    apart : keeps.place ≢ column
-    apart here = keeps.before (ap blanked here ∙ blank)
-
--- where no row is left, one that isn't zero is kept
-pub kept_by_none : (n : ℕ) (x : ℕ → Sym) → 0 < nonzeros gf64 n x → KeepsOne n x x
-kept_by_none n x some =
-    let (k, inside, live) = some_nonzero gf64 n x some in
-    record { place = k; inside = inside; before = live; after = live }
 
 -- rows that are not found empty
 pub not_empty : (rows : List Row) (empty : Bool) → empty ≡ (length rows == 0) → empty ≡ false → 0 < length rows

@@ -1,3 +1,5 @@
 pub mod Polynomial
 pub mod LinearSystem
 pub mod Matrix
+pub mod Key
+pub mod Euclid

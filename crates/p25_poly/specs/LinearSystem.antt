@@ -36,10 +36,3 @@ pub record AreCleared (column : ℕ) (front : Row) (old new : List Row) : Type 0
 -- the unknowns are the same but for one
 pub record AgreeBut (column : ℕ) (old new : ℕ → Sym) : Type 0 where
   pub same : (k : ℕ) → k ≢ column → new k ≡ old k
-
--- one of the first n unknowns is not zero before and after
-pub record KeepsOne (n : ℕ) (old new : ℕ → Sym) : Type 0 where
-  pub place : ℕ
-  pub inside : place < n
-  pub before : old place ≢ gf64.zero
-  pub after : new place ≢ gf64.zero

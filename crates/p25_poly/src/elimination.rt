@@ -4,9 +4,8 @@
 ghost use Rattle.std.specs.Prelude.{◌≡◌, ◌≢◌, ℕ, ◌<◌, ◌≤◌, length, IsTrue};
 ghost use Rattle.p25_gf64.specs.declared.symbol.Sym.{Sym};
 ghost use Rattle.p25_gf64.specs.Gf64.{gf64};
-ghost use Rattle.p25_algebra.specs.Sums.{nonzeros};
 ghost use Rattle.p25_algebra.specs.Series.{coefficient};
-ghost use Rattle.p25_poly.specs.LinearSystem.{AreMet, AreCleared, KeepsOne};
+ghost use Rattle.p25_poly.specs.LinearSystem.{AreMet, AreCleared};
 
 use crate::row::Row;
 use p25_gf64::Sym;
@@ -28,8 +27,6 @@ pub(crate) fn solve_rows(rows: &mut [Row], unknowns: &mut [Sym]) -> bool
     requires { length unknowns.old ≤ 24 }
     ensures solved { IsTrue result → AreMet (length unknowns.old) rows.old (coefficient gf64 unknowns.new) }
     ensures complete { (x : ℕ → Sym) → AreMet (length unknowns.old) rows.old x → IsTrue result }
-    ensures kept { IsTrue result → length rows.old < nonzeros gf64 (length unknowns.old) (coefficient gf64 unknowns.old)
-        → KeepsOne (length unknowns.old) (coefficient gf64 unknowns.old) (coefficient gf64 unknowns.new) }
 {
     if rows.is_empty() {
         return true;

@@ -2,8 +2,10 @@
 //! them (TIA-102.BAAA).
 //!
 //! A [`Poly`] has degree below 64 and is its coefficients, of which the lowest comes first. A
-//! [`Matrix`] has 1 to 24 rows and columns, both counted from 0. No call takes memory; [`kernel`]
-//! and [`solve`] take at most the cube of the size in steps.
+//! [`Matrix`] has 1 to 24 rows and columns, both counted from 0; [`solve`] takes at most the cube of
+//! the size in steps. [`key_solve`] solves the key equation, from which the readers of the codes take
+//! the places that are wrong and the values there; it takes the square of the number of syndromes. No
+//! call takes memory.
 //!
 //! ```
 //! // 1 + x^3 divided by 1 + x
@@ -18,17 +20,20 @@
 #![tactic(auto)]
 
 mod elimination;
+mod key;
 mod laws;
 mod matrix;
 mod multiples;
 mod polynomial;
 mod row;
+mod side;
 mod systems;
 
+pub use key::{Key, key_solve};
 pub use laws::polynomial_laws;
 pub use matrix::Matrix;
 pub use polynomial::Poly;
-pub use systems::{kernel, solve};
+pub use systems::solve;
 
 #[cfg(test)]
 mod tests;

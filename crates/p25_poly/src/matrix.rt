@@ -20,7 +20,7 @@ impl Matrix {
     ghost use Rattle.p25_poly.specs.LinearSystem.{row_of};
     ghost use Rattle.p25_poly.specs.Matrix.{row_count, column_count, entry, IsSystem};
 
-    /// The matrix of zeros with 1 to 24 rows and 1 to 24 columns.
+    /// Answers the matrix of zeros with 1 to 24 rows and 1 to 24 columns.
     pub fn new(rows: usize, columns: usize) -> Matrix
         requires rows { (1 ≤ rows) × (rows ≤ 24) }
         requires columns { (1 ≤ columns) × (columns ≤ 24) }
@@ -35,7 +35,7 @@ impl Matrix {
         }
     }
 
-    /// The entry of a row and a column, both counted from 0.
+    /// Answers the entry of a row and a column, both counted from 0.
     pub fn get(&self, row: usize, column: usize) -> Sym
         requires row { row < row_count self.now }
         requires column { column < column_count self.now }

@@ -1,8 +1,9 @@
 //! Multiples of lists of symbols.
 
-ghost use Rattle.std.specs.Prelude.{◌≡◌, ℕ, ◌<◌, length};
+ghost use Rattle.std.specs.Prelude.{◌≡◌, ℕ, ◌<◌, ◌≤◌, length};
 ghost use Rattle.p25_gf64.specs.Gf64.{gf64};
 ghost use Rattle.p25_algebra.specs.Series.{coefficient, shifted};
+ghost use Rattle.p25_poly.specs.Euclid.{IsMoved};
 
 use p25_gf64::Sym;
 
@@ -14,5 +15,18 @@ pub(crate) fn add_multiple(into: &mut [Sym], factor: Sym, other: &[Sym], shift: 
 {
     for i in shift..into.len() {
         into[i] = into[i].add(factor.mul(other[i - shift]));
+    }
+}
+
+/// Adds the multiple of the other list's last 32 symbols, moved up by the shift, to the last 32. What the other list has in front
+/// of them moves in.
+pub(crate) fn add_moved(into: &mut [Sym], multiple: Sym, other: &[Sym], shift: usize)
+    requires into { length into.old ≡ 64 }
+    requires other { length other.now ≡ 64 }
+    requires shift { shift ≤ 32 }
+    ensures { IsMoved multiple shift into.old other.now into.new }
+{
+    for i in 0..32 {
+        into[32 + i] = into[32 + i].add(multiple.mul(other[32 + i - shift]));
     }
 }

@@ -16,7 +16,7 @@ impl Poly {
     ghost use Rattle.p25_poly.specs.declared.polynomial.Poly.{Poly as Polynomial};
     ghost use Rattle.p25_poly.specs.Polynomial.{coefficient_of, IsDivision};
 
-    /// The polynomial zero.
+    /// Answers the polynomial zero.
     pub fn zero() -> Poly
         ensures { IsZero gf64 (coefficient_of result) }
     {
@@ -25,7 +25,7 @@ impl Poly {
         }
     }
 
-    /// The polynomial of at most 64 coefficients, lowest first; the others are zero.
+    /// Answers the polynomial of at most 64 coefficients, lowest first; the others are zero.
     pub fn from_symbols(low_first: &[Sym]) -> Poly
         requires { length low_first.now ≤ 64 }
         ensures { (i : ℕ) → coefficient_of result i ≡ coefficient gf64 low_first.now i }
@@ -37,7 +37,7 @@ impl Poly {
         Poly { coefficients }
     }
 
-    /// The coefficient of x^i, for i below 64.
+    /// Answers the coefficient of x^i, for i below 64.
     pub fn coefficient(&self, i: usize) -> Sym
         requires { i < 64 }
         ensures { result ≡ coefficient_of self.now i }
@@ -45,7 +45,7 @@ impl Poly {
         self.coefficients[i]
     }
 
-    /// The degree, the largest exponent whose coefficient isn't zero. None comes exactly for the
+    /// Answers the degree, the largest exponent whose coefficient isn't zero, and None exactly for the
     /// polynomial zero.
     pub fn degree(&self) -> Option<usize>
         ensures none { IsNone result ↔ IsZero gf64 (coefficient_of self.now) }
@@ -60,7 +60,7 @@ impl Poly {
         None
     }
 
-    /// The value at x: the sum of coefficient times power of x.
+    /// Answers the value at x: the sum of coefficient times power of x.
     pub fn eval(&self, x: Sym) -> Sym
         ensures { result ≡ value_at gf64 64 (coefficient_of self.now) x }
     {
@@ -71,7 +71,7 @@ impl Poly {
         value
     }
 
-    /// The sum, coefficient by coefficient. It is the difference too.
+    /// Answers the sum, coefficient by coefficient. It is the difference too.
     pub fn add(&self, other: &Poly) -> Poly
         ensures { (i : ℕ) → coefficient_of result i ≡ gf64.add (coefficient_of self.now i) (coefficient_of other.now i) }
     {
@@ -80,7 +80,7 @@ impl Poly {
         Poly { coefficients }
     }
 
-    /// The product, where one of the polynomials is zero or the degrees add to less than 64: the
+    /// Answers the product, where one of the polynomials is zero or the degrees add to less than 64: the
     /// coefficient of x^n is the sum of the products of coefficients whose exponents add to n.
     pub fn mul(&self, other: &Poly) -> Poly
         requires { (d e : ℕ) → IsDegree gf64 (coefficient_of self.now) d → IsDegree gf64 (coefficient_of other.now) e → d + e < 64 }
@@ -98,7 +98,7 @@ impl Poly {
         Poly { coefficients }
     }
 
-    /// Quotient and remainder by a polynomial that isn't zero: the polynomial is the divisor times the
+    /// Answers quotient and remainder by a polynomial that isn't zero: the polynomial is the divisor times the
     /// quotient, plus the remainder, whose degree is lower than the divisor's.
     pub fn divide(&self, by: &Poly) -> (Poly, Poly)
         requires { IsZero gf64 (coefficient_of by.now) → ⊥ }

@@ -72,7 +72,25 @@ fn systems(rt: HostRuntime) -> Result<(), Fail> {
     let mut pair = [none; 2];
     assert!(rt; solve(&wide, &[four], &mut pair));
     assert_eq!(rt; pair, [none, two]);
-    kernel(&wide, &mut pair);
-    assert_eq!(rt; pair, [one, none]);
     Ok(())
+}
+
+#[test]
+fn keys(rt: HostRuntime) {
+    let one = Key {
+        locator: Poly::from_symbols(&[Sym::ONE, Sym::ONE]),
+        evaluator: Poly::from_symbols(&[Sym::ONE]),
+    };
+    let key = key_solve(&[Sym::ONE, Sym::ONE]);
+    let scale = key.locator.coefficient(0);
+    assert!(rt; !scale.is_zero());
+    let scale = Poly::from_symbols(&[scale]);
+    assert_eq!(rt; key.locator.degree(), Some(1));
+    assert_eq!(rt; scale.degree(), Some(0));
+    assert_eq!(rt; key.locator, one.locator.mul(&scale));
+    assert_eq!(rt; key.evaluator, scale);
+
+    let key = key_solve(&[Sym::ZERO; 22]);
+    assert_ne!(rt; key.locator, Poly::zero());
+    assert_eq!(rt; key.evaluator, Poly::zero());
 }

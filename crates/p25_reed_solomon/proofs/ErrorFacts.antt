@@ -13,13 +13,13 @@ use Rattle.p25_algebra.proofs.Vanishing.{nonzeros-suc, nonzeros_mono, weight-le}
 use Rattle.p25_reed_solomon.specs.Errors.{element_of, IsListed, placed}
 
 -- one value at its place
-abbrev at_place : List ℕ → (ℕ → Sym) → ℕ → ℕ → Sym
+abbrev pub at_place : List ℕ → (ℕ → Sym) → ℕ → ℕ → Sym
 at_place places values j c = cond (eqb (get_or places c 0) j) (values c) gf64.zero
 
 there : (places : List ℕ) (values : ℕ → Sym) (j c : ℕ) → get_or places c 0 ≡ j → at_place places values j c ≡ values c
 there places values j c same = cond-true (eqb (get_or places c 0) j) (values c) gf64.zero (eq-eqb (get_or places c 0) j same)
 
-elsewhere : (places : List ℕ) (values : ℕ → Sym) (j c : ℕ) → (get_or places c 0 ≡ j → ⊥) → at_place places values j c ≡ gf64.zero
+pub elsewhere : (places : List ℕ) (values : ℕ → Sym) (j c : ℕ) → (get_or places c 0 ≡ j → ⊥) → at_place places values j c ≡ gf64.zero
 elsewhere places values j c other = cond-false (eqb (get_or places c 0) j) (values c) gf64.zero (ne_eqb (get_or places c 0) j other)
 
 -- the power sums of values at their places are those over the places alone
@@ -71,7 +71,7 @@ nonzeros_bump (suc n) q f g same =
           omega (arith, nonzeros_bump n q f g same, same_weight)
     ]
 
-zeros_count : (n : ℕ) (f : ℕ → Sym) → ((j : ℕ) → f j ≡ gf64.zero) → nonzeros gf64 n f ≤ 0
+pub zeros_count : (n : ℕ) (f : ℕ → Sym) → ((j : ℕ) → f j ≡ gf64.zero) → nonzeros gf64 n f ≤ 0
 unfolding nonzeros
 zeros_count zero f none = omega arith
 zeros_count (suc n) f none = omega (arith, zeros_count n f none, elim (gf64.is_zero (f n)) as (λ w. weight_by w ≡ 0) [ inl same ↦ refl | inr other ↦ absurd (other (none n)) ])

@@ -1,6 +1,11 @@
 pub mod PlaceFacts
 pub mod ErrorFacts
-pub mod LocatorFacts
 pub mod ReadingFacts
 pub mod Encoding
 pub mod Encoders
+pub mod MarksLaws
+pub mod LocatorLaws
+pub mod LaneSteps
+pub mod ErrorsSteps
+pub mod MarkedWords
+pub mod WrongSteps

@@ -5,32 +5,35 @@ use Rattle.std.proofs.lemmas.List.{get_or_append_left, get_or_at, length_push}
 use Rattle.p25_gf64.specs.declared.symbol.Sym.{Sym}
 use Rattle.p25_gf64.specs.Gf64.{gf64}
 use Rattle.p25_algebra.specs.Sums.{AreApart}
-use Rattle.p25_algebra.specs.Series.{coefficient, value_at}
+use Rattle.p25_algebra.specs.Series.{coefficient, value_at, IsZero}
 use Rattle.p25_algebra.proofs.Values.{few_zeros}
-use Rattle.p25_reed_solomon.specs.ElementFacts.{same_place}
-use Rattle.p25_reed_solomon.specs.Errors.{element_of, AreZeros}
+use Rattle.p25_poly.proofs.Coefficients.{coefficient_past}
+use Rattle.p25_reed_solomon.specs.ElementFacts.{same_point}
+use Rattle.p25_reed_solomon.specs.Errors.{point_of, AreZeros}
 
--- a locator with as many zeros as coefficients has no coefficient
-pub AreZeros-few : (n upto : ℕ) (locator : List Sym) (places : List ℕ) → n ≤ 63 → upto ≤ n → AreZeros n locator upto places → (c : ℕ) × (c < length locator) × (coefficient gf64 locator c ≢ gf64.zero) → length places < length locator
-AreZeros-few n upto locator places most within are some =
-    elim (cases_lt (length places) (length locator)) [
+-- a polynomial with as many zeros as coefficients has no coefficient
+pub AreZeros-few : (n upto : ℕ) (polynomial : List Sym) (places : List ℕ) → n ≤ 63 → upto ≤ n → AreZeros n polynomial upto places → (IsZero gf64 (coefficient gf64 polynomial) → ⊥) → length places < length polynomial
+AreZeros-few n upto polynomial places most within are some =
+    elim (cases_lt (length places) (length polynomial)) [
       | inl fewer ↦ fewer
-      | inr many ↦
-          let place : ℕ → ℕ = λ c. get_or places c 0 in
-          let apart : AreApart (length places) (λ c. element_of n (place c))
-          = record {
-            apart = λ a b first second same.
-                let e = same_place n (place a) (place b) most (omega (arith, are.below a first)) (omega (arith, are.below b second)) same in
-                elim (cases_order a b) [
-                  | inl equal ↦ equal
-                  | inr other ↦ elim other [
-                    | inl less ↦ absurd (omega (arith, are.rising a b less second, e))
-                    | inr more ↦ absurd (omega (arith, are.rising b a more first, e))
-                  ]
-                ];
-          } in
-          absurd (some.2 (few_zeros gf64 (length locator) (length places) (coefficient gf64 locator) (λ c. element_of n (place c)) many apart are.zeros some.0 some.1))
+      | inr many ↦ absurd (some (λ i. elim (cases_lt i (length polynomial)) [
+        | inl low ↦ few_zeros gf64 (length polynomial) (length places) (coefficient gf64 polynomial) (λ c. point_of n (get_or places c 0)) many apart are.zeros i low
+        | inr high ↦ coefficient_past gf64 polynomial i high
+      ]))
     ]
+  where
+    apart : AreApart (length places) (λ c. point_of n (get_or places c 0))
+    apart = record {
+      apart = λ a b first second same.
+          let e = same_point n (get_or places a 0) (get_or places b 0) most (omega (arith, are.below a first)) (omega (arith, are.below b second)) same in
+          elim (cases_order a b) [
+            | inl equal ↦ equal
+            | inr other ↦ elim other [
+              | inl less ↦ absurd (omega (arith, are.rising a b less second, e))
+              | inr more ↦ absurd (omega (arith, are.rising b a more first, e))
+            ]
+          ];
+    }
 
 -- before the first place none is listed
 pub AreZeros-none : (n : ℕ) (locator : List Sym) → AreZeros n locator 0 []
@@ -43,14 +46,14 @@ AreZeros-none n locator =
     }
 
 -- a place where the locator doesn't vanish is not listed
-pub AreZeros-skip : (n : ℕ) (locator : List Sym) (j : ℕ) (places : List ℕ) → AreZeros n locator j places → value_at gf64 (length locator) (coefficient gf64 locator) (element_of n j) ≢ gf64.zero → AreZeros n locator (j + 1) places
+pub AreZeros-skip : (n : ℕ) (locator : List Sym) (j : ℕ) (places : List ℕ) → AreZeros n locator j places → value_at gf64 (length locator) (coefficient gf64 locator) (point_of n j) ≢ gf64.zero → AreZeros n locator (j + 1) places
 AreZeros-skip n locator j places are other =
     record {
       below = λ c h. omega (arith, are.below c h);
       rising = are.rising;
       zeros = are.zeros;
       all = λ k h z. elim (cases_eq k j) [
-        | inl here ↦ absurd (other (subst (λ (m : ℕ). value_at gf64 (length locator) (coefficient gf64 locator) (element_of n m) ≡ gf64.zero) here z))
+        | inl here ↦ absurd (other (subst (λ (m : ℕ). value_at gf64 (length locator) (coefficient gf64 locator) (point_of n m) ≡ gf64.zero) here z))
         | inr before ↦ are.all k (omega (arith, before)) z
       ];
     }
@@ -59,7 +62,7 @@ pushed_last : (places : List ℕ) (j c : ℕ) → c ≡ length places → get_or
 pushed_last places j c here = get_or_at places j [] 0 c (sym here)
 
 -- a place where it vanishes is
-pub AreZeros-push : (n : ℕ) (locator : List Sym) (j : ℕ) (places : List ℕ) → AreZeros n locator j places → value_at gf64 (length locator) (coefficient gf64 locator) (element_of n j) ≡ gf64.zero → AreZeros n locator (j + 1) (places ++ j ∷ [])
+pub AreZeros-push : (n : ℕ) (locator : List Sym) (j : ℕ) (places : List ℕ) → AreZeros n locator j places → value_at gf64 (length locator) (coefficient gf64 locator) (point_of n j) ≡ gf64.zero → AreZeros n locator (j + 1) (places ++ j ∷ [])
 AreZeros-push n locator j places are here =
     let long = length_push places j in
     let old : (c : ℕ) → c < length places → get_or (places ++ j ∷ []) c 0 ≡ get_or places c 0 = λ c h. get_or_append_left places (j ∷ []) 0 c h in
@@ -75,8 +78,8 @@ AreZeros-push n locator j places are here =
             omega (arith, are.below c within, old c within, pushed_last places j d (omega (arith, long)))
       ];
       zeros = λ c h. elim (cases_lt c (length places)) [
-        | inl inside ↦ subst (λ (m : ℕ). value_at gf64 (length locator) (coefficient gf64 locator) (element_of n m) ≡ gf64.zero) (sym (old c inside)) (are.zeros c inside)
-        | inr last ↦ subst (λ (m : ℕ). value_at gf64 (length locator) (coefficient gf64 locator) (element_of n m) ≡ gf64.zero) (sym (pushed_last places j c (omega (arith, long)))) here
+        | inl inside ↦ subst (λ (m : ℕ). value_at gf64 (length locator) (coefficient gf64 locator) (point_of n m) ≡ gf64.zero) (sym (old c inside)) (are.zeros c inside)
+        | inr last ↦ subst (λ (m : ℕ). value_at gf64 (length locator) (coefficient gf64 locator) (point_of n m) ≡ gf64.zero) (sym (pushed_last places j c (omega (arith, long)))) here
       ];
       all = λ k h z. elim (cases_eq k j) [
         | inl same ↦ record { index = length places; inside = omega (arith, long); there = pushed_last places j (length places) refl ∙ sym same }

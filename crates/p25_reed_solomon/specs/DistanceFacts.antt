@@ -13,13 +13,13 @@ use Rattle.p25_algebra.specs.Series.{coefficient}
 use Rattle.p25_reed_solomon.specs.Words.{same_symbols}
 
 -- the first factor apart
-nonzeros_first : (n : ℕ) (f : ℕ → Sym) → nonzeros gf64 (suc n) f ≡ weight_by (gf64.is_zero (f 0)) + nonzeros gf64 n (λ i. f (suc i))
+pub nonzeros_first : (n : ℕ) (f : ℕ → Sym) → nonzeros gf64 (suc n) f ≡ weight_by (gf64.is_zero (f 0)) + nonzeros gf64 n (λ i. f (suc i))
 unfolding nonzeros
 nonzeros_first zero f = omega arith
 nonzeros_first (suc n) f = omega (arith, nonzeros_first n f)
 
 -- two symbols differ exactly where their sum is not zero
-weight_of_sum : (x y : Sym) → cond (same_symbols x y) 0 1 ≡ weight_by (gf64.is_zero (gf64.add x y))
+pub weight_of_sum : (x y : Sym) → cond (same_symbols x y) 0 1 ≡ weight_by (gf64.is_zero (gf64.add x y))
 weight_of_sum x y =
     elim (gf64.is_zero (gf64.add x y)) as (λ w. cond (same_symbols x y) 0 1 ≡ weight_by w) [
       | inl none ↦ cond-true (same_symbols x y) 0 1 (eq-eqb (number x) (number y) (ap number (same_from_sum gf64 x y none)))

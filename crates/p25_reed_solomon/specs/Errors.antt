@@ -1,5 +1,5 @@
--- Errors of a received word: what is added to it at each place.
-use Rattle.std.specs.Prelude.{◌≡◌, ℕ, ◌+◌, ◌-◌, ◌*◌, ◌<◌, ◌≤◌, List, length, slice_index_or, eqb, cond}
+-- Errors of a received word: what is added to it at each place. Places may be marked: what stands there is not known.
+use Rattle.std.specs.Prelude.{◌≡◌, ℕ, zero, suc, ◌+◌, ◌-◌, ◌*◌, ◌<◌, ◌≤◌, Bool, false, List, length, slice_index_or, eqb, cond}
 use Rattle.p25_gf64.specs.declared.symbol.Sym.{Sym}
 use Rattle.p25_gf64.specs.Field.{power}
 use Rattle.p25_gf64.specs.Symbol.{alpha}
@@ -11,11 +11,33 @@ use Rattle.p25_algebra.specs.Series.{coefficient, value_at}
 abbrev pub element_of : ℕ → ℕ → Sym
 element_of n j = power gf64 alpha (n - 1 - j)
 
--- these errors explain the syndromes: at most half as many places are wrong as there are syndromes, and their power sums
--- are the syndromes
-pub record Explains (n : ℕ) (syndromes : List Sym) (errors : ℕ → Sym) : Type 0 where
-  pub few : 2 * nonzeros gf64 n errors ≤ length syndromes
-  pub sums : (r : ℕ) → r < length syndromes → power_sum gf64 n (element_of n) errors (r + 1) ≡ coefficient gf64 syndromes r
+-- the point of a place: the inverse of its element
+abbrev pub point_of : ℕ → ℕ → Sym
+point_of n j = gf64.inverse (element_of n j)
+
+-- whether a place is marked
+abbrev pub is_marked : List Bool → ℕ → Bool
+is_marked erased j = slice_index_or erased j false
+
+-- how many of the places 0 to n - 1 are marked
+unfoldable pub marks_below : List Bool → ℕ → ℕ
+marks_below erased zero = 0
+marks_below erased (suc n) = marks_below erased n + cond (is_marked erased n) 1 0
+
+-- the errors at places that are not marked
+abbrev pub unmarked : List Bool → (ℕ → Sym) → ℕ → Sym
+unmarked erased errors j = cond (is_marked erased j) gf64.zero (errors j)
+
+-- these errors explain so many syndromes: twice the wrong places that are not marked, and the marked places, are no more than these,
+-- and the power sums of the errors are the syndromes
+pub record Explains (n checks : ℕ) (syndromes : List Sym) (erased : List Bool) (errors : ℕ → Sym) : Type 0 where
+  pub few : 2 * nonzeros gf64 n (unmarked erased errors) + marks_below erased n ≤ checks
+  pub sums : (r : ℕ) → r < checks → power_sum gf64 n (element_of n) errors (r + 1) ≡ coefficient gf64 syndromes r
+
+-- these errors, without a mark, explain so many syndromes: they are half as many at most
+pub record AreErrors (n checks : ℕ) (syndromes : List Sym) (errors : ℕ → Sym) : Type 0 where
+  pub few : 2 * nonzeros gf64 n errors ≤ checks
+  pub sums : (r : ℕ) → r < checks → power_sum gf64 n (element_of n) errors (r + 1) ≡ coefficient gf64 syndromes r
 
 -- a place among n is listed
 pub record IsListed (places : List ℕ) (j : ℕ) : Type 0 where
@@ -23,12 +45,12 @@ pub record IsListed (places : List ℕ) (j : ℕ) : Type 0 where
   pub inside : index < length places
   pub there : slice_index_or places index 0 ≡ j
 
--- the places are those below `upto` at whose elements a locator vanishes, in rising order
-pub record AreZeros (n : ℕ) (locator : List Sym) (upto : ℕ) (places : List ℕ) : Type 0 where
+-- the places are those below `upto` at whose points a polynomial vanishes, in rising order
+pub record AreZeros (n : ℕ) (polynomial : List Sym) (upto : ℕ) (places : List ℕ) : Type 0 where
   pub below : (c : ℕ) → c < length places → slice_index_or places c 0 < upto
   pub rising : (c d : ℕ) → c < d → d < length places → slice_index_or places c 0 < slice_index_or places d 0
-  pub zeros : (c : ℕ) → c < length places → value_at gf64 (length locator) (coefficient gf64 locator) (element_of n (slice_index_or places c 0)) ≡ gf64.zero
-  pub all : (j : ℕ) → j < upto → value_at gf64 (length locator) (coefficient gf64 locator) (element_of n j) ≡ gf64.zero → IsListed places j
+  pub zeros : (c : ℕ) → c < length places → value_at gf64 (length polynomial) (coefficient gf64 polynomial) (point_of n (slice_index_or places c 0)) ≡ gf64.zero
+  pub all : (j : ℕ) → j < upto → value_at gf64 (length polynomial) (coefficient gf64 polynomial) (point_of n j) ≡ gf64.zero → IsListed places j
 
 -- what stands at place j where each value is added at its place
 abbrev pub placed : List ℕ → (ℕ → Sym) → ℕ → Sym

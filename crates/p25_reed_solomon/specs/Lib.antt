@@ -1,5 +1,6 @@
 pub mod Words
 pub mod Errors
+pub mod Locator
 pub mod Generator
 pub mod ValueFacts
 pub mod ElementFacts

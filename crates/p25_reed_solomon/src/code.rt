@@ -2,11 +2,11 @@ ghost use Rattle.std.specs.Prelude.{◌≡◌, ◌+◌, ◌-◌, ◌/◌};
 ghost use Rattle.p25_gf64.proofs.Symbols.{same_from_eq};
 ghost use Rattle.p25_reed_solomon.specs.Words.{IsCode, IsWord, radius_of};
 ghost use Rattle.p25_reed_solomon.specs.WordLaws.{begins_of, length_of_word_of, one_word_of, within_of, words_apart};
-ghost use Rattle.p25_reed_solomon.specs.RsReadings.{rs_reading_of, rs_reads_as};
+ghost use Rattle.p25_reed_solomon.specs.RsReadings.{marks_within_of, rs_marked_reading_of, rs_marked_reads_as, rs_reading_of, rs_reads_as};
 
 use crate::encoder::encode;
-use crate::reader::read;
-use p25_code::{BlockCode, Reading};
+use crate::reader::{read, read_erased};
+use p25_code::{BlockCode, ErasedCode, Reading};
 use p25_gf64::Sym;
 
 /// The Reed-Solomon code over GF(64) of N symbols, of which the first K are the information (TIA-102.BAAA). Its words
@@ -61,5 +61,17 @@ impl<const N: usize, const K: usize> BlockCode for Rs<N, K> {
 
     fn read(word: &mut [Sym]) -> Reading {
         read(word, K)
+    }
+}
+
+impl<const N: usize, const K: usize> ErasedCode for Rs<N, K> {
+    ghost marked_reading_is = { rs_marked_reading_of N K };
+
+    ghost marked_reads_as = { λ _. rs_marked_reads_as N K };
+
+    ghost marks_within = { λ _. marks_within_of N K };
+
+    fn read_erased(word: &mut [Sym], erased: &[bool]) -> Reading {
+        read_erased(word, K, erased)
     }
 }

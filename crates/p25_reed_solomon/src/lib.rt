@@ -28,19 +28,39 @@
 //! assert_eq!(word, sent);
 //! ```
 //!
-//! The encoder divides by the generator polynomial. The reader is that of the textbooks (Peterson, Gorenstein and
-//! Zierler): the syndromes of what was received, a locator that vanishes at the wrong places, and the values there by a
-//! linear system; it answers only once the values explain all of the syndromes. A word without wrong symbols is done
-//! after its syndromes. No call takes memory or fails.
+//! With `read_erased` some symbols are marked as not known. A word is then read where twice the wrong symbols without a mark, and
+//! the marks, are at most N - K together:
+//!
+//! ```text
+//! use p25_code::ErasedCode;
+//!
+//! let mut erased = [false; 24];
+//! erased[..12].fill(true);
+//! word[..12].fill(Sym::ONE);
+//! assert_eq!(LinkControl::read_erased(&mut word, &erased), Reading::Found { fixes: 12 });
+//! ```
+//!
+//! The encoder divides by the generator polynomial. The reader is one for both calls. It makes the syndromes of what was received, and
+//! a word whose syndromes are zero is answered at once. From the syndromes, times a factor for each mark, the key equation gives a
+//! polynomial that vanishes at the wrong places; its zeros, and its evaluator divided by its slope there (Forney's formula), give the
+//! errors. It answers Found only once the power sums of these are the syndromes. No call takes memory or fails.
 #![tactic(auto)]
 
 mod code;
 mod encoder;
 mod errors;
 mod locator;
+mod marks;
+mod points;
 mod reader;
+mod sums;
 mod syndromes;
 #[cfg(test)]
 mod tests;
+mod values;
+mod wrong;
+mod zeros;
 
 pub use code::Rs;
+pub use syndromes::fill_syndromes;
+pub use wrong::mark_wrong;

@@ -1,63 +1,72 @@
-//! The locator: a polynomial that vanishes at the element of each wrong place, and the places where it does.
+//! The locator: a polynomial that vanishes at the inverse of the element of each place that is marked or wrong, and its evaluator.
 
-ghost use Rattle.std.specs.Prelude.{◌≡◌, ◌≢◌, ℕ, ◌+◌, ◌*◌, ◌<◌, ◌≤◌, length};
-ghost use Rattle.p25_gf64.specs.declared.symbol.Sym.{Sym};
+ghost use Rattle.std.specs.Prelude.{◌≡◌, ℕ, ◌+◌, ◌*◌, ◌/◌, ◌<◌, ◌≤◌, length};
 ghost use Rattle.p25_gf64.specs.Gf64.{gf64};
-ghost use Rattle.p25_algebra.specs.Sums.{dot};
-ghost use Rattle.p25_algebra.specs.Series.{coefficient, value_at};
-ghost use Rattle.p25_reed_solomon.specs.Errors.{AreZeros, element_of};
+ghost use Rattle.p25_algebra.specs.Series.{coefficient};
+ghost use Rattle.p25_poly.specs.Key.{IsKey};
+ghost use Rattle.p25_poly.specs.Polynomial.{coefficient_of};
+ghost use Rattle.p25_reed_solomon.specs.Errors.{marks_below};
+ghost use Rattle.p25_reed_solomon.specs.Locator.{IsLocator};
 
-use arrayvec::ArrayVec;
+use crate::marks::{count_marks, multiply_by_marks, multiply_by_x_and_add};
 use p25_gf64::Sym;
-use p25_poly::{Matrix, kernel};
+use p25_poly::{Key, Poly, key_solve};
 
-// Sets `out` to the coefficients, lowest first, of a polynomial that isn't zero and is orthogonal to the syndromes.
-pub(crate) fn fill_locator(syndromes: &[Sym], out: &mut [Sym])
-    requires some { 2 ≤ length out.old }
-    requires few { length out.old ≤ 12 }
-    requires room { length syndromes.now + 2 ≡ 2 * length out.old }
-    ensures orthogonal { (r : ℕ) → r + 1 < length out.new → dot gf64 (length out.new) (λ c. coefficient gf64 syndromes.now (r + c)) (coefficient gf64 out.new) ≡ gf64.zero }
-    ensures nonzero { (c : ℕ) × (c < length out.new) × (coefficient gf64 out.new c ≢ gf64.zero) }
-    ensures room { length syndromes.now + 2 ≡ 2 * length out.new }
+// Sets `locator` and `evaluator` to a locator of the first `checks` syndromes of a word with marks, and its evaluator: the solution
+// of the key equation of the syndromes times the factor of each mark, and this factor again.
+pub(crate) fn locate(
+    syndromes: &[Sym],
+    checks: usize,
+    erased: &[bool],
+    locator: &mut [Sym],
+    evaluator: &mut [Sym],
+) -> usize
+    requires places { length erased.now ≤ 63 }
+    requires marks { marks_below erased.now (length erased.now) ≤ checks }
+    requires some { 2 ≤ checks }
+    requires few { checks ≤ 22 }
+    requires syndromes { length syndromes.now ≡ 32 }
+    requires locator { length locator.old ≡ 32 }
+    requires evaluator { length evaluator.old ≡ 32 }
+    ensures locator { IsLocator (length erased.now) checks syndromes.now erased.now result (coefficient gf64 locator.new) (coefficient gf64 evaluator.new) }
+    ensures most { 2 * result ≤ checks + marks_below erased.now (length erased.now) }
 {
-    let columns = out.len();
-    let mut matrix = Matrix::new(columns - 1, columns);
-    for row in 0..columns - 1 {
-        for column in 0..columns {
-            matrix.set(row, column, syndromes[row + column]);
-        }
+    let marks = count_marks(erased);
+    let half = (checks - marks) / 2;
+    let mut lowered = [Sym::default(); 32];
+    lowered.copy_from_slice(syndromes);
+    multiply_by_marks(&mut lowered, erased);
+    let key = key_of(&lowered[marks..marks + 2 * half]);
+    fill_front(&key.locator, locator);
+    fill_front(&key.evaluator, evaluator);
+    for i in (0..marks).rev() {
+        multiply_by_x_and_add(evaluator, lowered[i], locator);
     }
-    kernel(&matrix, out);
+    multiply_by_marks(locator, erased);
+    half + marks
 }
 
-// The places among n at whose elements a locator vanishes, in rising order. There are fewer than its coefficients.
-pub(crate) fn zeros(locator: &[Sym], n: usize) -> ArrayVec<usize, 12>
-    requires places { n ≤ 63 }
-    requires few { length locator.now ≤ 12 }
-    requires nonzero { (c : ℕ) × (c < length locator.now) × (coefficient gf64 locator.now c ≢ gf64.zero) }
-    ensures zeros { AreZeros n locator.now n result.items }
-    ensures few { length result.items < length locator.now }
+// The solution of the key equation, which without symbols is 1 with the evaluator 0.
+fn key_of(symbols: &[Sym]) -> Key
+    requires few { length symbols.now ≤ 22 }
+    requires even { 2 * (length symbols.now / 2) ≡ length symbols.now }
+    ensures { IsKey symbols.now result.locator result.evaluator }
 {
-    let mut places = ArrayVec::new();
-    for j in 0..n {
-        if value_at_element(locator, n, j).is_zero() {
-            places.push(j);
-        }
+    if symbols.is_empty() {
+        return Key {
+            locator: Poly::from_symbols(&[Sym::ONE]),
+            evaluator: Poly::zero(),
+        };
     }
-    places
+    key_solve(symbols)
 }
 
-// The value of a locator at the element of place j among n.
-fn value_at_element(locator: &[Sym], n: usize, j: usize) -> Sym
-    requires places { n ≤ 63 }
-    requires inside { j < n }
-    requires few { length locator.now ≤ 12 }
-    ensures { result ≡ value_at gf64 (length locator.now) (coefficient gf64 locator.now) (element_of n j) }
+// Sets `out` to the first coefficients of a polynomial.
+fn fill_front(polynomial: &Poly, out: &mut [Sym])
+    requires { length out.old ≡ 32 }
+    ensures { (k : ℕ) → k < 32 → coefficient gf64 out.new k ≡ coefficient_of polynomial.now k }
 {
-    let x = Sym::pow_alpha((n - 1 - j) as u32);
-    let mut value = Sym::default();
-    for i in (0..locator.len()).rev() {
-        value = value.mul(x).add(locator[i]);
+    for i in 0..32 {
+        out[i] = polynomial.coefficient(i);
     }
-    value
 }

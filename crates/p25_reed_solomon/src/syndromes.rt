@@ -5,31 +5,23 @@ ghost use Rattle.p25_gf64.specs.Gf64.{gf64};
 ghost use Rattle.p25_algebra.specs.Series.{coefficient};
 ghost use Rattle.p25_reed_solomon.specs.Words.{value_of};
 
+use crate::points::{fill_powers, horner_step};
 use p25_gf64::Sym;
 
-// The value of a word at α^i, by Horner's rule.
-fn value_at_power(word: &[Sym], i: u32) -> Sym
-    requires { length word.now ≤ 63 }
-    ensures { result ≡ value_of (length word.now) word.now i }
-{
-    let x = Sym::pow_alpha(i);
-    let mut value = Sym::default();
-    for symbol in word {
-        value = value.mul(x).add(*symbol);
-    }
-    value
-}
-
-// Sets `out` to the values of a word at α^1, α^2 and so on, so many of them.
-pub(crate) fn fill_syndromes(word: &[Sym], count: usize, out: &mut [Sym])
+/// Sets `out`, of 32 symbols, to the values of a word of at most 63 symbols at α^1 to α^32. Its first symbol is the highest
+/// coefficient.
+pub fn fill_syndromes(word: &[Sym], out: &mut [Sym])
     requires word { length word.now ≤ 63 }
-    requires few { count ≤ 22 }
-    requires room { length out.old ≡ count }
-    ensures values { (r : ℕ) → r < count → coefficient gf64 out.new r ≡ value_of (length word.now) word.now (r + 1) }
-    ensures count { length out.new ≡ count }
+    requires room { length out.old ≡ 32 }
+    ensures values { (r : ℕ) → r < 32 → coefficient gf64 out.new r ≡ value_of (length word.now) word.now (r + 1) }
 {
-    for r in 0..count {
-        out[r] = value_at_power(word, r as u32 + 1);
+    let mut powers = [Sym::default(); 32];
+    fill_powers(1, &mut powers);
+    for value in out.iter_mut() {
+        *value = Sym::default();
+    }
+    for symbol in word {
+        horner_step(out, &powers, *symbol);
     }
 }
 

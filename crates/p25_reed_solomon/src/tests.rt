@@ -3,7 +3,7 @@
 ghost use Rattle.p25_reed_solomon.specs.Words.{IsCode};
 
 use crate::Rs;
-use p25_code::{BlockCode, Reading, encode_then_read, read_received};
+use p25_code::{BlockCode, Reading, encode_then_read, read_marked, read_received};
 use p25_gf64::Sym;
 use std::process::Abort;
 
@@ -71,6 +71,77 @@ fn assert_radius<const N: usize, const K: usize>(rt: &impl Abort, radius: usize)
         }
     );
     assert_eq!(rt; word, [Sym::default(); N]);
+}
+
+// A word is read with so many marks, and as many wrong symbols behind them as there may be: each mark costs one, each wrong symbol
+// two.
+fn assert_marks<const N: usize, const K: usize>(rt: &impl Abort, sent: &str)
+    requires { IsCode N K }
+{
+    let sent = symbols_of::<N>(sent);
+    for marks in 0..N - K + 1 {
+        for wrong in 0..(N - K - marks) / 2 + 1 {
+            let mut word = sent;
+            for symbol in word.iter_mut().take(marks + wrong) {
+                *symbol = symbol.add(Sym::ONE);
+            }
+            let mut erased = [false; N];
+            for gone in erased.iter_mut().take(marks) {
+                *gone = true;
+            }
+            let fixes = (marks + wrong) as u32;
+            assert_eq!(rt;
+                read_marked::<Rs<N, K>>(&mut word, &erased),
+                Reading::Found { fixes }
+            );
+            assert_eq!(rt; word, sent);
+        }
+    }
+}
+
+// The coefficients of (x - α)(x - α^2)..(x - α^(N - K - 1)), which stand in the check symbols, differ from each word of the code in
+// N - K symbols at least. So with fewer marks than that no word costs so little as is allowed, one too much with one mark less, and
+// with as many the word is read.
+fn assert_too_few_marks<const N: usize, const K: usize>(rt: &impl Abort, received: &str)
+    requires { IsCode N K }
+{
+    let received = symbols_of::<N>(received);
+    for marks in 0..N - K + 1 {
+        let mut word = received;
+        let mut erased = [false; N];
+        for gone in erased.iter_mut().skip(K).take(marks) {
+            *gone = true;
+        }
+        let reading = read_marked::<Rs<N, K>>(&mut word, &erased);
+        if marks < N - K {
+            assert_eq!(rt; reading, Reading::Beyond);
+            assert_eq!(rt; word, received);
+        } else {
+            let fixes = marks as u32;
+            assert_eq!(rt; reading, Reading::Found { fixes });
+            assert_eq!(rt; word, [Sym::default(); N]);
+        }
+    }
+}
+
+#[test]
+fn reads_with_marks(rt: HostRuntime) {
+    assert_marks::<36, 20>(
+        &rt,
+        "270175232777377521255315260744575571261610414715134206634110723660117725",
+    );
+    assert_marks::<24, 12>(&rt, "035000476356506273717415466536506351313017440371");
+    assert_marks::<24, 16>(&rt, "031163745554154624037047554717145530440712313622");
+}
+
+#[test]
+fn reads_no_more_than_the_marks_allow(rt: HostRuntime) {
+    assert_too_few_marks::<36, 20>(
+        &rt,
+        "000000000000000000000000000000000000000001177110152336315267373505657576",
+    );
+    assert_too_few_marks::<24, 12>(&rt, "000000000000000000000000017414212573160627644310");
+    assert_too_few_marks::<24, 16>(&rt, "000000000000000000000000000000000173053132213534");
 }
 
 #[test]

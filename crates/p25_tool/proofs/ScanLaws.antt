@@ -5,7 +5,7 @@ use Rattle.std.proofs.lemmas.List.{drop_more, length-take-le}
 use Rattle.std.proofs.lemmas.Nat.{mod_low}
 use Rattle.p25_bits.specs.Bits.{digit_of, bits_of, field_of, part}
 use Rattle.p25_bits.specs.Distance.{distance_of}
-use Rattle.p25_bits.proofs.Lists.{part_more}
+use Rattle.p25_bits.proofs.PartLaws.{part_more}
 use Rattle.p25_bits.proofs.BitsLaws.{field_of-cons, field_of-push, field_of-lt, bits_of-field_of}
 use Rattle.p25_status.specs.Sync.{sync_bits}
 use Rattle.p25_tool.specs.Items.{sync_slack, has_sync, sync_place}

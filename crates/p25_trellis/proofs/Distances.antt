@@ -1,17 +1,14 @@
 -- The distance of sent bits as a sum over nibbles.
-use Rattle.std.proofs.Common.{◌≡◌, ℕ, suc, ◌+◌, ◌*◌, ◌/◌, ◌%◌, ◌<◌, ◌≤◌, Bool, true, eqb, List, [], ◌∷◌, length, drop, get_or, set, refl, ap, ap₂, sym, ◌∙◌, arith, All, bit_xor, count_ones, below_more, get_or-set_same, get_or-set_other, ◌≢◌}
+use Rattle.std.proofs.Common.{◌≡◌, ℕ, suc, ◌+◌, ◌<◌, ◌≤◌, Bool, List, [], ◌∷◌, length, drop, get_or, refl, ap, ap₂, sym, ◌∙◌, arith, All}
 use Rattle.std.specs.Bool.{beq}
-use Rattle.std.specs.Int.Count.{ones}
-use Rattle.std.proofs.lemmas.Bool.{eqb-true}
 use Rattle.std.proofs.lemmas.List.{drop_more}
 use Rattle.std.proofs.lemmas.List.Elements.{All-cons, All-nil, All-head, All-tail}
 use Rattle.p25_bits.specs.Bits.{bits_of}
-use Rattle.p25_bits.specs.Distance.{distance_by, distance_of}
+use Rattle.p25_bits.specs.Distance.{distance_of}
 use Rattle.p25_bits.proofs.BitsLaws.{length-bits_of}
 use Rattle.p25_bits.proofs.DistanceLaws.{distance_by-append, distance_by-nil, distance_by-le}
 use Rattle.p25_trellis.specs.Interleave.{interleaved}
 use Rattle.p25_trellis.specs.Tables.{nibble_distance}
-use Rattle.p25_trellis.specs.TableLaws.{passed_below, passed_below-at}
 use Rattle.p25_bits.specs.Numbers.{number_bits}
 use Rattle.p25_trellis.specs.Trellis.{nibbles_from, sent_bits, distance_from, IsPath, IsFirstLeastReading}
 use Rattle.p25_trellis.specs.Costs.{total_cost, symbols_cost, path_cost, cost_in}
@@ -19,41 +16,10 @@ use Rattle.p25_trellis.specs.Least.{IsDistanceTable}
 use Rattle.p25_trellis.proofs.InterleaveLaws.{weighed, weighed-interleaved, length-interleaved}
 use Rattle.p25_trellis.proofs.Paths.{length-nibbles_from}
 
--- the ones of an exclusive or are the places in which two nibbles differ
-ones_test : passed_below 16 (λ a. passed_below 16 (λ b. eqb (count_ones (bit_xor a b)) (nibble_distance b a))) ≡ true
-unfolding passed_below nibble_distance bits_of distance_by ones
-ones_test = refl
-
-pub count_ones-nibbles : (a b : ℕ) → a < 16 → b < 16 → count_ones (bit_xor a b) ≡ nibble_distance b a
-count_ones-nibbles a b ha hb = eqb-true _ _ (passed_below-at 16 _ (passed_below-at 16 _ ones_test a ha) b hb)
-
 -- two nibbles differ in at most four bits
 pub nibble_distance-le : (a b : ℕ) → nibble_distance a b ≤ 4
 unfolding nibble_distance
 nibble_distance-le a b = omega (arith, distance_by-le beq (bits_of 4 a) (bits_of 4 b), length-bits_of 4 a)
-
--- one more cost of the table
-pub cost_more : (received costs : List ℕ) (place : ℕ) → length costs ≡ 784 → length received ≡ 49 → All (λ n. n < 16) received → place < 784 → ((k : ℕ) → k < place → get_or costs k 0 ≡ nibble_distance (k % 16) (get_or received (k / 16) 0)) → (k : ℕ) → k < place + 1 → get_or (set costs place (count_ones (bit_xor (get_or received (place / 16) 0) (place % 16)))) k 0 ≡ nibble_distance (k % 16) (get_or received (k / 16) 0)
-cost_more received costs place long there small inside so_far =
-    let value = count_ones (bit_xor (get_or received (place / 16) 0) (place % 16)) in
-    let here : place < length costs = omega arith in
-    let step : place / 16 < length received = omega arith in
-    let nibble : place % 16 < 16 = omega arith in
-    below_more (λ k. get_or (set costs place value) k 0 ≡ nibble_distance (k % 16) (get_or received (k / 16) 0)) place
-    (λ k below. let other : k ≢ place = omega arith in get_or-set_other costs place k value 0 other ∙ so_far k below)
-    (get_or-set_same costs place value 0 here ∙ count_ones-nibbles (get_or received (place / 16) 0) (place % 16) (small (place / 16) 0 step) nibble)
-
--- the table by steps and nibbles
-pub IsDistanceTable-from_places : (received costs : List ℕ) → ((k : ℕ) → k < 784 → get_or costs k 0 ≡ nibble_distance (k % 16) (get_or received (k / 16) 0)) → IsDistanceTable received costs
-unfolding cost_in
-IsDistanceTable-from_places received costs each = record { at = at_place }
-  where
-    at_place : (step nibble : ℕ) → step < 49 → nibble < 16 → cost_in costs step nibble ≡ nibble_distance nibble (get_or received step 0)
-    at_place step nibble early below =
-        let inside : 16 * step + nibble < 784 = omega arith in
-        let row : (16 * step + nibble) / 16 ≡ step = omega arith in
-        let column : (16 * step + nibble) % 16 ≡ nibble = omega arith in
-        each (16 * step + nibble) inside ∙ ap₂ nibble_distance column (ap (λ i. get_or received i 0) row)
 
 -- bits of nibbles differ as the nibbles do
 distance_of-nibbles : (xs ys : List ℕ) → length xs ≡ length ys → distance_of (number_bits 4 xs) (number_bits 4 ys) ≡ weighed nibble_distance xs ys

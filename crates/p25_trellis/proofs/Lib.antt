@@ -1,8 +1,11 @@
 pub mod RateSteps
 pub mod InterleaveLaws
+pub mod QueueSteps
+pub mod PathSteps
 pub mod Paths
 pub mod Costs
 pub mod FirstPath
 pub mod NearestLaws
 pub mod Distances
+pub mod ReceivedCostsSteps
 pub mod Apart

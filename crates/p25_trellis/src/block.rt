@@ -3,14 +3,13 @@
 ghost use Rattle.std.specs.Prelude.{◌≡◌, ℕ, ◌+◌, ◌*◌, ◌^◌, ◌<◌, ◌≤◌, List, Bool, ◌++◌, All, length, take, drop};
 ghost use Rattle.p25_bits.specs.Bits.{part};
 ghost use Rattle.p25_trellis.specs.Trellis.{IsBlock, IsFirstLeastReading, IsNearReading, distance_from};
-ghost use Rattle.p25_trellis.specs.Least.{IsDistanceTable};
 ghost use Rattle.p25_trellis.specs.Nearest.{nearest_octets, nearest_distance, block_from};
 
-use super::fields::{put_numbers, take_numbers};
 use super::interleave::{gather, spread};
-use super::least::{BLOCK_COSTS, read_costs};
+use super::least::read_costs;
 use super::path::{nibbles_of, path_of};
 use super::rate::Rate;
+use super::received_costs::distance_costs;
 use p25_bits::BitBuf;
 
 /// Appends the block of octets: 196 bits, the sent bits of the one path that carries them (TIA-102.BAAA, Trellis Coding
@@ -24,25 +23,11 @@ pub fn encode_block<R: Rate>(octets: &[u8], out: &mut BitBuf)
     ensures len { length out.new ≡ length out.old + 196 }
 {
     let path = path_of::<R>(octets);
-    put_numbers(out, &spread(&nibbles_of::<R>(&path)), 4);
+    out.put_numbers(&spread(&nibbles_of::<R>(&path)), 4);
 }
 
-// The table of costs where a nibble costs its distance from the one received at its step.
-fn distance_costs(received: &[u8; 49]) -> [u32; BLOCK_COSTS]
-    requires { All (λ n. n < 16) received.now }
-    ensures costs { IsDistanceTable received.now result }
-    ensures low { All (λ cost. cost ≤ 2 ^ 24) result }
-    ensures len { length result ≡ 784 }
-{
-    let mut costs = [0; BLOCK_COSTS];
-    for place in 0..BLOCK_COSTS {
-        costs[place] = (received[place / 16] ^ (place % 16) as u8).count_ones();
-    }
-    costs
-}
-
-/// Writes the octets of the first nearest path to the 196 bits from place `at`, and answers its distance, the number of
-/// bits in which they differ from the path's sent bits. No path's sent bits are nearer, and of several that are as near
+/// Sets `octets` to those of the first nearest path to the 196 bits from place `at`, and answers its distance, the number
+/// of bits in which they differ from the path's sent bits. No path's sent bits are nearer, and of several that are as near
 /// it is the first in dictionary order of symbols. So a block with at most 2 wrong bits at half rate, or 1 at
 /// three-quarter rate, reads as the octets that were sent.
 pub fn read_block<R: Rate>(bits: &BitBuf, at: usize, octets: &mut [u8]) -> u32
@@ -54,7 +39,7 @@ pub fn read_block<R: Rate>(bits: &BitBuf, at: usize, octets: &mut [u8]) -> u32
     ensures near { IsNearReading R.STATES R.BITS_PER_SYMBOL R.point_of R.APART (part at 196 bits.now) octets.new result }
 {
     let mut received = [0; 49];
-    take_numbers(bits, at, 4, &mut received, 49);
+    bits.take_numbers(at, 4, &mut received);
     read_costs::<R>(&distance_costs(&gather(&received)), octets)
 }
 

@@ -3,9 +3,8 @@
 ghost use Rattle.std.specs.Prelude.{◌≡◌, ◌<◌, All, length};
 ghost use Rattle.p25_trellis.specs.Trellis.{IsPath, Carries, nibbles_from};
 
-use super::fields::{put_numbers, take_numbers};
+use super::queue::BitQueue;
 use super::rate::Rate;
-use p25_bits::BitBuf;
 
 // The path that carries octets.
 pub(crate) fn path_of<R: Rate>(octets: &[u8]) -> [u8; 49]
@@ -13,10 +12,16 @@ pub(crate) fn path_of<R: Rate>(octets: &[u8]) -> [u8; 49]
     ensures is_path { IsPath R.STATES result }
     ensures carries { Carries R.BITS_PER_SYMBOL result octets.now }
 {
-    let mut bits = BitBuf::new();
-    put_numbers(&mut bits, octets, 8);
     let mut path = [0; 49];
-    take_numbers(&bits, 0, R::BITS_PER_SYMBOL, &mut path, 48);
+    let mut queue = BitQueue::new();
+    let mut taken = 0;
+    for i in 0..48 {
+        if queue.len() < R::BITS_PER_SYMBOL {
+            queue.push(octets[taken], 8);
+            taken += 1;
+        }
+        path[i] = queue.pop(R::BITS_PER_SYMBOL);
+    }
     path
 }
 
@@ -26,9 +31,15 @@ pub(crate) fn octets_of<R: Rate>(path: &[u8], octets: &mut [u8])
     requires octets { length octets.old ≡ R.OCTETS }
     ensures { Carries R.BITS_PER_SYMBOL path.now octets.new }
 {
-    let mut bits = BitBuf::new();
-    put_numbers(&mut bits, &path[..48], R::BITS_PER_SYMBOL);
-    take_numbers(&bits, 0, 8, octets, R::OCTETS);
+    let mut queue = BitQueue::new();
+    let mut written = 0;
+    for i in 0..48 {
+        queue.push(path[i], R::BITS_PER_SYMBOL);
+        if queue.len() >= 8 {
+            octets[written] = queue.pop(8);
+            written += 1;
+        }
+    }
 }
 
 // The nibbles of a path.

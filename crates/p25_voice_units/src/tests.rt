@@ -11,7 +11,7 @@ fn a_terminator(rt: HostRuntime) -> Result<(), Fail> {
     voice_image(0, &unit, &mut plain);
     assert_eq!(rt; Some(plain.len()), voice_length(unit.duid()));
     assert_eq!(rt; plain.field(0, 48), 0x5575_F5FF_77FF);
-    assert_eq!(rt; plain.field(48, 64), 0x0003_3593_0BDD_3B2A);
+    assert_eq!(rt; plain.field(48, 64), 0x0003_364C_2F74_ECAC);
     assert_eq!(rt; plain.field(112, 28), 0);
     assert!(rt; read_voice(3, &plain).is_ok());
     assert_eq!(rt; voice_length(7), None);

@@ -1,44 +1,55 @@
-use Rattle.std.proofs.Common.{◌≤◌, subst, arith, drop}
-use Rattle.std.specs.Bool.{beq}
+use Rattle.std.proofs.Common.{◌≡◌, ◌/◌, ◌^◌, length, Some, None, ap, ap₂, sym, ◌∙◌, subst, arith}
 use Rattle.p25_bits.specs.Bits.{bits_of}
-use Rattle.p25_code.specs.Words.{IsReading}
-use Rattle.p25_code.specs.declared.code.Reading.TheVariants.{Found}
-use Rattle.p25_bch_nid.specs.Bch63.{IsBch63}
-use Rattle.p25_bch_nid.specs.NidReading.{IsNidReading-nid_reading_of}
-use Rattle.p25_bch_nid.proofs.Readings.{no_nid, some_nid, one_reading, sent_reading, field_of_front-lt}
+use Rattle.p25_bits.specs.Divisible.{IsRemainder}
+use Rattle.p25_bits.proofs.BitsLaws.{bits_of-field_of}
+use Rattle.p25_code.specs.Readings.{word_read}
+use Rattle.p25_bch_nid.specs.Nid.{generator}
+use Rattle.p25_bch_nid.specs.Bch63Readings.{bch63_reading_of}
+use Rattle.p25_bch_nid.specs.NidReading.{identifier_of_word}
+use Rattle.p25_bch_nid.proofs.ReadingSteps.{clean_reading, code_reading, is_reading, is_sent}
 use Rattle.p25_bch_nid.proofs.reading.read_nid.Goals as goal
 
-none_of : goal.returns-in-Beyond-clause-reading
-none_of c = no_nid c.args.bits c.read.new.word (subst (λ r. IsReading beq IsBch63 11 r c.read.new.word _) c.put_number.ensures c.in-Beyond.ensures)
+clean : goal.returns-then-number_remainder-eq0-clause-value
+clean c =
+    c.identifier_in.ensures ∙ sym (clean_reading c.args.bits (omega arith) (subst (IsRemainder generator 47 (c.args.bits / 2 ^ 1)) c.if-number_remainder-eq0.true c.number_remainder.ensures.is))
 
-pub returns-in-Beyond-clause-reading : goal.returns-in-Beyond-clause-reading
-returns-in-Beyond-clause-reading c = none_of c
+pub returns-then-number_remainder-eq0-clause-value : goal.returns-then-number_remainder-eq0-clause-value
+returns-then-number_remainder-eq0-clause-value c = clean c
 
-pub returns-in-Beyond-clause-value : goal.returns-in-Beyond-clause-value
-returns-in-Beyond-clause-value c = one_reading c.args.bits _ _ (none_of c) (IsNidReading-nid_reading_of (bits_of 64 c.args.bits))
+pub returns-then-number_remainder-eq0-clause-reading : goal.returns-then-number_remainder-eq0-clause-reading
+returns-then-number_remainder-eq0-clause-reading c = is_reading c.args.bits _ (clean c)
 
-pub returns-in-Beyond-clause-sent : goal.returns-in-Beyond-clause-sent
-returns-in-Beyond-clause-sent c = sent_reading c.args.bits _ (none_of c)
+pub returns-then-number_remainder-eq0-clause-sent : goal.returns-then-number_remainder-eq0-clause-sent
+returns-then-number_remainder-eq0-clause-sent c = is_sent c.args.bits _ (clean c)
 
-pub overflow_cast-number_of : goal.overflow_cast-number_of
-overflow_cast-number_of c = omega (arith, c.number_of.ensures, field_of_front-lt 12 c.read.new.word)
-
-pub overflow_cast-number_of-in-Found : goal.overflow_cast-number_of-in-Found
-overflow_cast-number_of-in-Found c = omega (arith, c.number_of-in-Found.ensures, field_of_front-lt 4 (drop 12 c.read.new.word))
-
-some_of : goal.returns-in-Found-clause-reading
-some_of c =
-    let nac : c.number_of.result ≤ 4095 = omega (arith, c.number_of.ensures, field_of_front-lt 12 c.read.new.word) in
-    let duid : c.number_of-in-Found.result ≤ 15 = omega (arith, c.number_of-in-Found.ensures, field_of_front-lt 4 (drop 12 c.read.new.word)) in
-    some_nid c.args.bits c.in-Found.fixes c.number_of.result c.number_of-in-Found.result c.read.new.word c.new.result
-    (subst (λ r. IsReading beq IsBch63 11 r c.read.new.word (Found c.in-Found.fixes)) c.put_number.ensures c.in-Found.ensures)
-    c.number_of.ensures c.number_of-in-Found.ensures (c.new.ensures.fits.1 (nac, duid)) c.new.ensures.value
-
-pub returns-in-Found-clause-reading : goal.returns-in-Found-clause-reading
-returns-in-Found-clause-reading c = some_of c
+found : goal.returns-in-Found-clause-value
+unfolding word_read
+found c =
+    let word = c.read_received.new.word in
+    let long : length word ≡ 63 = c.read_received.auto.word ∙ c.put_number.auto.bits in
+    let again = ap₂ bits_of (sym long) c.number_of.ensures.value ∙ bits_of-field_of word in
+    c.identifier_in-in-Found.ensures
+    ∙ ap (λ w. Some (identifier_of_word w)) again
+    ∙ sym (code_reading c.args.bits (Some word) (c.in-Found.ensures.value ∙ ap bch63_reading_of c.put_number.ensures))
 
 pub returns-in-Found-clause-value : goal.returns-in-Found-clause-value
-returns-in-Found-clause-value c = one_reading c.args.bits _ _ (some_of c) (IsNidReading-nid_reading_of (bits_of 64 c.args.bits))
+returns-in-Found-clause-value c = found c
+
+pub returns-in-Found-clause-reading : goal.returns-in-Found-clause-reading
+returns-in-Found-clause-reading c = is_reading c.args.bits _ (found c)
 
 pub returns-in-Found-clause-sent : goal.returns-in-Found-clause-sent
-returns-in-Found-clause-sent c = sent_reading c.args.bits _ (some_of c)
+returns-in-Found-clause-sent c = is_sent c.args.bits _ (found c)
+
+none : goal.returns-in-Beyond-clause-value
+unfolding word_read
+none c = sym (code_reading c.args.bits None (c.in-Beyond.ensures.value ∙ ap bch63_reading_of c.put_number.ensures))
+
+pub returns-in-Beyond-clause-value : goal.returns-in-Beyond-clause-value
+returns-in-Beyond-clause-value c = none c
+
+pub returns-in-Beyond-clause-reading : goal.returns-in-Beyond-clause-reading
+returns-in-Beyond-clause-reading c = is_reading c.args.bits _ (none c)
+
+pub returns-in-Beyond-clause-sent : goal.returns-in-Beyond-clause-sent
+returns-in-Beyond-clause-sent c = is_sent c.args.bits _ (none c)

@@ -7,4 +7,4 @@ pub returns : goal.returns
 unfolding systematic
 returns c =
     let places : length c.split_at_mut-front.result.1.now ≡ length c.args.word.now - length c.args.info.now = omega arith in
-    ap₂ ◌++◌ c.copy_from_slice.ensures.after (c.put_bits.ensures ∙ ap₂ bits_of places c.syndrome.ensures)
+    ap₂ ◌++◌ c.copy_from_slice.ensures.after (c.put_number.ensures ∙ ap₂ bits_of places (c.from.ensures ∙ c.syndrome.ensures))

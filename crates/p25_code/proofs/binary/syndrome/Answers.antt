@@ -1,5 +1,5 @@
 use Rattle.std.proofs.Common.{◌<◌, ◌≤◌, length, arith}
-use Rattle.p25_code.proofs.Syndromes.{column_more, column_passed, all_summed}
+use Rattle.p25_code.proofs.SyndromeLaws.{column_more, column_passed, all_summed}
 use Rattle.p25_code.proofs.binary.syndrome.Goals as goal
 use Rattle.p25_code.proofs.binary.syndrome.Goals.{then-word-i, else-word-i}
 

@@ -1,8 +1,11 @@
-use Rattle.std.proofs.Common.{◌≡◌, ℕ, ◌+◌, ◌<◌, length}
+use Rattle.std.proofs.Common.{◌≡◌, ℕ, ◌+◌, ◌<◌}
 use Rattle.p25_gf64.specs.Gf64.{gf64}
 use Rattle.p25_algebra.specs.Series.{coefficient}
-use Rattle.p25_reed_solomon.specs.Words.{value_of}
+use Rattle.p25_reed_solomon.specs.ValueFacts.{front_value}
 use Rattle.p25_reed_solomon.proofs.syndromes.fill_syndromes.Given as goal
 
-abbrev pub invariant-loop-r : goal.invariant-loop-r
-invariant-loop-r l = (r : ℕ) → r < l.r → coefficient gf64 l.out r ≡ value_of (length l.word) l.word (r + 1)
+abbrev pub invariant-loop-value : goal.invariant-loop-value
+invariant-loop-value l = (r : ℕ) → r < l.value-index → coefficient gf64 l.out r ≡ gf64.zero
+
+abbrev pub invariant-loop-symbol : goal.invariant-loop-symbol
+invariant-loop-symbol l = (r : ℕ) → r < 32 → coefficient gf64 l.out r ≡ front_value (coefficient gf64 l.word) (r + 1) l.symbol-index

@@ -1,6 +1,6 @@
 use Rattle.std.proofs.Common.{◌+◌, ◌*◌, ◌<◌, ◌≤◌, false, length, get_or, ap, ap₂, sym, ◌∙◌, arith}
 use Rattle.p25_bits.specs.Bits.{digit_of, field_of, octet_bits, part}
-use Rattle.p25_bits.proofs.Lists.{part_more}
+use Rattle.p25_bits.proofs.PartLaws.{part_more}
 use Rattle.p25_bits.proofs.BitsLaws.{digit_of-byte, digit_of-le, field_of-nil, field_of-push, length-octet_bits, more-lt}
 use Rattle.p25_tool.proofs.octet_bits.field_at.Goals as goal
 

@@ -1,7 +1,7 @@
 use Rattle.std.proofs.Common.{◌≡◌, ℕ, ◌-◌, ◌*◌, ◌<◌, ◌≤◌, Bool, List, Option, Some, None, length, ◌++◌, take, drop, ap, ap₂, sym, ◌∙◌, arith, length-drop}
 use Rattle.p25_bits.specs.Bits.{bits_of, field_of, octet_bits}
 use Rattle.p25_bits.proofs.BitsLaws.{length-octet_bits, bits_of-field_of}
-use Rattle.p25_bits.proofs.Lists.{part-take}
+use Rattle.p25_bits.proofs.PartLaws.{part-take}
 use Rattle.p25_bch_nid.specs.NidReading.{nid_reading_of}
 use Rattle.p25_tool.specs.Items.{nid_bits, nid_of}
 use Rattle.p25_tool.specs.declared.item.Item.TheVariants.{Cut}

@@ -2,7 +2,7 @@ use Rattle.std.proofs.Common.{◌≡◌, ℕ, ◌+◌, ◌-◌, ◌*◌, ◌<◌
 use Rattle.std.proofs.lemmas.List.{drop-drop, take-take}
 use Rattle.p25_bits.specs.Bits.{bits_of, field_of, octet_bits, part}
 use Rattle.p25_bits.proofs.BitsLaws.{length-octet_bits, bits_of-field_of}
-use Rattle.p25_bits.proofs.Lists.{part-take}
+use Rattle.p25_bits.proofs.PartLaws.{part-take}
 use Rattle.p25_tool.specs.Items.{status_at, nid_bits, nid_word, fixes_of}
 use Rattle.p25_tool.specs.declared.item.Item.TheVariants.{Cut}
 use Rattle.p25_bits.specs.Distance.{distance_of}

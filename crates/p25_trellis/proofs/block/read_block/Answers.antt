@@ -1,10 +1,10 @@
-use Rattle.std.proofs.Common.{ℕ, ◌<◌, ◌≤◌, length, take, sym, ap, ◌∙◌, arith}
-use Rattle.std.proofs.lemmas.List.{take_all}
+use Rattle.std.proofs.Common.{ℕ, ◌*◌, ◌<◌, ◌≤◌, length, drop, sym, ap, ◌∙◌, arith, length-drop}
 use Rattle.std.proofs.lemmas.List.Elements.{All-same}
 use Rattle.p25_bits.specs.Bits.{part}
 use Rattle.p25_trellis.specs.Interleave.{interleaved}
 use Rattle.p25_trellis.specs.Costs.{path_cost, cost_in}
-use Rattle.p25_bits.specs.Numbers.{number_bits}
+use Rattle.p25_bits.specs.Numbers.{number_bits, numbers_from}
+use Rattle.p25_bits.proofs.NumbersLaws.{All-numbers_from, number_bits-numbers_from}
 use Rattle.p25_trellis.specs.Trellis.{distance_from}
 use Rattle.p25_trellis.proofs.InterleaveLaws.{All-from_interleaved}
 use Rattle.p25_trellis.proofs.Paths.{power-pos}
@@ -17,19 +17,17 @@ use Rattle.p25_trellis.proofs.block.read_block.Goals as goal
 pub distance_costs-requires : goal.distance_costs-requires
 distance_costs-requires g c =
     let P : ℕ → Type 0 = λ n. n < 16 in
-    let received = c.take_numbers.new.numbers in
-    let short : length received ≤ 49 = omega (arith, c.take_numbers.auto.numbers) in
-    All-from_interleaved P c.gather.result (All-same P (interleaved c.gather.result) (take 49 received) (c.gather.ensures.sent ∙ sym (take_all 49 received short)) c.take_numbers.ensures.fits)
+    All-from_interleaved P c.gather.result
+    (All-same P (interleaved c.gather.result) (numbers_from 4 49 (drop c.args.at c.args.bits.now)) (c.gather.ensures.sent ∙ c.take_numbers.ensures) (All-numbers_from 4 49 (drop c.args.at c.args.bits.now)))
 
 pub returns-clause-nearest : goal.returns-clause-nearest
 returns-clause-nearest g c =
     let states = g.R.Rate.STATES in
     let point = g.R.Rate.point_of in
     let costs = c.distance_costs.result in
-    let received = c.take_numbers.new.numbers in
     let bits = part c.args.at 196 c.args.bits.now in
-    let short : length received ≤ 49 = omega (arith, c.take_numbers.auto.numbers) in
-    let are = sym c.take_numbers.ensures.list ∙ ap (number_bits 4) (take_all 49 received short ∙ sym c.gather.ensures.sent) in
+    let there : 4 * 49 ≤ length (drop c.args.at c.args.bits.now) = omega (arith, length-drop c.args.at c.args.bits.now, c.requires.there) in
+    let are = sym (number_bits-numbers_from 4 49 (drop c.args.at c.args.bits.now) there) ∙ ap (number_bits 4) (sym c.take_numbers.ensures ∙ sym c.gather.ensures.sent) in
     IsFirstLeastReading-same states g.R.Rate.BITS_PER_SYMBOL (path_cost point (cost_in costs)) (distance_from point bits) c.read_costs.new.octets c.read_costs.result
     (path_cost-distance states point c.gather.result costs bits (power-pos g.R.Rate.BITS_PER_SYMBOL states g.met.R.Rate.states_of_bits) g.met.R.Rate.nibbles c.distance_costs.ensures.costs c.gather.ensures.len are)
     c.read_costs.ensures

@@ -1,17 +1,47 @@
-use Rattle.std.proofs.Common.{◌+◌, ◌<◌, ◌++◌, ◌∷◌, [], Bool, List, false, ap, sym, ◌∙◌, length, append_assoc, arith}
+use Rattle.std.proofs.Common.{◌+◌, ◌*◌, ◌≤◌, ◌++◌, List, Bool, length, ap, sym, ◌∙◌, arith}
 use Rattle.p25_bits.specs.Bits.{part}
-use Rattle.p25_bits.proofs.Lists.{part_more, slice_get-get_or}
+use Rattle.p25_bits.specs.Numbers.{number_bits}
+use Rattle.p25_bits.proofs.PartLaws.{part-take, take-part}
+use Rattle.p25_bits.proofs.BitBufSteps.{length-held, take_appended}
 use Rattle.p25_bits.proofs.bit_buf.BitBuf.append.Goals as goal
 
-pub loop-i-preserved : goal.loop-i-preserved
-loop-i-preserved c =
-    let i = c.loop-i.i in
-    let inside : c.args.at + i < length c.args.other.now = omega arith in
-    let more = part_more c.args.at i c.args.other.now false inside in
-    let bit = slice_get-get_or c.args.other.now (c.args.at + i) c.get.result false c.get.ensures in (
-      c.push.ensures.list
-          ∙ ap (λ (xs : List Bool). xs ++ c.get.result ∷ []) c.loop-i.invariant.0
-          ∙ append_assoc c.args.self.now (part c.args.at i c.args.other.now) (c.get.result ∷ [])
-          ∙ ap (λ (xs : List Bool). c.args.self.now ++ xs) (ap (λ b. part c.args.at i c.args.other.now ++ b ∷ []) (sym bit) ∙ sym more),
-      omega arith,
-    )
+pub append_windows-requires-clause-room : goal.append_windows-requires-clause-room
+append_windows-requires-clause-room c =
+    let inside = c.self.inside in
+    let fits : inside.len ≤ 64 * length inside.words = omega (arith, c.self.invariant) in
+    omega (arith, length-held inside.words inside.len fits, ap length c.self.view_is, c.requires.room, c.div_ceil-words.ensures)
+
+long : goal.invariant_of-self
+long c =
+    let inside = c.self.inside in
+    let fits : inside.len ≤ 64 * length inside.words = omega (arith, c.self.invariant) in
+    omega (arith, length-held inside.words inside.len fits, ap length c.self.view_is, c.requires.room)
+
+pub invariant_of-self : goal.invariant_of-self
+invariant_of-self c = long c
+
+pub returns-clause-list : goal.returns-clause-list
+returns-clause-list c =
+    let inside = c.self.inside in
+    let other = c.other.inside in
+    let count = c.args.count in
+    let most = 64 * c.div_ceil-words.result in
+    let more = part c.args.at most (number_bits 64 other.words) in
+    let fits : inside.len ≤ 64 * length inside.words = omega (arith, c.self.invariant) in
+    let fits_other : other.len ≤ 64 * length other.words = omega (arith, c.other.invariant) in
+    let held = sym (ap length c.self.view_is) ∙ length-held inside.words inside.len fits in
+    let enough : count ≤ most = omega (arith, c.div_ceil-words.ensures) in
+    let there : c.args.at + count ≤ other.len = omega (arith, length-held other.words other.len fits_other, ap length c.other.view_is, c.requires.there) in
+    take_appended c.args.self.now (number_bits 64 c.append_windows.new.words) more inside.len count most held (c.append_windows.ensures ∙ ap (λ (bits : List Bool). bits ++ more) c.self.view_is) enough
+    ∙ ap (λ (bits : List Bool). c.args.self.now ++ bits)
+    (take-part c.args.at most count (number_bits 64 other.words) enough
+    ∙ sym (part-take c.args.at count other.len (number_bits 64 other.words) there)
+    ∙ ap (λ (bits : List Bool). part c.args.at count bits) c.other.view_is)
+
+pub returns-clause-len : goal.returns-clause-len
+returns-clause-len c =
+    let inside = c.self.inside in
+    let changed = c.append_windows.new.words in
+    let fits : inside.len ≤ 64 * length inside.words = omega (arith, c.self.invariant) in
+    let fits_more : inside.len + c.args.count ≤ 64 * length changed = omega (arith, long c) in
+    omega (arith, length-held changed (inside.len + c.args.count) fits_more, length-held inside.words inside.len fits, ap length c.self.view_is)

@@ -1,5 +1,5 @@
-use Rattle.std.proofs.Common.{◌≡◌, ◌+◌, ◌++◌, length, take}
+use Rattle.std.proofs.Common.{◌≡◌, ◌+◌, ◌*◌, ◌++◌, length, take}
 use Rattle.p25_bits.proofs.bit_buf.BitBuf.extend.Given as goal
 
-abbrev pub invariant-loop-bit : goal.invariant-loop-bit
-invariant-loop-bit l = (l.self ≡ l.initial.self ++ take l.bit-index l.bits) × (length l.self ≡ length l.initial.self + l.bit-index)
+abbrev pub invariant-loop-k : goal.invariant-loop-k
+invariant-loop-k l = (l.self ≡ l.initial.self ++ take (64 * l.k) l.bits) × (length l.self ≡ length l.initial.self + 64 * l.k)

@@ -1,20 +1,19 @@
-use Rattle.std.proofs.Common.{◌≡◌, ◌+◌, ◌≤◌, ◌-◌, List, Bool, ap, sym, ◌∙◌, length, length-take, arith}
+use Rattle.std.proofs.Common.{◌+◌, ◌*◌, ◌≤◌, length, ap, sym, ◌∙◌, arith}
 use Rattle.p25_bits.specs.Bits.{field_of, part}
-use Rattle.p25_bits.proofs.Lists.{part-take}
-use Rattle.p25_bits.proofs.NumbersLaws.{field-lt}
+use Rattle.p25_bits.specs.Numbers.{number_bits}
+use Rattle.p25_bits.proofs.BitsLaws.{field_of-nil}
+use Rattle.p25_bits.proofs.BitBufSteps.{length-held, field_is, first-lt}
 use Rattle.p25_bits.proofs.bit_buf.BitBuf.field.Goals as goal
+
+pub returns-then-width-eq0-clause-value : goal.returns-then-width-eq0-clause-value
+returns-then-width-eq0-clause-value c = sym field_of-nil ∙ ap (λ n. field_of (part c.args.at n c.args.self.now)) (sym c.if-width-eq0.true)
 
 pub returns-clause-value : goal.returns-clause-value
 returns-clause-value c =
     let inside = c.self.inside in
-    let there : c.args.at + c.args.width ≤ inside.len = omega (arith, ap length c.self.view_is, length-take inside.len inside.bits) in
-    let count : (c.args.at + c.args.width) - c.args.at ≡ c.args.width = omega arith in
-    c.number_of.ensures.value
-    ∙ ap field_of (
-    ap (λ k. part c.args.at k inside.bits) count
-    ∙ sym (part-take c.args.at c.args.width inside.len inside.bits there)
-    ∙ ap (λ (xs : List Bool). part c.args.at c.args.width xs) c.self.view_is
-    )
+    let fits : inside.len ≤ 64 * length inside.words = omega (arith, c.self.invariant) in
+    let there : c.args.at + c.args.width ≤ inside.len = omega (arith, length-held inside.words inside.len fits, ap length c.self.view_is, c.requires.there) in
+    field_is c.args.self.now (number_bits 64 inside.words) c.args.at c.args.width inside.len c.window.result c.requires.width there c.window.type_inv c.window.ensures c.self.view_is
 
 pub returns-clause-fits : goal.returns-clause-fits
-returns-clause-fits c = omega (arith, returns-clause-value c, field-lt c.args.width c.args.at c.args.self.now)
+returns-clause-fits c = first-lt c.window.result c.args.width c.requires.width c.window.type_inv

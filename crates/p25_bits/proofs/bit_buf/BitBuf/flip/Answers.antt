@@ -1,9 +1,17 @@
-use Rattle.std.proofs.Common.{ap, ◌∙◌, ◌<◌, Bool, List, length, false, arith, length-take}
-use Rattle.p25_bits.specs.Bits.{flipped}
-use Rattle.p25_bits.proofs.Lists.{take_flipped}
+use Rattle.std.proofs.Common.{◌*◌, ◌/◌, ◌<◌, ◌≤◌, length, ap, ◌∙◌, arith}
+use Rattle.p25_bits.proofs.BitBufSteps.{length-held, held_flipped, length-flipped}
 use Rattle.p25_bits.proofs.bit_buf.BitBuf.flip.Goals as goal
 
+list : goal.returns-clause-list
+list c =
+    let inside = c.self.inside in
+    let fits : inside.len ≤ 64 * length inside.words = omega (arith, c.self.invariant) in
+    let below : c.args.i < inside.len = omega (arith, length-held inside.words inside.len fits, ap length c.self.view_is) in
+    let there : c.args.i / 64 < length inside.words = omega arith in
+    held_flipped c.args.self.now inside.words inside.len c.args.i c.self.view_is there
+
 pub returns-clause-list : goal.returns-clause-list
-returns-clause-list c =
-    let inside : c.args.i < length c.self.inside.bits = omega (arith, ap length c.self.view_is, length-take c.self.inside.len c.self.inside.bits) in
-    take_flipped c.self.inside.len c.self.inside.bits c.args.i false inside ∙ ap (λ (xs : List Bool). flipped xs c.args.i) c.self.view_is
+returns-clause-list c = list c
+
+pub returns-clause-len : goal.returns-clause-len
+returns-clause-len c = ap length (list c) ∙ length-flipped c.args.self.now c.args.i

@@ -1,22 +1,37 @@
-use Rattle.std.proofs.Common.{◌≡◌, ◌+◌, ◌-◌, ◌<◌, ◌++◌, Bool, List, ap, sym, ◌∙◌, append_assoc, append-nil, arith}
+use Rattle.std.proofs.Common.{◌+◌, ◌-◌, ◌*◌, ◌^◌, ◌%◌, ◌≤◌, ◌++◌, List, Bool, length, ap, sym, ◌∙◌, arith, append-nil}
 use Rattle.p25_bits.specs.Bits.{bits_of}
-use Rattle.p25_bits.proofs.BitsLaws.{bits_of-first, bits_of-zero}
+use Rattle.p25_bits.specs.Numbers.{number_bits}
+use Rattle.p25_bits.proofs.BitsLaws.{bits_of-zero}
+use Rattle.p25_bits.proofs.BitBufSteps.{length-held, take_appended, first_bits}
 use Rattle.p25_bits.proofs.bit_buf.BitBuf.put_field.Goals as goal
 
-pub loop-k-preserved : goal.loop-k-preserved
-loop-k-preserved c =
-    let more : c.loop-k.k < c.args.width = omega arith in
-    let left = bits_of (c.args.width - (c.loop-k.k + 1)) c.args.value in (
-      ap (λ (xs : List Bool). xs ++ left) c.push.ensures.list
-          ∙ append_assoc c.loop-k.self _ left
-          ∙ ap (λ (xs : List Bool). c.loop-k.self ++ xs) (bits_of-first c.args.width c.loop-k.k c.args.value more)
-          ∙ c.loop-k.invariant.0,
-      omega arith,
-    )
+pub returns-then-width-eq0-clause-list : goal.returns-then-width-eq0-clause-list
+returns-then-width-eq0-clause-list c =
+    sym (append-nil c.args.self.now) ∙ ap (λ (bits : List Bool). c.args.self.now ++ bits) (sym (bits_of-zero c.args.value) ∙ ap (λ n. bits_of n c.args.value) (sym c.if-width-eq0.true))
+
+long : goal.invariant_of-self
+long c =
+    let inside = c.self.inside in
+    let fits : inside.len ≤ 64 * length inside.words = omega (arith, c.self.invariant) in
+    omega (arith, length-held inside.words inside.len fits, ap length c.self.view_is, c.requires.room)
+
+pub invariant_of-self : goal.invariant_of-self
+invariant_of-self c = long c
 
 pub returns-clause-list : goal.returns-clause-list
 returns-clause-list c =
-    let done : c.args.width - c.loop-k.k ≡ 0 = omega arith in
-    sym (append-nil c.loop-k.self)
-    ∙ ap (λ (xs : List Bool). c.loop-k.self ++ xs) (sym (bits_of-zero c.args.value) ∙ ap (λ n. bits_of n c.args.value) (sym done))
-    ∙ c.loop-k.invariant.0
+    let inside = c.self.inside in
+    let width = c.args.width in
+    let word = bits_of 64 (c.args.value * 2 ^ (64 - width) % 2 ^ 64) in
+    let fits : inside.len ≤ 64 * length inside.words = omega (arith, c.self.invariant) in
+    let held = sym (ap length c.self.view_is) ∙ length-held inside.words inside.len fits in
+    take_appended c.args.self.now (number_bits 64 c.put_window.new.words) word inside.len width 64 held (c.put_window.ensures ∙ ap (λ (bits : List Bool). bits ++ word) c.self.view_is) c.requires.width
+    ∙ ap (λ (bits : List Bool). c.args.self.now ++ bits) (first_bits width c.args.value c.requires.width c.requires.fits)
+
+pub returns-clause-len : goal.returns-clause-len
+returns-clause-len c =
+    let inside = c.self.inside in
+    let changed = c.put_window.new.words in
+    let fits : inside.len ≤ 64 * length inside.words = omega (arith, c.self.invariant) in
+    let fits_more : inside.len + c.args.width ≤ 64 * length changed = omega (arith, long c) in
+    omega (arith, length-held changed (inside.len + c.args.width) fits_more, length-held inside.words inside.len fits, ap length c.self.view_is)

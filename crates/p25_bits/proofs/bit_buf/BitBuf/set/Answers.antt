@@ -1,6 +1,9 @@
-use Rattle.std.proofs.Common.{ap, ◌∙◌, Bool, List, set}
-use Rattle.p25_bits.proofs.Lists.{take-set}
+use Rattle.std.proofs.Common.{◌∙◌}
+use Rattle.p25_bits.proofs.BitBufSteps.{flipped-set, set-same}
 use Rattle.p25_bits.proofs.bit_buf.BitBuf.set.Goals as goal
 
-pub returns-clause-list : goal.returns-clause-list
-returns-clause-list c = take-set _ _ _ _ ∙ ap (λ (xs : List Bool). set xs c.args.i c.args.bit) c.self.view_is
+pub returns-then-get-bit-clause-list : goal.returns-then-get-bit-clause-list
+returns-then-get-bit-clause-list c = c.flip.ensures.list ∙ flipped-set c.args.self.now c.args.i c.get.result c.args.bit c.get.ensures c.if-get-bit.true
+
+pub returns-else-get-bit-clause-list : goal.returns-else-get-bit-clause-list
+returns-else-get-bit-clause-list c = set-same c.args.self.now c.args.i c.get.result c.args.bit c.get.ensures c.if-get-bit.false

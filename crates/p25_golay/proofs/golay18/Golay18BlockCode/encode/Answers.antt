@@ -1,5 +1,5 @@
 use Rattle.std.proofs.Common.{◌≡◌, ◌-◌, length, refl, arith}
-use Rattle.p25_code.proofs.BinaryCodes.{encodes}
+use Rattle.p25_code.proofs.BinaryLaws.{encodes}
 use Rattle.p25_golay.specs.Golay18.{IsGolay18}
 use Rattle.p25_golay.specs.Golay18Laws.{short_code, from_short}
 use Rattle.p25_golay.proofs.golay18.Golay18BlockCode.encode.Goals as goal

@@ -1,5 +1,5 @@
 use Rattle.std.proofs.Common.{◌≡◌, ◌-◌, length, refl, arith}
-use Rattle.p25_code.proofs.BinaryCodes.{encodes}
+use Rattle.p25_code.proofs.BinaryLaws.{encodes}
 use Rattle.p25_golay.specs.Golay24.{IsGolay24}
 use Rattle.p25_golay.specs.Golay24Laws.{code, from_checked}
 use Rattle.p25_golay.proofs.golay24.Golay24BlockCode.encode.Goals as goal

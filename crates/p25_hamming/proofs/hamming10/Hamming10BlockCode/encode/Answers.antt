@@ -1,5 +1,5 @@
 use Rattle.std.proofs.Common.{◌≡◌, ◌-◌, length, refl, arith}
-use Rattle.p25_code.proofs.BinaryCodes.{encodes}
+use Rattle.p25_code.proofs.BinaryLaws.{encodes}
 use Rattle.p25_hamming.specs.Hamming10.{IsHamming10}
 use Rattle.p25_hamming.specs.Hamming10Laws.{code, from_checked}
 use Rattle.p25_hamming.proofs.hamming10.Hamming10BlockCode.encode.Goals as goal

@@ -1,5 +1,5 @@
 use Rattle.std.proofs.Common.{◌≡◌, ◌-◌, length, refl, arith}
-use Rattle.p25_code.proofs.BinaryCodes.{encodes}
+use Rattle.p25_code.proofs.BinaryLaws.{encodes}
 use Rattle.p25_hamming.specs.Lsd16.{IsLsd16}
 use Rattle.p25_hamming.specs.Lsd16Laws.{code, from_checked}
 use Rattle.p25_hamming.proofs.lsd16.Lsd16BlockCode.encode.Goals as goal

@@ -1,6 +1,6 @@
 use Rattle.std.proofs.Common.{◌≡◌, ℕ, ◌+◌, ◌*◌, ◌<◌, ◌≤◌, Bool, false, List, length, get_or, ap, ◌∙◌, arith}
 use Rattle.p25_bits.specs.Bits.{digit_of, field_of, part}
-use Rattle.p25_bits.proofs.Lists.{part_more}
+use Rattle.p25_bits.proofs.PartLaws.{part_more}
 use Rattle.p25_bits.proofs.BitsLaws.{digit_of-byte, field_of-nil, field_of-push}
 use Rattle.p25_tool.specs.Items.{status_at}
 use Rattle.p25_tool.proofs.tests.plain.plain_status.Goals as goal

@@ -1,0 +1,81 @@
+-- The 64 bits that an identifier is sent as: a word of the code and P. A word is the one that begins with the NAC and the DUID in it,
+-- so what is sent is read as the identifier, and what was read lies within the radius of what is sent for it.
+use Rattle.std.proofs.Common.{◌≡◌, ℕ, ◌≤◌, ◌<◌, ◌^◌, ◌++◌, Bool, eqb, List, [], ◌∷◌, length, take, drop, Some, ap, ap₂, sym, subst, ◌∙◌, arith, length-append, length-drop, mod-eq_of_lt}
+use Rattle.std.proofs.Math.Seq.{take-add}
+use Rattle.std.proofs.lemmas.List.{length-take-le, take_at, drop_at, take-take, drop-take}
+use Rattle.p25_bits.specs.Bits.{bits_of, field_of, part}
+use Rattle.p25_bits.specs.Distance.{distance_of}
+use Rattle.p25_bits.proofs.BitsLaws.{length-bits_of, field_of-bits_of, bits_of-field_of}
+use Rattle.p25_bits.proofs.DistanceLaws.{distance_of-same}
+use Rattle.p25_code.specs.Words.{IsEncoding}
+use Rattle.p25_bch_nid.specs.Bch63.{IsBch63}
+use Rattle.p25_bch_nid.specs.Bch63Laws.{encoded, IsEncoding-encoded, one_word}
+use Rattle.p25_bch_nid.specs.Nid.{parity_of}
+use Rattle.p25_bch_nid.specs.NidReading.{identifier_of_word, nid_reading_of, IsNidFound, IsNidReading}
+use Rattle.p25_bch_nid.specs.NidWord.{nid_word}
+use Rattle.p25_bch_nid.proofs.NidReadingLaws.{IsNidReading-nid_reading_of, nid_reading_of-word}
+
+-- the first 63 bits are the word that begins with the NAC and the DUID
+pub encoded-nid : (nac duid : ℕ) → IsEncoding IsBch63 16 (bits_of 12 nac ++ bits_of 4 duid) (encoded (bits_of 12 nac ++ bits_of 4 duid))
+encoded-nid nac duid =
+    IsEncoding-encoded (bits_of 12 nac ++ bits_of 4 duid) (omega (arith, length-append (bits_of 12 nac) (bits_of 4 duid), length-bits_of 12 nac, length-bits_of 4 duid))
+
+pub take-nid_word : (nac duid : ℕ) → take 63 (nid_word nac duid) ≡ encoded (bits_of 12 nac ++ bits_of 4 duid)
+unfolding nid_word
+take-nid_word nac duid = take_at (encoded (bits_of 12 nac ++ bits_of 4 duid)) (eqb (parity_of duid) 1 ∷ []) 63 (encoded-nid nac duid).word_of_set.long
+
+pub IsEncoding-nid_word : (nac duid : ℕ) → IsEncoding IsBch63 16 (bits_of 12 nac ++ bits_of 4 duid) (take 63 (nid_word nac duid))
+IsEncoding-nid_word nac duid = subst (IsEncoding IsBch63 16 (bits_of 12 nac ++ bits_of 4 duid)) (sym (take-nid_word nac duid)) (encoded-nid nac duid)
+
+-- then comes P
+pub drop-nid_word : (nac duid : ℕ) → drop 63 (nid_word nac duid) ≡ eqb (parity_of duid) 1 ∷ []
+unfolding nid_word
+drop-nid_word nac duid = drop_at (encoded (bits_of 12 nac ++ bits_of 4 duid)) (eqb (parity_of duid) 1 ∷ []) 63 (encoded-nid nac duid).word_of_set.long
+
+-- there are 64
+pub length-nid_word : (nac duid : ℕ) → length (nid_word nac duid) ≡ 64
+unfolding nid_word
+length-nid_word nac duid =
+    let long : length (encoded (bits_of 12 nac ++ bits_of 4 duid)) ≡ 63 = (encoded-nid nac duid).word_of_set.long in
+    length-append (encoded (bits_of 12 nac ++ bits_of 4 duid)) (eqb (parity_of duid) 1 ∷ []) ∙ omega (arith, long)
+
+-- a word that begins with a NAC and a DUID has them as its identifier
+pub identifier_of_word-encoding : (nac duid : ℕ) (word : List Bool) → nac < 2 ^ 12 → duid < 2 ^ 4 → IsEncoding IsBch63 16 (bits_of 12 nac ++ bits_of 4 duid) word → identifier_of_word word ≡ (nac, duid)
+identifier_of_word-encoding nac duid word low small is =
+    let first : take 12 word ≡ bits_of 12 nac = sym (take-take 12 16 word (omega arith)) ∙ ap (take 12) is.begins ∙ take_at (bits_of 12 nac) (bits_of 4 duid) 12 (length-bits_of 12 nac) in
+    let next : part 12 4 word ≡ bits_of 4 duid = sym (drop-take 12 4 word) ∙ ap (drop 12) is.begins ∙ drop_at (bits_of 12 nac) (bits_of 4 duid) 12 (length-bits_of 12 nac) in
+    ap₂ (λ a b. (a, b)) (ap field_of first ∙ field_of-bits_of 12 nac ∙ mod-eq_of_lt low) (ap field_of next ∙ field_of-bits_of 4 duid ∙ mod-eq_of_lt small)
+
+-- so what is sent for an identifier is read as that
+pub nid_reading_of-nid_word : (nac duid : ℕ) → nac < 2 ^ 12 → duid < 2 ^ 4 → nid_reading_of (nid_word nac duid) ≡ Some (nac, duid)
+nid_reading_of-nid_word nac duid low small =
+    let word = take 63 (nid_word nac duid) in
+    let encoding = IsEncoding-nid_word nac duid in
+    nid_reading_of-word (nid_word nac duid) word (omega (arith, length-nid_word nac duid)) encoding.word_of_set (omega (arith, distance_of-same word))
+    ∙ ap Some (identifier_of_word-encoding nac duid word low small encoding)
+
+-- and a word is the one that is sent for the identifier in it
+pub identifier_of_word-sent : (word : List Bool) → IsBch63 word → take 63 (nid_word (field_of (take 12 word)) (field_of (part 12 4 word))) ≡ word
+identifier_of_word-sent word is =
+    let nac = field_of (take 12 word) in
+    let duid = field_of (part 12 4 word) in
+    let encoding = IsEncoding-nid_word nac duid in
+    let first : bits_of 12 nac ≡ take 12 word = ap (λ n. bits_of n nac) (sym long_first) ∙ bits_of-field_of (take 12 word) in
+    let next : bits_of 4 duid ≡ part 12 4 word = ap (λ n. bits_of n duid) (sym long_next) ∙ bits_of-field_of (part 12 4 word) in
+    one_word (take 63 (nid_word nac duid)) word encoding.word_of_set is (encoding.begins ∙ ap₂ ◌++◌ first next ∙ sym (take-add 12 4 word))
+  where
+    long_first : length (take 12 word) ≡ 12
+    long_first = length-take-le 12 word (omega (arith, is.long))
+
+    long_next : length (part 12 4 word) ≡ 4
+    long_next = length-take-le 4 (drop 12 word) (omega (arith, is.long, length-drop 12 word))
+
+-- so what was received lies within 11 bits of what is sent for the identifier that was read
+pub nid_reading_of-near : (bits : List Bool) (nid : ℕ × ℕ) → nid_reading_of bits ≡ Some nid → distance_of (take 63 bits) (take 63 (nid_word nid.0 nid.1)) ≤ 11
+unfolding IsNidReading
+nid_reading_of-near bits nid read = near (subst (IsNidReading bits) read (IsNidReading-nid_reading_of bits))
+  where
+    near : IsNidFound (take 63 bits) nid → distance_of (take 63 bits) (take 63 (nid_word nid.0 nid.1)) ≤ 11
+    near found =
+        let same : take 63 (nid_word nid.0 nid.1) ≡ found.word = ap (λ (n : ℕ × ℕ). take 63 (nid_word n.0 n.1)) found.begins ∙ identifier_of_word-sent found.word found.word_of_set in
+        subst (λ (w : List Bool). distance_of (take 63 bits) w ≤ 11) (sym same) found.within

@@ -1,6 +1,0 @@
-use Rattle.std.proofs.Common.{◌≡◌, take}
-use Rattle.p25_bch_nid.specs.BitSymbols.{bits_in}
-use Rattle.p25_bch_nid.proofs.bits.put_bits.Given as goal
-
-abbrev pub invariant-loop-i : goal.invariant-loop-i
-invariant-loop-i l = take l.i l.bits ≡ bits_in (take l.i l.symbols)

@@ -1,0 +1,47 @@
+//! Words of bits corrected. The errors of bits are bits, so they are known once the wrong places are.
+
+ghost use Rattle.std.specs.Prelude.{◌≡◌, ◌↔◌, ◌≤◌, Bool, List, IsTrue, length};
+ghost use Rattle.p25_bits.specs.Distance.{distance_of};
+ghost use Rattle.p25_bch_nid.specs.Bch63.{IsBch63};
+
+use crate::bch63::GENERATOR;
+use crate::symbols::put_symbols;
+use p25_bits::{number_of, number_remainder};
+use p25_gf64::Sym;
+use p25_reed_solomon::{fill_syndromes, mark_wrong};
+
+// Answers whether 63 bits are a word of the code: whether the generator divides them.
+pub(crate) fn is_word(word: &[bool]) -> bool
+    requires { length word.now ≡ 63 }
+    ensures { IsTrue result ↔ IsBch63 word.now }
+{
+    number_remainder(number_of(word), GENERATOR, 47) == 0
+}
+
+// Answers in how many places two lists of 63 bits differ.
+pub(crate) fn distance(a: &[bool], b: &[bool]) -> u32
+    requires a { length a.now ≡ 63 }
+    requires b { length b.now ≡ 63 }
+    ensures { result ≡ distance_of a.now b.now }
+{
+    (number_of(a) ^ number_of(b)).count_ones()
+}
+
+// Answers a word with its wrong bits inverted: wherever at most 11 bits differ from a word of the code, that word.
+pub(crate) fn corrected(word: &[bool]) -> [bool; 63]
+    requires { length word.now ≡ 63 }
+    ensures sent { (sent : List Bool) → IsBch63 sent → distance_of word.now sent ≤ 11 → result ≡ sent }
+    ensures full { length result ≡ 63 }
+{
+    let mut symbols = [Sym::default(); 63];
+    put_symbols(word, &mut symbols);
+    let mut syndromes = [Sym::default(); 32];
+    fill_syndromes(&symbols, &mut syndromes);
+    let mut wrong = [false; 63];
+    mark_wrong(&syndromes, 22, &mut wrong);
+    let mut sent = [false; 63];
+    for j in 0..63 {
+        sent[j] = if wrong[j] { !word[j] } else { word[j] };
+    }
+    sent
+}

@@ -1,0 +1,46 @@
+//! Identifiers as the 64 bits that are sent.
+
+ghost use Rattle.std.specs.Prelude.{◌≡◌, ℕ, ◌≤◌, ◌++◌, Some, take};
+ghost use Rattle.p25_bits.specs.Bits.{bits_of};
+ghost use Rattle.p25_bits.specs.Distance.{distance_of};
+ghost use Rattle.p25_code.specs.Words.{IsEncoding};
+ghost use Rattle.p25_bch_nid.specs.Bch63.{IsBch63};
+ghost use Rattle.p25_bch_nid.specs.Nid.{IsSent, parity_of};
+ghost use Rattle.p25_bch_nid.specs.NidReading.{nid_reading_of};
+ghost use Rattle.p25_bch_nid.specs.NidWord.{nid_word};
+
+use crate::bch63::GENERATOR;
+use crate::nid::Nid;
+use p25_bits::number_remainder;
+
+/// Answers the 64 bits of an identifier, the first bit highest: NAC 12, DUID 4, the 47 check bits of the BCH code
+/// (63,16), and P, which is 1 for DUID 5 and A hex and 0 for every other.
+pub fn nid_bits(nid: &Nid) -> u64
+    ensures sent { IsSent nid.now.nac nid.now.duid result }
+    ensures word { IsEncoding IsBch63 16 (bits_of 12 nid.now.nac ++ bits_of 4 nid.now.duid) (take 63 (bits_of 64 result)) }
+    ensures list { bits_of 64 result ≡ nid_word nid.now.nac nid.now.duid }
+    ensures read { nid_reading_of (bits_of 64 result) ≡ Some (nid.now.nac, nid.now.duid) }
+    ensures only { (bits : ℕ) → IsSent nid.now.nac nid.now.duid bits → bits ≡ result }
+{
+    let information = 16 * u64::from(nid.nac) + u64::from(nid.duid);
+    let message = information << 47;
+    let word = message + number_remainder(message, GENERATOR, 47);
+    2 * word + parity(nid.duid)
+}
+
+/// Answers in how many of its first 63 bits a received identifier, the first bit highest, differs from what is sent for one.
+/// That is at most 11 where it is read as that one.
+pub fn nid_distance(bits: u64, nid: &Nid) -> u32
+    ensures distance { result ≡ distance_of (take 63 (bits_of 64 bits)) (take 63 (nid_word nid.now.nac nid.now.duid)) }
+    ensures most { result ≤ 63 }
+    ensures read { nid_reading_of (bits_of 64 bits) ≡ Some (nid.now.nac, nid.now.duid) → result ≤ 11 }
+{
+    ((bits ^ nid_bits(nid)) >> 1).count_ones()
+}
+
+// P by the writer's rule.
+fn parity(duid: u8) -> u64
+    ensures { result ≡ parity_of duid }
+{
+    if duid == 5 || duid == 10 { 1 } else { 0 }
+}

@@ -1,0 +1,5 @@
+use Rattle.p25_bits.proofs.WordsSteps.{ending_is}
+use Rattle.p25_bits.proofs.words.ending.Goals as goal
+
+pub returns : goal.returns
+returns c = ending_is c.args.word c.args.count c.requires

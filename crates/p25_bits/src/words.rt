@@ -1,0 +1,87 @@
+//! Bits in words of 64, the first bit highest. A list of words is the list of all their bits; places count bits. All that
+//! stands on words stands here, so that `BitBuf` speaks of lists of bits alone.
+
+ghost use Rattle.std.specs.Prelude.{◌≡◌, ◌+◌, ◌-◌, ◌*◌, ◌/◌, ◌<◌, ◌≤◌, ◌++◌, length, take, drop};
+ghost use Rattle.p25_bits.specs.Bits.{bits_of, part};
+ghost use Rattle.p25_bits.specs.Distance.{distance_of};
+ghost use Rattle.p25_bits.specs.Numbers.{number_bits};
+
+// Answers the 64 bits from place `at` on.
+pub(crate) fn window(words: &[u64], at: usize) -> u64
+    requires { at / 64 + 1 < length words.now }
+    ensures { bits_of 64 result ≡ part at 64 (number_bits 64 words.now) }
+{
+    across(words[at / 64], words[at / 64 + 1], (at % 64) as u32)
+}
+
+// Answers the 64 bits from place `at` on of two words, the higher one first.
+fn across(high: u64, low: u64, at: u32) -> u64
+    requires { at < 64 }
+    ensures { bits_of 64 result ≡ part at 64 (bits_of 64 high ++ bits_of 64 low) }
+{
+    (high << at) | ((low >> 1) >> (63 - at))
+}
+
+// Sets the 64 bits from place `at` on to those of a word. The bits before them stay; nothing is said of those behind.
+pub(crate) fn put_window(words: &mut [u64], at: usize, word: u64)
+    requires { at / 64 + 1 < length words.old }
+    ensures { take (at + 64) (number_bits 64 words.new) ≡ take at (number_bits 64 words.old) ++ bits_of 64 word }
+{
+    let inner = (at % 64) as u32;
+    words[at / 64] = beginning(words[at / 64], inner, word);
+    words[at / 64 + 1] = ending(word, inner);
+}
+
+// Answers the first `at` bits of a word followed by the first ones of another.
+pub(crate) fn beginning(word: u64, at: u32, next: u64) -> u64
+    requires { at < 64 }
+    ensures { bits_of 64 result ≡ take at (bits_of 64 word) ++ take (64 - at) (bits_of 64 next) }
+{
+    ((((word >> 1) >> (63 - at)) << (63 - at)) << 1) | (next >> at)
+}
+
+// Answers a word that begins with the last `count` bits of another.
+fn ending(word: u64, count: u32) -> u64
+    requires { count < 64 }
+    ensures { take count (bits_of 64 result) ≡ drop (64 - count) (bits_of 64 word) }
+{
+    (word << 1) << (63 - count)
+}
+
+// Appends `count` words of bits of another list, those from its place `from` on, to the first `at` bits.
+pub(crate) fn append_windows(words: &mut [u64], at: usize, other: &[u64], from: usize, count: usize)
+    requires room { at / 64 + count < length words.old }
+    requires there { from / 64 + count < length other.now }
+    requires few { (length words.old ≤ 65536) × (length other.now ≤ 65536) }
+    ensures { take (at + 64 * count) (number_bits 64 words.new) ≡ take at (number_bits 64 words.old) ++ part from (64 * count) (number_bits 64 other.now) }
+{
+    for k in 0..count {
+        put_window(words, at + 64 * k, window(other, from + 64 * k));
+    }
+}
+
+// Moves `count` words of bits from place `by` on to the front.
+pub(crate) fn shift_down(words: &mut [u64], by: usize, count: usize)
+    requires there { by / 64 + count < length words.old }
+    requires few { length words.old ≤ 65536 }
+    ensures { take (64 * count) (number_bits 64 words.new) ≡ part by (64 * count) (number_bits 64 words.old) }
+{
+    for k in 0..count {
+        words[k] = window(words, by + 64 * k);
+    }
+}
+
+// In how many places the bits of the first `count` words of two lists differ.
+pub(crate) fn differing(a: &[u64], b: &[u64], count: usize) -> u32
+    requires left { count ≤ length a.now }
+    requires right { count ≤ length b.now }
+    requires fits { count ≤ 65536 }
+    ensures value { result ≡ distance_of (take (64 * count) (number_bits 64 a.now)) (take (64 * count) (number_bits 64 b.now)) }
+    ensures most { result ≤ 64 * count }
+{
+    let mut places: u32 = 0;
+    for k in 0..count {
+        places += (a[k] ^ b[k]).count_ones();
+    }
+    places
+}

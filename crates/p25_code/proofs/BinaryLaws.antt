@@ -1,0 +1,197 @@
+-- The words that a check matrix lets pass, where its last columns are check columns: they are the systematic words, and a
+-- computed test of all information gives their least distance.
+use Rattle.std.proofs.Common.{◌≡◌, ◌≢◌, ◌⊎◌, ℕ, ◌+◌, ◌-◌, ◌*◌, ◌^◌, ◌<◌, ◌≤◌, inl, inr, Bool, true, false, cond, ◌||◌, eqb, ltb, leb, List, [], ◌∷◌, ◌++◌, length, take, drop, bit_xor, ap, ap₂, sym, ◌∙◌, subst, arith, length-append, take-append-drop, length-drop}
+use Rattle.std.specs.Bool.{beq}
+use Rattle.std.specs.Cmp.{bool_eq_equiv}
+use Rattle.std.specs.Int.Bits.{xor_self}
+use Rattle.std.proofs.Math.Nat.{mod-eq_of_lt}
+use Rattle.std.proofs.Math.Seq.{take-append_seam, drop-append_seam}
+use Rattle.std.proofs.lemmas.List.{length-take-le}
+use Rattle.std.proofs.lemmas.Bool.{cases_eq, and_parts, or_cases, eqb-true, leb-true, ltb-true}
+use Rattle.std.proofs.lemmas.Nat.{xor_lt, pow_pos}
+use Rattle.p25_bits.specs.Bits.{bits_of, field_of}
+use Rattle.p25_bits.specs.Distance.{distance_of}
+use Rattle.p25_bits.proofs.BitsLaws.{length-bits_of, field_of-bits_of, bits_of-field_of}
+use Rattle.p25_bits.proofs.Divisions.{same_from_xor}
+use Rattle.p25_bits.proofs.DistanceLaws.{same_from_distance_of}
+use Rattle.p25_code.specs.declared.code.Reading.{Reading}
+use Rattle.p25_code.specs.Words.{IsEncoding, IsReading}
+use Rattle.p25_code.specs.Readings.{Tested}
+use Rattle.p25_code.specs.Letters.{same_bit}
+use Rattle.p25_code.specs.Binary.{syndrome_of, IsChecked, check_columns, rows_fit, systematic, weight_of}
+use Rattle.p25_code.proofs.WeightLaws.{all_bits, all_bits-each, sum_of_words, length-sum_of_words, weight_of-append, weight_of-bits_of, weight_of-sum_of_words, syndrome_of-zeros, syndrome_of-sum_of_words}
+use Rattle.p25_code.proofs.ReadingLaws.{IsBlockCode, reading_of_same_set}
+use Rattle.p25_code.proofs.SyndromeLaws.{syndrome_of-append, syndrome_of-check_columns, length-check_columns, change_of-is}
+
+-- whether a word passes can be tested
+pub IsChecked-tested : (columns : List ℕ) → Tested (IsChecked columns)
+IsChecked-tested columns word =
+    elim (cases_eq (length word) (length columns)) [
+      | inl long ↦ elim (cases_eq (syndrome_of columns word) 0) [
+        | inl passes ↦ inl (record { long = long; passes = passes })
+        | inr other ↦ inr (λ is. other is.passes)
+      ]
+      | inr other ↦ inr (λ is. other is.long)
+    ]
+
+-- each sum of rows has a bit for each check and no other
+pub syndrome_of-lt : (checks : ℕ) (rows : List ℕ) (info : List Bool) → rows_fit checks rows ≡ true → syndrome_of rows info < 2 ^ checks
+unfolding syndrome_of
+syndrome_of-lt checks [] info fit = pow_pos checks
+syndrome_of-lt checks (row ∷ rows) [] fit = pow_pos checks
+syndrome_of-lt checks (row ∷ rows) (bit ∷ info) fit =
+    let parts = and_parts (ltb row (2 ^ checks)) (rows_fit checks rows) fit in
+    xor_lt checks (cond bit row 0) (syndrome_of rows info) (chosen bit (ltb-true row (2 ^ checks) parts.0)) (syndrome_of-lt checks rows info parts.1)
+  where
+    chosen : (b : Bool) → row < 2 ^ checks → cond b row 0 < 2 ^ checks
+    chosen true h = h
+    chosen false h = pow_pos checks
+
+-- the information is nothing but zeros, or the systematic word is heavy
+unfoldable pub is_heavy : List ℕ → ℕ → ℕ → List Bool → Bool
+is_heavy rows checks apart info = eqb (weight_of info) 0 || leb apart (weight_of (systematic rows checks info))
+
+-- what the tests of a table of rows say: the rows fit, and no word but that of zeros is light
+pub record IsSystematic (rows : List ℕ) (checks apart : ℕ) : Type 0 where
+  pub fit : rows_fit checks rows ≡ true
+  pub heavy : all_bits (length rows) (is_heavy rows checks apart) ≡ true
+
+module _ {rows : List ℕ} {checks apart : ℕ} (code : IsSystematic rows checks apart) where
+  -- a word has as many letters as there are rows and checks
+  pub length_checked : (word : List Bool) → IsChecked (rows ++ check_columns checks) word → length word ≡ length rows + checks
+  length_checked word is = is.long ∙ length-append rows (check_columns checks) ∙ ap (λ n. length rows + n) (length-check_columns checks)
+
+  -- a systematic word passes
+  pub systematic_checked : (info : List Bool) → length info ≡ length rows → IsChecked (rows ++ check_columns checks) (systematic rows checks info)
+  unfolding systematic
+  systematic_checked info long =
+      let sum = syndrome_of rows info in
+      let bits = bits_of checks sum in
+      let places = length-bits_of checks sum in
+      let small = syndrome_of-lt checks rows info code.fit in
+      record {
+        long = length-append info bits ∙ ap₂ ◌+◌ long (places ∙ sym (length-check_columns checks)) ∙ sym (length-append rows (check_columns checks));
+        passes =
+            syndrome_of-append rows (check_columns checks) info bits long
+            ∙ ap (bit_xor sum) (syndrome_of-check_columns checks bits places ∙ field_of-bits_of checks sum ∙ mod-eq_of_lt small)
+            ∙ xor_self sum;
+      }
+
+  -- and each word that passes is systematic
+  pub checked_systematic : (word : List Bool) → IsChecked (rows ++ check_columns checks) word → word ≡ systematic rows checks (take (length rows) word)
+  unfolding systematic
+  checked_systematic word is =
+      let k = length rows in
+      let info = take k word in
+      let rest = drop k word in
+      let whole = length_checked word is in
+      let inside : k ≤ length word = omega arith in
+      let front = length-take-le k word inside in
+      let back : length rest ≡ checks = omega (arith, length-drop k word) in
+      let parts = syndrome_of-append rows (check_columns checks) info rest front ∙ ap (bit_xor (syndrome_of rows info)) (syndrome_of-check_columns checks rest back) in
+      let none = sym parts ∙ ap (syndrome_of (rows ++ check_columns checks)) (take-append-drop k word) ∙ is.passes in
+      let sum = same_from_xor (syndrome_of rows info) (field_of rest) none in
+      sym (take-append-drop k word) ∙ ap (λ bits. info ++ bits) (sym (bits_of-field_of rest) ∙ ap₂ bits_of back (sym sum))
+
+  -- the systematic word of some information is its encoding
+  pub systematic_encodes : (info : List Bool) → length info ≡ length rows → IsEncoding (IsChecked (rows ++ check_columns checks)) (length rows) info (systematic rows checks info)
+  unfolding systematic
+  systematic_encodes info long = record {
+    word_of_set = systematic_checked info long;
+    begins = ap (λ n. take n (info ++ bits_of checks (syndrome_of rows info))) (sym long) ∙ take-append_seam info (bits_of checks (syndrome_of rows info));
+  }
+
+  -- a word whose last bits are the sum of the rows passes
+  pub sum_checked : (word : List Bool) → length word ≡ length rows + checks → drop (length rows) word ≡ bits_of checks (syndrome_of rows (take (length rows) word)) → IsChecked (rows ++ check_columns checks) word
+  unfolding systematic
+  sum_checked word long e =
+      let k = length rows in
+      let inside : k ≤ length word = omega arith in
+      subst (IsChecked (rows ++ check_columns checks)) (ap (λ bits. take k word ++ bits) (sym e) ∙ take-append-drop k word) (systematic_checked (take k word) (length-take-le k word inside))
+
+  -- and in a word that passes they are
+  pub checked_sum : (word : List Bool) → IsChecked (rows ++ check_columns checks) word → drop (length rows) word ≡ bits_of checks (syndrome_of rows (take (length rows) word))
+  unfolding systematic
+  checked_sum word is =
+      let k = length rows in
+      let info = take k word in
+      let whole = length_checked word is in
+      let inside : k ≤ length word = omega arith in
+      let front = length-take-le k word inside in
+      ap (drop k) (checked_systematic word is)
+      ∙ ap (λ n. drop n (info ++ bits_of checks (syndrome_of rows info))) (sym front)
+      ∙ drop-append_seam info (bits_of checks (syndrome_of rows info))
+
+  -- no other word has the same information
+  pub one_checked : (v w : List Bool) → IsChecked (rows ++ check_columns checks) v → IsChecked (rows ++ check_columns checks) w → take (length rows) v ≡ take (length rows) w → v ≡ w
+  one_checked v w isv isw same = checked_systematic v isv ∙ ap (systematic rows checks) same ∙ sym (checked_systematic w isw)
+
+  -- a word that passes is that of zeros, or it is heavy
+  heavy_checked : (word : List Bool) → IsChecked (rows ++ check_columns checks) word → (weight_of word ≡ 0) ⊎ (apart ≤ weight_of word)
+  unfolding is_heavy systematic
+  heavy_checked word is =
+      let k = length rows in
+      let info = take k word in
+      let e = checked_systematic word is in
+      let whole = length_checked word is in
+      let inside : k ≤ length word = omega arith in
+      let front = length-take-le k word inside in
+      let test = all_bits-each info (is_heavy rows checks apart) (ap (λ n. all_bits n (is_heavy rows checks apart)) front ∙ code.heavy) in
+      elim (or_cases (eqb (weight_of info) 0) (leb apart (weight_of (systematic rows checks info))) test) [
+        | inl zeros ↦
+            let light = eqb-true (weight_of info) 0 zeros in
+            inl (ap weight_of e ∙ weight_of-append info (bits_of checks (syndrome_of rows info)) ∙ ap₂ ◌+◌ light (ap (λ n. weight_of (bits_of checks n)) (syndrome_of-zeros rows info light) ∙ weight_of-bits_of checks))
+        | inr far ↦ inr (subst (λ w. apart ≤ weight_of w) (sym e) (leb-true apart (weight_of (systematic rows checks info)) far))
+      ]
+
+  -- two different words differ in at least as many bits as the test says
+  pub far_checked : (v w : List Bool) → IsChecked (rows ++ check_columns checks) v → IsChecked (rows ++ check_columns checks) w → v ≢ w → apart ≤ distance_of v w
+  far_checked v w isv isw differ =
+      let long : length v ≡ length w = isv.long ∙ sym isw.long in
+      let columns = rows ++ check_columns checks in
+      let sum : IsChecked columns (sum_of_words v w) = record {
+        long = length-sum_of_words v w long ∙ isv.long;
+        passes = syndrome_of-sum_of_words columns v w ∙ change_of-is columns v w isv.long isw.long ∙ ap₂ bit_xor isv.passes isw.passes ∙ xor_self 0;
+      } in
+      let weight = weight_of-sum_of_words v w long in
+      elim (heavy_checked (sum_of_words v w) sum) [
+        | inl none ↦ absurd (differ (same_from_distance_of v w long (sym weight ∙ none)))
+        | inr far ↦ omega arith
+      ]
+
+  -- what the encoder writes is the encoding in a set whose words are those that pass
+  pub encodes : (IsWord : List Bool → Type 0) → ((w : List Bool) → IsChecked (rows ++ check_columns checks) w → IsWord w) → (front : List ℕ) (places : ℕ) (info word : List Bool) → front ≡ rows → places ≡ checks → length info ≡ length rows → word ≡ systematic front places info → IsEncoding IsWord (length rows) info word
+  encodes IsWord from front places info word e f long is =
+      let whole : word ≡ systematic rows checks info = is ∙ ap₂ (λ r n. systematic r n info) e f in
+      let encoding = systematic_encodes info long in
+      record {
+        word_of_set = from word (subst (IsChecked (rows ++ check_columns checks)) (sym whole) encoding.word_of_set);
+        begins = ap (take (length rows)) whole ∙ encoding.begins;
+      }
+
+  -- what the reader leaves and answers is the reading in that set
+  pub reads : (IsWord : List Bool → Type 0) → ((w : List Bool) → IsWord w → IsChecked (rows ++ check_columns checks) w) → ((w : List Bool) → IsChecked (rows ++ check_columns checks) w → IsWord w) → (front : List ℕ) (places radius : ℕ) (received word : List Bool) (reading : Reading) → front ≡ rows → places ≡ checks → IsReading beq (IsChecked (front ++ check_columns places)) radius received word reading → IsReading beq IsWord radius received word reading
+  reads IsWord to from front places radius received word reading e f is =
+      reading_of_same_set beq (IsChecked (rows ++ check_columns checks)) IsWord radius received word reading from to
+      (subst (λ cs. IsReading beq (IsChecked cs) radius received word reading) (ap₂ (λ r n. r ++ check_columns n) e f) is)
+
+  -- the laws of the code, in a set whose words are those that pass
+  pub is_code : (IsWord : List Bool → Type 0) → ((w : List Bool) → IsWord w → IsChecked (rows ++ check_columns checks) w) → (n radius : ℕ) → length rows + checks ≡ n → 2 * radius < apart → IsBlockCode beq IsWord n (length rows) radius apart
+  is_code IsWord to n radius whole close = record {
+    compares = bool_eq_equiv;
+    alike = same_bit;
+    long = λ word is. length_checked word (to word is) ∙ whole;
+    one_word = λ v w isv isw same. one_checked v w (to v isv) (to w isw) same;
+    far_apart = λ v w isv isw differ. far_checked v w (to v isv) (to w isw) differ;
+    close = close;
+    begins = omega arith;
+  }
+
+-- the syndrome of a word from its information and its check bits
+pub syndrome_of-word : (rows : List ℕ) (checks : ℕ) (word : List Bool) → length rows ≤ length word → length word - length rows ≡ checks → syndrome_of (rows ++ check_columns checks) word ≡ bit_xor (syndrome_of rows (take (length rows) word)) (field_of (drop (length rows) word))
+syndrome_of-word rows checks word inside places =
+    let k = length rows in
+    let back : length (drop k word) ≡ checks = omega (arith, length-drop k word) in
+    ap (syndrome_of (rows ++ check_columns checks)) (sym (take-append-drop k word))
+    ∙ syndrome_of-append rows (check_columns checks) (take k word) (drop k word) (length-take-le k word inside)
+    ∙ ap (bit_xor (syndrome_of rows (take k word))) (syndrome_of-check_columns checks (drop k word) back)

@@ -1,0 +1,98 @@
+-- Checks that are sums of other checks, and a parity beside other checks.
+use Rattle.std.proofs.Common.{◌≡◌, ℕ, zero, suc, ◌+◌, ◌*◌, ◌%◌, ◌<◌, Bool, true, false, cond, eqb, List, [], ◌∷◌, length, map, bit_xor, refl, ap, ap₂, sym, ◌∙◌, arith}
+use Rattle.std.specs.Int.{bit_at}
+use Rattle.std.specs.Int.Bits.{xor_zero_l}
+use Rattle.std.proofs.lemmas.Nat.Bits.{bit_at_xor, bit_at-lt}
+use Rattle.p25_bits.specs.Bits.{digit_of, bits_of}
+use Rattle.p25_bits.proofs.BitsLaws.{bits_of-suc, bits_of-zero, length-bits_of, digit_of-le}
+use Rattle.p25_bits.proofs.Divisions.{xor_doubled}
+use Rattle.p25_code.specs.Binary.{syndrome_of, weight_of}
+use Rattle.p25_code.proofs.SyndromeLaws.{change_of-is}
+use Rattle.p25_code.proofs.WeightLaws.{sum_of_words, syndrome_of-sum_of_words, syndrome_of-zeros, weight_of-bits_of}
+
+-- the sum of two bits
+sum_of_bits : (a b : ℕ) → a < 2 → b < 2 → (xs ys : List Bool) → eqb ((a + b) % 2) 1 ∷ sum_of_words xs ys ≡ sum_of_words (eqb a 1 ∷ xs) (eqb b 1 ∷ ys)
+unfolding sum_of_words
+sum_of_bits zero zero h k xs ys = refl
+sum_of_bits zero (suc zero) h k xs ys = refl
+sum_of_bits (suc zero) zero h k xs ys = refl
+sum_of_bits (suc zero) (suc zero) h k xs ys = refl
+sum_of_bits zero (suc (suc b)) h k xs ys = absurd (omega arith)
+sum_of_bits (suc zero) (suc (suc b)) h k xs ys = absurd (omega arith)
+sum_of_bits (suc (suc a)) b h k xs ys = absurd (omega arith)
+
+-- the bits of a sum are the sums of the bits
+pub bits_of-xor : (width a b : ℕ) → bits_of width (bit_xor a b) ≡ sum_of_words (bits_of width a) (bits_of width b)
+unfolding sum_of_words
+bits_of-xor zero a b = bits_of-zero (bit_xor a b) ∙ ap₂ sum_of_words (sym (bits_of-zero a)) (sym (bits_of-zero b))
+bits_of-xor (suc width) a b =
+    bits_of-suc width (bit_xor a b)
+    ∙ ap₂ (λ n bits. eqb n 1 ∷ bits) (bit_at_xor a b width) (bits_of-xor width a b)
+    ∙ sum_of_bits (bit_at a width) (bit_at b width) (bit_at-lt a width) (bit_at-lt b width) (bits_of width a) (bits_of width b)
+    ∙ ap₂ sum_of_words (sym (bits_of-suc width a)) (sym (bits_of-suc width b))
+
+-- a sum of checks: the exclusive or of those columns at whose places a number has bits
+unfoldable pub mixed : List ℕ → ℕ → ℕ
+mixed mix number = syndrome_of mix (bits_of (length mix) number)
+
+mixed-xor : (mix : List ℕ) (a b : ℕ) → mixed mix (bit_xor a b) ≡ bit_xor (mixed mix a) (mixed mix b)
+unfolding mixed
+mixed-xor mix a b =
+    let n = length mix in
+    ap (syndrome_of mix) (bits_of-xor n a b)
+    ∙ syndrome_of-sum_of_words mix (bits_of n a) (bits_of n b)
+    ∙ change_of-is mix (bits_of n a) (bits_of n b) (length-bits_of n a) (length-bits_of n b)
+
+mixed-zero : (mix : List ℕ) → mixed mix 0 ≡ 0
+unfolding mixed
+mixed-zero mix = syndrome_of-zeros mix (bits_of (length mix) 0) (weight_of-bits_of (length mix))
+
+mixed-chosen : (mix : List ℕ) (bit : Bool) (column : ℕ) → cond bit (mixed mix column) 0 ≡ mixed mix (cond bit column 0)
+mixed-chosen mix true column = refl
+mixed-chosen mix false column = sym (mixed-zero mix)
+
+-- the sum by mixed columns is the mixed sum by the columns
+pub syndrome_of-mixed : (mix columns : List ℕ) (word : List Bool) → syndrome_of (map (mixed mix) columns) word ≡ mixed mix (syndrome_of columns word)
+unfolding syndrome_of
+syndrome_of-mixed mix [] word = sym (mixed-zero mix)
+syndrome_of-mixed mix (column ∷ columns) [] = sym (mixed-zero mix)
+syndrome_of-mixed mix (column ∷ columns) (bit ∷ word) =
+    ap₂ bit_xor (mixed-chosen mix bit column) (syndrome_of-mixed mix columns word) ∙ sym (mixed-xor mix (cond bit column 0) (syndrome_of columns word))
+
+-- so what passes the checks passes their sums
+pub mixed_passes : (mix columns : List ℕ) (word : List Bool) → syndrome_of columns word ≡ 0 → syndrome_of (map (mixed mix) columns) word ≡ 0
+mixed_passes mix columns word passes = syndrome_of-mixed mix columns word ∙ ap (mixed mix) passes ∙ mixed-zero mix
+
+-- a column with one more check, of all places
+abbrev pub with_parity : ℕ → ℕ
+with_parity column = 2 * column + 1
+
+digit-lt : (bit : Bool) → digit_of bit < 2
+digit-lt bit = omega (arith, digit_of-le bit)
+
+-- a column of a place in a doubled sum
+doubled : (bit : Bool) (column : ℕ) → cond bit (with_parity column) 0 ≡ 2 * cond bit column 0 + digit_of bit
+doubled true column = refl
+doubled false column = refl
+
+-- two digits
+parities : (bit : Bool) (weight : ℕ) → bit_xor (digit_of bit) (weight % 2) ≡ (digit_of bit + weight) % 2
+parities false weight = xor_zero_l (weight % 2) ∙ omega arith
+parities true weight = flipped (weight % 2) refl
+  where
+    flipped : (odd : ℕ) → odd ≡ weight % 2 → bit_xor 1 odd ≡ (1 + weight) % 2
+    flipped zero e = omega arith
+    flipped (suc zero) e = omega arith
+    flipped (suc (suc odd)) e = absurd (omega arith)
+
+-- the sum by columns with the parity: the sum by the columns, and whether the weight is odd
+pub syndrome_of-with_parity : (columns : List ℕ) (word : List Bool) → length word ≡ length columns → syndrome_of (map with_parity columns) word ≡ 2 * syndrome_of columns word + weight_of word % 2
+unfolding syndrome_of weight_of
+syndrome_of-with_parity [] [] long = refl
+syndrome_of-with_parity [] (bit ∷ word) long = absurd (omega arith)
+syndrome_of-with_parity (column ∷ columns) [] long = absurd (omega arith)
+syndrome_of-with_parity (column ∷ columns) (bit ∷ word) long =
+    let odd : weight_of word % 2 < 2 = omega arith in
+    ap₂ bit_xor (doubled bit column) (syndrome_of-with_parity columns word (omega arith))
+    ∙ xor_doubled (cond bit column 0) (syndrome_of columns word) (digit_of bit) (weight_of word % 2) (digit-lt bit) odd
+    ∙ ap (λ n. 2 * bit_xor (cond bit column 0) (syndrome_of columns word) + n) (parities bit (weight_of word))

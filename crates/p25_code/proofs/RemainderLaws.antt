@@ -1,0 +1,82 @@
+-- Columns that are remainders of powers by a generator: a word passes exactly where its polynomial is divisible.
+use Rattle.std.proofs.Common.{◌≡◌, ℕ, zero, suc, ◌+◌, ◌*◌, ◌^◌, ◌<◌, ◌≤◌, inl, inr, Bool, true, false, cond, ltb, List, [], ◌∷◌, length, bit_xor, ap, sym, ◌∙◌, subst, arith}
+use Rattle.std.proofs.Math.Nat.{pow-suc}
+use Rattle.std.proofs.lemmas.Bool.{cases_lt, cond_below, cond_above}
+use Rattle.std.proofs.lemmas.Nat.{xor_lt, pow_pos}
+use Rattle.p25_bits.specs.Bits.{field_of}
+use Rattle.p25_bits.specs.Divisible.{IsDivisible, HasDegree, IsRemainder}
+use Rattle.p25_bits.proofs.BitsLaws.{field_of-nil, field_of-cons, field_of-lt}
+use Rattle.p25_bits.proofs.Divisions.{IsDivisible-sum, IsRemainder-unique, IsRemainder-lower, divisible_from_remainder, remainder_from_divisible, remainder_kept, remainder_reduced}
+use Rattle.p25_code.specs.Binary.{syndrome_of}
+use Rattle.p25_code.proofs.SyndromeLaws.{xor_middle, above}
+
+-- the remainder of a power of x, from that of the power below
+unfoldable pub power_remainder : ℕ → ℕ → ℕ → ℕ
+power_remainder generator degree zero = 1
+power_remainder generator degree (suc n) =
+    let below = power_remainder generator degree n in
+    cond (ltb (2 * below) (2 ^ degree)) (2 * below) (bit_xor (2 * below) generator)
+
+-- the remainders of so many powers, the highest first
+unfoldable pub remainders : ℕ → ℕ → ℕ → List ℕ
+remainders generator degree zero = []
+remainders generator degree (suc n) = power_remainder generator degree n ∷ remainders generator degree n
+
+-- the remainder of a sum is the sum of the remainders
+pub IsRemainder-sum : (generator degree a b r s : ℕ) → IsRemainder generator degree a r → IsRemainder generator degree b s → IsRemainder generator degree (bit_xor a b) (bit_xor r s)
+IsRemainder-sum generator degree a b r s first second = record {
+  lower = xor_lt degree r s first.lower second.lower;
+  divisible = subst (IsDivisible generator) (xor_middle a r b s) (IsDivisible-sum generator (bit_xor a r) (bit_xor b s) first.divisible second.divisible);
+}
+
+-- the remainder of a number times x, where it stays of lower degree or not
+next : (generator degree number r : ℕ) → HasDegree generator degree → IsRemainder generator degree number r → IsRemainder generator degree (2 * number) (cond (ltb (2 * r) (2 ^ degree)) (2 * r) (bit_xor (2 * r) generator))
+next generator degree number r has is =
+    let none : 0 < 2 = omega arith in
+    let same : 2 * number + 0 ≡ 2 * number = omega arith in
+    let same_r : 2 * r + 0 ≡ 2 * r = omega arith in
+    elim (cases_lt (2 * r) (2 ^ degree)) [
+      | inl low ↦
+          let low_r : 2 * r + 0 < 2 ^ degree = omega arith in
+          subst (λ n. IsRemainder generator degree n (cond (ltb (2 * r) (2 ^ degree)) (2 * r) (bit_xor (2 * r) generator))) same
+          (subst (IsRemainder generator degree (2 * number + 0)) (same_r ∙ cond_below (2 * r) (2 ^ degree) (2 * r) (bit_xor (2 * r) generator) low) (remainder_kept generator degree number r 0 none is low_r))
+      | inr high ↦
+          let high_r : 2 ^ degree ≤ 2 * r + 0 = omega arith in
+          subst (λ n. IsRemainder generator degree n (cond (ltb (2 * r) (2 ^ degree)) (2 * r) (bit_xor (2 * r) generator))) same
+          (subst (IsRemainder generator degree (2 * number + 0)) (cond_above (2 * r) (2 ^ degree) (2 * r) (bit_xor (2 * r) generator) (bit_xor (2 * r + 0) generator) high (ap (λ n. bit_xor n generator) same_r)) (remainder_reduced generator degree number r 0 has none is high_r))
+    ]
+
+module _ {generator degree : ℕ} (has : HasDegree generator degree) (some : 1 < 2 ^ degree) where
+  -- what is called the remainder of a power is its remainder
+  pub IsRemainder-power : (n : ℕ) → IsRemainder generator degree (2 ^ n) (power_remainder generator degree n)
+  unfolding power_remainder
+  IsRemainder-power zero = IsRemainder-lower generator degree 1 some
+  IsRemainder-power (suc n) =
+      let doubled : 2 * 2 ^ n ≡ 2 ^ suc n = omega (arith, pow-suc 2 n) in
+      subst (λ m. IsRemainder generator degree m (power_remainder generator degree (suc n))) doubled
+      (next generator degree (2 ^ n) (power_remainder generator degree n) has (IsRemainder-power n))
+
+  -- a coefficient times a power
+  chosen : (bit : Bool) (n : ℕ) → IsRemainder generator degree (cond bit (2 ^ n) 0) (cond bit (power_remainder generator degree n) 0)
+  chosen true n = IsRemainder-power n
+  chosen false n = IsRemainder-lower generator degree 0 (pow_pos degree)
+
+  -- the sum of the remainders at the places that are 1 is the remainder of the word's polynomial
+  pub IsRemainder-word : (word : List Bool) → IsRemainder generator degree (field_of word) (syndrome_of (remainders generator degree (length word)) word)
+  unfolding syndrome_of remainders
+  IsRemainder-word [] = subst (λ n. IsRemainder generator degree n 0) (sym field_of-nil) (IsRemainder-lower generator degree 0 (pow_pos degree))
+  IsRemainder-word (bit ∷ word) =
+      let n = length word in
+      subst (λ m. IsRemainder generator degree m (syndrome_of (remainders generator degree (length (bit ∷ word))) (bit ∷ word)))
+      (above bit n (field_of word) (field_of-lt word) ∙ sym (field_of-cons bit word))
+      (IsRemainder-sum generator degree (cond bit (2 ^ n) 0) (field_of word) (cond bit (power_remainder generator degree n) 0) (syndrome_of (remainders generator degree n) word) (chosen bit n) (IsRemainder-word word))
+
+  -- so a word whose polynomial is divisible has the sum 0
+  pub remainders-divisible : (word : List Bool) → IsDivisible generator (field_of word) → syndrome_of (remainders generator degree (length word)) word ≡ 0
+  remainders-divisible word divisible =
+      IsRemainder-unique generator degree (field_of word) _ 0 has (IsRemainder-word word) (remainder_from_divisible generator degree (field_of word) divisible)
+
+  -- and the other way round
+  pub divisible-remainders : (word : List Bool) → syndrome_of (remainders generator degree (length word)) word ≡ 0 → IsDivisible generator (field_of word)
+  divisible-remainders word none =
+      divisible_from_remainder generator degree (field_of word) (subst (IsRemainder generator degree (field_of word)) none (IsRemainder-word word))

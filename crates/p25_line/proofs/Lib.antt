@@ -1,0 +1,6 @@
+pub mod WordsLaws
+pub mod WordsSteps
+pub mod HexLaws
+pub mod ValuesSteps
+pub mod JoinLaws
+pub mod Decimals

@@ -1,0 +1,66 @@
+-- Laws of the words of a line. Splitting is followed octet by octet: a line has allowed octets alone where each of its parts is printed.
+use Rattle.std.proofs.Common.{◌≡◌, ℕ, ◌<◌, ◌≤◌, ◌==◌, ◌&&◌, ◌||◌, Bool, true, false, cond, List, [], ◌∷◌, length, Some, None, Err, refl, ap, ap₂, ◌∙◌, arith}
+use Rattle.std.specs.Prelude.{nat_lt}
+use Rattle.std.specs.List.{onto_first, list_all, All}
+use Rattle.std.proofs.Math.Bool.{and_assoc}
+use Rattle.std.proofs.lemmas.Bool.{and_parts, cond-true, cond-false}
+use Rattle.std.proofs.lemmas.List.Elements.{All-nil, All-cons}
+use Rattle.std.proofs.lemmas.List.Splits.{length-slice_split}
+use Rattle.p25_line.specs.Words.{is_printed, is_word, parts_of, words_in, words_or_fault, or_form}
+use Rattle.p25_line.specs.declared.fault.LineFault.TheVariants.{Long}
+
+-- an octet that may stand in a line of words
+abbrev pub is_allowed : ℕ → Bool
+is_allowed octet = (octet == 32) || is_printed octet
+
+-- a printed octet is no space
+pub printed-space : (octet : ℕ) → is_printed octet ≡ true → (octet == 32) ≡ false
+printed-space octet printed = grind arith
+
+-- printed octets have no space among them
+pub printed-spaces : (octets : List ℕ) → list_all is_printed octets ≡ true → All (λ octet. (octet == 32) ≡ false) octets
+printed-spaces [] printed = All-nil (λ octet. (octet == 32) ≡ false)
+printed-spaces (octet ∷ octets) printed =
+    let parts = and_parts (is_printed octet) (list_all is_printed octets) printed in
+    All-cons (λ x. (x == 32) ≡ false) octet octets (printed-space octet parts.0) (printed-spaces octets parts.1)
+
+-- one more octet, by whether it is a space
+allowed_more : (octet : ℕ) (parts : List (List ℕ)) (rest space : Bool) → list_all (list_all is_printed) parts ≡ rest → 0 < length parts
+    → list_all (list_all is_printed) (cond space ([] ∷ parts) (onto_first octet parts)) ≡ ((space || is_printed octet) && rest)
+allowed_more octet parts rest true same some = same
+allowed_more octet [] rest false same some = absurd (omega arith)
+allowed_more octet (part ∷ parts) rest false same some =
+    and_assoc (is_printed octet) (list_all is_printed part) (list_all (list_all is_printed) parts) ∙ ap (λ b. is_printed octet && b) same
+
+-- each part is printed exactly where each octet is allowed
+pub printed-parts : (line : List ℕ) → list_all (list_all is_printed) (parts_of line) ≡ list_all is_allowed line
+printed-parts [] = refl
+printed-parts (octet ∷ line) =
+    allowed_more octet (parts_of line) (list_all is_allowed line) (octet == 32) (printed-parts line) (omega (arith, length-slice_split (λ x. x == 32) line))
+
+-- words are printed
+pub words-printed : (words : List (List ℕ)) → list_all is_word words ≡ true → list_all (list_all is_printed) words ≡ true
+words-printed [] all = refl
+words-printed (word ∷ words) all =
+    let parts = and_parts (is_word word) (list_all is_word words) all in
+    let printed = and_parts (nat_lt 0 (length word)) (list_all is_printed word) parts.0 in
+    ap₂ ◌&&◌ printed.1 (words-printed words parts.1)
+
+-- where each part is a word, the parts are the words
+pub words_in-words : (line : List ℕ) → list_all is_word (parts_of line) ≡ true → words_in line ≡ Some (parts_of line)
+unfolding words_in
+words_in-words line all = cond-true (list_all is_word (parts_of line)) (Some (parts_of line)) None all
+
+-- where some part is no word, there are no words
+pub words_in-none : (line : List ℕ) → list_all is_word (parts_of line) ≡ false → words_in line ≡ None
+unfolding words_in
+words_in-none line other = cond-false (list_all is_word (parts_of line)) (Some (parts_of line)) None other
+
+-- the answers to a line, by its length and its words
+pub words_or_fault-long : (line : List ℕ) → 8192 < length line → words_or_fault line ≡ Err Long
+unfolding words_or_fault
+words_or_fault-long line long = grind arith
+
+pub words_or_fault-words : (line : List ℕ) → length line ≤ 8192 → words_or_fault line ≡ or_form (words_in line)
+unfolding words_or_fault
+words_or_fault-words line short = grind arith

@@ -1,0 +1,18 @@
+use Rattle.std.proofs.Common.{◌-◌, [], ◌∷◌, ◌++◌, take, sym, ap, ◌∙◌}
+use Rattle.p25_line.specs.Marks.{Marks}
+use Rattle.p25_line.specs.declared.word_list.Place.{Place}
+use Rattle.p25_line.proofs.WordsSteps.{noted-room, noted-full}
+use Rattle.p25_line.proofs.word_list.WordList.note.Goals as goal
+use Rattle.p25_line.proofs.word_list.WordList.note.Goals.{then-not-is_full, else-not-is_full}
+
+pub returns-clause-places : goal.returns-clause-places
+returns-clause-places c =
+    let place : Place = record { start = c.args.start; len = c.args.end - c.args.start } in
+    let seen = ap (λ (m : Marks). take 16 (m.places ++ place ∷ [])) c.self.view_is in
+    elim c.if-not-is_full.branch [
+      | then-not-is_full w ↦
+          ap (λ s. s.places.items) w.self-inside-is ∙ w.push.ensures.items
+          ∙ noted-room c.self.inside.places.items place (sym c.is_full.ensures.value ∙ w.if-not-is_full.true) c.is_full.ensures.fits ∙ seen
+      | else-not-is_full w ↦
+          ap (λ s. s.places.items) w.self-inside-is ∙ noted-full c.self.inside.places.items place (sym c.is_full.ensures.value ∙ w.if-not-is_full.false) ∙ seen
+    ]

@@ -1,0 +1,20 @@
+-- The octets and digits of values.
+use Rattle.std.specs.Prelude.{ℕ, ◌+◌, ◌*◌, ◌-◌, ◌<◌, ◌&&◌, ◌||◌, nat_le, nat_lt, Bool, cond, List, [], ◌∷◌, All}
+
+-- numbers below 256
+abbrev pub AllOctets : List ℕ → Type 0
+AllOctets octets = All (λ octet. octet < 256) octets
+
+-- a lower-case hexadecimal digit
+abbrev pub is_lower_digit : ℕ → Bool
+is_lower_digit digit = (nat_le 48 digit && nat_le digit 57) || (nat_le 97 digit && nat_le digit 102)
+
+-- the value of a lower-case hexadecimal digit
+abbrev pub nibble_of : ℕ → ℕ
+nibble_of digit = cond (nat_lt digit 58) (digit - 48) (digit - 87)
+
+-- the octets of a text of hexadecimal digits, two digits each
+unfoldable pub octets_of : List ℕ → List ℕ
+octets_of [] = []
+octets_of (digit ∷ []) = []
+octets_of (high ∷ low ∷ digits) = (16 * nibble_of high + nibble_of low) ∷ octets_of digits

@@ -1,0 +1,55 @@
+-- The words of a line, and what a list of words tells of them.
+use Rattle.std.specs.Prelude.{◌≡◌, ℕ, ◌+◌, ◌≤◌, ◌==◌, ◌&&◌, nat_lt, nat_le, Bool, cond, List, [], length, take, drop, map, All, Option, Some, None, Result, Ok, Err}
+use Rattle.std.specs.List.{slice_split, list_all}
+use Rattle.p25_line.specs.Marks.{Marks}
+use Rattle.p25_line.specs.declared.fault.LineFault.{LineFault}
+use Rattle.p25_line.specs.declared.fault.LineFault.TheVariants.{Long, Form}
+use Rattle.p25_line.specs.declared.word_list.Place.{Place}
+
+-- an octet that may stand in a word: 21 to 7E hex
+abbrev pub is_printed : ℕ → Bool
+is_printed octet = nat_le 33 octet && nat_le octet 126
+
+-- a word has one or more such octets
+abbrev pub is_word : List ℕ → Bool
+is_word word = nat_lt 0 (length word) && list_all is_printed word
+
+-- what stands between the spaces of a line
+abbrev pub parts_of : List ℕ → List (List ℕ)
+parts_of line = slice_split (λ octet. octet == 32) line
+
+-- the words of a line, where it is words with single spaces between them
+unfoldable pub words_in : List ℕ → Option (List (List ℕ))
+words_in line = cond (list_all is_word (parts_of line)) (Some (parts_of line)) None
+
+-- the words, or that the form is wrong
+abbrev pub or_form : Option (List (List ℕ)) → Result (List (List ℕ)) LineFault
+or_form (Some words) = Ok words
+or_form None = Err Form
+
+-- the words of a line, or why it is refused
+unfoldable pub words_or_fault : List ℕ → Result (List (List ℕ)) LineFault
+words_or_fault line = cond (nat_lt 8192 (length line)) (Err Long) (or_form (words_in line))
+
+-- a place lies within a line
+abbrev pub LiesIn : List ℕ → Place → Type 0
+LiesIn line place = place.start + place.len ≤ length line
+
+-- the octets of a line at a place
+abbrev pub word_at : List ℕ → Place → List ℕ
+word_at line place = take place.len (drop place.start line)
+
+-- the octets of a line at each of some places
+abbrev pub marked : List ℕ → List Place → List (List ℕ)
+marked line places = map (word_at line) places
+
+-- what is answered and kept for the words of a line: their number, and the places of the first 16. Where there is a
+-- fault it is answered, and nothing is kept
+abbrev pub WordsFound : List ℕ → Marks → Result (Unit {0}) LineFault → Result (List (List ℕ)) LineFault → Type 0
+WordsFound line list result (Ok words) =
+    (result ≡ Ok tt) × (list.count ≡ length words) × (marked line list.places ≡ take 16 words) × All (LiesIn line) list.places
+WordsFound line list result (Err fault) = (result ≡ Err fault) × (list.count ≡ 0) × (list.places ≡ [])
+
+-- the answer to a line
+abbrev pub WordsAnswer : List ℕ → Marks → Result (Unit {0}) LineFault → Type 0
+WordsAnswer line list result = WordsFound line list result (words_or_fault line)

@@ -1,0 +1,89 @@
+ghost use Rattle.std.specs.Prelude.{◌≡◌, ℕ, ◌+◌, ◌*◌, ◌<◌, ◌≤◌, List, [], ◌∷◌, ◌++◌, length, take, decimal};
+ghost use Rattle.hex.specs.Hex.{encode_lower};
+
+use itoa::Buffer;
+use std::marker::Model;
+
+/// The most octets of a line.
+pub const LINE_MOST: usize = 8_192;
+
+/// A text of at most 8,192 octets.
+#[derive(Drop)]
+pub struct Line {
+    text: [u8; 8_192],
+    len: usize,
+}
+
+impl Model for Line {
+    ghost Value = { List ℕ };
+
+    ghost view = { λ l. take l.len l.text };
+
+    ghost invariant = { λ l. l.len ≤ 8192 };
+}
+
+impl Line {
+    /// Answers an empty line.
+    pub fn new() -> Line
+        ensures { result ≡ [] }
+    {
+        Line {
+            text: [0; 8_192],
+            len: 0,
+        }
+    }
+
+    /// Empties the line.
+    pub fn clear(&mut self)
+        ensures { self.new ≡ [] }
+    {
+        self.len = 0;
+    }
+
+    /// Answers the number of octets of the line, at most 8,192.
+    pub fn len(&self) -> usize
+        ensures value { result ≡ length self.now }
+        ensures most { result ≤ 8192 }
+    {
+        self.len
+    }
+
+    /// Answers the octets of the line.
+    pub fn octets(&self) -> &[u8]
+        ensures { result.now ≡ self.now }
+    {
+        &self.text[..self.len]
+    }
+
+    /// Appends octets.
+    pub fn put(&mut self, text: &[u8])
+        requires { length self.old + length text.now ≤ 8192 }
+        ensures list { self.new ≡ self.old ++ text.now }
+        ensures len { length self.new ≡ length self.old + length text.now }
+    {
+        let end = self.len + text.len();
+        self.text[self.len..end].copy_from_slice(text);
+        self.len = end;
+    }
+
+    /// Appends a number in decimal.
+    pub fn put_number(&mut self, value: u64)
+        requires { length self.old + length (decimal value) ≤ 8192 }
+        ensures list { self.new ≡ self.old ++ decimal value }
+        ensures len { length self.new ≡ length self.old + length (decimal value) }
+    {
+        let mut buffer = Buffer::new();
+        self.put(buffer.format(value).as_bytes());
+    }
+
+    /// Appends octets in lower-case hexadecimal, two digits each.
+    pub fn put_hex(&mut self, octets: &[u8])
+        requires { length self.old + 2 * length octets.now ≤ 8192 }
+        ensures list { self.new ≡ self.old ++ encode_lower octets.now }
+        ensures len { length self.new ≡ length self.old + 2 * length octets.now }
+    {
+        let end = self.len + 2 * octets.len();
+        let _ = hex::encode_to_slice(octets, &mut self.text[self.len..end]);
+        self.len = end;
+    }
+}

@@ -1,0 +1,86 @@
+//! Values computed apart from this code, and each call once.
+
+use super::{Line, LineFault, WordList, hex_value, number_value, words_of};
+use std::test::Fail;
+
+#[test]
+#[tactic(auto, using(crate::proofs::Decimals::decimal_short))]
+fn line_of_pieces(rt: HostRuntime) {
+    let mut line = Line::new();
+    line.put(b"left over");
+    line.clear();
+    line.put(b"nac=");
+    line.put_hex(&[0x02, 0x9F]);
+    line.put(b" at=");
+    line.put_number(18_446_744_073_709_551_615);
+    assert_eq!(rt;
+        line.octets(),
+        b"nac=029f at=18446744073709551615".as_slice()
+    );
+}
+
+#[test]
+fn words_of_lines(rt: HostRuntime) {
+    let long = [b'a'; 8_193];
+    let rows: [(&[u8], Result<(), LineFault>, usize); 8] = [
+        (b"tdu nac=293", Ok(()), 2),
+        (b"a b c d e f g h i j k l m n o p q r", Ok(()), 18),
+        (&long[..8_192], Ok(()), 1),
+        (&long, Err(LineFault::Long), 0),
+        (b"tdu  nac=293", Err(LineFault::Form), 0),
+        (b"tdu ", Err(LineFault::Form), 0),
+        (b"", Err(LineFault::Form), 0),
+        (b"tdu\tnac=293", Err(LineFault::Form), 0),
+    ];
+    for (line, answer, count) in rows {
+        let mut words = WordList::new();
+        assert_eq!(rt; words_of(line, &mut words), answer);
+        assert_eq!(rt; words.count(), count);
+    }
+}
+
+#[test]
+fn second_word(rt: HostRuntime) -> Result<(), Fail> {
+    let line: &[u8] = b"tdu nac=293";
+    let mut words = WordList::new();
+    words_of(line, &mut words)?;
+    assert_eq!(rt; words.count(), 2);
+    assert_eq!(rt; words.word(line, 1), b"nac=293".as_slice());
+    Ok(())
+}
+
+#[test]
+fn values_of_words(rt: HostRuntime) {
+    let mut octets = [7];
+    assert_eq!(rt; hex_value(b"0A", &mut octets), false);
+    assert_eq!(rt; octets, [7]);
+    assert_eq!(rt; hex_value(b"0a", &mut octets), true);
+    assert_eq!(rt; octets, [10]);
+    let rows: [(&[u8], u64, Option<u64>); 6] = [
+        (b"10001", 10_000, None),
+        (b"10000", 10_000, Some(10_000)),
+        (b"007", 10_000, None),
+        (b"0", 10_000, Some(0)),
+        (b"+7", 10_000, None),
+        (b"18446744073709551616", 18_446_744_073_709_551_615, None),
+    ];
+    for (word, most, number) in rows {
+        assert_eq!(rt; number_value(word, most), number);
+    }
+}
+
+#[test]
+fn fault_words(rt: HostRuntime) -> Result<(), Fail> {
+    let rows = [
+        (LineFault::Long, "long"),
+        (LineFault::Form, "form"),
+        (LineFault::Kind, "kind"),
+        (LineFault::Key, "key"),
+        (LineFault::Value, "value"),
+    ];
+    for (fault, word) in rows {
+        let text = format!(in rt.alloc(); "{fault}")?;
+        assert_eq!(rt; text.as_str(), word);
+    }
+    Ok(())
+}

@@ -1,0 +1,51 @@
+ghost use Rattle.std.specs.Prelude.{◌≡◌, ◌≢◌, ℕ, ◌≤◌, List, length, decimal, IsTrue, MatchOption};
+ghost use Rattle.std.specs.Bool.{OnTrue, OnFalse};
+ghost use Rattle.std.specs.List.{list_all};
+ghost use Rattle.hex.specs.Hex.{encode_lower};
+ghost use Rattle.p25_line.specs.Values.{AllOctets, is_lower_digit};
+
+use itoa::Buffer;
+use std::str;
+
+/// Sets `out` to the octets whose lower-case hexadecimal text a word is, and answers whether there are as many as `out`
+/// has. It is false exactly where the word is no such text, and then `out` is as before.
+pub fn hex_value(word: &[u8], out: &mut [u8]) -> bool
+    ensures value { OnTrue result (encode_lower out.new ≡ word.now) }
+    ensures octets { OnTrue result (AllOctets out.new) }
+    ensures refused { OnFalse result ((octets : List ℕ) → length octets ≡ length out.old → AllOctets octets → encode_lower octets ≢ word.now) }
+    ensures same { OnFalse result (out.new ≡ out.old) }
+{
+    if word.len() != 2 * out.len() || !is_lower_hex(word) {
+        return false;
+    }
+    let _ = hex::decode_to_slice(word, out);
+    true
+}
+
+/// Answers the number whose decimal text a word is. It is `None` exactly where the word is not the text of a number that
+/// is at most `most`: no leading zero, no sign.
+pub fn number_value(word: &[u8], most: u64) -> Option<u64>
+    ensures { MatchOption result ((number : ℕ) → number ≤ most → decimal number ≢ word.now)
+        (λ number. (number ≤ most) × (decimal number ≡ word.now)) }
+{
+    let Ok(text) = str::from_utf8(word) else {
+        return None;
+    };
+    let Ok(number) = text.parse::<u64>() else {
+        return None;
+    };
+    let mut buffer = Buffer::new();
+    if number <= most && buffer.format(number).as_bytes() == word {
+        Some(number)
+    } else {
+        None
+    }
+}
+
+// Whether a word has lower-case hexadecimal digits alone.
+fn is_lower_hex(word: &[u8]) -> bool
+    ensures { result ≡ list_all is_lower_digit word.now }
+{
+    word.iter()
+        .all(|digit| matches!(*digit, b'0'..=b'9' | b'a'..=b'f'))
+}

@@ -1,0 +1,51 @@
+-- The steps of the writers: the octets of a number as they are put, and one more block of a loop.
+use Rattle.std.proofs.Common.{◌≡◌, ℕ, ◌+◌, ◌/◌, ◌%◌, ◌^◌, ◌<◌, Bool, List, [], ◌∷◌, ◌++◌, get_or, slice_get, Some, ap, ap₂, sym, subst, ◌∙◌, arith, inl, inr, append_assoc, append-nil}
+use Rattle.std.proofs.Math.Nat.{mod-eq_of_lt}
+use Rattle.std.proofs.lemmas.Bool.{cases_lt}
+use Rattle.std.proofs.lemmas.Option.{get_or_from_slice_get}
+use Rattle.p25_bits.specs.Numbers.{joined_below}
+use Rattle.p25_bits.proofs.NumbersLaws.{joined_below-zero, joined_below-more}
+use Rattle.p25_packet_blocks.specs.declared.block.Block.{Block}
+use Rattle.p25_packet_blocks.specs.declared.block.Slot.{Slot}
+use Rattle.p25_packet_blocks.specs.declared.block.Slot.TheVariants.{Good, Bad}
+use Rattle.p25_packet_blocks.specs.Image.{two_octets, four_octets}
+use Rattle.p25_packet_blocks.specs.Sendable.{IsDataBlock, AreDataBlocks}
+
+-- the octets of a number of 16 bits
+pub put_two : (number : ℕ) → number < 2 ^ 16 → number / 256 % 256 ∷ number % 256 ∷ [] ≡ two_octets number
+put_two number small = let high : number / 256 < 256 = omega arith in ap (λ n. n ∷ number % 256 ∷ []) (mod-eq_of_lt high)
+
+-- the octets of a number of 32 bits
+pub put_four : (number : ℕ) → number < 2 ^ 32 → number / 16777216 % 256 ∷ number / 65536 % 256 ∷ number / 256 % 256 ∷ number % 256 ∷ [] ≡ four_octets number
+put_four number small = let high : number / 16777216 < 256 = omega arith in ap (λ n. n ∷ number / 65536 % 256 ∷ number / 256 % 256 ∷ number % 256 ∷ []) (mod-eq_of_lt high)
+
+-- no block is written yet
+pub put_none : (bits : List Bool) (f : ℕ → List Bool) → bits ≡ bits ++ joined_below 0 f
+put_none bits f = sym (ap (λ (xs : List Bool). bits ++ xs) (joined_below-zero f) ∙ append-nil bits)
+
+-- one more block
+pub put_more : (before bits block : List Bool) (f : ℕ → List Bool) (j : ℕ) → bits ≡ before ++ joined_below j f → block ≡ f j → bits ++ block ≡ before ++ joined_below (j + 1) f
+put_more before bits block f j so_far is =
+    ap₂ (λ (xs ys : List Bool). xs ++ ys) so_far is
+    ∙ append_assoc before (joined_below j f) (f j)
+    ∙ ap (λ (xs : List Bool). before ++ xs) (sym (joined_below-more j f))
+
+-- no slot is looked at yet
+pub good_none : (slots : List Slot) → AreDataBlocks slots 0
+good_none slots = record { at = λ j none. absurd (omega arith) }
+
+-- one more slot is Good
+pub good_more : (slots : List Slot) (j : ℕ) (block : Block) → get_or slots j Bad ≡ Good block → IsDataBlock block → AreDataBlocks slots j → AreDataBlocks slots (j + 1)
+good_more slots j block is keeps so_far = record {
+  at = λ k inside. elim (cases_lt k j) [
+    | inl before ↦ so_far.at k before
+    | inr last ↦
+        let here : j ≡ k = omega arith in
+        let P : ℕ → Type 0 = λ n. (good : Block) × (get_or slots n Bad ≡ Good good) × IsDataBlock good in
+        subst P here (block, is, keeps)
+  ];
+}
+
+-- the slot that was taken
+pub slot_at : (slots : List Slot) (j : ℕ) (slot : Slot) → slice_get slots j ≡ Some slot → get_or slots j Bad ≡ slot
+slot_at slots j slot is = get_or_from_slice_get slots j slot Bad is

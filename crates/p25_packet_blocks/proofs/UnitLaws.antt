@@ -1,0 +1,72 @@
+-- The packet answer of a sent unit by its cases: each arm with the facts that choose it.
+use Rattle.std.proofs.Common.{◌≡◌, ◌≢◌, ℕ, ◌<◌, ◌≤◌, Bool, true, false, eqb, leb, List, ◌++◌, length, take, Ok, Err, Some, None, refl, ap, ◌∙◌, arith}
+use Rattle.std.proofs.lemmas.Bool.{cond-true, cond-false, eq-eqb, ne_eqb, le-leb, false_from_ne_true, leb-true}
+use Rattle.p25_bits.specs.Bits.{part}
+use Rattle.p25_status.specs.declared.fields.Field.{Field}
+use Rattle.p25_status.specs.declared.fields.Field.TheVariants.{Sync, Nid, Duid, Length}
+use Rattle.p25_status.specs.Sync.{has_sync}
+use Rattle.p25_status.specs.Woven.{plain_of}
+use Rattle.p25_front.specs.Front.{identifier_of}
+use Rattle.p25_trellis.specs.Nearest.{half_octets}
+use Rattle.p25_packet_blocks.specs.declared.head.PacketHead.{PacketHead}
+use Rattle.p25_packet_blocks.specs.declared.packet.Packet.{Packet}
+use Rattle.p25_packet_blocks.specs.Heads.{head_blocks}
+use Rattle.p25_packet_blocks.specs.Lengths.{packet_sent_length}
+use Rattle.p25_packet_blocks.specs.Reading.{head_from, packet_of_head}
+use Rattle.p25_packet_blocks.specs.UnitReading.{sent_header_bits, sent_head_of, sent_from, sent_packet_of, with_nac, identified_packet_of, packet_unit_of}
+
+pub sent_header_bits-is : (sent : List Bool) → sent_header_bits sent ≡ part 114 28 sent ++ part 144 70 sent ++ part 216 70 sent ++ part 288 28 sent
+unfolding sent_header_bits
+sent_header_bits-is sent = refl
+
+pub sent_head_of-is : (sent : List Bool) → sent_head_of sent ≡ head_from (half_octets (sent_header_bits sent))
+unfolding sent_head_of
+sent_head_of-is sent = refl
+
+-- From the header on.
+
+pub sent_packet_of-bad : (sent : List Bool) (field : Field) → sent_head_of sent ≡ Err field → sent_packet_of sent ≡ Err field
+unfolding sent_packet_of sent_from
+sent_packet_of-bad sent field is = rw is refl
+
+pub sent_packet_of-short : (sent : List Bool) (head : PacketHead) → sent_head_of sent ≡ Ok head → length sent < packet_sent_length (head_blocks head) → sent_packet_of sent ≡ Err Length
+unfolding sent_packet_of sent_from
+sent_packet_of-short sent head is short =
+    rw is (cond-false (leb (packet_sent_length (head_blocks head)) (length sent)) _ _ (false_from_ne_true _ (λ fits. omega (arith, leb-true _ _ fits))))
+
+pub sent_packet_of-whole : (sent : List Bool) (head : PacketHead) → sent_head_of sent ≡ Ok head → packet_sent_length (head_blocks head) ≤ length sent
+    → sent_packet_of sent ≡ packet_of_head head (plain_of (take (packet_sent_length (head_blocks head)) sent))
+unfolding sent_packet_of sent_from
+sent_packet_of-whole sent head is fits = rw is (cond-true (leb (packet_sent_length (head_blocks head)) (length sent)) _ _ (le-leb _ _ fits))
+
+-- From the sync on.
+
+pub packet_unit_of-sync : (sent : List Bool) → has_sync sent ≡ false → packet_unit_of sent ≡ Err Sync
+unfolding packet_unit_of
+packet_unit_of-sync sent none = cond-false (has_sync sent) _ _ none
+
+synced : (sent : List Bool) → has_sync sent ≡ true → packet_unit_of sent ≡ identified_packet_of (identifier_of sent) sent
+unfolding packet_unit_of
+synced sent some = cond-true (has_sync sent) _ _ some
+
+pub packet_unit_of-nid : (sent : List Bool) → has_sync sent ≡ true → identifier_of sent ≡ None → packet_unit_of sent ≡ Err Nid
+unfolding identified_packet_of
+packet_unit_of-nid sent some none = synced sent some ∙ ap (λ nid. identified_packet_of nid sent) none
+
+pub packet_unit_of-duid : (sent : List Bool) (nid : ℕ × ℕ) → has_sync sent ≡ true → identifier_of sent ≡ Some nid → nid.1 ≢ 12 → packet_unit_of sent ≡ Err Duid
+unfolding identified_packet_of
+packet_unit_of-duid sent nid some is other =
+    synced sent some ∙ ap (λ nid. identified_packet_of nid sent) is ∙ cond-false (eqb nid.1 12) (with_nac nid.0 (sent_packet_of sent)) (Err Duid) (ne_eqb _ _ other)
+
+identified : (sent : List Bool) (nid : ℕ × ℕ) → has_sync sent ≡ true → identifier_of sent ≡ Some nid → nid.1 ≡ 12 → packet_unit_of sent ≡ with_nac nid.0 (sent_packet_of sent)
+unfolding identified_packet_of
+identified sent nid some is duid =
+    synced sent some ∙ ap (λ nid. identified_packet_of nid sent) is ∙ cond-true (eqb nid.1 12) (with_nac nid.0 (sent_packet_of sent)) (Err Duid) (eq-eqb _ _ duid)
+
+pub packet_unit_of-bad : (sent : List Bool) (nid : ℕ × ℕ) (field : Field) → has_sync sent ≡ true → identifier_of sent ≡ Some nid → nid.1 ≡ 12 → sent_packet_of sent ≡ Err field → packet_unit_of sent ≡ Err field
+unfolding with_nac
+packet_unit_of-bad sent nid field some is duid fails = identified sent nid some is duid ∙ ap (with_nac nid.0) fails
+
+pub packet_unit_of-good : (sent : List Bool) (nid : ℕ × ℕ) (packet : Packet) → has_sync sent ≡ true → identifier_of sent ≡ Some nid → nid.1 ≡ 12 → sent_packet_of sent ≡ Ok packet → packet_unit_of sent ≡ Ok (nid.0, packet)
+unfolding with_nac
+packet_unit_of-good sent nid packet some is duid reads = identified sent nid some is duid ∙ ap (with_nac nid.0) reads

@@ -1,0 +1,29 @@
+use Rattle.std.proofs.Common.{◌<◌, length, ap, sym, ◌∙◌, arith}
+use Rattle.std.proofs.Common.{List, get_or}
+use Rattle.p25_packet_blocks.specs.declared.block.Slot.{Slot}
+use Rattle.p25_packet_blocks.specs.declared.block.Slot.TheVariants.{Bad}
+use Rattle.p25_packet_blocks.specs.declared.packet.Packet.TheVariants.{Confirmed}
+use Rattle.p25_packet_blocks.specs.Image.{body_block}
+use Rattle.p25_packet_blocks.proofs.ImageLaws.{body_block-confirmed}
+use Rattle.p25_packet_blocks.proofs.ImageSteps.{put_none, put_more, good_none, good_more, slot_at}
+use Rattle.p25_packet_blocks.proofs.image.put_confirmed.Goals as goal
+
+pub loop-j-init : goal.loop-j-init
+loop-j-init c = record { list = put_none c.args.out.now (body_block (Confirmed c.args.packet.now)); len = omega arith; blocks = good_none c.args.packet.now.slots }
+
+pub unreachable-requires : goal.unreachable-requires
+unreachable-requires c =
+    let same = c.slots-slots.ensures.value in
+    let inside : c.loop-j.j < length c.args.packet.now.slots = omega (arith, ap length same) in
+    c.requires.whole.at c.loop-j.j inside (sym (ap (λ (slots : List Slot). get_or slots c.loop-j.j Bad) same) ∙ slot_at c.slots-slots.result.now c.loop-j.j c.get.result c.get.ensures ∙ c.in-Bad.is)
+
+pub loop-j-preserved : goal.loop-j-preserved
+loop-j-preserved c =
+    let packet = c.args.packet.now in
+    let j = c.loop-j.j in
+    let good = sym (ap (λ (slots : List Slot). get_or slots j Bad) c.slots-slots.ensures.value) ∙ slot_at c.slots-slots.result.now j c.get.result c.get.ensures ∙ c.in-Good.is in
+    record {
+      list = c.put_block.ensures.list ∙ put_more c.args.out.now c.loop-j.out _ (body_block (Confirmed packet)) j c.loop-j.invariant.list (sym (body_block-confirmed packet j c.in-Good.block good));
+      len = omega arith;
+      blocks = good_more packet.slots j c.in-Good.block good c.put_block.ensures.block c.loop-j.invariant.blocks;
+    }

@@ -1,0 +1,8 @@
+use Rattle.std.proofs.Common.{◌≡◌, ◌++◌, ◌+◌, ◌*◌, length}
+use Rattle.p25_bits.specs.Numbers.{joined_below}
+use Rattle.p25_packet_blocks.specs.declared.packet.Packet.TheVariants.{Plain}
+use Rattle.p25_packet_blocks.specs.Image.{body_block}
+use Rattle.p25_packet_blocks.proofs.image.put_plain.Given as goal
+
+abbrev pub invariant-loop-j : goal.invariant-loop-j
+invariant-loop-j l = record { list : l.out ≡ l.initial.out ++ joined_below l.j (body_block (Plain l.fn.packet)); len : length l.out ≡ length l.initial.out + 196 * l.j }

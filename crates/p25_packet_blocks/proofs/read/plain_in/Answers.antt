@@ -1,0 +1,34 @@
+use Rattle.std.proofs.Common.{◌≡◌, ◌≢◌, ℕ, ◌-◌, ◌*◌, ◌++◌, List, Ok, eqb, take, drop, sym, ◌∙◌, arith, ap}
+use Rattle.p25_bits.specs.Numbers.{octets_number}
+use Rattle.p25_crc.specs.Values.{crc32_of}
+use Rattle.p25_packet_blocks.specs.Parts.{PlainParts}
+use Rattle.p25_packet_blocks.specs.declared.packet.Packet.TheVariants.{Plain}
+use Rattle.p25_packet_blocks.specs.Heads.{head_blocks}
+use Rattle.p25_packet_blocks.proofs.ReadingLaws.{plain_from-none, plain_from-good, plain_from-bad}
+use Rattle.p25_packet_blocks.proofs.read.plain_in.Goals as goal
+use Rattle.p25_packet_blocks.proofs.read.plain_in.Goals.{else-blocks-gt0-via-then-blocks-gt0+else-not-check_agrees, else-blocks-gt0-via-else-blocks-gt0}
+
+pub returns-then-not-check_agrees : goal.returns-then-not-check_agrees
+returns-then-not-check_agrees c =
+    let octets = c.args.octets.now in
+    let blocks = c.from-blocks.ensures ∙ c.blocks-2.ensures.value in
+    let counted = c.saturating_sub-count.ensures ∙ ap (λ n. 12 * n - 4) blocks in
+    let some : head_blocks c.args.head ≢ 0 = λ none. omega (arith, c.if-blocks-gt0.true, blocks) in
+    sym (plain_from-bad c.args.head octets some (ap (λ n. eqb (octets_number (drop n octets)) (crc32_of (take n octets))) (sym counted) ∙ sym c.if-not-check_agrees.ensures))
+
+pub returns : goal.returns
+returns c =
+    let octets = c.args.octets.now in
+    let head = c.args.head in
+    let blocks = c.from-blocks.ensures ∙ c.blocks-2.ensures.value in
+    let counted = c.saturating_sub-count.ensures ∙ ap (λ n. 12 * n - 4) blocks in
+    let make : List ℕ → PlainParts = λ carried. record { head = head; octets = carried } in
+    let carried = c.extend.ensures.list ∙ ap (λ (xs : List ℕ). xs ++ take c.saturating_sub-count.result octets) c.new-carried.ensures ∙ ap (λ n. take n octets) counted in
+    ap (λ packet. Ok (Plain packet)) (c.new.ensures ∙ ap make carried)
+    ∙ sym (elim c.else-blocks-gt0.branch [
+      | else-blocks-gt0-via-then-blocks-gt0+else-not-check_agrees w ↦
+          plain_from-good head octets (ap (λ n. eqb (octets_number (drop n octets)) (crc32_of (take n octets))) (sym counted) ∙ sym w.if-not-check_agrees.ensures)
+      | else-blocks-gt0-via-else-blocks-gt0 w ↦
+          let none : head_blocks head ≡ 0 = omega (arith, w.if-blocks-gt0.false, blocks) in
+          plain_from-none head octets none
+    ])

@@ -1,0 +1,6 @@
+use Rattle.std.proofs.Common.{◌≡◌, ◌*◌, take}
+use Rattle.p25_packet_blocks.specs.Reading.{octets_read}
+use Rattle.p25_packet_blocks.proofs.read.read_octets.Given as goal
+
+abbrev pub invariant-loop-j : goal.invariant-loop-j
+invariant-loop-j l = take (12 * l.j) l.octets ≡ octets_read l.j l.plain

@@ -1,0 +1,72 @@
+-- The packet answer: what a unit without its status symbols reads as. Each reading is in steps, so that what decides is an
+-- argument of the next step.
+use Rattle.std.specs.Prelude.{◌≡◌, ℕ, ◌+◌, ◌-◌, ◌*◌, ◌/◌, ◌%◌, ◌≤◌, Bool, List, length, eqb, ◌||◌, take, drop, slice_index, Result, Ok, Err, if◌then◌else◌}
+use Rattle.p25_bits.specs.Bits.{part}
+use Rattle.p25_bits.specs.Numbers.{octets_number, each_below, joined_below}
+use Rattle.p25_status.specs.declared.fields.Field.{Field}
+use Rattle.p25_status.specs.declared.fields.Field.TheVariants.{PacketHeader, Format, PacketCrc}
+use Rattle.p25_trellis.specs.Nearest.{half_octets, three_quarter_octets}
+use Rattle.p25_crc.specs.Values.{crc9_of, crc16_of, crc32_of}
+use Rattle.p25_packet_blocks.specs.declared.head.PacketHead.{PacketHead}
+use Rattle.p25_packet_blocks.specs.declared.block.Slot.{Slot}
+use Rattle.p25_packet_blocks.specs.declared.block.Slot.TheVariants.{Good, Bad}
+use Rattle.p25_packet_blocks.specs.declared.packet.Packet.{Packet}
+use Rattle.p25_packet_blocks.specs.declared.packet.Packet.TheVariants.{Confirmed, Plain}
+use Rattle.p25_packet_blocks.specs.Heads.{head_format, head_blocks}
+use Rattle.p25_packet_blocks.specs.Lengths.{packet_bits}
+
+-- the bits of the header block of a unit
+abbrev pub header_bits : List Bool → List Bool
+header_bits plain = part 112 196 plain
+
+-- the bits of the block at place j behind the header block
+abbrev pub block_bits : List Bool → ℕ → List Bool
+block_bits plain j = part (308 + 196 * j) 196 plain
+
+-- the header that twelve octets hold, where the last two are the header CRC of the others
+unfoldable pub head_from : List ℕ → Result PacketHead Field
+head_from octets =
+    if eqb (octets_number (drop 10 octets)) (crc16_of (take 10 octets)) then Ok (record { 0 = take 10 octets }) else Err PacketHeader
+
+-- the header of a unit: what its header block holds
+unfoldable pub head_reading_of : List Bool → Result PacketHead Field
+head_reading_of plain = head_from (half_octets (header_bits plain))
+
+-- the slot that eighteen octets are: seven bits of serial number, nine of CRC-9, and sixteen octets
+unfoldable pub slot_from : List ℕ → Slot
+slot_from octets =
+    let serial = slice_index octets 0 / 2 in
+    let check = 256 * (slice_index octets 0 % 2) + slice_index octets 1 in
+    if eqb check (crc9_of serial (drop 2 octets)) then Good (record { serial = serial; octets = drop 2 octets }) else Bad
+
+-- the slots of n blocks
+unfoldable pub slots_read : ℕ → List Bool → List Slot
+slots_read n plain = each_below n (λ j. slot_from (three_quarter_octets (block_bits plain j)))
+
+-- the octets of n half-rate blocks, joined
+unfoldable pub octets_read : ℕ → List Bool → List ℕ
+octets_read n plain = joined_below n (λ j. half_octets (block_bits plain j))
+
+-- the packet of a header and of the octets of all its blocks, of which the last four are the packet CRC of those before;
+-- where there is no block to follow there are no octets and no CRC
+unfoldable pub plain_from : PacketHead → List ℕ → Result Packet Field
+plain_from head octets =
+    let count = 12 * head_blocks head - 4 in
+    if eqb (head_blocks head) 0 || eqb (octets_number (drop count octets)) (crc32_of (take count octets)) then Ok (Plain (record { head = head; octets = take count octets })) else Err PacketCrc
+
+-- the packet of a header and the bits of its unit, by the format
+unfoldable pub packet_of_head : PacketHead → List Bool → Result Packet Field
+packet_of_head head plain =
+    if eqb (head_format head) 0x16 then Ok (Confirmed (record { head = head; slots = slots_read (head_blocks head) plain })) else (if eqb (head_format head) 0x15 || eqb (head_format head) 0x03 then plain_from head (octets_read (head_blocks head) plain) else Err Format)
+
+-- the packet answer: PacketHeader, Format and PacketCrc are tested in this order
+unfoldable pub packet_from : Result PacketHead Field → List Bool → Result Packet Field
+packet_from (Err field) plain = Err field
+packet_from (Ok head) plain = packet_of_head head plain
+
+unfoldable pub packet_reading_of : List Bool → Result Packet Field
+packet_reading_of plain = packet_from (head_reading_of plain) plain
+
+-- where its header is read, a unit has as many bits as the blocks to follow ask for
+unfoldable pub HasItsLength : List Bool → Type 0
+HasItsLength plain = (head : PacketHead) → head_reading_of plain ≡ Ok head → packet_bits (head_blocks head) ≤ length plain

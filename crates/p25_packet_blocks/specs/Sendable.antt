@@ -1,0 +1,49 @@
+-- Packets that can be sent: what their types keep, and that no slot is Bad.
+use Rattle.std.specs.Prelude.{◌≡◌, ℕ, ◌<◌, List, length, All}
+use Rattle.std.proofs.Common.{get_or}
+use Rattle.p25_packet_blocks.specs.declared.head.PacketHead.{PacketHead}
+use Rattle.p25_packet_blocks.specs.declared.block.Block.{Block}
+use Rattle.p25_packet_blocks.specs.declared.block.Slot.{Slot}
+use Rattle.p25_packet_blocks.specs.declared.block.Slot.TheVariants.{Good, Bad}
+use Rattle.p25_packet_blocks.specs.declared.packet.Packet.{Packet}
+use Rattle.p25_packet_blocks.specs.declared.packet.Packet.TheVariants.{Confirmed, Plain}
+use Rattle.p25_packet_blocks.specs.ConfirmedParts.{ConfirmedParts}
+use Rattle.p25_packet_blocks.specs.Parts.{PlainParts}
+use Rattle.p25_packet_blocks.specs.Kinds.{IsConfirmed, IsPlain}
+use Rattle.p25_packet_blocks.specs.Heads.{head_blocks}
+
+-- numbers that are octets
+abbrev pub AreOctets : List ℕ → Type 0
+AreOctets numbers = All (λ number. number < 256) numbers
+
+-- what every header keeps
+pub record IsHead (head : PacketHead) : Type 0 where
+  pub long : length head.0 ≡ 10
+  pub small : AreOctets head.0
+
+-- what every block keeps
+pub record IsDataBlock (block : Block) : Type 0 where
+  pub serial_fits : block.serial < 128
+  pub long : length block.octets ≡ 16
+  pub small : AreOctets block.octets
+
+-- each of the first n slots is Good, and its block keeps what every block keeps
+pub record AreDataBlocks (slots : List Slot) (n : ℕ) : Type 0 where
+  pub at : (j : ℕ) → j < n → (block : Block) × (get_or slots j Bad ≡ Good block) × IsDataBlock block
+
+-- a confirmed packet that can be sent
+pub record IsSendableConfirmed (packet : ConfirmedParts) : Type 0 where
+  pub kind : IsConfirmed packet
+  pub head : IsHead packet.head
+  pub good : AreDataBlocks packet.slots (head_blocks packet.head)
+
+-- another packet that can be sent
+pub record IsSendablePlain (packet : PlainParts) : Type 0 where
+  pub kind : IsPlain packet
+  pub head : IsHead packet.head
+  pub small : AreOctets packet.octets
+
+-- a packet that can be sent
+unfoldable pub IsSendable : Packet → Type 0
+IsSendable (Confirmed packet) = IsSendableConfirmed packet
+IsSendable (Plain packet) = IsSendablePlain packet

@@ -1,0 +1,174 @@
+//! Units of packets written, without their status symbols.
+
+ghost use Rattle.std.specs.Prelude.{◌≡◌, ◌+◌, ◌*◌, ◌-◌, ◌<◌, ◌≤◌, ◌++◌, length, replicate, false, Ok};
+ghost use Rattle.p25_bits.specs.Numbers.{joined_below};
+ghost use Rattle.p25_front.specs.Front.{unit_front};
+ghost use Rattle.p25_trellis.specs.Nearest.{half_block, three_quarter_block};
+ghost use Rattle.p25_packet_blocks.specs.declared.packet.Packet.TheVariants.{Confirmed as confirmed_packet, Plain as plain_packet};
+ghost use Rattle.p25_packet_blocks.specs.Heads.{head_blocks};
+ghost use Rattle.p25_packet_blocks.specs.Whole.{packet_head, AreGood, IsWholePacket};
+ghost use Rattle.p25_packet_blocks.specs.Lengths.{packet_bits, packet_plain_length, packet_sent_length};
+ghost use Rattle.p25_packet_blocks.specs.Image.{header_octets, confirmed_octets, checked_octets, body_block, packet_nulls, packet_image_of};
+ghost use Rattle.p25_packet_blocks.specs.Sendable.{AreOctets, IsHead, IsDataBlock, IsSendableConfirmed, IsSendablePlain, IsSendable};
+
+use crate::block::{Block, Slot};
+use crate::head::PacketHead;
+use crate::octets::append;
+use crate::packet::{Confirmed, Packet, Plain};
+use arrayvec::ArrayVec;
+use p25_bch_nid::Nid;
+use p25_bits::BitBuf;
+use p25_crc::{crc9, crc16, crc32};
+use p25_front::put_front;
+use p25_trellis::{Half, ThreeQuarter, encode_block};
+
+// The data unit identifier of a packet.
+pub(crate) const PACKET_DUID: u8 = 12;
+
+/// Answers the length of the unit of a packet as it is sent, by the blocks to follow of its header: 112 bits, 196 for each
+/// block and the header block, filled to a multiple of 70, and two status bits for each 70.
+pub fn packet_length(head: &PacketHead) -> usize
+    ensures value { result ≡ packet_sent_length (head_blocks head.now) }
+    ensures least { 360 ≤ result }
+    ensures most { result ≤ 25920 }
+{
+    72 * parts(head)
+}
+
+// How many times 70 bits the unit of a packet fills.
+fn parts(head: &PacketHead) -> usize
+    ensures parts { 70 * result ≡ packet_plain_length (head_blocks head.now) }
+    ensures sent { 72 * result ≡ packet_sent_length (head_blocks head.now) }
+    ensures least { 5 ≤ result }
+    ensures most { result ≤ 360 }
+{
+    (112 + 196 * (1 + usize::from(head.blocks())) + 69) / 70
+}
+
+// Does nothing: its contract says that octets fit.
+fn fit(octets: &[u8])
+    ensures { AreOctets octets.now }
+{
+    let _ = octets.len();
+}
+
+// Appends the front of the unit of a packet.
+fn put_packet_front(nac: u16, out: &mut BitBuf)
+    requires nac { nac < 4096 }
+    requires room { length out.old + 112 ≤ 25928 }
+    ensures list { out.new ≡ out.old ++ unit_front nac 12 }
+    ensures len { length out.new ≡ length out.old + 112 }
+{
+    match Nid::new(nac, PACKET_DUID) {
+        Some(nid) => put_front(&nid, out),
+        None => unreachable!(),
+    }
+}
+
+// Appends the header block.
+fn put_header(head: &PacketHead, out: &mut BitBuf)
+    requires { length out.old + 196 ≤ 25928 }
+    ensures list { out.new ≡ out.old ++ half_block (header_octets head.now) }
+    ensures len { length out.new ≡ length out.old + 196 }
+    ensures head { IsHead head.now }
+{
+    fit(&head.0);
+    let mut octets: ArrayVec<u8, 12> = ArrayVec::new();
+    append(&mut octets, &head.0);
+    append(&mut octets, &crc16(&head.0).to_be_bytes());
+    encode_block::<Half>(octets.as_slice(), out);
+}
+
+// Appends a confirmed block.
+fn put_block(block: &Block, out: &mut BitBuf)
+    requires { length out.old + 196 ≤ 25928 }
+    ensures list { out.new ≡ out.old ++ three_quarter_block (confirmed_octets block.now) }
+    ensures len { length out.new ≡ length out.old + 196 }
+    ensures block { IsDataBlock block.now }
+{
+    let carried = block.octets();
+    fit(carried);
+    let first = 512 * u16::from(block.serial()) + crc9(block.serial(), carried);
+    let mut octets: ArrayVec<u8, 18> = ArrayVec::new();
+    append(&mut octets, &first.to_be_bytes());
+    append(&mut octets, carried);
+    encode_block::<ThreeQuarter>(octets.as_slice(), out);
+}
+
+// Appends the blocks to follow of a confirmed packet.
+fn put_confirmed(packet: &Confirmed, out: &mut BitBuf)
+    requires whole { AreGood packet.now.slots }
+    requires room { length out.old + 196 * head_blocks packet.now.head ≤ 25928 }
+    ensures list { out.new ≡ out.old ++ joined_below (head_blocks packet.now.head) (body_block (confirmed_packet packet.now)) }
+    ensures len { length out.new ≡ length out.old + 196 * head_blocks packet.now.head }
+    ensures blocks { IsHead packet.now.head → IsSendableConfirmed packet.now }
+{
+    let slots = packet.slots();
+    for j in 0..slots.len() {
+        match slots.get(j) {
+            Slot::Good(block) => put_block(&block, out),
+            Slot::Bad => unreachable!(),
+        }
+    }
+}
+
+// Appends the blocks to follow of another packet.
+fn put_plain(packet: &Plain, out: &mut BitBuf)
+    requires { length out.old + 196 * head_blocks packet.now.head ≤ 25928 }
+    ensures list { out.new ≡ out.old ++ joined_below (head_blocks packet.now.head) (body_block (plain_packet packet.now)) }
+    ensures len { length out.new ≡ length out.old + 196 * head_blocks packet.now.head }
+    ensures octets { IsHead packet.now.head → IsSendablePlain packet.now }
+{
+    let carried = packet.octets().octets();
+    fit(carried);
+    let mut octets: ArrayVec<u8, 1524> = ArrayVec::new();
+    append(&mut octets, carried);
+    append(&mut octets, &crc32(carried).to_be_bytes());
+    let octets = octets.as_slice();
+    for j in 0..usize::from(packet.head().blocks()) {
+        encode_block::<Half>(&octets[12 * j..12 * j + 12], out);
+    }
+}
+
+// Appends the blocks to follow of a packet.
+fn put_body(packet: &Packet, out: &mut BitBuf)
+    requires whole { IsWholePacket packet.now }
+    requires room { length out.old + 196 * head_blocks (packet_head packet.now) ≤ 25928 }
+    ensures list { out.new ≡ out.old ++ joined_below (head_blocks (packet_head packet.now)) (body_block packet.now) }
+    ensures len { length out.new ≡ length out.old + 196 * head_blocks (packet_head packet.now) }
+    ensures sendable { IsHead (packet_head packet.now) → IsSendable packet.now }
+{
+    match packet {
+        Packet::Confirmed(packet) => put_confirmed(packet, out),
+        Packet::Plain(packet) => put_plain(packet, out),
+    }
+}
+
+// Appends nulls.
+fn put_nulls(count: usize, out: &mut BitBuf)
+    requires { length out.old + count ≤ 25928 }
+    ensures list { out.new ≡ out.old ++ replicate count false }
+    ensures len { length out.new ≡ length out.old + count }
+{
+    for _null in 0..count {
+        out.push(false);
+    }
+}
+
+/// Sets `out` to the unit of a packet without status symbols, from its sync on: the front of DUID C with a network access
+/// code below 4,096, the header block, the blocks to follow in order, and nulls up to a multiple of 70 bits. No slot of the
+/// packet is Bad. TIA-102.BAAA, Packet Data.
+pub fn packet_image(nac: u16, packet: &Packet, out: &mut BitBuf)
+    requires nac { nac < 4096 }
+    requires whole { IsWholePacket packet.now }
+    ensures list { out.new ≡ packet_image_of nac packet.now }
+    ensures len { length out.new ≡ packet_plain_length (head_blocks (packet_head packet.now)) }
+    ensures sendable { IsSendable packet.now }
+{
+    let head = packet.head();
+    out.clear();
+    put_packet_front(nac, out);
+    put_header(&head, out);
+    put_body(packet, out);
+    put_nulls(70 * parts(&head) - out.len(), out);
+}

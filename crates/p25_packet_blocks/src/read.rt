@@ -1,0 +1,172 @@
+//! Units of packets read, without their status symbols.
+
+ghost use Rattle.std.specs.Prelude.{◌≡◌, ◌+◌, ◌*◌, ◌≤◌, ◌<◌, eqb, length, take, drop};
+ghost use Rattle.p25_bits.specs.Numbers.{octets_number};
+ghost use Rattle.p25_crc.specs.Values.{crc32_of};
+ghost use Rattle.p25_packet_blocks.specs.Heads.{head_format, head_blocks};
+ghost use Rattle.p25_packet_blocks.specs.Kinds.{IsPlainFormat};
+ghost use Rattle.p25_packet_blocks.specs.Reading.{head_from, head_reading_of, slot_from, slots_read, octets_read, plain_from, packet_of_head, packet_reading_of, HasItsLength};
+
+use crate::block::{Block, Slot};
+use crate::head::PacketHead;
+use crate::octets::Octets;
+use crate::packet::{Confirmed, Packet, Plain};
+use crate::slots::Slots;
+use p25_bits::BitBuf;
+use p25_crc::{crc9, crc16, crc32};
+use p25_status::Field;
+use p25_trellis::{Half, ThreeQuarter, read_block};
+
+// Where the header block begins.
+const HEADER_AT: usize = 112;
+
+// Where the blocks to follow begin.
+const BLOCKS_AT: usize = 308;
+
+// How many bits a block has.
+const BLOCK_LENGTH: usize = 196;
+
+// The header that the octets of a header block hold.
+pub(crate) fn head_in(octets: &[u8; 12]) -> Result<PacketHead, Field>
+    ensures { result ≡ head_from octets.now }
+{
+    let mut head = [0; 10];
+    head.copy_from_slice(&octets[..10]);
+    if u16::from_be_bytes([octets[10], octets[11]]) == crc16(&head) {
+        Ok(PacketHead(head))
+    } else {
+        Err(Field::PacketHeader)
+    }
+}
+
+/// Answers the header that the header block of a unit holds. `plain` has at least the 308 bits of the unit's front and its
+/// header block, without status symbols. PacketHeader comes exactly where the last two octets of the block are not the
+/// header CRC of the others. TIA-102.BAAA, Packet Data, Header Block.
+pub fn read_head(plain: &BitBuf) -> Result<PacketHead, Field>
+    requires { 308 ≤ length plain.now }
+    ensures { result ≡ head_reading_of plain.now }
+{
+    let mut octets = [0; 12];
+    read_block::<Half>(plain, HEADER_AT, &mut octets);
+    head_in(&octets)
+}
+
+// The slot that the octets of a confirmed block are.
+fn slot_in(octets: &[u8; 18]) -> Slot
+    ensures { result ≡ slot_from octets.now }
+{
+    let serial = octets[0] / 2;
+    let check = 256 * u16::from(octets[0] % 2) + u16::from(octets[1]);
+    let mut carried = [0; 16];
+    carried.copy_from_slice(&octets[2..]);
+    if check == crc9(serial, &carried) {
+        Slot::Good(Block::new(serial, carried))
+    } else {
+        Slot::Bad
+    }
+}
+
+// The slots of the blocks to follow of a confirmed packet.
+fn read_slots(plain: &BitBuf, blocks: usize) -> Slots
+    requires blocks { blocks ≤ 127 }
+    requires there { 308 + 196 * blocks ≤ length plain.now }
+    ensures list { result ≡ slots_read blocks plain.now }
+    ensures len { length result ≡ blocks }
+{
+    let mut slots = Slots::new();
+    let mut octets = [0; 18];
+    for j in 0..blocks {
+        read_block::<ThreeQuarter>(plain, BLOCKS_AT + BLOCK_LENGTH * j, &mut octets);
+        slots.push(slot_in(&octets));
+    }
+    slots
+}
+
+// Sets the octets to those of the blocks to follow at half rate.
+fn read_octets(plain: &BitBuf, blocks: usize, octets: &mut [u8])
+    requires blocks { blocks ≤ 127 }
+    requires octets { length octets.old ≡ 12 * blocks }
+    requires there { 308 + 196 * blocks ≤ length plain.now }
+    ensures { octets.new ≡ octets_read blocks plain.now }
+{
+    for j in 0..blocks {
+        read_block::<Half>(
+            plain,
+            BLOCKS_AT + BLOCK_LENGTH * j,
+            &mut octets[12 * j..12 * j + 12],
+        );
+    }
+}
+
+// Whether the last four octets are the packet CRC of the others.
+fn check_agrees(octets: &[u8], count: usize) -> bool
+    requires { length octets.now ≡ count + 4 }
+    ensures { result ≡ eqb (octets_number (drop count octets.now)) (crc32_of (take count octets.now)) }
+{
+    let check = [
+        octets[count],
+        octets[count + 1],
+        octets[count + 2],
+        octets[count + 3],
+    ];
+    u32::from_be_bytes(check) == crc32(&octets[..count])
+}
+
+// The packet of a header and of the octets of all its blocks.
+fn plain_in(head: PacketHead, octets: &[u8]) -> Result<Packet, Field>
+    requires format { IsPlainFormat (head_format head) }
+    requires octets { length octets.now ≡ 12 * head_blocks head }
+    ensures { result ≡ plain_from head octets.now }
+{
+    let blocks = usize::from(head.blocks());
+    let count = (12 * blocks).saturating_sub(4);
+    if blocks > 0 && !check_agrees(octets, count) {
+        return Err(Field::PacketCrc);
+    }
+    let mut carried = Octets::new();
+    carried.extend(&octets[..count]);
+    Ok(Packet::Plain(Plain::new(head, carried)))
+}
+
+// The packet of a header and the bits of its unit, where it is not confirmed.
+fn read_plain(head: PacketHead, plain: &BitBuf) -> Result<Packet, Field>
+    requires format { IsPlainFormat (head_format head) }
+    requires there { 308 + 196 * head_blocks head ≤ length plain.now }
+    ensures { result ≡ plain_from head (octets_read (head_blocks head) plain.now) }
+{
+    let blocks = usize::from(head.blocks());
+    let mut room = [0; 1524];
+    let octets = &mut room[..12 * blocks];
+    read_octets(plain, blocks, octets);
+    plain_in(head, octets)
+}
+
+/// Answers the packet of a header that was read and of its unit without status symbols, which has at least as many bits as
+/// the blocks to follow ask for. Format and PacketCrc come as in `read_packet`.
+pub fn read_packet_of_head(head: PacketHead, plain: &BitBuf) -> Result<Packet, Field>
+    requires { 308 + 196 * head_blocks head ≤ length plain.now }
+    ensures { result ≡ packet_of_head head plain.now }
+{
+    match head.format() {
+        0x16 => {
+            let slots = read_slots(plain, usize::from(head.blocks()));
+            Ok(Packet::Confirmed(Confirmed::new(head, slots)))
+        }
+        0x15 | 0x03 => read_plain(head, plain),
+        _ => Err(Field::Format),
+    }
+}
+
+/// Answers the packet that a unit holds. `plain` is the unit without status symbols, from its front on: it has at least 308
+/// bits, and where its header is read at least as many as the blocks to follow ask for. In this order PacketHeader comes
+/// exactly where the header CRC does not agree, Format exactly where the format is none of 16, 15 and 03 hex, and PacketCrc
+/// exactly where the format is 15 or 03 hex, there are blocks to follow and the packet CRC does not agree. The slot of a
+/// confirmed block is Bad exactly where its CRC-9 does not agree. TIA-102.BAAA, Packet Data.
+pub fn read_packet(plain: &BitBuf) -> Result<Packet, Field>
+    requires header { 308 ≤ length plain.now }
+    requires blocks { HasItsLength plain.now }
+    ensures { result ≡ packet_reading_of plain.now }
+{
+    let head = read_head(plain)?;
+    read_packet_of_head(head, plain)
+}

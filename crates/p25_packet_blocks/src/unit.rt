@@ -1,0 +1,80 @@
+//! Units of packets read as they are sent, with their status symbols.
+
+ghost use Rattle.std.specs.Prelude.{◌≡◌, ◌+◌, ◌*◌, ◌≤◌, length, drop};
+ghost use Rattle.p25_packet_blocks.specs.UnitReading.{sent_header_bits, sent_head_of, sent_packet_of, packet_unit_of};
+
+use crate::head::PacketHead;
+use crate::image::{PACKET_DUID, packet_length};
+use crate::packet::Packet;
+use crate::read::{head_in, read_packet_of_head};
+use p25_bits::BitBuf;
+use p25_front::read_identifier;
+use p25_status::{Field, Statuses, is_sync, unweave};
+use p25_trellis::{Half, read_block};
+
+// Sets `header` to the bits of the header block of the unit whose sent bits begin at a place.
+fn take_header(bits: &BitBuf, at: usize, header: &mut BitBuf)
+    requires { at + 316 ≤ length bits.now }
+    ensures list { header.new ≡ sent_header_bits (drop at bits.now) }
+    ensures len { length header.new ≡ 196 }
+{
+    // The number of bits held bounds every place below.
+    let _ = bits.len();
+    header.clear();
+    header.append(bits, at + 114, 28);
+    header.append(bits, at + 144, 70);
+    header.append(bits, at + 216, 70);
+    header.append(bits, at + 288, 28);
+}
+
+/// Answers the header of the packet whose unit as it is sent begins at place `at`. The 316 bits with its front and its header
+/// block are there. PacketHeader comes exactly where the last two octets of the block are not the header CRC of the others.
+/// TIA-102.BAAA, Packet Data, Header Block.
+pub fn read_sent_head(bits: &BitBuf, at: usize) -> Result<PacketHead, Field>
+    requires { at + 316 ≤ length bits.now }
+    ensures { result ≡ sent_head_of (drop at bits.now) }
+{
+    let mut header = BitBuf::new();
+    take_header(bits, at, &mut header);
+    let mut octets = [0; 12];
+    read_block::<Half>(&header, 0, &mut octets);
+    head_in(&octets)
+}
+
+// The packet of a unit as it is sent, from its header on.
+fn read_sent_packet(bits: &BitBuf) -> Result<Packet, Field>
+    requires { 316 ≤ length bits.now }
+    ensures { result ≡ sent_packet_of bits.now }
+{
+    let head = read_sent_head(bits, 0)?;
+    let len = packet_length(&head);
+    if bits.len() < len {
+        return Err(Field::Length);
+    }
+    let mut plain = BitBuf::new();
+    unweave(bits, 0, len, &mut plain, &mut Statuses::new());
+    read_packet_of_head(head, &plain)
+}
+
+/// Answers the network access code and the packet of the unit that begins at place 0, as it is sent, with its status symbols.
+/// There are at least 360 bits, as many as the shortest unit has; bits behind the unit are not looked at. In this order Sync
+/// comes exactly where more than four bits of the sync are wrong, Nid exactly where no identifier lies within 11 bits, Duid
+/// exactly where the DUID is not C, PacketHeader exactly where the header CRC does not agree, Length exactly where the header
+/// asks for more bits than there are, and Format and PacketCrc as in `read_packet`. TIA-102.BAAA, Packet Data.
+pub fn read_packet_unit(bits: &BitBuf) -> Result<(u16, Packet), Field>
+    requires { 360 ≤ length bits.now }
+    ensures { result ≡ packet_unit_of bits.now }
+{
+    if !is_sync(bits, 0) {
+        return Err(Field::Sync);
+    }
+    let nid = match read_identifier(bits, 0) {
+        Some(nid) => nid,
+        None => return Err(Field::Nid),
+    };
+    if nid.duid != PACKET_DUID {
+        return Err(Field::Duid);
+    }
+    let packet = read_sent_packet(bits)?;
+    Ok((nid.nac, packet))
+}

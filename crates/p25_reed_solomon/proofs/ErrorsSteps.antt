@@ -1,0 +1,148 @@
+-- The errors that a locator gives: any errors that explain the syndromes stand at its zeros and have the values that Forney's formula
+-- gives there; and values at its zeros with the right power sums explain the syndromes, since each mark is one of few zeros.
+use Rattle.std.proofs.Common.{◌≡◌, ◌≢◌, ℕ, zero, suc, ◌+◌, ◌*◌, ◌<◌, ◌≤◌, Bool, cond, List, length, take, get_or, inl, inr, ap, ap₂, sym, ◌∙◌, subst, arith}
+use Rattle.std.proofs.lemmas.Bool.{cases_eq, cases_lt, cases_Bool, cond-true, cond-false}
+use Rattle.std.proofs.lemmas.List.{get_or-take, length-take}
+use Rattle.p25_gf64.specs.declared.symbol.Sym.{Sym}
+use Rattle.p25_gf64.specs.Field.{power}
+use Rattle.p25_gf64.specs.Gf64.{gf64}
+use Rattle.p25_gf64.proofs.FieldFacts.{add_zero, mul_comm, mul_cancel}
+use Rattle.p25_algebra.specs.Sums.{sum_below, power_sum, nonzeros, weight_by}
+use Rattle.p25_algebra.specs.Series.{coefficient, value_at, slope_at}
+use Rattle.p25_algebra.proofs.SumFacts.{sum-none, sum-suc, sum_same}
+use Rattle.p25_algebra.proofs.Vanishing.{nonzeros-suc, weight_zero, weight_one}
+use Rattle.p25_algebra.proofs.Values.{value_same}
+use Rattle.p25_poly.proofs.Coefficients.{coefficient_past}
+use Rattle.p25_reed_solomon.specs.Errors.{element_of, point_of, is_marked, marks_below, unmarked, Explains, IsListed, AreZeros, placed}
+use Rattle.p25_reed_solomon.specs.Locator.{IsLocator}
+use Rattle.p25_reed_solomon.proofs.MarksLaws.{marks_below-none, marks_below-marked, marks_below-plain}
+use Rattle.p25_reed_solomon.proofs.LocatorLaws.{same_function}
+use Rattle.p25_reed_solomon.proofs.ErrorFacts.{at_place, elsewhere, power_sum-placed, placed-errors, nonzeros-placed, nonzeros_same, nonzeros-none}
+
+-- the parts of the lists that have the coefficients are a locator and its evaluator too
+pub part_is_locator : (n checks : ℕ) (syndromes : List Sym) (erased : List Bool) (most : ℕ) (locator evaluator : List Sym) → IsLocator n checks syndromes erased most (coefficient gf64 locator) (coefficient gf64 evaluator) → IsLocator n checks syndromes erased most (coefficient gf64 (take (most + 1) locator)) (coefficient gf64 (take most evaluator))
+part_is_locator n checks syndromes erased most locator evaluator is =
+    subst (λ f. IsLocator n checks syndromes erased most f (coefficient gf64 (take most evaluator))) (sym (same_function (coefficient gf64 (take (most + 1) locator)) (coefficient gf64 locator) part))
+    (record {
+      short = is.short;
+      nonzero = is.nonzero;
+      marked = is.marked;
+      wrong = is.wrong;
+      slope = is.slope;
+      value = λ errors explains j inside none.
+          is.value errors explains j inside none
+          ∙ value_same gf64 most (coefficient gf64 evaluator) (coefficient gf64 (take most evaluator)) (point_of n j) (λ k low. sym (get_or-take most evaluator k gf64.zero low));
+      found = is.found;
+    })
+  where
+    part : (k : ℕ) → coefficient gf64 (take (most + 1) locator) k ≡ coefficient gf64 locator k
+    part k =
+        elim (cases_lt k (most + 1)) [
+          | inl low ↦ get_or-take (most + 1) locator k gf64.zero low
+          | inr high ↦ coefficient_past gf64 (take (most + 1) locator) k (omega (arith, length-take (most + 1) locator)) ∙ sym (is.short.above k high)
+        ]
+
+-- where the sum of the values at a place is not zero, the place is listed
+listed_front : (places : List ℕ) (values : ℕ → Sym) (j count : ℕ) → count ≤ length places → sum_below gf64 count (at_place places values j) ≢ gf64.zero → IsListed places j
+listed_front places values j zero few some = absurd (some (sum-none gf64 (at_place places values j)))
+listed_front places values j (suc count) few some =
+    elim (cases_eq (get_or places count 0) j) [
+      | inl here ↦ record { index = count; inside = omega arith; there = here }
+      | inr other ↦
+          listed_front places values j count (omega arith)
+          (λ none. some (sum-suc gf64 count (at_place places values j) ∙ ap₂ gf64.add none (elsewhere places values j count other) ∙ add_zero gf64 gf64.zero))
+    ]
+
+pub placed_listed : (places : List ℕ) (values : ℕ → Sym) (j : ℕ) → placed places values j ≢ gf64.zero → IsListed places j
+placed_listed places values j some = listed_front places values j (length places) (omega arith) some
+
+-- errors that are zero but at listed places are no more than these
+nonzeros_listed : (n : ℕ) (places : List ℕ) (f : ℕ → Sym) → ((c d : ℕ) → c < d → d < length places → get_or places c 0 < get_or places d 0) → ((j : ℕ) → j < n → f j ≢ gf64.zero → IsListed places j) → nonzeros gf64 n f ≤ length places
+nonzeros_listed n places f rising listed =
+    omega (arith, nonzeros_same n f (placed places (λ c. f (get_or places c 0))) (λ j low. sym (placed-errors n places f j rising (listed j low))), nonzeros-placed n places (λ c. f (get_or places c 0)))
+
+-- a one at each marked place
+abbrev with_marks : List Bool → (ℕ → Sym) → ℕ → Sym
+with_marks erased errors j = cond (is_marked erased j) gf64.one (errors j)
+
+nonzeros-with_marks : (n : ℕ) (erased : List Bool) (errors : ℕ → Sym) → nonzeros gf64 n (with_marks erased errors) ≡ nonzeros gf64 n (unmarked erased errors) + marks_below erased n
+nonzeros-with_marks zero erased errors = omega (arith, nonzeros-none (with_marks erased errors), nonzeros-none (unmarked erased errors), marks_below-none erased)
+nonzeros-with_marks (suc n) erased errors =
+    elim (cases_Bool (is_marked erased n)) [
+      | inl here ↦
+          omega (
+            arith,
+            nonzeros-with_marks n erased errors,
+            nonzeros-suc gf64 n (with_marks erased errors),
+            nonzeros-suc gf64 n (unmarked erased errors),
+            marks_below-marked erased n here,
+            weight_one gf64 (with_marks erased errors n) (λ none. gf64.laws.one_ne_zero (sym (cond-true (is_marked erased n) gf64.one (errors n) here) ∙ none)),
+            weight_zero gf64 (unmarked erased errors n) (cond-true (is_marked erased n) gf64.zero (errors n) here),
+          )
+      | inr plain ↦
+          let same : with_marks erased errors n ≡ unmarked erased errors n = cond-false (is_marked erased n) gf64.one (errors n) plain ∙ sym (cond-false (is_marked erased n) gf64.zero (errors n) plain) in
+          omega (
+            arith,
+            nonzeros-with_marks n erased errors,
+            nonzeros-suc gf64 n (with_marks erased errors),
+            nonzeros-suc gf64 n (unmarked erased errors),
+            marks_below-plain erased n plain,
+            ap {B = ℕ} (λ (s : Sym). weight_by (gf64.is_zero s)) same,
+          )
+    ]
+
+module _ (n checks most : ℕ) (syndromes locator evaluator : List Sym) (erased : List Bool) (places : List ℕ) (long : length locator ≡ most + 1) (high : length evaluator ≡ most) (is : IsLocator n checks syndromes erased most (coefficient gf64 locator) (coefficient gf64 evaluator)) (are : AreZeros n locator n places) where
+  at : (j : ℕ) → value_at gf64 (most + 1) (coefficient gf64 locator) (point_of n j) ≡ gf64.zero → value_at gf64 (length locator) (coefficient gf64 locator) (point_of n j) ≡ gf64.zero
+  at j none = ap (λ m. value_at gf64 m (coefficient gf64 locator) (point_of n j)) long ∙ none
+
+  from : (j : ℕ) → value_at gf64 (length locator) (coefficient gf64 locator) (point_of n j) ≡ gf64.zero → value_at gf64 (most + 1) (coefficient gf64 locator) (point_of n j) ≡ gf64.zero
+  from j none = ap (λ m. value_at gf64 m (coefficient gf64 locator) (point_of n j)) (sym long) ∙ none
+
+  -- a wrong place is listed
+  pub wrong_is_listed : (errors : ℕ → Sym) → Explains n checks syndromes erased errors → (j : ℕ) → j < n → errors j ≢ gf64.zero → IsListed places j
+  wrong_is_listed errors explains j inside other = are.all j inside (at j (is.wrong errors explains j inside other))
+
+  -- the values of errors that explain the syndromes
+  pub value_is_error : (errors : ℕ → Sym) → Explains n checks syndromes erased errors → (values : ℕ → Sym)
+      → ((c : ℕ) → c < length places → slope_at gf64 (length locator) (coefficient gf64 locator) (point_of n (get_or places c 0)) ≢ gf64.zero
+      → gf64.mul (values c) (slope_at gf64 (length locator) (coefficient gf64 locator) (point_of n (get_or places c 0))) ≡ value_at gf64 (length evaluator) (coefficient gf64 evaluator) (point_of n (get_or places c 0)))
+      → (c : ℕ) → c < length places → values c ≡ errors (get_or places c 0)
+  value_is_error errors explains values forney c low =
+      let j = get_or places c 0 in
+      let here = from j (are.zeros c low) in
+      let size = ap (λ m. slope_at gf64 m (coefficient gf64 locator) (point_of n j)) long in
+      let live = is.slope errors explains j (are.below c low) here in
+      mul_cancel gf64 (slope_at gf64 (most + 1) (coefficient gf64 locator) (point_of n j)) (values c) (errors j) live
+      (mul_comm gf64 (slope_at gf64 (most + 1) (coefficient gf64 locator) (point_of n j)) (values c)
+      ∙ ap (gf64.mul (values c)) (sym size)
+      ∙ forney c low (λ none. live (sym size ∙ none))
+      ∙ ap (λ m. value_at gf64 m (coefficient gf64 evaluator) (point_of n j)) high
+      ∙ sym (is.value errors explains j (are.below c low) here)
+      ∙ mul_comm gf64 (errors j) (slope_at gf64 (most + 1) (coefficient gf64 locator) (point_of n j)))
+
+  -- have the syndromes as their power sums
+  pub sums_of_errors : (errors : ℕ → Sym) → Explains n checks syndromes erased errors → (values : ℕ → Sym) → ((c : ℕ) → c < length places → values c ≡ errors (get_or places c 0))
+      → (r : ℕ) → r < checks → power_sum gf64 (length places) (λ c. element_of n (get_or places c 0)) values (r + 1) ≡ coefficient gf64 syndromes r
+  sums_of_errors errors explains values same r low =
+      sum_same gf64 (length places) _ _ (λ c within. ap (λ v. gf64.mul v (power gf64 (element_of n (get_or places c 0)) (r + 1))) (same c within))
+      ∙ sym (power_sum-placed n places (λ c. errors (get_or places c 0)) (r + 1) are.below)
+      ∙ sum_same gf64 n _ _ (λ j within. ap (λ (s : Sym). gf64.mul s (power gf64 (element_of n j) (r + 1))) (placed-errors n places errors j are.rising (wrong_is_listed errors explains j within)))
+      ∙ explains.sums r low
+
+  -- values at the zeros with these power sums explain the syndromes
+  pub placed_explains : (values out : ℕ → Sym) → 2 * most ≤ checks + marks_below erased n → length places < length locator
+      → ((r : ℕ) → r < checks → power_sum gf64 (length places) (λ c. element_of n (get_or places c 0)) values (r + 1) ≡ coefficient gf64 syndromes r) → ((j : ℕ) → j < n → out j ≡ placed places values j) → Explains n checks syndromes erased out
+  placed_explains values out bound few sums same = record {
+    few = omega (arith, nonzeros-with_marks n erased out, nonzeros_listed n places (with_marks erased out) are.rising listed, long);
+    sums = λ r below.
+        sum_same gf64 n _ _ (λ j within. ap (λ (s : Sym). gf64.mul s (power gf64 (element_of n j) (r + 1))) (same j within))
+        ∙ power_sum-placed n places values (r + 1) are.below
+        ∙ sums r below;
+  }
+    where
+      listed : (j : ℕ) → j < n → with_marks erased out j ≢ gf64.zero → IsListed places j
+      listed j inside some =
+          elim (cases_Bool (is_marked erased j)) [
+            | inl here ↦ are.all j inside (at j (is.marked j inside here))
+            | inr plain ↦ placed_listed places values j (λ none. some (cond-false (is_marked erased j) gf64.one (out j) plain ∙ same j inside ∙ none))
+          ]

@@ -1,0 +1,287 @@
+-- A solution of the key equation of the lowered syndromes, times a factor for each mark, is a locator. The wrong places without a mark
+-- are zeros of the key's locator; its zeros have slopes, since key and evaluator have no zero in common; and a factor more keeps the
+-- slopes of old zeros and makes a new zero with a slope.
+use Rattle.std.proofs.Common.{◌≡◌, ◌≢◌, ℕ, zero, suc, ◌+◌, ◌-◌, ◌*◌, ◌/◌, ◌<◌, ◌≤◌, Bool, true, false, List, length, take, drop, sym, ap, ap₂, ◌∙◌, subst, inl, inr, arith}
+use Rattle.std.proofs.lemmas.Bool.{cases_eq, cases_lt, cases_Bool, both_ways}
+use Rattle.std.proofs.lemmas.List.{get_or-take, get_or-drop, length-take, length-drop}
+use Rattle.p25_gf64.specs.declared.symbol.Sym.{Sym}
+use Rattle.p25_gf64.specs.Field.{power}
+use Rattle.p25_gf64.specs.Gf64.{gf64}
+use Rattle.p25_gf64.proofs.Powers.{power-zero}
+use Rattle.p25_gf64.proofs.FieldFacts.{add_comm, zero_add, mul_comm, mul_one, mul_zero, zero_mul, mul_ne_zero, other_zero, inverse_ne_zero}
+use Rattle.p25_algebra.specs.Sums.{power_sum, nonzeros}
+use Rattle.p25_algebra.specs.Series.{coefficient, value_at, product_at, shifted, slope_at, IsZero, IsShort}
+use Rattle.p25_algebra.proofs.SumFacts.{sum_of_one}
+use Rattle.p25_algebra.proofs.Values.{value-none, value_same}
+use Rattle.p25_algebra.proofs.Products.{product_agree, product_same, product_same_left, product_comm, product_first, product_at_zero}
+use Rattle.p25_algebra.proofs.ProductValues.{value_longer}
+use Rattle.p25_algebra.proofs.Quotients.{shifted-first, shifted-next, slope-kept, slope-new}
+use Rattle.p25_algebra.proofs.Locators.{locator_vanishes}
+use Rattle.p25_algebra.proofs.ForneyLaws.{forney}
+use Rattle.p25_poly.specs.declared.polynomial.Poly.{Poly}
+use Rattle.p25_poly.specs.Polynomial.{coefficient_of}
+use Rattle.p25_poly.specs.Key.{IsKey}
+use Rattle.p25_poly.proofs.Coefficients.{coefficient_past}
+use Rattle.p25_reed_solomon.specs.ElementFacts.{elements_apart, element_ne_zero}
+use Rattle.p25_reed_solomon.specs.Errors.{element_of, point_of, is_marked, marks_below, Explains}
+use Rattle.p25_reed_solomon.specs.Locator.{times_marks, IsLocator}
+use Rattle.p25_reed_solomon.proofs.MarksLaws.{marks_below-none, marks_below-marked, marks_below-plain, times_marks-none, times_marks-marked, times_marks-plain, short_times_marks, zero_from_times_marks, product-times_marks, point_inverse, factor_ne_zero, value-times_marks, value-times_plain, zero_stays, mark_vanishes, lowered_by, lowered_sums, lowered_zero, lowered_gone, lowered_kept, nonzeros-lowered}
+
+point_ne_zero : (n j : ℕ) → point_of n j ≢ gf64.zero
+point_ne_zero n j = inverse_ne_zero gf64 (element_of n j) (element_ne_zero n j)
+
+-- functions of equal values are equal
+pub same_function : (f g : ℕ → Sym) → ((i : ℕ) → f i ≡ g i) → f ≡ g
+same_function f g e = λ i k. e k i
+
+-- the first 32 coefficients of a short polynomial are all
+pub front_everywhere : (m : ℕ) (f : ℕ → Sym) (out : List Sym) → length out ≡ 32 → IsShort gf64 m f → m ≤ 32 → ((k : ℕ) → k < 32 → coefficient gf64 out k ≡ f k) → (k : ℕ) → coefficient gf64 out k ≡ f k
+front_everywhere m f out full short low is k =
+    elim (cases_lt k 32) [ inl below ↦ is k below | inr above ↦ coefficient_past gf64 out k (omega arith) ∙ sym (short.above k (omega arith)) ]
+
+-- a part of a list
+pub part_read : (symbols : List Sym) (from count r : ℕ) → r < count → coefficient gf64 (take count (drop from symbols)) r ≡ coefficient gf64 symbols (from + r)
+part_read symbols from count r low = get_or-take count (drop from symbols) r gf64.zero low ∙ get_or-drop from symbols r gf64.zero
+
+-- without symbols the solution of the key equation is 1
+pub key_of_none : (symbols : List Sym) (locator evaluator : Poly) → length symbols ≡ 0 → coefficient_of locator 0 ≡ gf64.one → ((k : ℕ) → 1 ≤ k → coefficient_of locator k ≡ gf64.zero) → IsZero gf64 (coefficient_of evaluator) → IsKey symbols locator evaluator
+key_of_none symbols locator evaluator none one others zeros = record {
+  nonzero = λ all. gf64.laws.one_ne_zero (sym one ∙ all 0);
+  locator_degree = record { above = λ i high. others i (omega (arith, none)) };
+  evaluator_degree = record { above = λ i high. zeros i };
+  equation = λ i low. absurd (omega arith);
+  apart = λ x live there also.
+      gf64.laws.one_ne_zero (
+      sym one
+      ∙ sym (mul_one gf64 (coefficient_of locator 0))
+      ∙ ap (gf64.mul (coefficient_of locator 0)) (sym (power-zero gf64 x))
+      ∙ sym (sum_of_one gf64 64 0 (λ i. gf64.mul (coefficient_of locator i) (power gf64 x i)) (omega arith) (λ i low other. ap (λ w. gf64.mul w (power gf64 x i)) (others i (omega arith)) ∙ zero_mul gf64 (power gf64 x i)))
+      ∙ there);
+}
+
+-- one coefficient of the lowered syndromes more
+pub evaluator_step : (i most : ℕ) (f t old new : ℕ → Sym) (factor : Sym) → most ≤ 32 → factor ≡ t i → ((k : ℕ) → k < 32 → new k ≡ gf64.add (shifted gf64 1 old k) (gf64.mul factor (f k)))
+    → ((k : ℕ) → k + suc i < most → old k ≡ product_at gf64 f (λ r. t (suc i + r)) k) → (k : ℕ) → k + i < most → new k ≡ product_at gf64 f (λ r. t (i + r)) k
+evaluator_step i most f t old new factor few is added before zero low =
+    let first : i + 0 ≡ i = omega arith in
+    added 0 (omega arith)
+    ∙ ap₂ gf64.add (shifted-first gf64 old) (mul_comm gf64 factor (f 0) ∙ ap (gf64.mul (f 0)) (is ∙ ap t (sym first)))
+    ∙ zero_add gf64 (gf64.mul (f 0) (t (i + 0)))
+    ∙ sym (product_at_zero gf64 f (λ r. t (i + r)))
+evaluator_step i most f t old new factor few is added before (suc k) low =
+    let first : i + 0 ≡ i = omega arith in
+    added (suc k) (omega arith)
+    ∙ add_comm gf64 (shifted gf64 1 old (suc k)) (gf64.mul factor (f (suc k)))
+    ∙ ap₂ gf64.add (ap (λ w. gf64.mul w (f (suc k))) (is ∙ ap t (sym first)))
+    (shifted-next gf64 old k ∙ before k (omega arith) ∙ product_same gf64 f (λ r. t (suc i + r)) (λ r. t (i + suc r)) (λ r. ap t (next r)) k ∙ product_comm gf64 f (λ r. t (i + suc r)) k)
+    ∙ sym (product_comm gf64 f (λ r. t (i + r)) (suc k) ∙ product_first gf64 (λ r. t (i + r)) f k)
+  where
+    next : (r : ℕ) → suc i + r ≡ i + suc r
+    next r = omega arith
+
+module _ (n checks half : ℕ) (syndromes symbols : List Sym) (erased : List Bool) (locator evaluator : Poly) (places : n ≤ 63) (few : checks ≤ 22) (some : 1 ≤ half + marks_below erased n) (fits : marks_below erased n + 2 * half ≤ checks)
+    (all : checks ≤ marks_below erased n + 2 * half + 1) (long : length symbols ≡ 2 * half) (is : (r : ℕ) → r < 2 * half → coefficient gf64 symbols r ≡ times_marks n erased n (coefficient gf64 syndromes) (marks_below erased n + r)) (key : IsKey symbols locator evaluator) where
+  halved : length symbols / 2 ≡ half
+  halved = omega (arith, long)
+
+  pub key_short : IsShort gf64 (half + 1) (coefficient_of locator)
+  key_short = rw halved at key.locator_degree
+
+  evaluator_short : IsShort gf64 half (coefficient_of evaluator)
+  evaluator_short = rw halved at key.evaluator_degree
+
+  -- the key's locator and the evaluator have no zero in common
+  apart : (z : Sym) → z ≢ gf64.zero → value_at gf64 (half + 1) (coefficient_of locator) z ≡ gf64.zero → value_at gf64 half (coefficient_of evaluator) z ≢ gf64.zero
+  apart z live none also =
+      key.apart z live (value_longer gf64 (half + 1) 64 (coefficient_of locator) z (omega (arith, fits, few)) key_short ∙ none) (value_longer gf64 half 64 (coefficient_of evaluator) z (omega (arith, fits, few)) evaluator_short ∙ also)
+
+  -- ---- errors that explain the syndromes
+
+  module _ (errors : ℕ → Sym) (explains : Explains n checks syndromes erased errors) where
+    left : ℕ → Sym
+    left = lowered_by n erased n errors
+
+    few_left : nonzeros gf64 n left ≤ half
+    unfolding left
+    few_left = omega (arith, nonzeros-lowered n erased errors, explains.few, all)
+
+    sums_left : (i : ℕ) → i < 2 * half → coefficient gf64 symbols i ≡ power_sum gf64 n (element_of n) left (i + 1)
+    unfolding left
+    sums_left i low = is i low ∙ sym (lowered_sums n erased checks (coefficient gf64 syndromes) errors explains.sums n i (omega (arith, fits)))
+
+    key_vanishes : (l : ℕ) → l < n → left l ≢ gf64.zero → value_at gf64 (half + 1) (coefficient_of locator) (point_of n l) ≡ gf64.zero
+    key_vanishes l inside other =
+        locator_vanishes gf64 n half (element_of n) left (coefficient_of locator) (coefficient gf64 symbols) (elements_apart n places) (λ j h. element_ne_zero n j) few_left key_short sums_left
+        (λ i low high. key.equation i (omega (arith, long)) ∙ evaluator_short.above i low) l inside other
+
+    -- a zero of the key's locator is a wrong place without a mark, and has a slope
+    key_zero : (j : ℕ) → j < n → value_at gf64 (half + 1) (coefficient_of locator) (point_of n j) ≡ gf64.zero → (left j ≢ gf64.zero) × (slope_at gf64 (half + 1) (coefficient_of locator) (point_of n j) ≢ gf64.zero)
+    key_zero j inside none =
+        elim (cases_eq half 0) [
+          | inl nothing ↦ absurd (apart (point_of n j) (point_ne_zero n j) none (ap (λ m. value_at gf64 m (coefficient_of evaluator) (point_of n j)) nothing ∙ value-none gf64 (coefficient_of evaluator) (point_of n j)))
+          | inr something ↦
+              let slope = slope_at gf64 (half + 1) (coefficient_of locator) (point_of n j) in
+              let product = forney gf64 n half (element_of n) left (coefficient_of locator) (coefficient gf64 symbols) (omega arith) (elements_apart n places) (λ l h. element_ne_zero n l) key_short (λ i low. sums_left i (omega arith)) key_vanishes j inside none in
+              let value = value_same gf64 half (product_at gf64 (coefficient_of locator) (coefficient gf64 symbols)) (coefficient_of evaluator) (point_of n j) (λ i low. key.equation i (omega (arith, long))) in (
+                (λ gone. apart (point_of n j) (point_ne_zero n j) none (sym value ∙ sym product ∙ ap (λ w. gf64.mul w slope) gone ∙ zero_mul gf64 slope)),
+                (λ flat. apart (point_of n j) (point_ne_zero n j) none (sym value ∙ sym product ∙ ap (gf64.mul (left j)) flat ∙ mul_zero gf64 (left j))),
+              )
+        ]
+
+    -- a marked place is no zero before its factor
+    free : (upto : ℕ) → upto ≤ n → (j : ℕ) → j < n → is_marked erased j ≡ true → upto ≤ j → value_at gf64 (half + 1 + marks_below erased upto) (times_marks n erased upto (coefficient_of locator)) (point_of n j) ≢ gf64.zero
+    unfolding left
+    free zero within j inside marked later none =
+        let e : half + 1 + marks_below erased 0 ≡ half + 1 = omega (arith, marks_below-none erased) in
+        (key_zero j inside (sym (ap₂ (λ k g. value_at gf64 k g (point_of n j)) e (times_marks-none n erased (coefficient_of locator))) ∙ none)).0 (lowered_gone n erased n errors j inside marked)
+    free (suc i) within j inside marked later none =
+        elim (cases_Bool (is_marked erased i)) [
+          | inl here ↦
+              mul_ne_zero gf64 _ _ (factor_ne_zero n erased i j places (omega arith) inside (λ e. omega arith)) (free i (omega arith) j inside marked (omega arith))
+              (sym (value-times_marks n erased (half + 1) i (coefficient_of locator) (point_of n j) key_short here) ∙ none)
+          | inr plain ↦ free i (omega arith) j inside marked (omega arith) (sym (value-times_plain n erased (half + 1) i (coefficient_of locator) (point_of n j) plain) ∙ none)
+        ]
+
+    -- each zero has a slope
+    simple : (upto : ℕ) → upto ≤ n → (j : ℕ) → j < n → value_at gf64 (half + 1 + marks_below erased upto) (times_marks n erased upto (coefficient_of locator)) (point_of n j) ≡ gf64.zero
+        → slope_at gf64 (half + 1 + marks_below erased upto) (times_marks n erased upto (coefficient_of locator)) (point_of n j) ≢ gf64.zero
+    simple zero within j inside none flat =
+        let e : half + 1 + marks_below erased 0 ≡ half + 1 = omega (arith, marks_below-none erased) in
+        (key_zero j inside (sym (ap₂ (λ k g. value_at gf64 k g (point_of n j)) e (times_marks-none n erased (coefficient_of locator))) ∙ none)).1
+        (sym (ap₂ (λ k g. slope_at gf64 k g (point_of n j)) e (times_marks-none n erased (coefficient_of locator))) ∙ flat)
+    simple (suc i) within j inside none flat =
+        let before : ℕ → Sym = times_marks n erased i (coefficient_of locator) in
+        let size : ℕ = half + 1 + marks_below erased i in
+        let z : Sym = point_of n j in
+        let short = short_times_marks n erased (half + 1) i (coefficient_of locator) key_short in
+        elim (cases_Bool (is_marked erased i)) [
+          | inl here ↦
+              let e : half + 1 + marks_below erased (suc i) ≡ suc size = omega (arith, marks_below-marked erased i here) in
+              let flat_there = sym (ap₂ (λ k g. slope_at gf64 k g z) e (times_marks-marked n erased i (coefficient_of locator) here)) ∙ flat in
+              elim (cases_eq i j) [
+                | inl same ↦
+                    mul_ne_zero gf64 (element_of n i) (value_at gf64 size before z) (element_ne_zero n i)
+                    (free i (omega arith) j inside (ap (is_marked erased) (sym same) ∙ here) (omega arith))
+                    (sym (slope-new gf64 size (element_of n i) before z short (ap (λ k. gf64.mul (element_of n k) z) same ∙ point_inverse n erased j)) ∙ flat_there)
+                | inr other ↦
+                    let factor = factor_ne_zero n erased i j places (omega arith) inside other in
+                    let was = other_zero gf64 _ (value_at gf64 size before z) factor (sym (value-times_marks n erased (half + 1) i (coefficient_of locator) z key_short here) ∙ none) in
+                    mul_ne_zero gf64 _ (slope_at gf64 size before z) factor (simple i (omega arith) j inside was)
+                    (sym (slope-kept gf64 size (element_of n i) before z (omega arith) short was) ∙ flat_there)
+              ]
+          | inr plain ↦
+              simple i (omega arith) j inside (sym (value-times_plain n erased (half + 1) i (coefficient_of locator) z plain) ∙ none)
+              (sym (ap₂ (λ k g. slope_at gf64 (half + 1 + k) g z) (marks_below-plain erased i plain) (times_marks-plain n erased i (coefficient_of locator) plain)) ∙ flat)
+        ]
+
+    -- wrong places are zeros
+    wrong : (j : ℕ) → j < n → errors j ≢ gf64.zero → value_at gf64 (half + 1 + marks_below erased n) (times_marks n erased n (coefficient_of locator)) (point_of n j) ≡ gf64.zero
+    unfolding left
+    wrong j inside other =
+        elim (cases_Bool (is_marked erased j)) [
+          | inl here ↦ mark_vanishes n erased (half + 1) n (coefficient_of locator) j key_short inside here
+          | inr plain ↦ zero_stays n erased (half + 1) n (coefficient_of locator) (point_of n j) key_short (key_vanishes j inside (lowered_kept n erased n errors j places (omega arith) inside plain other))
+        ]
+
+    -- a zero without a mark is wrong
+    zero_is_wrong : (upto : ℕ) → upto ≤ n → (j : ℕ) → j < n → is_marked erased j ≡ false → value_at gf64 (half + 1 + marks_below erased upto) (times_marks n erased upto (coefficient_of locator)) (point_of n j) ≡ gf64.zero → errors j ≢ gf64.zero
+    unfolding left
+    zero_is_wrong zero within j inside plain none right =
+        let e : half + 1 + marks_below erased 0 ≡ half + 1 = omega (arith, marks_below-none erased) in
+        (key_zero j inside (sym (ap₂ (λ k g. value_at gf64 k g (point_of n j)) e (times_marks-none n erased (coefficient_of locator))) ∙ none)).0 (lowered_zero n erased n errors j right)
+    zero_is_wrong (suc i) within j inside plain none right =
+        elim (cases_Bool (is_marked erased i)) [
+          | inl here ↦
+              zero_is_wrong i (omega arith) j inside plain
+              (other_zero gf64 _ _ (factor_ne_zero n erased i j places (omega arith) inside (λ e. both_ways (is_marked erased j) plain (ap (is_marked erased) (sym e) ∙ here)))
+              (sym (value-times_marks n erased (half + 1) i (coefficient_of locator) (point_of n j) key_short here) ∙ none)) right
+          | inr other ↦ zero_is_wrong i (omega arith) j inside plain (sym (value-times_plain n erased (half + 1) i (coefficient_of locator) (point_of n j) other) ∙ none) right
+        ]
+
+    -- the error at a zero
+    error_there : (e : ℕ → Sym) → ((k : ℕ) → k < half + marks_below erased n → e k ≡ product_at gf64 (coefficient_of locator) (times_marks n erased n (coefficient gf64 syndromes)) k) → (j : ℕ) → j < n
+        → value_at gf64 (half + marks_below erased n + 1) (times_marks n erased n (coefficient_of locator)) (point_of n j) ≡ gf64.zero
+        → gf64.mul (errors j) (slope_at gf64 (half + marks_below erased n + 1) (times_marks n erased n (coefficient_of locator)) (point_of n j)) ≡ value_at gf64 (half + marks_below erased n) e (point_of n j)
+    error_there e is_product j inside none =
+        let most : ℕ = half + marks_below erased n in
+        let size : half + 1 + marks_below erased n ≡ most + 1 = omega arith in
+        let f : ℕ → Sym = times_marks n erased n (coefficient_of locator) in
+        forney gf64 n most (element_of n) errors f (coefficient gf64 syndromes) some (elements_apart n places) (λ l h. element_ne_zero n l) (rw size at (short_times_marks n erased (half + 1) n (coefficient_of locator) key_short))
+        (λ i low. sym (explains.sums i (omega (arith, fits)))) (λ l low other. ap (λ k. value_at gf64 k f (point_of n l)) (sym size) ∙ wrong l low other) j inside none
+        ∙ value_same gf64 most (product_at gf64 f (coefficient gf64 syndromes)) e (point_of n j) (λ k low. product-times_marks n erased n (coefficient_of locator) (coefficient gf64 syndromes) k ∙ sym (is_product k low))
+
+  -- the product with the factors of the marks is a locator
+  pub key_is_locator : (f e : ℕ → Sym) → ((k : ℕ) → f k ≡ times_marks n erased n (coefficient_of locator) k) → ((k : ℕ) → k < half + marks_below erased n → e k ≡ product_at gf64 (coefficient_of locator) (times_marks n erased n (coefficient gf64 syndromes)) k)
+      → IsLocator n checks syndromes erased (half + marks_below erased n) f e
+  key_is_locator f e is_f is_e =
+      rw (same_function f (times_marks n erased n (coefficient_of locator)) is_f)
+      (record {
+        short = rw size at (short_times_marks n erased (half + 1) n (coefficient_of locator) key_short);
+        nonzero = λ none. key.nonzero (zero_from_times_marks n erased n (coefficient_of locator) none);
+        marked = λ j inside here. sized j ∙ mark_vanishes n erased (half + 1) n (coefficient_of locator) j key_short inside here;
+        wrong = λ errors explains j inside other. sized j ∙ wrong errors explains j inside other;
+        slope = λ errors explains j inside none flat. simple errors explains n (omega arith) j inside (sym (sized j) ∙ none) (ap (λ k. slope_at gf64 k (times_marks n erased n (coefficient_of locator)) (point_of n j)) size ∙ flat);
+        value = λ errors explains j inside none. error_there errors explains e is_e j inside none;
+        found = λ errors explains j inside plain none. zero_is_wrong errors explains n (omega arith) j inside plain (sym (sized j) ∙ none);
+      })
+    where
+      size : half + 1 + marks_below erased n ≡ half + marks_below erased n + 1
+      size = omega arith
+
+      sized : (j : ℕ) → value_at gf64 (half + marks_below erased n + 1) (times_marks n erased n (coefficient_of locator)) (point_of n j) ≡ value_at gf64 (half + 1 + marks_below erased n) (times_marks n erased n (coefficient_of locator)) (point_of n j)
+      sized j = ap (λ k. value_at gf64 k (times_marks n erased n (coefficient_of locator)) (point_of n j)) (sym size)
+
+  -- before any coefficient of the lowered syndromes is added, the evaluator is that of the key
+  pub evaluator_first : (e : ℕ → Sym) → ((k : ℕ) → k < 32 → e k ≡ coefficient_of evaluator k) → (k : ℕ) → k + marks_below erased n < half + marks_below erased n → e k ≡ product_at gf64 (coefficient_of locator) (λ r. times_marks n erased n (coefficient gf64 syndromes) (marks_below erased n + r)) k
+  evaluator_first e is_e k low =
+      is_e k (omega (arith, fits, few))
+      ∙ sym (key.equation k (omega (arith, long)))
+      ∙ product_agree gf64 (coefficient_of locator) (coefficient gf64 symbols) (λ r. times_marks n erased n (coefficient gf64 syndromes) (marks_below erased n + r)) k (λ i within. is i (omega arith))
+
+-- ---- the locator as the code has it: lists of 32 coefficients
+
+module _ (n checks marks half : ℕ) (syndromes lowered front : List Sym) (erased : List Bool) (locator evaluator : Poly) (places : n ≤ 63) (is_marks : marks ≡ marks_below erased n) (within : marks ≤ checks) (some : 2 ≤ checks) (few : checks ≤ 22) (is_half : half ≡ (checks - marks) / 2) (lowered_full : length lowered ≡ 32)
+    (is_lowered : (k : ℕ) → k < 32 → coefficient gf64 lowered k ≡ times_marks n erased n (coefficient gf64 syndromes) k) (key : IsKey (take (marks + 2 * half - marks) (drop marks lowered)) locator evaluator) (front_full : length front ≡ 32) (is_front : (k : ℕ) → k < 32 → coefficient gf64 front k ≡ coefficient_of locator k) where
+  symbols : List Sym
+  symbols = take (marks + 2 * half - marks) (drop marks lowered)
+
+  long : length symbols ≡ 2 * half
+  unfolding symbols
+  long = omega (arith, length-take (marks + 2 * half - marks) (drop marks lowered), length-drop marks lowered)
+
+  is : (r : ℕ) → r < 2 * half → coefficient gf64 symbols r ≡ times_marks n erased n (coefficient gf64 syndromes) (marks_below erased n + r)
+  unfolding symbols
+  is r low =
+      part_read lowered marks (marks + 2 * half - marks) r (omega arith)
+      ∙ is_lowered (marks + r) (omega arith)
+      ∙ ap (λ m. times_marks n erased n (coefficient gf64 syndromes) (m + r)) is_marks
+
+  short : IsShort gf64 (half + 1) (coefficient_of locator)
+  unfolding symbols
+  short = key_short n checks half syndromes symbols erased locator evaluator places few (omega arith) (omega arith) (omega arith) long is key
+
+  front_is : (k : ℕ) → coefficient gf64 front k ≡ coefficient_of locator k
+  front_is = front_everywhere (half + 1) (coefficient_of locator) front front_full short (omega arith) is_front
+
+  pub located_first : (e : List Sym) → ((k : ℕ) → k < 32 → coefficient gf64 e k ≡ coefficient_of evaluator k) → (k : ℕ) → k + marks < half + marks → coefficient gf64 e k ≡ product_at gf64 (coefficient gf64 front) (λ r. times_marks n erased n (coefficient gf64 syndromes) (marks + r)) k
+  unfolding symbols
+  located_first e is_e k low =
+      evaluator_first n checks half syndromes symbols erased locator evaluator places few (omega arith) (omega arith) (omega arith) long is key (coefficient gf64 e) is_e k (omega arith)
+      ∙ ap (λ m. product_at gf64 (coefficient_of locator) (λ r. times_marks n erased n (coefficient gf64 syndromes) (m + r)) k) (sym is_marks)
+      ∙ product_same_left gf64 (coefficient_of locator) (coefficient gf64 front) (λ r. times_marks n erased n (coefficient gf64 syndromes) (marks + r)) (λ i. sym (front_is i)) k
+
+  pub located : (new e : List Sym) (i : ℕ) → i ≡ 0 → length new ≡ 32 → ((k : ℕ) → k < 32 → coefficient gf64 new k ≡ times_marks n erased n (coefficient gf64 front) k)
+      → ((k : ℕ) → k + i < half + marks → coefficient gf64 e k ≡ product_at gf64 (coefficient gf64 front) (λ r. times_marks n erased n (coefficient gf64 syndromes) (i + r)) k) → IsLocator n checks syndromes erased (half + marks) (coefficient gf64 new) (coefficient gf64 e)
+  unfolding symbols
+  located new e i none new_full is_new is_e =
+      subst (λ m. IsLocator n checks syndromes erased (half + m) (coefficient gf64 new) (coefficient gf64 e)) (sym is_marks)
+      (key_is_locator n checks half syndromes symbols erased locator evaluator places few (omega arith) (omega arith) (omega arith) long is key (coefficient gf64 new) (coefficient gf64 e)
+      (front_everywhere (half + 1 + marks_below erased n) (times_marks n erased n (coefficient_of locator)) new new_full (short_times_marks n erased (half + 1) n (coefficient_of locator) short) (omega arith)
+      (λ k low. is_new k low ∙ ap (λ (g : ℕ → Sym). times_marks n erased n g k) (same_function (coefficient gf64 front) (coefficient_of locator) front_is)))
+      (λ k low.
+      is_e k (omega arith)
+      ∙ product_same_left gf64 (coefficient gf64 front) (coefficient_of locator) (λ r. times_marks n erased n (coefficient gf64 syndromes) (i + r)) front_is k
+      ∙ product_same gf64 (coefficient_of locator) (λ r. times_marks n erased n (coefficient gf64 syndromes) (i + r)) (times_marks n erased n (coefficient gf64 syndromes)) (λ r. ap (times_marks n erased n (coefficient gf64 syndromes)) (at r)) k))
+    where
+      at : (r : ℕ) → i + r ≡ r
+      at r = omega arith

@@ -1,0 +1,25 @@
+use Rattle.std.proofs.Common.{◌≡◌, suc, ◌+◌, ap, ap₂, sym, ◌∙◌, inl, inr, arith}
+use Rattle.std.proofs.lemmas.Bool.{cases_eq}
+use Rattle.p25_gf64.specs.Field.{power}
+use Rattle.p25_gf64.specs.Symbol.{alpha}
+use Rattle.p25_gf64.specs.Gf64.{gf64}
+use Rattle.p25_gf64.proofs.FieldFacts.{mul_comm}
+use Rattle.p25_gf64.proofs.Powers.{power-one, power-suc}
+use Rattle.p25_poly.proofs.Coefficients.{written_at, written_elsewhere}
+use Rattle.p25_reed_solomon.proofs.points.fill_powers.Goals as goal
+
+pub loop-symbol-preserved : goal.loop-symbol-preserved
+loop-symbol-preserved c =
+    let i = c.loop-symbol.symbol-index in
+    let powers = c.loop-symbol.powers in
+    let next : suc (c.args.first + i) ≡ c.args.first + (i + 1) = omega arith in (
+      (λ r low. elim (cases_eq r i) [
+        | inl same ↦ rw same (written_at gf64 powers i c.loop-symbol.power (omega arith) ∙ c.loop-symbol.invariant.1)
+        | inr apart ↦ written_elsewhere gf64 powers i r c.loop-symbol.power apart ∙ c.loop-symbol.invariant.0 r (omega arith)
+      ]),
+      (c.mul-power.ensures.product
+          ∙ ap₂ gf64.mul c.loop-symbol.invariant.1 (c.pow_alpha-alpha.ensures ∙ power-one gf64 alpha)
+          ∙ mul_comm gf64 (power gf64 alpha (c.args.first + i)) alpha
+          ∙ sym (power-suc gf64 alpha (c.args.first + i))
+          ∙ ap (power gf64 alpha) next),
+    )

@@ -1,0 +1,10 @@
+use Rattle.std.proofs.Common.{◌≡◌, ℕ, ◌<◌, ◌≤◌}
+use Rattle.p25_gf64.specs.Gf64.{gf64}
+use Rattle.p25_algebra.specs.Series.{coefficient}
+use Rattle.p25_reed_solomon.proofs.points.horner_step.Given as goal
+
+abbrev pub invariant-loop-r : goal.invariant-loop-r
+invariant-loop-r l = record {
+  before : (k : ℕ) → k < l.r → coefficient gf64 l.values k ≡ gf64.add (gf64.mul (coefficient gf64 l.fn.values k) (coefficient gf64 l.points k)) l.symbol;
+  after : (k : ℕ) → l.r ≤ k → coefficient gf64 l.values k ≡ coefficient gf64 l.fn.values k;
+}

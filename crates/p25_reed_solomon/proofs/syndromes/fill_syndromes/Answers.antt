@@ -1,0 +1,21 @@
+use Rattle.std.proofs.Common.{◌≡◌, suc, ◌+◌, sym, ap, ap₂, ◌∙◌, arith}
+use Rattle.p25_gf64.specs.Field.{power}
+use Rattle.p25_gf64.specs.Symbol.{alpha}
+use Rattle.p25_gf64.specs.Gf64.{gf64}
+use Rattle.p25_algebra.specs.Series.{coefficient}
+use Rattle.p25_algebra.proofs.SumFacts.{sum-none}
+use Rattle.p25_poly.proofs.Coefficients.{coefficient_read}
+use Rattle.p25_reed_solomon.specs.ValueFacts.{front_value, front_value-suc}
+use Rattle.p25_reed_solomon.proofs.syndromes.fill_syndromes.Goals as goal
+
+pub loop-symbol-init : goal.loop-symbol-init
+loop-symbol-init c = λ r low. c.loop-value.invariant r (omega arith) ∙ sym (sum-none gf64 _)
+
+pub loop-symbol-preserved : goal.loop-symbol-preserved
+loop-symbol-preserved c = λ r low.
+    let next : suc c.loop-symbol.symbol-index ≡ c.loop-symbol.symbol-index + 1 = omega arith in
+    let exponent : 1 + r ≡ r + 1 = omega arith in
+    c.horner_step.ensures r (omega arith)
+    ∙ ap₂ gf64.add (ap₂ gf64.mul (c.loop-symbol.invariant r low) (c.fill_powers.ensures r (omega arith) ∙ ap (power gf64 alpha) exponent)) (coefficient_read gf64 c.args.word.now c.loop-symbol.symbol-index c.symbol-item.result (omega arith) c.symbol-item.is)
+    ∙ sym (front_value-suc (coefficient gf64 c.args.word.now) (r + 1) c.loop-symbol.symbol-index)
+    ∙ ap (front_value (coefficient gf64 c.args.word.now) (r + 1)) next

@@ -1,0 +1,41 @@
+use Rattle.std.proofs.Common.{◌-◌, length, ap₂, sym, ◌∙◌, arith}
+use Rattle.std.proofs.lemmas.List.{length-replicate}
+use Rattle.p25_gf64.specs.Gf64.{gf64}
+use Rattle.p25_algebra.specs.Series.{coefficient, rest_at}
+use Rattle.p25_poly.proofs.Coefficients.{coefficient_blank, coefficient_read, horner_step}
+use Rattle.p25_reed_solomon.proofs.LaneSteps.{value_begun, value_whole, rest_here}
+use Rattle.p25_reed_solomon.proofs.values.slopes_of.Goals as goal
+
+pub loop-i-init : goal.loop-i-init
+loop-i-init c =
+    let n = length c.args.polynomial.now in
+    let f = coefficient gf64 c.args.polynomial.now in
+    record {
+      slopes_full = length-replicate 32 c.default-slopes.result;
+      values_full = length-replicate 32 c.default-values.result;
+      slopes = λ r low. coefficient_blank gf64 c.default-slopes.result 32 r c.default-slopes.ensures ∙ sym (value_begun n (rest_at gf64 n f (coefficient gf64 c.args.points.now r)) (coefficient gf64 c.args.points.now r));
+      values = λ r low. coefficient_blank gf64 c.default-values.result 32 r c.default-values.ensures ∙ sym (value_begun n f (coefficient gf64 c.args.points.now r));
+    }
+
+pub loop-i-preserved : goal.loop-i-preserved
+loop-i-preserved c =
+    let n = length c.args.polynomial.now in
+    let f = coefficient gf64 c.args.polynomial.now in
+    let i = c.loop-i.i in
+    record {
+      slopes_full = omega (arith, c.loop-i.invariant.slopes_full);
+      values_full = omega (arith, c.loop-i.invariant.values_full);
+      slopes = λ r low.
+          c.slope_step.ensures.slopes r low
+          ∙ ap₂ (λ v s. gf64.add (gf64.mul v (coefficient gf64 c.args.points.now r)) s) (c.loop-i.invariant.slopes r low) (c.loop-i.invariant.values r low ∙ rest_here n i f (coefficient gf64 c.args.points.now r) (omega arith))
+          ∙ horner_step gf64 (rest_at gf64 n f (coefficient gf64 c.args.points.now r)) n i (coefficient gf64 c.args.points.now r) (omega arith) (omega arith);
+      values = λ r low.
+          c.slope_step.ensures.values r low
+          ∙ ap₂ (λ v s. gf64.add (gf64.mul v (coefficient gf64 c.args.points.now r)) s) (c.loop-i.invariant.values r low) (coefficient_read gf64 c.args.polynomial.now (i - 1) c.index-polynomial-i.result (omega arith) c.index-polynomial-i.is)
+          ∙ horner_step gf64 f n i (coefficient gf64 c.args.points.now r) (omega arith) (omega arith);
+    }
+
+pub returns-clause-slopes : goal.returns-clause-slopes
+returns-clause-slopes c = λ r low.
+    let n = length c.args.polynomial.now in
+    c.loop-i.invariant.slopes r low ∙ value_whole n c.loop-i.i (rest_at gf64 n (coefficient gf64 c.args.polynomial.now) (coefficient gf64 c.args.points.now r)) (coefficient gf64 c.args.points.now r) (omega arith)

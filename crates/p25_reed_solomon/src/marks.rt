@@ -1,0 +1,75 @@
+//! The marks of a received word: how many there are, and the polynomial with a zero for each of them as a factor of others.
+
+ghost use Rattle.std.specs.Prelude.{◌≡◌, ℕ, suc, ◌+◌, ◌<◌, ◌≤◌, length};
+ghost use Rattle.p25_gf64.specs.Gf64.{gf64};
+ghost use Rattle.p25_algebra.specs.Series.{coefficient, shifted, times_linear};
+ghost use Rattle.p25_reed_solomon.specs.Errors.{marks_below};
+ghost use Rattle.p25_reed_solomon.specs.Locator.{times_marks};
+
+use p25_gf64::Sym;
+
+// How many places are marked.
+pub(crate) fn count_marks(erased: &[bool]) -> usize
+    requires { length erased.now ≤ 63 }
+    ensures count { result ≡ marks_below erased.now (length erased.now) }
+    ensures few { result ≤ length erased.now }
+{
+    let mut count = 0;
+    for gone in erased {
+        if *gone {
+            count += 1;
+        }
+    }
+    count
+}
+
+// Multiplies a polynomial of 32 coefficients by 1 + x times the element of each marked place, as far as there is room.
+pub(crate) fn multiply_by_marks(polynomial: &mut [Sym], erased: &[bool])
+    requires room { length polynomial.old ≡ 32 }
+    requires places { length erased.now ≤ 63 }
+    ensures { (k : ℕ) → k < 32 → coefficient gf64 polynomial.new k
+        ≡ times_marks (length erased.now) erased.now (length erased.now) (coefficient gf64 polynomial.old) k }
+{
+    for j in 0..erased.len() {
+        if erased[j] {
+            multiply_by_linear(polynomial, Sym::pow_alpha((erased.len() - 1 - j) as u32));
+        }
+    }
+}
+
+// Multiplies a polynomial of 32 coefficients by 1 + y x, as far as there is room.
+fn multiply_by_linear(polynomial: &mut [Sym], y: Sym)
+    requires { length polynomial.old ≡ 32 }
+    ensures { (k : ℕ) → k < 32 → coefficient gf64 polynomial.new k ≡ times_linear gf64 y (coefficient gf64 polynomial.old) k }
+{
+    let below = moved_up(polynomial);
+    for i in 0..32 {
+        polynomial[i] = polynomial[i].add(y.mul(below[i]));
+    }
+}
+
+// Multiplies a polynomial of 32 coefficients by x, as far as there is room, and adds a multiple of another.
+pub(crate) fn multiply_by_x_and_add(polynomial: &mut [Sym], factor: Sym, other: &[Sym])
+    requires room { length polynomial.old ≡ 32 }
+    requires other { length other.now ≡ 32 }
+    ensures { (k : ℕ) → k < 32 → coefficient gf64 polynomial.new k
+        ≡ gf64.add (shifted gf64 1 (coefficient gf64 polynomial.old) k) (gf64.mul factor (coefficient gf64 other.now k)) }
+{
+    let below = moved_up(polynomial);
+    for i in 0..32 {
+        polynomial[i] = below[i].add(factor.mul(other[i]));
+    }
+}
+
+// The polynomial times x, of whose coefficients there are 33.
+fn moved_up(polynomial: &[Sym]) -> [Sym; 33]
+    requires { length polynomial.now ≡ 32 }
+    ensures moved { (k : ℕ) → coefficient gf64 result k ≡ shifted gf64 1 (coefficient gf64 polynomial.now) k }
+    ensures full { length result ≡ 33 }
+{
+    let mut moved = [Sym::default(); 33];
+    for i in 0..32 {
+        moved[1 + i] = polynomial[i];
+    }
+    moved
+}

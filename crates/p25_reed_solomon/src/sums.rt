@@ -1,0 +1,70 @@
+//! The last test of errors: whether their power sums are the syndromes.
+
+ghost use Rattle.std.specs.Prelude.{◌≡◌, ℕ, ◌+◌, ◌<◌, ◌≤◌, ◌↔◌, length, IsTrue, slice_index_or};
+ghost use Rattle.p25_gf64.specs.Field.{power};
+ghost use Rattle.p25_gf64.specs.Gf64.{gf64};
+ghost use Rattle.p25_algebra.specs.Sums.{sum_below, power_sum};
+ghost use Rattle.p25_algebra.specs.Series.{coefficient};
+ghost use Rattle.p25_reed_solomon.specs.Errors.{element_of};
+
+use p25_gf64::Sym;
+
+// Whether the power sums of these values at the elements of listed places among n, from the first power on, are the syndromes.
+pub(crate) fn are_sums(syndromes: &[Sym], n: usize, places: &[usize], values: &[Sym]) -> bool
+    requires places { n ≤ 63 }
+    requires few { length places.now ≤ 24 }
+    requires inside { (c : ℕ) → c < length places.now → slice_index_or places.now c 0 < n }
+    requires values { length values.now ≡ 32 }
+    requires rest { (c : ℕ) → length places.now ≤ c → coefficient gf64 values.now c ≡ gf64.zero }
+    ensures { IsTrue result ↔ ((r : ℕ) → r < length syndromes.now
+        → power_sum gf64 (length places.now) (λ c. element_of n (slice_index_or places.now c 0)) (coefficient gf64 values.now) (r + 1) ≡ coefficient gf64 syndromes.now r) }
+{
+    let elements = elements_of(n, places);
+    let mut terms = [Sym::default(); 32];
+    terms.copy_from_slice(values);
+    for syndrome in syndromes {
+        multiply(&mut terms, &elements);
+        if !sum(&terms).add(*syndrome).is_zero() {
+            return false;
+        }
+    }
+    true
+}
+
+// The elements of listed places among n, with zeros behind them.
+fn elements_of(n: usize, places: &[usize]) -> [Sym; 32]
+    requires places { n ≤ 63 }
+    requires few { length places.now ≤ 24 }
+    requires inside { (c : ℕ) → c < length places.now → slice_index_or places.now c 0 < n }
+    ensures elements { (c : ℕ) → c < length places.now → coefficient gf64 result c ≡ element_of n (slice_index_or places.now c 0) }
+    ensures full { length result ≡ 32 }
+{
+    let mut elements = [Sym::default(); 32];
+    for c in 0..places.len() {
+        elements[c] = Sym::pow_alpha((n - 1 - places[c]) as u32);
+    }
+    elements
+}
+
+// Multiplies each of 32 terms by its factor.
+fn multiply(terms: &mut [Sym], factors: &[Sym])
+    requires terms { length terms.old ≡ 32 }
+    requires factors { length factors.now ≡ 32 }
+    ensures { (r : ℕ) → coefficient gf64 terms.new r ≡ gf64.mul (coefficient gf64 terms.old r) (coefficient gf64 factors.now r) }
+{
+    for r in 0..32 {
+        terms[r] = terms[r].mul(factors[r]);
+    }
+}
+
+// The sum of 32 terms.
+fn sum(terms: &[Sym]) -> Sym
+    requires { length terms.now ≡ 32 }
+    ensures { result ≡ sum_below gf64 32 (coefficient gf64 terms.now) }
+{
+    let mut sum = Sym::default();
+    for r in 0..32 {
+        sum = sum.add(terms[r]);
+    }
+    sum
+}

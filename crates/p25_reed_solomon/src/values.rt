@@ -1,0 +1,97 @@
+//! The errors at the zeros of a locator, by Forney's formula: the value of the evaluator divided by the slope of the locator.
+
+ghost use Rattle.std.specs.Prelude.{◌≡◌, ◌≢◌, ℕ, ◌+◌, ◌-◌, ◌<◌, ◌≤◌, length, slice_index_or};
+ghost use Rattle.p25_gf64.specs.Gf64.{gf64};
+ghost use Rattle.p25_algebra.specs.Series.{coefficient, value_at, slope_at, rest_at};
+ghost use Rattle.p25_reed_solomon.specs.Errors.{point_of};
+
+use crate::points::{fill_values, horner_step};
+use crate::zeros::point;
+use p25_gf64::Sym;
+
+// Sets `out` to the errors at listed places among n, and zeros behind them. Times the locator's slope at the point of its place, where
+// this isn't zero, each is the evaluator's value there.
+pub(crate) fn fill_errors(
+    locator: &[Sym],
+    evaluator: &[Sym],
+    n: usize,
+    places: &[usize],
+    out: &mut [Sym],
+)
+    requires places { n ≤ 63 }
+    requires few { length places.now ≤ 24 }
+    requires inside { (c : ℕ) → c < length places.now → slice_index_or places.now c 0 < n }
+    requires room { length out.old ≡ 32 }
+    ensures errors { (c : ℕ) → c < length places.now
+        → slope_at gf64 (length locator.now) (coefficient gf64 locator.now) (point_of n (slice_index_or places.now c 0)) ≢ gf64.zero
+        → gf64.mul (coefficient gf64 out.new c) (slope_at gf64 (length locator.now) (coefficient gf64 locator.now) (point_of n (slice_index_or places.now c 0)))
+        ≡ value_at gf64 (length evaluator.now) (coefficient gf64 evaluator.now) (point_of n (slice_index_or places.now c 0)) }
+    ensures rest { (c : ℕ) → length places.now ≤ c → coefficient gf64 out.new c ≡ gf64.zero }
+{
+    let points = points_of(n, places);
+    let slopes = slopes_of(locator, &points);
+    let mut values = [Sym::default(); 32];
+    fill_values(evaluator, &points, &mut values);
+    for c in 0..32 {
+        out[c] = if c < places.len() {
+            quotient(values[c], slopes[c])
+        } else {
+            Sym::default()
+        };
+    }
+}
+
+// The points of listed places among n, with zeros behind them.
+fn points_of(n: usize, places: &[usize]) -> [Sym; 32]
+    requires places { n ≤ 63 }
+    requires few { length places.now ≤ 24 }
+    requires inside { (c : ℕ) → c < length places.now → slice_index_or places.now c 0 < n }
+    ensures points { (c : ℕ) → c < length places.now → coefficient gf64 result c ≡ point_of n (slice_index_or places.now c 0) }
+    ensures full { length result ≡ 32 }
+{
+    let mut points = [Sym::default(); 32];
+    for c in 0..places.len() {
+        points[c] = point(n, places[c]);
+    }
+    points
+}
+
+// The quotient of two symbols, or zero where the second is zero.
+fn quotient(a: Sym, b: Sym) -> Sym
+    ensures { b ≢ gf64.zero → gf64.mul result b ≡ a }
+{
+    if b.is_zero() {
+        return Sym::default();
+    }
+    a.mul(b.inv())
+}
+
+// The slopes of a polynomial at each of 32 points.
+fn slopes_of(polynomial: &[Sym], points: &[Sym]) -> [Sym; 32]
+    requires { length points.now ≡ 32 }
+    ensures slopes { (r : ℕ) → r < 32 → coefficient gf64 result r ≡ slope_at gf64 (length polynomial.now) (coefficient gf64 polynomial.now) (coefficient gf64 points.now r) }
+    ensures full { length result ≡ 32 }
+{
+    let mut slopes = [Sym::default(); 32];
+    let mut values = [Sym::default(); 32];
+    for i in (0..polynomial.len()).rev() {
+        slope_step(&mut slopes, &mut values, points, polynomial[i]);
+    }
+    slopes
+}
+
+// A step of Horner's rule for the slopes and the values at each of 32 points.
+fn slope_step(slopes: &mut [Sym], values: &mut [Sym], points: &[Sym], symbol: Sym)
+    requires slopes { length slopes.old ≡ 32 }
+    requires values { length values.old ≡ 32 }
+    requires points { length points.now ≡ 32 }
+    ensures slopes { (r : ℕ) → r < 32
+        → coefficient gf64 slopes.new r ≡ gf64.add (gf64.mul (coefficient gf64 slopes.old r) (coefficient gf64 points.now r)) (coefficient gf64 values.old r) }
+    ensures values { (r : ℕ) → r < 32
+        → coefficient gf64 values.new r ≡ gf64.add (gf64.mul (coefficient gf64 values.old r) (coefficient gf64 points.now r)) symbol }
+{
+    for r in 0..32 {
+        slopes[r] = slopes[r].mul(points[r]).add(values[r]);
+    }
+    horner_step(values, points, symbol);
+}

@@ -1,0 +1,49 @@
+//! The places at which a locator vanishes.
+
+ghost use Rattle.std.specs.Prelude.{◌≡◌, ◌≢◌, ℕ, ◌+◌, ◌-◌, ◌<◌, ◌≤◌, length, slice_index_or};
+ghost use Rattle.p25_gf64.specs.Gf64.{gf64};
+ghost use Rattle.p25_algebra.specs.Series.{coefficient, value_at, IsZero};
+ghost use Rattle.p25_reed_solomon.specs.Errors.{AreZeros, point_of};
+
+use crate::points::{fill_powers, fill_values};
+use arrayvec::ArrayVec;
+use p25_gf64::Sym;
+
+// The places among n at whose points a polynomial that isn't zero vanishes, in rising order. There are fewer than its coefficients.
+pub(crate) fn zeros(polynomial: &[Sym], n: usize) -> ArrayVec<usize, 24>
+    requires places { n ≤ 63 }
+    requires few { length polynomial.now ≤ 24 }
+    requires nonzero { IsZero gf64 (coefficient gf64 polynomial.now) → ⊥ }
+    ensures zeros { AreZeros n polynomial.now n result.items }
+    ensures few { length result.items < length polynomial.now }
+{
+    let mut points = [Sym::default(); 64];
+    fill_points(n, &mut points);
+    let mut values = [Sym::default(); 64];
+    fill_values(polynomial, &points, &mut values);
+    let mut places = ArrayVec::new();
+    for j in 0..n {
+        if values[j].is_zero() {
+            places.push(j);
+        }
+    }
+    places
+}
+
+// Sets the first of the points to those of the places among n: successive powers of α.
+pub(crate) fn fill_points(n: usize, points: &mut [Sym])
+    requires places { n ≤ 63 }
+    requires room { length points.old ≡ 64 }
+    ensures { (j : ℕ) → j < n → coefficient gf64 points.new j ≡ point_of n j }
+{
+    fill_powers(64 - n as u32, points);
+}
+
+// The point of a place among n.
+pub(crate) fn point(n: usize, j: usize) -> Sym
+    requires places { n ≤ 63 }
+    requires inside { j < n }
+    ensures { result ≡ point_of n j }
+{
+    Sym::pow_alpha((64 - n + j) as u32)
+}

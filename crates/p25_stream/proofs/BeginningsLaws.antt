@@ -1,0 +1,133 @@
+-- What a scanner remembers says what the first item is and whether it is decided, and stays true as bits come.
+use Rattle.std.proofs.Common.{◌≡◌, ℕ, ◌+◌, ◌-◌, ◌<◌, ◌≤◌, inl, inr, Bool, true, false, min, List, ◌++◌, length, drop, ap, sym, ◌∙◌, subst, arith, length-append}
+use Rattle.std.proofs.lemmas.Bool.{cases_Bool, cases_lt, le-leb, lt-leb}
+use Rattle.p25_status.specs.Sync.{has_sync}
+use Rattle.p25_status.proofs.SyncLaws.{has_sync-length, has_sync-append}
+use Rattle.p25_status.specs.declared.fields.Field.{Field}
+use Rattle.p25_units.specs.Needs.{need_of}
+use Rattle.p25_units.specs.declared.begun.Begun.{Begun}
+use Rattle.p25_units.specs.declared.needs.Need.TheVariants.{More, Length, NoLength}
+use Rattle.p25_units.proofs.NeedsLaws.{need_of-few, need_of-waits}
+use Rattle.p25_units.proofs.BegunSteps.{IsBegun-append}
+use Rattle.p25_stream.specs.Items.{sync_place, gap_of, gap_known, is_decided}
+use Rattle.p25_stream.specs.Beginnings.{Needs, HasNoUnit, IsSearched, IsKnownGap, is_settled, IsBeginning}
+use Rattle.p25_stream.specs.declared.beginning.Beginning.{Beginning}
+use Rattle.p25_stream.specs.declared.beginning.Beginning.TheVariants.{Searching, Waiting, Gap, Ready, NoUnit}
+use Rattle.p25_stream.proofs.SyncPlaces.{sync_place-synced, sync_place-all, sync_place-from, sync_place-append_far}
+use Rattle.p25_stream.proofs.ItemsLaws.{is_decided-gap, is_decided-synced}
+
+-- bits that were searched begin with no sync, and have none
+pub searched-none : (bits : List Bool) (clear : ℕ) → IsSearched bits clear → has_sync bits ≡ false
+searched-none bits clear is =
+    elim (cases_Bool (has_sync bits)) [
+      | inr no' ↦ no'
+      | inl yes' ↦ absurd (omega (arith, is.all, is.none, has_sync-length bits yes', sync_place-synced bits yes'))
+    ]
+
+pub searched-all : (bits : List Bool) (clear : ℕ) → IsSearched bits clear → sync_place bits ≡ length bits
+searched-all bits clear is = sync_place-all clear bits is.none (omega (arith, is.all))
+
+-- whether the first item is decided
+searched-open : (bits : List Bool) (clear : ℕ) → IsSearched bits clear → is_decided bits ≡ false
+searched-open bits clear is =
+    is_decided-gap bits (searched-none bits clear is)
+    ∙ lt-leb (min (gap_of bits + 48) (4096 + 47)) (length bits) (omega (arith, searched-all bits clear is, is.all, is.few))
+
+pub IsBeginning-decided : (beginning : Beginning) (bits : List Bool) → IsBeginning beginning bits → is_decided bits ≡ is_settled beginning
+unfolding IsBeginning
+IsBeginning-decided (Searching clear) bits is = searched-open bits clear is
+IsBeginning-decided (Waiting count begun) bits is = is_decided-synced bits (More count) is.synced is.needs
+IsBeginning-decided (Gap count) bits is = is_decided-gap bits is.unsynced ∙ ap (λ n. gap_known n (length bits)) (sym is.is) ∙ is.known
+IsBeginning-decided (Ready count begun) bits is = is_decided-synced bits (Length count) is.synced is.needs
+IsBeginning-decided (NoUnit field) bits is = is_decided-synced bits (NoLength field) is.synced is.needs
+
+-- where it is not, few bits are held
+pub IsBeginning-few : (beginning : Beginning) (bits : List Bool) → IsBeginning beginning bits → is_settled beginning ≡ false → length bits < 25920
+unfolding IsBeginning
+IsBeginning-few (Searching clear) bits is open' = omega (arith, is.all, is.few)
+IsBeginning-few (Waiting count begun) bits is open' = let few = need_of-few bits count is.needs in omega (arith, few.0, few.1)
+IsBeginning-few (Gap count) bits is open' = absurd (cc)
+IsBeginning-few (Ready count begun) bits is open' = absurd (cc)
+IsBeginning-few (NoUnit field) bits is open' = absurd (cc)
+
+-- each case, made
+pub beginning-searching : (bits : List Bool) (clear : ℕ) → clear < 4096 → clear ≡ length bits - 47 → clear ≤ sync_place bits → IsBeginning (Searching clear) bits
+unfolding IsBeginning
+beginning-searching bits clear few all none = record { few = few; all = all; none = none }
+
+pub beginning-gap : (bits : List Bool) (count : ℕ) → IsKnownGap bits count → IsBeginning (Gap count) bits
+unfolding IsBeginning
+beginning-gap bits count is = is
+
+pub beginning-waiting : (bits : List Bool) (count : ℕ) (begun : Begun) → Needs bits (More count) begun → IsBeginning (Waiting count begun) bits
+unfolding IsBeginning
+beginning-waiting bits count begun is = is
+
+pub beginning-ready : (bits : List Bool) (count : ℕ) (begun : Begun) → Needs bits (Length count) begun → IsBeginning (Ready count begun) bits
+unfolding IsBeginning
+beginning-ready bits count begun is = is
+
+pub beginning-no_unit : (bits : List Bool) (field : Field) → has_sync bits ≡ true → need_of bits ≡ NoLength field → IsBeginning (NoUnit field) bits
+unfolding IsBeginning
+beginning-no_unit bits field yes' is = record { synced = yes'; needs = is }
+
+-- and each case, used
+pub was-searching : (beginning : Beginning) (bits : List Bool) (clear : ℕ) → IsBeginning beginning bits → beginning ≡ Searching clear → IsSearched bits clear
+unfolding IsBeginning
+was-searching beginning bits clear is same = subst (λ (b : Beginning). IsBeginning b bits) same is
+
+pub was-waiting : (beginning : Beginning) (bits : List Bool) (count : ℕ) (begun : Begun) → IsBeginning beginning bits → beginning ≡ Waiting count begun → Needs bits (More count) begun
+unfolding IsBeginning
+was-waiting beginning bits count begun is same = subst (λ (b : Beginning). IsBeginning b bits) same is
+
+pub was-gap : (beginning : Beginning) (bits : List Bool) (count : ℕ) → IsBeginning beginning bits → beginning ≡ Gap count → IsKnownGap bits count
+unfolding IsBeginning
+was-gap beginning bits count is same = subst (λ (b : Beginning). IsBeginning b bits) same is
+
+pub was-ready : (beginning : Beginning) (bits : List Bool) (count : ℕ) (begun : Begun) → IsBeginning beginning bits → beginning ≡ Ready count begun → Needs bits (Length count) begun
+unfolding IsBeginning
+was-ready beginning bits count begun is same = subst (λ (b : Beginning). IsBeginning b bits) same is
+
+pub was-no_unit : (beginning : Beginning) (bits : List Bool) (field : Field) → IsBeginning beginning bits → beginning ≡ NoUnit field → HasNoUnit bits (NoLength field)
+unfolding IsBeginning
+was-no_unit beginning bits field is same = subst (λ (b : Beginning). IsBeginning b bits) same is
+
+-- places that were searched have no sync under more bits
+pub searched-more : (bits more : List Bool) (clear : ℕ) → IsSearched bits clear → (clear ≤ sync_place (bits ++ more)) × (clear ≤ length (bits ++ more) - 47)
+searched-more bits more clear is =
+    elim (cases_lt clear 1) [
+      | inl none ↦ (omega arith, omega arith)
+      | inr some ↦ (
+        sync_place-append_far clear bits more (omega (arith, is.all)) is.none,
+        omega (arith, is.all, length-append bits more),
+      )
+    ]
+
+-- what is waited for is waited for until it is there
+pub waits-more : (bits more : List Bool) (count : ℕ) (begun : Begun) → Needs bits (More count) begun → length (bits ++ more) < count → Needs (bits ++ more) (More count) begun
+waits-more bits more count begun is short = record {
+  synced = has_sync-append bits more (has_sync-length bits is.synced) ∙ is.synced;
+  needs = need_of-waits bits more count is.synced is.needs short;
+  read = IsBegun-append begun bits more is.read;
+}
+
+-- the bits that a gap covers are known by the first place behind them with a sync, or by their number
+pub gap-before_sync : (bits : List Bool) (k : ℕ) → 0 < k → k < 4096 → k ≤ sync_place bits → k + 48 ≤ length bits → has_sync (drop k bits) ≡ true → IsKnownGap bits k
+gap-before_sync bits k some few none there yes' =
+    let place : sync_place bits ≡ k = omega (arith, sync_place-from k bits none, sync_place-synced (drop k bits) yes') in
+    record {
+      unsynced = unsynced bits k some place;
+      is = omega (arith, place);
+      known = le-leb (min (k + 48) (4096 + 47)) (length bits) (omega arith);
+    }
+  where
+    unsynced : (bits : List Bool) (k : ℕ) → 0 < k → sync_place bits ≡ k → has_sync bits ≡ false
+    unsynced bits k some place =
+        elim (cases_Bool (has_sync bits)) [ inr no' ↦ no' | inl yes' ↦ absurd (omega (arith, place, sync_place-synced bits yes')) ]
+
+pub gap-full : (bits : List Bool) → 4096 ≤ sync_place bits → 4096 ≤ length bits - 47 → IsKnownGap bits 4096
+gap-full bits none there = record {
+  unsynced = elim (cases_Bool (has_sync bits)) [ inr no' ↦ no' | inl yes' ↦ absurd (omega (arith, none, sync_place-synced bits yes')) ];
+  is = omega arith;
+  known = le-leb (min (4096 + 48) (4096 + 47)) (length bits) (omega arith);
+}

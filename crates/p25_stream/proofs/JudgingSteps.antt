@@ -1,0 +1,77 @@
+-- What the functions that judge bits need at each step: the windows of one number, and each answer as a case of what is
+-- remembered.
+use Rattle.std.proofs.Common.{◌≡◌, ℕ, zero, suc, ◌+◌, ◌-◌, ◌/◌, ◌%◌, ◌^◌, ◌<◌, ◌≤◌, inl, inr, Bool, true, false, List, ◌++◌, length, take, drop, ap, sym, ◌∙◌, subst, arith, append_assoc, mod-eq_of_lt, length-drop}
+use Rattle.std.proofs.lemmas.Bool.{cases_lt}
+use Rattle.std.proofs.Math.Seq.{take-length}
+use Rattle.p25_bits.specs.Bits.{bits_of, field_of, part}
+use Rattle.p25_bits.specs.Distance.{distance_of}
+use Rattle.p25_bits.proofs.BitsLaws.{length-bits_of, bits_of-add, field_of-bits_of, same_from_field_of}
+use Rattle.p25_bits.proofs.NumbersLaws.{bits_of-field}
+use Rattle.p25_bits.proofs.PartLaws.{part-part, part_joined}
+use Rattle.p25_status.specs.Sync.{has_sync, sync_bits, sync_slack}
+use Rattle.p25_status.proofs.SyncLaws.{has_sync-yes, has_sync-no, has_sync-take}
+use Rattle.p25_stream.specs.Items.{sync_place}
+use Rattle.p25_stream.proofs.SyncPlaces.{sync_place-more}
+
+-- 48 bits of a number that is at least so long
+low_bits : (number : ℕ) → bits_of 48 (number % 2 ^ 48) ≡ bits_of 48 number
+low_bits number =
+    let small : number % 2 ^ 48 < 2 ^ 48 = omega arith in
+    same_from_field_of (bits_of 48 (number % 2 ^ 48)) (bits_of 48 number)
+    (length-bits_of 48 (number % 2 ^ 48) ∙ sym (length-bits_of 48 number))
+    (field_of-bits_of 48 (number % 2 ^ 48) ∙ mod-eq_of_lt small ∙ sym (field_of-bits_of 48 number))
+
+-- the window of a number at a place
+pub window_of : (place count number : ℕ) → place < count → bits_of 48 (number / 2 ^ (count - 1 - place) % 2 ^ 48) ≡ part place 48 (bits_of (47 + count) number)
+window_of place count number inside =
+    let low = count - 1 - place in
+    let high = number / 2 ^ low in
+    let split : 47 + count ≡ (place + 48) + low = omega arith in
+    let cut = ap (λ n. bits_of n number) split ∙ bits_of-add (place + 48) low number ∙ ap (λ (xs : List Bool). xs ++ bits_of low number) (bits_of-add place 48 high) in
+    let front = bits_of place (high / 2 ^ 48) in
+    low_bits high
+    ∙ sym (part_joined place 48 front (bits_of 48 high) (bits_of low number) (length-bits_of place (high / 2 ^ 48)) (length-bits_of 48 high))
+    ∙ ap (part place 48) (sym (cut ∙ append_assoc front (bits_of 48 high) (bits_of low number)))
+
+whole_take : (bits : List Bool) → length bits ≡ 48 → take 48 bits ≡ bits
+whole_take bits long = ap (λ n. take n bits) (sym long) ∙ take-length bits
+
+-- a window with a sync, and one without
+pub window-synced : (bits : List Bool) (window : ℕ) → bits_of 48 window ≡ bits → distance_of (bits_of 48 window) sync_bits ≤ sync_slack → has_sync bits ≡ true
+window-synced bits window is near =
+    let long : 48 ≤ length bits = omega (arith, ap length is, length-bits_of 48 window) in
+    let whole : take 48 bits ≡ bits_of 48 window = whole_take bits (sym (ap length is) ∙ length-bits_of 48 window) ∙ sym is in
+    has_sync-yes bits long (subst (λ (xs : List Bool). distance_of xs sync_bits ≤ sync_slack) (sym whole) near)
+
+pub window-unsynced : (bits : List Bool) (window : ℕ) → bits_of 48 window ≡ bits → (distance_of (bits_of 48 window) sync_bits ≤ sync_slack → ⊥) → has_sync bits ≡ false
+window-unsynced bits window is far =
+    let whole : take 48 bits ≡ bits_of 48 window = whole_take bits (sym (ap length is) ∙ length-bits_of 48 window) ∙ sym is in
+    elim (cases_lt sync_slack (distance_of (take 48 bits) sync_bits)) [
+      | inl more ↦ has_sync-no bits more
+      | inr few ↦ absurd (far (subst (λ (xs : List Bool). distance_of xs sync_bits ≤ sync_slack) whole few))
+    ]
+
+-- the windows of a field are those of the bits that it stands in
+pub window_in : (bits : List Bool) (k count place number : ℕ) → k + 47 + count ≤ length bits → place < count → number ≡ field_of (part k (47 + count) bits) → has_sync (part place 48 (bits_of (47 + count) number)) ≡ has_sync (drop (k + place) bits)
+window_in bits k count place number there inside is =
+    let fits : k + (47 + count) ≤ length bits = omega arith in
+    let within : place + 48 ≤ 47 + count = omega arith in
+    let few : 48 ≤ length (drop (k + place) bits) = omega (arith, length-drop (k + place) bits) in
+    ap (λ n. has_sync (part place 48 (bits_of (47 + count) n))) is
+    ∙ ap (λ (xs : List Bool). has_sync (part place 48 xs)) (bits_of-field (47 + count) k bits fits)
+    ∙ ap has_sync (part-part k (47 + count) place 48 bits within)
+    ∙ has_sync-take (drop (k + place) bits) 48 (omega arith) few
+
+-- so many more places without a sync
+pub searched-many : (bits : List Bool) (k n : ℕ) → k + n + 47 ≤ length bits → k ≤ sync_place bits → ((place : ℕ) → place < n → has_sync (drop (k + place) bits) ≡ false) → k + n ≤ sync_place bits
+searched-many bits k zero there none free = omega arith
+searched-many bits k (suc n) there none free =
+    let before = searched-many bits k n (omega arith) none (λ place inside. free place (omega arith)) in
+    omega (arith, sync_place-more (k + n) bits (omega arith) before (free n (omega arith)))
+
+-- the places of a field that have none, where they stand
+pub places-free : (bits : List Bool) (k count free number : ℕ) → k + 47 + count ≤ length bits → free ≤ count → number ≡ field_of (part k (47 + count) bits) → k ≤ sync_place bits
+    → ((place : ℕ) → place < free → has_sync (part place 48 (bits_of (47 + count) number)) ≡ false) → k + free ≤ sync_place bits
+places-free bits k count zero number there few is none judged = omega arith
+places-free bits k count (suc free) number there few is none judged =
+    searched-many bits k (suc free) (omega arith) none (λ place inside. sym (window_in bits k count place number there (omega arith) is) ∙ judged place inside)

@@ -1,0 +1,6 @@
+pub mod SyncPlaces
+pub mod ItemsLaws
+pub mod ItemLaws
+pub mod BeginningsLaws
+pub mod JudgingSteps
+pub mod ScanLaws

@@ -1,0 +1,106 @@
+-- What a scanner gives: the items of what it holds and of any bits that come later.
+use Rattle.std.proofs.Common.{◌≡◌, ◌↔◌, ℕ, ◌+◌, ◌<◌, ◌≤◌, inl, inr, Bool, true, false, not, ◌||◌, eqb, List, [], ◌∷◌, ◌++◌, length, take, drop, refl, ap, ap₂, sym, ◌∙◌, subst, arith, append-nil}
+use Rattle.std.proofs.lemmas.Bool.{cases_Bool, eqb-true, eq-eqb, not-true}
+use Rattle.std.specs.Prelude.{IsTrue}
+use Rattle.p25_units.specs.Items.{covered}
+use Rattle.p25_units.specs.declared.item.Item.{Item}
+use Rattle.p25_stream.specs.Items.{first_item, is_decided, items_by}
+use Rattle.p25_stream.specs.Scan.{Scan, given, Gave}
+use Rattle.p25_stream.specs.Beginnings.{IsBeginning, is_settled}
+use Rattle.p25_stream.specs.declared.beginning.Beginning.{Beginning}
+use Rattle.p25_stream.proofs.ItemsLaws.{covered-first_item, items_by-nil, items_by-more, items_by-none, items_by-first, items_by-decided, decided-some}
+use Rattle.p25_stream.proofs.BeginningsLaws.{IsBeginning-decided, IsBeginning-few}
+
+-- some bits have items where the stream has ended or the first is decided
+pub items_by-some : (ended : Bool) (at : ℕ) (bits : List Bool) → (items_by ended at bits ≡ [] → ⊥) → (0 < length bits) × ((ended || is_decided bits) ≡ true)
+items_by-some ended at [] some = absurd (some (items_by-nil ended at))
+items_by-some ended at (bit ∷ bits) some =
+    elim (cases_Bool (ended || is_decided (bit ∷ bits))) [
+      | inl goes ↦ (omega arith, goes)
+      | inr stops ↦ absurd (some (items_by-none ended at (bit ∷ bits) stops))
+    ]
+
+pub items_by-any : (ended : Bool) (at : ℕ) (bits : List Bool) → 0 < length bits → (ended || is_decided bits) ≡ true → items_by ended at bits ≡ [] → ⊥
+items_by-any ended at bits some goes none = let two = sym none ∙ items_by-more ended at bits some goes in cc
+
+-- a finished scanner is drained where nothing is held, another where the first item is not known
+pub drained-finished : (place : ℕ) (held : List Bool) → (length held ≡ 0) ↔ (items_by true place held ≡ [])
+drained-finished place [] = (λ none. items_by-nil true place, λ none. refl)
+drained-finished place (bit ∷ held) = (λ none. absurd (omega arith), λ none. absurd (items_by-any true place (bit ∷ held) (omega arith) refl none))
+
+pub drained-going : (beginning : Beginning) (place : ℕ) (held : List Bool) → IsBeginning beginning held → (is_settled beginning ≡ false) ↔ (items_by false place held ≡ [])
+drained-going beginning place held is =
+    let decided = IsBeginning-decided beginning held is in (
+      λ open'. items_by-none false place held (decided ∙ open'),
+      λ none. elim (cases_Bool (is_settled beginning)) [
+        | inr open' ↦ open'
+        | inl known ↦ absurd (items_by-any false place held (decided-some held (decided ∙ known)) (decided ∙ known) none)
+      ],
+    )
+
+-- a drained scanner that goes on holds few bits
+pub drained-open : (beginning : Beginning) (scan : Scan) → given scan ≡ [] → scan.finished ≡ false → IsBeginning beginning scan.held → is_settled beginning ≡ false
+drained-open beginning scan none going is = (drained-going beginning scan.place scan.held is).1 (subst (λ (b : Bool). items_by b scan.place scan.held ≡ []) going none)
+
+pub drained-few : (beginning : Beginning) (scan : Scan) → given scan ≡ [] → scan.finished ≡ false → IsBeginning beginning scan.held → length scan.held < 25920
+drained-few beginning scan none going is = IsBeginning-few beginning scan.held is (drained-open beginning scan none going is)
+
+-- the first item given, with the bits that it covers
+pub gave-first : (scan now : Scan) (item : Item) (raw : List Bool) → (given scan ≡ [] → ⊥) → item ≡ first_item scan.place scan.held → raw ≡ take (covered item) scan.held → now.held ≡ drop (covered item) scan.held → now.place ≡ scan.place + covered item → now.finished ≡ scan.finished → Gave scan item raw now
+gave-first scan now item raw some is raw_bits left place same =
+    let goes = items_by-some scan.finished scan.place scan.held some in
+    let fits = covered-first_item scan.place scan.held goes.0 in
+    record {
+      items =
+          items_by-more scan.finished scan.place scan.held goes.0 goes.1
+          ∙ ap (λ i. i ∷ items_by scan.finished (scan.place + covered i) (drop (covered i) scan.held)) (sym is)
+          ∙ ap₂ (λ n rest. item ∷ items_by scan.finished n rest) (sym place) (sym left)
+          ∙ ap (λ b. item ∷ items_by b now.place now.held) (sym same);
+      some = subst (λ (i : Item). 0 < covered i) (sym is) fits.0;
+      there = subst (λ (i : Item). covered i ≤ length scan.held) (sym is) fits.1;
+      raw_bits = raw_bits;
+      left = left;
+      place = place;
+      same = same;
+    }
+
+-- it is the first whatever bits come later
+gave-ended : (ended finished : Bool) (at : ℕ) (held more : List Bool) (item : Item) (items : List Item) → items_by finished at held ≡ item ∷ items → (finished ≡ true → (ended ≡ true) × (more ≡ [])) → items_by ended at (held ++ more) ≡ item ∷ items_by ended (at + covered item) (drop (covered item) held ++ more)
+gave-ended ended true at held more item items is goes =
+    let none = goes refl in
+    let parts = items_by-first true at held item items is in
+    ap₂ (λ b rest. items_by b at rest) none.0 (ap (λ (xs : List Bool). held ++ xs) none.1 ∙ append-nil held)
+    ∙ is ∙ ap (λ (xs : List Item). item ∷ xs) parts.2
+    ∙ ap₂ (λ b rest. item ∷ items_by b (at + covered item) rest) (sym none.0) (sym (ap (λ (xs : List Bool). drop (covered item) held ++ xs) none.1 ∙ append-nil (drop (covered item) held)))
+gave-ended ended false at held more item items is goes =
+    let parts = items_by-first false at held item items is in
+    let known = (items_by-some false at held (λ none. let two = sym none ∙ is in cc)).1 in
+    items_by-decided ended at held more known
+    ∙ ap (λ i. i ∷ items_by ended (at + covered i) (drop (covered i) held ++ more)) (sym parts.1)
+
+pub gave-items : (before now : Scan) (item : Item) (raw : List Bool) (ended : Bool) (more : List Bool) → Gave before item raw now → (before.finished ≡ true → (ended ≡ true) × (more ≡ []))
+    → items_by ended before.place (before.held ++ more) ≡ item ∷ items_by ended now.place (now.held ++ more)
+gave-items before now item raw ended more gave goes =
+    gave-ended ended before.finished before.place before.held more item (given now) gave.items goes
+    ∙ ap₂ (λ n rest. item ∷ items_by ended n (rest ++ more)) (sym gave.place) (sym gave.left)
+
+-- whether a scanner is drained, as it answers
+pub drained-when-finished : (scan : Scan) (n : ℕ) → scan.finished ≡ true → n ≡ length scan.held → IsTrue (eqb n 0) ↔ (given scan ≡ [])
+drained-when-finished scan n ended long =
+    let is = drained-finished scan.place scan.held in (
+      λ none. ap (λ b. items_by b scan.place scan.held) ended ∙ is.0 (sym long ∙ eqb-true n 0 none),
+      λ none. eq-eqb n 0 (long ∙ is.1 (ap (λ b. items_by b scan.place scan.held) (sym ended) ∙ none)),
+    )
+
+pub drained-when-going : (beginning : Beginning) (scan : Scan) (known : Bool) → scan.finished ≡ false → IsBeginning beginning scan.held → known ≡ is_settled beginning → IsTrue (not known) ↔ (given scan ≡ [])
+drained-when-going beginning scan known going is same =
+    let open' = drained-going beginning scan.place scan.held is in (
+      λ none. ap (λ b. items_by b scan.place scan.held) going ∙ open'.0 (sym same ∙ not-true known none),
+      λ none. ap not (same ∙ open'.1 (ap (λ b. items_by b scan.place scan.held) (sym going) ∙ none)),
+    )
+
+-- what the first item covers is held
+pub next-fits : (scan : Scan) (item : Item) → (given scan ≡ [] → ⊥) → item ≡ first_item scan.place scan.held → covered item ≤ length scan.held
+next-fits scan item some is =
+    let goes = items_by-some scan.finished scan.place scan.held some in
+    subst (λ (i : Item). covered i ≤ length scan.held) (sym is) (covered-first_item scan.place scan.held goes.0).1

@@ -1,0 +1,19 @@
+use Rattle.p25_stream.proofs.SyncPlaces.{sync_place-le, has_sync-before, has_sync-at_place}
+use Rattle.p25_stream.proofs.ItemsLaws.{items_by-nil, items_by-more, items_by-none, items_by-stay, first_item-append}
+use Rattle.p25_stream.proofs.ItemLaws.{covered-items_of, gaps_short, gaps_full, item-covers, item-sound, near-whole}
+use Rattle.p25_stream.proofs.ScanLaws.{gave-items}
+use Rattle.p25_stream.proofs.laws.item_laws.Goals as goal
+
+pub returns : goal.returns
+returns c = record {
+  sync = λ bits. (sync_place-le bits, has_sync-before bits, has_sync-at_place bits);
+  recursion = (items_by-nil, items_by-more, items_by-none);
+  cover_all = covered-items_of;
+  end_to_end = item-covers;
+  gaps = (gaps_short, gaps_full);
+  sound = item-sound;
+  first_stays = first_item-append;
+  decided_stay = items_by-stay;
+  near = near-whole;
+  gave = gave-items;
+}

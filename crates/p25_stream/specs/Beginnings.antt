@@ -1,0 +1,57 @@
+-- What a scanner remembers of the item that the bits it holds begin with.
+use Rattle.std.specs.Prelude.{◌≡◌, ℕ, ◌-◌, ◌<◌, ◌≤◌, Bool, true, false, List, ◌++◌, length}
+use Rattle.p25_status.specs.Sync.{has_sync}
+use Rattle.p25_units.specs.Begins.{IsBegun}
+use Rattle.p25_units.specs.Needs.{need_of}
+use Rattle.p25_units.specs.declared.begun.Begun.{Begun}
+use Rattle.p25_units.specs.declared.needs.Need.{Need}
+use Rattle.p25_units.specs.declared.needs.Need.TheVariants.{More, Length, NoLength}
+use Rattle.p25_stream.specs.Items.{sync_place, gap_of, gap_known}
+use Rattle.p25_stream.specs.declared.beginning.Beginning.{Beginning}
+use Rattle.p25_stream.specs.declared.beginning.Beginning.TheVariants.{Searching, Waiting, Gap, Ready, NoUnit}
+
+-- bits that begin with a sync, what is needed there, and what was read of the unit
+pub record Needs (bits : List Bool) (need : Need) (begun : Begun) : Type 0 where
+  pub synced : has_sync bits ≡ true
+  pub needs : need_of bits ≡ need
+  pub read : IsBegun begun bits
+
+-- bits that begin with a sync, but no unit
+pub record HasNoUnit (bits : List Bool) (need : Need) : Type 0 where
+  pub synced : has_sync bits ≡ true
+  pub needs : need_of bits ≡ need
+
+-- bits that begin with a place without a sync, all of whose places with 48 bits have none
+pub record IsSearched (bits : List Bool) (clear : ℕ) : Type 0 where
+  pub few : clear < 4096
+  pub all : clear ≡ length bits - 47
+  pub none : clear ≤ sync_place bits
+
+-- bits that begin with a gap that is known
+pub record IsKnownGap (bits : List Bool) (count : ℕ) : Type 0 where
+  pub unsynced : has_sync bits ≡ false
+  pub is : count ≡ gap_of bits
+  pub known : gap_known count (length bits) ≡ true
+
+-- the first item is known
+abbrev pub is_settled : Beginning → Bool
+is_settled (Searching clear) = false
+is_settled (Waiting count begun) = false
+is_settled (Gap count) = true
+is_settled (Ready count begun) = true
+is_settled (NoUnit field) = true
+
+-- this is true of the bits that are held
+unfoldable pub IsBeginning : Beginning → List Bool → Type 0
+IsBeginning (Searching clear) bits = IsSearched bits clear
+IsBeginning (Waiting count begun) bits = Needs bits (More count) begun
+IsBeginning (Gap count) bits = IsKnownGap bits count
+IsBeginning (Ready count begun) bits = Needs bits (Length count) begun
+IsBeginning (NoUnit field) bits = HasNoUnit bits (NoLength field)
+
+-- it was true before some bits came
+pub record WasBeginning (beginning : Beginning) (bits : List Bool) : Type 0 where
+  pub before : List Bool
+  pub more : List Bool
+  pub is : bits ≡ before ++ more
+  pub known : IsBeginning beginning before

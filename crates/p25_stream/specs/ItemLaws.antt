@@ -1,0 +1,79 @@
+-- What makes the definition of a stream's items believable: laws over all bits and places.
+use Rattle.std.specs.Prelude.{◌≡◌, ℕ, ◌+◌, ◌<◌, ◌≤◌, Bool, true, false, ◌||◌, List, [], ◌∷◌, ◌++◌, length, drop}
+use Rattle.std.specs.List.{sum_by}
+use Rattle.p25_status.specs.Sync.{has_sync}
+use Rattle.p25_units.specs.Fixes.{fixes_of}
+use Rattle.p25_units.specs.Items.{IsSoundItem, covered, place_of}
+use Rattle.p25_units.specs.Units.{IsSoundFrame}
+use Rattle.p25_units.specs.WithinRadius.{IsWithinRadius, received_frame}
+use Rattle.p25_units.specs.declared.frame.Frame.{Frame}
+use Rattle.p25_units.specs.declared.item.Item.{Item}
+use Rattle.p25_units.specs.declared.item.Item.TheVariants.{Whole, Gap}
+use Rattle.p25_stream.specs.Items.{sync_place, first_item, is_decided, items_by, items_of, decided_of}
+use Rattle.p25_stream.specs.Scan.{Scan, Gave}
+
+-- the least place with a sync: no place before it has one, and it has one where it is among the bits
+abbrev pub SyncPlaceIsLeast : Type 0
+SyncPlaceIsLeast =
+    (bits : List Bool)
+    → (sync_place bits ≤ length bits)
+    × ((place : ℕ) → place < sync_place bits → has_sync (drop place bits) ≡ false)
+    × (sync_place bits < length bits → has_sync (drop (sync_place bits) bits) ≡ true)
+
+-- no bits have no item; other bits have the first item, and then those of what it leaves, where the stream has ended or the
+-- first item is decided, and none otherwise
+abbrev pub ItemsUnfold : Type 0
+ItemsUnfold =
+    ((ended : Bool) (at : ℕ) → items_by ended at [] ≡ [])
+    × ((ended : Bool) (at : ℕ) (bits : List Bool) → 0 < length bits → (ended || is_decided bits) ≡ true
+    → items_by ended at bits ≡ first_item at bits ∷ items_by ended (at + covered (first_item at bits)) (drop (covered (first_item at bits)) bits))
+    × ((ended : Bool) (at : ℕ) (bits : List Bool) → (ended || is_decided bits) ≡ false → items_by ended at bits ≡ [])
+
+-- the items cover every bit
+abbrev pub ItemsCoverAll : Type 0
+ItemsCoverAll = (at : ℕ) (bits : List Bool) → sum_by covered (items_of at bits) ≡ length bits
+
+-- each item covers one bit at least, and begins where those before it end
+abbrev pub ItemsLieEndToEnd : Type 0
+ItemsLieEndToEnd =
+    (ended : Bool) (at : ℕ) (bits : List Bool) (before : List Item) (item : Item) (after : List Item)
+    → items_by ended at bits ≡ before ++ item ∷ after → (0 < covered item) × (place_of item ≡ at + sum_by covered before)
+
+-- no gap is longer than 4,096 bits, and one that another gap follows has exactly so many
+abbrev pub GapsAreFull : Type 0
+GapsAreFull =
+    ((ended : Bool) (at : ℕ) (bits : List Bool) (before : List Item) (place count : ℕ) (after : List Item)
+    → items_by ended at bits ≡ before ++ Gap place count ∷ after → count ≤ 4096)
+    × ((ended : Bool) (at : ℕ) (bits : List Bool) (before : List Item) (place count next_place next_count : ℕ) (after : List Item)
+    → items_by ended at bits ≡ before ++ Gap place count ∷ Gap next_place next_count ∷ after → count ≡ 4096)
+
+-- each item is sound
+abbrev pub ItemsAreSound : Type 0
+ItemsAreSound =
+    (ended : Bool) (at : ℕ) (bits : List Bool) (before : List Item) (item : Item) (after : List Item)
+    → items_by ended at bits ≡ before ++ item ∷ after → IsSoundItem item
+
+-- a first item that is decided stays the first whatever bits come later
+abbrev pub FirstStays : Type 0
+FirstStays = (at : ℕ) (bits more : List Bool) → is_decided bits ≡ true → (first_item at (bits ++ more) ≡ first_item at bits) × (is_decided (bits ++ more) ≡ true)
+
+-- what some bits decide begins the items of these bits and any that come later, and what all of them decide
+abbrev pub DecidedStay : Type 0
+DecidedStay = (ended : Bool) (at : ℕ) (bits more : List Bool) → (rest : List Item) × (items_by ended at (bits ++ more) ≡ decided_of at bits ++ rest)
+
+-- where bits begin with those of a sound frame but for few wrong ones, the first item is the whole unit as received, it is
+-- decided, and it covers exactly these bits
+abbrev pub NearIsWhole : Type 0
+NearIsWhole =
+    (at : ℕ) (frame : Frame) (sent more : List Bool) → IsSoundFrame frame → frame.unit.nac ≤ 4095 → IsWithinRadius frame sent
+    → (first_item at (sent ++ more) ≡ Whole at (received_frame frame sent) (fixes_of (received_frame frame sent) sent))
+    × (is_decided (sent ++ more) ≡ true)
+    × (covered (first_item at (sent ++ more)) ≡ length sent)
+
+-- a scanner that gave an item gave the first of the items of what it held and any bits that come later, and has the others
+-- left
+abbrev pub GaveItems : Type 0
+GaveItems =
+    (before now : Scan) (item : Item) (raw : List Bool) (ended : Bool) (more : List Bool)
+    → Gave before item raw now → (before.finished ≡ true → (ended ≡ true) × (more ≡ []))
+    → items_by ended before.place (before.held ++ more) ≡ item ∷ items_by ended now.place (now.held ++ more)

@@ -1,0 +1,5 @@
+pub mod Items
+pub mod ItemLaws
+pub mod Scan
+pub mod Beginnings
+pub mod Repeats

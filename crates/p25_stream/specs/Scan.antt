@@ -1,0 +1,25 @@
+-- What contracts see of a scanner.
+use Rattle.std.specs.Prelude.{◌≡◌, ℕ, ◌+◌, ◌<◌, ◌≤◌, Bool, List, ◌∷◌, length, take, drop}
+use Rattle.p25_units.specs.Items.{covered}
+use Rattle.p25_units.specs.declared.item.Item.{Item}
+use Rattle.p25_stream.specs.Items.{items_by}
+
+-- the bits held, the place of the first of them, and whether no more come
+pub record Scan : Type 0 where
+  pub place : ℕ
+  pub held : List Bool
+  pub finished : Bool
+
+-- the items that a scanner can give
+abbrev pub given : Scan → List Item
+given scan = items_by scan.finished scan.place scan.held
+
+-- a scanner gave the first of its items, with the bits that it covers, and has the others left
+pub record Gave (before : Scan) (item : Item) (raw : List Bool) (now : Scan) : Type 0 where
+  pub items : given before ≡ item ∷ given now
+  pub some : 0 < covered item
+  pub there : covered item ≤ length before.held
+  pub raw_bits : raw ≡ take (covered item) before.held
+  pub left : now.held ≡ drop (covered item) before.held
+  pub place : now.place ≡ before.place + covered item
+  pub same : now.finished ≡ before.finished

@@ -1,0 +1,36 @@
+//! What is known of the item that some bits begin with.
+
+ghost use Rattle.std.specs.Prelude.{◌≡◌, true, false};
+ghost use Rattle.p25_stream.specs.Beginnings.{is_settled};
+
+use p25_units::{Begun, Field};
+
+/// What a scanner remembers of the item that the bits it holds begin with.
+#[derive(Clone, Copy)]
+pub enum Beginning {
+    /// Nothing is known: the first so many places have no sync, and no others can be judged yet.
+    Searching(usize),
+    /// A sync, behind which so many bits have to be there, and what was read of a unit.
+    Waiting(usize, Begun),
+    /// A gap of so many bits.
+    Gap(usize),
+    /// A unit of so many bits, and what was read of it.
+    Ready(usize, Begun),
+    /// A sync, but no unit, since this field fails.
+    NoUnit(Field),
+}
+
+impl Beginning {
+    // Whether the first item is known.
+    pub(crate) fn is_settled(&self) -> bool
+        ensures { result ≡ is_settled self.now }
+    {
+        match self {
+            Beginning::Searching(_) => false,
+            Beginning::Waiting(_, _) => false,
+            Beginning::Gap(_) => true,
+            Beginning::Ready(_, _) => true,
+            Beginning::NoUnit(_) => true,
+        }
+    }
+}

@@ -1,0 +1,145 @@
+//! The item that some bits begin with.
+
+ghost use Rattle.std.specs.Prelude.{◌≡◌, ◌+◌, ◌-◌, ◌*◌, ◌^◌, ◌<◌, ◌≤◌, ℕ, true, false, length, drop};
+ghost use Rattle.p25_bits.specs.Bits.{bits_of, part};
+ghost use Rattle.p25_status.specs.Sync.{has_sync};
+ghost use Rattle.p25_units.specs.Begins.{IsBegun};
+ghost use Rattle.p25_units.specs.Items.{IsSoundItem};
+ghost use Rattle.p25_stream.specs.Beginnings.{IsBeginning, WasBeginning, is_settled};
+ghost use Rattle.p25_stream.specs.Items.{first_item, sync_place};
+
+use crate::beginning::Beginning;
+use p25_bits::BitBuf;
+use p25_status::is_sync_window;
+use p25_units::{Begun, Field, Item, Need, need_begun, unit_item};
+
+// The most bits of a gap.
+const GAP_MOST: usize = 4_096;
+
+// How many bits behind a place are needed to judge it.
+const BEHIND: usize = 47;
+
+// How many places the bits of one number judge.
+const AT_ONCE: usize = 17;
+
+// What is known of bits whose first `clear` places have no sync.
+pub(crate) fn beginning_from(held: &BitBuf, clear: usize) -> Beginning
+    requires clear { clear ≤ sync_place held.now }
+    requires judged { clear ≤ length held.now - 47 }
+    requires few { clear ≤ 4096 }
+    ensures { IsBeginning result held.now }
+{
+    let end = held.len().saturating_sub(BEHIND).min(GAP_MOST);
+    let mut k = clear;
+    while k < end {
+        let count = (end - k).min(AT_ONCE);
+        let free = places_before_sync(held.field(k, (BEHIND + count) as u32), count);
+        k += free;
+        if free < count {
+            return beginning_before_sync(held, k);
+        }
+    }
+    if k == GAP_MOST {
+        Beginning::Gap(k)
+    } else {
+        Beginning::Searching(k)
+    }
+}
+
+// How many of the first `count` places of a number's bits have no sync.
+fn places_before_sync(number: u64, count: usize) -> usize
+    requires some { 0 < count }
+    requires many { count ≤ 17 }
+    requires fits { number < 2 ^ (47 + count) }
+    ensures most { result ≤ count }
+    ensures none { (place : ℕ) → place < result → has_sync (part place 48 (bits_of (47 + count) number)) ≡ false }
+    ensures sync { result < count → has_sync (part result 48 (bits_of (47 + count) number)) ≡ true }
+{
+    for place in 0..count {
+        if is_sync_window((number >> (count - 1 - place)) % (1 << 48)) {
+            return place;
+        }
+    }
+    count
+}
+
+// What is known of bits whose first sync is at a place.
+fn beginning_before_sync(held: &BitBuf, place: usize) -> Beginning
+    requires clear { place ≤ sync_place held.now }
+    requires few { place < 4096 }
+    requires there { place + 48 ≤ length held.now }
+    requires synced { has_sync (drop place held.now) ≡ true }
+    ensures { IsBeginning result held.now }
+{
+    if place == 0 {
+        beginning_at_sync(held, Begun::new())
+    } else {
+        Beginning::Gap(place)
+    }
+}
+
+// What is known of bits that begin with a sync.
+fn beginning_at_sync(held: &BitBuf, begun: Begun) -> Beginning
+    requires synced { has_sync held.now ≡ true }
+    requires begun { IsBegun begun held.now }
+    ensures { IsBeginning result held.now }
+{
+    let mut begun = begun;
+    match need_begun(held, 0, &mut begun) {
+        Need::NoSync => Beginning::NoUnit(Field::Sync),
+        Need::More(count) => Beginning::Waiting(count, begun),
+        Need::Length(count) => Beginning::Ready(count, begun),
+        Need::NoLength(field) => Beginning::NoUnit(field),
+    }
+}
+
+// What is known once more bits have come, where the first item was not known before.
+pub(crate) fn beginning_after(beginning: Beginning, held: &BitBuf) -> Beginning
+    requires was { WasBeginning beginning held.now }
+    requires unsettled { is_settled beginning ≡ false }
+    ensures { IsBeginning result held.now }
+{
+    match beginning {
+        Beginning::Searching(clear) => beginning_from(held, clear),
+        Beginning::Waiting(count, begun) => beginning_waiting(held, count, begun),
+        Beginning::Gap(_) => beginning_from(held, 0),
+        Beginning::Ready(_, _) => beginning_from(held, 0),
+        Beginning::NoUnit(_) => beginning_from(held, 0),
+    }
+}
+
+// The same at a sync behind which so many bits were waited for.
+fn beginning_waiting(held: &BitBuf, count: usize, begun: Begun) -> Beginning
+    requires { WasBeginning (Beginning.Waiting count begun) held.now }
+    ensures { IsBeginning result held.now }
+{
+    if held.len() < count {
+        Beginning::Waiting(count, begun)
+    } else {
+        beginning_at_sync(held, begun)
+    }
+}
+
+// The first item of some bits; where it is not known, they are all there are.
+pub(crate) fn item_of_beginning(beginning: Beginning, held: &BitBuf, place: u64) -> Item
+    requires { IsBeginning beginning held.now }
+    ensures item { result ≡ first_item place held.now }
+    ensures sound { IsSoundItem result }
+{
+    match beginning {
+        Beginning::Searching(_) => Item::Gap {
+            place,
+            length: held.len().min(GAP_MOST) as u32,
+        },
+        Beginning::Waiting(_, _) => Item::Cut {
+            place,
+            have: held.len() as u32,
+        },
+        Beginning::Gap(count) => Item::Gap {
+            place,
+            length: count as u32,
+        },
+        Beginning::Ready(count, begun) => unit_item(held, 0, count, begun, place),
+        Beginning::NoUnit(field) => Item::NoUnit { place, field },
+    }
+}

@@ -1,0 +1,26 @@
+//! The laws of a stream's items.
+
+ghost use Rattle.p25_stream.specs.ItemLaws.{DecidedStay, FirstStays, GapsAreFull, GaveItems, ItemsAreSound, ItemsCoverAll, ItemsLieEndToEnd, ItemsUnfold, NearIsWhole, SyncPlaceIsLeast};
+
+/// Does nothing: its contract is the laws of the items of a stream, over all bits.
+///
+/// - `sync`: a gap ends before the least place that has a sync.
+/// - `recursion`: the items are the first item of the bits, and then those of what it leaves, as far as they are decided.
+/// - `cover_all`, `end_to_end`: the items lie end to end and cover every bit, each one bit at least.
+/// - `gaps`: a gap has 4,096 bits at most, and exactly that many where another gap follows.
+/// - `sound`: each item is sound.
+/// - `first_stays`, `decided_stay`: what some bits decide stays and begins the items, whatever bits come later.
+/// - `near`: a unit with few wrong bits at a place where an item begins is that item, whole and as received.
+/// - `gave`: what a scanner gave is the first of the items of what it held and any bits that come later.
+pub fn item_laws()
+    ensures sync { SyncPlaceIsLeast }
+    ensures recursion { ItemsUnfold }
+    ensures cover_all { ItemsCoverAll }
+    ensures end_to_end { ItemsLieEndToEnd }
+    ensures gaps { GapsAreFull }
+    ensures sound { ItemsAreSound }
+    ensures first_stays { FirstStays }
+    ensures decided_stay { DecidedStay }
+    ensures near { NearIsWhole }
+    ensures gave { GaveItems }
+{}

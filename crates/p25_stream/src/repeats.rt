@@ -1,0 +1,67 @@
+//! Items that are sent again, repaired or under another network access code.
+
+ghost use Rattle.std.specs.Prelude.{◌≡◌, ◌<◌, ◌≤◌, replicate};
+ghost use Rattle.p25_units.specs.Items.{IsSoundItem};
+ghost use Rattle.p25_units.specs.Units.{IsSoundFrame, image_of};
+ghost use Rattle.p25_stream.specs.Repeats.{bridged, bridged_frame, is_whole_item, repaired};
+
+use p25_bits::BitBuf;
+use p25_units::{Frame, Item, Status, Statuses, image, image_as};
+
+/// Replaces the bits that an item covers by those of its frame where it is `Whole`, so that no wrong bit is left in its
+/// sync, its identifier and its code words; its status symbols and the bits without a code stay as received. The bits of
+/// every other item stay as they are.
+pub fn repair_item(item: &Item, raw: &mut BitBuf)
+    requires { IsSoundItem item.now }
+    ensures { raw.new ≡ repaired item.now raw.old }
+{
+    match item {
+        Item::Whole { frame, .. } => image(frame, raw),
+        Item::Broken { .. } => {}
+        Item::NoUnit { .. } => {}
+        Item::Gap { .. } => {}
+        Item::Cut { .. } => {}
+    }
+}
+
+/// Sets `out` to the bits of a `Whole` item's frame, with another network access code and with one status symbol in place
+/// of all, and answers true. For every other item it answers false, and `out` stays as it is.
+pub fn bridge_item(item: &Item, nac: u16, status: Status, out: &mut BitBuf) -> bool
+    requires sound { IsSoundItem item.now }
+    requires nac { nac < 4096 }
+    ensures bits { out.new ≡ bridged nac status item.now out.old }
+    ensures whole { result ≡ is_whole_item item.now }
+{
+    match item {
+        Item::Whole { frame, .. } => {
+            bridge_frame(frame, nac, status, out);
+            true
+        }
+        Item::Broken { .. } => false,
+        Item::NoUnit { .. } => false,
+        Item::Gap { .. } => false,
+        Item::Cut { .. } => false,
+    }
+}
+
+// The bits of a frame under another network access code, with one status symbol in place of all.
+fn bridge_frame(frame: &Frame, nac: u16, status: Status, out: &mut BitBuf)
+    requires sound { IsSoundFrame frame.now }
+    requires nac { nac < 4096 }
+    ensures { out.new ≡ image_of (bridged_frame nac status frame.now) }
+{
+    let statuses = repeated(status, frame.statuses.len());
+    image_as(frame, nac, &statuses, out);
+}
+
+// So many status symbols that are one.
+fn repeated(status: Status, count: usize) -> Statuses
+    requires { count ≤ 360 }
+    ensures { result ≡ replicate count status }
+{
+    let mut statuses = Statuses::new();
+    while statuses.len() < count {
+        statuses.push(status);
+    }
+    statuses
+}

@@ -1,0 +1,109 @@
+//! A scanner of bits that come octet by octet.
+
+ghost use Rattle.std.specs.Prelude.{◌≡◌, ◌+◌, ◌^◌, ◌<◌, ◌≤◌, ◌↔◌, ◌++◌, [], true, false, length, IsTrue, IfSome, MatchOption};
+ghost use Rattle.p25_bits.specs.Bits.{bits_of};
+ghost use Rattle.p25_stream.specs.Scan.{Gave, given};
+ghost use Rattle.p25_units.specs.Items.{IsSoundItem};
+
+use crate::beginning::Beginning;
+use crate::judging::{beginning_after, beginning_from, item_of_beginning};
+use p25_bits::BitBuf;
+use p25_units::Item;
+use std::marker::Model;
+
+/// A scanner: it holds the bits that no item given so far covers, at most 25,927, and the place of the first of them. It
+/// remembers what it knows of the item there, so that no place is judged and no identifier is read again at each octet.
+#[derive(Drop)]
+pub struct Scanner {
+    held: BitBuf,
+    place: u64,
+    finished: bool,
+    beginning: Beginning,
+}
+
+impl Model for Scanner {
+    ghost use Rattle.std.specs.Prelude.{◌+◌, ◌^◌, ◌<◌, ◌≤◌, length};
+    ghost use Rattle.p25_stream.specs.Scan.{Scan};
+    ghost use Rattle.p25_stream.specs.Beginnings.{IsBeginning};
+
+    ghost Value = { Scan };
+
+    ghost view = { λ s. record { place = s.place; held = s.held; finished = s.finished } };
+
+    ghost invariant = { λ s. IsBeginning s.beginning s.held × (length s.held ≤ 25927) × (s.place + length s.held < 2 ^ 61) };
+}
+
+impl Scanner {
+    /// Answers a scanner at place 0 that holds nothing.
+    pub fn new() -> Scanner
+        ensures { result ≡ record { place = 0; held = []; finished = false } }
+    {
+        let held = BitBuf::new();
+        let beginning = beginning_from(&held, 0);
+        Scanner {
+            held,
+            place: 0,
+            finished: false,
+            beginning,
+        }
+    }
+
+    /// Appends the bits of an octet, the most significant first. No item is left to give, the stream is not finished, and
+    /// fewer than 2^60 bits were taken.
+    pub fn push(&mut self, octet: u8)
+        requires drained { given self.old ≡ [] }
+        requires going { self.old.finished ≡ false }
+        requires few { self.old.place + length self.old.held < 2 ^ 60 }
+        ensures { self.new ≡ record self.old { held = self.old.held ++ bits_of 8 octet } }
+    {
+        self.held.put_field(u64::from(octet), 8);
+        self.beginning = beginning_after(self.beginning, &self.held);
+    }
+
+    /// Sets that no more bits come: what is held is divided to its end.
+    pub fn finish(&mut self)
+        ensures { self.new ≡ record self.old { finished = true } }
+    {
+        self.finished = true;
+    }
+
+    /// Answers whether `next` would answer `None`.
+    pub fn is_drained(&self) -> bool
+        ensures { IsTrue result ↔ (given self.now ≡ []) }
+    {
+        if self.finished {
+            self.held.len() == 0
+        } else {
+            !self.beginning.is_settled()
+        }
+    }
+
+    /// Answers how many bits are held: those taken that no item given so far covers.
+    pub fn held(&self) -> usize
+        ensures value { result ≡ length self.now.held }
+        ensures most { result ≤ 25927 }
+    {
+        let _ = &self.place;
+        self.held.len()
+    }
+
+    /// Answers the next item and sets `raw` to the bits that it covers, which are held no longer. `None` comes exactly
+    /// where the bits so far decide no further item, or where the stream is finished and all bits are given; then the bits
+    /// held and `raw` stay as they are.
+    pub fn next(&mut self, raw: &mut BitBuf) -> Option<Item>
+        ensures given { MatchOption result ((given self.old ≡ []) × (self.new ≡ self.old) × (raw.new ≡ raw.old)) (λ item. Gave self.old item raw.new self.new) }
+        ensures sound { IfSome result IsSoundItem }
+    {
+        if self.is_drained() {
+            return None;
+        }
+        let item = item_of_beginning(self.beginning, &self.held, self.place);
+        let count = item.covered();
+        raw.clear();
+        raw.append(&self.held, 0, count as usize);
+        self.held.drop_front(count as usize);
+        self.place += count;
+        self.beginning = beginning_from(&self.held, 0);
+        Some(item)
+    }
+}

@@ -1,0 +1,129 @@
+-- For each form of value, that its text is read as it, and that what is read is the text of it.
+use Rattle.std.proofs.Common.{◌≡◌, ℕ, ◌+◌, ◌*◌, ◌/◌, ◌%◌, ◌<◌, ◌==◌, ◌&&◌, true, List, [], ◌∷◌, length, drop, slice_index, get_or, Option, Some, None, inl, inr, refl, sym, ap, ap₂, subst, ◌∙◌, arith}
+use Rattle.std.specs.List.{list_all}
+use Rattle.std.proofs.lemmas.Bool.{and_parts, cases_Bool, cond-true, cond-false, eq-eqb, eqb-true}
+use Rattle.std.proofs.lemmas.List.Elements.{All-nil, All-cons, All-head, All-tail}
+use Rattle.hex.specs.Hex.{encode_with, encode_lower, lower_digits}
+use Rattle.hex.proofs.HexLemmas.{length-encode_with}
+use Rattle.p25_line.specs.Values.{AllOctets, is_lower_digit, nibble_of, octets_of}
+use Rattle.p25_line.proofs.HexLaws.{digit_facts, list_all-encode_lower, octets_of-encode_lower, octets_of-facts}
+use Rattle.p25_text.specs.Grammar.{three_digits, octets_in, number_in, nac_in}
+
+-- two numbers below 256
+pub two_octets : (high low : ℕ) → high < 256 → low < 256 → AllOctets (high ∷ low ∷ [])
+two_octets high low h l = All-cons (λ x. x < 256) high (low ∷ []) h (All-cons (λ x. x < 256) low [] l (All-nil (λ x. x < 256)))
+
+-- the text of octets is read as them
+pub octets_in-encode_lower : (count : ℕ) (octets : List ℕ) → AllOctets octets → length octets ≡ count → octets_in count (encode_lower octets) ≡ Some octets
+octets_in-encode_lower count octets fits same =
+    let long : length (encode_lower octets) ≡ 2 * count = length-encode_with lower_digits octets ∙ ap (λ n. 2 * n) same in
+    cond-true ((length (encode_lower octets) == 2 * count) && list_all is_lower_digit (encode_lower octets)) (Some (octets_of (encode_lower octets))) None
+    (ap₂ ◌&&◌ (eq-eqb (length (encode_lower octets)) (2 * count) long) (list_all-encode_lower octets fits))
+    ∙ ap Some (octets_of-encode_lower octets fits)
+
+-- what is read as octets is their text
+pub octets_in-text : (count : ℕ) (word octets : List ℕ) → octets_in count word ≡ Some octets → (encode_lower octets ≡ word) × AllOctets octets × (length octets ≡ count)
+octets_in-text count word octets found =
+    elim (cases_Bool ((length word == 2 * count) && list_all is_lower_digit word)) [
+      | inl passed ↦
+          let parts = and_parts (length word == 2 * count) (list_all is_lower_digit word) passed in
+          let facts = octets_of-facts count word (eqb-true (length word) (2 * count) parts.0) parts.1 in
+          let read = cond-true ((length word == 2 * count) && list_all is_lower_digit word) (Some (octets_of word)) None passed in
+          let same : octets_of word ≡ octets = cc in
+          subst (λ (o : List ℕ). (encode_lower o ≡ word) × AllOctets o × (length o ≡ count)) same facts
+      | inr failed ↦ let read = cond-false ((length word == 2 * count) && list_all is_lower_digit word) (Some (octets_of word)) None failed in cc
+    ]
+
+-- a word that is no text of so many octets is read as none
+pub octets_in-none : (count : ℕ) (word : List ℕ) → ((octets : List ℕ) → length octets ≡ count → AllOctets octets → encode_lower octets ≡ word → ⊥) → octets_in count word ≡ None
+octets_in-none count word other =
+    elim (cases_Bool ((length word == 2 * count) && list_all is_lower_digit word)) [
+      | inl passed ↦
+          let parts = and_parts (length word == 2 * count) (list_all is_lower_digit word) passed in
+          let facts = octets_of-facts count word (eqb-true (length word) (2 * count) parts.0) parts.1 in
+          absurd (other (octets_of word) facts.2 facts.1 facts.0)
+      | inr failed ↦ cond-false ((length word == 2 * count) && list_all is_lower_digit word) (Some (octets_of word)) None failed
+    ]
+
+-- three digits, with a 0 before them, are the text of two octets
+pub three_digits-text : (nac : ℕ) → nac < 4096 → 48 ∷ three_digits nac ≡ encode_lower (nac / 256 ∷ nac % 256 ∷ [])
+unfolding encode_with
+three_digits-text nac below =
+    let first : nac / 256 / 16 ≡ 0 = omega arith in
+    ap (λ n. slice_index lower_digits n ∷ three_digits nac) (sym first)
+
+pub length-three_digits : (nac : ℕ) → length (three_digits nac) ≡ 3
+unfolding encode_with
+length-three_digits nac = refl
+
+pub printed-three_digits : (nac : ℕ) → nac < 4096 → list_all is_lower_digit (three_digits nac) ≡ true
+printed-three_digits nac below =
+    let fits = two_octets (nac / 256) (nac % 256) (omega arith) (omega arith) in
+    let whole = ap (list_all is_lower_digit) (three_digits-text nac below) ∙ list_all-encode_lower (nac / 256 ∷ nac % 256 ∷ []) fits in
+    (and_parts (is_lower_digit 48) (list_all is_lower_digit (three_digits nac)) whole).1
+
+-- a network access code is read from its text
+pub nac_in-three_digits : (nac : ℕ) → nac < 4096 → nac_in (three_digits nac) ≡ Some nac
+nac_in-three_digits nac below =
+    let fits = two_octets (nac / 256) (nac % 256) (omega arith) (omega arith) in
+    let number : 256 * (nac / 256) + nac % 256 ≡ nac = omega arith in
+    ap (λ w. number_in (octets_in 2 w)) (three_digits-text nac below)
+    ∙ ap number_in (octets_in-encode_lower 2 (nac / 256 ∷ nac % 256 ∷ []) fits refl)
+    ∙ ap Some number
+
+-- two octets whose text begins with a 0
+first_digit : (high low : ℕ) (word : List ℕ) → high < 256 → encode_lower (high ∷ low ∷ []) ≡ 48 ∷ word → high < 16
+unfolding encode_with
+first_digit high low word fits text =
+    let zero_digit : slice_index lower_digits (high / 16) ≡ 48 = cc in
+    let value : nibble_of (slice_index lower_digits (high / 16)) ≡ high / 16 = (digit_facts (high / 16) (omega arith)).1 in
+    let none : high / 16 ≡ 0 = sym value ∙ ap nibble_of zero_digit in
+    omega arith
+
+nac_from : (word : List ℕ) (octets : Option (List ℕ)) (nac : ℕ) → octets_in 2 (48 ∷ word) ≡ octets → number_in octets ≡ Some nac → (three_digits nac ≡ word) × (nac < 4096)
+nac_from word None nac found number = cc number
+nac_from word (Some []) nac found number = cc number
+nac_from word (Some (high ∷ [])) nac found number = cc number
+nac_from word (Some (high ∷ low ∷ next ∷ octets)) nac found number = cc number
+nac_from word (Some (high ∷ low ∷ [])) nac found number =
+    let facts = octets_in-text 2 (48 ∷ word) (high ∷ low ∷ []) found in
+    let high_fits : high < 256 = All-head (λ x. x < 256) high (low ∷ []) facts.1 in
+    let low_fits : low < 256 = All-head (λ x. x < 256) low [] (All-tail (λ x. x < 256) high (low ∷ []) facts.1) in
+    let small : high < 16 = first_digit high low word high_fits facts.0 in
+    let value : 256 * high + low ≡ nac = cc number in
+    let upper : nac / 256 ≡ high = omega arith in
+    let lower : nac % 256 ≡ low = omega arith in
+    (ap₂ (λ h l. drop 1 (encode_lower (h ∷ l ∷ []))) upper lower ∙ ap (drop 1) facts.0, omega arith)
+
+-- what is read as a network access code is its text
+pub nac_in-text : (word : List ℕ) (nac : ℕ) → nac_in word ≡ Some nac → (three_digits nac ≡ word) × (nac < 4096)
+nac_in-text word nac found = nac_from word (octets_in 2 (48 ∷ word)) nac refl found
+
+-- the octets of a word of three, one by one
+three_octets : (word : List ℕ) → length word ≡ 3 → get_or word 0 0 ∷ get_or word 1 0 ∷ get_or word 2 0 ∷ [] ≡ word
+three_octets [] same = absurd (omega arith)
+three_octets (a ∷ []) same = absurd (omega arith)
+three_octets (a ∷ b ∷ []) same = absurd (omega arith)
+three_octets (a ∷ b ∷ c ∷ []) same = refl
+three_octets (a ∷ b ∷ c ∷ d ∷ word) same = absurd (omega arith)
+
+-- a word of three that is no text of a network access code
+pub nac_value-none : (word : List ℕ) → length word ≡ 3
+    → ((octets : List ℕ) → length octets ≡ 2 → AllOctets octets → encode_lower octets ≡ 48 ∷ get_or word 0 0 ∷ get_or word 1 0 ∷ get_or word 2 0 ∷ [] → ⊥) → None ≡ nac_in word
+nac_value-none word same other =
+    let whole = ap (λ w. 48 ∷ w) (three_octets word same) in
+    sym (ap number_in (octets_in-none 2 (48 ∷ word) (λ octets count fits text. other octets count fits (text ∙ sym whole))))
+
+number_of_two : (octets : List ℕ) → length octets ≡ 2 → number_in (Some octets) ≡ Some (get_or octets 0 0 * 256 + get_or octets 1 0)
+number_of_two [] same = absurd (omega arith)
+number_of_two (a ∷ []) same = absurd (omega arith)
+number_of_two (a ∷ b ∷ []) same = let turned : 256 * a + b ≡ a * 256 + b = omega arith in ap Some turned
+number_of_two (a ∷ b ∷ c ∷ octets) same = absurd (omega arith)
+
+-- a word of three that is the text of a network access code
+pub nac_value-some : (word octets : List ℕ) (number : ℕ) → length word ≡ 3 → length octets ≡ 2 → AllOctets octets
+    → encode_lower octets ≡ 48 ∷ get_or word 0 0 ∷ get_or word 1 0 ∷ get_or word 2 0 ∷ [] → number ≡ get_or octets 0 0 * 256 + get_or octets 1 0 → Some number ≡ nac_in word
+nac_value-some word octets number same count fits text value =
+    let whole = text ∙ ap (λ w. 48 ∷ w) (three_octets word same) in
+    ap Some value ∙ sym (number_of_two octets count)
+    ∙ sym (ap (λ w. number_in (octets_in 2 w)) (sym whole) ∙ ap number_in (octets_in-encode_lower 2 octets fits count))

@@ -1,0 +1,144 @@
+-- Unit lines: the line of a unit, and the unit of a line.
+use Rattle.std.specs.Prelude.{ℕ, ◌+◌, ◌*◌, ◌/◌, ◌%◌, ◌<◌, ◌==◌, ◌&&◌, nat_eq, cond, List, [], ◌∷◌, ◌++◌, length, drop, Option, Some, None, Result, Ok, Err}
+use Rattle.std.specs.List.{join_with_byte, list_all, starts_with}
+use Rattle.hex.specs.Hex.{encode_lower}
+use Rattle.p25_line.specs.Values.{is_lower_digit, octets_of}
+use Rattle.p25_line.specs.Words.{words_or_fault}
+use Rattle.p25_line.specs.declared.fault.LineFault.{LineFault}
+use Rattle.p25_line.specs.declared.fault.LineFault.TheVariants.{Form, Key, Value, Kind as WrongKind}
+use Rattle.p25_voice_units.specs.declared.unit.VoiceUnit.{VoiceUnit}
+use Rattle.p25_voice_units.specs.declared.unit.VoiceUnit.TheVariants.{End}
+use Rattle.p25_units.specs.UnitParts.{UnitParts}
+use Rattle.p25_units.specs.declared.unit.Body.{Body}
+use Rattle.p25_units.specs.declared.unit.Body.TheVariants.{Voice}
+use Rattle.p25_text.specs.Names.{kind_word, kind_named, keys_of, key_text}
+use Rattle.p25_text.specs.declared.names.UnitKey.{UnitKey}
+use Rattle.p25_text.specs.declared.names.UnitKind.{UnitKind}
+use Rattle.p25_text.specs.declared.names.UnitKind.TheVariants.{Tdu}
+
+-- ---- values
+
+-- the last three hexadecimal digits of a number
+abbrev pub three_digits : ℕ → List ℕ
+three_digits number = drop 1 (encode_lower (number / 256 ∷ number % 256 ∷ []))
+
+-- the octets whose text a word is, where it has two digits for each of so many octets
+abbrev pub octets_in : ℕ → List ℕ → Option (List ℕ)
+octets_in count word = cond ((length word == 2 * count) && list_all is_lower_digit word) (Some (octets_of word)) None
+
+-- the number of two octets
+abbrev pub number_in : Option (List ℕ) → Option ℕ
+number_in (Some (high ∷ low ∷ [])) = Some (256 * high + low)
+number_in (Some octets) = None
+number_in None = None
+
+-- the network access code that a word of three digits is
+abbrev pub nac_in : List ℕ → Option ℕ
+nac_in word = number_in (octets_in 2 (48 ∷ word))
+
+-- ---- the kinds, in the order of their table
+
+-- the kind of the line of a unit
+abbrev pub voice_kind : VoiceUnit → UnitKind
+voice_kind End = Tdu
+
+abbrev pub kind_of : Body → UnitKind
+kind_of (Voice voice) = voice_kind voice
+
+-- the values behind the network access code, in the order of the keys
+abbrev pub voice_values : VoiceUnit → List (List ℕ)
+voice_values End = []
+
+abbrev pub body_values : Body → List (List ℕ)
+body_values (Voice voice) = voice_values voice
+
+-- what the values behind the network access code are read as
+abbrev pub body_in : UnitKind → List (List ℕ) → Option Body
+body_in Tdu [] = Some (Voice End)
+body_in Tdu (value ∷ values) = None
+
+-- what a line can tell of: the octets of fields are octets, and packets are whole
+abbrev pub IsVoice : VoiceUnit → Type 0
+IsVoice End = Unit {0}
+
+abbrev pub IsBody : Body → Type 0
+IsBody (Voice voice) = IsVoice voice
+
+pub record IsUnit (unit : UnitParts) : Type 0 where
+  pub nac_fits : unit.nac < 4096
+  pub body_fits : IsBody unit.body
+
+-- ---- the line of a unit
+
+-- keys, each with its value
+abbrev pub keyed : List UnitKey → List (List ℕ) → List (List ℕ)
+keyed [] values = []
+keyed (key ∷ keys) [] = []
+keyed (key ∷ keys) (value ∷ values) = (key_text key ++ value) ∷ keyed keys values
+
+-- the values of a unit, in the order of the keys of its kind
+abbrev pub values_of : UnitParts → List (List ℕ)
+values_of unit = three_digits unit.nac ∷ body_values unit.body
+
+-- the words of a unit: its kind, and then each key with its value
+abbrev pub unit_words : UnitParts → List (List ℕ)
+unit_words unit = kind_word (kind_of unit.body) ∷ keyed (keys_of (kind_of unit.body)) (values_of unit)
+
+-- the line of a unit, without the end of the line
+unfoldable pub text_of : UnitParts → List ℕ
+text_of unit = join_with_byte 32 (unit_words unit)
+
+-- ---- the unit of a line
+
+-- what stands behind a key in a word that begins with it
+abbrev pub behind : List ℕ → List ℕ → Option (List ℕ)
+behind key word = cond (starts_with nat_eq word key) (Some (drop (length key) word)) None
+
+-- one value more, where there are all
+abbrev pub with_value : Option (List ℕ) → Option (List (List ℕ)) → Option (List (List ℕ))
+with_value None values = None
+with_value (Some value) None = None
+with_value (Some value) (Some values) = Some (value ∷ values)
+
+-- the values behind keys: none where there are more or fewer words than keys, or where some word does not begin with its key
+abbrev pub values_behind : List UnitKey → List (List ℕ) → Option (List (List ℕ))
+values_behind [] [] = Some []
+values_behind [] (word ∷ words) = None
+values_behind (key ∷ keys) [] = None
+values_behind (key ∷ keys) (word ∷ words) = with_value (behind (key_text key) word) (values_behind keys words)
+
+-- a unit of its two parts, where there are both
+abbrev pub unit_from : Option ℕ → Option Body → Option UnitParts
+unit_from None body = None
+unit_from (Some nac) None = None
+unit_from (Some nac) (Some body) = Some (record { nac = nac; body = body })
+
+-- the unit that values are read as
+abbrev pub unit_in : UnitKind → List (List ℕ) → Option UnitParts
+unit_in kind [] = None
+unit_in kind (nac ∷ values) = unit_from (nac_in nac) (body_in kind values)
+
+-- the unit, or that a value is wrong
+abbrev pub or_value : Option UnitParts → Result UnitParts LineFault
+or_value (Some unit) = Ok unit
+or_value None = Err Value
+
+-- the unit of the values of a kind, or that a key is wrong
+abbrev pub read_values : UnitKind → Option (List (List ℕ)) → Result UnitParts LineFault
+read_values kind (Some values) = or_value (unit_in kind values)
+read_values kind None = Err Key
+
+-- the unit of the words behind a kind, or that the kind is wrong
+abbrev pub read_kind : List (List ℕ) → Option UnitKind → Result UnitParts LineFault
+read_kind words (Some kind) = read_values kind (values_behind (keys_of kind) words)
+read_kind words None = Err WrongKind
+
+-- the unit of the words of a line, or why they could not be told
+abbrev pub read_words : Result (List (List ℕ)) LineFault → Result UnitParts LineFault
+read_words (Ok (first ∷ words)) = read_kind words (kind_named first)
+read_words (Ok []) = Err Form
+read_words (Err fault) = Err fault
+
+-- the unit of a line, or the first cause for which the line is refused
+unfoldable pub read_line_of : List ℕ → Result UnitParts LineFault
+read_line_of line = read_words (words_or_fault line)

@@ -1,0 +1,52 @@
+-- The texts of items.
+use Rattle.std.specs.Prelude.{ℕ, ◌+◌, List, [], ◌∷◌, ◌++◌, drop, map, codes, decimal}
+use Rattle.std.specs.List.{join_with_byte}
+use Rattle.hex.specs.Hex.{encode_lower}
+use Rattle.p25_status.specs.Status.{status_number}
+use Rattle.p25_status.specs.declared.fields.Field.{Field}
+use Rattle.p25_status.specs.declared.fields.Field.TheVariants.{Sync, Nid, Duid, HeaderWord, LinkControl, EncryptionSync, LowSpeed1, LowSpeed2, PacketHeader, Length, Format, PacketCrc, Block}
+use Rattle.p25_status.specs.declared.symbols.Status.{Status}
+use Rattle.p25_units.specs.Units.{frame_length_of}
+use Rattle.p25_units.specs.declared.item.Item.{Item}
+use Rattle.p25_units.specs.declared.item.Item.TheVariants.{Whole, Broken, NoUnit, Gap, Cut}
+use Rattle.p25_text.specs.Grammar.{three_digits, text_of}
+
+-- the name of a field
+abbrev pub field_name : Field → List ℕ
+field_name Sync = codes "sync"
+field_name Nid = codes "nid"
+field_name Duid = codes "duid"
+field_name HeaderWord = codes "header_word"
+field_name LinkControl = codes "link_control"
+field_name EncryptionSync = codes "encryption_sync"
+field_name LowSpeed1 = codes "low_speed_1"
+field_name LowSpeed2 = codes "low_speed_2"
+field_name PacketHeader = codes "packet_header"
+field_name Length = codes "length"
+field_name Format = codes "format"
+field_name PacketCrc = codes "packet_crc"
+field_name (Block block) = codes "block." ++ decimal block
+
+-- the names of fields, with commas between them
+unfoldable pub field_names : List Field → List ℕ
+field_names fields = join_with_byte 44 (map field_name fields)
+
+-- a digit 0 to 3 for each status symbol
+unfoldable pub status_digits : List Status → List ℕ
+status_digits statuses = map (λ status. 48 + status_number status) statuses
+
+-- the last hexadecimal digit of a number below 256
+abbrev pub one_digit : ℕ → List ℕ
+one_digit number = drop 1 (encode_lower (number ∷ []))
+
+-- the text of an item, without the end of its line
+unfoldable pub item_text_of : Item → List ℕ
+item_text_of (Whole place frame fixes) =
+    codes "unit at=" ++ decimal place ++ codes " bits=" ++ decimal (frame_length_of frame.unit) ++ codes " fix=" ++ decimal fixes
+    ++ codes " status=" ++ status_digits frame.statuses ++ codes " " ++ text_of frame.unit
+item_text_of (Broken place count nac duid fields) =
+    codes "broken at=" ++ decimal place ++ codes " bits=" ++ decimal count ++ codes " nac=" ++ three_digits nac ++ codes " duid=" ++ one_digit duid
+    ++ codes " fields=" ++ field_names fields
+item_text_of (NoUnit place field) = codes "nounit at=" ++ decimal place ++ codes " field=" ++ field_name field
+item_text_of (Gap place count) = codes "gap at=" ++ decimal place ++ codes " bits=" ++ decimal count
+item_text_of (Cut place have) = codes "cut at=" ++ decimal place ++ codes " bits=" ++ decimal have

@@ -1,0 +1,144 @@
+//! The texts of items.
+
+ghost use Rattle.std.specs.Prelude.{◌≡◌, ◌+◌, ◌*◌, ◌<◌, ◌≤◌, ◌++◌, [], length, decimal};
+ghost use Rattle.p25_units.specs.Items.{IsSoundItem};
+ghost use Rattle.p25_text.specs.ItemTexts.{field_name, field_names, item_text_of, one_digit, status_digits};
+
+use super::write::{put_nac, put_unit};
+use p25_line::Line;
+use p25_units::{Field, FieldList, Frame, Item, Statuses, frame_length};
+
+/// Sets `out` to the text of an item, without the end of its line.
+#[tactic(auto, unfolding(crate::specs::ItemTexts::item_text_of))]
+pub fn item_text(item: &Item, out: &mut Line)
+    requires { IsSoundItem item.now }
+    ensures text { out.new ≡ item_text_of item.now }
+    ensures short { length out.new < 8192 }
+{
+    out.clear();
+    match item {
+        Item::Whole {
+            place,
+            frame,
+            fixes,
+        } => put_whole(*place, frame, *fixes, out),
+        Item::Broken {
+            place,
+            length,
+            nac,
+            duid,
+            fields,
+        } => {
+            put_labelled(b"broken at=", *place, out);
+            put_labelled(b" bits=", u64::from(*length), out);
+            out.put(b" nac=");
+            put_nac(*nac, out);
+            out.put(b" duid=");
+            put_digit(*duid, out);
+            out.put(b" fields=");
+            put_fields(fields, out);
+        }
+        Item::NoUnit { place, field } => {
+            put_labelled(b"nounit at=", *place, out);
+            out.put(b" field=");
+            put_field(*field, out);
+        }
+        Item::Gap { place, length } => {
+            put_labelled(b"gap at=", *place, out);
+            put_labelled(b" bits=", u64::from(*length), out);
+        }
+        Item::Cut { place, have } => {
+            put_labelled(b"cut at=", *place, out);
+            put_labelled(b" bits=", u64::from(*have), out);
+        }
+    }
+}
+
+// Appends the text of a whole unit to an empty line.
+fn put_whole(place: u64, frame: &Frame, fixes: u32, out: &mut Line)
+    requires { out.old ≡ [] }
+    ensures text { out.new ≡ item_text_of (Item.Whole place frame.now fixes) }
+    ensures short { length out.new < 8192 }
+{
+    put_labelled(b"unit at=", place, out);
+    put_labelled(b" bits=", frame_length(&frame.unit) as u64, out);
+    put_labelled(b" fix=", u64::from(fixes), out);
+    out.put(b" status=");
+    put_statuses(&frame.statuses, out);
+    out.put(b" ");
+    put_unit(&frame.unit, out);
+}
+
+// Appends a label and a number in decimal.
+#[tactic(auto, using(crate::proofs::Decimals::decimal_short))]
+fn put_labelled(label: &[u8], number: u64, out: &mut Line)
+    requires { length out.old + length label.now + 20 ≤ 8192 }
+    ensures text { out.new ≡ out.old ++ label.now ++ decimal number }
+    ensures short { length out.new ≤ length out.old + length label.now + 20 }
+{
+    out.put(label);
+    out.put_number(number);
+}
+
+// Appends the last hexadecimal digit of a number.
+fn put_digit(number: u8, out: &mut Line)
+    requires { length out.old + 1 ≤ 8192 }
+    ensures text { out.new ≡ out.old ++ one_digit number }
+    ensures len { length out.new ≡ length out.old + 1 }
+{
+    let mut digits = [0; 2];
+    let _ = hex::encode_to_slice([number], &mut digits);
+    out.put(&digits[1..]);
+}
+
+// Appends a digit for each status symbol.
+fn put_statuses(statuses: &Statuses, out: &mut Line)
+    requires { length out.old + 360 ≤ 8192 }
+    ensures text { out.new ≡ out.old ++ status_digits statuses.now }
+    ensures short { length out.new ≤ length out.old + 360 }
+{
+    for i in 0..statuses.len() {
+        out.put(&[b'0' + statuses.get(i).value()]);
+    }
+}
+
+// Appends the names of fields, with commas between them.
+fn put_fields(fields: &FieldList, out: &mut Line)
+    requires { length out.old + 2032 ≤ 8192 }
+    ensures text { out.new ≡ out.old ++ field_names fields.now }
+    ensures short { length out.new ≤ length out.old + 2032 }
+{
+    for i in 0..fields.len() {
+        if i > 0 {
+            out.put(b",");
+        }
+        put_field(fields.get(i), out);
+    }
+}
+
+// Appends the name of a field.
+#[tactic(auto, using(crate::proofs::Decimals::decimal_octet))]
+fn put_field(field: Field, out: &mut Line)
+    requires { length out.old + 15 ≤ 8192 }
+    ensures text { out.new ≡ out.old ++ field_name field }
+    ensures short { length out.new ≤ length out.old + 15 }
+{
+    match field {
+        Field::Sync => out.put(b"sync"),
+        Field::Nid => out.put(b"nid"),
+        Field::Duid => out.put(b"duid"),
+        Field::HeaderWord => out.put(b"header_word"),
+        Field::LinkControl => out.put(b"link_control"),
+        Field::EncryptionSync => out.put(b"encryption_sync"),
+        Field::LowSpeed1 => out.put(b"low_speed_1"),
+        Field::LowSpeed2 => out.put(b"low_speed_2"),
+        Field::PacketHeader => out.put(b"packet_header"),
+        Field::Length => out.put(b"length"),
+        Field::Format => out.put(b"format"),
+        Field::PacketCrc => out.put(b"packet_crc"),
+        Field::Block(block) => {
+            out.put(b"block.");
+            out.put_number(u64::from(block));
+        }
+    }
+}

@@ -1,0 +1,77 @@
+//! Units read from lines.
+
+ghost use Rattle.std.specs.Prelude.{◌≡◌, ℕ, ◌<◌, Ok, IfOk, length, drop};
+ghost use Rattle.p25_line.specs.Words.{WordsAnswer};
+ghost use Rattle.p25_units.specs.UnitParts.{UnitParts};
+ghost use Rattle.p25_text.specs.Grammar.{IsUnit, body_in, read_line_of, text_of, unit_in};
+ghost use Rattle.p25_text.specs.Names.{keys_of};
+
+use super::names::UnitKind;
+use super::values::{Values, nac_value, values_of_words};
+use p25_line::{LineFault, WordList, words_of};
+use p25_units::{Body, Unit, VoiceUnit};
+
+/// Answers the unit whose text a line is. Each line that is accepted is the text of its unit, and the text of each unit is
+/// accepted. The first of these causes that applies is answered: Long, above 8,192 octets; Form, not one or more words of
+/// octets 21 to 7E hex with single spaces between them; Kind, the first word names no kind; Key, there are not as many
+/// further words as keys, or one does not begin with its key and `=`; Value, a value is not of its form.
+pub fn read_line(line: &[u8]) -> Result<Unit, LineFault>
+    ensures unit { result ≡ read_line_of line.now }
+    ensures text { IfOk result (λ unit. text_of unit ≡ line.now) }
+    ensures fits { IfOk result (λ unit. IsUnit unit) }
+    ensures each { (unit : UnitParts) → IsUnit unit → text_of unit ≡ line.now → result ≡ Ok unit }
+{
+    read_whole(line)
+}
+
+// The same, by the definition.
+fn read_whole(line: &[u8]) -> Result<Unit, LineFault>
+    ensures { result ≡ read_line_of line.now }
+{
+    let mut words = WordList::new();
+    match words_of(line, &mut words) {
+        Ok(()) => read_words(line, &words),
+        Err(fault) => Err(fault),
+    }
+}
+
+// The unit of a line whose words were found.
+fn read_words(line: &[u8], words: &WordList) -> Result<Unit, LineFault>
+    requires { WordsAnswer line.now words.now (Ok tt) }
+    ensures { result ≡ read_line_of line.now }
+{
+    let Some(kind) = UnitKind::named(words.word(line, 0)) else {
+        return Err(LineFault::Kind);
+    };
+    let keys = kind.keys();
+    if words.count() != keys.len() + 1 {
+        return Err(LineFault::Key);
+    }
+    let Some(values) = values_of_words(line, words, keys) else {
+        return Err(LineFault::Key);
+    };
+    match read_values(kind, &values) {
+        Some(unit) => Ok(unit),
+        None => Err(LineFault::Value),
+    }
+}
+
+// The unit of the values of a kind. None where a value is not of its form.
+fn read_values(kind: UnitKind, values: &Values) -> Option<Unit>
+    requires { length values.now ≡ length (keys_of kind) }
+    ensures { result ≡ unit_in kind values.now }
+{
+    let nac = nac_value(values.get(0))?;
+    let body = read_body(kind, values)?;
+    Some(Unit::new(nac, body))
+}
+
+// What a unit of a kind carries, by the values behind the network access code.
+fn read_body(kind: UnitKind, values: &Values) -> Option<Body>
+    requires { length values.now ≡ length (keys_of kind) }
+    ensures { result ≡ body_in kind (drop 1 values.now) }
+{
+    match kind {
+        UnitKind::Tdu => Some(Body::Voice(VoiceUnit::End)),
+    }
+}

@@ -1,0 +1,269 @@
+-- What the bits from a place on need: the laws of one kind of unit at a time, joined where the identifier was read. A kind
+-- that is added has to meet `IsHead` and nothing else.
+use Rattle.std.proofs.Common.{◌≡◌, ℕ, ◌%◌, ◌<◌, ◌≤◌, inl, inr, Bool, true, false, cond, ltb, List, ◌++◌, length, Option, Some, None, refl, ap, sym, ◌∙◌, subst, arith, length-append}
+use Rattle.std.proofs.lemmas.Bool.{cases_Bool, cases_lt, lt-ltb, le-ltb, cond-true, cond-false}
+use Rattle.p25_status.specs.Sync.{has_sync}
+use Rattle.p25_status.proofs.SyncLaws.{has_sync-length, has_sync-append}
+use Rattle.p25_status.specs.declared.fields.Field.{Field}
+use Rattle.p25_status.specs.declared.fields.Field.TheVariants.{Nid, Duid}
+use Rattle.p25_front.specs.Front.{identifier_of}
+use Rattle.p25_front.proofs.FrontLaws.{identifier_of-append}
+use Rattle.p25_voice_units.specs.Lengths.{voice_length_of}
+use Rattle.p25_units.specs.Units.{sent_length}
+use Rattle.p25_units.specs.Needs.{length_need, voice_need, kind_need, identified_need, synced_need, need_of, is_known}
+use Rattle.p25_units.specs.declared.needs.Need.{Need}
+use Rattle.p25_units.specs.declared.needs.Need.TheVariants.{NoSync, More, Length, NoLength}
+use Rattle.p25_units.proofs.UnitsLaws.{IsSentLength, IsSentLength-voice}
+
+-- what is needed behind an identifier, by a rule for the bits that are there
+pub record IsHead (head : List Bool → Need) : Type 0 where
+  pub seen : (bits : List Bool) → head bits ≡ NoSync → ⊥
+  pub few : (bits : List Bool) (count : ℕ) → head bits ≡ More count → (length bits < count) × (count ≤ 25920)
+  pub there : (bits : List Bool) (count : ℕ) → head bits ≡ Length count → (72 < count) × (count ≤ 25920) × (count % 72 ≡ 0) × (count ≤ length bits)
+  pub stays : (bits more : List Bool) → 114 ≤ length bits → is_known (head bits) ≡ true → head (bits ++ more) ≡ head bits
+  pub waits : (bits more : List Bool) (count : ℕ) → 114 ≤ length bits → head bits ≡ More count → length (bits ++ more) < count → head (bits ++ more) ≡ More count
+
+-- a rule that says the same
+pub IsHead-same : (head other : List Bool → Need) → ((bits : List Bool) → other bits ≡ head bits) → IsHead head → IsHead other
+IsHead-same head other same is = record {
+  seen = λ bits e. is.seen bits (sym (same bits) ∙ e);
+  few = λ bits count e. is.few bits count (sym (same bits) ∙ e);
+  there = λ bits count e. is.there bits count (sym (same bits) ∙ e);
+  stays = λ bits more long known. same (bits ++ more) ∙ is.stays bits more long (ap is_known (sym (same bits)) ∙ known) ∙ sym (same bits);
+  waits = λ bits more count long e short. same (bits ++ more) ∙ is.waits bits more count long (sym (same bits) ∙ e) short;
+}
+
+-- no unit
+pub IsHead-none : (field : Field) → IsHead (λ bits. NoLength field)
+IsHead-none field = record {
+  seen = λ bits e. cc;
+  few = λ bits count e. absurd (cc);
+  there = λ bits count e. absurd (cc);
+  stays = λ bits more long known. refl;
+  waits = λ bits more count long e short. absurd (cc);
+}
+
+-- a unit of a known length
+pub length_need-more : (count have : ℕ) → have < count → length_need count have ≡ More count
+unfolding length_need
+length_need-more count have short = cond-true (ltb have count) (More count) (Length count) (lt-ltb have count short)
+
+pub length_need-there : (count have : ℕ) → count ≤ have → length_need count have ≡ Length count
+unfolding length_need
+length_need-there count have enough = cond-false (ltb have count) (More count) (Length count) (le-ltb have count enough)
+
+length_need-cases : (P : Need → Type 0) (count have : ℕ) → (have < count → P (More count)) → (count ≤ have → P (Length count)) → P (length_need count have)
+length_need-cases P count have more there =
+    elim (cases_lt have count) [
+      | inl short ↦ subst P (sym (length_need-more count have short)) (more short)
+      | inr enough ↦ subst P (sym (length_need-there count have enough)) (there enough)
+    ]
+
+pub IsHead-length : (count : ℕ) → 72 < count → count ≤ 25920 → count % 72 ≡ 0 → IsHead (λ bits. length_need count (length bits))
+IsHead-length count some most whole = record {
+  seen = λ bits. length_need-cases (λ need. need ≡ NoSync → ⊥) count (length bits) (λ short e. cc) (λ enough e. cc);
+  few = λ bits n. length_need-cases (λ need. need ≡ More n → (length bits < n) × (n ≤ 25920)) count (length bits) (λ short e. let same : count ≡ n = cc in (omega arith, omega arith)) (λ enough e. absurd (cc));
+  there = λ bits n. length_need-cases (λ need. need ≡ Length n → (72 < n) × (n ≤ 25920) × (n % 72 ≡ 0) × (n ≤ length bits)) count (length bits)
+      (λ short e. absurd (cc))
+      (λ enough e. let same : count ≡ n = cc in (omega arith, omega arith, ap (λ m. m % 72) (sym same) ∙ whole, omega arith));
+  stays = λ bits more long known. length_stays count bits more known;
+  waits = λ bits more n long e short. length_waits count bits more n e short;
+}
+  where
+    length_stays : (count : ℕ) (bits more : List Bool) → is_known (length_need count (length bits)) ≡ true → length_need count (length (bits ++ more)) ≡ length_need count (length bits)
+    length_stays count bits more =
+        length_need-cases (λ need. is_known need ≡ true → length_need count (length (bits ++ more)) ≡ need) count (length bits)
+        (λ short known. absurd (cc))
+        (λ enough known. length_need-there count (length (bits ++ more)) (omega (arith, length-append bits more)))
+
+    length_waits : (count : ℕ) (bits more : List Bool) (n : ℕ) → length_need count (length bits) ≡ More n → length (bits ++ more) < n → length_need count (length (bits ++ more)) ≡ More n
+    length_waits count bits more n =
+        length_need-cases (λ need. need ≡ More n → length (bits ++ more) < n → length_need count (length (bits ++ more)) ≡ More n) count (length bits)
+        (λ short e few. let same : count ≡ n = cc in length_need-more count (length (bits ++ more)) (omega arith) ∙ ap More same)
+        (λ enough e few. absurd (cc))
+
+-- a voice unit
+voice_need-none : (have : ℕ) → voice_need None have ≡ NoLength Duid
+unfolding voice_need
+voice_need-none have = refl
+
+pub voice_need-some : (plain have : ℕ) → voice_need (Some plain) have ≡ length_need (sent_length plain) have
+unfolding voice_need
+voice_need-some plain have = refl
+
+IsHead-voice : (found : Option ℕ) → ((plain : ℕ) → found ≡ Some plain → IsSentLength plain) → IsHead (λ bits. voice_need found (length bits))
+IsHead-voice None lengths = IsHead-same (λ bits. NoLength Duid) (λ bits. voice_need None (length bits)) (λ bits. voice_need-none (length bits)) (IsHead-none Duid)
+IsHead-voice (Some plain) lengths =
+    let is = lengths plain refl in
+    IsHead-same
+    (λ bits. length_need (sent_length plain) (length bits))
+    (λ bits. voice_need (Some plain) (length bits))
+    (λ bits. voice_need-some plain (length bits))
+    (IsHead-length (sent_length plain) (omega (arith, is.sent, is.least)) (omega (arith, is.sent, is.most)) (omega (arith, is.sent)))
+
+-- the unit of a DUID
+pub IsHead-kind : (duid : ℕ) → IsHead (kind_need duid)
+unfolding kind_need
+IsHead-kind duid = IsHead-voice (voice_length_of duid) (IsSentLength-voice duid)
+
+pub kind_need-voice : (duid plain : ℕ) (bits : List Bool) → voice_length_of duid ≡ Some plain → kind_need duid bits ≡ length_need (sent_length plain) (length bits)
+unfolding kind_need
+kind_need-voice duid plain bits is = ap (λ found. voice_need found (length bits)) is ∙ voice_need-some plain (length bits)
+
+pub kind_need-other : (duid : ℕ) (bits : List Bool) → voice_length_of duid ≡ None → kind_need duid bits ≡ NoLength Duid
+unfolding kind_need
+kind_need-other duid bits is = ap (λ found. voice_need found (length bits)) is ∙ voice_need-none (length bits)
+
+-- behind an identifier, or none
+pub identified_need-none : (bits : List Bool) → identified_need None bits ≡ NoLength Nid
+unfolding identified_need
+identified_need-none bits = refl
+
+pub identified_need-some : (nid : ℕ × ℕ) (bits : List Bool) → identified_need (Some nid) bits ≡ kind_need nid.1 bits
+unfolding identified_need
+identified_need-some nid bits = refl
+
+pub IsHead-identified : (read : Option (ℕ × ℕ)) → IsHead (identified_need read)
+IsHead-identified None = IsHead-same (λ bits. NoLength Nid) (identified_need None) identified_need-none (IsHead-none Nid)
+IsHead-identified (Some nid) = IsHead-same (kind_need nid.1) (identified_need (Some nid)) (identified_need-some nid) (IsHead-kind nid.1)
+
+-- at a sync
+pub synced_need-short : (bits : List Bool) → length bits < 114 → synced_need bits ≡ More 114
+unfolding synced_need
+synced_need-short bits short = cond-true (ltb (length bits) 114) (More 114) (identified_need (identifier_of bits) bits) (lt-ltb (length bits) 114 short)
+
+pub synced_need-long : (bits : List Bool) → 114 ≤ length bits → synced_need bits ≡ identified_need (identifier_of bits) bits
+unfolding synced_need
+synced_need-long bits long = cond-false (ltb (length bits) 114) (More 114) (identified_need (identifier_of bits) bits) (le-ltb (length bits) 114 long)
+
+pub synced_need-read : (bits : List Bool) (read : Option (ℕ × ℕ)) → 114 ≤ length bits → identifier_of bits ≡ read → synced_need bits ≡ identified_need read bits
+synced_need-read bits read long is = synced_need-long bits long ∙ ap (λ r. identified_need r bits) is
+
+-- at any place
+pub need_of-short : (bits : List Bool) → length bits < 48 → need_of bits ≡ More 48
+unfolding need_of
+need_of-short bits short = cond-true (ltb (length bits) 48) (More 48) (cond (has_sync bits) (synced_need bits) NoSync) (lt-ltb (length bits) 48 short)
+
+need_of-long : (bits : List Bool) → 48 ≤ length bits → need_of bits ≡ cond (has_sync bits) (synced_need bits) NoSync
+unfolding need_of
+need_of-long bits long = cond-false (ltb (length bits) 48) (More 48) (cond (has_sync bits) (synced_need bits) NoSync) (le-ltb (length bits) 48 long)
+
+pub need_of-unsynced : (bits : List Bool) → 48 ≤ length bits → has_sync bits ≡ false → need_of bits ≡ NoSync
+need_of-unsynced bits long no' = need_of-long bits long ∙ cond-false (has_sync bits) (synced_need bits) NoSync no'
+
+pub need_of-synced : (bits : List Bool) → has_sync bits ≡ true → need_of bits ≡ synced_need bits
+need_of-synced bits yes' = need_of-long bits (has_sync-length bits yes') ∙ cond-true (has_sync bits) (synced_need bits) NoSync yes'
+
+-- what is needed, by cases
+need_of-cases : (P : Need → Type 0) (bits : List Bool) → (length bits < 48 → P (More 48)) → P NoSync → (length bits < 114 → P (More 114)) → (has_sync bits ≡ true → 114 ≤ length bits → P (identified_need (identifier_of bits) bits)) → P (need_of bits)
+need_of-cases P bits short unsynced cut read =
+    elim (cases_lt (length bits) 48) [
+      | inl few ↦ subst P (sym (need_of-short bits few)) (short few)
+      | inr enough ↦ elim (cases_Bool (has_sync bits)) [
+        | inr no' ↦ subst P (sym (need_of-unsynced bits enough no')) unsynced
+        | inl yes' ↦ elim (cases_lt (length bits) 114) [
+          | inl few ↦ subst P (sym (need_of-synced bits yes' ∙ synced_need-short bits few)) (cut few)
+          | inr long ↦ subst P (sym (need_of-synced bits yes' ∙ synced_need-long bits long)) (read yes' long)
+        ]
+      ]
+    ]
+
+-- the laws for a scanner
+pub need_of-few : (bits : List Bool) (count : ℕ) → need_of bits ≡ More count → (length bits < count) × (count ≤ 25920)
+need_of-few bits count =
+    need_of-cases (λ need. need ≡ More count → (length bits < count) × (count ≤ 25920)) bits
+    (λ few e. let same : 48 ≡ count = cc in (omega arith, omega arith))
+    (λ e. absurd (cc))
+    (λ few e. let same : 114 ≡ count = cc in (omega arith, omega arith))
+    (λ yes' long e. (IsHead-identified (identifier_of bits)).few bits count e)
+
+pub need_of-there : (bits : List Bool) (count : ℕ) → need_of bits ≡ Length count → (72 < count) × (count ≤ 25920) × (count % 72 ≡ 0) × (count ≤ length bits)
+need_of-there bits count =
+    need_of-cases (λ need. need ≡ Length count → (72 < count) × (count ≤ 25920) × (count % 72 ≡ 0) × (count ≤ length bits)) bits
+    (λ few e. absurd (cc))
+    (λ e. absurd (cc))
+    (λ few e. absurd (cc))
+    (λ yes' long e. (IsHead-identified (identifier_of bits)).there bits count e)
+
+pub need_of-seen : (bits : List Bool) → has_sync bits ≡ true → need_of bits ≡ NoSync → ⊥
+need_of-seen bits yes' e =
+    let here = sym (need_of-synced bits yes') ∙ e in
+    elim (cases_lt (length bits) 114) [
+      | inl few ↦ let two : More 114 ≡ NoSync = sym (synced_need-short bits few) ∙ here in cc
+      | inr long ↦ (IsHead-identified (identifier_of bits)).seen bits (sym (synced_need-long bits long) ∙ here)
+    ]
+
+-- more bits behind a sync
+still_synced : (bits more : List Bool) → has_sync bits ≡ true → has_sync (bits ++ more) ≡ true
+still_synced bits more yes' = has_sync-append bits more (has_sync-length bits yes') ∙ yes'
+
+synced_need-append : (bits more : List Bool) → 114 ≤ length bits → synced_need (bits ++ more) ≡ identified_need (identifier_of bits) (bits ++ more)
+synced_need-append bits more long = synced_need-read (bits ++ more) (identifier_of bits) (omega (arith, length-append bits more)) (identifier_of-append bits more long)
+
+pub need_of-stays : (bits more : List Bool) → has_sync bits ≡ true → is_known (need_of bits) ≡ true → need_of (bits ++ more) ≡ need_of bits
+need_of-stays bits more yes' known =
+    let here = need_of-synced bits yes' in
+    elim (cases_lt (length bits) 114) [
+      | inl few ↦ let two : false ≡ true = ap is_known (sym (here ∙ synced_need-short bits few)) ∙ known in absurd (cc)
+      | inr long ↦
+          let now = here ∙ synced_need-long bits long in
+          need_of-synced (bits ++ more) (still_synced bits more yes')
+          ∙ synced_need-append bits more long
+          ∙ (IsHead-identified (identifier_of bits)).stays bits more long (ap is_known (sym now) ∙ known)
+          ∙ sym now
+    ]
+
+pub need_of-waits : (bits more : List Bool) (count : ℕ) → has_sync bits ≡ true → need_of bits ≡ More count → length (bits ++ more) < count → need_of (bits ++ more) ≡ More count
+need_of-waits bits more count yes' e short =
+    let here = need_of-synced bits yes' in
+    elim (cases_lt (length bits) 114) [
+      | inl few ↦
+          let two : More 114 ≡ More count = sym (here ∙ synced_need-short bits few) ∙ e in
+          let same : 114 ≡ count = cc in
+          need_of-synced (bits ++ more) (still_synced bits more yes') ∙ synced_need-short (bits ++ more) (omega arith) ∙ two
+      | inr long ↦
+          need_of-synced (bits ++ more) (still_synced bits more yes')
+          ∙ synced_need-append bits more long
+          ∙ (IsHead-identified (identifier_of bits)).waits bits more count long (sym (here ∙ synced_need-long bits long) ∙ e) short
+    ]
+
+-- a unit whose length is known has an identifier
+pub record IsIdentified (bits : List Bool) (count : ℕ) : Type 0 where
+  pub long : 114 ≤ length bits
+  pub nid : ℕ × ℕ
+  pub read : identifier_of bits ≡ Some nid
+  pub kind : kind_need nid.1 bits ≡ Length count
+
+identified_in : (bits : List Bool) (count : ℕ) (read : Option (ℕ × ℕ)) → 114 ≤ length bits → identifier_of bits ≡ read → identified_need read bits ≡ Length count → IsIdentified bits count
+identified_in bits count None long is e = let two : NoLength Nid ≡ Length count = sym (identified_need-none bits) ∙ e in absurd (cc)
+identified_in bits count (Some nid) long is e = record { long = long; nid = nid; read = is; kind = sym (identified_need-some nid bits) ∙ e }
+
+pub IsIdentified-from : (bits : List Bool) (count : ℕ) → need_of bits ≡ Length count → IsIdentified bits count
+IsIdentified-from bits count =
+    need_of-cases (λ need. need ≡ Length count → IsIdentified bits count) bits
+    (λ few e. absurd (cc))
+    (λ e. absurd (cc))
+    (λ few e. absurd (cc))
+    (λ yes' long e. identified_in bits count (identifier_of bits) long refl e)
+
+-- the kind of a unit whose length is known
+pub record IsKind (duid count : ℕ) (bits : List Bool) : Type 0 where
+  pub plain : ℕ
+  pub kind : voice_length_of duid ≡ Some plain
+  pub is : count ≡ sent_length plain
+  pub there : count ≤ length bits
+
+kind_in : (duid count : ℕ) (bits : List Bool) (found : Option ℕ) → voice_length_of duid ≡ found → kind_need duid bits ≡ Length count → IsKind duid count bits
+kind_in duid count bits None is e = let two : NoLength Duid ≡ Length count = sym (kind_need-other duid bits is) ∙ e in absurd (cc)
+kind_in duid count bits (Some plain) is e =
+    let here : length_need (sent_length plain) (length bits) ≡ Length count = sym (kind_need-voice duid plain bits is) ∙ e in
+    let there = (IsHead-kind duid).there bits count e in
+    record {
+      plain = plain;
+      kind = is;
+      is = length_need-cases (λ need. need ≡ Length count → count ≡ sent_length plain) (sent_length plain) (length bits) (λ short two. absurd (cc)) (λ enough two. let same : sent_length plain ≡ count = cc in sym same) here;
+      there = there.3;
+    }
+
+pub IsKind-from : (duid count : ℕ) (bits : List Bool) → kind_need duid bits ≡ Length count → IsKind duid count bits
+IsKind-from duid count bits e = kind_in duid count bits (voice_length_of duid) refl e

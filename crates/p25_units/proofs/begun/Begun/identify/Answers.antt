@@ -1,0 +1,10 @@
+use Rattle.std.proofs.Common.{arith, drop, length-drop}
+use Rattle.p25_units.proofs.BegunSteps.{IsBegun-read, begun-known}
+use Rattle.p25_units.proofs.begun.Begun.identify.Goals as goal
+
+pub returns-in-Some-clause-value : goal.returns-in-Some-clause-value
+returns-in-Some-clause-value c = begun-known c.args.self.now (drop c.args.at c.args.bits.now) c.in-Some.nid c.requires.begun c.in-Some.is
+
+pub returns-in-None-clause-begun : goal.returns-in-None-clause-begun
+returns-in-None-clause-begun c =
+    IsBegun-read _ (drop c.args.at c.args.bits.now) (omega (arith, length-drop c.args.at c.args.bits.now)) c.read_identifier-read.ensures

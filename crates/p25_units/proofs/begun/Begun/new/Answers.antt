@@ -1,0 +1,6 @@
+use Rattle.std.proofs.Common.{refl}
+use Rattle.p25_units.proofs.BegunSteps.{IsBegun-none}
+use Rattle.p25_units.proofs.begun.Begun.new.Goals as goal
+
+pub returns : goal.returns
+returns c = λ bits. IsBegun-none _ bits refl

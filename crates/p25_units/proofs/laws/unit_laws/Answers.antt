@@ -1,0 +1,13 @@
+use Rattle.p25_units.proofs.FixesLaws.{fixes_of-image_of}
+use Rattle.p25_units.proofs.WithinRadiusLaws.{need_of-near, unit_reading_of-near, unit_item_of-near, IsWithinRadius-image_of, unit_reading_of-image_of}
+use Rattle.p25_units.proofs.laws.unit_laws.Goals as goal
+
+pub returns : goal.returns
+returns c = record {
+  length = need_of-near;
+  near = unit_reading_of-near;
+  item = unit_item_of-near;
+  undamaged = IsWithinRadius-image_of;
+  again = unit_reading_of-image_of;
+  none = fixes_of-image_of;
+}

@@ -1,0 +1,24 @@
+use Rattle.std.proofs.Common.{ap, ◌∙◌}
+use Rattle.p25_status.specs.Woven.{woven}
+use Rattle.p25_units.specs.Readings.{unit_reading_of}
+use Rattle.p25_units.specs.Units.{image_of}
+use Rattle.p25_units.proofs.UnitsLaws.{symbols-sound, length-image_of}
+use Rattle.p25_units.proofs.WithinRadiusLaws.{unit_reading_of-image_of}
+use Rattle.std.proofs.Common.{length}
+use Rattle.p25_units.proofs.sending.image.Goals as goal
+
+pub weave-requires : goal.weave-requires
+weave-requires c = ap length c.unit_image.ensures.list ∙ symbols-sound c.args.frame.now c.requires
+
+is_image : goal.returns-clause-list
+unfolding image_of
+is_image c = c.weave.ensures.list ∙ ap (λ bits. woven bits c.args.frame.now.statuses) c.unit_image.ensures.list
+
+pub returns-clause-list : goal.returns-clause-list
+returns-clause-list c = is_image c
+
+pub returns-clause-len : goal.returns-clause-len
+returns-clause-len c = ap length (is_image c) ∙ length-image_of c.args.frame.now c.requires
+
+pub returns-clause-again : goal.returns-clause-again
+returns-clause-again c = ap unit_reading_of (is_image c) ∙ unit_reading_of-image_of c.args.frame.now c.requires c.unit_image.ensures.nac

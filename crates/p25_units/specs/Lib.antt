@@ -1,0 +1,9 @@
+pub mod UnitParts
+pub mod Units
+pub mod Begins
+pub mod Needs
+pub mod Readings
+pub mod Fixes
+pub mod Items
+pub mod WithinRadius
+pub mod NeedLaws

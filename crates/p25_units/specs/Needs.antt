@@ -1,0 +1,43 @@
+-- What the bits from a place on say of a unit there. One rule stands for each kind of unit, joined where the identifier was
+-- read.
+use Rattle.std.specs.Prelude.{ℕ, Bool, true, false, cond, nat_lt, List, Option, Some, None, length}
+use Rattle.p25_status.specs.Sync.{has_sync}
+use Rattle.p25_status.specs.declared.fields.Field.TheVariants.{Nid, Duid}
+use Rattle.p25_front.specs.Front.{identifier_of}
+use Rattle.p25_voice_units.specs.Lengths.{voice_length_of}
+use Rattle.p25_units.specs.Units.{sent_length}
+use Rattle.p25_units.specs.declared.needs.Need.{Need}
+use Rattle.p25_units.specs.declared.needs.Need.TheVariants.{NoSync, More, Length, NoLength}
+
+-- what a unit of a known length needs where so many bits are there
+unfoldable pub length_need : ℕ → ℕ → Need
+length_need count have = cond (nat_lt have count) (More count) (Length count)
+
+-- what a voice unit needs, by how many bits its kind has without status symbols; none where there is no such kind
+unfoldable pub voice_need : Option ℕ → ℕ → Need
+voice_need None have = NoLength Duid
+voice_need (Some plain) have = length_need (sent_length plain) have
+
+-- what the unit of a DUID needs
+unfoldable pub kind_need : ℕ → List Bool → Need
+kind_need duid bits = voice_need (voice_length_of duid) (length bits)
+
+-- what is needed behind an identifier that was read, or none
+unfoldable pub identified_need : Option (ℕ × ℕ) → List Bool → Need
+identified_need None bits = NoLength Nid
+identified_need (Some nid) bits = kind_need nid.1 bits
+
+-- what is needed at a sync
+unfoldable pub synced_need : List Bool → Need
+synced_need bits = cond (nat_lt (length bits) 114) (More 114) (identified_need (identifier_of bits) bits)
+
+-- what the bits from a place on need
+unfoldable pub need_of : List Bool → Need
+need_of bits = cond (nat_lt (length bits) 48) (More 48) (cond (has_sync bits) (synced_need bits) NoSync)
+
+-- no more bits are needed before something can be said
+abbrev pub is_known : Need → Bool
+is_known NoSync = true
+is_known (More count) = false
+is_known (Length count) = true
+is_known (NoLength field) = true

@@ -1,0 +1,36 @@
+-- What the sent bits of a unit read as.
+use Rattle.std.specs.Prelude.{ℕ, Bool, List, [], ◌∷◌, Option, Some, None, Result, Ok, Err}
+use Rattle.p25_status.specs.Woven.{plain_of, statuses_of}
+use Rattle.p25_status.specs.declared.fields.Field.{Field}
+use Rattle.p25_status.specs.declared.fields.Field.TheVariants.{Nid}
+use Rattle.p25_status.specs.declared.symbols.Status.{Status}
+use Rattle.p25_front.specs.Front.{identifier_of}
+use Rattle.p25_voice_units.specs.declared.unit.VoiceUnit.{VoiceUnit}
+use Rattle.p25_voice_units.specs.Readings.{voice_reading_of}
+use Rattle.p25_units.specs.UnitParts.{UnitParts}
+use Rattle.p25_units.specs.declared.unit.Body.{Body}
+use Rattle.p25_units.specs.declared.unit.Body.TheVariants.{Voice}
+use Rattle.p25_units.specs.declared.frame.Frame.{Frame}
+
+-- a voice unit that was read, as what a unit carries
+abbrev pub body_from : Result VoiceUnit (List Field) → Result Body (List Field)
+body_from (Ok voice) = Ok (Voice voice)
+body_from (Err fields) = Err fields
+
+-- what a unit of a DUID carries, or exactly the fields that fail
+unfoldable pub body_reading_of : ℕ → List Bool → Result Body (List Field)
+body_reading_of duid plain = body_from (voice_reading_of duid plain)
+
+-- a frame, where what it carries was read
+abbrev pub frame_from : ℕ → List Status → Result Body (List Field) → Result Frame (List Field)
+frame_from nac statuses (Ok body) = let unit : UnitParts = record { nac = nac; body = body } in let frame : Frame = record { unit = unit; statuses = statuses } in Ok frame
+frame_from nac statuses (Err fields) = Err fields
+
+-- the frame of sent bits by their identifier
+unfoldable pub reading_from : Option (ℕ × ℕ) → List Bool → Result Frame (List Field)
+reading_from None sent = Err (Nid ∷ [])
+reading_from (Some nid) sent = frame_from nid.0 (statuses_of sent) (body_reading_of nid.1 (plain_of sent))
+
+-- the frame of sent bits, or exactly the fields that fail
+unfoldable pub unit_reading_of : List Bool → Result Frame (List Field)
+unit_reading_of sent = reading_from (identifier_of sent) sent

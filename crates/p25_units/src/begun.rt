@@ -1,0 +1,42 @@
+//! What was read of a unit whose last bits are not there yet.
+
+ghost use Rattle.std.specs.Prelude.{◌≡◌, ◌+◌, ◌≤◌, Bool, List, length, drop, option_map};
+ghost use Rattle.p25_front.specs.Front.{identifier_of};
+ghost use Rattle.p25_units.specs.Begins.{IsBegun};
+
+use p25_bch_nid::Nid;
+use p25_bits::BitBuf;
+use p25_front::read_identifier;
+
+/// What was read of the unit at a place with a sync, so that nothing is read twice while its bits come: its identifier,
+/// or nothing yet. Contracts see by `IsBegun` that it is true of the bits from that place on.
+#[derive(Clone, Copy)]
+pub struct Begun {
+    nid: Option<Nid>,
+}
+
+impl Begun {
+    /// Answers that nothing was read.
+    pub fn new() -> Begun
+        ensures { (bits : List Bool) → IsBegun result bits }
+    {
+        Begun { nid: None }
+    }
+
+    // The identifier of the unit at a place, which is read where it was not.
+    pub(crate) fn identify(&mut self, bits: &BitBuf, at: usize) -> Option<Nid>
+        requires there { at + 114 ≤ length bits.now }
+        requires begun { IsBegun self.old (drop at bits.now) }
+        ensures value { option_map (λ nid. (nid.nac, nid.duid)) result ≡ identifier_of (drop at bits.now) }
+        ensures begun { IsBegun self.new (drop at bits.now) }
+    {
+        match self.nid {
+            Some(nid) => Some(nid),
+            None => {
+                let read = read_identifier(bits, at);
+                self.nid = read;
+                read
+            }
+        }
+    }
+}

@@ -1,0 +1,24 @@
+//! A unit with the status symbols that are sent among its bits.
+
+ghost use Rattle.std.specs.Prelude.{◌≡◌, ◌≤◌, ◌<◌, ◌*◌};
+ghost use Rattle.p25_units.specs.Units.{frame_length_of};
+
+use crate::unit::Unit;
+use p25_status::Statuses;
+
+/// A unit and its status symbols. It is sound where there is one symbol for each 72 of its sent bits.
+#[derive(Drop)]
+pub struct Frame {
+    /// The unit.
+    pub unit: Unit,
+    /// Its status symbols, first to last.
+    pub statuses: Statuses,
+}
+
+/// Answers how many bits a unit has as it is sent, with its status symbols: 144 for a terminator.
+pub fn frame_length(unit: &Unit) -> usize
+    ensures value { result ≡ frame_length_of unit.now }
+    ensures most { result ≤ 25920 }
+{
+    unit.body().length() / 70 * 72
+}

@@ -1,0 +1,48 @@
+//! The laws of units. The bodies are empty: each function states what is proved.
+
+ghost use Rattle.std.specs.Prelude.{◌≡◌, ℕ, ◌≤◌, Bool, true, List, ◌++◌, Ok, Some, length, take};
+ghost use Rattle.p25_status.specs.Sync.{has_sync};
+ghost use Rattle.p25_units.specs.Fixes.{fixes_of};
+ghost use Rattle.p25_units.specs.Items.{unit_item_of};
+ghost use Rattle.p25_units.specs.NeedLaws.{BegunStays, ItemCovers, ItemHasPlace, ItemIsNoGap, ItemIsSound, KnownStays, LengthIsThere, MoreIsFew, MoreWaits, SyncIsSeen};
+ghost use Rattle.p25_units.specs.Needs.{need_of};
+ghost use Rattle.p25_units.specs.Readings.{unit_reading_of};
+ghost use Rattle.p25_units.specs.Units.{IsSoundFrame, image_of};
+ghost use Rattle.p25_units.specs.WithinRadius.{IsWithinRadius, received_frame};
+ghost use Rattle.p25_units.specs.declared.frame.Frame.{Frame};
+ghost use Rattle.p25_units.specs.declared.needs.Need.TheVariants.{Length};
+ghost use Rattle.p25_units.specs.declared.item.Item.TheVariants.{Whole};
+
+/// Does nothing: its contract is all that a scanner has to know of units.
+///
+/// - `seen`, `stays`, `waits`: at a place with a sync, what is known stays whatever bits come later, and a number of bits
+///   that is waited for stays the same until it is there.
+/// - `few`, `there`: more bits are asked for only where they are not there, and the bits of a unit are there.
+/// - `covers`, `place`, `sound`, `no_gap`: what the item of a unit is.
+/// - `begun`: what was read of a unit stays true.
+pub fn need_laws()
+    ensures seen { SyncIsSeen }
+    ensures stays { KnownStays }
+    ensures waits { MoreWaits }
+    ensures few { MoreIsFew }
+    ensures there { LengthIsThere }
+    ensures covers { ItemCovers }
+    ensures place { ItemHasPlace }
+    ensures sound { ItemIsSound }
+    ensures no_gap { ItemIsNoGap }
+    ensures begun { BegunStays }
+{}
+
+/// Does nothing: its contract is what units read as.
+///
+/// - `near`: bits within radius of a sound frame's image read as the frame, with the status symbols that were received,
+///   whatever bits follow; their item is `Whole`.
+/// - `again`: an undamaged image reads as its frame, with no fixes.
+pub fn unit_laws()
+    ensures length { (frame : Frame) (sent more : List Bool) → IsSoundFrame frame → frame.unit.nac ≤ 4095 → IsWithinRadius frame sent → need_of (sent ++ more) ≡ Length (length sent) }
+    ensures near { (frame : Frame) (sent : List Bool) → IsSoundFrame frame → frame.unit.nac ≤ 4095 → IsWithinRadius frame sent → unit_reading_of sent ≡ Ok (received_frame frame sent) }
+    ensures item { (place : ℕ) (frame : Frame) (sent : List Bool) → IsSoundFrame frame → frame.unit.nac ≤ 4095 → IsWithinRadius frame sent → unit_item_of place sent ≡ Whole place (received_frame frame sent) (fixes_of (received_frame frame sent) sent) }
+    ensures undamaged { (frame : Frame) → IsSoundFrame frame → IsWithinRadius frame (image_of frame) }
+    ensures again { (frame : Frame) → IsSoundFrame frame → frame.unit.nac ≤ 4095 → unit_reading_of (image_of frame) ≡ Ok frame }
+    ensures none { (frame : Frame) → IsSoundFrame frame → fixes_of frame (image_of frame) ≡ 0 }
+{}

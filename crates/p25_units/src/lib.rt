@@ -1,0 +1,42 @@
+//! Units as they are sent: written, found at a place and read.
+//!
+//! The first bit of a list is the first that is sent. A sent unit has a status symbol of two bits after every 70 of its
+//! bits; all places and lengths here count it in.
+//!
+//! ```text
+//! let mut sent = BitBuf::new();
+//! image(&frame, &mut sent);
+//! if let Need::Length(length) = need(&sent, 0) {
+//!     let again = read_unit(&sent, 0, length)?;
+//!     let fixes = fixes(&sent, 0, &again);
+//! }
+//! ```
+//!
+//! Contracts see what the bits from a place on need as `need_of`, what a unit's bits read as as `unit_reading_of`, its bits
+//! as `image_of`, and its item as `unit_item_of`. `need_laws` says all that a scanner has to know of units, and
+//! `unit_laws` what is read from a unit, undamaged or with few wrong bits.
+#![tactic(auto)]
+
+mod begun;
+mod frame;
+mod item;
+mod laws;
+mod needs;
+mod read;
+mod scan;
+mod sending;
+#[cfg(test)]
+mod tests;
+mod unit;
+
+pub use begun::Begun;
+pub use frame::{Frame, frame_length};
+pub use item::{Item, unit_item};
+pub use laws::{need_laws, unit_laws};
+pub use needs::Need;
+pub use p25_status::{Field, FieldList, Status, Statuses};
+pub use p25_voice_units::VoiceUnit;
+pub use read::{fixes, read_unit};
+pub use scan::{need, need_begun};
+pub use sending::{image, image_as};
+pub use unit::{Body, Unit};

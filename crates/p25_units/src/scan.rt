@@ -1,0 +1,79 @@
+//! What the bits from a place on say of a unit there.
+
+ghost use Rattle.std.specs.Prelude.{◌≡◌, ◌+◌, ◌≤◌, true, length, drop};
+ghost use Rattle.p25_status.specs.Sync.{has_sync};
+ghost use Rattle.p25_units.specs.Begins.{IsBegun};
+ghost use Rattle.p25_units.specs.Needs.{kind_need, length_need, need_of, synced_need};
+
+use crate::begun::Begun;
+use crate::needs::Need;
+use p25_bits::BitBuf;
+use p25_status::{Field, is_sync};
+use p25_voice_units::voice_length;
+
+// The bits from which an identifier can be read: those up to its last, with the status symbol within it.
+const IDENTIFIED: usize = 114;
+
+/// Answers what the bits from place `at` on need, the first that holds: 48 bits; a sync (`NoSync`); 114 bits; a network
+/// identifier that can be read (`NoLength` of `Nid`) and is that of a known unit (`NoLength` of `Duid`); all bits of
+/// that unit. `More` tells how many bits have to be there from the place on.
+pub fn need(bits: &BitBuf, at: usize) -> Need
+    requires { at ≤ length bits.now }
+    ensures { result ≡ need_of (drop at bits.now) }
+{
+    need_begun(bits, at, &mut Begun::new())
+}
+
+/// The same, where `begun` holds what was read at this place before. Replaces it by what has been read now.
+pub fn need_begun(bits: &BitBuf, at: usize, begun: &mut Begun) -> Need
+    requires there { at ≤ length bits.now }
+    requires begun { IsBegun begun.old (drop at bits.now) }
+    ensures need { result ≡ need_of (drop at bits.now) }
+    ensures begun { IsBegun begun.new (drop at bits.now) }
+{
+    if bits.len() - at < 48 {
+        return Need::More(48);
+    }
+    if !is_sync(bits, at) {
+        return Need::NoSync;
+    }
+    need_at_sync(bits, at, begun)
+}
+
+// What is needed at a sync.
+fn need_at_sync(bits: &BitBuf, at: usize, begun: &mut Begun) -> Need
+    requires there { at ≤ length bits.now }
+    requires begun { IsBegun begun.old (drop at bits.now) }
+    ensures need { result ≡ synced_need (drop at bits.now) }
+    ensures begun { IsBegun begun.new (drop at bits.now) }
+{
+    if bits.len() - at < IDENTIFIED {
+        return Need::More(IDENTIFIED);
+    }
+    match begun.identify(bits, at) {
+        None => Need::NoLength(Field::Nid),
+        Some(nid) => need_of_kind(nid.duid, bits, at),
+    }
+}
+
+// What the unit of a DUID needs.
+fn need_of_kind(duid: u8, bits: &BitBuf, at: usize) -> Need
+    requires { at ≤ length bits.now }
+    ensures { result ≡ kind_need duid (drop at bits.now) }
+{
+    match voice_length(duid) {
+        None => Need::NoLength(Field::Duid),
+        Some(plain) => need_of_length(plain / 70 * 72, bits.len() - at),
+    }
+}
+
+// What a unit of a known length needs where so many bits are there.
+fn need_of_length(length: usize, have: usize) -> Need
+    ensures { result ≡ length_need length have }
+{
+    if have < length {
+        Need::More(length)
+    } else {
+        Need::Length(length)
+    }
+}

@@ -1,0 +1,55 @@
+//! Units as they are sent.
+
+ghost use Rattle.std.specs.Prelude.{◌≡◌, ◌<◌, ◌≤◌, Ok, length};
+ghost use Rattle.p25_units.specs.Readings.{unit_reading_of};
+ghost use Rattle.p25_units.specs.Units.{IsSoundFrame, body_image_of, frame_as, frame_length_of, image_of, unit_image_of};
+
+use crate::frame::Frame;
+use crate::unit::{Body, Unit};
+use p25_bits::BitBuf;
+use p25_status::{Statuses, weave};
+use p25_voice_units::voice_image;
+
+/// Sets `out` to the sent bits of a frame, first to last: those of its unit with a status symbol after every 70.
+/// TIA-102.BAAA, Status Symbols.
+pub fn image(frame: &Frame, out: &mut BitBuf)
+    requires { IsSoundFrame frame.now }
+    ensures list { out.new ≡ image_of frame.now }
+    ensures len { length out.new ≡ frame_length_of frame.now.unit }
+    ensures again { unit_reading_of out.new ≡ Ok frame.now }
+{
+    let mut plain = BitBuf::new();
+    unit_image(&frame.unit, &mut plain);
+    weave(&plain, &frame.statuses, out);
+}
+
+/// Sets `out` to the sent bits of a frame's unit under another network access code, with other status symbols, as many as
+/// the frame has.
+pub fn image_as(frame: &Frame, nac: u16, statuses: &Statuses, out: &mut BitBuf)
+    requires sound { IsSoundFrame frame.now }
+    requires nac { nac < 4096 }
+    requires symbols { length statuses.now ≡ length frame.now.statuses }
+    ensures { out.new ≡ image_of (frame_as nac statuses.now frame.now) }
+{
+    let mut plain = BitBuf::new();
+    body_image(nac, frame.unit.body(), &mut plain);
+    weave(&plain, statuses, out);
+}
+
+// The bits of a unit without status symbols.
+fn unit_image(unit: &Unit, out: &mut BitBuf)
+    ensures list { out.new ≡ unit_image_of unit.now }
+    ensures nac { unit.now.nac ≤ 4095 }
+{
+    body_image(unit.nac(), unit.body(), out)
+}
+
+// The same by what it carries.
+fn body_image(nac: u16, body: &Body, out: &mut BitBuf)
+    requires { nac < 4096 }
+    ensures { out.new ≡ body_image_of nac body.now }
+{
+    match body {
+        Body::Voice(voice) => voice_image(nac, voice, out),
+    }
+}

@@ -1,0 +1,92 @@
+//! A unit: whose it is, and what it carries.
+
+ghost use Rattle.std.specs.Prelude.{◌≡◌, ◌<◌, ◌≤◌, Some};
+ghost use Rattle.p25_units.specs.Units.{body_duid};
+ghost use Rattle.p25_voice_units.specs.Lengths.{voice_length_of};
+
+use p25_bch_nid::Nid;
+use p25_voice_units::VoiceUnit;
+use std::marker::Model;
+
+/// What a unit carries, by its kind.
+#[derive(Drop)]
+pub enum Body {
+    /// A voice unit.
+    Voice(VoiceUnit),
+}
+
+impl Body {
+    /// Answers the data unit identifier of the unit's kind.
+    pub fn duid(&self) -> u8
+        ensures value { result ≡ body_duid self.now }
+        ensures fits { result ≤ 15 }
+    {
+        match self {
+            Body::Voice(voice) => voice.duid(),
+        }
+    }
+
+    // How many bits the unit has without status symbols.
+    pub(crate) fn length(&self) -> usize
+        ensures value { voice_length_of (body_duid self.now) ≡ Some result }
+        ensures most { result ≤ 25200 }
+    {
+        match self {
+            Body::Voice(voice) => voice.length(),
+        }
+    }
+}
+
+/// A unit: its network access code, which is below 4,096, and what it carries.
+#[derive(Drop)]
+pub struct Unit {
+    nac: u16,
+    body: Body,
+}
+
+impl Model for Unit {
+    ghost use Rattle.std.specs.Prelude.{◌≤◌};
+    ghost use Rattle.p25_units.specs.UnitParts.{UnitParts};
+
+    ghost Value = { UnitParts };
+
+    ghost view = { λ unit. record { nac = unit.nac; body = unit.body } };
+
+    ghost invariant = { λ unit. unit.nac ≤ 4095 };
+}
+
+impl Unit {
+    /// Answers the unit of a network access code and a body.
+    pub fn new(nac: u16, body: Body) -> Unit
+        requires { nac < 4096 }
+        ensures { result ≡ record { nac = nac; body = body } }
+    {
+        Unit { nac, body }
+    }
+
+    /// Answers the network access code.
+    pub fn nac(&self) -> u16
+        ensures value { result ≡ self.now.nac }
+        ensures fits { result < 4096 }
+    {
+        self.nac
+    }
+
+    /// Answers what the unit carries.
+    pub fn body(&self) -> &Body
+        ensures { result.now ≡ self.now.body }
+    {
+        &self.body
+    }
+
+    // The identifier that is sent for the unit.
+    pub(crate) fn identifier(&self) -> Nid
+        ensures nac { result.nac ≡ self.now.nac }
+        ensures duid { result.duid ≡ body_duid self.now.body }
+    {
+        Nid {
+            nac: self.nac,
+            duid: self.body.duid(),
+        }
+    }
+}

@@ -1,0 +1,3 @@
+pub mod FuturesLaws
+pub mod InputSteps
+pub mod RunsLaws

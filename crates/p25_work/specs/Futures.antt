@@ -1,0 +1,67 @@
+-- What a command at work still writes, and how it ends, for the octets that may still come.
+use Rattle.std.specs.Prelude.{◌≡◌, ℕ, ◌<◌, Bool, true, false, List, [], ◌++◌, length, Option, Some, None, Result, Ok, Err, ◌⊎◌}
+use Rattle.p25_io.specs.Octets.{Appended, AppendedFront}
+use Rattle.p25_work.specs.declared.ending.Ending.{Ending}
+use Rattle.p25_work.specs.declared.ending.Stop.{Stop}
+use Rattle.p25_work.specs.declared.ending.Stop.TheVariants.{Fault, Ended}
+
+-- for each list of octets that may come, the last ones of the input or not: what is written for them, and how the call ends
+-- by them, if it does
+pub record Future : Type 0 where
+  pub writes : Bool → List ℕ → List ℕ
+  pub ends : Bool → List ℕ → Option Ending
+
+-- some octets came and a text was given out
+pub record Progress (before : Future) (octets text : List ℕ) (now : Future) : Type 0 where
+  pub writes : (ended : Bool) (more : List ℕ) → before.writes ended (octets ++ more) ≡ text ++ now.writes ended more
+  pub ends : (ended : Bool) (more : List ℕ) → before.ends ended (octets ++ more) ≡ now.ends ended more
+
+-- the input ended: no octets are looked at any more
+pub record IsClosed (before now : Future) : Type 0 where
+  pub writes : (ended : Bool) (more : List ℕ) → now.writes ended more ≡ before.writes true []
+  pub ends : (ended : Bool) (more : List ℕ) → now.ends ended more ≡ before.ends true []
+
+-- the call is refused, whatever comes, and nothing more is written
+pub record IsRefused (now : Future) (ending : Ending) : Type 0 where
+  pub writes : (ended : Bool) (more : List ℕ) → now.writes ended more ≡ []
+  pub ends : (ended : Bool) (more : List ℕ) → now.ends ended more ≡ Some ending
+
+-- what asking for the next piece answers
+unfoldable pub NextPiece : Future → Result Bool Ending → List ℕ → Future → Type 0
+NextPiece before (Ok true) piece now = Progress before [] piece now
+NextPiece before (Ok false) piece now = now ≡ before
+NextPiece before (Err ending) piece now = IsRefused before ending
+
+-- with nothing to give: where the input has ended all was written, and else all that the octets so far decide
+unfoldable pub IsIdle : Bool → Future → Type 0
+IsIdle true now = (ended : Bool) (more : List ℕ) → now.writes ended more ≡ []
+IsIdle false now = (now.writes false [] ≡ []) × (now.ends false [] ≡ None)
+
+-- some octets came; of what was gathered before and what was given out for them, a part was written and the rest is gathered
+pub record Moved {K : Type 0} (written : K → Option (List ℕ)) (first : K) (gathered : List ℕ) (before : Future) (octets : List ℕ) (last : K) (kept : List ℕ) (now : Future) : Type 0 where
+  pub text : List ℕ
+  pub appended : Appended (written first) text (written last)
+  pub writes : (ended : Bool) (more : List ℕ) → gathered ++ before.writes ended (octets ++ more) ≡ text ++ (kept ++ now.writes ended more)
+  pub ends : (ended : Bool) (more : List ℕ) → before.ends ended (octets ++ more) ≡ now.ends ended more
+  pub touched : (last ≡ first) ⊎ (0 < length text)
+
+-- a write failed: whatever octets come later, the beginning of all that was to be written is written, and that is something
+pub record IsCutOff {K : Type 0} (written : K → Option (List ℕ)) (first : K) (gathered : List ℕ) (before : Future) (octets : List ℕ) (last : K) : Type 0 where
+  pub front : (ended : Bool) (more : List ℕ) → AppendedFront (written first) (gathered ++ before.writes ended (octets ++ more)) (written last)
+  pub some : (ended : Bool) (more : List ℕ) → 0 < length (gathered ++ before.writes ended (octets ++ more))
+
+-- the input ended or was refused: all before that is written
+pub record IsEnded {K : Type 0} (written : K → Option (List ℕ)) (first : K) (gathered : List ℕ) (before : Future) (octets : List ℕ) (ending : Ending) (last : K) : Type 0 where
+  pub wrote : (ended : Bool) (more : List ℕ) → Appended (written first) (gathered ++ before.writes ended (octets ++ more)) (written last)
+  pub ends : (ended : Bool) (more : List ℕ) → before.ends ended (octets ++ more) ≡ Some ending
+  pub touched : (last ≡ first) ⊎ ((ended : Bool) (more : List ℕ) → 0 < length (gathered ++ before.writes ended (octets ++ more)))
+
+-- why the work stopped
+unfoldable pub IsStopped : {K : Type 0} → (K → Option (List ℕ)) → K → List ℕ → Future → List ℕ → Stop → K → Type 0
+IsStopped written first gathered before octets Fault last = IsCutOff written first gathered before octets last
+IsStopped written first gathered before octets (Ended ending) last = IsEnded written first gathered before octets ending last
+
+-- the input ended, and so the work
+unfoldable pub EndsBy : {K : Type 0} → (K → Option (List ℕ)) → K → Future → Stop → K → Type 0
+EndsBy written first before Fault last = AppendedFront (written first) (before.writes true []) (written last) × (0 < length (before.writes true []))
+EndsBy written first before (Ended ending) last = Appended (written first) (before.writes true []) (written last) × (before.ends true [] ≡ Some ending) × ((last ≡ first) ⊎ (0 < length (before.writes true [])))

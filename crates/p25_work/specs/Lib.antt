@@ -1,0 +1,4 @@
+pub mod Futures
+pub mod Pages
+pub mod Endings
+pub mod Runs
