@@ -10,8 +10,8 @@ use Rattle.p25_stations.specs.ReceiverState.{Keeping, Receiving}
 use Rattle.p25_stations.specs.declared.sender_state.Outstanding.TheVariants.{Nothing, Message, Opening}
 use Rattle.p25_world.specs.Link.{Session, empty_session, Link}
 use Rattle.p25_world.specs.Orderly.{IsOrderly, AreOrderly}
-use Rattle.p25_world.proofs.SentLaws.{IsDataOf}
-use Rattle.p25_world.proofs.ReceiverLaws.{KeepsOf}
+use Rattle.p25_world.specs.Facts.{IsDataOf}
+use Rattle.p25_world.specs.Facts.{KeepsOf}
 
 -- the newest packet of data while nothing is outstanding: the opening packet, or one of the last message
 abbrev pub IsQuietData : ℕ → List (List ℕ) → Packet → Type 0
@@ -75,7 +75,7 @@ pub record IsOpening (number : ℕ) (w : Link) : Type 0 where
   pub small : number < 8
   pub last_small : w.receiver.last < 8
   pub place : ((w.receiver.last ≡ number) × (w.receiver.kept ≡ None)) ⊎ ((w.receiver.last ≡ (number + 3) % 8) ⊎ (w.receiver.last ≡ (number + 4) % 8))
-  pub packet_sent : IfSome w.packet_sent (λ packet. packet ≡ opening_packet number)
+  pub packet_sent : w.packet_sent ≡ Some (opening_packet number)
   pub answer : IfSome w.answer (IsOpeningAnswer w.receiver.last number)
   pub session_is : w.session ≡ empty_session
   pub base_is : w.base ≡ (number + 1) % 8

@@ -21,6 +21,7 @@ use Rattle.p25_stations.specs.declared.receiver.Heard.{Heard}
 use Rattle.p25_stations.specs.declared.receiver.Heard.TheVariants.{Delivered, Opened, Again, Kept, Ignored}
 use Rattle.p25_stations.proofs.PlacesLaws.{length-put_block, length-put_slots, all_octets-empty}
 use Rattle.p25_stations.proofs.CarriedLaws.{put_block-here, put_block-other, places-of_message, message-read_back}
+use Rattle.p25_world.specs.Facts.{KeepsOf}
 use Rattle.p25_world.proofs.HeadLaws.{opening_head-llid, opening_head-syn, opening_head-number, opening_head-blocks}
 use Rattle.p25_world.proofs.SentLaws.{CarriesData}
 
@@ -29,12 +30,6 @@ eq-true m n e = grind (arith, nat_tests)
 
 eq-false : (m n : ℕ) → (m ≡ n → ⊥) → eqb m n ≡ false
 eq-false m n e = grind (arith, nat_tests)
-
--- the places of a message, of which some are held
-pub record KeepsOf (message : List ℕ) (kept : Keeping) : Type 0 where
-  pub count : length kept.places ≡ block_count (length message)
-  pub pad_is : kept.pad ≡ pad_count (length message)
-  pub held : (j : ℕ) → j < block_count (length message) → (get_or kept.places j None ≡ None) ⊎ (get_or kept.places j None ≡ Some (message_block message j))
 
 -- empty places hold nothing
 empty-keeps : (message : List ℕ) → KeepsOf message (empty_places (block_count (length message)) (pad_count (length message)))

@@ -26,7 +26,7 @@ use Rattle.p25_stations.specs.declared.sender.SenderHeard.TheVariants.{Acknowled
 use Rattle.p25_stations.specs.declared.sender.Reopen.{Reopen}
 use Rattle.p25_stations.specs.declared.sender.Reopen.TheVariants.{Sent as ReopenSent, Up}
 use Rattle.p25_world.proofs.HeadLaws.{response_head-status, response_head-class}
-use Rattle.p25_world.proofs.SentLaws.{IsDataOf}
+use Rattle.p25_world.specs.Facts.{IsDataOf}
 
 -- the same number, and the same outstanding
 pub record IsSame (s t : Sending) : Type 0 where
@@ -63,7 +63,7 @@ ResendsOf P ResendDown = Unit {0}
 abbrev pub Resends : (Packet → Type 0) → Sending → Sending × Resend → Type 0
 Resends P s x = IsSame s x.0 × ResendsOf P x.1
 
-resent-of : (P : Packet → Type 0) (s : Sending) (number : ℕ) (packet : Packet) → P packet → Resends P s (resent s number packet)
+pub resent-of : (P : Packet → Type 0) (s : Sending) (number : ℕ) (packet : Packet) → P packet → Resends P s (resent s number packet)
 unfolding resent
 resent-of P s number packet p =
     elim (may_send s) as (λ (b : Bool). Resends P s (cond b (tried s, Sent number (s.tries + 1) packet) (fallen s, ResendDown))) [
@@ -71,7 +71,7 @@ resent-of P s number packet p =
       | false ↦ (record { next = refl; outstanding = refl }, tt)
     ]
 
-timeout-of : (P : Packet → Type 0) (s : Sending) (out : Outstanding) → s.outstanding ≡ out → Resends P s (timed_out_with out s) → Resends P s (timed_out s)
+pub timeout-of : (P : Packet → Type 0) (s : Sending) (out : Outstanding) → s.outstanding ≡ out → Resends P s (timed_out_with out s) → Resends P s (timed_out s)
 unfolding timed_out
 timeout-of P s out o h =
     let here = subst (λ (x : Outstanding). Resends P s (timed_out_with x s)) (sym o) h in

@@ -1,5 +1,5 @@
 -- The packets that carry a message, and those that are true to one. By recursion on their slots.
-use Rattle.std.proofs.Common.{◌≡◌, ℕ, zero, suc, ◌<◌, ◌≤◌, ◌⊎◌, inl, inr, Bool, true, false, cond, List, [], ◌∷◌, ◌++◌, length, map, refl, ap, sym, ◌∙◌, subst, arith, length-append}
+use Rattle.std.proofs.Common.{◌≡◌, ℕ, zero, suc, ◌<◌, ◌≤◌, inl, inr, Bool, true, false, cond, List, [], ◌∷◌, ◌++◌, length, map, refl, ap, sym, ◌∙◌, subst, arith, length-append}
 use Rattle.std.specs.Prelude.{slice_index_or, nat_le}
 use Rattle.std.proofs.lemmas.List.{map-append}
 use Rattle.std.proofs.lemmas.Bool.{false≢true}
@@ -16,12 +16,9 @@ use Rattle.p25_packet_blocks.specs.declared.packet.Packet.TheVariants.{Confirmed
 use Rattle.p25_stations.specs.MessageBlocks.{block_count, pad_count, message_block, message_blocks}
 use Rattle.p25_stations.specs.Carried.{AreBlocksOf}
 use Rattle.p25_stations.specs.SentPackets.{good_slot, message_packet, wanted_slots, blocks_packet, opening_packet, short_response, ack_packet, retry_packet}
+use Rattle.p25_world.specs.Facts.{IsDataOf}
 use Rattle.p25_world.specs.Clean.{AreTrueSlots, IsTrueTo}
 use Rattle.p25_world.proofs.HeadLaws.{confirmed_head-llid, confirmed_head-syn, confirmed_head-number, confirmed_head-pad, confirmed_head-blocks, confirmed_head-full}
-
--- a packet with a message, or with some of its blocks, as a sender sends it
-unfoldable pub IsDataOf : ℕ → List ℕ → Packet → Type 0
-IsDataOf number message packet = (packet ≡ message_packet number message) ⊎ ((wanted : List Bool) × (packet ≡ blocks_packet number message wanted))
 
 -- what such a packet has, and what is left of it where slots turn Bad
 pub record CarriesData (number : ℕ) (message : List ℕ) (packet : ConfirmedParts) : Type 0 where

@@ -1,3 +1,4 @@
 pub mod Link
 pub mod Clean
 pub mod Orderly
+pub mod Facts

@@ -14,3 +14,14 @@ pub record IsOrderly (session : Session) : Type 0 where
 unfoldable pub AreOrderly : List Session → Type 0
 AreOrderly [] = Unit {0}
 AreOrderly (session ∷ sessions) = IsOrderly session × AreOrderly sessions
+
+-- the counts of a session in any run, clean or not: what is acknowledged was sent, and one message at most is sent that is
+-- not acknowledged
+pub record IsCounted (session : Session) : Type 0 where
+  pub acknowledged : session.acknowledged ≤ length session.sent
+  pub sent : length session.sent ≤ session.acknowledged + 1
+
+-- each of a list of sessions has such counts
+unfoldable pub AreCounted : List Session → Type 0
+AreCounted [] = Unit {0}
+AreCounted (session ∷ sessions) = IsCounted session × AreCounted sessions
