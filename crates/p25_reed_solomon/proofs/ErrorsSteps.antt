@@ -17,7 +17,7 @@ use Rattle.p25_reed_solomon.specs.Errors.{element_of, point_of, is_marked, marks
 use Rattle.p25_reed_solomon.specs.Locator.{IsLocator}
 use Rattle.p25_reed_solomon.proofs.MarksLaws.{marks_below-none, marks_below-marked, marks_below-plain}
 use Rattle.p25_reed_solomon.proofs.LocatorLaws.{same_function}
-use Rattle.p25_reed_solomon.proofs.ErrorFacts.{at_place, elsewhere, power_sum-placed, placed-errors, nonzeros-placed, nonzeros_same, nonzeros-none}
+use Rattle.p25_reed_solomon.proofs.ErrorsLaws.{at_place, elsewhere, power_sum-placed, placed-errors, nonzeros-placed, nonzeros_same, nonzeros-none}
 
 -- the parts of the lists that have the coefficients are a locator and its evaluator too
 pub part_is_locator : (n checks : ℕ) (syndromes : List Sym) (erased : List Bool) (most : ℕ) (locator evaluator : List Sym) → IsLocator n checks syndromes erased most (coefficient gf64 locator) (coefficient gf64 evaluator) → IsLocator n checks syndromes erased most (coefficient gf64 (take (most + 1) locator)) (coefficient gf64 (take most evaluator))

@@ -1,5 +1,5 @@
 -- The wrong places of a word without a mark are the zeros of its locator.
-use Rattle.std.proofs.Common.{◌≡◌, ◌≢◌, ◌↔◌, ℕ, zero, suc, ◌+◌, ◌-◌, ◌*◌, ◌/◌, ◌<◌, ◌≤◌, Bool, true, false, List, length, take, replicate, get_or, inl, inr, ap, sym, ◌∙◌, arith}
+use Rattle.std.proofs.Common.{◌≡◌, ◌≢◌, ◌↔◌, ℕ, zero, suc, ◌+◌, ◌-◌, ◌*◌, ◌<◌, ◌≤◌, Bool, false, List, length, take, replicate, inl, inr, ap, sym, ◌∙◌, arith}
 use Rattle.std.proofs.lemmas.Bool.{cases_lt, cond-false}
 use Rattle.std.proofs.lemmas.List.{get_or-take, get_or_past, length-take}
 use Rattle.p25_bits.specs.Distance.{distance_by}
@@ -15,8 +15,8 @@ use Rattle.p25_reed_solomon.specs.ValueFacts.{value-power_sum, front_value-add}
 use Rattle.p25_reed_solomon.specs.Errors.{point_of, is_marked, marks_below, unmarked, Explains, AreErrors}
 use Rattle.p25_reed_solomon.specs.Locator.{IsLocator}
 use Rattle.p25_reed_solomon.proofs.MarksLaws.{marks_below-none, marks_below-plain}
-use Rattle.p25_reed_solomon.proofs.ErrorFacts.{nonzeros_same}
-use Rattle.p25_reed_solomon.proofs.ReadingFacts.{no_marks}
+use Rattle.p25_reed_solomon.proofs.ErrorsLaws.{nonzeros_same}
+use Rattle.p25_reed_solomon.proofs.ReaderSteps.{no_marks}
 
 no_mark : (n j : ℕ) → is_marked (take n (replicate 63 false)) j ≡ false
 no_mark n j =

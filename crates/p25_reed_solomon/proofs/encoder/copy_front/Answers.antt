@@ -1,6 +1,6 @@
 use Rattle.std.proofs.Common.{arith}
 use Rattle.p25_gf64.specs.Gf64.{gf64}
-use Rattle.p25_reed_solomon.proofs.Encoding.{front_put}
+use Rattle.p25_reed_solomon.proofs.MultiplesLaws.{front_put}
 use Rattle.p25_reed_solomon.proofs.encoder.copy_front.Goals as goal
 
 pub returns-clause-begins : goal.returns-clause-begins

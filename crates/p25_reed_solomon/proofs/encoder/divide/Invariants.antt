@@ -1,5 +1,5 @@
 use Rattle.std.proofs.Common.{length}
-use Rattle.p25_reed_solomon.proofs.Encoders.{IsDividedTo}
+use Rattle.p25_reed_solomon.proofs.EncoderSteps.{IsDividedTo}
 use Rattle.p25_reed_solomon.proofs.encoder.divide.Given as goal
 
 abbrev pub invariant-loop-i : goal.invariant-loop-i

@@ -1,5 +1,5 @@
 use Rattle.std.proofs.Common.{◌≡◌, length, arith}
-use Rattle.p25_reed_solomon.proofs.Encoders.{value_of_word, sum_vanishes, word_is_sum}
+use Rattle.p25_reed_solomon.proofs.EncoderSteps.{value_of_word, sum_vanishes, word_is_sum}
 use Rattle.p25_reed_solomon.proofs.encoder.encode.Goals as goal
 
 pub returns-clause-word : goal.returns-clause-word

@@ -1,6 +1,6 @@
 use Rattle.std.proofs.Common.{refl, arith}
 use Rattle.p25_gf64.proofs.Symbols.{one_made}
-use Rattle.p25_reed_solomon.proofs.Encoders.{generator_none, generator_more}
+use Rattle.p25_reed_solomon.proofs.EncoderSteps.{generator_none, generator_more}
 use Rattle.p25_reed_solomon.proofs.encoder.generator_of.Goals as goal
 
 pub loop-i-init : goal.loop-i-init

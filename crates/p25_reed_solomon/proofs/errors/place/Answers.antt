@@ -2,7 +2,7 @@ use Rattle.std.proofs.Common.{ap₂, ◌∙◌, arith}
 use Rattle.std.proofs.lemmas.List.{get_or_default}
 use Rattle.p25_gf64.specs.Gf64.{gf64}
 use Rattle.p25_algebra.specs.Series.{coefficient}
-use Rattle.p25_reed_solomon.proofs.ErrorFacts.{placed_more, placed_none}
+use Rattle.p25_reed_solomon.proofs.ErrorsLaws.{placed_more, placed_none}
 use Rattle.p25_reed_solomon.proofs.errors.place.Goals as goal
 
 pub loop-c-init : goal.loop-c-init

@@ -3,7 +3,7 @@ use Rattle.std.proofs.lemmas.Bool.{iff_false}
 use Rattle.std.proofs.lemmas.List.{get_or_default}
 use Rattle.p25_gf64.specs.Gf64.{gf64}
 use Rattle.p25_algebra.specs.Series.{coefficient}
-use Rattle.p25_reed_solomon.proofs.ErrorFacts.{nonzeros-none, nonzeros_some, nonzeros_skip}
+use Rattle.p25_reed_solomon.proofs.ErrorsLaws.{nonzeros-none, nonzeros_some, nonzeros_skip}
 use Rattle.p25_reed_solomon.proofs.reader.weight.Goals as goal
 use Rattle.p25_reed_solomon.proofs.reader.weight.Goals.{then-not-is_zero, else-not-is_zero}
 

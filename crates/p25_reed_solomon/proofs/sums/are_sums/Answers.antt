@@ -8,7 +8,7 @@ use Rattle.p25_gf64.proofs.Powers.{power-zero}
 use Rattle.p25_algebra.specs.Sums.{power_sum}
 use Rattle.p25_algebra.specs.Series.{coefficient}
 use Rattle.p25_reed_solomon.specs.Errors.{element_of}
-use Rattle.p25_reed_solomon.proofs.LaneSteps.{sum_of_terms, term_next}
+use Rattle.p25_reed_solomon.proofs.ListSteps.{sum_of_terms, term_next}
 use Rattle.p25_reed_solomon.proofs.sums.are_sums.Goals as goal
 
 pub loop-syndrome-init : goal.loop-syndrome-init

@@ -4,7 +4,7 @@ use Rattle.std.proofs.lemmas.List.{get_or_default}
 use Rattle.p25_gf64.specs.Gf64.{gf64}
 use Rattle.p25_algebra.specs.Series.{coefficient, value_at}
 use Rattle.p25_reed_solomon.specs.Errors.{AreZeros}
-use Rattle.p25_reed_solomon.proofs.PlaceFacts.{AreZeros-few, AreZeros-none, AreZeros-push, AreZeros-skip}
+use Rattle.p25_reed_solomon.proofs.ZerosSteps.{AreZeros-few, AreZeros-none, AreZeros-push, AreZeros-skip}
 use Rattle.p25_reed_solomon.proofs.zeros.zeros.Goals as goal
 use Rattle.p25_reed_solomon.proofs.zeros.zeros.Goals.{then-is_zero, else-is_zero}
 

@@ -1,4 +1,4 @@
--- Distances of words by their symbols, and what errors make of a received word.
+-- What the reader answers: the cost of a word is that of the errors between it and what was received, and errors that explain the syndromes make a word.
 use Rattle.std.proofs.Common.{◌≡◌, ℕ, ◌+◌, ◌-◌, ◌*◌, ◌<◌, ◌≤◌, Bool, false, cond, List, length, take, replicate, All, refl, ap, ap₂, sym, ◌∙◌, arith}
 use Rattle.std.proofs.lemmas.Bool.{cond_both}
 use Rattle.std.proofs.lemmas.List.{get_or-take, get_or-replicate, length-take, length-replicate}
@@ -13,8 +13,8 @@ use Rattle.p25_reed_solomon.specs.Words.{IsCode, IsWord, value_of, same_symbols}
 use Rattle.p25_reed_solomon.specs.DistanceFacts.{distance-nonzeros}
 use Rattle.p25_reed_solomon.specs.Errors.{element_of, is_marked, marks_below, unmarked, Explains}
 use Rattle.p25_reed_solomon.specs.ValueFacts.{value-power_sum, front_value-add, front_value_same}
-use Rattle.p25_reed_solomon.proofs.ErrorFacts.{nonzeros_same, zeros_count}
-use Rattle.p25_reed_solomon.proofs.MarkedWords.{cost-errors}
+use Rattle.p25_reed_solomon.proofs.ErrorsLaws.{nonzeros_same, zeros_count}
+use Rattle.p25_reed_solomon.proofs.CostLaws.{cost-errors}
 
 -- the errors between a received word and a word of the code that costs little explain the syndromes
 pub difference_explains : (n k : ℕ) (received word syndromes : List Sym) (erased : List Bool) → IsCode n k → length received ≡ n → length erased ≡ n → IsWord n k word → ((r : ℕ) → r < n - k → coefficient gf64 syndromes r ≡ value_of n received (r + 1)) → marked_cost same_symbols (marked received erased) word ≤ n - k

@@ -17,7 +17,7 @@ use Rattle.p25_algebra.proofs.Products.{shifted_from}
 use Rattle.p25_poly.proofs.Coefficients.{coefficient_blank, written_at, written_elsewhere, nothing_added}
 use Rattle.p25_reed_solomon.specs.Generator.{IsGenerator}
 use Rattle.p25_reed_solomon.specs.Words.{value_of}
-use Rattle.p25_reed_solomon.proofs.Encoding.{value_stays, old_zero, new_zero, longer_by_one, first_stays, value_down}
+use Rattle.p25_reed_solomon.proofs.MultiplesLaws.{value_stays, old_zero, new_zero, longer_by_one, first_stays, value_down}
 open gf64 use {zero as 𝟘, one as 𝟙, add as ◌⊕◌, mul as ◌⊗◌, inverse}
 
 infixl 65 ◌⊕◌

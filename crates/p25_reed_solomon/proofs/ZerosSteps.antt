@@ -1,4 +1,4 @@
--- Places, their elements, and the zeros of a locator among them.
+-- The places at which a polynomial vanishes, listed in rising order: one place more at a time, and no more than the polynomial has coefficients.
 use Rattle.std.proofs.Common.{◌≡◌, ◌≢◌, ℕ, ◌+◌, ◌<◌, ◌≤◌, List, [], ◌∷◌, ◌++◌, length, get_or, inl, inr, refl, sym, ◌∙◌, subst, arith}
 use Rattle.std.proofs.lemmas.Bool.{cases_lt, cases_eq, cases_order}
 use Rattle.std.proofs.lemmas.List.{get_or_append_left, get_or_at, length_push}
