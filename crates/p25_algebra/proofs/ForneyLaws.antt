@@ -63,7 +63,8 @@ module _ {F : Type 0} (K : Field F) where
       ∙ ap (λ w. w ⊗ power K y k) (sym (power-add K x (m - k + 1) k) ∙ ap (power K x) (sym split))
 
   -- the product of a polynomial with power sums, as a sum over the elements
-  pub product_sums : (n m : ℕ) (x v q s : ℕ → F) → ((j : ℕ) → j < n → x j ⊗ inverse (x j) ≡ 𝟙) → ((i : ℕ) → i ≤ m → s i ≡ power_sum K n x v (i + 1)) → product_at K q s m ≡ sum_below K n (λ j. v j ⊗ power K (x j) (m + 1) ⊗ value_at K (suc m) q (inverse (x j)))
+  pub product_sums : (n m : ℕ) (x v q s : ℕ → F) → ((j : ℕ) → j < n → x j ⊗ inverse (x j) ≡ 𝟙) → ((i : ℕ) → i ≤ m → s i ≡ power_sum K n x v (i + 1))
+      → product_at K q s m ≡ sum_below K n (λ j. v j ⊗ power K (x j) (m + 1) ⊗ value_at K (suc m) q (inverse (x j)))
   product_sums n m x v q s live sums =
       sum_same K (suc m) (λ i. q i ⊗ s (m - i)) (λ i. sum_below K n (λ j. v j ⊗ power K (x j) (m + 1) ⊗ (q i ⊗ power K (inverse (x j)) i)))
       (λ i low. ap (λ w. q i ⊗ w) (sums (m - i) (omega arith)) ∙ sym (sum-mul K n (q i) (λ j. v j ⊗ power K (x j) (m - i + 1)))
@@ -76,7 +77,9 @@ module _ {F : Type 0} (K : Field F) where
       regroup : (a b c e : F) → a ⊗ (b ⊗ (c ⊗ e)) ≡ b ⊗ c ⊗ (a ⊗ e)
       regroup a b c e = simp (mul_assoc K, mul_left_comm K)
 
-  forney_next : (n m : ℕ) (x v f s : ℕ → F) → AreApart n x → ((j : ℕ) → j < n → x j ≢ 𝟘) → IsShort K (suc (suc m)) f → ((i : ℕ) → i ≤ m → s i ≡ power_sum K n x v (i + 1)) → ((l : ℕ) → l < n → v l ≢ 𝟘 → value_at K (suc (suc m)) f (inverse (x l)) ≡ 𝟘) → (j : ℕ) → j < n → value_at K (suc (suc m)) f (inverse (x j)) ≡ 𝟘 → v j ⊗ slope_at K (suc (suc m)) f (inverse (x j)) ≡ value_at K (suc m) (product_at K f s) (inverse (x j))
+  forney_next : (n m : ℕ) (x v f s : ℕ → F) → AreApart n x → ((j : ℕ) → j < n → x j ≢ 𝟘) → IsShort K (suc (suc m)) f → ((i : ℕ) → i ≤ m → s i ≡ power_sum K n x v (i + 1))
+      → ((l : ℕ) → l < n → v l ≢ 𝟘 → value_at K (suc (suc m)) f (inverse (x l)) ≡ 𝟘) → (j : ℕ) → j < n → value_at K (suc (suc m)) f (inverse (x j)) ≡ 𝟘
+      → v j ⊗ slope_at K (suc (suc m)) f (inverse (x j)) ≡ value_at K (suc m) (product_at K f s) (inverse (x j))
   forney_next n m x v f s apart live short sums zeros j inside here =
       mul_cancel K (power K (x j) (m + 1)) (v j ⊗ slope_at K (suc (suc m)) f z) (value_at K (suc m) (product_at K f s) z) (power_ne_zero K (x j) (m + 1) (live j inside))
       (

@@ -17,7 +17,8 @@ module _ {F : Type 0} (K : Field F) where
   infixl 65 ◌⊕◌
   infixl 70 ◌⊗◌
   -- a polynomial vanishes at the inverse of the element of each factor that isn't zero
-  pub locator_vanishes : (n t : ℕ) (x v f s : ℕ → F) → AreApart n x → ((j : ℕ) → j < n → x j ≢ 𝟘) → nonzeros K n v ≤ t → IsShort K (t + 1) f → ((i : ℕ) → i < 2 * t → s i ≡ power_sum K n x v (i + 1)) → ((i : ℕ) → t ≤ i → i < 2 * t → product_at K f s i ≡ 𝟘)
+  pub locator_vanishes : (n t : ℕ) (x v f s : ℕ → F) → AreApart n x → ((j : ℕ) → j < n → x j ≢ 𝟘) → nonzeros K n v ≤ t → IsShort K (t + 1) f → ((i : ℕ) → i < 2 * t → s i ≡ power_sum K n x v (i + 1))
+      → ((i : ℕ) → t ≤ i → i < 2 * t → product_at K f s i ≡ 𝟘)
       → (j : ℕ) → j < n → v j ≢ 𝟘 → value_at K (t + 1) f (inverse (x j)) ≡ 𝟘
   locator_vanishes n t x v f s apart live few short sums none j inside other =
       other_zero K (v j ⊗ power K (x j) t) (value_at K (t + 1) f (inverse (x j))) (mul_ne_zero K (v j) (power K (x j) t) other (power_ne_zero K (x j) t (live j inside)))
@@ -28,7 +29,11 @@ module _ {F : Type 0} (K : Field F) where
 
       fewer : nonzeros K n w ≤ t
       fewer =
-          omega (arith, nonzeros_mono K n w v (λ l low e. ap (λ a. a ⊗ power K (x l) t ⊗ value_at K (t + 1) f (inverse (x l))) e ∙ ap (λ a. a ⊗ value_at K (t + 1) f (inverse (x l))) (zero_mul K (power K (x l) t)) ∙ zero_mul K (value_at K (t + 1) f (inverse (x l)))))
+          omega (
+            arith,
+            nonzeros_mono K n w v
+                (λ l low e. ap (λ a. a ⊗ power K (x l) t ⊗ value_at K (t + 1) f (inverse (x l))) e ∙ ap (λ a. a ⊗ value_at K (t + 1) f (inverse (x l))) (zero_mul K (power K (x l) t)) ∙ zero_mul K (value_at K (t + 1) f (inverse (x l)))),
+          )
 
       term : (p q a b : F) → a ⊗ p ⊗ b ⊗ q ≡ a ⊗ (p ⊗ q) ⊗ b
       term p q a b = simp (mul_assoc K, mul_comm K, mul_left_comm K)

@@ -138,7 +138,8 @@ module _ {F : Type 0} (K : Field F) where
   -- a zero that stays keeps its slope, times the value of 1 + y x
   pub slope-kept : (n : ℕ) (y : F) (f : ℕ → F) (z : F) → 0 < n → IsShort K n f → value_at K n f z ≡ 𝟘 → slope_at K (suc n) (times_linear K y f) z ≡ (𝟙 ⊕ y ⊗ z) ⊗ slope_at K n f z
   slope-kept n y f z some short none =
-      value_same K (suc n) (rest_at K (suc n) (times_linear K y f) z) (times_linear K y q) z (λ k low. sym (rest_unique (suc n) (suc n) (times_linear K y f) (times_linear K y q) z (short_times_linear n y f short) (short_times_linear n y q short_q) whole k))
+      value_same K (suc n) (rest_at K (suc n) (times_linear K y f) z) (times_linear K y q) z
+      (λ k low. sym (rest_unique (suc n) (suc n) (times_linear K y f) (times_linear K y q) z (short_times_linear n y f short) (short_times_linear n y q short_q) whole k))
       ∙ value-times_linear n y q z short_q
     where
       q : ℕ → F

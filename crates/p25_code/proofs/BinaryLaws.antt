@@ -160,7 +160,8 @@ module _ {rows : List ℕ} {checks apart : ℕ} (code : IsSystematic rows checks
       ]
 
   -- what the encoder writes is the encoding in a set whose words are those that pass
-  pub encodes : (IsWord : List Bool → Type 0) → ((w : List Bool) → IsChecked (rows ++ check_columns checks) w → IsWord w) → (front : List ℕ) (places : ℕ) (info word : List Bool) → front ≡ rows → places ≡ checks → length info ≡ length rows → word ≡ systematic front places info → IsEncoding IsWord (length rows) info word
+  pub encodes : (IsWord : List Bool → Type 0) → ((w : List Bool) → IsChecked (rows ++ check_columns checks) w → IsWord w) → (front : List ℕ) (places : ℕ) (info word : List Bool) → front ≡ rows → places ≡ checks → length info ≡ length rows
+      → word ≡ systematic front places info → IsEncoding IsWord (length rows) info word
   encodes IsWord from front places info word e f long is =
       let whole : word ≡ systematic rows checks info = is ∙ ap₂ (λ r n. systematic r n info) e f in
       let encoding = systematic_encodes info long in
@@ -170,7 +171,9 @@ module _ {rows : List ℕ} {checks apart : ℕ} (code : IsSystematic rows checks
       }
 
   -- what the reader leaves and answers is the reading in that set
-  pub reads : (IsWord : List Bool → Type 0) → ((w : List Bool) → IsWord w → IsChecked (rows ++ check_columns checks) w) → ((w : List Bool) → IsChecked (rows ++ check_columns checks) w → IsWord w) → (front : List ℕ) (places radius : ℕ) (received word : List Bool) (reading : Reading) → front ≡ rows → places ≡ checks → IsReading beq (IsChecked (front ++ check_columns places)) radius received word reading → IsReading beq IsWord radius received word reading
+  pub reads : (IsWord : List Bool → Type 0) → ((w : List Bool) → IsWord w → IsChecked (rows ++ check_columns checks) w) → ((w : List Bool) → IsChecked (rows ++ check_columns checks) w → IsWord w)
+      → (front : List ℕ) (places radius : ℕ) (received word : List Bool) (reading : Reading) → front ≡ rows → places ≡ checks → IsReading beq (IsChecked (front ++ check_columns places)) radius received word reading
+      → IsReading beq IsWord radius received word reading
   reads IsWord to from front places radius received word reading e f is =
       reading_of_same_set beq (IsChecked (rows ++ check_columns checks)) IsWord radius received word reading from to
       (subst (λ cs. IsReading beq (IsChecked cs) radius received word reading) (ap₂ (λ r n. r ++ check_columns n) e f) is)
@@ -188,7 +191,8 @@ module _ {rows : List ℕ} {checks apart : ℕ} (code : IsSystematic rows checks
   }
 
 -- the syndrome of a word from its information and its check bits
-pub syndrome_of-word : (rows : List ℕ) (checks : ℕ) (word : List Bool) → length rows ≤ length word → length word - length rows ≡ checks → syndrome_of (rows ++ check_columns checks) word ≡ bit_xor (syndrome_of rows (take (length rows) word)) (field_of (drop (length rows) word))
+pub syndrome_of-word : (rows : List ℕ) (checks : ℕ) (word : List Bool) → length rows ≤ length word → length word - length rows ≡ checks
+    → syndrome_of (rows ++ check_columns checks) word ≡ bit_xor (syndrome_of rows (take (length rows) word)) (field_of (drop (length rows) word))
 syndrome_of-word rows checks word inside places =
     let k = length rows in
     let back : length (drop k word) ≡ checks = omega (arith, length-drop k word) in

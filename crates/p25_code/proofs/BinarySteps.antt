@@ -66,7 +66,8 @@ no_budget columns sum budget word some none = record {
 }
 
 -- the others are corrected, and the first bit stays
-pub first_kept : (column : ℕ) (columns : List ℕ) (sum budget : ℕ) (x : Bool) (old new : List Bool) (fixes : ℕ) → IsCorrection columns sum budget old new (Some fixes) → IsCorrection (column ∷ columns) sum budget (x ∷ old) (x ∷ new) (Some fixes)
+pub first_kept : (column : ℕ) (columns : List ℕ) (sum budget : ℕ) (x : Bool) (old new : List Bool) (fixes : ℕ) → IsCorrection columns sum budget old new (Some fixes)
+    → IsCorrection (column ∷ columns) sum budget (x ∷ old) (x ∷ new) (Some fixes)
 unfolding IsCorrection
 first_kept column columns sum budget x old new fixes is = record {
   long = ap suc is.long;
@@ -100,7 +101,8 @@ checks_corrected n sum budget checks long small within =
     record { long = long' ∙ sym long; change = change; fixes_is = sym (distance-checks n sum checks new long long' change); within = within }
 
 -- so is a word, whose information stays
-pub word_corrected : (rows : List ℕ) (n sum budget : ℕ) (info checks : List Bool) → length info ≡ length rows → length checks ≡ n → sum < 2 ^ n → count_ones sum ≤ budget → IsCorrection (rows ++ check_columns n) sum budget (info ++ checks) (info ++ bits_of n (bit_xor (field_of checks) sum)) (Some (count_ones sum))
+pub word_corrected : (rows : List ℕ) (n sum budget : ℕ) (info checks : List Bool) → length info ≡ length rows → length checks ≡ n → sum < 2 ^ n → count_ones sum ≤ budget
+    → IsCorrection (rows ++ check_columns n) sum budget (info ++ checks) (info ++ bits_of n (bit_xor (field_of checks) sum)) (Some (count_ones sum))
 word_corrected [] n sum budget [] checks same long small within = checks_corrected n sum budget checks long small within
 word_corrected [] n sum budget (x ∷ info) checks same long small within = absurd (omega arith)
 word_corrected (row ∷ rows) n sum budget [] checks same long small within = absurd (omega arith)
@@ -117,7 +119,8 @@ no_rows [] n sum budget word none long more = record {
 no_rows (row ∷ rows) n sum budget word none long more = absurd (omega arith)
 
 -- the others are corrected after the first bit was flipped; the first try changed nothing
-pub first_flipped : (column : ℕ) (columns : List ℕ) (sum budget : ℕ) (x : Bool) (old new newer : List Bool) (fixes : ℕ) → 0 < budget → IsCorrection columns sum budget old new None → IsCorrection columns (bit_xor sum column) (budget - 1) new newer (Some fixes) → IsCorrection (column ∷ columns) sum budget (x ∷ old) (not x ∷ newer) (Some (fixes + 1))
+pub first_flipped : (column : ℕ) (columns : List ℕ) (sum budget : ℕ) (x : Bool) (old new newer : List Bool) (fixes : ℕ) → 0 < budget → IsCorrection columns sum budget old new None
+    → IsCorrection columns (bit_xor sum column) (budget - 1) new newer (Some fixes) → IsCorrection (column ∷ columns) sum budget (x ∷ old) (not x ∷ newer) (Some (fixes + 1))
 unfolding IsCorrection
 first_flipped column columns sum budget x old new newer fixes some kept is = flipped (subst (λ u. IsCorrected columns (bit_xor sum column) (budget - 1) u newer fixes) kept.unchanged is)
   where
@@ -130,18 +133,28 @@ first_flipped column columns sum budget x old new newer fixes some kept is = fli
     }
 
 -- a list that begins with the bit, or with the other one
-beyond : (column : ℕ) (columns : List ℕ) (sum budget : ℕ) (x y : Bool) (old other : List Bool) → IsUncorrected columns sum budget old old → IsUncorrected columns (bit_xor sum column) (budget - 1) old old → length other ≡ length old → change_of (column ∷ columns) (x ∷ old) (y ∷ other) ≡ sum → 0 < budget → budget < distance_of (x ∷ old) (y ∷ other)
+beyond : (column : ℕ) (columns : List ℕ) (sum budget : ℕ) (x y : Bool) (old other : List Bool) → IsUncorrected columns sum budget old old → IsUncorrected columns (bit_xor sum column) (budget - 1) old old → length other ≡ length old
+    → change_of (column ∷ columns) (x ∷ old) (y ∷ other) ≡ sum → 0 < budget → budget < distance_of (x ∷ old) (y ∷ other)
 beyond column columns sum budget true true old other kept flipped long change some =
     omega (arith, kept.farther other long (sym (change-kept column columns true old other) ∙ change), distance-kept true old other)
 beyond column columns sum budget false false old other kept flipped long change some =
     omega (arith, kept.farther other long (sym (change-kept column columns false old other) ∙ change), distance-kept false old other)
 beyond column columns sum budget true false old other kept flipped long change some =
-    omega (arith, flipped.farther other long (sym (away (change_of columns old other) column sum (sym change ∙ change-flipped column columns true old other ∙ xor_comm column (change_of columns old other))) ∙ xor_comm column sum), distance-flipped true old other)
+    omega (
+      arith,
+      flipped.farther other long (sym (away (change_of columns old other) column sum (sym change ∙ change-flipped column columns true old other ∙ xor_comm column (change_of columns old other))) ∙ xor_comm column sum),
+      distance-flipped true old other,
+    )
 beyond column columns sum budget false true old other kept flipped long change some =
-    omega (arith, flipped.farther other long (sym (away (change_of columns old other) column sum (sym change ∙ change-flipped column columns false old other ∙ xor_comm column (change_of columns old other))) ∙ xor_comm column sum), distance-flipped false old other)
+    omega (
+      arith,
+      flipped.farther other long (sym (away (change_of columns old other) column sum (sym change ∙ change-flipped column columns false old other ∙ xor_comm column (change_of columns old other))) ∙ xor_comm column sum),
+      distance-flipped false old other,
+    )
 
 -- the others cannot be corrected, whether the first bit is flipped or not
-pub first_given_up : (column : ℕ) (columns : List ℕ) (sum budget : ℕ) (x : Bool) (old new newer : List Bool) → 0 < budget → IsCorrection columns sum budget old new None → IsCorrection columns (bit_xor sum column) (budget - 1) new newer None → IsCorrection (column ∷ columns) sum budget (x ∷ old) (x ∷ newer) None
+pub first_given_up : (column : ℕ) (columns : List ℕ) (sum budget : ℕ) (x : Bool) (old new newer : List Bool) → 0 < budget → IsCorrection columns sum budget old new None → IsCorrection columns (bit_xor sum column) (budget - 1) new newer None
+    → IsCorrection (column ∷ columns) sum budget (x ∷ old) (x ∷ newer) None
 unfolding IsCorrection
 first_given_up column columns sum budget x old new newer some kept flipped =
     let without : IsUncorrected columns sum budget old old = record { unchanged = refl; farther = kept.farther } in
@@ -155,12 +168,14 @@ first_given_up column columns sum budget x old new newer some kept flipped =
       farther = λ other long change. others other long change without lower;
     }
   where
-    others : (other : List Bool) → length other ≡ length (x ∷ old) → change_of (column ∷ columns) (x ∷ old) other ≡ sum → IsUncorrected columns sum budget old old → IsUncorrected columns (bit_xor sum column) (budget - 1) old old → budget < distance_of (x ∷ old) other
+    others : (other : List Bool) → length other ≡ length (x ∷ old) → change_of (column ∷ columns) (x ∷ old) other ≡ sum → IsUncorrected columns sum budget old old → IsUncorrected columns (bit_xor sum column) (budget - 1) old old
+        → budget < distance_of (x ∷ old) other
     others [] long change without lower = absurd (omega arith)
     others (y ∷ other) long change without lower = beyond column columns sum budget x y old other without lower (omega arith) change some
 
 -- a correction by the syndrome is a reading
-pub corrected : (columns : List ℕ) (sum radius : ℕ) (old new : List Bool) (fixes : ℕ) → length old ≡ length columns → sum ≡ syndrome_of columns old → IsCorrection columns sum radius old new (Some fixes) → IsReading beq (IsChecked columns) radius old new (Found fixes)
+pub corrected : (columns : List ℕ) (sum radius : ℕ) (old new : List Bool) (fixes : ℕ) → length old ≡ length columns → sum ≡ syndrome_of columns old → IsCorrection columns sum radius old new (Some fixes)
+    → IsReading beq (IsChecked columns) radius old new (Found fixes)
 unfolding IsCorrection IsReading
 corrected columns sum radius old new fixes long e is = record {
   word_of_set = record { long = is.long ∙ long; passes = changed_to columns old new long (is.long ∙ long) (is.change ∙ e) };
@@ -168,7 +183,8 @@ corrected columns sum radius old new fixes long e is = record {
   within = is.within;
 }
 
-pub uncorrected : (columns : List ℕ) (sum radius : ℕ) (old new : List Bool) → length old ≡ length columns → sum ≡ syndrome_of columns old → IsCorrection columns sum radius old new None → IsReading beq (IsChecked columns) radius old new Beyond
+pub uncorrected : (columns : List ℕ) (sum radius : ℕ) (old new : List Bool) → length old ≡ length columns → sum ≡ syndrome_of columns old → IsCorrection columns sum radius old new None
+    → IsReading beq (IsChecked columns) radius old new Beyond
 unfolding IsCorrection IsReading
 uncorrected columns sum radius old new long e is = record {
   unchanged = is.unchanged;
@@ -176,7 +192,8 @@ uncorrected columns sum radius old new long e is = record {
 }
 
 -- the same of lists that are known to begin so
-pub of_parts : (columns columns' : List ℕ) (sum budget : ℕ) (old old' new : List Bool) (answer answer' : Option ℕ) → columns ≡ columns' → old ≡ old' → answer ≡ answer' → IsCorrection columns' sum budget old' new answer' → IsCorrection columns sum budget old new answer
+pub of_parts : (columns columns' : List ℕ) (sum budget : ℕ) (old old' new : List Bool) (answer answer' : Option ℕ) → columns ≡ columns' → old ≡ old' → answer ≡ answer' → IsCorrection columns' sum budget old' new answer'
+    → IsCorrection columns sum budget old new answer
 of_parts columns columns' sum budget old old' new answer answer' e f g is =
     subst (λ a. IsCorrection columns sum budget old new a) (sym g)
     (subst (λ o. IsCorrection columns sum budget o new answer') (sym f)
@@ -203,7 +220,8 @@ unfolding count_ones
 some_ones sum budget more none = absurd (omega (arith, ap count_ones none))
 
 -- the word whose check bits were changed, as the lists that were cut
-pub checks_changed : (rows : List ℕ) (n sum budget m : ℕ) (word info checks new : List Bool) → word ≡ info ++ checks → length info ≡ length rows → length checks ≡ n → sum < 2 ^ n → count_ones sum ≤ budget → m ≡ bit_xor (field_of checks) sum → new ≡ bits_of (length checks) m → IsCorrection (rows ++ check_columns n) sum budget word (info ++ new) (Some (count_ones sum))
+pub checks_changed : (rows : List ℕ) (n sum budget m : ℕ) (word info checks new : List Bool) → word ≡ info ++ checks → length info ≡ length rows → length checks ≡ n → sum < 2 ^ n → count_ones sum ≤ budget → m ≡ bit_xor (field_of checks) sum
+    → new ≡ bits_of (length checks) m → IsCorrection (rows ++ check_columns n) sum budget word (info ++ new) (Some (count_ones sum))
 checks_changed rows n sum budget m word info checks new whole same long small within number is =
     let put : bits_of n (bit_xor (field_of checks) sum) ≡ new = sym (is ∙ ap₂ bits_of long number) in
     subst (λ w. IsCorrection (rows ++ check_columns n) sum budget w (info ++ new) (Some (count_ones sum))) (sym whole)

@@ -48,7 +48,8 @@ module _ {F : Type 0} (K : Field F) where
   written_elsewhere cs i k x apart = get_or-set_other cs i k x 𝟘 apart
 
   -- a multiple without a shift is added to every coefficient
-  pub multiple_everywhere : (old other new : List F) (factor : F) → length old ≡ length other → length new ≡ length old → ((k : ℕ) → k < length old → coefficient K new k ≡ coefficient K old k ⊕ factor ⊗ shifted K 0 (coefficient K other) k) → (i : ℕ) → coefficient K new i ≡ coefficient K old i ⊕ factor ⊗ coefficient K other i
+  pub multiple_everywhere : (old other new : List F) (factor : F) → length old ≡ length other → length new ≡ length old
+      → ((k : ℕ) → k < length old → coefficient K new k ≡ coefficient K old k ⊕ factor ⊗ shifted K 0 (coefficient K other) k) → (i : ℕ) → coefficient K new i ≡ coefficient K old i ⊕ factor ⊗ coefficient K other i
   multiple_everywhere old other new factor same kept added i =
       elim (cases_lt i (length old)) [
         | inl below ↦ added i below ∙ ap (λ w. coefficient K old i ⊕ factor ⊗ w) (shifted_from K 0 (coefficient K other) i (omega arith) ∙ ap (coefficient K other) unshifted)
@@ -61,7 +62,8 @@ module _ {F : Type 0} (K : Field F) where
       unshifted = omega arith
 
   -- so is the other list where the factor is one
-  pub one_added : (old other new : List F) (one : F) → one ≡ 𝟙 → length old ≡ length other → length new ≡ length old → ((k : ℕ) → k < length old → coefficient K new k ≡ coefficient K old k ⊕ one ⊗ shifted K 0 (coefficient K other) k) → (i : ℕ) → coefficient K new i ≡ coefficient K old i ⊕ coefficient K other i
+  pub one_added : (old other new : List F) (one : F) → one ≡ 𝟙 → length old ≡ length other → length new ≡ length old → ((k : ℕ) → k < length old → coefficient K new k ≡ coefficient K old k ⊕ one ⊗ shifted K 0 (coefficient K other) k)
+      → (i : ℕ) → coefficient K new i ≡ coefficient K old i ⊕ coefficient K other i
   one_added old other new one e same kept added i =
       multiple_everywhere old other new one same kept added i
       ∙ ap (λ w. coefficient K old i ⊕ w ⊗ coefficient K other i) e
@@ -99,7 +101,8 @@ module _ {F : Type 0} (K : Field F) where
       ]
 
   -- n rows of the product are the product, where it fits
-  pub rows_are_product : (n m : ℕ) (f g h : ℕ → F) → m ≡ n → IsShort K n f → IsShort K n g → IsShort K n h → ((d e : ℕ) → IsDegree K f d → IsDegree K g e → d + e < n) → ((k : ℕ) → k < n → h k ≡ sum_below K m (λ i. f i ⊗ shifted K i g k)) → (k : ℕ) → h k ≡ product_at K f g k
+  pub rows_are_product : (n m : ℕ) (f g h : ℕ → F) → m ≡ n → IsShort K n f → IsShort K n g → IsShort K n h → ((d e : ℕ) → IsDegree K f d → IsDegree K g e → d + e < n)
+      → ((k : ℕ) → k < n → h k ≡ sum_below K m (λ i. f i ⊗ shifted K i g k)) → (k : ℕ) → h k ≡ product_at K f g k
   rows_are_product n m f g h all short_f short_g short_h fits rows k =
       elim (cases_lt k n) [
         | inl below ↦ rows k below ∙ ap (λ n. sum_below K n (λ i. f i ⊗ shifted K i g k)) all ∙ sym (product_by_rows K n f g short_f k)
@@ -113,7 +116,8 @@ module _ {F : Type 0} (K : Field F) where
       × ((k : ℕ) → i ≤ k → coefficient K into k ≡ old k)
 
   -- one more coefficient
-  pub added_step : (i : ℕ) (into : List F) (old : ℕ → F) (factor : F) (s : ℕ) (g : ℕ → F) (x : F) → s ≤ i → i < length into → x ≡ coefficient K into i ⊕ factor ⊗ g (i - s) → AddedBefore i into old factor s g → AddedBefore (i + 1) (set into i x) old factor s g
+  pub added_step : (i : ℕ) (into : List F) (old : ℕ → F) (factor : F) (s : ℕ) (g : ℕ → F) (x : F) → s ≤ i → i < length into → x ≡ coefficient K into i ⊕ factor ⊗ g (i - s) → AddedBefore i into old factor s g
+      → AddedBefore (i + 1) (set into i x) old factor s g
   added_step i into old factor s g x from within e kept = (before, after)
     where
       before : (k : ℕ) → k < i + 1 → k < length (set into i x) → coefficient K (set into i x) k ≡ old k ⊕ factor ⊗ shifted K s g k

@@ -22,7 +22,8 @@ module _ {F : Type 0} (K : Field F) where
     pub below : (k : ℕ) → k < i → coefficient K quotient k ≡ 𝟘
 
   -- at first the remainder is the dividend
-  pub divided_none : (i : ℕ) (divisor : ℕ → F) (degree : ℕ) (quotient remainder : List F) → i + degree ≡ 64 → length quotient ≡ 64 → length remainder ≡ 64 → ((k : ℕ) → coefficient K quotient k ≡ 𝟘) → DividedTo i (coefficient K remainder) divisor degree quotient remainder
+  pub divided_none : (i : ℕ) (divisor : ℕ → F) (degree : ℕ) (quotient remainder : List F) → i + degree ≡ 64 → length quotient ≡ 64 → length remainder ≡ 64 → ((k : ℕ) → coefficient K quotient k ≡ 𝟘)
+      → DividedTo i (coefficient K remainder) divisor degree quotient remainder
   divided_none i divisor degree quotient remainder all full_q full_r blank = record {
     quotient_full = full_q;
     remainder_full = full_r;
@@ -32,7 +33,10 @@ module _ {F : Type 0} (K : Field F) where
   }
 
   -- the coefficient of x^s, by which the remainder loses its leading coefficient
-  module _ (i s : ℕ) (next : i ≡ s + 1) (dividend divisor : ℕ → F) (degree : ℕ) (quotient remainder after : List F) (factor : F) (fits : s + degree < 64) (top : IsDegree K divisor degree) (full : length after ≡ length remainder) (is_factor : factor ≡ coefficient K remainder (s + degree) ⊗ inverse (divisor degree)) (added : (k : ℕ) → k < length remainder → coefficient K after k ≡ coefficient K remainder k ⊕ factor ⊗ shifted K s divisor k) (before : DividedTo i dividend divisor degree quotient remainder) where
+  module _ (i s : ℕ) (next : i ≡ s + 1) (dividend divisor : ℕ
+      → F) (degree : ℕ) (quotient remainder after : List F) (factor : F) (fits : s + degree < 64) (top : IsDegree K divisor degree) (full : length after ≡ length remainder)
+      (is_factor : factor ≡ coefficient K remainder (s + degree) ⊗ inverse (divisor degree)) (added : (k : ℕ) → k < length remainder
+      → coefficient K after k ≡ coefficient K remainder k ⊕ factor ⊗ shifted K s divisor k) (before : DividedTo i dividend divisor degree quotient remainder) where
     past_degree : (k : ℕ) → s + degree < k → factor ⊗ shifted K s divisor k ≡ 𝟘
     past_degree k h = ap (λ w. factor ⊗ w) (shifted_from K s divisor k (omega arith) ∙ top.above (k - s) (omega arith)) ∙ mul_zero K factor
 

@@ -94,7 +94,8 @@ moved_part symbols s k padded fits low =
           ap (coefficient gf64 symbols) same ∙ sym (shifted_from gf64 s (behind symbols) k from)
     ]
 
-moved_everywhere : (c : Sym) (s p : ℕ) (old other new : List Sym) → length old ≡ 64 → length other ≡ 64 → length new ≡ 64 → IsPadded other → IsShort gf64 p (behind other) → s + p ≤ 32 → IsMoved c s old other new → (k : ℕ) → behind new k ≡ gf64.add (behind old k) (gf64.mul c (shifted gf64 s (behind other) k))
+moved_everywhere : (c : Sym) (s p : ℕ) (old other new : List Sym) → length old ≡ 64 → length other ≡ 64 → length new ≡ 64 → IsPadded other → IsShort gf64 p (behind other) → s + p ≤ 32 → IsMoved c s old other new → (k : ℕ)
+    → behind new k ≡ gf64.add (behind old k) (gf64.mul c (shifted gf64 s (behind other) k))
 moved_everywhere c s p old other new full_old full_other full_new padded short fits moved k =
     elim (cases_lt k 32) [
       | inl low ↦ moved.sum k low ∙ ap (λ w. gf64.add (behind old k) (gf64.mul c w)) (moved_part other s k padded (omega arith) low)
@@ -137,7 +138,8 @@ module _ (count : ℕ) (series : ℕ → Sym) (front back less : Side) (lower : 
   factor_gained : (k : ℕ) → behind less.factor k ≡ gf64.add (behind front.factor k) (gf64.mul c (shifted gf64 shift (behind back.factor) k))
   unfolding c shift
   factor_gained =
-      moved_everywhere c shift (count + 1 - front.degree) front.factor back.factor less.factor front.full_factor back.full_factor less.full_factor pair.back_side.factor_padded pair.back_factor (omega (arith, pair.most, pair.few)) reduced.factor
+      moved_everywhere c shift (count + 1 - front.degree) front.factor back.factor less.factor front.full_factor back.full_factor less.full_factor pair.back_side.factor_padded pair.back_factor
+      (omega (arith, pair.most, pair.few)) reduced.factor
 
   equation : (i : ℕ) → i < count → product_at gf64 (behind less.factor) series i ≡ behind less.rest i
   equation i low =
@@ -166,7 +168,8 @@ module _ (count : ℕ) (series : ℕ → Sym) (front back less : Side) (lower : 
             ∙ add_zero gf64 gf64.zero
       ]
 
-  crosswise : (x : Sym) → gf64.add (gf64.mul (value_at gf64 32 (behind back.factor) x) (value_at gf64 32 (behind less.rest) x)) (gf64.mul (value_at gf64 32 (behind less.factor) x) (value_at gf64 32 (behind back.rest) x)) ≡ power gf64 x count
+  crosswise : (x : Sym) → gf64.add (gf64.mul (value_at gf64 32 (behind back.factor) x) (value_at gf64 32 (behind less.rest) x))
+      (gf64.mul (value_at gf64 32 (behind less.factor) x) (value_at gf64 32 (behind back.rest) x)) ≡ power gf64 x count
   unfolding c shift
   crosswise x =
       ap₂ (λ a b. gf64.add (gf64.mul (value_at gf64 32 (behind back.factor) x) a) (gf64.mul b (value_at gf64 32 (behind back.rest) x)))
@@ -239,7 +242,8 @@ pair_first count series front back some few power_at power_others no_factor fron
     same i = omega arith
 
 -- where the back side's degree is below half, it is the key
-pub pair_key : (count : ℕ) (syndromes : List Sym) (front back : Side) (locator evaluator : Poly) → length syndromes ≡ count → 2 ≤ count → 2 * (count / 2) ≡ count → IsPair count (coefficient gf64 syndromes) front back → 2 * back.degree < count → count ≤ 2 * front.degree
+pub pair_key : (count : ℕ) (syndromes : List Sym) (front back : Side) (locator evaluator : Poly) → length syndromes ≡ count → 2 ≤ count → 2 * (count / 2) ≡ count → IsPair count (coefficient gf64 syndromes) front back
+    → 2 * back.degree < count → count ≤ 2 * front.degree
     → ((k : ℕ) → coefficient_of locator k ≡ behind back.factor k) → ((k : ℕ) → coefficient_of evaluator k ≡ behind back.rest k) → IsKey syndromes locator evaluator
 pair_key count syndromes front back locator evaluator long some even pair below above is_locator is_evaluator = record {
   nonzero = nonzero;

@@ -12,7 +12,8 @@ use Rattle.p25_poly.specs.LinearSystem.{IsMet, blank_row, row_of, AreMet, IsClea
 use Rattle.p25_poly.proofs.DotFacts.{dot_of_zeros, dot_same, dot_multiple, dot_elsewhere, dot_gained, short_made_up}
 
 -- a row that has gained the multiple of the front row which takes its cell in the column
-pub cleared_row : (column : ℕ) (front old new : Row) (factor : Sym) → coefficient gf64 front.cells column ≢ gf64.zero → factor ≡ gf64.mul (coefficient gf64 old.cells column) (gf64.inverse (coefficient gf64 front.cells column)) → ((k : ℕ) → coefficient gf64 new.cells k ≡ gf64.add (coefficient gf64 old.cells k) (gf64.mul factor (coefficient gf64 front.cells k))) → new.right ≡ gf64.add old.right (gf64.mul factor front.right) → IsCleared column front old new
+pub cleared_row : (column : ℕ) (front old new : Row) (factor : Sym) → coefficient gf64 front.cells column ≢ gf64.zero → factor ≡ gf64.mul (coefficient gf64 old.cells column) (gf64.inverse (coefficient gf64 front.cells column))
+    → ((k : ℕ) → coefficient gf64 new.cells k ≡ gf64.add (coefficient gf64 old.cells k) (gf64.mul factor (coefficient gf64 front.cells k))) → new.right ≡ gf64.add old.right (gf64.mul factor front.right) → IsCleared column front old new
 cleared_row column front old new factor live is_factor cells right = record {
   gone =
       cells column
@@ -41,7 +42,8 @@ cleared_row column front old new factor live is_factor cells right = record {
     back_again a b = add_comm gf64 (gf64.add a b) b ∙ ap (gf64.add b) (add_comm gf64 a b) ∙ add_twice gf64 b a
 
 -- the unknown that is corrected makes the row's sum right
-pub corrected_row : (n column : ℕ) (row : Row) (x y : ℕ → Sym) → column < n → coefficient gf64 row.cells column ≢ gf64.zero → y column ≡ gf64.add (x column) (gf64.mul (gf64.add row.right (dot gf64 n (coefficient gf64 row.cells) x)) (gf64.inverse (coefficient gf64 row.cells column))) → AgreeBut column x y → IsMet n row y
+pub corrected_row : (n column : ℕ) (row : Row) (x y : ℕ → Sym) → column < n → coefficient gf64 row.cells column ≢ gf64.zero
+    → y column ≡ gf64.add (x column) (gf64.mul (gf64.add row.right (dot gf64 n (coefficient gf64 row.cells) x)) (gf64.inverse (coefficient gf64 row.cells column))) → AgreeBut column x y → IsMet n row y
 corrected_row n column row x y inside live gain others =
     dot_gained gf64 n (coefficient gf64 row.cells) x y column _ inside gain others.same
     ∙ short_made_up gf64 (dot gf64 n (coefficient gf64 row.cells) x) row.right (coefficient gf64 row.cells column) live

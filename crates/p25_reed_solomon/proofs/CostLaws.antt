@@ -30,7 +30,8 @@ place_distance true x y = sym (weight_zero gf64 gf64.zero refl)
 place_distance false x y = weight_of_sum x y
 
 -- the unmarked places that differ are those of errors
-pub unmarked_distance-nonzeros : (received word : List Sym) (erased : List Bool) → length received ≡ length word → length erased ≡ length received → unmarked_distance same_symbols (marked received erased) word ≡ nonzeros gf64 (length received) (unmarked erased (λ j. gf64.add (coefficient gf64 received j) (coefficient gf64 word j)))
+pub unmarked_distance-nonzeros : (received word : List Sym) (erased : List Bool) → length received ≡ length word → length erased ≡ length received
+    → unmarked_distance same_symbols (marked received erased) word ≡ nonzeros gf64 (length received) (unmarked erased (λ j. gf64.add (coefficient gf64 received j) (coefficient gf64 word j)))
 unfolding unmarked_distance marked nonzeros
 unmarked_distance-nonzeros [] word erased long marks = refl
 unmarked_distance-nonzeros (x ∷ received) [] erased long marks = absurd (omega arith)
@@ -40,6 +41,7 @@ unmarked_distance-nonzeros (x ∷ received) (y ∷ word) (gone ∷ erased) long 
     ∙ sym (nonzeros_first (length received) (unmarked (gone ∷ erased) (λ j. gf64.add (coefficient gf64 (x ∷ received) j) (coefficient gf64 (y ∷ word) j))))
 
 -- so the cost is that of the errors
-pub cost-errors : (received word : List Sym) (erased : List Bool) → length received ≡ length word → length erased ≡ length received → marked_cost same_symbols (marked received erased) word ≡ 2 * nonzeros gf64 (length received) (unmarked erased (λ j. gf64.add (coefficient gf64 received j) (coefficient gf64 word j))) + marks_below erased (length received)
+pub cost-errors : (received word : List Sym) (erased : List Bool) → length received ≡ length word → length erased ≡ length received
+    → marked_cost same_symbols (marked received erased) word ≡ 2 * nonzeros gf64 (length received) (unmarked erased (λ j. gf64.add (coefficient gf64 received j) (coefficient gf64 word j))) + marks_below erased (length received)
 unfolding marked_cost
 cost-errors received word erased long marks = omega (arith, unmarked_distance-nonzeros received word erased long marks, marks_in-marked received erased marks)

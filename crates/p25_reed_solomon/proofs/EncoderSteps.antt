@@ -33,7 +33,8 @@ generator_none z one none same = record {
 }
 
 -- one factor more
-pub generator_more : (i : ℕ) (old new : List Sym) (root : Sym) → root ≡ power gf64 alpha (i + 1) → ((j : ℕ) → coefficient gf64 new j ≡ coefficient gf64 old j ⊕ root ⊗ shifted gf64 1 (coefficient gf64 old) j) → IsGenerator i old → IsGenerator (i + 1) new
+pub generator_more : (i : ℕ) (old new : List Sym) (root : Sym) → root ≡ power gf64 alpha (i + 1) → ((j : ℕ) → coefficient gf64 new j ≡ coefficient gf64 old j ⊕ root ⊗ shifted gf64 1 (coefficient gf64 old) j) → IsGenerator i old
+    → IsGenerator (i + 1) new
 generator_more i old new root same added before = record {
   monic = first_stays gf64 (coefficient gf64 old) (coefficient gf64 new) root added ∙ before.monic;
   short = longer_by_one gf64 (i + 1) (i + 1 + 1) (coefficient gf64 old) (coefficient gf64 new) root (omega arith) before.short added;
@@ -56,7 +57,8 @@ pub record IsDividedTo (i n checks : ℕ) (start word : List Sym) : Type 0 where
   pub cleared : (j : ℕ) → j < i → coefficient gf64 word j ≡ 𝟘
 
 -- one symbol more
-pub divided_more : (i n checks : ℕ) (start old new generator : List Sym) (factor : Sym) → IsGenerator checks generator → i + (checks + 1) ≤ n → factor ≡ coefficient gf64 old i → ((j : ℕ) → coefficient gf64 new j ≡ coefficient gf64 old j ⊕ factor ⊗ shifted gf64 i (coefficient gf64 generator) j) → IsDividedTo i n checks start old → IsDividedTo (i + 1) n checks start new
+pub divided_more : (i n checks : ℕ) (start old new generator : List Sym) (factor : Sym) → IsGenerator checks generator → i + (checks + 1) ≤ n → factor ≡ coefficient gf64 old i
+    → ((j : ℕ) → coefficient gf64 new j ≡ coefficient gf64 old j ⊕ factor ⊗ shifted gf64 i (coefficient gf64 generator) j) → IsDividedTo i n checks start old → IsDividedTo (i + 1) n checks start new
 divided_more i n checks start old new generator factor divisor fits read added before = record {
   same = λ k low high.
       value_stays gf64 n (checks + 1) i (coefficient gf64 old) (coefficient gf64 generator) (coefficient gf64 new) factor (inverse (power gf64 alpha k)) divisor.short fits added (divisor.vanishes k low high)
@@ -89,7 +91,8 @@ value_of_word n i word none =
     ∙ mul_zero gf64 (power gf64 (power gf64 alpha i) (n - 1))
 
 -- the sum of two lists with one value has the value zero
-pub sum_vanishes : (n : ℕ) (first second word : List Sym) (y : Sym) → ((j : ℕ) → coefficient gf64 word j ≡ coefficient gf64 first j ⊕ coefficient gf64 second j) → value_at gf64 n (coefficient gf64 second) y ≡ value_at gf64 n (coefficient gf64 first) y → value_at gf64 n (coefficient gf64 word) y ≡ 𝟘
+pub sum_vanishes : (n : ℕ) (first second word : List Sym) (y : Sym) → ((j : ℕ) → coefficient gf64 word j ≡ coefficient gf64 first j ⊕ coefficient gf64 second j)
+    → value_at gf64 n (coefficient gf64 second) y ≡ value_at gf64 n (coefficient gf64 first) y → value_at gf64 n (coefficient gf64 word) y ≡ 𝟘
 sum_vanishes n first second word y sum same =
     value_same gf64 n (coefficient gf64 word) (λ j. coefficient gf64 first j ⊕ coefficient gf64 second j) y (λ j low. sum j)
     ∙ value-add gf64 n (coefficient gf64 first) (coefficient gf64 second) y

@@ -23,18 +23,21 @@ pub elsewhere : (places : List ℕ) (values : ℕ → Sym) (j c : ℕ) → (get_
 elsewhere places values j c other = cond-false (eqb (get_or places c 0) j) (values c) gf64.zero (ne_eqb (get_or places c 0) j other)
 
 -- the power sums of values at their places are those over the places alone
-pub power_sum-placed : (n : ℕ) (places : List ℕ) (values : ℕ → Sym) (i : ℕ) → ((c : ℕ) → c < length places → get_or places c 0 < n) → power_sum gf64 n (element_of n) (placed places values) i ≡ power_sum gf64 (length places) (λ c. element_of n (get_or places c 0)) values i
+pub power_sum-placed : (n : ℕ) (places : List ℕ) (values : ℕ → Sym) (i : ℕ) → ((c : ℕ) → c < length places → get_or places c 0 < n)
+    → power_sum gf64 n (element_of n) (placed places values) i ≡ power_sum gf64 (length places) (λ c. element_of n (get_or places c 0)) values i
 power_sum-placed n places values i inside =
     let x : ℕ → Sym = λ j. power gf64 (element_of n j) i in
     sum_same gf64 n _ (λ j. sum_below gf64 (length places) (λ c. gf64.mul (x j) (at_place places values j c))) (λ j below. mul_comm gf64 (placed places values j) (x j) ∙ sym (sum-mul gf64 (length places) (x j) (at_place places values j)))
     ∙ sum_exchange gf64 n (length places) (λ j c. gf64.mul (x j) (at_place places values j c))
     ∙ sum_same gf64 (length places) _ _ (λ c within.
-    sum_of_one gf64 n (get_or places c 0) (λ j. gf64.mul (x j) (at_place places values j c)) (inside c within) (λ j below other. ap (gf64.mul (x j)) (elsewhere places values j c (λ e. other (sym e))) ∙ mul_comm gf64 (x j) gf64.zero ∙ zero_mul gf64 (x j))
+    sum_of_one gf64 n (get_or places c 0) (λ j. gf64.mul (x j) (at_place places values j c)) (inside c within) (λ j below other. ap (gf64.mul (x j)) (elsewhere places values j c (λ e. other (sym e))) ∙ mul_comm gf64 (x j) gf64.zero
+    ∙ zero_mul gf64 (x j))
     ∙ mul_comm gf64 (x (get_or places c 0)) _
     ∙ ap (λ (s : Sym). gf64.mul s (x (get_or places c 0))) (there places values (get_or places c 0) c refl))
 
 -- errors that are zero but at listed places are those of the list
-pub placed-errors : (n : ℕ) (places : List ℕ) (errors : ℕ → Sym) (j : ℕ) → ((c d : ℕ) → c < d → d < length places → get_or places c 0 < get_or places d 0) → (errors j ≢ gf64.zero → IsListed places j) → placed places (λ c. errors (get_or places c 0)) j ≡ errors j
+pub placed-errors : (n : ℕ) (places : List ℕ) (errors : ℕ → Sym) (j : ℕ) → ((c d : ℕ) → c < d → d < length places → get_or places c 0 < get_or places d 0) → (errors j ≢ gf64.zero → IsListed places j)
+    → placed places (λ c. errors (get_or places c 0)) j ≡ errors j
 placed-errors n places errors j rising listed =
     let values : ℕ → Sym = λ c. errors (get_or places c 0) in
     elim (gf64.is_zero (errors j)) [
@@ -81,7 +84,8 @@ nonzeros-placed_front : (n : ℕ) (places : List ℕ) (values : ℕ → Sym) (co
 nonzeros-placed_front n places values zero = zeros_count n _ (λ j. sum-none gf64 _)
 nonzeros-placed_front n places values (suc count) =
     let before = nonzeros-placed_front n places values count in
-    let one_more = nonzeros_bump n (get_or places count 0) (λ j. sum_below gf64 count (at_place places values j)) (λ j. sum_below gf64 (suc count) (at_place places values j)) (λ j other. sum-suc gf64 count (at_place places values j) ∙ ap (gf64.add (sum_below gf64 count (at_place places values j))) (elsewhere places values j count (λ e. other (sym e))) ∙ add_zero gf64 _) in
+    let one_more = nonzeros_bump n (get_or places count 0) (λ j. sum_below gf64 count (at_place places values j)) (λ j. sum_below gf64 (suc count) (at_place places values j)) (λ j other. sum-suc gf64 count (at_place places values j)
+    ∙ ap (gf64.add (sum_below gf64 count (at_place places values j))) (elsewhere places values j count (λ e. other (sym e))) ∙ add_zero gf64 _) in
     omega (arith, before, one_more)
 
 pub nonzeros-placed : (n : ℕ) (places : List ℕ) (values : ℕ → Sym) → nonzeros gf64 n (placed places values) ≤ length places
@@ -95,7 +99,9 @@ nonzeros_same (suc n) f g same =
     ap₂ ◌+◌ (nonzeros_same n f g (λ j h. same j (omega arith))) (ap (λ (s : Sym). weight_by (gf64.is_zero s)) (same n (omega arith)))
 
 -- one more value is added at its place
-pub placed_more : (places : List ℕ) (values : ℕ → Sym) (out : List Sym) (c : ℕ) (x : Sym) → get_or places c 0 < length out → x ≡ gf64.add (coefficient gf64 out (get_or places c 0)) (values c) → ((j : ℕ) → j < length out → coefficient gf64 out j ≡ sum_below gf64 c (at_place places values j)) → (j : ℕ) → j < length (set out (get_or places c 0) x) → coefficient gf64 (set out (get_or places c 0) x) j ≡ sum_below gf64 (c + 1) (at_place places values j)
+pub placed_more : (places : List ℕ) (values : ℕ → Sym) (out : List Sym) (c : ℕ) (x : Sym) → get_or places c 0 < length out → x ≡ gf64.add (coefficient gf64 out (get_or places c 0)) (values c)
+    → ((j : ℕ) → j < length out → coefficient gf64 out j ≡ sum_below gf64 c (at_place places values j)) → (j : ℕ) → j < length (set out (get_or places c 0) x)
+    → coefficient gf64 (set out (get_or places c 0) x) j ≡ sum_below gf64 (c + 1) (at_place places values j)
 placed_more places values out c x inside is before j within =
     let p = get_or places c 0 in
     let next : suc c ≡ c + 1 = omega arith in

@@ -20,7 +20,8 @@ use Rattle.p25_reed_solomon.proofs.LocatorLaws.{same_function}
 use Rattle.p25_reed_solomon.proofs.ErrorsLaws.{at_place, elsewhere, power_sum-placed, placed-errors, nonzeros-placed, nonzeros_same, nonzeros-none}
 
 -- the parts of the lists that have the coefficients are a locator and its evaluator too
-pub part_is_locator : (n checks : ℕ) (syndromes : List Sym) (erased : List Bool) (most : ℕ) (locator evaluator : List Sym) → IsLocator n checks syndromes erased most (coefficient gf64 locator) (coefficient gf64 evaluator) → IsLocator n checks syndromes erased most (coefficient gf64 (take (most + 1) locator)) (coefficient gf64 (take most evaluator))
+pub part_is_locator : (n checks : ℕ) (syndromes : List Sym) (erased : List Bool) (most : ℕ) (locator evaluator : List Sym) → IsLocator n checks syndromes erased most (coefficient gf64 locator) (coefficient gf64 evaluator)
+    → IsLocator n checks syndromes erased most (coefficient gf64 (take (most + 1) locator)) (coefficient gf64 (take most evaluator))
 part_is_locator n checks syndromes erased most locator evaluator is =
     subst (λ f. IsLocator n checks syndromes erased most f (coefficient gf64 (take most evaluator))) (sym (same_function (coefficient gf64 (take (most + 1) locator)) (coefficient gf64 locator) part))
     (record {
@@ -91,7 +92,8 @@ nonzeros-with_marks (suc n) erased errors =
           )
     ]
 
-module _ (n checks most : ℕ) (syndromes locator evaluator : List Sym) (erased : List Bool) (places : List ℕ) (long : length locator ≡ most + 1) (high : length evaluator ≡ most) (is : IsLocator n checks syndromes erased most (coefficient gf64 locator) (coefficient gf64 evaluator)) (are : AreZeros n locator n places) where
+module _ (n checks most : ℕ) (syndromes locator evaluator : List Sym) (erased : List Bool) (places : List ℕ) (long : length locator ≡ most + 1) (high : length evaluator ≡ most)
+    (is : IsLocator n checks syndromes erased most (coefficient gf64 locator) (coefficient gf64 evaluator)) (are : AreZeros n locator n places) where
   at : (j : ℕ) → value_at gf64 (most + 1) (coefficient gf64 locator) (point_of n j) ≡ gf64.zero → value_at gf64 (length locator) (coefficient gf64 locator) (point_of n j) ≡ gf64.zero
   at j none = ap (λ m. value_at gf64 m (coefficient gf64 locator) (point_of n j)) long ∙ none
 
@@ -131,7 +133,8 @@ module _ (n checks most : ℕ) (syndromes locator evaluator : List Sym) (erased 
 
   -- values at the zeros with these power sums explain the syndromes
   pub placed_explains : (values out : ℕ → Sym) → 2 * most ≤ checks + marks_below erased n → length places < length locator
-      → ((r : ℕ) → r < checks → power_sum gf64 (length places) (λ c. element_of n (get_or places c 0)) values (r + 1) ≡ coefficient gf64 syndromes r) → ((j : ℕ) → j < n → out j ≡ placed places values j) → Explains n checks syndromes erased out
+      → ((r : ℕ) → r < checks → power_sum gf64 (length places) (λ c. element_of n (get_or places c 0)) values (r + 1) ≡ coefficient gf64 syndromes r) → ((j : ℕ) → j < n → out j ≡ placed places values j)
+      → Explains n checks syndromes erased out
   placed_explains values out bound few sums same = record {
     few = omega (arith, nonzeros-with_marks n erased out, nonzeros_listed n places (with_marks erased out) are.rising listed, long);
     sums = λ r below.

@@ -14,7 +14,8 @@ use Rattle.p25_algebra.proofs.Quotients.{shifted-first, shifted-next}
 use Rattle.p25_poly.proofs.Coefficients.{coefficient_past}
 
 -- a list moved up by one place
-pub moved_everywhere : (symbols moved : List Sym) → length symbols ≡ 32 → length moved ≡ 33 → coefficient gf64 moved 0 ≡ gf64.zero → ((k : ℕ) → k < 32 → coefficient gf64 moved (1 + k) ≡ coefficient gf64 symbols k) → (k : ℕ) → coefficient gf64 moved k ≡ shifted gf64 1 (coefficient gf64 symbols) k
+pub moved_everywhere : (symbols moved : List Sym) → length symbols ≡ 32 → length moved ≡ 33 → coefficient gf64 moved 0 ≡ gf64.zero → ((k : ℕ) → k < 32 → coefficient gf64 moved (1 + k) ≡ coefficient gf64 symbols k) → (k : ℕ)
+    → coefficient gf64 moved k ≡ shifted gf64 1 (coefficient gf64 symbols) k
 moved_everywhere symbols moved short full first others zero = first ∙ sym (shifted-first gf64 (coefficient gf64 symbols))
 moved_everywhere symbols moved short full first others (suc k) =
     elim (cases_lt k 32) [
@@ -48,9 +49,11 @@ rest_here n i f x positive = ap (λ m. value_at gf64 (n - m) (λ k. f (m + k)) x
     next = omega arith
 
 -- a power sum over 32 terms, of which those behind the listed places are zero
-pub sum_of_listed : (count : ℕ) (elements values : List Sym) (element : ℕ → Sym) (i : ℕ) → count ≤ 32 → ((c : ℕ) → c < count → coefficient gf64 elements c ≡ element c) → ((c : ℕ) → count ≤ c → coefficient gf64 values c ≡ gf64.zero) → sum_below gf64 32 (λ c. gf64.mul (coefficient gf64 values c) (power gf64 (coefficient gf64 elements c) i)) ≡ power_sum gf64 count element (coefficient gf64 values) i
+pub sum_of_listed : (count : ℕ) (elements values : List Sym) (element : ℕ → Sym) (i : ℕ) → count ≤ 32 → ((c : ℕ) → c < count → coefficient gf64 elements c ≡ element c) → ((c : ℕ) → count ≤ c → coefficient gf64 values c ≡ gf64.zero)
+    → sum_below gf64 32 (λ c. gf64.mul (coefficient gf64 values c) (power gf64 (coefficient gf64 elements c) i)) ≡ power_sum gf64 count element (coefficient gf64 values) i
 sum_of_listed count elements values element i few are rest =
-    sum_longer gf64 count 32 (λ c. gf64.mul (coefficient gf64 values c) (power gf64 (coefficient gf64 elements c) i)) few (λ c low high. ap (λ v. gf64.mul v (power gf64 (coefficient gf64 elements c) i)) (rest c low) ∙ zero_mul gf64 (power gf64 (coefficient gf64 elements c) i))
+    sum_longer gf64 count 32 (λ c. gf64.mul (coefficient gf64 values c) (power gf64 (coefficient gf64 elements c) i)) few (λ c low high. ap (λ v. gf64.mul v (power gf64 (coefficient gf64 elements c) i)) (rest c low)
+    ∙ zero_mul gf64 (power gf64 (coefficient gf64 elements c) i))
     ∙ sum_same gf64 count _ _ (λ c low. ap (λ x. gf64.mul (coefficient gf64 values c) (power gf64 x i)) (are c low))
 
 -- a term times its element once more

@@ -44,7 +44,8 @@ pub part_read : (symbols : List Sym) (from count r : ℕ) → r < count → coef
 part_read symbols from count r low = get_or-take count (drop from symbols) r gf64.zero low ∙ get_or-drop from symbols r gf64.zero
 
 -- without symbols the solution of the key equation is 1
-pub key_of_none : (symbols : List Sym) (locator evaluator : Poly) → length symbols ≡ 0 → coefficient_of locator 0 ≡ gf64.one → ((k : ℕ) → 1 ≤ k → coefficient_of locator k ≡ gf64.zero) → IsZero gf64 (coefficient_of evaluator) → IsKey symbols locator evaluator
+pub key_of_none : (symbols : List Sym) (locator evaluator : Poly) → length symbols ≡ 0 → coefficient_of locator 0 ≡ gf64.one → ((k : ℕ) → 1 ≤ k → coefficient_of locator k ≡ gf64.zero) → IsZero gf64 (coefficient_of evaluator)
+    → IsKey symbols locator evaluator
 key_of_none symbols locator evaluator none one others zeros = record {
   nonzero = λ all. gf64.laws.one_ne_zero (sym one ∙ all 0);
   locator_degree = record { above = λ i high. others i (omega (arith, none)) };
@@ -80,7 +81,8 @@ evaluator_step i most f t old new factor few is added before (suc k) low =
     next r = omega arith
 
 module _ (n checks half : ℕ) (syndromes symbols : List Sym) (erased : List Bool) (locator evaluator : Poly) (places : n ≤ 63) (few : checks ≤ 22) (some : 1 ≤ half + marks_below erased n) (fits : marks_below erased n + 2 * half ≤ checks)
-    (all : checks ≤ marks_below erased n + 2 * half + 1) (long : length symbols ≡ 2 * half) (is : (r : ℕ) → r < 2 * half → coefficient gf64 symbols r ≡ times_marks n erased n (coefficient gf64 syndromes) (marks_below erased n + r)) (key : IsKey symbols locator evaluator) where
+    (all : checks ≤ marks_below erased n + 2 * half + 1) (long : length symbols ≡ 2 * half) (is : (r : ℕ) → r < 2 * half
+    → coefficient gf64 symbols r ≡ times_marks n erased n (coefficient gf64 syndromes) (marks_below erased n + r)) (key : IsKey symbols locator evaluator) where
   halved : length symbols / 2 ≡ half
   halved = omega (arith, long)
 
@@ -121,7 +123,8 @@ module _ (n checks half : ℕ) (syndromes symbols : List Sym) (erased : List Boo
           | inl nothing ↦ absurd (apart (point_of n j) (point_ne_zero n j) none (ap (λ m. value_at gf64 m (coefficient_of evaluator) (point_of n j)) nothing ∙ value-none gf64 (coefficient_of evaluator) (point_of n j)))
           | inr something ↦
               let slope = slope_at gf64 (half + 1) (coefficient_of locator) (point_of n j) in
-              let product = forney gf64 n half (element_of n) left (coefficient_of locator) (coefficient gf64 symbols) (omega arith) (elements_apart n places) (λ l h. element_ne_zero n l) key_short (λ i low. sums_left i (omega arith)) key_vanishes j inside none in
+              let product = forney gf64 n half (element_of n) left (coefficient_of locator) (coefficient gf64 symbols) (omega arith) (elements_apart n places) (λ l h. element_ne_zero n l) key_short
+              (λ i low. sums_left i (omega arith)) key_vanishes j inside none in
               let value = value_same gf64 half (product_at gf64 (coefficient_of locator) (coefficient gf64 symbols)) (coefficient_of evaluator) (point_of n j) (λ i low. key.equation i (omega (arith, long))) in (
                 (λ gone. apart (point_of n j) (point_ne_zero n j) none (sym value ∙ sym product ∙ ap (λ w. gf64.mul w slope) gone ∙ zero_mul gf64 slope)),
                 (λ flat. apart (point_of n j) (point_ne_zero n j) none (sym value ∙ sym product ∙ ap (gf64.mul (left j)) flat ∙ mul_zero gf64 (left j))),
@@ -184,7 +187,8 @@ module _ (n checks half : ℕ) (syndromes symbols : List Sym) (erased : List Boo
         ]
 
     -- a zero without a mark is wrong
-    zero_is_wrong : (upto : ℕ) → upto ≤ n → (j : ℕ) → j < n → is_marked erased j ≡ false → value_at gf64 (half + 1 + marks_below erased upto) (times_marks n erased upto (coefficient_of locator)) (point_of n j) ≡ gf64.zero → errors j ≢ gf64.zero
+    zero_is_wrong : (upto : ℕ) → upto ≤ n → (j : ℕ) → j < n → is_marked erased j ≡ false → value_at gf64 (half + 1 + marks_below erased upto) (times_marks n erased upto (coefficient_of locator)) (point_of n j) ≡ gf64.zero
+        → errors j ≢ gf64.zero
     unfolding left
     zero_is_wrong zero within j inside plain none right =
         let e : half + 1 + marks_below erased 0 ≡ half + 1 = omega (arith, marks_below-none erased) in
@@ -211,7 +215,8 @@ module _ (n checks half : ℕ) (syndromes symbols : List Sym) (erased : List Boo
         ∙ value_same gf64 most (product_at gf64 f (coefficient gf64 syndromes)) e (point_of n j) (λ k low. product-times_marks n erased n (coefficient_of locator) (coefficient gf64 syndromes) k ∙ sym (is_product k low))
 
   -- the product with the factors of the marks is a locator
-  pub key_is_locator : (f e : ℕ → Sym) → ((k : ℕ) → f k ≡ times_marks n erased n (coefficient_of locator) k) → ((k : ℕ) → k < half + marks_below erased n → e k ≡ product_at gf64 (coefficient_of locator) (times_marks n erased n (coefficient gf64 syndromes)) k)
+  pub key_is_locator : (f e : ℕ → Sym) → ((k : ℕ) → f k ≡ times_marks n erased n (coefficient_of locator) k)
+      → ((k : ℕ) → k < half + marks_below erased n → e k ≡ product_at gf64 (coefficient_of locator) (times_marks n erased n (coefficient gf64 syndromes)) k)
       → IsLocator n checks syndromes erased (half + marks_below erased n) f e
   key_is_locator f e is_f is_e =
       rw (same_function f (times_marks n erased n (coefficient_of locator)) is_f)
@@ -228,11 +233,13 @@ module _ (n checks half : ℕ) (syndromes symbols : List Sym) (erased : List Boo
       size : half + 1 + marks_below erased n ≡ half + marks_below erased n + 1
       size = omega arith
 
-      sized : (j : ℕ) → value_at gf64 (half + marks_below erased n + 1) (times_marks n erased n (coefficient_of locator)) (point_of n j) ≡ value_at gf64 (half + 1 + marks_below erased n) (times_marks n erased n (coefficient_of locator)) (point_of n j)
+      sized : (j : ℕ) → value_at gf64 (half + marks_below erased n + 1) (times_marks n erased n (coefficient_of locator)) (point_of n j) ≡ value_at gf64 (half + 1 + marks_below erased n) (times_marks n erased n (coefficient_of locator))
+          (point_of n j)
       sized j = ap (λ k. value_at gf64 k (times_marks n erased n (coefficient_of locator)) (point_of n j)) (sym size)
 
   -- before any coefficient of the lowered syndromes is added, the evaluator is that of the key
-  pub evaluator_first : (e : ℕ → Sym) → ((k : ℕ) → k < 32 → e k ≡ coefficient_of evaluator k) → (k : ℕ) → k + marks_below erased n < half + marks_below erased n → e k ≡ product_at gf64 (coefficient_of locator) (λ r. times_marks n erased n (coefficient gf64 syndromes) (marks_below erased n + r)) k
+  pub evaluator_first : (e : ℕ → Sym) → ((k : ℕ) → k < 32 → e k ≡ coefficient_of evaluator k) → (k : ℕ) → k + marks_below erased n < half + marks_below erased n
+      → e k ≡ product_at gf64 (coefficient_of locator) (λ r. times_marks n erased n (coefficient gf64 syndromes) (marks_below erased n + r)) k
   evaluator_first e is_e k low =
       is_e k (omega (arith, fits, few))
       ∙ sym (key.equation k (omega (arith, long)))
@@ -240,8 +247,10 @@ module _ (n checks half : ℕ) (syndromes symbols : List Sym) (erased : List Boo
 
 -- ---- the locator as the code has it: lists of 32 coefficients
 
-module _ (n checks marks half : ℕ) (syndromes lowered front : List Sym) (erased : List Bool) (locator evaluator : Poly) (places : n ≤ 63) (is_marks : marks ≡ marks_below erased n) (within : marks ≤ checks) (some : 2 ≤ checks) (few : checks ≤ 22) (is_half : half ≡ (checks - marks) / 2) (lowered_full : length lowered ≡ 32)
-    (is_lowered : (k : ℕ) → k < 32 → coefficient gf64 lowered k ≡ times_marks n erased n (coefficient gf64 syndromes) k) (key : IsKey (take (marks + 2 * half - marks) (drop marks lowered)) locator evaluator) (front_full : length front ≡ 32) (is_front : (k : ℕ) → k < 32 → coefficient gf64 front k ≡ coefficient_of locator k) where
+module _ (n checks marks half : ℕ) (syndromes lowered front : List Sym) (erased : List Bool) (locator evaluator : Poly) (places : n ≤ 63) (is_marks : marks ≡ marks_below erased n) (within : marks ≤ checks) (some : 2 ≤ checks)
+    (few : checks ≤ 22) (is_half : half ≡ (checks - marks) / 2) (lowered_full : length lowered ≡ 32)
+    (is_lowered : (k : ℕ) → k < 32 → coefficient gf64 lowered k ≡ times_marks n erased n (coefficient gf64 syndromes) k) (key : IsKey (take (marks + 2 * half - marks) (drop marks lowered)) locator evaluator)
+    (front_full : length front ≡ 32) (is_front : (k : ℕ) → k < 32 → coefficient gf64 front k ≡ coefficient_of locator k) where
   symbols : List Sym
   symbols = take (marks + 2 * half - marks) (drop marks lowered)
 
@@ -263,7 +272,8 @@ module _ (n checks marks half : ℕ) (syndromes lowered front : List Sym) (erase
   front_is : (k : ℕ) → coefficient gf64 front k ≡ coefficient_of locator k
   front_is = front_everywhere (half + 1) (coefficient_of locator) front front_full short (omega arith) is_front
 
-  pub located_first : (e : List Sym) → ((k : ℕ) → k < 32 → coefficient gf64 e k ≡ coefficient_of evaluator k) → (k : ℕ) → k + marks < half + marks → coefficient gf64 e k ≡ product_at gf64 (coefficient gf64 front) (λ r. times_marks n erased n (coefficient gf64 syndromes) (marks + r)) k
+  pub located_first : (e : List Sym) → ((k : ℕ) → k < 32 → coefficient gf64 e k ≡ coefficient_of evaluator k) → (k : ℕ) → k + marks < half + marks
+      → coefficient gf64 e k ≡ product_at gf64 (coefficient gf64 front) (λ r. times_marks n erased n (coefficient gf64 syndromes) (marks + r)) k
   unfolding symbols
   located_first e is_e k low =
       evaluator_first n checks half syndromes symbols erased locator evaluator places few (omega arith) (omega arith) (omega arith) long is key (coefficient gf64 e) is_e k (omega arith)
@@ -271,7 +281,8 @@ module _ (n checks marks half : ℕ) (syndromes lowered front : List Sym) (erase
       ∙ product_same_left gf64 (coefficient_of locator) (coefficient gf64 front) (λ r. times_marks n erased n (coefficient gf64 syndromes) (marks + r)) (λ i. sym (front_is i)) k
 
   pub located : (new e : List Sym) (i : ℕ) → i ≡ 0 → length new ≡ 32 → ((k : ℕ) → k < 32 → coefficient gf64 new k ≡ times_marks n erased n (coefficient gf64 front) k)
-      → ((k : ℕ) → k + i < half + marks → coefficient gf64 e k ≡ product_at gf64 (coefficient gf64 front) (λ r. times_marks n erased n (coefficient gf64 syndromes) (i + r)) k) → IsLocator n checks syndromes erased (half + marks) (coefficient gf64 new) (coefficient gf64 e)
+      → ((k : ℕ) → k + i < half + marks → coefficient gf64 e k ≡ product_at gf64 (coefficient gf64 front) (λ r. times_marks n erased n (coefficient gf64 syndromes) (i + r)) k)
+      → IsLocator n checks syndromes erased (half + marks) (coefficient gf64 new) (coefficient gf64 e)
   unfolding symbols
   located new e i none new_full is_new is_e =
       subst (λ m. IsLocator n checks syndromes erased (half + m) (coefficient gf64 new) (coefficient gf64 e)) (sym is_marks)
@@ -281,7 +292,8 @@ module _ (n checks marks half : ℕ) (syndromes lowered front : List Sym) (erase
       (λ k low.
       is_e k (omega arith)
       ∙ product_same_left gf64 (coefficient gf64 front) (coefficient_of locator) (λ r. times_marks n erased n (coefficient gf64 syndromes) (i + r)) front_is k
-      ∙ product_same gf64 (coefficient_of locator) (λ r. times_marks n erased n (coefficient gf64 syndromes) (i + r)) (times_marks n erased n (coefficient gf64 syndromes)) (λ r. ap (times_marks n erased n (coefficient gf64 syndromes)) (at r)) k))
+      ∙ product_same gf64 (coefficient_of locator) (λ r. times_marks n erased n (coefficient gf64 syndromes) (i + r)) (times_marks n erased n (coefficient gf64 syndromes))
+      (λ r. ap (times_marks n erased n (coefficient gf64 syndromes)) (at r)) k))
     where
       at : (r : ℕ) → i + r ≡ r
       at r = omega arith

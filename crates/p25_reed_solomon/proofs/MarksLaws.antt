@@ -123,13 +123,15 @@ module _ (n : ℕ) (erased : List Bool) where
       ∙ mul_one gf64 (element_of n j)))
 
   -- one place more
-  pub value-times_marks : (m j : ℕ) (f : ℕ → Sym) (z : Sym) → IsShort gf64 m f → is_marked erased j ≡ true → value_at gf64 (m + marks_below erased (suc j)) (times_marks n erased (suc j) f) z ≡ gf64.mul (gf64.add gf64.one (gf64.mul (element_of n j) z)) (value_at gf64 (m + marks_below erased j) (times_marks n erased j f) z)
+  pub value-times_marks : (m j : ℕ) (f : ℕ → Sym) (z : Sym) → IsShort gf64 m f → is_marked erased j ≡ true
+      → value_at gf64 (m + marks_below erased (suc j)) (times_marks n erased (suc j) f) z ≡ gf64.mul (gf64.add gf64.one (gf64.mul (element_of n j) z)) (value_at gf64 (m + marks_below erased j) (times_marks n erased j f) z)
   value-times_marks m j f z short here =
       let e : m + marks_below erased (suc j) ≡ suc (m + marks_below erased j) = omega (arith, marks_below-marked erased j here) in
       ap₂ (λ k g. value_at gf64 k g z) e (times_marks-marked j f here)
       ∙ value-times_linear gf64 (m + marks_below erased j) (element_of n j) (times_marks n erased j f) z (short_times_marks m j f short)
 
-  pub value-times_plain : (m j : ℕ) (f : ℕ → Sym) (z : Sym) → is_marked erased j ≡ false → value_at gf64 (m + marks_below erased (suc j)) (times_marks n erased (suc j) f) z ≡ value_at gf64 (m + marks_below erased j) (times_marks n erased j f) z
+  pub value-times_plain : (m j : ℕ) (f : ℕ → Sym) (z : Sym) → is_marked erased j ≡ false
+      → value_at gf64 (m + marks_below erased (suc j)) (times_marks n erased (suc j) f) z ≡ value_at gf64 (m + marks_below erased j) (times_marks n erased j f) z
   value-times_plain m j f z none = ap₂ (λ k g. value_at gf64 (m + k) g z) (marks_below-plain erased j none) (times_marks-plain j f none)
 
   -- a zero stays
@@ -183,7 +185,8 @@ module _ (n : ℕ) (erased : List Bool) where
   lowered_by-none v = refl
 
   -- their power sums are the coefficients of the product, one fewer for each mark
-  pub lowered_sums : (checks : ℕ) (s v : ℕ → Sym) → ((r : ℕ) → r < checks → power_sum gf64 n (element_of n) v (r + 1) ≡ s r) → (j r : ℕ) → marks_below erased j + r < checks → power_sum gf64 n (element_of n) (lowered_by j v) (r + 1) ≡ times_marks n erased j s (marks_below erased j + r)
+  pub lowered_sums : (checks : ℕ) (s v : ℕ → Sym) → ((r : ℕ) → r < checks → power_sum gf64 n (element_of n) v (r + 1) ≡ s r) → (j r : ℕ) → marks_below erased j + r < checks
+      → power_sum gf64 n (element_of n) (lowered_by j v) (r + 1) ≡ times_marks n erased j s (marks_below erased j + r)
   lowered_sums checks s v sums zero r fits =
       let e : marks_below erased 0 + r ≡ r = omega (arith, marks_below-none erased) in
       rw (lowered_by-none v, times_marks-none s, e) (sums r (omega (arith, marks_below-none erased)))

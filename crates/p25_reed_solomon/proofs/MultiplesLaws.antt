@@ -31,7 +31,8 @@ module _ {F : Type 0} (K : Field F) where
     after = λ j high. refl;
   }
 
-  pub added_more : (i : ℕ) (into : List F) (old : ℕ → F) (factor : F) (s : ℕ) (g : ℕ → F) (x : F) → s + i < length into → x ≡ coefficient K into (s + i) ⊕ factor ⊗ g i → AddedTo (s + i) into old factor s g → AddedTo (s + (i + 1)) (set into (s + i) x) old factor s g
+  pub added_more : (i : ℕ) (into : List F) (old : ℕ → F) (factor : F) (s : ℕ) (g : ℕ → F) (x : F) → s + i < length into → x ≡ coefficient K into (s + i) ⊕ factor ⊗ g i → AddedTo (s + i) into old factor s g
+      → AddedTo (s + (i + 1)) (set into (s + i) x) old factor s g
   added_more i into old factor s g x within e kept = record {
     before = λ j low. elim (cases_eq j (s + i)) [
       | inl same ↦ rw same

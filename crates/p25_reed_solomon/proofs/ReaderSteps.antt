@@ -17,7 +17,8 @@ use Rattle.p25_reed_solomon.proofs.ErrorsLaws.{nonzeros_same, zeros_count}
 use Rattle.p25_reed_solomon.proofs.CostLaws.{cost-errors}
 
 -- the errors between a received word and a word of the code that costs little explain the syndromes
-pub difference_explains : (n k : ℕ) (received word syndromes : List Sym) (erased : List Bool) → IsCode n k → length received ≡ n → length erased ≡ n → IsWord n k word → ((r : ℕ) → r < n - k → coefficient gf64 syndromes r ≡ value_of n received (r + 1)) → marked_cost same_symbols (marked received erased) word ≤ n - k
+pub difference_explains : (n k : ℕ) (received word syndromes : List Sym) (erased : List Bool) → IsCode n k → length received ≡ n → length erased ≡ n → IsWord n k word
+    → ((r : ℕ) → r < n - k → coefficient gf64 syndromes r ≡ value_of n received (r + 1)) → marked_cost same_symbols (marked received erased) word ≤ n - k
     → Explains n (n - k) syndromes erased (λ j. gf64.add (coefficient gf64 received j) (coefficient gf64 word j))
 difference_explains n k received word syndromes erased code long marks of_code are near =
     let errors : ℕ → Sym = λ j. gf64.add (coefficient gf64 received j) (coefficient gf64 word j) in
@@ -33,11 +34,13 @@ difference_explains n k received word syndromes erased code long marks of_code a
     }
 
 -- the cost of the word that errors make
-pub cost_of_errors : (n k : ℕ) (received word syndromes : List Sym) (erased : List Bool) (errors : ℕ → Sym) → length received ≡ n → length word ≡ n → length erased ≡ n → Explains n (n - k) syndromes erased errors → ((j : ℕ) → j < n → coefficient gf64 word j ≡ gf64.add (coefficient gf64 received j) (errors j)) → marked_cost same_symbols (marked received erased) word ≤ n - k
+pub cost_of_errors : (n k : ℕ) (received word syndromes : List Sym) (erased : List Bool) (errors : ℕ → Sym) → length received ≡ n → length word ≡ n → length erased ≡ n → Explains n (n - k) syndromes erased errors
+    → ((j : ℕ) → j < n → coefficient gf64 word j ≡ gf64.add (coefficient gf64 received j) (errors j)) → marked_cost same_symbols (marked received erased) word ≤ n - k
 cost_of_errors n k received word syndromes erased errors long_received long marks explains is =
     let sum : ℕ → Sym = λ j. gf64.add (coefficient gf64 received j) (coefficient gf64 word j) in
     let cost = cost-errors received word erased (long_received ∙ sym long) (marks ∙ sym long_received) ∙ ap (λ m. 2 * nonzeros gf64 m (unmarked erased sum) + marks_below erased m) long_received in
-    let same = nonzeros_same n (unmarked erased sum) (unmarked erased errors) (λ j low. ap (cond (is_marked erased j) gf64.zero) (ap (gf64.add (coefficient gf64 received j)) (is j low) ∙ add_twice gf64 (coefficient gf64 received j) (errors j))) in
+    let same = nonzeros_same n (unmarked erased sum) (unmarked erased errors)
+    (λ j low. ap (cond (is_marked erased j) gf64.zero) (ap (gf64.add (coefficient gf64 received j)) (is j low) ∙ add_twice gf64 (coefficient gf64 received j) (errors j))) in
     omega (arith, cost, same, explains.few)
 
 -- the cost of what was received, and of any word
@@ -54,7 +57,9 @@ cost_of_marks n received word erased long_received long marks =
     omega (arith, cost, ap (marks_below erased) long_received)
 
 -- errors that explain the syndromes make a word of the code of what was received
-pub corrected : (n k : ℕ) (received word syndromes : List Sym) (erased : List Bool) (errors : ℕ → Sym) → IsCode n k → length received ≡ n → length word ≡ n → ((r : ℕ) → r < n - k → coefficient gf64 syndromes r ≡ value_of n received (r + 1)) → Explains n (n - k) syndromes erased errors → ((j : ℕ) → j < n → coefficient gf64 word j ≡ gf64.add (coefficient gf64 received j) (errors j)) → IsWord n k word
+pub corrected : (n k : ℕ) (received word syndromes : List Sym) (erased : List Bool) (errors : ℕ → Sym) → IsCode n k → length received ≡ n → length word ≡ n
+    → ((r : ℕ) → r < n - k → coefficient gf64 syndromes r ≡ value_of n received (r + 1)) → Explains n (n - k) syndromes erased errors → ((j : ℕ) → j < n → coefficient gf64 word j ≡ gf64.add (coefficient gf64 received j) (errors j))
+    → IsWord n k word
 corrected n k received word syndromes erased errors code long_received long are explains is =
     record {
       long = long;
@@ -68,14 +73,16 @@ corrected n k received word syndromes erased errors code long_received long are 
     }
 
 -- as many letters changed as there are errors
-pub changed_letters : (n : ℕ) (received word : List Sym) (errors : ℕ → Sym) → length received ≡ n → length word ≡ n → ((j : ℕ) → j < n → coefficient gf64 word j ≡ gf64.add (coefficient gf64 received j) (errors j)) → distance_by same_symbols received word ≡ nonzeros gf64 n errors
+pub changed_letters : (n : ℕ) (received word : List Sym) (errors : ℕ → Sym) → length received ≡ n → length word ≡ n → ((j : ℕ) → j < n → coefficient gf64 word j ≡ gf64.add (coefficient gf64 received j) (errors j))
+    → distance_by same_symbols received word ≡ nonzeros gf64 n errors
 changed_letters n received word errors long_received long is =
     distance-nonzeros received word (long_received ∙ sym long)
     ∙ ap (λ m. nonzeros gf64 m (λ j. gf64.add (coefficient gf64 received j) (coefficient gf64 word j))) long_received
     ∙ nonzeros_same n _ errors (λ j below. ap (gf64.add (coefficient gf64 received j)) (is j below) ∙ add_twice gf64 (coefficient gf64 received j) (errors j))
 
 -- a word whose syndromes are all zero is a word of the code
-pub without_errors : (n k : ℕ) (received syndromes : List Sym) → length received ≡ n → ((r : ℕ) → r < n - k → coefficient gf64 syndromes r ≡ value_of n received (r + 1)) → ((r : ℕ) → r < n - k → coefficient gf64 syndromes r ≡ gf64.zero) → IsWord n k received
+pub without_errors : (n k : ℕ) (received syndromes : List Sym) → length received ≡ n → ((r : ℕ) → r < n - k → coefficient gf64 syndromes r ≡ value_of n received (r + 1)) → ((r : ℕ) → r < n - k → coefficient gf64 syndromes r ≡ gf64.zero)
+    → IsWord n k received
 without_errors n k received syndromes long are zeros =
     record {
       long = long;

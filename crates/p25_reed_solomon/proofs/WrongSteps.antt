@@ -41,7 +41,8 @@ plain_explains n checks syndromes erased errors none are = record {
 }
 
 -- a place is wrong exactly where the value of the locator is zero
-pub wrong_exactly : (n checks most : ℕ) (syndromes locator : List Sym) (evaluator errors : ℕ → Sym) → IsLocator n checks syndromes (take n (replicate 63 false)) most (coefficient gf64 locator) evaluator → AreErrors n checks syndromes errors → (value : Sym) (j : ℕ) → j < n → most + 1 ≤ length locator
+pub wrong_exactly : (n checks most : ℕ) (syndromes locator : List Sym) (evaluator errors : ℕ → Sym) → IsLocator n checks syndromes (take n (replicate 63 false)) most (coefficient gf64 locator) evaluator
+    → AreErrors n checks syndromes errors → (value : Sym) (j : ℕ) → j < n → most + 1 ≤ length locator
     → value ≡ value_at gf64 (length (take (most + 1) locator)) (coefficient gf64 (take (most + 1) locator)) (point_of n j) → (value ≡ gf64.zero) ↔ (errors j ≢ gf64.zero)
 wrong_exactly n checks most syndromes locator evaluator errors is are value j inside fits is_value = (
   (λ none. is.found errors explains j inside (no_mark n j) (sym same ∙ sym is_value ∙ none)),
@@ -60,7 +61,8 @@ wrong_exactly n checks most syndromes locator evaluator errors is are value j in
         ∙ value_same gf64 (most + 1) (coefficient gf64 (take (most + 1) locator)) (coefficient gf64 locator) (point_of n j) (λ k low. get_or-take (most + 1) locator k gf64.zero low)
 
 -- the errors between a received word and a word of the code within the radius
-pub difference_errors : (n k : ℕ) (received word syndromes : List Sym) → IsCode n k → length received ≡ n → IsWord n k word → ((r : ℕ) → r < n - k → coefficient gf64 syndromes r ≡ value_of n received (r + 1)) → 2 * distance_by same_symbols received word ≤ n - k
+pub difference_errors : (n k : ℕ) (received word syndromes : List Sym) → IsCode n k → length received ≡ n → IsWord n k word → ((r : ℕ) → r < n - k → coefficient gf64 syndromes r ≡ value_of n received (r + 1))
+    → 2 * distance_by same_symbols received word ≤ n - k
     → AreErrors n (n - k) syndromes (λ j. gf64.add (coefficient gf64 received j) (coefficient gf64 word j))
 difference_errors n k received word syndromes code long of_code are near =
     let errors : ℕ → Sym = λ j. gf64.add (coefficient gf64 received j) (coefficient gf64 word j) in

@@ -12,7 +12,8 @@ long : (rows : List ℕ) (word : List Bool) → length rows ≤ length word → 
 long rows word inside = omega (arith, length-append rows (check_columns (length word - length rows)), length-check_columns (length word - length rows))
 
 -- the syndrome from that of the information and the check bits
-sum_is : (rows : List ℕ) (word info checks : List Bool) (s number : ℕ) → length rows ≤ length word → info ≡ take (length rows) word → checks ≡ drop (length rows) word → s ≡ syndrome_of rows info → number ≡ field_of checks → bit_xor s number ≡ syndrome_of (rows ++ check_columns (length word - length rows)) word
+sum_is : (rows : List ℕ) (word info checks : List Bool) (s number : ℕ) → length rows ≤ length word → info ≡ take (length rows) word → checks ≡ drop (length rows) word → s ≡ syndrome_of rows info → number ≡ field_of checks
+    → bit_xor s number ≡ syndrome_of (rows ++ check_columns (length word - length rows)) word
 sum_is rows word info checks s number inside front back first second =
     ap₂ bit_xor (first ∙ ap (syndrome_of rows) front) (second ∙ ap field_of back) ∙ sym (syndrome_of-word rows (length word - length rows) word inside refl)
 

@@ -28,6 +28,7 @@ loop-back-preserved c = record {
 
 pub returns : goal.returns
 returns c =
-    pair_key (length c.args.syndromes.now) c.args.syndromes.now c.loop-back.front c.loop-back.back c.from_symbols.result c.from_symbols-2.result refl c.requires.some c.requires.even c.loop-back.invariant.pair (omega arith) c.loop-back.invariant.half
+    pair_key (length c.args.syndromes.now) c.args.syndromes.now c.loop-back.front c.loop-back.back c.from_symbols.result c.from_symbols-2.result refl c.requires.some c.requires.even c.loop-back.invariant.pair
+    (omega arith) c.loop-back.invariant.half
     (λ k. rw take_rest at (c.from_symbols.ensures k) ∙ get_or-drop 32 c.loop-back.back.factor k gf64.zero)
     (λ k. rw take_rest at (c.from_symbols-2.ensures k) ∙ get_or-drop 32 c.loop-back.back.rest k gf64.zero)

@@ -15,7 +15,8 @@ loop-i-init c = λ r low.
 pub loop-i-preserved : goal.loop-i-preserved
 loop-i-preserved c = λ r low.
     c.horner_step.ensures r (omega arith)
-    ∙ ap₂ (λ v s. gf64.add (gf64.mul v (coefficient gf64 c.args.points.now r)) s) (c.loop-i.invariant r (omega arith)) (coefficient_read gf64 c.args.polynomial.now (c.loop-i.i - 1) c.index-polynomial-i.result (omega arith) c.index-polynomial-i.is)
+    ∙ ap₂ (λ v s. gf64.add (gf64.mul v (coefficient gf64 c.args.points.now r)) s) (c.loop-i.invariant r (omega arith))
+    (coefficient_read gf64 c.args.polynomial.now (c.loop-i.i - 1) c.index-polynomial-i.result (omega arith) c.index-polynomial-i.is)
     ∙ horner_step gf64 (coefficient gf64 c.args.polynomial.now) (length c.args.polynomial.now) c.loop-i.i (coefficient gf64 c.args.points.now r) (omega arith) (omega arith)
 
 pub returns : goal.returns

@@ -48,7 +48,8 @@ returns-then-not-find_errors c =
           | inl far ↦ far
           | inr near ↦
               let errors : ℕ → Sym = λ j. gf64.add (coefficient gf64 c.args.word.now j) (coefficient gf64 word j) in
-              let explains = difference_explains n k c.args.word.now word c.fill_syndromes.new.out c.args.erased.now c.requires.code refl c.requires.erased of_code (λ r low. c.fill_syndromes.ensures.values r (omega (arith, c.requires.code.few))) near in
+              let explains = difference_explains n k c.args.word.now word c.fill_syndromes.new.out c.args.erased.now c.requires.code refl c.requires.erased of_code
+              (λ r low. c.fill_syndromes.ensures.values r (omega (arith, c.requires.code.few))) near in
               absurd (both_ways c.find_errors.result c.if-not-find_errors.true (c.find_errors.ensures.complete errors (subst (λ m. Explains m (n - k) c.fill_syndromes.new.out c.args.erased.now errors) (sym c.requires.erased) explains)))
         ];
       };
@@ -60,12 +61,14 @@ returns c =
     let n = length c.args.word.now in
     let k = c.args.k in
     let errors = coefficient gf64 c.find_errors.new.out in
-    let explains : Explains n (n - k) c.fill_syndromes.new.out c.args.erased.now errors = subst (λ m. Explains m (n - k) c.fill_syndromes.new.out c.args.erased.now errors) c.requires.erased (c.find_errors.ensures.found c.if-not-find_errors.false) in
+    let explains : Explains n (n - k) c.fill_syndromes.new.out c.args.erased.now errors = subst (λ m. Explains m (n - k) c.fill_syndromes.new.out c.args.erased.now errors) c.requires.erased
+    (c.find_errors.ensures.found c.if-not-find_errors.false) in
     let long : length c.add_to.new.word ≡ n = omega arith in
     let count = ap (λ m. nonzeros gf64 m errors) (c.find_errors.ensures.places ∙ c.requires.erased) in
     let changed = changed_letters n c.args.word.now c.add_to.new.word errors refl long c.add_to.ensures in
     record {
-      word_of_set = corrected n k c.args.word.now c.add_to.new.word c.fill_syndromes.new.out c.args.erased.now errors c.requires.code refl long (λ r low. c.fill_syndromes.ensures.values r (omega (arith, c.requires.code.few))) explains c.add_to.ensures;
+      word_of_set = corrected n k c.args.word.now c.add_to.new.word c.fill_syndromes.new.out c.args.erased.now errors c.requires.code refl long
+          (λ r low. c.fill_syndromes.ensures.values r (omega (arith, c.requires.code.few))) explains c.add_to.ensures;
       fixes_is = c.weight.ensures ∙ count ∙ sym changed;
       within = cost_of_errors n k c.args.word.now c.add_to.new.word c.fill_syndromes.new.out c.args.erased.now errors refl long c.requires.erased explains c.add_to.ensures;
     }

@@ -16,6 +16,7 @@ loop-symbol-preserved c = λ r low.
     let next : suc c.loop-symbol.symbol-index ≡ c.loop-symbol.symbol-index + 1 = omega arith in
     let exponent : 1 + r ≡ r + 1 = omega arith in
     c.horner_step.ensures r (omega arith)
-    ∙ ap₂ gf64.add (ap₂ gf64.mul (c.loop-symbol.invariant r low) (c.fill_powers.ensures r (omega arith) ∙ ap (power gf64 alpha) exponent)) (coefficient_read gf64 c.args.word.now c.loop-symbol.symbol-index c.symbol-item.result (omega arith) c.symbol-item.is)
+    ∙ ap₂ gf64.add (ap₂ gf64.mul (c.loop-symbol.invariant r low) (c.fill_powers.ensures r (omega arith) ∙ ap (power gf64 alpha) exponent))
+    (coefficient_read gf64 c.args.word.now c.loop-symbol.symbol-index c.symbol-item.result (omega arith) c.symbol-item.is)
     ∙ sym (front_value-suc (coefficient gf64 c.args.word.now) (r + 1) c.loop-symbol.symbol-index)
     ∙ ap (front_value (coefficient gf64 c.args.word.now) (r + 1)) next

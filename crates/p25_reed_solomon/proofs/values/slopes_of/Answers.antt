@@ -31,7 +31,8 @@ loop-i-preserved c =
           ∙ horner_step gf64 (rest_at gf64 n f (coefficient gf64 c.args.points.now r)) n i (coefficient gf64 c.args.points.now r) (omega arith) (omega arith);
       values = λ r low.
           c.slope_step.ensures.values r low
-          ∙ ap₂ (λ v s. gf64.add (gf64.mul v (coefficient gf64 c.args.points.now r)) s) (c.loop-i.invariant.values r low) (coefficient_read gf64 c.args.polynomial.now (i - 1) c.index-polynomial-i.result (omega arith) c.index-polynomial-i.is)
+          ∙ ap₂ (λ v s. gf64.add (gf64.mul v (coefficient gf64 c.args.points.now r)) s) (c.loop-i.invariant.values r low)
+          (coefficient_read gf64 c.args.polynomial.now (i - 1) c.index-polynomial-i.result (omega arith) c.index-polynomial-i.is)
           ∙ horner_step gf64 f n i (coefficient gf64 c.args.points.now r) (omega arith) (omega arith);
     }
 

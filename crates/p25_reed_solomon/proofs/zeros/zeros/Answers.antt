@@ -27,7 +27,8 @@ loop-j-preserved c =
           let zero = sym here ∙ c.is_zero.ensures.0 w.if-is_zero.true in
           subst (λ (ps : List ℕ). AreZeros n polynomial (j + 1) ps) (sym (ap (λ v. v.items) w.places-is ∙ w.push.ensures.items)) (AreZeros-push n polynomial j c.loop-j.places.items c.loop-j.invariant zero)
       | else-is_zero w ↦
-          subst (λ (ps : List ℕ). AreZeros n polynomial (j + 1) ps) (sym (ap (λ v. v.items) w.places-is)) (AreZeros-skip n polynomial j c.loop-j.places.items c.loop-j.invariant (λ z. iff_false c.is_zero.ensures w.if-is_zero.false (here ∙ z)))
+          subst (λ (ps : List ℕ). AreZeros n polynomial (j + 1) ps) (sym (ap (λ v. v.items) w.places-is))
+          (AreZeros-skip n polynomial j c.loop-j.places.items c.loop-j.invariant (λ z. iff_false c.is_zero.ensures w.if-is_zero.false (here ∙ z)))
     ]
 
 pub returns-clause-few : goal.returns-clause-few

@@ -17,8 +17,10 @@ pub loop-shift-preserved : goal.loop-shift-preserved
 loop-shift-preserved c =
     let low = rw c.unwrap-degree.ensures at c.degree.ensures.below in
     let top = rw c.unwrap-degree.ensures at c.degree.ensures.some in
-    divided_step gf64 c.loop-shift.shift (c.loop-shift.shift - 1) (omega arith) (coefficient_of c.args.self.now) (coefficient_of c.args.by.now) c.unwrap-degree.result c.loop-shift.quotient c.loop-shift.remainder c.add_multiple.new.into c.mul-factor.result (omega arith) top (omega arith)
-    (c.mul-factor.ensures.product ∙ ap₂ gf64.mul (get_or_default c.loop-shift.remainder _ _ gf64.zero (omega arith)) (c.inv-inverse.ensures.inverse ∙ ap gf64.inverse (get_or_default c.args.by.now.coefficients c.unwrap-degree.result _ gf64.zero (omega (arith, low, c.args.by.now.full)))))
+    divided_step gf64 c.loop-shift.shift (c.loop-shift.shift - 1) (omega arith) (coefficient_of c.args.self.now)
+    (coefficient_of c.args.by.now) c.unwrap-degree.result c.loop-shift.quotient c.loop-shift.remainder c.add_multiple.new.into c.mul-factor.result (omega arith) top (omega arith)
+    (c.mul-factor.ensures.product ∙ ap₂ gf64.mul (get_or_default c.loop-shift.remainder _ _ gf64.zero (omega arith))
+    (c.inv-inverse.ensures.inverse ∙ ap gf64.inverse (get_or_default c.args.by.now.coefficients c.unwrap-degree.result _ gf64.zero (omega (arith, low, c.args.by.now.full)))))
     c.add_multiple.ensures c.loop-shift.invariant
 
 pub returns-clause-unique : goal.returns-clause-unique
