@@ -1,5 +1,7 @@
 //! Each read and each write fails in turn, and a recording is cut off behind each of its octets.
 
+ghost use Rattle.std.specs.Prelude.{◌≤◌, length};
+
 use super::words_of;
 use crate::{Line, Outcome, run};
 use p25_io::{MemorySource, SliceSink, SteadySource};
