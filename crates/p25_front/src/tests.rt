@@ -1,16 +1,20 @@
 //! Each call once, with a front computed apart from this code.
 
+ghost use Rattle.std.specs.Prelude.{◌≡◌, length};
+
 use super::{front_fixes, put_front, read_identifier};
 use p25_bch_nid::Nid;
 use p25_bits::BitBuf;
 use std::test::Fail;
 
 // The front of a terminator of NAC 0 as it is sent, with the status symbol 0 within its identifier.
-fn sent_front(wrong_sync: u64, wrong_identifier: u64) -> BitBuf {
+fn sent_front(wrong_sync: u64, wrong_identifier: u64) -> BitBuf
+    ensures { length result ≡ 114 }
+{
     let mut sent = BitBuf::new();
-    sent.put_field(0x5575_F5FF_77FF ^ (wrong_sync & 0xFFFF_FFFF_FFFF), 48);
+    sent.put_field((0x5575_F5FF_77FF ^ wrong_sync) % (1 << 48), 48);
     let identifier = 0x0003_364C_2F74_ECAC ^ wrong_identifier;
-    sent.put_field(identifier >> 42, 22);
+    sent.put_field((identifier >> 42) % (1 << 22), 22);
     sent.put_field(0, 2);
     sent.put_field(identifier % (1 << 42), 42);
     sent

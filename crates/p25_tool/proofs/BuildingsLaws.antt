@@ -118,11 +118,11 @@ building-full status line lines octet other long =
     let longer : 8192 < length (line ++ octet ∷ []) = omega (arith, length-append line (octet ∷ [])) in
     record {
       writes = λ ended more.
-        ap (images_of status) (lines_in-octet ended line octet more other)
-        ∙ long-same (images_of status) [] (λ l ls is. images_of-err status l ls Long (long_refused l is)) more ended (line ++ octet ∷ []) line longer long;
+          ap (images_of status) (lines_in-octet ended line octet more other)
+          ∙ long-same (images_of status) [] (λ l ls is. images_of-err status l ls Long (long_refused l is)) more ended (line ++ octet ∷ []) line longer long;
       ends = λ ended more.
-        ap (λ (ls : List (List ℕ)). lines_ending ended (refusal_in (lines + 1) ls)) (lines_in-octet ended line octet more other)
-        ∙ ap (lines_ending ended) (long-same (refusal_in (lines + 1)) (Some (BadLine (lines + 1) Long)) (λ l ls is. refusal_in-err (lines + 1) l ls Long (long_refused l is)) more ended (line ++ octet ∷ []) line longer long);
+          ap (λ (ls : List (List ℕ)). lines_ending ended (refusal_in (lines + 1) ls)) (lines_in-octet ended line octet more other)
+          ∙ ap (lines_ending ended) (long-same (refusal_in (lines + 1)) (Some (BadLine (lines + 1) Long)) (λ l ls is. refusal_in-err (lines + 1) l ls Long (long_refused l is)) more ended (line ++ octet ∷ []) line longer long);
     }
 
 -- the input ends: behind a line that has begun, or none
@@ -154,11 +154,11 @@ line-taken status line lines phase next now answer out (Ok unit) read rest first
     (subst (λ (o : List ℕ). Progress before [] o (building_future (building status [] (lines + 1) next))) (sym taken.1)
     (record {
       writes = λ ended more.
-        ap (images_of status) (first ended more) ∙ images_of-ok status line (rest ended more) unit read ∙ ap (λ (ls : List (List ℕ)). image_octets status unit ++ images_of status ls) (sym (left ended more));
+          ap (images_of status) (first ended more) ∙ images_of-ok status line (rest ended more) unit read ∙ ap (λ (ls : List (List ℕ)). image_octets status unit ++ images_of status ls) (sym (left ended more));
       ends = λ ended more.
-        ap (λ (ls : List (List ℕ)). lines_ending (ends_with phase ended) (refusal_in (lines + 1) ls)) (first ended more)
-        ∙ ap (lines_ending (ends_with phase ended)) (refusal_in-ok (lines + 1) line (rest ended more) unit read)
-        ∙ ap₂ (λ (b : Bool) (ls : List (List ℕ)). lines_ending b (refusal_in (lines + 1 + 1) ls)) (sym (ends ended)) (sym (left ended more));
+          ap (λ (ls : List (List ℕ)). lines_ending (ends_with phase ended) (refusal_in (lines + 1) ls)) (first ended more)
+          ∙ ap (lines_ending (ends_with phase ended)) (refusal_in-ok (lines + 1) line (rest ended more) unit read)
+          ∙ ap₂ (λ (b : Bool) (ls : List (List ℕ)). lines_ending b (refusal_in (lines + 1 + 1) ls)) (sym (ends ended)) (sym (left ended more));
     })))
 line-taken status line lines phase next now answer out (Err fault) read rest first left ends taken =
     let before = building_future (building status line lines phase) in
@@ -166,8 +166,8 @@ line-taken status line lines phase next now answer out (Err fault) read rest fir
     (record {
       writes = λ ended more. ap (images_of status) (first ended more) ∙ images_of-err status line (rest ended more) fault read;
       ends = λ ended more.
-        ap (λ (ls : List (List ℕ)). lines_ending (ends_with phase ended) (refusal_in (lines + 1) ls)) (first ended more)
-        ∙ ap (lines_ending (ends_with phase ended)) (refusal_in-err (lines + 1) line (rest ended more) fault read);
+          ap (λ (ls : List (List ℕ)). lines_ending (ends_with phase ended) (refusal_in (lines + 1) ls)) (first ended more)
+          ∙ ap (lines_ending (ends_with phase ended)) (refusal_in-err (lines + 1) line (rest ended more) fault read);
     })
 
 pub building-line : (status : Status) (line : List ℕ) (lines : ℕ) (now : Building) (answer : Result Bool Ending) (out : List ℕ)
@@ -206,7 +206,6 @@ is-ended ReadyLast none ended = absurd (omega arith)
 is-ended Ended none ended = refl
 
 module _ (status : Status) (line : List ℕ) (lines : ℕ) (phase : LinePhase) (none : lines_ready phase ≡ 0) where
-
   module _ (going : is_ended_phase phase ≡ false) where
     -- the steps of `push` and `finish`
     pub step-end : (octet : ℕ) → octet ≡ 10 → Progress (building_future (building status line lines phase)) (octet ∷ []) [] (building_future (building status line lines Ready))

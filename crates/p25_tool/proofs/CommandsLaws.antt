@@ -32,10 +32,10 @@ pub check-alike : (report : Check) → report ≡ record { units = 0; faults = 0
 unfolding recording_future
 check-alike report empty = record {
   writes = λ is octets.
-    let items = items_by is 0 (octet_bits octets) in
-    let units : report.units + units_in items ≡ units_in items = omega (arith, ap (λ (r : Check). r.units) empty) in
-    let faults : report.faults + faults_in items ≡ faults_in items = omega (arith, ap (λ (r : Check). r.faults) empty) in
-    reported-check is report items (octet_bits octets) ∙ ap₂ (λ (u f : ℕ). flat_map faulty items ++ cond is (check_line u f) []) units faults;
+      let items = items_by is 0 (octet_bits octets) in
+      let units : report.units + units_in items ≡ units_in items = omega (arith, ap (λ (r : Check). r.units) empty) in
+      let faults : report.faults + faults_in items ≡ faults_in items = omega (arith, ap (λ (r : Check). r.faults) empty) in
+      reported-check is report items (octet_bits octets) ∙ ap₂ (λ (u f : ℕ). flat_map faulty items ++ cond is (check_line u f) []) units faults;
   ends = ends;
 }
   where

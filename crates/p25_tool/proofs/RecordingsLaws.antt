@@ -70,11 +70,11 @@ module _ {R : Type 0} (reporting : Reporting R) where
       λ ended more. gave_items scan next item raw ended (octet_bits more) gave (λ done. cc) in
       record {
         writes = λ ended more.
-          written-item ended report scan.place next.place (scan.held ++ octet_bits more) (next.held ++ octet_bits more) item (first ended more) (left more)
-          ∙ ap (λ (zs : List Bool). reporting.piece report item zs ++ bits_written reporting ended (reporting.behind report item zs) next.place (next.held ++ octet_bits more)) (front more);
+            written-item ended report scan.place next.place (scan.held ++ octet_bits more) (next.held ++ octet_bits more) item (first ended more) (left more)
+            ∙ ap (λ (zs : List Bool). reporting.piece report item zs ++ bits_written reporting ended (reporting.behind report item zs) next.place (next.held ++ octet_bits more)) (front more);
         ends = λ ended more.
-          ending-item ended report scan.place next.place (scan.held ++ octet_bits more) (next.held ++ octet_bits more) item (first true more) (left more)
-          ∙ ap (λ (zs : List Bool). bits_ending reporting ended (reporting.behind report item zs) next.place (next.held ++ octet_bits more)) (front more);
+            ending-item ended report scan.place next.place (scan.held ++ octet_bits more) (next.held ++ octet_bits more) item (first true more) (left more)
+            ∙ ap (λ (zs : List Bool). bits_ending reporting ended (reporting.behind report item zs) next.place (next.held ++ octet_bits more)) (front more);
       }
 
   -- an item is given behind the end of the input
@@ -86,11 +86,11 @@ module _ {R : Type 0} (reporting : Reporting R) where
       ap (λ (b : Bool). items_by b scan.place scan.held) (sym done) ∙ gave.items ∙ ap (λ (b : Bool). item ∷ items_by b next.place next.held) next_done in
       record {
         writes = λ ended more.
-          written-item true report scan.place next.place scan.held next.held item first (sym gave.left)
-          ∙ ap (λ (zs : List Bool). reporting.piece report item zs ++ bits_written reporting true (reporting.behind report item zs) next.place next.held) (sym gave.raw_bits);
+            written-item true report scan.place next.place scan.held next.held item first (sym gave.left)
+            ∙ ap (λ (zs : List Bool). reporting.piece report item zs ++ bits_written reporting true (reporting.behind report item zs) next.place next.held) (sym gave.raw_bits);
         ends = λ ended more.
-          ending-item true report scan.place next.place scan.held next.held item first (sym gave.left)
-          ∙ ap (λ (zs : List Bool). bits_ending reporting true (reporting.behind report item zs) next.place next.held) (sym gave.raw_bits);
+            ending-item true report scan.place next.place scan.held next.held item first (sym gave.left)
+            ∙ ap (λ (zs : List Bool). bits_ending reporting true (reporting.behind report item zs) next.place next.held) (sym gave.raw_bits);
       }
 
   -- an item is given

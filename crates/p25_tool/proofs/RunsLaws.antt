@@ -30,10 +30,10 @@ all_written-alike f g alike input none = all_written-same f g alike.writes input
 -- the first octets of an input begin with those of the octets that were taken from it
 first-parts : (octets rest : List ℕ) → (more : List ℕ) × (take input_most (octets ++ rest) ≡ take input_most octets ++ more)
 first-parts octets rest = elim (cases_lt input_most (length octets)) [
-    | inr few ↦
-        let part = take (input_most - length octets) rest in
-        (part, first-take octets rest few ∙ ap (λ (xs : List ℕ). xs ++ part) (sym (take_all input_most octets few)))
-    | inl many ↦ ([], take-append-le input_most octets rest (omega (arith, many)) ∙ sym (append-nil (take input_most octets)))
+  | inr few ↦
+      let part = take (input_most - length octets) rest in
+      (part, first-take octets rest few ∙ ap (λ (xs : List ℕ). xs ++ part) (sym (take_all input_most octets few)))
+  | inl many ↦ ([], take-append-le input_most octets rest (omega (arith, many)) ∙ sym (append-nil (take input_most octets)))
 ]
 
 module _ (command : Command) (input : List ℕ) where
@@ -59,6 +59,7 @@ module _ (command : Command) (input : List ℕ) where
       where
         rest : List ℕ
         rest = (told-parts told left octets input taken is_told).0
+
         parts : input ≡ octets ++ rest
         parts = (told-parts told left octets input taken is_told).1
 
@@ -70,16 +71,16 @@ module _ (command : Command) (input : List ℕ) where
             answer-short (ending_outcome ending) (subst (λ (xs : List ℕ). length xs ≤ input_most) (sym same) few)
             (ap (λ (xs : List ℕ). ending_or (ending_by command true xs) TooLong) (same ∙ sym (take_all input_most octets few)) ∙ ap (λ (end : Option Ending). ending_or end TooLong) ends)
         by_end false all ends stays = elim (cases_lt input_most (length input)) [
-            | inr short ↦
-                let few : length octets ≤ input_most = omega (arith, short, ap length parts, length-append octets rest) in
-                answer-short (ending_outcome ending) short
-                (ap (λ (xs : List ℕ). ending_or (ending_by command true xs) TooLong) (parts ∙ ap (λ (xs : List ℕ). xs ++ rest) (sym (take_all input_most octets few)))
-                ∙ ap (λ (end : Option Ending). ending_or end TooLong) (stays refl true rest))
-            | inl long ↦
-                let begun = first-parts octets rest in
-                answer-long (ending_outcome ending) (omega (arith, long))
-                (ap (λ (xs : List ℕ). ending_or (ending_by command false xs) TooLong) (ap (take input_most) parts ∙ begun.1)
-                ∙ ap (λ (end : Option Ending). ending_or end TooLong) (stays refl false begun.0))
+          | inr short ↦
+              let few : length octets ≤ input_most = omega (arith, short, ap length parts, length-append octets rest) in
+              answer-short (ending_outcome ending) short
+              (ap (λ (xs : List ℕ). ending_or (ending_by command true xs) TooLong) (parts ∙ ap (λ (xs : List ℕ). xs ++ rest) (sym (take_all input_most octets few)))
+              ∙ ap (λ (end : Option Ending). ending_or end TooLong) (stays refl true rest))
+          | inl long ↦
+              let begun = first-parts octets rest in
+              answer-long (ending_outcome ending) (omega (arith, long))
+              (ap (λ (xs : List ℕ). ending_or (ending_by command false xs) TooLong) (ap (take input_most) parts ∙ begun.1)
+              ∙ ap (λ (end : Option Ending). ending_or end TooLong) (stays refl false begun.0))
         ]
 
     -- the answer for an input that is too long

@@ -78,7 +78,11 @@ fn run_command<S: Source, K: Sink>(command: Command, source: &mut S, sink: &mut 
 }
 
 // The work of a report on a recording.
-fn run_report<R: Report + Drop, S: Source, K: Sink>(report: R, source: &mut S, sink: &mut K) -> WorkEnd
+fn run_report<R: Report + Drop, S: Source, K: Sink>(
+    report: R,
+    source: &mut S,
+    sink: &mut K,
+) -> WorkEnd
     requires { R.counted report ≡ 0 }
     ensures worked { Worked (S.left source.old) (S.left source.new) (K.written sink.old) (K.written sink.new) (recording_future R.reporting (fresh report)) result }
     ensures quiet { (input : List ℕ) → S.left source.old ≡ Some input → all_written (recording_future R.reporting (fresh report)) input ≡ [] → sink.new ≡ sink.old }

@@ -9,7 +9,8 @@ fn a_terminator(rt: HostRuntime) -> Result<(), Fail> {
     let unit = VoiceUnit::End;
     let mut plain = BitBuf::new();
     voice_image(0, &unit, &mut plain);
-    assert_eq!(rt; Some(plain.len()), voice_length(unit.duid()));
+    assert_eq!(rt; plain.len(), 140);
+    assert_eq!(rt; voice_length(unit.duid()), Some(140));
     assert_eq!(rt; plain.field(0, 48), 0x5575_F5FF_77FF);
     assert_eq!(rt; plain.field(48, 64), 0x0003_364C_2F74_ECAC);
     assert_eq!(rt; plain.field(112, 28), 0);

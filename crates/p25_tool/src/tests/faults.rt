@@ -7,9 +7,11 @@ use crate::{Line, Outcome, run};
 use p25_io::{MemorySource, SliceSink, SteadySource};
 
 // Three terminators, with 16 bits between the first two.
-const RECORDING: &[u8; 56] = b"\x55\x75\xF5\xFF\x77\xFF\x00\x03\x35\x93\x0B\xDD\x3B\x2B\x00\x00\x00\x01\x00\x00\x55\x75\xF5\xFF\x77\xFF\x00\x03\x35\x93\x0B\xDD\x3B\x2B\x00\x00\x00\x01\x55\x75\xF5\xFF\x77\xFF\x00\x03\x35\x93\x0B\xDD\x3B\x2B\x00\x00\x00\x01";
+const RECORDING: &[u8; 56] =
+    b"\x55\x75\xF5\xFF\x77\xFF\x00\x03\x35\x93\x0B\xDD\x3B\x2B\x00\x00\x00\x01\x00\x00\x55\x75\xF5\xFF\x77\xFF\x00\x03\x35\x93\x0B\xDD\x3B\x2B\x00\x00\x00\x01\x55\x75\xF5\xFF\x77\xFF\x00\x03\x35\x93\x0B\xDD\x3B\x2B\x00\x00\x00\x01";
 
-const TEXT: &[u8; 164] = b"unit at=0 bits=144 fix=0 status=11 tdu nac=000\ngap at=144 bits=16\nunit at=160 bits=144 fix=0 status=11 tdu nac=000\nunit at=304 bits=144 fix=0 status=11 tdu nac=000\n";
+const TEXT: &[u8; 164] =
+    b"unit at=0 bits=144 fix=0 status=11 tdu nac=000\ngap at=144 bits=16\nunit at=160 bits=144 fix=0 status=11 tdu nac=000\nunit at=304 bits=144 fix=0 status=11 tdu nac=000\n";
 
 // How many octets of the text the first octets of the recording decide. The gap is known with the sync behind it.
 fn decided(octets: usize) -> usize {
@@ -32,7 +34,11 @@ fn each_read_fails_in_turn(rt: HostRuntime) {
         let outcome = run(rt.alloc(), &words_of(&[b"show"]), &mut source, &mut sink);
         assert_eq!(rt; outcome, Outcome::ReadFault, "failing at {call}");
         let count = decided(call - 1);
-        assert_eq!(rt; sink.written(), &TEXT[..count.min(164)], "failing at {call}");
+        assert_eq!(rt;
+            sink.written(),
+            &TEXT[..count.min(164)],
+            "failing at {call}"
+        );
     }
     // No read is made behind the end.
     let mut source = MemorySource::new(RECORDING, 1, &[58]);

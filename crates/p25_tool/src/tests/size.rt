@@ -42,7 +42,10 @@ fn the_largest_input_and_one_octet_more(rt: HostRuntime) -> Result<(), Fail> {
         let recording = vec![in rt.alloc(); 0; size]?;
         for piece in [1, 7, size] {
             let mut source = SteadySource::new(&recording, piece.max(1));
-            let mut sink = LineCounter { lines: 0, octets: 0 };
+            let mut sink = LineCounter {
+                lines: 0,
+                octets: 0,
+            };
             let outcome = run(rt.alloc(), &words_of(&[b"show"]), &mut source, &mut sink);
             assert_eq!(rt; outcome, want, "{size} octets in pieces of {piece}");
             assert_eq!(rt; sink.lines, lines, "{size} octets in pieces of {piece}");

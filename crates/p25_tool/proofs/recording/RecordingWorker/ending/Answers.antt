@@ -8,6 +8,6 @@ pub returns : goal.returns
 returns g c =
     let reporting = g.R.Report.reporting in
     λ ended more.
-      step-ending reporting c.args.self.now c.requires.finished c.requires.drained.1 ended more
-      ∙ ap (λ (r : RecordingParts g.row.R.Denot). Some (reporting.ending r.report)) (sym c.self.view_is)
-      ∙ ap (λ (e : Ending). Some e) (sym c.ending.ensures)
+    step-ending reporting c.args.self.now c.requires.finished c.requires.drained.1 ended more
+    ∙ ap (λ (r : RecordingParts g.row.R.Denot). Some (reporting.ending r.report)) (sym c.self.view_is)
+    ∙ ap (λ (e : Ending). Some e) (sym c.ending.ensures)

@@ -18,9 +18,9 @@ loop-k-preserved c =
     let k = c.loop-k.k in
     record {
       list =
-        c.put.ensures.list
-        ∙ ap₂ (λ (xs : List ℕ) (n : ℕ). xs ++ n ∷ []) c.loop-k.invariant.list (c.field.ensures.value ∙ ap field_of (sym (part-drop (8 * k) 8 at bits)))
-        ∙ append_assoc c.args.out.now (octets_from k (drop at bits)) (field_of _ ∷ [])
-        ∙ ap (λ (zs : List ℕ). c.args.out.now ++ zs) (sym (numbers_from-more 8 k (drop at bits)));
+          c.put.ensures.list
+          ∙ ap₂ (λ (xs : List ℕ) (n : ℕ). xs ++ n ∷ []) c.loop-k.invariant.list (c.field.ensures.value ∙ ap field_of (sym (part-drop (8 * k) 8 at bits)))
+          ∙ append_assoc c.args.out.now (octets_from k (drop at bits)) (field_of _ ∷ [])
+          ∙ ap (λ (zs : List ℕ). c.args.out.now ++ zs) (sym (numbers_from-more 8 k (drop at bits)));
       len = omega (arith, c.put.ensures.len, c.loop-k.invariant.len);
     }
