@@ -1,22 +1,28 @@
 -- The laws of items: an item among others is the first of what those before it leave, and a step of the walk says the rest.
-use Rattle.std.proofs.Common.{◌≡◌, ℕ, zero, suc, ◌+◌, ◌<◌, ◌≤◌, inl, inr, Bool, true, List, [], ◌∷◌, ◌++◌, length, drop, refl, ap, ap₂, sym, ◌∙◌, subst, arith, length-drop}
+use Rattle.std.proofs.Common.{◌≡◌, ℕ, zero, suc, ◌+◌, ◌<◌, ◌≤◌, inl, inr, Bool, true, List, [], ◌∷◌, ◌++◌, length, take, drop, refl, ap, ap₂, sym, ◌∙◌, subst, arith, length-drop}
 use Rattle.std.proofs.lemmas.Bool.{cases_lt}
 use Rattle.std.proofs.lemmas.List.{drop-drop, take-append-le}
 use Rattle.std.proofs.Math.Seq.{take-length}
 use Rattle.std.specs.List.{sum_by}
 use Rattle.std.proofs.lemmas.List.Sums.{sum_by-cons}
 use Rattle.p25_status.proofs.SyncLaws.{has_sync-append}
+use Rattle.p25_units.specs.Fixes.{fixes_of}
 use Rattle.p25_units.specs.Items.{covered, place_of, IsSoundItem, unit_item_of}
+use Rattle.p25_units.specs.Units.{frame_length_of, image_of}
+use Rattle.p25_units.specs.WholeLaws.{IsWholeOf}
 use Rattle.p25_units.specs.declared.item.Item.{Item}
-use Rattle.p25_units.specs.declared.item.Item.TheVariants.{Gap}
+use Rattle.p25_units.specs.declared.frame.Frame.{Frame}
+use Rattle.p25_units.specs.declared.item.Item.TheVariants.{Whole, Gap}
 use Rattle.p25_units.specs.declared.needs.Need.TheVariants.{Length}
 use Rattle.p25_units.proofs.ItemsLaws.{covered-unit_item_of}
-use Rattle.p25_units.proofs.WithinRadiusLaws.{has_sync-near, need_of-near, unit_item_of-near}
+use Rattle.p25_units.proofs.FixesLaws.{fixes_of-image_of}
+use Rattle.p25_units.proofs.WholeLaws.{whole-near}
+use Rattle.p25_units.proofs.WithinRadiusLaws.{has_sync-near, need_of-near, unit_item_of-near, IsWithinRadius-image_of, received-image_of}
 use Rattle.p25_status.proofs.SyncLaws.{has_sync-length}
 use Rattle.p25_stream.specs.Items.{sync_place, first_item, items_by, items_of}
-use Rattle.p25_stream.specs.ItemLaws.{NearIsWhole}
+use Rattle.p25_stream.specs.ItemLaws.{NearIsWhole, WholeIsWithin, ImageIsWhole}
 use Rattle.p25_stream.proofs.SyncPlaces.{sync_place-left, sync_place-unsynced}
-use Rattle.p25_stream.proofs.ItemsLaws.{covered-first_item, place_of-first_item, IsSoundItem-first_item, gap-first, items_by-nil, items_by-more, items_by-first, first_item-synced, is_decided-synced}
+use Rattle.p25_stream.proofs.ItemsLaws.{covered-first_item, place_of-first_item, IsSoundItem-first_item, first_item-cases, gap-first, items_by-nil, items_by-more, items_by-first, first_item-synced, is_decided-synced}
 
 -- an item among others is the first of the bits that those before it leave
 pub items_by-among : (before : List Item) (item : Item) (after : List Item) (ended : Bool) (at : ℕ) (bits : List Bool) → items_by ended at bits ≡ before ++ item ∷ after → items_by ended (at + sum_by covered before) (drop (sum_by covered before) bits) ≡ item ∷ after
@@ -97,3 +103,23 @@ near-whole at frame sent more sound fits near =
       is_decided-synced all (Length (length sent)) synced need,
       ap covered first ∙ covered-unit_item_of at all (length sent) need,
     )
+
+-- a first item that is whole is the item of a unit, so its bits lie within radius of its frame
+pub whole-within : WholeIsWithin
+whole-within at bits place frame fixes first =
+    first_item-cases (λ item. item ≡ Whole place frame fixes → IsWholeOf at (take (frame_length_of frame.unit) bits) place frame fixes) at bits
+    (λ no' e. absurd (cc))
+    (λ count yes' is e. absurd (cc))
+    (λ count yes' is e.
+    let covers : frame_length_of frame.unit ≡ count = sym (ap covered e) ∙ covered-unit_item_of at bits count is in
+    subst (λ n. IsWholeOf at (take n bits) place frame fixes) (sym covers) (whole-near at bits count place frame fixes yes' is e))
+    (λ field yes' is e. absurd (cc))
+    first
+
+-- an undamaged image is the frame itself, with no fixes
+pub image-whole : ImageIsWhole
+image-whole at frame more sound fits =
+    let image = image_of frame in
+    (near-whole at frame image more sound fits (IsWithinRadius-image_of frame sound)).0
+    ∙ ap (λ (f : Frame). Whole at f (fixes_of f image)) (received-image_of frame sound)
+    ∙ ap (Whole at frame) (fixes_of-image_of frame sound)

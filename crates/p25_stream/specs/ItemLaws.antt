@@ -1,10 +1,11 @@
 -- What makes the definition of a stream's items believable: laws over all bits and places.
-use Rattle.std.specs.Prelude.{◌≡◌, ℕ, ◌+◌, ◌<◌, ◌≤◌, Bool, true, false, ◌||◌, List, [], ◌∷◌, ◌++◌, length, drop}
+use Rattle.std.specs.Prelude.{◌≡◌, ℕ, ◌+◌, ◌<◌, ◌≤◌, Bool, true, false, ◌||◌, List, [], ◌∷◌, ◌++◌, length, take, drop}
 use Rattle.std.specs.List.{sum_by}
 use Rattle.p25_status.specs.Sync.{has_sync}
 use Rattle.p25_units.specs.Fixes.{fixes_of}
 use Rattle.p25_units.specs.Items.{IsSoundItem, covered, place_of}
-use Rattle.p25_units.specs.Units.{IsSoundFrame}
+use Rattle.p25_units.specs.Units.{IsSoundFrame, frame_length_of, image_of}
+use Rattle.p25_units.specs.WholeLaws.{IsWholeOf}
 use Rattle.p25_units.specs.WithinRadius.{IsWithinRadius, received_frame}
 use Rattle.p25_units.specs.declared.frame.Frame.{Frame}
 use Rattle.p25_units.specs.declared.item.Item.{Item}
@@ -69,6 +70,18 @@ NearIsWhole =
     → (first_item at (sent ++ more) ≡ Whole at (received_frame frame sent) (fixes_of (received_frame frame sent) sent))
     × (is_decided (sent ++ more) ≡ true)
     × (covered (first_item at (sent ++ more)) ≡ length sent)
+
+-- the first item is a whole unit only where the bits that it covers lie within radius of its frame
+abbrev pub WholeIsWithin : Type 0
+WholeIsWithin =
+    (at : ℕ) (bits : List Bool) (place : ℕ) (frame : Frame) (fixes : ℕ) → first_item at bits ≡ Whole place frame fixes
+    → IsWholeOf at (take (frame_length_of frame.unit) bits) place frame fixes
+
+-- where bits begin with the image of a sound frame, the first item is that frame, whole and with no fixes
+abbrev pub ImageIsWhole : Type 0
+ImageIsWhole =
+    (at : ℕ) (frame : Frame) (more : List Bool) → IsSoundFrame frame → frame.unit.nac ≤ 4095
+    → first_item at (image_of frame ++ more) ≡ Whole at frame 0
 
 -- a scanner that gave an item gave the first of the items of what it held and any bits that come later, and has the others
 -- left

@@ -1,6 +1,6 @@
 //! The laws of a stream's items.
 
-ghost use Rattle.p25_stream.specs.ItemLaws.{DecidedStay, FirstStays, GapsAreFull, GaveItems, ItemsAreSound, ItemsCoverAll, ItemsLieEndToEnd, ItemsUnfold, NearIsWhole, SyncPlaceIsLeast};
+ghost use Rattle.p25_stream.specs.ItemLaws.{DecidedStay, FirstStays, GapsAreFull, GaveItems, ImageIsWhole, ItemsAreSound, ItemsCoverAll, ItemsLieEndToEnd, ItemsUnfold, NearIsWhole, SyncPlaceIsLeast, WholeIsWithin};
 
 /// Does nothing: its contract is the laws of the items of a stream, over all bits.
 ///
@@ -11,6 +11,8 @@ ghost use Rattle.p25_stream.specs.ItemLaws.{DecidedStay, FirstStays, GapsAreFull
 /// - `sound`: each item is sound.
 /// - `first_stays`, `decided_stay`: what some bits decide stays and begins the items, whatever bits come later.
 /// - `near`: a unit with few wrong bits at a place where an item begins is that item, whole and as received.
+/// - `whole`: an item is a whole unit only where the bits that it covers lie within radius of its frame, as received.
+/// - `undamaged`: where bits begin with a sound frame's image, the first item is that frame, whole and with no fixes.
 /// - `gave`: what a scanner gave is the first of the items of what it held and any bits that come later.
 pub fn item_laws()
     ensures sync { SyncPlaceIsLeast }
@@ -22,5 +24,7 @@ pub fn item_laws()
     ensures first_stays { FirstStays }
     ensures decided_stay { DecidedStay }
     ensures near { NearIsWhole }
+    ensures whole { WholeIsWithin }
+    ensures undamaged { ImageIsWhole }
     ensures gave { GaveItems }
 {}

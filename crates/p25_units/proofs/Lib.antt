@@ -4,5 +4,6 @@ pub mod ReadingsLaws
 pub mod FixesLaws
 pub mod ItemsLaws
 pub mod WithinRadiusLaws
+pub mod WholeLaws
 pub mod BegunSteps
 pub mod ReadSteps

@@ -7,3 +7,4 @@ pub mod Fixes
 pub mod Items
 pub mod WithinRadius
 pub mod NeedLaws
+pub mod WholeLaws

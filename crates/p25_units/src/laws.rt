@@ -8,6 +8,7 @@ ghost use Rattle.p25_units.specs.NeedLaws.{BegunStays, ItemCovers, ItemHasPlace,
 ghost use Rattle.p25_units.specs.Needs.{need_of};
 ghost use Rattle.p25_units.specs.Readings.{unit_reading_of};
 ghost use Rattle.p25_units.specs.Units.{IsSoundFrame, image_of};
+ghost use Rattle.p25_units.specs.WholeLaws.{WholeIsNear};
 ghost use Rattle.p25_units.specs.WithinRadius.{IsWithinRadius, received_frame};
 ghost use Rattle.p25_units.specs.declared.frame.Frame.{Frame};
 ghost use Rattle.p25_units.specs.declared.needs.Need.TheVariants.{Length};
@@ -38,6 +39,7 @@ pub fn need_laws()
 /// - `near`: bits within radius of a sound frame's image read as the frame, with the status symbols that were received,
 ///   whatever bits follow; their item is `Whole`.
 /// - `again`: an undamaged image reads as its frame, with no fixes.
+/// - `whole_is_near`: a unit at a sync is `Whole` only where its bits lie within radius of its frame.
 pub fn unit_laws()
     ensures length { (frame : Frame) (sent more : List Bool) → IsSoundFrame frame → frame.unit.nac ≤ 4095 → IsWithinRadius frame sent → need_of (sent ++ more) ≡ Length (length sent) }
     ensures near { (frame : Frame) (sent : List Bool) → IsSoundFrame frame → frame.unit.nac ≤ 4095 → IsWithinRadius frame sent → unit_reading_of sent ≡ Ok (received_frame frame sent) }
@@ -45,4 +47,5 @@ pub fn unit_laws()
     ensures undamaged { (frame : Frame) → IsSoundFrame frame → IsWithinRadius frame (image_of frame) }
     ensures again { (frame : Frame) → IsSoundFrame frame → frame.unit.nac ≤ 4095 → unit_reading_of (image_of frame) ≡ Ok frame }
     ensures none { (frame : Frame) → IsSoundFrame frame → fixes_of frame (image_of frame) ≡ 0 }
+    ensures whole_is_near { WholeIsNear }
 {}

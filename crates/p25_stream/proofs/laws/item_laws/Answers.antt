@@ -1,6 +1,6 @@
 use Rattle.p25_stream.proofs.SyncPlaces.{sync_place-le, has_sync-before, has_sync-at_place}
 use Rattle.p25_stream.proofs.ItemsLaws.{items_by-nil, items_by-more, items_by-none, items_by-stay, first_item-append}
-use Rattle.p25_stream.proofs.ItemLaws.{covered-items_of, gaps_short, gaps_full, item-covers, item-sound, near-whole}
+use Rattle.p25_stream.proofs.ItemLaws.{covered-items_of, gaps_short, gaps_full, item-covers, item-sound, near-whole, whole-within, image-whole}
 use Rattle.p25_stream.proofs.ScanLaws.{gave-items}
 use Rattle.p25_stream.proofs.laws.item_laws.Goals as goal
 
@@ -15,5 +15,7 @@ returns c = record {
   first_stays = first_item-append;
   decided_stay = items_by-stay;
   near = near-whole;
+  whole = whole-within;
+  undamaged = image-whole;
   gave = gave-items;
 }

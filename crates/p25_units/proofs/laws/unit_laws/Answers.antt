@@ -1,4 +1,5 @@
 use Rattle.p25_units.proofs.FixesLaws.{fixes_of-image_of}
+use Rattle.p25_units.proofs.WholeLaws.{whole-near}
 use Rattle.p25_units.proofs.WithinRadiusLaws.{need_of-near, unit_reading_of-near, unit_item_of-near, IsWithinRadius-image_of, unit_reading_of-image_of}
 use Rattle.p25_units.proofs.laws.unit_laws.Goals as goal
 
@@ -10,4 +11,5 @@ returns c = record {
   undamaged = IsWithinRadius-image_of;
   again = unit_reading_of-image_of;
   none = fixes_of-image_of;
+  whole_is_near = whole-near;
 }
