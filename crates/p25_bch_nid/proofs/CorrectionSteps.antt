@@ -46,7 +46,8 @@ inverted false false true is = absurd (false≢true (is.1 (λ none. gf64.laws.on
 inverted false false false is = refl
 
 -- the errors between what was received and a word within 11 bits
-pub errors_of_bits : (received sent : List Bool) (symbols syndromes : List Sym) → length received ≡ 63 → symbols ≡ symbols_of received → ((r : ℕ) → r < 32 → coefficient gf64 syndromes r ≡ value_of (length symbols) symbols (r + 1)) → IsBch63 sent → distance_of received sent ≤ 11
+pub errors_of_bits : (received sent : List Bool) (symbols syndromes : List Sym) → length received ≡ 63 → symbols ≡ symbols_of received → ((r : ℕ) → r < 32 → coefficient gf64 syndromes r ≡ value_of (length symbols) symbols (r + 1))
+    → IsBch63 sent → distance_of received sent ≤ 11
     → AreErrors 63 22 syndromes (λ j. gf64.add (coefficient gf64 (symbols_of received) j) (coefficient gf64 (symbols_of sent) j))
 errors_of_bits received sent symbols syndromes long is are of_code near =
     let whole : length (symbols_of received) ≡ 63 = length-map received (bit_coefficient gf64) ∙ long in
@@ -55,7 +56,8 @@ errors_of_bits received sent symbols syndromes long is are of_code near =
     (omega (arith, distance_of_symbols received sent))
 
 -- what was sent
-pub corrected_is : (received sent made wrong : List Bool) → length received ≡ 63 → length made ≡ 63 → IsBch63 sent → ((j : ℕ) → j < 63 → get_or made j false ≡ cond (get_or wrong j false) (not (get_or received j false)) (get_or received j false))
+pub corrected_is : (received sent made wrong : List Bool) → length received ≡ 63 → length made ≡ 63 → IsBch63 sent
+    → ((j : ℕ) → j < 63 → get_or made j false ≡ cond (get_or wrong j false) (not (get_or received j false)) (get_or received j false))
     → ((j : ℕ) → j < 63 → IsTrue (get_or wrong j false) ↔ (gf64.add (coefficient gf64 (symbols_of received) j) (coefficient gf64 (symbols_of sent) j) ≢ gf64.zero)) → made ≡ sent
 corrected_is received sent made wrong long full of_code is exactly =
     ext_get_or false made sent (full ∙ sym of_code.long) (λ j low.

@@ -16,7 +16,8 @@ pub parity_of-lt : (duid : ℕ) → parity_of duid < 2
 parity_of-lt duid = cond-lt_two (eqb duid 5 || eqb duid 10)
 
 -- a word with its information in front, and P
-pub IsSent-from_parts : (nac duid r parity : ℕ) → 16 * nac + duid < 2 ^ 16 → r < 2 ^ 47 → IsDivisible generator (bit_xor ((16 * nac + duid) * 2 ^ 47) r) → parity ≡ parity_of duid → IsSent nac duid (2 * ((16 * nac + duid) * 2 ^ 47 + r) + parity)
+pub IsSent-from_parts : (nac duid r parity : ℕ) → 16 * nac + duid < 2 ^ 16 → r < 2 ^ 47 → IsDivisible generator (bit_xor ((16 * nac + duid) * 2 ^ 47) r) → parity ≡ parity_of duid
+    → IsSent nac duid (2 * ((16 * nac + duid) * 2 ^ 47 + r) + parity)
 IsSent-from_parts nac duid r parity small low word is =
     let information = 16 * nac + duid in
     let bit : parity < 2 = omega (arith, parity_of-lt duid, is) in

@@ -37,11 +37,13 @@ duid_in : (word : ℕ) → field_of (part 12 4 (bits_of 63 word)) ≡ word / 2 ^
 duid_in word =
     let front : take 16 (bits_of 63 word) ≡ bits_of 16 (word / 2 ^ 47)
     = ap (take 16) (bits_of-add 16 47 word) ∙ take_at (bits_of 16 (word / 2 ^ 47)) (bits_of 47 word) 16 (length-bits_of 16 (word / 2 ^ 47)) in
-    let back : drop 12 (bits_of 16 (word / 2 ^ 47)) ≡ bits_of 4 (word / 2 ^ 47) = ap (drop 12) (bits_of-add 12 4 (word / 2 ^ 47)) ∙ drop_at (bits_of 12 (word / 2 ^ 47 / 2 ^ 4)) (bits_of 4 (word / 2 ^ 47)) 12 (length-bits_of 12 (word / 2 ^ 47 / 2 ^ 4)) in
+    let back : drop 12 (bits_of 16 (word / 2 ^ 47)) ≡ bits_of 4 (word / 2 ^ 47)
+    = ap (drop 12) (bits_of-add 12 4 (word / 2 ^ 47)) ∙ drop_at (bits_of 12 (word / 2 ^ 47 / 2 ^ 4)) (bits_of 4 (word / 2 ^ 47)) 12 (length-bits_of 12 (word / 2 ^ 47 / 2 ^ 4)) in
     ap field_of (sym (drop-take 12 4 (bits_of 63 word)) ∙ ap (drop 12) front ∙ back) ∙ field_of-bits_of 4 (word / 2 ^ 47)
 
 -- so the identifier that a word's number begins with is that of its bits
-pub identifier_made : (word nac duid : ℕ) (nid : Option Nid) → word < 2 ^ 63 → nac ≡ word / 2 ^ 51 → duid ≡ word / 2 ^ 47 % 16 → IsSome nid → IfSome nid (λ n. (n.nac ≡ nac) × (n.duid ≡ duid)) → option_map (λ n. (n.nac, n.duid)) nid ≡ Some (identifier_of_word (bits_of 63 word))
+pub identifier_made : (word nac duid : ℕ) (nid : Option Nid) → word < 2 ^ 63 → nac ≡ word / 2 ^ 51 → duid ≡ word / 2 ^ 47 % 16 → IsSome nid → IfSome nid (λ n. (n.nac ≡ nac) × (n.duid ≡ duid))
+    → option_map (λ n. (n.nac, n.duid)) nid ≡ Some (identifier_of_word (bits_of 63 word))
 identifier_made word nac duid None below nac_is duid_is some value = absurd (false≢true some)
 identifier_made word nac duid (Some n) below nac_is duid_is some value =
     ap Some (ap₂ (λ a b. (a, b)) (value.0 ∙ nac_is ∙ sym (nac_in word below)) (value.1 ∙ duid_is ∙ sym (duid_in word)))

@@ -1,12 +1,13 @@
 -- What the writer of identifiers answers: its number is the one that is sent, and its bits are the word of the code and P.
-use Rattle.std.proofs.Common.{◌≡◌, ℕ, ◌+◌, ◌*◌, ◌/◌, ◌%◌, ◌^◌, ◌<◌, ◌≤◌, ◌++◌, length, take, Some, ap, ap₂, sym, ◌∙◌, subst, arith, mod-eq_of_lt}
+use Rattle.std.proofs.Common.{◌≡◌, ℕ, ◌+◌, ◌*◌, ◌/◌, ◌%◌, ◌^◌, ◌<◌, ◌≤◌, ◌++◌, Bool, List, length, take, bit_xor, Some, ap, ap₂, sym, ◌∙◌, subst, arith, mod-eq_of_lt}
 use Rattle.std.proofs.lemmas.List.{take_at}
-use Rattle.std.proofs.lemmas.Nat.{shr-shr, div-mul-add, mod-mul-add}
+use Rattle.std.proofs.lemmas.Nat.{shr-shr, xor_shr, div-mul-add, mod-mul-add}
+use Rattle.std.specs.Int.RustNames.{count_ones}
 use Rattle.p25_bits.specs.Bits.{bits_of, field_of}
 use Rattle.p25_bits.specs.Distance.{distance_of}
 use Rattle.p25_bits.specs.Divisible.{IsDivisible}
 use Rattle.p25_bits.proofs.BitsLaws.{bits_of-add, length-bits_of, field_of-bits_of, same_from_field_of}
-use Rattle.p25_bits.proofs.DistanceLaws.{distance_of-same}
+use Rattle.p25_bits.proofs.DistanceLaws.{distance_of-same, distance_of-bits_of}
 use Rattle.p25_code.specs.Words.{IsEncoding}
 use Rattle.p25_bch_nid.specs.Nid.{generator, IsSent}
 use Rattle.p25_bch_nid.specs.Bch63.{IsBch63}
@@ -50,3 +51,12 @@ reading_of_sent nac duid bits low small is =
     let near : distance_of received received ≤ 11 = omega (arith, distance_of-same received) in
     let long : 63 ≤ length (bits_of 64 bits) = omega (arith, length-bits_of 64 bits) in
     nid_reading_of-word (bits_of 64 bits) received long encoding.word_of_set near ∙ ap Some (identifier_of_word-encoding nac duid received low small encoding)
+
+-- the weight of the exclusive or of two identifiers without their last bits is the distance of their first 63 bits
+pub weight-distance : (a b : ℕ) (sent : List Bool) → a < 2 ^ 64 → b < 2 ^ 64 → bits_of 64 b ≡ sent → count_ones (bit_xor a b / 2 ^ 1) ≡ distance_of (take 63 (bits_of 64 a)) (take 63 sent)
+weight-distance a b sent first second is =
+    let half_a : a / 2 ^ 1 < 2 ^ 63 = omega arith in
+    let half_b : b / 2 ^ 1 < 2 ^ 63 = omega arith in
+    ap count_ones (xor_shr a b 1)
+    ∙ sym (distance_of-bits_of 63 (a / 2 ^ 1) (b / 2 ^ 1) half_a half_b)
+    ∙ ap₂ distance_of (sym (first_bits a)) (sym (first_bits b) ∙ ap (take 63) is)

@@ -39,9 +39,13 @@ some = lit< tt
 pub value_of-symbols : (word : List Bool) (n i : ℕ) → length word ≡ n → value_of n (symbols_of word) i ≡ bit_value gf64 (power gf64 alpha i) word
 value_of-symbols word n i long =
     subst (λ m. value_of m (symbols_of word) i ≡ bit_value gf64 (power gf64 alpha i) word) long
-    (sum_same gf64 (length word) (λ j. gf64.mul (coefficient gf64 (symbols_of word) j) (power gf64 alpha (i * (length word - 1 - j)))) (λ j. gf64.mul (coefficient gf64 (symbols_of word) j) (power gf64 (power gf64 alpha i) (length word - 1 - j)))
+    (
+    sum_same gf64 (length word)
+    (λ j. gf64.mul (coefficient gf64 (symbols_of word) j) (power gf64 alpha (i * (length word - 1 - j))))
+    (λ j. gf64.mul (coefficient gf64 (symbols_of word) j) (power gf64 (power gf64 alpha i) (length word - 1 - j)))
     (λ j h. ap (gf64.mul (coefficient gf64 (symbols_of word) j)) (power-mul gf64 alpha i (length word - 1 - j)))
-    ∙ bit_value-places gf64 (power gf64 alpha i) word)
+    ∙ bit_value-places gf64 (power gf64 alpha i) word
+    )
 
 -- ---- the generator is zero at α^1 to α^22
 
@@ -55,17 +59,23 @@ digit_number true = number_one
 digit_number false = number_zero
 
 -- it is the value, after what stands before
-horner-value : (x high : Sym) (bits : List Bool) → horner (number x) (number high) bits ≡ number (gf64.add (gf64.mul high (power gf64 x (length bits))) (bit_value gf64 x bits))
+horner-value : (x high : Sym) (bits : List Bool)
+    → horner (number x) (number high) bits ≡ number (gf64.add (gf64.mul high (power gf64 x (length bits))) (bit_value gf64 x bits))
 unfolding horner
 horner-value x high [] =
     ap number (sym (ap₂ gf64.add (ap (gf64.mul high) (power-zero gf64 x) ∙ mul_one gf64 high) (bit_value-nil gf64 x) ∙ add_zero gf64 high))
 horner-value x high (bit ∷ bits) =
     let c = bit_coefficient gf64 bit in
     let next = gf64.add (gf64.mul x high) c in
-    let e : bit_xor (product (number x) (number high)) (digit_of bit) ≡ number next = sym (number-add (gf64.mul x high) c ∙ ap₂ bit_xor (number-mul x high) (digit_number bit)) in
+    let e : bit_xor (product (number x) (number high)) (digit_of bit) ≡ number next
+    = sym (number-add (gf64.mul x high) c ∙ ap₂ bit_xor (number-mul x high) (digit_number bit)) in
     ap (λ n. horner (number x) n bits) e
     ∙ horner-value x next bits
-    ∙ ap number (regroup x high c (power gf64 x (length bits)) (bit_value gf64 x bits) ∙ sym (ap₂ (λ p v. gf64.add (gf64.mul high p) v) (power-suc gf64 x (length bits)) (bit_value-cons gf64 x bit bits)))
+    ∙ ap number
+    (
+    regroup x high c (power gf64 x (length bits)) (bit_value gf64 x bits)
+    ∙ sym (ap₂ (λ p v. gf64.add (gf64.mul high p) v) (power-suc gf64 x (length bits)) (bit_value-cons gf64 x bit bits))
+    )
   where
     regroup : (x h c p v : Sym) → gf64.add (gf64.mul (gf64.add (gf64.mul x h) c) p) v ≡ gf64.add (gf64.mul h (gf64.mul x p)) (gf64.add (gf64.mul c p) v)
     regroup x h c p v =
@@ -89,7 +99,8 @@ generator_root (suc i) low high =
     ∙ none)
 
 -- at these the remainder of a word has the value of the word
-remainder_value : (word : List Bool) (i : ℕ) → 1 ≤ i → i ≤ 22 → number_value gf64 (power gf64 alpha i) 47 (syndrome_of (remainders generator 47 (length word)) word) ≡ bit_value gf64 (power gf64 alpha i) word
+remainder_value : (word : List Bool) (i : ℕ) → 1 ≤ i → i ≤ 22
+    → number_value gf64 (power gf64 alpha i) 47 (syndrome_of (remainders generator 47 (length word)) word) ≡ bit_value gf64 (power gf64 alpha i) word
 remainder_value word i low high = word_value gf64 (power gf64 alpha i) generator 47 generator_degree some (generator_root i low high) word
 
 -- ---- a remainder that is zero at α^1 to α^22 is 0
@@ -135,8 +146,11 @@ zeros_apart = record { apart = apart }
 
     apart : (i j : ℕ) → i < 47 → j < 47 → power gf64 alpha (exponent i) ≡ power gf64 alpha (exponent j) → i ≡ j
     apart i j hi hj e =
-        elim (or_cases (not (exponent i == exponent j)) (i == j) (all_pairs_below_at 47 (λ i j. not (exponent i == exponent j) || i == j) apart_computed i j hi hj)) [
-          | inl other ↦ absurd (both_ways (exponent i == exponent j) (not-true (exponent i == exponent j) other) (eq-eqb (exponent i) (exponent j) (alpha_exponents (exponent i) (exponent j) (low i hi) (low j hj) e)))
+        let test = all_pairs_below_at 47 (λ i j. not (exponent i == exponent j) || i == j) apart_computed i j hi hj in
+        elim (or_cases (not (exponent i == exponent j)) (i == j) test) [
+          | inl other ↦
+              let same = alpha_exponents (exponent i) (exponent j) (low i hi) (low j hj) e in
+              absurd (both_ways (exponent i == exponent j) (not-true (exponent i == exponent j) other) (eq-eqb (exponent i) (exponent j) same))
           | inr same ↦ eqb-true _ _ same
         ]
 
@@ -157,7 +171,8 @@ module _ (bits : List Bool) (zeros : (i : ℕ) → 1 ≤ i → i ≤ 22 → bit_
   unfolding is_next exponent exponents
   each_zero zero h = zeros 1 (omega arith) (omega arith)
   each_zero (suc j) h =
-      elim (or_cases (leb 1 (exponent (suc j)) && leb (exponent (suc j)) 22) (exponent (suc j) == 2 * exponent j % 63) (all_below_at 46 (λ j. is_next (exponent j) (exponent (suc j))) next_computed j (omega arith))) [
+      let test = all_below_at 46 (λ j. is_next (exponent j) (exponent (suc j))) next_computed j (omega arith) in
+      elim (or_cases (leb 1 (exponent (suc j)) && leb (exponent (suc j)) 22) (exponent (suc j) == 2 * exponent j % 63) test) [
         | inl given ↦
             let parts = and_parts (leb 1 (exponent (suc j))) (leb (exponent (suc j)) 22) given in
             zeros (exponent (suc j)) (leb-true _ _ parts.0) (leb-true _ _ parts.1)
@@ -167,7 +182,8 @@ module _ (bits : List Bool) (zeros : (i : ℕ) → 1 ≤ i → i ≤ 22 → bit_
   -- 47 bits with 47 zeros are all 0
   only_zeros : length bits ≡ 47 → field_of bits ≡ 0
   only_zeros long =
-      no_coefficient gf64 bits (λ j. power gf64 alpha (exponent j)) (subst (λ n. AreApart n (λ j. power gf64 alpha (exponent j))) (sym long) zeros_apart) (λ j h. each_zero j (omega arith))
+      no_coefficient gf64 bits (λ j. power gf64 alpha (exponent j)) (subst (λ n. AreApart n (λ j. power gf64 alpha (exponent j))) (sym long) zeros_apart)
+      (λ j h. each_zero j (omega arith))
 
 -- ---- the two forms
 

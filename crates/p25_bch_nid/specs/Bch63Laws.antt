@@ -28,7 +28,8 @@ unfoldable pub encoded_by : List Bool → ℕ → List Bool
 encoded_by info remainder = info ++ bits_of 47 remainder
 
 -- where that is the remainder, it is a word that begins with the information
-pub IsEncoding-encoded_by : (info : List Bool) (remainder : ℕ) → length info ≡ 16 → IsRemainder generator 47 (field_of info * 2 ^ 47) remainder → IsEncoding IsBch63 16 info (encoded_by info remainder)
+pub IsEncoding-encoded_by : (info : List Bool) (remainder : ℕ) → length info ≡ 16 → IsRemainder generator 47 (field_of info * 2 ^ 47) remainder
+    → IsEncoding IsBch63 16 info (encoded_by info remainder)
 unfolding encoded_by
 IsEncoding-encoded_by info remainder long is =
     let checks = bits_of 47 remainder in
@@ -79,8 +80,11 @@ one_word v w isv isw same =
     ∙ xor_block 47 a a r s (low_part v isv.long) (low_part w isw.long)
     ∙ ap (λ n. n * 2 ^ 47 + bit_xor r s) (xor_self a)
     ∙ zero_high (bit_xor r s) in
-    let low : bit_xor (field_of v) (field_of w) < 2 ^ 47 = subst (λ (n : ℕ). n < 2 ^ 47) (sym sum) (xor_lt 47 r s (low_part v isv.long) (low_part w isw.long)) in
-    let none = IsDivisible-lower generator 47 (bit_xor (field_of v) (field_of w)) generator_degree (IsDivisible-sum generator (field_of v) (field_of w) (to_divisible v isv) (to_divisible w isw)) low in
+    let low : bit_xor (field_of v) (field_of w) < 2 ^ 47
+    = subst (λ (n : ℕ). n < 2 ^ 47) (sym sum) (xor_lt 47 r s (low_part v isv.long) (low_part w isw.long)) in
+    let none
+    = IsDivisible-lower generator 47 (bit_xor (field_of v) (field_of w)) generator_degree
+    (IsDivisible-sum generator (field_of v) (field_of w) (to_divisible v isv) (to_divisible w isw)) low in
     same_from_field_of v w (isv.long ∙ sym isw.long) (same_from_xor (field_of v) (field_of w) none)
   where
     zero_high : (n : ℕ) → 0 * 2 ^ 47 + n ≡ n
@@ -92,7 +96,8 @@ one_word v w isv isw same =
 pub far_apart : (v w : List Bool) → IsBch63 v → IsBch63 w → v ≢ w → 23 ≤ distance_of v w
 far_apart v w isv isw differ =
     let other : symbols_of v ≢ symbols_of w = λ same. differ (sym (bits_in-symbols_of v) ∙ ap bits_in same ∙ bits_in-symbols_of w) in
-    omega (arith, words_apart 63 41 IsCode-63_41 (symbols_of v) (symbols_of w) (IsWord-symbols_of v isv) (IsWord-symbols_of w isw) other, distance_of_symbols v w)
+    omega
+    (arith, words_apart 63 41 IsCode-63_41 (symbols_of v) (symbols_of w) (IsWord-symbols_of v isv) (IsWord-symbols_of w isw) other, distance_of_symbols v w)
 
 -- each word has 63 bits
 length_of_word : (word : List Bool) → IsBch63 word → length word ≡ 63

@@ -33,7 +33,8 @@ module _ {F : Type 0} (K : Field F) where
   bit_value-nil x = refl
 
   -- one coefficient above the others
-  pub bit_value-cons : (x : F) (bit : Bool) (bits : List Bool) → bit_value K x (bit ∷ bits) ≡ bit_coefficient K bit ⊗ power K x (length bits) ⊕ bit_value K x bits
+  pub bit_value-cons : (x : F) (bit : Bool) (bits : List Bool)
+      → bit_value K x (bit ∷ bits) ≡ bit_coefficient K bit ⊗ power K x (length bits) ⊕ bit_value K x bits
   unfolding bit_value
   bit_value-cons x bit bits = refl
 
@@ -42,14 +43,17 @@ module _ {F : Type 0} (K : Field F) where
   unfolding bit_value
   bit_value-append x [] low = sym (ap (λ w. w ⊕ bit_value K x low) (zero_mul K (power K x (length low))) ∙ zero_add K (bit_value K x low))
   bit_value-append x (bit ∷ high) low =
-      ap₂ (λ p v. bit_coefficient K bit ⊗ p ⊕ v) (ap (power K x) (length-append high low) ∙ power-add K x (length high) (length low)) (bit_value-append x high low)
+      ap₂ (λ p v. bit_coefficient K bit ⊗ p ⊕ v) (ap (power K x) (length-append high low) ∙ power-add K x (length high) (length low))
+      (bit_value-append x high low)
       ∙ regroup (bit_coefficient K bit) (power K x (length high)) (bit_value K x high) (power K x (length low)) (bit_value K x low)
     where
       regroup : (d p v q w : F) → d ⊗ (p ⊗ q) ⊕ (v ⊗ q ⊕ w) ≡ (d ⊗ p ⊕ v) ⊗ q ⊕ w
       regroup d p v q w = simp (add_mul K, mul_assoc K, add_assoc K)
 
   -- one more place before two sums of which the rest is known
-  sum_first_places : (x : F) (a b : List Bool) (e d c : Bool) → length a ≡ length b → bit_coefficient K e ≡ bit_coefficient K d ⊕ bit_coefficient K c → bit_value K x (sum_of_words a b) ≡ bit_value K x a ⊕ bit_value K x b → bit_value K x (e ∷ sum_of_words a b) ≡ bit_value K x (d ∷ a) ⊕ bit_value K x (c ∷ b)
+  sum_first_places : (x : F) (a b : List Bool) (e d c : Bool) → length a ≡ length b → bit_coefficient K e ≡ bit_coefficient K d ⊕ bit_coefficient K c
+      → bit_value K x (sum_of_words a b) ≡ bit_value K x a ⊕ bit_value K x b
+      → bit_value K x (e ∷ sum_of_words a b) ≡ bit_value K x (d ∷ a) ⊕ bit_value K x (c ∷ b)
   unfolding bit_value
   sum_first_places x a b e d c long digit rest =
       let p = power K x (length a) in
@@ -100,15 +104,21 @@ module _ {F : Type 0} (K : Field F) where
           apart d p = simp (mul_assoc K, mul_left_comm K)
 
   -- the value as a sum over the places
-  pub bit_value-places : (x : F) (bits : List Bool) → sum_below K (length bits) (λ j. coefficient K (map (bit_coefficient K) bits) j ⊗ power K x (length bits - 1 - j)) ≡ bit_value K x bits
+  pub bit_value-places : (x : F) (bits : List Bool)
+      → sum_below K (length bits) (λ j. coefficient K (map (bit_coefficient K) bits) j ⊗ power K x (length bits - 1 - j)) ≡ bit_value K x bits
   unfolding bit_value
   bit_value-places x [] = sum-none K (λ j. coefficient K [] j ⊗ power K x (0 - 1 - j))
   bit_value-places x (bit ∷ bits) =
       let n = length bits in
       sum_first K n (λ j. coefficient K (map (bit_coefficient K) (bit ∷ bits)) j ⊗ power K x (suc n - 1 - j))
       ∙ ap₂ (λ m w. bit_coefficient K bit ⊗ power K x m ⊕ w) (whole n)
-      (sum_same K n (λ j. coefficient K (map (bit_coefficient K) bits) j ⊗ power K x (suc n - 1 - suc j)) (λ j. coefficient K (map (bit_coefficient K) bits) j ⊗ power K x (n - 1 - j)) (λ j h. ap (λ m. coefficient K (map (bit_coefficient K) bits) j ⊗ power K x m) (less n j))
-      ∙ bit_value-places x bits)
+      (
+      sum_same K n
+      (λ j. coefficient K (map (bit_coefficient K) bits) j ⊗ power K x (suc n - 1 - suc j))
+      (λ j. coefficient K (map (bit_coefficient K) bits) j ⊗ power K x (n - 1 - j))
+      (λ j h. ap (λ m. coefficient K (map (bit_coefficient K) bits) j ⊗ power K x m) (less n j))
+      ∙ bit_value-places x bits
+      )
     where
       whole : (n : ℕ) → suc n - 1 - 0 ≡ n
       whole n = omega arith
@@ -127,10 +137,14 @@ module _ {F : Type 0} (K : Field F) where
       back : (n j : ℕ) → j < n → j ≡ n - 1 - (n - 1 - j)
       back n j h = omega arith
 
-      reversed : (x : F) → sum_below K (length bits) (λ j. coefficient K (map (bit_coefficient K) bits) j ⊗ power K x (length bits - 1 - j)) ≡ value_at K (length bits) (λ i. coefficient K (map (bit_coefficient K) bits) (length bits - 1 - i)) x
+      reversed : (x : F)
+          → sum_below K (length bits) (λ j. coefficient K (map (bit_coefficient K) bits) j ⊗ power K x (length bits - 1 - j))
+          ≡ value_at K (length bits) (λ i. coefficient K (map (bit_coefficient K) bits) (length bits - 1 - i)) x
       reversed x =
           sym (sum_reverse K (length bits) (λ j. coefficient K (map (bit_coefficient K) bits) j ⊗ power K x (length bits - 1 - j)))
-          ∙ sum_same K (length bits) (λ i. coefficient K (map (bit_coefficient K) bits) (length bits - 1 - i) ⊗ power K x (length bits - 1 - (length bits - 1 - i))) (λ i. coefficient K (map (bit_coefficient K) bits) (length bits - 1 - i) ⊗ power K x i)
+          ∙ sum_same K (length bits)
+          (λ i. coefficient K (map (bit_coefficient K) bits) (length bits - 1 - i) ⊗ power K x (length bits - 1 - (length bits - 1 - i)))
+          (λ i. coefficient K (map (bit_coefficient K) bits) (length bits - 1 - i) ⊗ power K x i)
           (λ i h. ap (λ m. coefficient K (map (bit_coefficient K) bits) (length bits - 1 - i) ⊗ power K x m) (sym (back (length bits) i h)))
 
       all_zero : (bits : List Bool) → ((j : ℕ) → j < length bits → coefficient K (map (bit_coefficient K) bits) j ≡ 𝟘) → field_of bits ≡ 0

@@ -18,7 +18,8 @@ parity-digit true = refl
 parity-digit false = refl
 
 -- it is what is sent
-pub nid_word-sent : (nac duid bits : ℕ) → IsSent nac duid bits → IsEncoding IsBch63 16 (bits_of 12 nac ++ bits_of 4 duid) (take 63 (bits_of 64 bits)) → bits_of 64 bits ≡ nid_word nac duid
+pub nid_word-sent : (nac duid bits : ℕ) → IsSent nac duid bits → IsEncoding IsBch63 16 (bits_of 12 nac ++ bits_of 4 duid) (take 63 (bits_of 64 bits))
+    → bits_of 64 bits ≡ nid_word nac duid
 unfolding nid_word
 nid_word-sent nac duid bits sent word =
     let info = bits_of 12 nac ++ bits_of 4 duid in
@@ -28,5 +29,7 @@ nid_word-sent nac duid bits sent word =
     let front : take 63 (bits_of 64 bits) ≡ bits_of 63 (bits / 2 ^ 1)
     = ap (λ (xs : List Bool). take 63 xs) cut ∙ take_at (bits_of 63 (bits / 2 ^ 1)) (bits_of 1 bits) 63 (length-bits_of 63 (bits / 2 ^ 1)) in
     let same = one_word (take 63 (bits_of 64 bits)) (encoded info) word.word_of_set encoding.word_of_set (word.begins ∙ sym encoding.begins) in
-    let last = same_from_field_of (bits_of 1 bits) (eqb (parity_of duid) 1 ∷ []) (length-bits_of 1 bits) (field_of-bits_of 1 bits ∙ sent.parity ∙ sym (parity-digit (eqb duid 5 || eqb duid 10)) ∙ sym (field_of-one (eqb (parity_of duid) 1))) in
+    let last
+    = same_from_field_of (bits_of 1 bits) (eqb (parity_of duid) 1 ∷ []) (length-bits_of 1 bits)
+    (field_of-bits_of 1 bits ∙ sent.parity ∙ sym (parity-digit (eqb duid 5 || eqb duid 10)) ∙ sym (field_of-one (eqb (parity_of duid) 1))) in
     cut ∙ ap₂ (λ (xs ys : List Bool). xs ++ ys) (sym front ∙ same) last

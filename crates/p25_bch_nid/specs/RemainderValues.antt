@@ -30,7 +30,8 @@ module _ {F : Type 0} (K : Field F) (x : F) where
   number_value-suc width number low =
       ap (bit_value K x) (bits_of-suc width number)
       ∙ bit_value-cons K x (eqb (bit_at number width) 1) (bits_of width number)
-      ∙ ap (λ bit. bit_coefficient K (eqb bit 1) ⊗ power K x (length (bits_of width number)) ⊕ number_value width number) (bit_at_above number width width low (omega arith))
+      ∙ ap (λ bit. bit_coefficient K (eqb bit 1) ⊗ power K x (length (bits_of width number)) ⊕ number_value width number)
+      (bit_at_above number width width low (omega arith))
       ∙ ap (λ w. w ⊕ number_value width number) (zero_mul K (power K x (length (bits_of width number))))
       ∙ zero_add K (number_value width number)
 
@@ -40,7 +41,8 @@ module _ {F : Type 0} (K : Field F) (x : F) where
   number_value-zero (suc width) = number_value-suc width 0 (pow_pos width) ∙ number_value-zero width
 
   -- one more coefficient below the others
-  pub number_value-more : (width number : ℕ) (bit : Bool) → number_value (suc width) (2 * number + digit_of bit) ≡ x ⊗ number_value width number ⊕ bit_coefficient K bit
+  pub number_value-more : (width number : ℕ) (bit : Bool)
+      → number_value (suc width) (2 * number + digit_of bit) ≡ x ⊗ number_value width number ⊕ bit_coefficient K bit
   number_value-more width number bit =
       let e : suc width ≡ width + 1 = omega arith in
       let n = 2 * number + digit_of bit in
@@ -66,7 +68,13 @@ module _ {F : Type 0} (K : Field F) (x : F) where
       one_bit n bit last =
           ap (bit_value K x) (bits_of-suc 0 n)
           ∙ bit_value-cons K x (eqb (bit_at n 0) 1) (bits_of 0 n)
-          ∙ ap₂ ◌⊕◌ (ap₂ (λ b w. bit_coefficient K b ⊗ power K x w) (ap (λ m. eqb m 1) (bit_at_lowest n ∙ last) ∙ test bit) (length-bits_of 0 n) ∙ ap (λ p. bit_coefficient K bit ⊗ p) (power-zero K x) ∙ mul_one K (bit_coefficient K bit)) (ap (bit_value K x) (bits_of-zero n) ∙ bit_value-nil K x)
+          ∙ ap₂ ◌⊕◌
+          (
+          ap₂ (λ b w. bit_coefficient K b ⊗ power K x w) (ap (λ m. eqb m 1) (bit_at_lowest n ∙ last) ∙ test bit) (length-bits_of 0 n)
+          ∙ ap (λ p. bit_coefficient K bit ⊗ p) (power-zero K x)
+          ∙ mul_one K (bit_coefficient K bit)
+          )
+          (ap (bit_value K x) (bits_of-zero n) ∙ bit_value-nil K x)
           ∙ add_zero K (bit_coefficient K bit)
 
   -- the value of 1 is one
@@ -93,11 +101,15 @@ module _ {F : Type 0} (K : Field F) (x : F) where
         let r = power_remainder generator degree n in
         let whole : 2 * r ≡ 2 * r + 0 = omega arith in
         let twice : number_value (suc degree) (2 * r) ≡ power K x (suc n) =
-        ap (number_value (suc degree)) whole ∙ number_value-more degree r false ∙ ap (λ v. x ⊗ v ⊕ 𝟘) (power_remainder_value n) ∙ add_zero K (x ⊗ power K x n) ∙ sym (power-suc K x n) in
+        ap (number_value (suc degree)) whole ∙ number_value-more degree r false ∙ ap (λ v. x ⊗ v ⊕ 𝟘) (power_remainder_value n) ∙ add_zero K (x ⊗ power K x n)
+        ∙ sym (power-suc K x n) in
         elim (cases_lt (2 * r) (2 ^ degree)) [
-          | inl low ↦ ap (number_value degree) (sym (cond_below (2 * r) (2 ^ degree) (2 * r) (bit_xor (2 * r) generator) low)) ∙ sym (number_value-suc degree (2 * r) low) ∙ twice
+          | inl low ↦
+              ap (number_value degree) (sym (cond_below (2 * r) (2 ^ degree) (2 * r) (bit_xor (2 * r) generator) low))
+              ∙ sym (number_value-suc degree (2 * r) low) ∙ twice
           | inr high ↦
-              let reduced : power_remainder generator degree (suc n) ≡ bit_xor (2 * r) generator = sym (cond_above (2 * r) (2 ^ degree) (2 * r) (bit_xor (2 * r) generator) (bit_xor (2 * r) generator) high refl) in
+              let reduced : power_remainder generator degree (suc n) ≡ bit_xor (2 * r) generator
+              = sym (cond_above (2 * r) (2 ^ degree) (2 * r) (bit_xor (2 * r) generator) (bit_xor (2 * r) generator) high refl) in
               let low : bit_xor (2 * r) generator < 2 ^ degree = subst (λ (m : ℕ). m < 2 ^ degree) reduced (IsRemainder-power has some (suc n)).lower in
               ap (number_value degree) reduced
               ∙ sym (number_value-suc degree (bit_xor (2 * r) generator) low)
@@ -115,6 +127,7 @@ module _ {F : Type 0} (K : Field F) (x : F) where
         ∙ ap₂ ◌⊕◌ (chosen bit) (word_value word)
         ∙ sym (bit_value-cons K x bit word)
       where
-        chosen : (bit : Bool) → number_value degree (cond bit (power_remainder generator degree (length word)) 0) ≡ bit_coefficient K bit ⊗ power K x (length word)
+        chosen : (bit : Bool)
+            → number_value degree (cond bit (power_remainder generator degree (length word)) 0) ≡ bit_coefficient K bit ⊗ power K x (length word)
         chosen true = power_remainder_value (length word) ∙ sym (one_mul K (power K x (length word)))
         chosen false = number_value-zero degree ∙ sym (zero_mul K (power K x (length word)))

@@ -23,7 +23,8 @@ pub fn two_forms()
 /// - `first`: the last bit, P, is not looked at.
 pub fn reading_laws()
     ensures only { (bits : List Bool) (answer : Option (ℕ × ℕ)) → 63 ≤ length bits → IsNidReading bits answer ↔ (answer ≡ nid_reading_of bits) }
-    ensures word { (bits word : List Bool) → 63 ≤ length bits → IsBch63 word → distance_of (take 63 bits) word ≤ 11 → nid_reading_of bits ≡ Some (identifier_of_word word) }
+    ensures word { (bits word : List Bool) → 63 ≤ length bits → IsBch63 word → distance_of (take 63 bits) word ≤ 11
+        → nid_reading_of bits ≡ Some (identifier_of_word word) }
     ensures near { (bits : List Bool) (nid : ℕ × ℕ) → nid_reading_of bits ≡ Some nid → distance_of (take 63 bits) (take 63 (nid_word nid.0 nid.1)) ≤ 11 }
     ensures sent { (nac duid : ℕ) → nac < 2 ^ 12 → duid < 2 ^ 4 → nid_reading_of (nid_word nac duid) ≡ Some (nac, duid) }
     ensures first { (a b : List Bool) → take 63 a ≡ take 63 b → nid_reading_of a ≡ nid_reading_of b }

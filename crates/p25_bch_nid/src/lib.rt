@@ -2,18 +2,20 @@
 //! code (NAC) and a 4-bit data unit identifier (DUID), protected by the BCH code (63,16) and followed by one bit P.
 //!
 //! The 64 bits of an identifier are a number whose highest bit is sent first. The first 63 of them are a word of the code,
-//! and its first 16 bits are the NAC and the DUID. `nid_bits` makes them, and `read_nid` reads them where at most 11 of the
-//! 63 are wrong:
+//! and its first 16 bits are the NAC and the DUID. `nid_bits` makes them, `read_nid` reads them where at most 11 of the 63
+//! are wrong, and `nid_distance` tells how many were:
 //!
 //! ```text
 //! let nid = Nid::new(0x293, 0x3).ok_or("no identifier")?;
-//! let sent = nid_bits(&nid);
-//! assert_eq!(read_nid(sent ^ 0x7FF0), Some(nid));
+//! let received = nid_bits(&nid) ^ 0x7FF0;
+//! assert_eq!(read_nid(received), Some(nid));
+//! assert_eq!(nid_distance(received, &nid), 11);
 //! ```
 //!
 //! `Bch63` is the code itself, as a `BlockCode` with bits for letters. Contracts see its words as `IsBch63`, the lists of 63
 //! bits that are zero at α^1 to α^22; `two_forms` says that these are the lists that the generator divides. They see what
-//! `read_nid` answers as the function `nid_reading_of` of the 64 bits, of which `IsNidReading` says what it is.
+//! is sent as the list `nid_word`, and what `read_nid` answers as the function `nid_reading_of` of the 64 bits;
+//! `reading_laws` says what that is.
 #![tactic(auto)]
 
 mod bch63;
@@ -28,7 +30,7 @@ pub use bch63::Bch63;
 pub use laws::{reading_laws, two_forms};
 pub use nid::Nid;
 pub use reading::read_nid;
-pub use sent::nid_bits;
+pub use sent::{nid_bits, nid_distance};
 
 #[cfg(test)]
 mod tests;

@@ -1,7 +1,8 @@
 //! Identifiers as the 64 bits that are sent.
 
-ghost use Rattle.std.specs.Prelude.{◌≡◌, ℕ, ◌++◌, Some, take};
+ghost use Rattle.std.specs.Prelude.{◌≡◌, ℕ, ◌≤◌, ◌++◌, Some, take};
 ghost use Rattle.p25_bits.specs.Bits.{bits_of};
+ghost use Rattle.p25_bits.specs.Distance.{distance_of};
 ghost use Rattle.p25_code.specs.Words.{IsEncoding};
 ghost use Rattle.p25_bch_nid.specs.Bch63.{IsBch63};
 ghost use Rattle.p25_bch_nid.specs.Nid.{IsSent, parity_of};
@@ -25,6 +26,16 @@ pub fn nid_bits(nid: &Nid) -> u64
     let message = information << 47;
     let word = message + number_remainder(message, GENERATOR, 47);
     2 * word + parity(nid.duid)
+}
+
+/// Answers in how many of its first 63 bits a received identifier, the first bit highest, differs from what is sent for one.
+/// That is at most 11 where it is read as that one.
+pub fn nid_distance(bits: u64, nid: &Nid) -> u32
+    ensures distance { result ≡ distance_of (take 63 (bits_of 64 bits)) (take 63 (nid_word nid.now.nac nid.now.duid)) }
+    ensures most { result ≤ 63 }
+    ensures read { nid_reading_of (bits_of 64 bits) ≡ Some (nid.now.nac, nid.now.duid) → result ≤ 11 }
+{
+    ((bits ^ nid_bits(nid)) >> 1).count_ones()
 }
 
 // P by the writer's rule.

@@ -110,6 +110,14 @@ fn identifiers_with_wrong_bits(rt: HostRuntime) {
         let nid = Nid::new(nac, duid);
         assert_eq!(rt; read_nid(bits), nid, "{nac:x} {duid:x}");
         assert_eq!(rt; read_nid(bits ^ 1), nid, "{nac:x} {duid:x} with P inverted");
+        assert_eq!(rt;
+            nid.map(|nid| (
+                nid_distance(bits ^ 1, &nid),
+                nid_distance(bits ^ 0xFFF0, &nid)
+            )),
+            Some((0, 12)),
+            "{nac:x} {duid:x}"
+        );
         for start in 1..54_u32 {
             assert_eq!(rt;
                 read_nid(bits ^ (0x7FF << start)),

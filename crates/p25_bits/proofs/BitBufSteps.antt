@@ -85,7 +85,8 @@ get_or-number_bits words i inside =
     ∙ ap (λ b. eqb b 1) (sym (shr_and_one word (63 - r)))
 
 -- so a bit that is held is
-pub slice_get-held : (now : List Bool) (words : List ℕ) (len i : ℕ) → take len (number_bits 64 words) ≡ now → i < length now → i < len → i / 64 < length words → slice_get now i ≡ Some (eqb (bit_and (get_or words (i / 64) 0 / 2 ^ (63 - i % 64)) 1) 1)
+pub slice_get-held : (now : List Bool) (words : List ℕ) (len i : ℕ) → take len (number_bits 64 words) ≡ now → i < length now → i < len → i / 64 < length words
+    → slice_get now i ≡ Some (eqb (bit_and (get_or words (i / 64) 0 / 2 ^ (63 - i % 64)) 1) 1)
 slice_get-held now words len i held inside below there =
     slice_get-is now i inside
     ∙ ap Some (ap (λ bits. get_or bits i false) (sym held) ∙ get_or-take len (number_bits 64 words) i false below ∙ get_or-number_bits words i there)
@@ -189,7 +190,8 @@ number_bits-flipped words i inside =
     ∙ ap₂ flipped (sym whole) (ap (λ n. n + r) long ∙ place)
 
 -- and of the bits that are held
-pub held_flipped : (now : List Bool) (words : List ℕ) (len i : ℕ) → take len (number_bits 64 words) ≡ now → i / 64 < length words → take len (number_bits 64 (set words (i / 64) (bit_xor (get_or words (i / 64) 0) (1 * 2 ^ (63 - i % 64) % 2 ^ 64)))) ≡ flipped now i
+pub held_flipped : (now : List Bool) (words : List ℕ) (len i : ℕ) → take len (number_bits 64 words) ≡ now → i / 64 < length words
+    → take len (number_bits 64 (set words (i / 64) (bit_xor (get_or words (i / 64) 0) (1 * 2 ^ (63 - i % 64) % 2 ^ 64)))) ≡ flipped now i
 held_flipped now words len i held inside =
     let within : 63 - i % 64 < 64 = omega arith in
     ap (λ n. take len (number_bits 64 (set words (i / 64) (bit_xor (get_or words (i / 64) 0) n)))) (one_shl (63 - i % 64) 64 within)
@@ -224,7 +226,8 @@ set-same (x ∷ bits) (suc i) is wanted at same = ap (λ zs. x ∷ zs) (set-same
 -- Longer runs of bits.
 
 -- the bits of 64 places of a slice are appended
-pub extended_more : (start bits : List Bool) (k value count : ℕ) → 64 * k + 64 ≤ length bits → count ≡ 64 → value ≡ field_of (take count (drop (64 * k) bits)) → (start ++ take (64 * k) bits) ++ bits_of 64 value ≡ start ++ take (64 * (k + 1)) bits
+pub extended_more : (start bits : List Bool) (k value count : ℕ) → 64 * k + 64 ≤ length bits → count ≡ 64 → value ≡ field_of (take count (drop (64 * k) bits))
+    → (start ++ take (64 * k) bits) ++ bits_of 64 value ≡ start ++ take (64 * (k + 1)) bits
 extended_more start bits k value count there all is =
     let more : 64 * k + 64 ≡ 64 * (k + 1) = omega arith in
     append_assoc start (take (64 * k) bits) (bits_of 64 value)
@@ -253,7 +256,8 @@ drop_moved now bits moved n len count inside enough front held =
     ∙ ap (drop n) held
 
 -- the bits of whole words and those of the last one, compared
-pub distance_held : (a b bits_a bits_b : List Bool) (len m n : ℕ) → take len bits_a ≡ a → take len bits_b ≡ b → length a ≡ len → length b ≡ len → m ≡ field_of (part (64 * (len / 64)) (len % 64) a) → n ≡ field_of (part (64 * (len / 64)) (len % 64) b) → distance_of (take (64 * (len / 64)) bits_a) (take (64 * (len / 64)) bits_b) + count_ones (bit_xor m n) ≡ distance_of a b
+pub distance_held : (a b bits_a bits_b : List Bool) (len m n : ℕ) → take len bits_a ≡ a → take len bits_b ≡ b → length a ≡ len → length b ≡ len → m ≡ field_of (part (64 * (len / 64)) (len % 64) a)
+    → n ≡ field_of (part (64 * (len / 64)) (len % 64) b) → distance_of (take (64 * (len / 64)) bits_a) (take (64 * (len / 64)) bits_b) + count_ones (bit_xor m n) ≡ distance_of a b
 distance_held a b bits_a bits_b len m n held_a held_b long_a long_b is_m is_n =
     let words = 64 * (len / 64) in
     let within : words ≤ len = omega arith in

@@ -51,7 +51,8 @@ letters true false c h = omega (arith, cond-le c)
 letters false b c h = omega (arith, cond-le c)
 
 -- the triangle: the way round by a third list is no shorter
-pub distance_by-triangle : {X : Type 0} (same : X → X → Bool) → ((x y z : X) → same x y ≡ true → same y z ≡ true → same x z ≡ true) → (xs ys zs : List X) → length xs ≡ length ys → distance_by same xs zs ≤ distance_by same xs ys + distance_by same ys zs
+pub distance_by-triangle : {X : Type 0} (same : X → X → Bool) → ((x y z : X) → same x y ≡ true → same y z ≡ true → same x z ≡ true) → (xs ys zs : List X) → length xs ≡ length ys
+    → distance_by same xs zs ≤ distance_by same xs ys + distance_by same ys zs
 unfolding distance_by
 distance_by-triangle same through [] ys zs long = omega arith
 distance_by-triangle same through (x ∷ xs) [] zs long = absurd (omega arith)
@@ -71,7 +72,8 @@ distance_by-append same (x ∷ xs) ys [] vs long = absurd (omega arith)
 distance_by-append same (x ∷ xs) ys (u ∷ us) vs long = omega (arith, distance_by-append same xs ys us vs (omega arith))
 
 -- one more place of both lists
-distance_by-drop_suc : {X : Type 0} (same : X → X → Bool) (xs ys : List X) (i : ℕ) (d : X) → i < length xs → i < length ys → distance_by same (drop i xs) (drop i ys) ≡ cond (same (get_or xs i d) (get_or ys i d)) 0 1 + distance_by same (drop (suc i) xs) (drop (suc i) ys)
+distance_by-drop_suc : {X : Type 0} (same : X → X → Bool) (xs ys : List X) (i : ℕ) (d : X) → i < length xs → i < length ys
+    → distance_by same (drop i xs) (drop i ys) ≡ cond (same (get_or xs i d) (get_or ys i d)) 0 1 + distance_by same (drop (suc i) xs) (drop (suc i) ys)
 unfolding distance_by
 distance_by-drop_suc same [] ys i d h k = absurd (omega arith)
 distance_by-drop_suc same (x ∷ xs) [] i d h k = absurd (omega arith)
@@ -79,7 +81,8 @@ distance_by-drop_suc same (x ∷ xs) (y ∷ ys) zero d h k = refl
 distance_by-drop_suc same (x ∷ xs) (y ∷ ys) (suc i) d h k = distance_by-drop_suc same xs ys i d (omega arith) (omega arith)
 
 -- the same as a loop over the places steps
-pub distance_by-drop : {X : Type 0} (same : X → X → Bool) (xs ys : List X) (i : ℕ) (d : X) → i < length xs → i < length ys → distance_by same (drop i xs) (drop i ys) ≡ cond (same (get_or xs i d) (get_or ys i d)) 0 1 + distance_by same (drop (i + 1) xs) (drop (i + 1) ys)
+pub distance_by-drop : {X : Type 0} (same : X → X → Bool) (xs ys : List X) (i : ℕ) (d : X) → i < length xs → i < length ys
+    → distance_by same (drop i xs) (drop i ys) ≡ cond (same (get_or xs i d) (get_or ys i d)) 0 1 + distance_by same (drop (i + 1) xs) (drop (i + 1) ys)
 distance_by-drop same xs ys i d h k = rw add-one (distance_by-drop_suc same xs ys i d h k)
 
 -- no places, no distance

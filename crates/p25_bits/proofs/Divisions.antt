@@ -175,7 +175,8 @@ remainder_lower generator degree r digit g small lower high =
     xor_same_top degree (2 * r + digit) generator high low g.highest (subst (λ (n : ℕ). generator < 2 ^ n) e g.none_above)
 
 -- one more coefficient where the register reaches the generator's degree
-pub remainder_reduced : (generator degree number r digit : ℕ) → HasDegree generator degree → digit < 2 → IsRemainder generator degree number r → 2 ^ degree ≤ 2 * r + digit → IsRemainder generator degree (2 * number + digit) (bit_xor (2 * r + digit) generator)
+pub remainder_reduced : (generator degree number r digit : ℕ) → HasDegree generator degree → digit < 2 → IsRemainder generator degree number r → 2 ^ degree ≤ 2 * r + digit
+    → IsRemainder generator degree (2 * number + digit) (bit_xor (2 * r + digit) generator)
 remainder_reduced generator degree number r digit g small is high =
     let doubled = subst (IsDivisible generator) (sym (next_sum number r digit small)) (IsDivisible-doubled generator (bit_xor number r) is.divisible) in
     record {

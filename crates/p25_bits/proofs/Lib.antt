@@ -1,7 +1,7 @@
-pub mod Lists
 pub mod PartLaws
 pub mod BitsLaws
 pub mod NumbersLaws
+pub mod OctetNumbersLaws
 pub mod NumbersSteps
 pub mod DistanceLaws
 pub mod Divisions

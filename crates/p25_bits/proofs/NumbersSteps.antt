@@ -8,7 +8,8 @@ use Rattle.p25_bits.proofs.PartLaws.{part-drop}
 use Rattle.p25_bits.proofs.NumbersLaws.{numbers_from-more}
 
 -- one more bit is there, and one less is left
-pub put_more : (number width : ℕ) (bits : List Bool) (i : ℕ) → i < length bits → i < width → take i bits ++ bits_of (width - i) number ≡ bits_of width number → take (i + 1) (set bits i (eqb (bit_and (number / 2 ^ (width - 1 - i)) 1) 1)) ++ bits_of (width - (i + 1)) number ≡ bits_of width number
+pub put_more : (number width : ℕ) (bits : List Bool) (i : ℕ) → i < length bits → i < width → take i bits ++ bits_of (width - i) number ≡ bits_of width number
+    → take (i + 1) (set bits i (eqb (bit_and (number / 2 ^ (width - 1 - i)) 1) 1)) ++ bits_of (width - (i + 1)) number ≡ bits_of width number
 put_more number width bits i here inside so_far =
     let bit = eqb (bit_and (number / 2 ^ (width - 1 - i)) 1) 1 in
     let left = bits_of (width - (i + 1)) number in
@@ -26,7 +27,8 @@ put_all number width bits i done none so_far =
     ∙ so_far
 
 -- one more number is read
-pub take_more_read : (bits : List Bool) (at width : ℕ) (numbers : List ℕ) (i value : ℕ) → i < length numbers → value ≡ field_of (part (at + width * i) width bits) → take i numbers ≡ numbers_from width i (drop at bits) → take (i + 1) (set numbers i value) ≡ numbers_from width (i + 1) (drop at bits)
+pub take_more_read : (bits : List Bool) (at width : ℕ) (numbers : List ℕ) (i value : ℕ) → i < length numbers → value ≡ field_of (part (at + width * i) width bits)
+    → take i numbers ≡ numbers_from width i (drop at bits) → take (i + 1) (set numbers i value) ≡ numbers_from width (i + 1) (drop at bits)
 take_more_read bits at width numbers i value inside read so_far =
     take_more_set numbers i value inside
     ∙ ap₂ (λ (xs : List ℕ) x. xs ++ x ∷ []) so_far (read ∙ ap field_of (sym (part-drop (width * i) width at bits)))

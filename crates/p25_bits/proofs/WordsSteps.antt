@@ -1,9 +1,10 @@
 -- What the calls on words need: the shifts of one word as parts of its bits, by the laws of `bits_of` at the sum that each shift is, and a list
 -- of words by its words before, at and behind a place.
-use Rattle.std.proofs.Common.{◌≡◌, ℕ, ◌+◌, ◌-◌, ◌*◌, ◌/◌, ◌%◌, ◌^◌, ◌<◌, ◌≤◌, Bool, List, ◌++◌, length, take, drop, get_or, set, ap, ap₂, sym, subst, ◌∙◌, arith, bit_or, bit_xor, append_assoc, length-append, length-drop, pow-add}
+use Rattle.std.proofs.Common.{◌≡◌, ℕ, ◌+◌, ◌-◌, ◌*◌, ◌/◌, ◌%◌, ◌^◌, ◌<◌, ◌≤◌, Bool, List, ◌++◌, length, take, drop, get_or, set, ap, ap₂, sym, subst, ◌∙◌, arith, bit_and, bit_or, bit_xor, append_assoc, length-append, length-drop, pow-add}
 use Rattle.std.proofs.Math.Nat.{mul_assoc, add-mul}
 use Rattle.std.proofs.Math.Seq.{take-add, take-append-add}
-use Rattle.std.proofs.lemmas.Nat.{or_shifted, shl_below, shr_below, shl_whole, shr-shr, shr_split, shl-shr, mod_low, mul-mod_first, mod_below, pow_pos}
+use Rattle.std.proofs.lemmas.Nat.{or_shifted, shl_below, shr_below, shr-shr, shr_split, shl-shr, mod_low, mul-mod_first, mod_below, pow_pos}
+use Rattle.std.proofs.lemmas.Nat.Bits.{ones_shl, and_high_mask}
 use Rattle.std.proofs.lemmas.List.{drop-append-le, take-append-le, take_all, take-set, drop-set-lt, get_or-set_same, length-set, take-append-drop, length-take-le}
 use Rattle.std.proofs.lemmas.Grind.{drop_more_same}
 use Rattle.std.specs.Int.RustNames.{count_ones}
@@ -56,30 +57,23 @@ across_is high low at inside small =
     ∙ ap (take 64) (sym (drop-append-le at (bits_of 64 high) (bits_of 64 low) begins))
 
 -- the first bits of a word and then those of another
-pub beginning_is : (word at next : ℕ) → at < 64 → word < 2 ^ 64 → next < 2 ^ 64 → bits_of 64 (bit_or (word / 2 / 2 ^ (63 - at) * 2 ^ (63 - at) % 2 ^ 64 * 2 % 2 ^ 64) (next / 2 ^ at)) ≡ take at (bits_of 64 word) ++ take (64 - at) (bits_of 64 next)
+pub beginning_is : (word at next : ℕ) → at < 64 → word < 2 ^ 64 → next < 2 ^ 64
+    → bits_of 64 (bit_or (bit_and word ((2 ^ 64 - 1) * 2 % 2 ^ 64 * 2 ^ (63 - at) % 2 ^ 64)) (next / 2 ^ at)) ≡ take at (bits_of 64 word) ++ take (64 - at) (bits_of 64 next)
 beginning_is word at next inside small small_next =
     let left : 64 - at + at ≡ 64 = omega arith in
     let right : at + (64 - at) ≡ 64 = omega arith in
     let within : at ≤ 64 = omega arith in
     let rest : 64 - at ≤ 64 = omega arith in
     let back : 64 - (64 - at) ≡ at = omega arith in
+    let next_power : 1 + (63 - at) ≡ 64 - at = omega arith in
     let high = word / 2 ^ (64 - at) in
-    let few : word < 2 ^ (at + (64 - at)) = subst (λ n. word < 2 ^ n) (sym right) small in
     let few_next : next < 2 ^ (64 - at + at) = subst (λ n. next < 2 ^ n) (sym left) small_next in
-    let low : high < 2 ^ at = shr_below word at (64 - at) few in
     let below : next / 2 ^ at < 2 ^ (64 - at) = shr_below next (64 - at) at few_next in
-    let once : at + (63 - at) ≤ 64 = omega arith in
-    let sixty_three : at + (63 - at) ≡ 63 = omega arith in
-    let lower : high * 2 ^ (63 - at) < 2 ^ 63 = subst (λ n. high * 2 ^ (63 - at) < 2 ^ n) sixty_three (shl_below high at (63 - at) low) in
-    let twice : 63 + 1 ≤ 64 = omega arith in
-    let next_power : 63 - at + 1 ≡ 64 - at = omega arith in
-    let shifted : word / 2 / 2 ^ (63 - at) * 2 ^ (63 - at) % 2 ^ 64 * 2 % 2 ^ 64 ≡ high * 2 ^ (64 - at)
-    = ap (λ n. n * 2 ^ (63 - at) % 2 ^ 64 * 2 % 2 ^ 64) (shr_two word at inside)
-    ∙ ap (λ n. n * 2 % 2 ^ 64) (shl_whole high at (63 - at) 64 low once)
-    ∙ shl_whole (high * 2 ^ (63 - at)) 63 1 64 lower twice
-    ∙ mul_assoc high (2 ^ (63 - at)) 2
-    ∙ ap (λ n. high * n) (sym (pow-add 2 (63 - at) 1) ∙ ap (λ n. 2 ^ n) next_power) in
-    ap (bits_of 64) (ap (λ n. bit_or n (next / 2 ^ at)) shifted ∙ or_shifted high (64 - at) (next / 2 ^ at) below)
+    let mask : (2 ^ 64 - 1) * 2 % 2 ^ 64 * 2 ^ (63 - at) % 2 ^ 64 ≡ 2 ^ 64 - 2 ^ (64 - at)
+    = mul-mod_first ((2 ^ 64 - 1) * 2) (2 ^ (63 - at)) (2 ^ 64)
+    ∙ ap (λ n. n % 2 ^ 64) (mul_assoc (2 ^ 64 - 1) 2 (2 ^ (63 - at)) ∙ ap (λ n. (2 ^ 64 - 1) * n) (sym (pow-add 2 1 (63 - at)) ∙ ap (λ n. 2 ^ n) next_power))
+    ∙ ones_shl 64 (64 - at) rest in
+    ap (bits_of 64) (ap (λ n. bit_or n (next / 2 ^ at)) (ap (bit_and word) mask ∙ and_high_mask 64 (64 - at) rest word small) ∙ or_shifted high (64 - at) (next / 2 ^ at) below)
     ∙ ap (λ n. bits_of n (high * 2 ^ (64 - at) + next / 2 ^ at)) (sym right)
     ∙ bits_of-joined at (64 - at) high (next / 2 ^ at) below
     ∙ ap₂ ◌++◌ (sym (take-bits_of at 64 word within)) (ap (λ n. bits_of (64 - at) (next / 2 ^ n)) (sym back) ∙ sym (take-bits_of (64 - at) 64 next rest))
@@ -140,7 +134,9 @@ take_within words q m here few =
     (ap (take m) (drop-number_bits 64 q words there ∙ number_bits-drop_more 64 q words here) ∙ take-append-le m first (number_bits 64 (drop (q + 1) words)) within)
 
 -- a word that keeps the first bits, and has others behind them, appends these
-pub take_written : (words : List ℕ) (len more new : ℕ) (extra : List Bool) → len / 64 < length words → len % 64 + more ≤ 64 → take (len % 64 + more) (bits_of 64 new) ≡ take (len % 64) (bits_of 64 (get_or words (len / 64) 0)) ++ extra → take (len + more) (number_bits 64 (set words (len / 64) new)) ≡ take len (number_bits 64 words) ++ extra
+pub take_written : (words : List ℕ) (len more new : ℕ) (extra : List Bool) → len / 64 < length words → len % 64 + more ≤ 64
+    → take (len % 64 + more) (bits_of 64 new) ≡ take (len % 64) (bits_of 64 (get_or words (len / 64) 0)) ++ extra
+    → take (len + more) (number_bits 64 (set words (len / 64) new)) ≡ take len (number_bits 64 words) ++ extra
 take_written words len more new extra here few written =
     let q = len / 64 in
     let r = len % 64 in
@@ -155,7 +151,9 @@ take_written words len more new extra here few written =
     ∙ ap (λ bits. bits ++ extra) (sym (take_within words q r here low) ∙ ap (λ n. take n (number_bits 64 words)) (place_of len))
 
 -- a word over two words appends its 64 bits
-pub take_put : (words : List ℕ) (at first second : ℕ) (word : List Bool) → at / 64 + 1 < length words → length word ≡ 64 → bits_of 64 first ≡ take (at % 64) (bits_of 64 (get_or words (at / 64) 0)) ++ take (64 - at % 64) word → take (at % 64) (bits_of 64 second) ≡ drop (64 - at % 64) word → take (at + 64) (number_bits 64 (set (set words (at / 64) first) (at / 64 + 1) second)) ≡ take at (number_bits 64 words) ++ word
+pub take_put : (words : List ℕ) (at first second : ℕ) (word : List Bool) → at / 64 + 1 < length words → length word ≡ 64
+    → bits_of 64 first ≡ take (at % 64) (bits_of 64 (get_or words (at / 64) 0)) ++ take (64 - at % 64) word → take (at % 64) (bits_of 64 second) ≡ drop (64 - at % 64) word
+    → take (at + 64) (number_bits 64 (set (set words (at / 64) first) (at / 64 + 1) second)) ≡ take at (number_bits 64 words) ++ word
 take_put words at first second word inside long begun ended =
     let q = at / 64 in
     let r = at % 64 in
@@ -181,7 +179,8 @@ take_put words at first second word inside long begun ended =
     ∙ ap (λ bits. take at (number_bits 64 words) ++ bits) (take-append-drop (64 - r) word)
 
 -- one more word of bits is appended
-pub append_more : (now later other front window : List Bool) (at from k : ℕ) → take (at + 64 * k + 64) later ≡ take (at + 64 * k) now ++ window → window ≡ part (from + 64 * k) 64 other → take (at + 64 * k) now ≡ front ++ part from (64 * k) other → take (at + 64 * (k + 1)) later ≡ front ++ part from (64 * (k + 1)) other
+pub append_more : (now later other front window : List Bool) (at from k : ℕ) → take (at + 64 * k + 64) later ≡ take (at + 64 * k) now ++ window → window ≡ part (from + 64 * k) 64 other
+    → take (at + 64 * k) now ≡ front ++ part from (64 * k) other → take (at + 64 * (k + 1)) later ≡ front ++ part from (64 * (k + 1)) other
 append_more now later other front window at from k written read so_far =
     let more : at + 64 * (k + 1) ≡ at + 64 * k + 64 = omega arith in
     let count : 64 * k + 64 ≡ 64 * (k + 1) = omega arith in
@@ -192,7 +191,9 @@ append_more now later other front window at from k written read so_far =
     ∙ ap (λ bits. front ++ bits) (part_add from (64 * k) 64 other ∙ ap (λ n. part from n other) count)
 
 -- one more word of bits is moved to the front
-pub moved_more : (words old : List ℕ) (by k word : ℕ) → k < length words → length words ≡ length old → bits_of 64 word ≡ part (by + 64 * k) 64 (number_bits 64 words) → take (64 * k) (number_bits 64 words) ≡ part by (64 * k) (number_bits 64 old) → drop k words ≡ drop k old → (take (64 * (k + 1)) (number_bits 64 (set words k word)) ≡ part by (64 * (k + 1)) (number_bits 64 old)) × (drop (k + 1) (set words k word) ≡ drop (k + 1) old)
+pub moved_more : (words old : List ℕ) (by k word : ℕ) → k < length words → length words ≡ length old → bits_of 64 word ≡ part (by + 64 * k) 64 (number_bits 64 words)
+    → take (64 * k) (number_bits 64 words) ≡ part by (64 * k) (number_bits 64 old) → drop k words ≡ drop k old
+    → (take (64 * (k + 1)) (number_bits 64 (set words k word)) ≡ part by (64 * (k + 1)) (number_bits 64 old)) × (drop (k + 1) (set words k word) ≡ drop (k + 1) old)
 moved_more words old by k word here same read front behind =
     let there : k < length (set words k word) = omega (arith, length-set words k word) in
     let fits : k ≤ length words = omega arith in
@@ -219,7 +220,8 @@ moved_more words old by k word here same read front behind =
     )
 
 -- one more word of each of two lists is compared
-pub distance_more : (a b : List ℕ) (k : ℕ) → k < length a → k < length b → get_or a k 0 < 2 ^ 64 → get_or b k 0 < 2 ^ 64 → distance_of (take (64 * (k + 1)) (number_bits 64 a)) (take (64 * (k + 1)) (number_bits 64 b)) ≡ distance_of (take (64 * k) (number_bits 64 a)) (take (64 * k) (number_bits 64 b)) + count_ones (bit_xor (get_or a k 0) (get_or b k 0))
+pub distance_more : (a b : List ℕ) (k : ℕ) → k < length a → k < length b → get_or a k 0 < 2 ^ 64 → get_or b k 0 < 2 ^ 64
+    → distance_of (take (64 * (k + 1)) (number_bits 64 a)) (take (64 * (k + 1)) (number_bits 64 b)) ≡ distance_of (take (64 * k) (number_bits 64 a)) (take (64 * k) (number_bits 64 b)) + count_ones (bit_xor (get_or a k 0) (get_or b k 0))
 distance_more a b k here there small_a small_b =
     let few : 64 ≤ 64 = omega arith in
     let more : 64 * (k + 1) ≡ 64 * k + 64 = omega arith in

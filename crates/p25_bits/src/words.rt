@@ -37,7 +37,7 @@ pub(crate) fn beginning(word: u64, at: u32, next: u64) -> u64
     requires { at < 64 }
     ensures { bits_of 64 result ≡ take at (bits_of 64 word) ++ take (64 - at) (bits_of 64 next) }
 {
-    ((((word >> 1) >> (63 - at)) << (63 - at)) << 1) | (next >> at)
+    (word & ((u64::MAX << 1) << (63 - at))) | (next >> at)
 }
 
 // Answers a word that begins with the last `count` bits of another.

@@ -1,7 +1,6 @@
 -- The words that a check matrix lets pass, where its last columns are check columns: they are the systematic words, and a
 -- computed test of all information gives their least distance.
-use Rattle.std.proofs.Common.{◌≡◌, ◌≢◌, ◌⊎◌, ℕ, ◌+◌, ◌*◌, ◌^◌, ◌<◌, ◌≤◌, inl, inr, Bool, true, false, cond, ◌||◌, eqb, ltb, leb, List, [], ◌∷◌, ◌++◌, length, take, drop, bit_xor, ap, ap₂, sym, ◌∙◌, subst, arith, length-append, take-append-drop, length-drop}
-use Rattle.std.specs.List.{list_all}
+use Rattle.std.proofs.Common.{◌≡◌, ◌≢◌, ◌⊎◌, ℕ, ◌+◌, ◌-◌, ◌*◌, ◌^◌, ◌<◌, ◌≤◌, inl, inr, Bool, true, false, cond, ◌||◌, eqb, ltb, leb, List, [], ◌∷◌, ◌++◌, length, take, drop, bit_xor, ap, ap₂, sym, ◌∙◌, subst, arith, length-append, take-append-drop, length-drop}
 use Rattle.std.specs.Bool.{beq}
 use Rattle.std.specs.Cmp.{bool_eq_equiv}
 use Rattle.std.specs.Int.Bits.{xor_self}
@@ -19,7 +18,7 @@ use Rattle.p25_code.specs.declared.code.Reading.{Reading}
 use Rattle.p25_code.specs.Words.{IsEncoding, IsReading}
 use Rattle.p25_code.specs.Readings.{Tested}
 use Rattle.p25_code.specs.Letters.{same_bit}
-use Rattle.p25_code.specs.Binary.{syndrome_of, IsChecked, check_columns, systematic, weight_of}
+use Rattle.p25_code.specs.Binary.{syndrome_of, IsChecked, check_columns, rows_fit, systematic, weight_of}
 use Rattle.p25_code.proofs.WeightLaws.{all_bits, all_bits-each, sum_of_words, length-sum_of_words, weight_of-append, weight_of-bits_of, weight_of-sum_of_words, syndrome_of-zeros, syndrome_of-sum_of_words}
 use Rattle.p25_code.proofs.ReadingLaws.{IsBlockCode, reading_of_same_set}
 use Rattle.p25_code.proofs.SyndromeLaws.{syndrome_of-append, syndrome_of-check_columns, length-check_columns, change_of-is}
@@ -35,11 +34,7 @@ IsChecked-tested columns word =
       | inr other ↦ inr (λ is. other is.long)
     ]
 
--- each row has a bit for each check
-abbrev pub rows_fit : ℕ → List ℕ → Bool
-rows_fit checks rows = list_all (λ row. ltb row (2 ^ checks)) rows
-
--- so has each sum of rows
+-- each sum of rows has a bit for each check and no other
 pub syndrome_of-lt : (checks : ℕ) (rows : List ℕ) (info : List Bool) → rows_fit checks rows ≡ true → syndrome_of rows info < 2 ^ checks
 unfolding syndrome_of
 syndrome_of-lt checks [] info fit = pow_pos checks
@@ -165,7 +160,8 @@ module _ {rows : List ℕ} {checks apart : ℕ} (code : IsSystematic rows checks
       ]
 
   -- what the encoder writes is the encoding in a set whose words are those that pass
-  pub encodes : (IsWord : List Bool → Type 0) → ((w : List Bool) → IsChecked (rows ++ check_columns checks) w → IsWord w) → (front : List ℕ) (places : ℕ) (info word : List Bool) → front ≡ rows → places ≡ checks → length info ≡ length rows → word ≡ systematic front places info → IsEncoding IsWord (length rows) info word
+  pub encodes : (IsWord : List Bool → Type 0) → ((w : List Bool) → IsChecked (rows ++ check_columns checks) w → IsWord w) → (front : List ℕ) (places : ℕ) (info word : List Bool) → front ≡ rows → places ≡ checks → length info ≡ length rows
+      → word ≡ systematic front places info → IsEncoding IsWord (length rows) info word
   encodes IsWord from front places info word e f long is =
       let whole : word ≡ systematic rows checks info = is ∙ ap₂ (λ r n. systematic r n info) e f in
       let encoding = systematic_encodes info long in
@@ -175,10 +171,12 @@ module _ {rows : List ℕ} {checks apart : ℕ} (code : IsSystematic rows checks
       }
 
   -- what the reader leaves and answers is the reading in that set
-  pub reads : (IsWord : List Bool → Type 0) → ((w : List Bool) → IsWord w → IsChecked (rows ++ check_columns checks) w) → ((w : List Bool) → IsChecked (rows ++ check_columns checks) w → IsWord w) → (columns : List ℕ) (radius : ℕ) (received word : List Bool) (reading : Reading) → columns ≡ rows ++ check_columns checks → IsReading beq (IsChecked columns) radius received word reading → IsReading beq IsWord radius received word reading
-  reads IsWord to from columns radius received word reading e is =
+  pub reads : (IsWord : List Bool → Type 0) → ((w : List Bool) → IsWord w → IsChecked (rows ++ check_columns checks) w) → ((w : List Bool) → IsChecked (rows ++ check_columns checks) w → IsWord w)
+      → (front : List ℕ) (places radius : ℕ) (received word : List Bool) (reading : Reading) → front ≡ rows → places ≡ checks → IsReading beq (IsChecked (front ++ check_columns places)) radius received word reading
+      → IsReading beq IsWord radius received word reading
+  reads IsWord to from front places radius received word reading e f is =
       reading_of_same_set beq (IsChecked (rows ++ check_columns checks)) IsWord radius received word reading from to
-      (subst (λ cs. IsReading beq (IsChecked cs) radius received word reading) e is)
+      (subst (λ cs. IsReading beq (IsChecked cs) radius received word reading) (ap₂ (λ r n. r ++ check_columns n) e f) is)
 
   -- the laws of the code, in a set whose words are those that pass
   pub is_code : (IsWord : List Bool → Type 0) → ((w : List Bool) → IsWord w → IsChecked (rows ++ check_columns checks) w) → (n radius : ℕ) → length rows + checks ≡ n → 2 * radius < apart → IsBlockCode beq IsWord n (length rows) radius apart
@@ -191,3 +189,13 @@ module _ {rows : List ℕ} {checks apart : ℕ} (code : IsSystematic rows checks
     close = close;
     begins = omega arith;
   }
+
+-- the syndrome of a word from its information and its check bits
+pub syndrome_of-word : (rows : List ℕ) (checks : ℕ) (word : List Bool) → length rows ≤ length word → length word - length rows ≡ checks
+    → syndrome_of (rows ++ check_columns checks) word ≡ bit_xor (syndrome_of rows (take (length rows) word)) (field_of (drop (length rows) word))
+syndrome_of-word rows checks word inside places =
+    let k = length rows in
+    let back : length (drop k word) ≡ checks = omega (arith, length-drop k word) in
+    ap (syndrome_of (rows ++ check_columns checks)) (sym (take-append-drop k word))
+    ∙ syndrome_of-append rows (check_columns checks) (take k word) (drop k word) (length-take-le k word inside)
+    ∙ ap (bit_xor (syndrome_of rows (take k word))) (syndrome_of-check_columns checks (drop k word) back)

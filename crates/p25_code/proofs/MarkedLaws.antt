@@ -92,7 +92,8 @@ module _ {L : Type 0} {same : L → L → Bool} {IsWord : List L → Type 0} {n 
     marked_read_as_sent list sent answer long is sent_is near = one_marked_reading list answer (Some sent) long is (record { word_of_set = sent_is; within = near })
 
     -- what a reader leaves is the word within the cost, wherever there is one
-    pub marked_reading_sent : (list : List (Option L)) (received word sent : List L) (reading : Reading) → length list ≡ n → IsMarkedReading same IsWord most list received word reading → IsWord sent → marked_cost same list sent ≤ most → word ≡ sent
+    pub marked_reading_sent : (list : List (Option L)) (received word sent : List L) (reading : Reading) → length list ≡ n → IsMarkedReading same IsWord most list received word reading → IsWord sent → marked_cost same list sent ≤ most
+        → word ≡ sent
     unfolding IsMarkedReading
     marked_reading_sent list received word sent (Found fixes) long is sent_is near =
         one_within_cost list word sent long (record { word_of_set = is.word_of_set; within = is.within }) (record { word_of_set = sent_is; within = near })
@@ -108,7 +109,8 @@ module _ {L : Type 0} {same : L → L → Bool} {IsWord : List L → Type 0} {n 
       as_read None is = record { farther = λ word w. omega (arith, is.dearer word w, marked_cost-letters same received word) }
 
 -- where the cost is twice the radius, what a reader of a list without a mark answers and leaves is the reading of the letters
-pub plain_reading : {L : Type 0} (same : L → L → Bool) (IsWord : List L → Type 0) (most radius : ℕ) → most ≡ 2 * radius → (received word : List L) (erased : List Bool) (reading : Reading) → All (λ gone. gone ≡ false) erased → IsMarkedReading same IsWord most (marked received erased) received word reading → IsReading same IsWord radius received word reading
+pub plain_reading : {L : Type 0} (same : L → L → Bool) (IsWord : List L → Type 0) (most radius : ℕ) → most ≡ 2 * radius → (received word : List L) (erased : List Bool) (reading : Reading) → All (λ gone. gone ≡ false) erased
+    → IsMarkedReading same IsWord most (marked received erased) received word reading → IsReading same IsWord radius received word reading
 unfolding IsReading IsMarkedReading
 plain_reading {L} same IsWord most radius twice received word erased reading none is = as_read reading is
   where
@@ -127,7 +129,8 @@ plain_reading {L} same IsWord most radius twice received word erased reading non
     }
 
 -- what a reader answers and leaves is the reading
-pub marked_word_read_as : {L : Type 0} (same : L → L → Bool) (IsWord : List L → Type 0) (most : ℕ) (list : List (Option L)) (received word : List L) (reading : Reading) → IsMarkedReading same IsWord most list received word reading → IsMarkedReadAs same IsWord most list (word_read reading word)
+pub marked_word_read_as : {L : Type 0} (same : L → L → Bool) (IsWord : List L → Type 0) (most : ℕ) (list : List (Option L)) (received word : List L) (reading : Reading) → IsMarkedReading same IsWord most list received word reading
+    → IsMarkedReadAs same IsWord most list (word_read reading word)
 unfolding IsMarkedReading IsMarkedReadAs word_read
 marked_word_read_as same IsWord most list received word (Found fixes) is = record { word_of_set = is.word_of_set; within = is.within }
 marked_word_read_as same IsWord most list received word Beyond is = is.none_within

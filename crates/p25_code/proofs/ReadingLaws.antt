@@ -57,7 +57,8 @@ module _ {L : Type 0} {same : L → L → Bool} {IsWord : List L → Type 0} {n 
   reading_sent received word sent Beyond long is sent_is near = absurd (omega (arith, is.none_within.farther sent sent_is))
 
   -- and answers Found with the distance
-  pub reading_fixes : (received word sent : List L) (reading : Reading) → length received ≡ n → IsReading same IsWord radius received word reading → IsWord sent → distance_by same received sent ≤ radius → reading ≡ Found (distance_by same received sent)
+  pub reading_fixes : (received word sent : List L) (reading : Reading) → length received ≡ n → IsReading same IsWord radius received word reading → IsWord sent → distance_by same received sent ≤ radius
+      → reading ≡ Found (distance_by same received sent)
   unfolding IsReading
   reading_fixes received word sent (Found fixes) long is sent_is near =
       ap Found (is.fixes_is ∙ ap (λ w. distance_by same received w) (found_sent received word sent fixes long is sent_is near))
@@ -108,7 +109,8 @@ module _ {L : Type 0} {same : L → L → Bool} {IsWord : List L → Type 0} {n 
   information_sent received info sent found encoding near is = is.of_word sent encoding.word_of_set near ∙ encoding.begins
 
 -- a reading depends on the set alone, not on how it is written
-pub reading_of_same_set : {L : Type 0} (same : L → L → Bool) (A B : List L → Type 0) (radius : ℕ) (received word : List L) (reading : Reading) → ((w : List L) → A w → B w) → ((w : List L) → B w → A w) → IsReading same A radius received word reading → IsReading same B radius received word reading
+pub reading_of_same_set : {L : Type 0} (same : L → L → Bool) (A B : List L → Type 0) (radius : ℕ) (received word : List L) (reading : Reading) → ((w : List L) → A w → B w) → ((w : List L) → B w → A w)
+    → IsReading same A radius received word reading → IsReading same B radius received word reading
 unfolding IsReading
 reading_of_same_set same A B radius received word (Found fixes) to from is = record { word_of_set = to word is.word_of_set; fixes_is = is.fixes_is; within = is.within }
 reading_of_same_set same A B radius received word Beyond to from is =

@@ -43,7 +43,11 @@ next generator degree number r has is =
       | inr high ↦
           let high_r : 2 ^ degree ≤ 2 * r + 0 = omega arith in
           subst (λ n. IsRemainder generator degree n (cond (ltb (2 * r) (2 ^ degree)) (2 * r) (bit_xor (2 * r) generator))) same
-          (subst (IsRemainder generator degree (2 * number + 0)) (cond_above (2 * r) (2 ^ degree) (2 * r) (bit_xor (2 * r) generator) (bit_xor (2 * r + 0) generator) high (ap (λ n. bit_xor n generator) same_r)) (remainder_reduced generator degree number r 0 has none is high_r))
+          (
+          subst (IsRemainder generator degree (2 * number + 0))
+          (cond_above (2 * r) (2 ^ degree) (2 * r) (bit_xor (2 * r) generator) (bit_xor (2 * r + 0) generator) high (ap (λ n. bit_xor n generator) same_r))
+          (remainder_reduced generator degree number r 0 has none is high_r)
+          )
     ]
 
 module _ {generator degree : ℕ} (has : HasDegree generator degree) (some : 1 < 2 ^ degree) where

@@ -21,12 +21,14 @@ unfolding syndrome_of
 syndrome_of-nil word = refl
 
 -- one more place, as a loop steps
-pub syndrome_of-drop : (columns : List ℕ) (word : List Bool) (i : ℕ) → i < length columns → i < length word → syndrome_of (drop i columns) (drop i word) ≡ bit_xor (cond (get_or word i false) (get_or columns i 0) 0) (syndrome_of (drop (i + 1) columns) (drop (i + 1) word))
+pub syndrome_of-drop : (columns : List ℕ) (word : List Bool) (i : ℕ) → i < length columns → i < length word
+    → syndrome_of (drop i columns) (drop i word) ≡ bit_xor (cond (get_or word i false) (get_or columns i 0) 0) (syndrome_of (drop (i + 1) columns) (drop (i + 1) word))
 unfolding syndrome_of
 syndrome_of-drop columns word i h k = ap₂ syndrome_of (drop_more columns i 0 h) (drop_more word i false k)
 
 -- a column more in the sum, where the bit is 1
-pub column_more : (columns : List ℕ) (word : List Bool) (i sum more : ℕ) → i < length columns → i < length word → get_or word i false ≡ true → more ≡ bit_xor sum (get_or columns i 0) → bit_xor sum (syndrome_of (drop i columns) (drop i word)) ≡ syndrome_of columns word → bit_xor more (syndrome_of (drop (i + 1) columns) (drop (i + 1) word)) ≡ syndrome_of columns word
+pub column_more : (columns : List ℕ) (word : List Bool) (i sum more : ℕ) → i < length columns → i < length word → get_or word i false ≡ true → more ≡ bit_xor sum (get_or columns i 0)
+    → bit_xor sum (syndrome_of (drop i columns) (drop i word)) ≡ syndrome_of columns word → bit_xor more (syndrome_of (drop (i + 1) columns) (drop (i + 1) word)) ≡ syndrome_of columns word
 column_more columns word i sum more h k one e so_far =
     let left = syndrome_of (drop (i + 1) columns) (drop (i + 1) word) in
     let column = get_or columns i 0 in
@@ -37,7 +39,8 @@ column_more columns word i sum more h k one e so_far =
     ∙ so_far
 
 -- nothing more in the sum, where the bit is 0
-pub column_passed : (columns : List ℕ) (word : List Bool) (i sum more : ℕ) → i < length columns → i < length word → get_or word i false ≡ false → more ≡ sum → bit_xor sum (syndrome_of (drop i columns) (drop i word)) ≡ syndrome_of columns word → bit_xor more (syndrome_of (drop (i + 1) columns) (drop (i + 1) word)) ≡ syndrome_of columns word
+pub column_passed : (columns : List ℕ) (word : List Bool) (i sum more : ℕ) → i < length columns → i < length word → get_or word i false ≡ false → more ≡ sum
+    → bit_xor sum (syndrome_of (drop i columns) (drop i word)) ≡ syndrome_of columns word → bit_xor more (syndrome_of (drop (i + 1) columns) (drop (i + 1) word)) ≡ syndrome_of columns word
 column_passed columns word i sum more h k none e so_far =
     let left = syndrome_of (drop (i + 1) columns) (drop (i + 1) word) in
     let column = get_or columns i 0 in

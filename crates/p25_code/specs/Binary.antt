@@ -1,6 +1,7 @@
 -- Binary codes by the columns of a check matrix. A column is a number whose bits are the checks that its place takes part in.
-use Rattle.std.specs.Prelude.{◌≡◌, ℕ, zero, suc, ◌+◌, ◌^◌, ◌<◌, ◌≤◌, Bool, cond, List, [], ◌∷◌, ◌++◌, length, bit_xor, Option, Some, None}
+use Rattle.std.specs.Prelude.{◌≡◌, ℕ, zero, suc, ◌+◌, ◌^◌, ◌<◌, ◌≤◌, Bool, cond, nat_lt, List, [], ◌∷◌, ◌++◌, length, bit_xor, Option, Some, None}
 use Rattle.std.specs.Bool.{beq}
+use Rattle.std.specs.List.{list_all}
 use Rattle.p25_bits.specs.Bits.{digit_of, bits_of}
 use Rattle.p25_bits.specs.Distance.{distance_of}
 
@@ -19,6 +20,10 @@ pub record IsChecked (columns : List ℕ) (word : List Bool) : Type 0 where
 unfoldable pub check_columns : ℕ → List ℕ
 check_columns zero = []
 check_columns (suc checks) = 2 ^ checks ∷ check_columns checks
+
+-- each row has a bit for each check and no other
+abbrev pub rows_fit : ℕ → List ℕ → Bool
+rows_fit checks rows = list_all (λ row. nat_lt row (2 ^ checks)) rows
 
 -- the systematic word: the information, then the sum of the rows at whose places the information is 1
 unfoldable pub systematic : List ℕ → ℕ → List Bool → List Bool

@@ -41,13 +41,15 @@ pub record NoneWithinCost {L : Type 0} (same : L → L → Bool) (IsWord : List 
   pub dearer : (word : List L) → IsWord word → most < marked_cost same list word
 
 -- what was received became a word of the set within the cost, and `fixes` letters changed
-pub record IsMarkedFound {L : Type 0} (same : L → L → Bool) (IsWord : List L → Type 0) (most : ℕ) (list : List (Option L)) (received word : List L) (fixes : ℕ) : Type 0 where
+pub record IsMarkedFound {L : Type 0} (same : L → L → Bool) (IsWord : List L → Type 0) (most : ℕ) (list : List (Option L)) (received word : List L) (fixes : ℕ)
+    : Type 0 where
   pub word_of_set : IsWord word
   pub within : marked_cost same list word ≤ most
   pub fixes_is : fixes ≡ distance_by same received word
 
 -- what was received is left as it was, and no word of the set is within the cost
-pub record IsMarkedBeyond {L : Type 0} (same : L → L → Bool) (IsWord : List L → Type 0) (most : ℕ) (list : List (Option L)) (received word : List L) : Type 0 where
+pub record IsMarkedBeyond {L : Type 0} (same : L → L → Bool) (IsWord : List L → Type 0) (most : ℕ) (list : List (Option L)) (received word : List L)
+    : Type 0 where
   pub unchanged : word ≡ received
   pub none_within : NoneWithinCost same IsWord most list
 

@@ -46,7 +46,8 @@ pub tested_as : {X : Type 0} (P Q : X → Type 0) → ((x : X) → P x → Q x) 
 tested_as P Q to from test x = elim (test x) [ inl met ↦ inl (to x met) | inr other ↦ inr (λ met. other (from x met)) ]
 
 -- some list of so many letters meets a condition, or none does
-list_or_none : {L : Type 0} → Searched L → (n : ℕ) (P : List L → Type 0) → Tested P → ((word : List L) × ((length word ≡ n) × P word)) ⊎ ((word : List L) → length word ≡ n → ¬ P word)
+list_or_none : {L : Type 0} → Searched L → (n : ℕ) (P : List L → Type 0) → Tested P
+    → ((word : List L) × ((length word ≡ n) × P word)) ⊎ ((word : List L) → length word ≡ n → ¬ P word)
 list_or_none {L} letters zero P test =
     elim (test []) [ inl met ↦ inl ([], (refl, met)) | inr other ↦ inr (λ word long. subst (λ w. ¬ P w) (nothing word long) other) ]
   where
@@ -63,7 +64,8 @@ list_or_none {L} letters (suc n) P test =
     IsFirst : L → Type 0
     IsFirst x = (word : List L) × ((length word ≡ n) × P (x ∷ word))
 
-    some_behind : (x : L) → ((word : List L) × ((length word ≡ n) × P (x ∷ word))) ⊎ ((word : List L) → length word ≡ n → ¬ P (x ∷ word)) → IsFirst x ⊎ ¬ IsFirst x
+    some_behind : (x : L) → ((word : List L) × ((length word ≡ n) × P (x ∷ word))) ⊎ ((word : List L) → length word ≡ n → ¬ P (x ∷ word))
+        → IsFirst x ⊎ ¬ IsFirst x
     some_behind x (inl some) = inl some
     some_behind x (inr without) = inr (λ some. without some.0 some.1.0 some.1.1)
 
@@ -106,14 +108,25 @@ word_read Beyond word = None
 -- the reading of what was received, for a set of words of n letters
 pub reading_of : {L : Type 0} → Searched L → (L → L → Bool) → (IsWord : List L → Type 0) → Tested IsWord → (n radius : ℕ) → List L → Option (List L)
 reading_of letters same IsWord test n radius received =
-    list_where letters n (λ word. IsWord word × (distance_by same received word ≤ radius)) (both_tested IsWord (λ word. distance_by same received word ≤ radius) test (le_tested (distance_by same received) radius))
+    list_where letters n (λ word. IsWord word × (distance_by same received word ≤ radius))
+    (both_tested IsWord (λ word. distance_by same received word ≤ radius) test (le_tested (distance_by same received) radius))
 
-pub IsReadAs-reading_of : {L : Type 0} (letters : Searched L) (same : L → L → Bool) (IsWord : List L → Type 0) (test : Tested IsWord) (n radius : ℕ) → ((word : List L) → IsWord word → length word ≡ n) → (received : List L) → IsReadAs same IsWord radius received (reading_of letters same IsWord test n radius received)
+pub IsReadAs-reading_of : {L : Type 0} (letters : Searched L) (same : L → L → Bool) (IsWord : List L → Type 0) (test : Tested IsWord) (n radius : ℕ)
+    → ((word : List L) → IsWord word → length word ≡ n) → (received : List L)
+    → IsReadAs same IsWord radius received (reading_of letters same IsWord test n radius received)
 unfolding IsReadAs IsListWhere reading_of
 IsReadAs-reading_of {L} letters same IsWord test n radius long received =
     read (reading_of letters same IsWord test n radius received)
-    (IsListWhere-list_where letters n (λ word. IsWord word × (distance_by same received word ≤ radius)) (both_tested IsWord (λ word. distance_by same received word ≤ radius) test (le_tested (distance_by same received) radius)))
+    (
+    IsListWhere-list_where letters n (λ word. IsWord word × (distance_by same received word ≤ radius))
+    (both_tested IsWord (λ word. distance_by same received word ≤ radius) test (le_tested (distance_by same received) radius))
+    )
   where
-    read : (answer : Option (List L)) → IsListWhere n (λ word. IsWord word × (distance_by same received word ≤ radius)) answer → IsReadAs same IsWord radius received answer
+    read : (answer : Option (List L)) → IsListWhere n (λ word. IsWord word × (distance_by same received word ≤ radius)) answer
+        → IsReadAs same IsWord radius received answer
     read (Some word) is = record { word_of_set = is.1.0; within = is.1.1 }
-    read None is = record { farther = λ word w. elim (cases_lt radius (distance_by same received word)) [ inl far ↦ far | inr near ↦ absurd (is word (long word w) (w, near)) ] }
+    read None is =
+        record {
+          farther = λ word w.
+              elim (cases_lt radius (distance_by same received word)) [ inl far ↦ far | inr near ↦ absurd (is word (long word w) (w, near)) ];
+        }

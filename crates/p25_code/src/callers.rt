@@ -17,7 +17,8 @@ pub fn read_received<C: BlockCode>(word: &mut [C::Letter]) -> Reading
     ensures reading { IsReading C.Letter.eq C.IsWord C.radius_is word.old word.new result }
     ensures value { word_read result word.new ≡ C.reading_is word.old }
     ensures sent { (sent : List C.Letter) → C.IsWord sent → distance_by C.Letter.eq word.old sent ≤ C.radius_is → word.new ≡ sent }
-    ensures fixes { (sent : List C.Letter) → C.IsWord sent → distance_by C.Letter.eq word.old sent ≤ C.radius_is → result ≡ Reading.Found (distance_by C.Letter.eq word.old sent) }
+    ensures fixes { (sent : List C.Letter) → C.IsWord sent → distance_by C.Letter.eq word.old sent ≤ C.radius_is
+        → result ≡ Reading.Found (distance_by C.Letter.eq word.old sent) }
     ensures information { IsInformation C.Letter.eq C.IsWord C.radius_is C.K word.old (take C.K word.new) }
 {
     C::read(word)

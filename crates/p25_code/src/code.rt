@@ -111,7 +111,8 @@ pub trait ErasedCode: BlockCode {
         ensures { IsMarkedReading Self.Letter.eq Self.IsWord (Self.N - Self.K) (marked word.old erased.now) word.old word.new result };
 
     // The reading is a word of the code within the cost, and none exactly where no word costs so little.
-    ghost marked_reads_as: { Self.HasCode → (list : List (Option Self.Letter)) → IsMarkedReadAs Self.Letter.eq Self.IsWord (Self.N - Self.K) list (marked_reading_is list) };
+    ghost marked_reads_as: { Self.HasCode → (list : List (Option Self.Letter))
+        → IsMarkedReadAs Self.Letter.eq Self.IsWord (Self.N - Self.K) list (marked_reading_is list) };
 
     // So at most one word is within the cost of any list.
     ghost marks_within: { Self.HasCode → Self.N - Self.K < Self.distance_is };

@@ -15,14 +15,18 @@
 //! is answered as `Beyond` and left as it was received. The codes of the air interface are in TIA-102.BAAA; the words
 //! radius, least distance and bounded-distance reading are those of any textbook of coding theory.
 //!
-//! `read_received` and `encode_then_read` say what this comes to for any code, proved from the trait alone.
-//! `encode_systematic` and `read_checked` serve as the bodies of small binary codes, given by their check matrix.
+//! `read_received` and `encode_then_read` say what this comes to for any code, proved from the trait alone. An
+//! `ErasedCode` also reads words of which some letters are not known; `read_marked` says what that comes to.
+//! `encode_systematic` and `read_systematic` serve as the bodies of small binary codes, given by their check rows.
+//!
+//! Contracts see a reading as a function of what was received: the word of the code within the radius, or none. Its law,
+//! `reads_as`, is all that is known of it, and only one answer meets that law.
 #![tactic(auto)]
 
 mod binary;
 mod callers;
 mod code;
 
-pub use binary::{encode_systematic, read_checked};
+pub use binary::{encode_systematic, read_systematic};
 pub use callers::{encode_then_read, read_marked, read_received};
 pub use code::{BlockCode, ErasedCode, Reading};

@@ -30,7 +30,8 @@ unfolding syndrome_of
 zero_first column columns word = xor_zero_l (syndrome_of columns word)
 
 -- neither do six
-zeros_first : (a b c d e f : ℕ) (columns : List ℕ) (word : List Bool) → syndrome_of (a ∷ b ∷ c ∷ d ∷ e ∷ f ∷ columns) (false ∷ false ∷ false ∷ false ∷ false ∷ false ∷ word) ≡ syndrome_of columns word
+zeros_first : (a b c d e f : ℕ) (columns : List ℕ) (word : List Bool)
+    → syndrome_of (a ∷ b ∷ c ∷ d ∷ e ∷ f ∷ columns) (false ∷ false ∷ false ∷ false ∷ false ∷ false ∷ word) ≡ syndrome_of columns word
 zeros_first a b c d e f columns word = simp zero_first
 
 -- the words are those that the last columns of the check matrix let pass

@@ -69,7 +69,8 @@ no_checks (false ∷ bits) = refl
 no_checks (true ∷ bits) = refl
 
 -- the last place takes no part in the remainder
-remainder_sum : (word : List Bool) → length word ≡ 24 → syndrome_of (remainders 0xC75 11 23 ++ 0 ∷ []) word ≡ syndrome_of (remainders 0xC75 11 (length (take 23 word))) (take 23 word)
+remainder_sum : (word : List Bool) → length word ≡ 24
+    → syndrome_of (remainders 0xC75 11 23 ++ 0 ∷ []) word ≡ syndrome_of (remainders 0xC75 11 (length (take 23 word))) (take 23 word)
 remainder_sum word long =
     let columns = remainders 0xC75 11 23 in
     let inside : 23 ≤ length word = omega arith in
@@ -81,7 +82,8 @@ remainder_sum word long =
     ∙ ap (λ n. syndrome_of (remainders 0xC75 11 n) (take 23 word)) (sym front)
 
 -- the sum by the stated columns: the remainder, and whether the weight is odd
-stated_sum : (word : List Bool) → length word ≡ 24 → syndrome_of stated_columns word ≡ 2 * syndrome_of (remainders 0xC75 11 (length (take 23 word))) (take 23 word) + weight_of word % 2
+stated_sum : (word : List Bool) → length word ≡ 24
+    → syndrome_of stated_columns word ≡ 2 * syndrome_of (remainders 0xC75 11 (length (take 23 word))) (take 23 word) + weight_of word % 2
 unfolding stated_columns
 stated_sum word long =
     syndrome_of-with_parity (remainders 0xC75 11 23 ++ 0 ∷ []) word (long ∙ sym length-stated)

@@ -4,8 +4,8 @@ ghost use Rattle.p25_golay.specs.Golay18.{IsGolay18};
 ghost use Rattle.p25_golay.specs.Golay18Laws.{golay18_is_code};
 ghost use Rattle.p25_golay.specs.Golay18Readings.{golay18_reading_of, golay18_reads_as};
 
-use crate::golay24::{COLUMNS, RADIUS};
-use p25_code::{BlockCode, Reading, encode_systematic, read_checked};
+use crate::golay24::{CHECK_ROWS, RADIUS};
+use p25_code::{BlockCode, Reading, encode_systematic, read_systematic};
 
 /// The shortened Golay code (18,6): the words of the Golay code (24,12) that begin with six zeros, without those six. Any
 /// two words differ in at least 8 bits; three wrong bits are corrected. A list that is near to a word of the longer code
@@ -52,10 +52,10 @@ impl BlockCode for Golay18 {
     }
 
     fn encode(info: &[bool], word: &mut [bool]) {
-        encode_systematic(&COLUMNS[6..12], info, word);
+        encode_systematic(&CHECK_ROWS[6..], info, word);
     }
 
     fn read(word: &mut [bool]) -> Reading {
-        read_checked(&COLUMNS[6..], RADIUS, word)
+        read_systematic(&CHECK_ROWS[6..], RADIUS, word)
     }
 }

@@ -4,12 +4,11 @@ ghost use Rattle.p25_golay.specs.Golay24.{IsGolay24};
 ghost use Rattle.p25_golay.specs.Golay24Laws.{golay24_is_code};
 ghost use Rattle.p25_golay.specs.Golay24Readings.{golay24_reading_of, golay24_reads_as};
 
-use p25_code::{BlockCode, Reading, encode_systematic, read_checked};
+use p25_code::{BlockCode, Reading, encode_systematic, read_systematic};
 
-// The columns of the check matrix: the check bits of each message with one 1, then those of the check bits.
-pub(crate) const COLUMNS: [u16; 24] = [
-    0xC75, 0x63B, 0xF68, 0x7B4, 0x3DA, 0xD99, 0x6CD, 0x367, 0xDC6, 0xA97, 0x93E, 0x8EB, 0x800,
-    0x400, 0x200, 0x100, 0x080, 0x040, 0x020, 0x010, 0x008, 0x004, 0x002, 0x001,
+// The check bits of the messages with one 1, in order.
+pub(crate) const CHECK_ROWS: [u16; 12] = [
+    0xC75, 0x63B, 0xF68, 0x7B4, 0x3DA, 0xD99, 0x6CD, 0x367, 0xDC6, 0xA97, 0x93E, 0x8EB,
 ];
 
 pub(crate) const RADIUS: u32 = 3;
@@ -60,10 +59,10 @@ impl BlockCode for Golay24 {
     }
 
     fn encode(info: &[bool], word: &mut [bool]) {
-        encode_systematic(&COLUMNS[..12], info, word);
+        encode_systematic(&CHECK_ROWS, info, word);
     }
 
     fn read(word: &mut [bool]) -> Reading {
-        read_checked(&COLUMNS, RADIUS, word)
+        read_systematic(&CHECK_ROWS, RADIUS, word)
     }
 }

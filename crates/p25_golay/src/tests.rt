@@ -1,26 +1,15 @@
 //! Words that other programs encoded and read, and every pattern of three and of four wrong bits.
 
-ghost use Rattle.std.specs.Prelude.{◌≤◌, length};
-
 use crate::{Golay18, Golay24};
+use p25_bits::put_number;
 use p25_code::{BlockCode, Reading, encode_then_read, read_received};
-
-// Sets the bits to those of a number, highest first.
-fn put(number: u32, bits: &mut [bool])
-    requires { length bits.old ≤ 32 }
-{
-    let width = bits.len();
-    for (i, bit) in bits.iter_mut().enumerate() {
-        *bit = (number >> (width - 1 - i)) & 1 == 1;
-    }
-}
 
 #[test]
 fn golay24_encodes(rt: HostRuntime) {
     for (info, sent) in [(0x800, 0x800C75), (0x001, 0x0018EB), (0, 0)] {
         let (mut information, mut word, mut wanted) = ([false; 12], [false; 24], [false; 24]);
-        put(info, &mut information);
-        put(sent, &mut wanted);
+        put_number(info, &mut information);
+        put_number(sent, &mut wanted);
         assert_eq!(rt;
             encode_then_read::<Golay24>(&information, &mut word),
             Reading::Found { fixes: 0 }
@@ -33,8 +22,8 @@ fn golay24_encodes(rt: HostRuntime) {
 fn golay18_encodes(rt: HostRuntime) {
     for (info, sent) in [(0x01, 0x018EB), (0x20, 0x206CD), (0, 0)] {
         let (mut information, mut word, mut wanted) = ([false; 6], [false; 18], [false; 18]);
-        put(info, &mut information);
-        put(sent, &mut wanted);
+        put_number(info, &mut information);
+        put_number(sent, &mut wanted);
         assert_eq!(rt;
             encode_then_read::<Golay18>(&information, &mut word),
             Reading::Found { fixes: 0 }
@@ -64,8 +53,8 @@ fn golay24_reads(rt: HostRuntime) {
         (0x4A103C, Reading::Beyond, 0x4A103C),
     ] {
         let (mut word, mut wanted) = ([false; 24], [false; 24]);
-        put(received, &mut word);
-        put(left, &mut wanted);
+        put_number(received, &mut word);
+        put_number(left, &mut wanted);
         assert_eq!(rt; read_received::<Golay24>(&mut word), reading, "{received}");
         assert_eq!(rt; word, wanted, "{received}");
     }
@@ -94,8 +83,8 @@ fn golay18_reads(rt: HostRuntime) {
         (0x19D99, Reading::Beyond, 0x19D99),
     ] {
         let (mut word, mut wanted) = ([false; 18], [false; 18]);
-        put(received, &mut word);
-        put(left, &mut wanted);
+        put_number(received, &mut word);
+        put_number(left, &mut wanted);
         assert_eq!(rt; read_received::<Golay18>(&mut word), reading, "{received}");
         assert_eq!(rt; word, wanted, "{received}");
     }
@@ -104,7 +93,7 @@ fn golay18_reads(rt: HostRuntime) {
 #[test]
 fn golay24_reads_any_three_wrong_bits(rt: HostRuntime) {
     let mut sent = [false; 24];
-    put(0xF6CE97, &mut sent);
+    put_number(0xF6CE97, &mut sent);
     for i in 0..24usize {
         for j in 0..i {
             for k in 0..j {

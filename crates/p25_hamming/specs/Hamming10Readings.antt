@@ -9,7 +9,8 @@ use Rattle.p25_hamming.specs.Hamming10Laws.{to_checked, from_checked, hamming10_
 
 -- whether a list of bits is a word can be tested
 IsHamming10-tested : Tested IsHamming10
-IsHamming10-tested = tested_as (IsChecked (check_rows ++ check_columns 4)) IsHamming10 from_checked to_checked (IsChecked-tested (check_rows ++ check_columns 4))
+IsHamming10-tested =
+    tested_as (IsChecked (check_rows ++ check_columns 4)) IsHamming10 from_checked to_checked (IsChecked-tested (check_rows ++ check_columns 4))
 
 -- the word within 1 bits of what was received, or none
 pub hamming10_reading_of : List Bool → Option (List Bool)

@@ -4,12 +4,10 @@ ghost use Rattle.p25_hamming.specs.Hamming10.{IsHamming10};
 ghost use Rattle.p25_hamming.specs.Hamming10Laws.{hamming10_is_code};
 ghost use Rattle.p25_hamming.specs.Hamming10Readings.{hamming10_reading_of, hamming10_reads_as};
 
-use p25_code::{BlockCode, Reading, encode_systematic, read_checked};
+use p25_code::{BlockCode, Reading, encode_systematic, read_systematic};
 
-// The columns of the check matrix: the checks of each information bit, then those of the check bits.
-const COLUMNS: [u16; 10] = [
-    0b1110, 0b1101, 0b1011, 0b0111, 0b0011, 0b1100, 0b1000, 0b0100, 0b0010, 0b0001,
-];
+// The check bits of the messages with one 1, in order.
+const CHECK_ROWS: [u16; 6] = [0b1110, 0b1101, 0b1011, 0b0111, 0b0011, 0b1100];
 
 const RADIUS: u32 = 1;
 
@@ -58,10 +56,10 @@ impl BlockCode for Hamming10 {
     }
 
     fn encode(info: &[bool], word: &mut [bool]) {
-        encode_systematic(&COLUMNS[..6], info, word);
+        encode_systematic(&CHECK_ROWS, info, word);
     }
 
     fn read(word: &mut [bool]) -> Reading {
-        read_checked(&COLUMNS, RADIUS, word)
+        read_systematic(&CHECK_ROWS, RADIUS, word)
     }
 }

@@ -4,12 +4,10 @@ ghost use Rattle.p25_hamming.specs.Lsd16.{IsLsd16};
 ghost use Rattle.p25_hamming.specs.Lsd16Laws.{lsd16_is_code};
 ghost use Rattle.p25_hamming.specs.Lsd16Readings.{lsd16_reading_of, lsd16_reads_as};
 
-use p25_code::{BlockCode, Reading, encode_systematic, read_checked};
+use p25_code::{BlockCode, Reading, encode_systematic, read_systematic};
 
-// The columns of the check matrix: the remainders of x^15 to x^0 by the generator 139 hex.
-const COLUMNS: [u16; 16] = [
-    0x4E, 0x27, 0x8F, 0xDB, 0xF1, 0xE4, 0x72, 0x39, 0x80, 0x40, 0x20, 0x10, 0x08, 0x04, 0x02, 0x01,
-];
+// The check bits of the messages with one 1, in order: the remainders of x^15 to x^8 by the generator 139 hex.
+const CHECK_ROWS: [u16; 8] = [0x4E, 0x27, 0x8F, 0xDB, 0xF1, 0xE4, 0x72, 0x39];
 
 const RADIUS: u32 = 2;
 
@@ -58,10 +56,10 @@ impl BlockCode for Lsd16 {
     }
 
     fn encode(info: &[bool], word: &mut [bool]) {
-        encode_systematic(&COLUMNS[..8], info, word);
+        encode_systematic(&CHECK_ROWS, info, word);
     }
 
     fn read(word: &mut [bool]) -> Reading {
-        read_checked(&COLUMNS, RADIUS, word)
+        read_systematic(&CHECK_ROWS, RADIUS, word)
     }
 }

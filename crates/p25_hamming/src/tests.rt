@@ -1,19 +1,8 @@
 //! Words that other programs encoded and read.
 
-ghost use Rattle.std.specs.Prelude.{◌≤◌, length};
-
 use crate::{Hamming10, Lsd16};
+use p25_bits::put_number;
 use p25_code::{BlockCode, Reading, encode_then_read, read_received};
-
-// Sets the bits to those of a number, highest first.
-fn put(number: u32, bits: &mut [bool])
-    requires { length bits.old ≤ 32 }
-{
-    let width = bits.len();
-    for (i, bit) in bits.iter_mut().enumerate() {
-        *bit = (number >> (width - 1 - i)) & 1 == 1;
-    }
-}
 
 #[test]
 fn hamming10_encodes(rt: HostRuntime) {
@@ -24,8 +13,8 @@ fn hamming10_encodes(rt: HostRuntime) {
         (0, 0),
     ] {
         let (mut information, mut word, mut wanted) = ([false; 6], [false; 10], [false; 10]);
-        put(info, &mut information);
-        put(sent, &mut wanted);
+        put_number(info, &mut information);
+        put_number(sent, &mut wanted);
         assert_eq!(rt;
             encode_then_read::<Hamming10>(&information, &mut word),
             Reading::Found { fixes: 0 }
@@ -56,8 +45,8 @@ fn hamming10_reads(rt: HostRuntime) {
         (0x1CB, Reading::Beyond, 0x1CB),
     ] {
         let (mut word, mut wanted) = ([false; 10], [false; 10]);
-        put(received, &mut word);
-        put(left, &mut wanted);
+        put_number(received, &mut word);
+        put_number(left, &mut wanted);
         assert_eq!(rt;
             read_received::<Hamming10>(&mut word),
             reading,
@@ -71,8 +60,8 @@ fn hamming10_reads(rt: HostRuntime) {
 fn lsd16_encodes(rt: HostRuntime) {
     for (info, sent) in [(0x01, 0x0139), (0x80, 0x804E), (0, 0)] {
         let (mut information, mut word, mut wanted) = ([false; 8], [false; 16], [false; 16]);
-        put(info, &mut information);
-        put(sent, &mut wanted);
+        put_number(info, &mut information);
+        put_number(sent, &mut wanted);
         assert_eq!(rt;
             encode_then_read::<Lsd16>(&information, &mut word),
             Reading::Found { fixes: 0 }
@@ -102,8 +91,8 @@ fn lsd16_reads(rt: HostRuntime) {
         (0xDA0F, Reading::Beyond, 0xDA0F),
     ] {
         let (mut word, mut wanted) = ([false; 16], [false; 16]);
-        put(received, &mut word);
-        put(left, &mut wanted);
+        put_number(received, &mut word);
+        put_number(left, &mut wanted);
         assert_eq!(rt; read_received::<Lsd16>(&mut word), reading, "{received}");
         assert_eq!(rt; word, wanted, "{received}");
     }

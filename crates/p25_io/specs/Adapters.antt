@@ -20,6 +20,6 @@ writer_of sink = sink.inner
 abbrev pub write_faults : {W : Type 0} → WriteSink W → ℕ
 write_faults sink = sink.faults
 
--- what a writer is known to hold grows by a front of the piece
+-- what a writer is known to hold grows by a beginning of the piece
 abbrev pub AppendsFront : Option (List ℕ) → Option (List ℕ) → List ℕ → Type 0
 AppendsFront before now piece = (count : ℕ) × Appends before now (take count piece)

@@ -10,7 +10,7 @@ pub record Taken (before : Option (List ℕ)) (octets : List ℕ) (now : Option 
 abbrev pub Kept : Option (List ℕ) → Option (List ℕ) → Type 0
 Kept before now = now ≡ before
 
--- a read gave so many octets in the front of its buffer: no more than fit, and none exactly where a source that tells has none left
+-- a read gave so many octets at the beginning of its buffer: no more than fit, and none exactly where a source that tells has none left
 pub record Gives (before now : Option (List ℕ)) (buf : List ℕ) (count : ℕ) : Type 0 where
   pub fits : count ≤ length buf
   pub octets : Taken before (take count buf) now
@@ -20,7 +20,7 @@ pub record Gives (before now : Option (List ℕ)) (buf : List ℕ) (count : ℕ)
 pub record Appended (before : Option (List ℕ)) (octets : List ℕ) (now : Option (List ℕ)) : Type 0 where
   pub written : now ≡ append_known before octets
 
--- a front of the piece stands behind what was written before
+-- a beginning of the piece stands behind what was written before
 pub record AppendedFront (before : Option (List ℕ)) (piece : List ℕ) (now : Option (List ℕ)) : Type 0 where
   pub count : ℕ
   pub front : Appended before (take count piece) now

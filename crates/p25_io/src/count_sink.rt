@@ -23,14 +23,14 @@ impl Model for CountSink {
 }
 
 impl CountSink {
-    /// A sink to which nothing was written.
+    /// Answers a sink to which nothing was written.
     pub fn new() -> CountSink
         ensures { result ≡ 0 }
     {
         CountSink { octets: 0 }
     }
 
-    /// How many octets were written, or 2^64 - 1 where they are more.
+    /// Answers how many octets were written, or 2^64 - 1 where they are more.
     pub fn octets(&self) -> u64
         ensures { result ≡ self.now }
     {

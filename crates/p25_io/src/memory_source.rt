@@ -31,7 +31,7 @@ impl<'a> Model for MemorySource<'a> {
 }
 
 impl<'a> MemorySource<'a> {
-    /// A source that gives these octets, at most `piece` of them a read, and fails at the calls numbered in
+    /// Answers a source that gives these octets, at most `piece` of them a read, and fails at the calls numbered in
     /// `fails`, counted from 1. `piece` is above 0.
     pub fn new(octets: &'a [u8], piece: usize, fails: &'a [u64]) -> MemorySource<'a>
         requires { 0 < piece }
@@ -46,7 +46,7 @@ impl<'a> MemorySource<'a> {
         }
     }
 
-    /// The octets that are left to be read.
+    /// Answers the octets that are left to be read.
     pub fn rest(&self) -> &[u8]
         ensures { result.now ≡ self.now.left }
     {

@@ -18,7 +18,7 @@ pub struct ReadSource<R> {
 }
 
 impl<R: Read> ReadSource<R> {
-    /// A source over this reader, which counts no fault so far.
+    /// Answers a source over this reader, which counts no fault so far.
     pub fn new(inner: R) -> ReadSource<R>
         ensures reader { reader_of result ≡ inner }
         ensures faults { read_faults result ≡ 0 }
@@ -32,7 +32,7 @@ impl<R: Read> Source for ReadSource<R> {
 
     ghost faults = { read_faults };
 
-    /// Makes one read of the reader.
+    /// Sets the beginning of `buf` to what one read of the reader gives, and answers how many octets that is.
     fn read(&mut self, buf: &mut [u8]) -> Result<usize, Failed>
         requires { 0 < length buf.old }
         ensures given { IfOk result (Gives None None buf.new) }

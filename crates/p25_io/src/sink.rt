@@ -18,8 +18,8 @@ pub trait Sink {
 
     /// Appends the whole piece, which may be empty.
     ///
-    /// `Failed` comes only where the count of faults rose in this call or stands at 2^64 - 1, and then a front of the
-    /// piece was appended, which may be nothing or all of it.
+    /// `Failed` comes only where the count of faults rose in this call or stands at 2^64 - 1, and then a
+    /// beginning of the piece was appended, which may be nothing or all of it.
     fn write(&mut self, piece: &[u8]) -> Result<(), Failed>
         ensures ok { OnOk result (Appended (written self.old) piece.now (written self.new)) }
         ensures err { OnErr result (AppendedFront (written self.old) piece.now (written self.new)) }

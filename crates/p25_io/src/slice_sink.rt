@@ -31,7 +31,8 @@ impl<'a> Model for SliceSink<'a> {
 }
 
 impl<'a> SliceSink<'a> {
-    /// A sink that writes into `room` from its front, and fails at the calls numbered in `fails`, counted from 1.
+    /// Answers a sink that writes into `room` from its first octet on, and fails at the calls numbered in `fails`,
+    /// counted from 1.
     pub fn new(room: &'a mut [u8], fails: &'a [u64]) -> SliceSink<'a>
         ensures { result ≡ record { written = []; room = length room.old; fails = fails.now; calls = 0; faults = 0 } }
     {
@@ -44,7 +45,7 @@ impl<'a> SliceSink<'a> {
         }
     }
 
-    /// The octets that were written.
+    /// Answers the octets that were written.
     pub fn written(&self) -> &[u8]
         ensures { result.now ≡ self.now.written }
     {

@@ -16,7 +16,7 @@ pub trait Source {
     /// How often a read failed. It stands still at 2^64 - 1.
     ghost faults: { Self → ℕ };
 
-    /// Reads octets into the front of `buf`, which isn't empty, and answers how many.
+    /// Sets the beginning of `buf`, which isn't empty, to octets that are read, and answers how many.
     ///
     /// They are the first of those left. `Ok(0)` is the end of the input: where the source tells what is left, it
     /// comes exactly where nothing is. `Failed` comes only where the count of faults rose in this call or stands at

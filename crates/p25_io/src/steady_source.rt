@@ -27,7 +27,7 @@ impl<'a> Model for SteadySource<'a> {
 }
 
 impl<'a> SteadySource<'a> {
-    /// A source that gives these octets, at most `piece` of them a read. `piece` is above 0.
+    /// Answers a source that gives these octets, at most `piece` of them a read. `piece` is above 0.
     pub fn new(octets: &'a [u8], piece: usize) -> SteadySource<'a>
         requires { 0 < piece }
         ensures { result ≡ record { left = octets.now; piece = piece } }
@@ -38,7 +38,7 @@ impl<'a> SteadySource<'a> {
         }
     }
 
-    /// The octets that are left to be read.
+    /// Answers the octets that are left to be read.
     pub fn rest(&self) -> &[u8]
         ensures { result.now ≡ self.now.left }
     {

@@ -19,7 +19,7 @@ pub struct WriteSink<W> {
 }
 
 impl<W: Write> WriteSink<W> {
-    /// A sink over this writer, which counts no fault so far.
+    /// Answers a sink over this writer, which counts no fault so far.
     pub fn new(inner: W) -> WriteSink<W>
         ensures writer { writer_of result ≡ inner }
         ensures faults { write_faults result ≡ 0 }
@@ -33,7 +33,7 @@ impl<W: Write> Sink for WriteSink<W> {
 
     ghost faults = { write_faults };
 
-    /// Writes until the writer has taken the whole piece, and flushes it.
+    /// Appends the piece: writes until the writer has taken all of it, and flushes the writer.
     fn write(&mut self, piece: &[u8]) -> Result<(), Failed>
         ensures ok { OnOk result (Appended None piece.now None) }
         ensures err { OnErr result (AppendedFront None piece.now None) }

@@ -9,3 +9,4 @@ pub mod SendableLaws
 pub mod PlacesLaws
 pub mod UnitLaws
 pub mod RadiusLaws
+pub mod SentLaws

@@ -1,6 +1,6 @@
 -- The image by its places: the list has what the standard says at each place, and nothing else has. Each place of the list
 -- is found by the lengths of what stands before it; a list is put together again from its parts that touch.
-use Rattle.std.proofs.Common.{◌≡◌, ℕ, ◌+◌, ◌-◌, ◌*◌, ◌/◌, ◌<◌, ◌≤◌, Bool, false, List, [], ◌++◌, length, take, drop, get_or, replicate, slice_get, Some, refl, ap, ap₂, sym, subst, ◌∙◌, arith, length-append, length-drop, All, append_assoc, take-append-drop}
+use Rattle.std.proofs.Common.{◌≡◌, ℕ, ◌+◌, ◌-◌, ◌*◌, ◌<◌, ◌≤◌, Bool, false, List, ◌++◌, length, take, drop, get_or, replicate, slice_get, Some, refl, ap, ap₂, sym, subst, ◌∙◌, arith, length-append, length-drop, All, append_assoc, take-append-drop}
 use Rattle.std.proofs.lemmas.List.{take_at, get_or-append_right, get_or-replicate, get_or-drop, same_lists, length-replicate}
 use Rattle.std.proofs.lemmas.Option.{slice_get-get_or, get_or_from_slice_get}
 use Rattle.p25_bits.specs.Bits.{part}
@@ -14,8 +14,6 @@ use Rattle.p25_trellis.specs.Tables.{half_point, three_quarter_point}
 use Rattle.p25_trellis.specs.Nearest.{half_block, three_quarter_block}
 use Rattle.p25_trellis.proofs.Apart.{length-block}
 use Rattle.p25_trellis.proofs.NearestLaws.{IsBlock-block_from, same_block_from}
-use Rattle.p25_packet_blocks.specs.declared.block.Block.{Block}
-use Rattle.p25_packet_blocks.specs.declared.block.Slot.TheVariants.{Good, Bad}
 use Rattle.p25_packet_blocks.specs.declared.packet.Packet.{Packet}
 use Rattle.p25_packet_blocks.specs.declared.packet.Packet.TheVariants.{Confirmed, Plain}
 use Rattle.p25_packet_blocks.specs.Heads.{head_blocks}
@@ -23,9 +21,9 @@ use Rattle.p25_packet_blocks.specs.Whole.{packet_head}
 use Rattle.p25_packet_blocks.specs.Lengths.{packet_bits, packet_plain_length}
 use Rattle.p25_packet_blocks.specs.Reading.{header_bits, block_bits}
 use Rattle.p25_packet_blocks.specs.Image.{header_octets, confirmed_octets, checked_octets, body_block, packet_nulls, packet_image_of}
-use Rattle.p25_packet_blocks.specs.Sendable.{IsHead, IsDataBlock, IsSendable}
+use Rattle.p25_packet_blocks.specs.Sendable.{IsDataBlock, IsSendable}
 use Rattle.p25_packet_blocks.specs.Places.{IsBodyBlock, IsPacketImage}
-use Rattle.p25_packet_blocks.proofs.ImageLaws.{length-header_octets, AreOctets-header_octets, length-confirmed_octets, AreOctets-confirmed_octets, length-checked_octets, AreOctets-checked_octets, body_block-confirmed, body_block-plain}
+use Rattle.p25_packet_blocks.proofs.ImageLaws.{length-header_octets, AreOctets-header_octets, length-confirmed_octets, AreOctets-confirmed_octets, body_block-confirmed, body_block-plain}
 use Rattle.p25_packet_blocks.proofs.SendableLaws.{IsSendable-head, octets_of_block}
 
 -- What is sent for each block.
@@ -46,8 +44,12 @@ header_block packet sendable =
 pub IsBodyBlock-body_block : (packet : Packet) → IsSendable packet → (j : ℕ) → j < head_blocks (packet_head packet) → IsBodyBlock packet j (body_block packet j)
 unfolding IsSendable IsBodyBlock
 IsBodyBlock-body_block (Confirmed packet) sendable j inside =
-    let good = sendable.good.at j inside in
-    (good.0, good.1, subst (IsBlock 8 3 three_quarter_point (confirmed_octets good.0)) (sym (body_block-confirmed packet j good.0 good.1)) (IsBlock-three_quarter (confirmed_octets good.0) (length-confirmed_octets good.0 good.2) (AreOctets-confirmed_octets good.0 good.2)))
+    let good = sendable.good.at j inside in (
+      good.0,
+      good.1,
+      subst (IsBlock 8 3 three_quarter_point (confirmed_octets good.0)) (sym (body_block-confirmed packet j good.0 good.1))
+          (IsBlock-three_quarter (confirmed_octets good.0) (length-confirmed_octets good.0 good.2) (AreOctets-confirmed_octets good.0 good.2)),
+    )
 IsBodyBlock-body_block (Plain packet) sendable j inside =
     let octets = octets_of_block packet sendable j inside in
     subst (IsBlock 4 2 half_point (part (12 * j) 12 (checked_octets packet.octets))) (sym (body_block-plain packet j)) (IsBlock-half (part (12 * j) 12 (checked_octets packet.octets)) octets.0 octets.1)
@@ -146,7 +148,8 @@ module _ (nac : ℕ) (packet : Packet) (sendable : IsSendable packet) where
   image_nulls place behind inside =
       let left : place - packet_bits count < packet_plain_length count - packet_bits count = omega (arith, image_long) in
       slice_get-get_or (packet_image_of nac packet) place false inside
-      ∙ ap Some (ap (λ (xs : List Bool). get_or xs place false) grouped ∙ get_or-append_right (front ++ header ++ body) (packet_nulls count) (packet_bits count) place false long_bits behind ∙ get_or-replicate (packet_plain_length count - packet_bits count) (place - packet_bits count) false false left)
+      ∙ ap Some (ap (λ (xs : List Bool). get_or xs place false) grouped ∙ get_or-append_right (front ++ header ++ body) (packet_nulls count) (packet_bits count) place false long_bits behind
+      ∙ get_or-replicate (packet_plain_length count - packet_bits count) (place - packet_bits count) false false left)
 
   -- the image is as the standard says
   pub IsPacketImage-image : IsPacketImage nac packet (packet_image_of nac packet)
@@ -169,7 +172,8 @@ module _ (nac : ℕ) (packet : Packet) (sendable : IsSendable packet) where
       let third : part 308 (196 * count) bits ≡ body
       = sym (joined_below-parts 308 196 count bits) ∙ joined_below-same count (λ j. part (308 + 196 * j) 196 bits) (body_block packet) (λ j inside. body_block-only packet sendable j inside (block_bits bits j) (is.blocks j inside)) in
       let rest : drop (packet_bits count) bits ≡ replicate (packet_plain_length count - packet_bits count) false
-      = all_false (drop (packet_bits count) bits) (packet_plain_length count - packet_bits count) (length-drop (packet_bits count) bits ∙ ap (λ k. k - packet_bits count) is.long) (λ i inside. get_or-drop (packet_bits count) bits i false ∙ get_or_from_slice_get bits (packet_bits count + i) false false (is.nulls (packet_bits count + i) (omega arith) (omega (arith, length-drop (packet_bits count) bits)))) in
+      = all_false (drop (packet_bits count) bits) (packet_plain_length count - packet_bits count) (length-drop (packet_bits count) bits ∙ ap (λ k. k - packet_bits count) is.long)
+      (λ i inside. get_or-drop (packet_bits count) bits i false ∙ get_or_from_slice_get bits (packet_bits count + i) false false (is.nulls (packet_bits count + i) (omega arith) (omega (arith, length-drop (packet_bits count) bits)))) in
       let place : 308 + 196 * count ≡ packet_bits count = omega arith in
       sym (take-append-drop (packet_bits count) bits)
       ∙ ap₂ (λ (xs ys : List Bool). xs ++ ys)

@@ -1,16 +1,14 @@
 -- The readings by their cases: each arm of a definition with the facts that choose it, and the lengths of what is read.
-use Rattle.std.proofs.Common.{◌≡◌, ◌≢◌, ℕ, ◌+◌, ◌-◌, ◌*◌, ◌/◌, ◌%◌, ◌<◌, ◌≤◌, ◌⊎◌, inl, inr, Bool, true, false, ◌||◌, eqb, List, [], ◌∷◌, ◌++◌, length, take, drop, slice_index, Result, Ok, Err, refl, ap, sym, ◌∙◌, arith, All}
+use Rattle.std.proofs.Common.{◌≡◌, ◌≢◌, ℕ, ◌+◌, ◌-◌, ◌*◌, ◌/◌, ◌%◌, ◌≤◌, inl, inr, Bool, true, false, ◌||◌, eqb, List, [], ◌∷◌, ◌++◌, length, take, drop, slice_index, Ok, Err, refl, sym, ◌∙◌}
 use Rattle.std.proofs.lemmas.Bool.{cond-true, cond-false, eq-eqb, ne_eqb}
 use Rattle.p25_bits.specs.Numbers.{octets_number}
-use Rattle.p25_bits.proofs.NumbersLaws.{length-numbers_from, All-numbers_from, each_below-zero, each_below-more, joined_below-zero, joined_below-more, length-each_below, length-joined_below, All-joined_below}
+use Rattle.p25_bits.proofs.NumbersLaws.{length-numbers_from, each_below-zero, each_below-more, joined_below-zero, joined_below-more, length-each_below, length-joined_below}
 use Rattle.p25_status.specs.declared.fields.Field.{Field}
 use Rattle.p25_status.specs.declared.fields.Field.TheVariants.{PacketHeader, Format, PacketCrc}
 use Rattle.p25_trellis.specs.Nearest.{nearest_octets, half_octets, three_quarter_octets}
 use Rattle.p25_crc.specs.Values.{crc9_of, crc16_of, crc32_of}
 use Rattle.p25_packet_blocks.specs.declared.head.PacketHead.{PacketHead}
-use Rattle.p25_packet_blocks.specs.declared.block.Slot.{Slot}
 use Rattle.p25_packet_blocks.specs.declared.block.Slot.TheVariants.{Good, Bad}
-use Rattle.p25_packet_blocks.specs.declared.packet.Packet.{Packet}
 use Rattle.p25_packet_blocks.specs.declared.packet.Packet.TheVariants.{Confirmed, Plain}
 use Rattle.p25_packet_blocks.specs.Heads.{head_format, head_blocks}
 use Rattle.p25_packet_blocks.specs.Kinds.{IsPlainFormat}
@@ -33,7 +31,8 @@ head_reading_of-is plain = refl
 
 -- The slots of a confirmed packet.
 
-pub slot_from-good : (octets : List ℕ) → 256 * (slice_index octets 0 % 2) + slice_index octets 1 ≡ crc9_of (slice_index octets 0 / 2) (drop 2 octets) → slot_from octets ≡ Good (record { serial = slice_index octets 0 / 2; octets = drop 2 octets })
+pub slot_from-good : (octets : List ℕ) → 256 * (slice_index octets 0 % 2) + slice_index octets 1 ≡ crc9_of (slice_index octets 0 / 2) (drop 2 octets)
+    → slot_from octets ≡ Good (record { serial = slice_index octets 0 / 2; octets = drop 2 octets })
 unfolding slot_from
 slot_from-good octets agrees = cond-true (eqb (256 * (slice_index octets 0 % 2) + slice_index octets 1) (crc9_of (slice_index octets 0 / 2) (drop 2 octets))) _ _ (eq-eqb _ _ agrees)
 
@@ -92,13 +91,15 @@ plain_from-none head octets none =
     cond-true (eqb (head_blocks head) 0 || eqb (octets_number (drop (12 * head_blocks head - 4) octets)) (crc32_of (take (12 * head_blocks head - 4) octets))) _ _ (or_left _ _ (eq-eqb _ _ none))
 
 -- the packet CRC agrees
-pub plain_from-good : (head : PacketHead) (octets : List ℕ) → eqb (octets_number (drop (12 * head_blocks head - 4) octets)) (crc32_of (take (12 * head_blocks head - 4) octets)) ≡ true → plain_from head octets ≡ Ok (Plain (record { head = head; octets = take (12 * head_blocks head - 4) octets }))
+pub plain_from-good : (head : PacketHead) (octets : List ℕ) → eqb (octets_number (drop (12 * head_blocks head - 4) octets)) (crc32_of (take (12 * head_blocks head - 4) octets)) ≡ true
+    → plain_from head octets ≡ Ok (Plain (record { head = head; octets = take (12 * head_blocks head - 4) octets }))
 unfolding plain_from
 plain_from-good head octets agrees =
     cond-true (eqb (head_blocks head) 0 || eqb (octets_number (drop (12 * head_blocks head - 4) octets)) (crc32_of (take (12 * head_blocks head - 4) octets))) _ _ (or_right _ _ agrees)
 
 -- there is a block to follow, and the packet CRC does not agree
-pub plain_from-bad : (head : PacketHead) (octets : List ℕ) → head_blocks head ≢ 0 → eqb (octets_number (drop (12 * head_blocks head - 4) octets)) (crc32_of (take (12 * head_blocks head - 4) octets)) ≡ false → plain_from head octets ≡ Err PacketCrc
+pub plain_from-bad : (head : PacketHead) (octets : List ℕ) → head_blocks head ≢ 0 → eqb (octets_number (drop (12 * head_blocks head - 4) octets)) (crc32_of (take (12 * head_blocks head - 4) octets)) ≡ false
+    → plain_from head octets ≡ Err PacketCrc
 unfolding plain_from
 plain_from-bad head octets some differs =
     cond-false (eqb (head_blocks head) 0 || eqb (octets_number (drop (12 * head_blocks head - 4) octets)) (crc32_of (take (12 * head_blocks head - 4) octets))) _ _ (or_none _ _ (ne_eqb _ _ some) differs)

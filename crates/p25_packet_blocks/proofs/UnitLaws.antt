@@ -1,5 +1,5 @@
 -- The packet answer of a sent unit by its cases: each arm with the facts that choose it.
-use Rattle.std.proofs.Common.{◌≡◌, ◌≢◌, ℕ, ◌+◌, ◌*◌, ◌<◌, ◌≤◌, Bool, true, false, cond, eqb, leb, List, ◌++◌, length, take, drop, Result, Ok, Err, Option, Some, None, refl, ap, ap₂, sym, ◌∙◌, arith}
+use Rattle.std.proofs.Common.{◌≡◌, ◌≢◌, ℕ, ◌<◌, ◌≤◌, Bool, true, false, eqb, leb, List, ◌++◌, length, take, Ok, Err, Some, None, refl, ap, ◌∙◌, arith}
 use Rattle.std.proofs.lemmas.Bool.{cond-true, cond-false, eq-eqb, ne_eqb, le-leb, false_from_ne_true, leb-true}
 use Rattle.p25_bits.specs.Bits.{part}
 use Rattle.p25_status.specs.declared.fields.Field.{Field}
@@ -34,7 +34,8 @@ unfolding sent_packet_of sent_from
 sent_packet_of-short sent head is short =
     rw is (cond-false (leb (packet_sent_length (head_blocks head)) (length sent)) _ _ (false_from_ne_true _ (λ fits. omega (arith, leb-true _ _ fits))))
 
-pub sent_packet_of-whole : (sent : List Bool) (head : PacketHead) → sent_head_of sent ≡ Ok head → packet_sent_length (head_blocks head) ≤ length sent → sent_packet_of sent ≡ packet_of_head head (plain_of (take (packet_sent_length (head_blocks head)) sent))
+pub sent_packet_of-whole : (sent : List Bool) (head : PacketHead) → sent_head_of sent ≡ Ok head → packet_sent_length (head_blocks head) ≤ length sent
+    → sent_packet_of sent ≡ packet_of_head head (plain_of (take (packet_sent_length (head_blocks head)) sent))
 unfolding sent_packet_of sent_from
 sent_packet_of-whole sent head is fits = rw is (cond-true (leb (packet_sent_length (head_blocks head)) (length sent)) _ _ (le-leb _ _ fits))
 

@@ -47,17 +47,30 @@ slots_read n plain = each_below n (λ j. slot_from (three_quarter_octets (block_
 unfoldable pub octets_read : ℕ → List Bool → List ℕ
 octets_read n plain = joined_below n (λ j. half_octets (block_bits plain j))
 
+-- packets by their parts
+abbrev pub confirmed_by_parts : PacketHead → List Slot → Packet
+confirmed_by_parts head slots = Confirmed (record { head = head; slots = slots })
+
+abbrev pub plain_by_parts : PacketHead → List ℕ → Packet
+plain_by_parts head octets = Plain (record { head = head; octets = octets })
+
 -- the packet of a header and of the octets of all its blocks, of which the last four are the packet CRC of those before;
 -- where there is no block to follow there are no octets and no CRC
 unfoldable pub plain_from : PacketHead → List ℕ → Result Packet Field
 plain_from head octets =
     let count = 12 * head_blocks head - 4 in
-    if eqb (head_blocks head) 0 || eqb (octets_number (drop count octets)) (crc32_of (take count octets)) then Ok (Plain (record { head = head; octets = take count octets })) else Err PacketCrc
+    let agrees = eqb (octets_number (drop count octets)) (crc32_of (take count octets)) in
+    if eqb (head_blocks head) 0 || agrees then Ok (plain_by_parts head (take count octets)) else Err PacketCrc
+
+-- the packet of a header that is not confirmed, and the bits of its unit
+abbrev pub unconfirmed_from : PacketHead → List Bool → Result Packet Field
+unconfirmed_from head plain =
+    if eqb (head_format head) 0x15 || eqb (head_format head) 0x03 then plain_from head (octets_read (head_blocks head) plain) else Err Format
 
 -- the packet of a header and the bits of its unit, by the format
 unfoldable pub packet_of_head : PacketHead → List Bool → Result Packet Field
 packet_of_head head plain =
-    if eqb (head_format head) 0x16 then Ok (Confirmed (record { head = head; slots = slots_read (head_blocks head) plain })) else (if eqb (head_format head) 0x15 || eqb (head_format head) 0x03 then plain_from head (octets_read (head_blocks head) plain) else Err Format)
+    if eqb (head_format head) 0x16 then Ok (confirmed_by_parts head (slots_read (head_blocks head) plain)) else unconfirmed_from head plain
 
 -- the packet answer: PacketHeader, Format and PacketCrc are tested in this order
 unfoldable pub packet_from : Result PacketHead Field → List Bool → Result Packet Field

@@ -1,10 +1,17 @@
 -- Received bits within radius of a packet's image.
-use Rattle.std.specs.Prelude.{◌≡◌, ℕ, ◌<◌, ◌≤◌, Bool, List, length}
+use Rattle.std.specs.Prelude.{◌≡◌, ℕ, ◌*◌, ◌<◌, ◌≤◌, Bool, List, length, take}
 use Rattle.p25_bits.specs.Distance.{distance_of}
+use Rattle.p25_status.specs.Sync.{sync_slack}
+use Rattle.p25_status.specs.declared.symbols.Status.{Status}
+use Rattle.p25_status.specs.Woven.{woven, plain_of}
+use Rattle.p25_front.specs.Front.{identifier_bits}
 use Rattle.p25_packet_blocks.specs.declared.packet.Packet.{Packet}
 use Rattle.p25_packet_blocks.specs.declared.packet.Packet.TheVariants.{Confirmed, Plain}
 use Rattle.p25_packet_blocks.specs.Heads.{head_blocks}
 use Rattle.p25_packet_blocks.specs.Whole.{packet_head}
+use Rattle.p25_packet_blocks.specs.Lengths.{packet_plain_length}
+use Rattle.p25_packet_blocks.specs.Image.{packet_image_of}
+use Rattle.p25_packet_blocks.specs.Sendable.{IsSendable}
 use Rattle.p25_packet_blocks.specs.Reading.{header_bits, block_bits}
 
 -- how many bits of a block may be wrong: one at three-quarter rate, two at half rate
@@ -18,3 +25,21 @@ pub record AreBlocksWithin (packet : Packet) (image received : List Bool) : Type
   pub long : length received ≡ length image
   pub header : distance_of (header_bits image) (header_bits received) ≤ 2
   pub blocks : (j : ℕ) → j < head_blocks (packet_head packet) → distance_of (block_bits image j) (block_bits received j) ≤ block_radius packet
+
+-- received bits are within radius of a sent unit of a packet: so few wrong bits of the sync and of the first 63 of the
+-- identifier, and of its blocks; status symbols, the last bit of the identifier and nulls are free
+pub record IsPacketWithin (packet : Packet) (sent received : List Bool) : Type 0 where
+  pub long : length received ≡ length sent
+  pub sync : distance_of (take 48 received) (take 48 sent) ≤ sync_slack
+  pub identifier : distance_of (take 63 (identifier_bits received)) (take 63 (identifier_bits sent)) ≤ 11
+  pub blocks : AreBlocksWithin packet (plain_of sent) (plain_of received)
+
+-- a packet that is sent under a network access code of 12 bits, with a status symbol for each 70 bits of its unit
+pub record IsSending (nac : ℕ) (packet : Packet) (statuses : List Status) : Type 0 where
+  pub nac_fits : nac < 4096
+  pub sendable : IsSendable packet
+  pub counted : 70 * length statuses ≡ packet_plain_length (head_blocks (packet_head packet))
+
+-- its unit, as it is sent
+abbrev pub sent_unit : ℕ → Packet → List Status → List Bool
+sent_unit nac packet statuses = woven (packet_image_of nac packet) statuses

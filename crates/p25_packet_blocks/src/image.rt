@@ -28,7 +28,9 @@ pub(crate) const PACKET_DUID: u8 = 12;
 /// Answers the length of the unit of a packet as it is sent, by the blocks to follow of its header: 112 bits, 196 for each
 /// block and the header block, filled to a multiple of 70, and two status bits for each 70.
 pub fn packet_length(head: &PacketHead) -> usize
-    ensures { result ≡ packet_sent_length (head_blocks head.now) }
+    ensures value { result ≡ packet_sent_length (head_blocks head.now) }
+    ensures least { 360 ≤ result }
+    ensures most { result ≤ 25920 }
 {
     72 * parts(head)
 }
@@ -37,6 +39,7 @@ pub fn packet_length(head: &PacketHead) -> usize
 fn parts(head: &PacketHead) -> usize
     ensures parts { 70 * result ≡ packet_plain_length (head_blocks head.now) }
     ensures sent { 72 * result ≡ packet_sent_length (head_blocks head.now) }
+    ensures least { 5 ≤ result }
     ensures most { result ≤ 360 }
 {
     (112 + 196 * (1 + usize::from(head.blocks())) + 69) / 70

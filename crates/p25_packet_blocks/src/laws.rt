@@ -9,5 +9,6 @@ ghost use Rattle.p25_packet_blocks.specs.Places.{IsPacketImage};
 /// Bits are the image of a packet that can be sent exactly where they stand as `IsPacketImage` says. So each such packet has
 /// exactly one image.
 pub fn one_image()
-    ensures { (nac : ℕ) (packet : packet_type) (bits : List Bool) → IsSendable packet → IsPacketImage nac packet bits ↔ (bits ≡ packet_image_of nac packet) }
+    ensures { (nac : ℕ) (packet : packet_type) (bits : List Bool)
+        → IsSendable packet → IsPacketImage nac packet bits ↔ (bits ≡ packet_image_of nac packet) }
 {}

@@ -1,16 +1,25 @@
-//! Packets of data: their header, their blocks, what a unit reads as, and the unit of a packet.
+//! Packets of data: their header, their blocks, what a unit reads as, and the unit of a packet (TIA-102.BAAA, Packet Data).
 //!
-//! All octets stand in the order in which they are sent, and of each octet the most significant bit comes first. A packet
-//! is a header of ten octets and what follows it: of a confirmed packet a slot for each block, in the order of sending,
-//! and of another packet all octets before the packet CRC. Contracts see a list as a list, and a packet, a block and the
-//! two kinds of packets as records of their parts.
+//! The first bit of a list is the first that is sent. Octets stand in the order in which they are sent, and of each octet the
+//! most significant bit comes first. A packet is a header of ten octets and what follows it: of a confirmed packet a slot for
+//! each block, in the order of sending, and of another packet all octets before the packet CRC. A unit without status symbols
+//! has its front in bits 0 to 111, the header block at half rate in the 196 bits from 112, block j in the 196 bits from
+//! 308 + 196 · j, at three-quarter rate where the packet is confirmed and at half rate else, and then nulls up to a multiple
+//! of 70.
 //!
 //! ```text
 //! let mut slots = Slots::new();
 //! slots.push(Slot::Good(Block::new(0, octets)));
 //! let head = PacketHead::confirmed(1, true, 1, 0, 0);
 //! let packet = Packet::Confirmed(Confirmed::new(head, slots));
+//! packet_image(0x293, &packet, &mut plain);
+//! weave(&plain, &statuses, &mut sent);
+//! let (nac, again) = read_packet_unit(&sent)?;
 //! ```
+//!
+//! Contracts see a list as a list, and a packet, a block and the two kinds of packets as records of their parts. What a unit
+//! reads as is a function, `packet_reading_of` or `packet_unit_of`, and so is its image, `packet_image_of`; `one_image` says
+//! where each part of the image stands, and `packet_radius` how many wrong bits do no harm.
 #![tactic(auto)]
 
 mod block;
@@ -20,8 +29,11 @@ mod image;
 mod laws;
 mod octets;
 mod packet;
+mod radius;
 mod read;
 mod slots;
+#[cfg(test)]
+mod tests;
 mod unit;
 mod whole;
 
@@ -32,6 +44,7 @@ pub use image::{packet_image, packet_length};
 pub use laws::one_image;
 pub use octets::Octets;
 pub use packet::{Confirmed, Packet, Plain};
+pub use radius::packet_radius;
 pub use read::{read_head, read_packet, read_packet_of_head};
 pub use slots::Slots;
 pub use unit::{read_packet_unit, read_sent_head};

@@ -39,7 +39,8 @@ symbols_searched P test =
     elim (symbol_below P test 64 (lit≤ tt)) [ inl found ↦ inl found | inr without ↦ inr (λ x. without x x.below) ]
 
 -- a word vanishes at each of the first powers of α, or at some it does not
-vanishes_tested : (n : ℕ) (word : List Sym) (checks : ℕ) → ((i : ℕ) → 1 ≤ i → i ≤ checks → value_of n word i ≡ gf64.zero) ⊎ ¬ ((i : ℕ) → 1 ≤ i → i ≤ checks → value_of n word i ≡ gf64.zero)
+vanishes_tested : (n : ℕ) (word : List Sym) (checks : ℕ)
+    → ((i : ℕ) → 1 ≤ i → i ≤ checks → value_of n word i ≡ gf64.zero) ⊎ ¬ ((i : ℕ) → 1 ≤ i → i ≤ checks → value_of n word i ≡ gf64.zero)
 vanishes_tested n word zero = inl (λ i some most. absurd (omega arith))
 vanishes_tested n word (suc checks) =
     elim (gf64.is_zero (value_of n word (suc checks))) [
@@ -50,7 +51,8 @@ vanishes_tested n word (suc checks) =
       | inr other ↦ inr (λ each. other (each (suc checks) (omega arith) (omega arith)))
     ]
   where
-    all : value_of n word (suc checks) ≡ gf64.zero → ((i : ℕ) → 1 ≤ i → i ≤ checks → value_of n word i ≡ gf64.zero) → (i : ℕ) → 1 ≤ i → i ≤ suc checks → value_of n word i ≡ gf64.zero
+    all : value_of n word (suc checks) ≡ gf64.zero → ((i : ℕ) → 1 ≤ i → i ≤ checks → value_of n word i ≡ gf64.zero) → (i : ℕ) → 1 ≤ i → i ≤ suc checks
+        → value_of n word i ≡ gf64.zero
     all last before i some most =
         elim (cases_eq i (suc checks)) [
           | inl same ↦ ap (λ j. value_of n word j) same ∙ last

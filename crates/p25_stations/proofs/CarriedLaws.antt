@@ -10,22 +10,22 @@ use Rattle.p25_bits.specs.Numbers.{octets_number, each_below, joined_below}
 use Rattle.p25_bits.proofs.NumbersLaws.{each_below-zero, each_below-suc, length-each_below, get_or-each_below, joined_below-zero, joined_below-suc, joined_below-same, joined_below-parts}
 use Rattle.p25_bits.proofs.PartLaws.{part_whole}
 use Rattle.p25_crc.specs.Values.{crc32_of}
+use Rattle.p25_packet_blocks.specs.Image.{four_octets, checked_octets}
 use Rattle.p25_packet_blocks.specs.Parts.{BlockParts}
 use Rattle.p25_packet_blocks.specs.declared.block.Slot.{Slot}
 use Rattle.p25_packet_blocks.specs.declared.block.Slot.TheVariants.{Good, Bad}
-use Rattle.p25_stations.specs.MessageBlocks.{block_count, pad_count, crc_octets, padded_octets, message_octets, message_block, unpadded}
+use Rattle.p25_stations.specs.MessageBlocks.{block_count, pad_count, padded_octets, message_octets, message_block, unpadded}
 use Rattle.p25_stations.specs.Places.{put_block, put_slots, before_octets, all_octets}
 use Rattle.p25_stations.specs.Carried.{AreBlocksOf, HoldsSerial, CarriesMessage, unpadded_option, read_back}
 use Rattle.p25_stations.proofs.PlacesLaws.{length-put_block, length-put_slots, both_octets, all_octets-append}
-use Rattle.p25_stations.proofs.MessageBlocksLaws.{octets_number-four, length-crc_octets, length-message_octets}
+use Rattle.p25_stations.proofs.MessageBlocksLaws.{octets_number-four, length-message_octets}
 
 -- the number of the packet CRC's octets
-four_octets : (n : ℕ) → 16777216 * (n / 2 ^ 24) + 65536 * (n / 2 ^ 16 % 256) + 256 * (n / 2 ^ 8 % 256) + n % 256 ≡ n
-four_octets n = omega arith
+base-256 : (n : ℕ) → 16777216 * (n / 2 ^ 24) + 65536 * (n / 2 ^ 16 % 256) + 256 * (n / 2 ^ 8 % 256) + n % 256 ≡ n
+base-256 n = omega arith
 
-pub octets_number-crc_octets : (octets : List ℕ) → octets_number (crc_octets octets) ≡ crc32_of octets
-unfolding crc_octets
-octets_number-crc_octets octets = octets_number-four (crc_octets octets) refl ∙ four_octets (crc32_of octets)
+pub octets_number-four_octets : (n : ℕ) → octets_number (four_octets n) ≡ n
+octets_number-four_octets n = octets_number-four (four_octets n) refl ∙ base-256 n
 
 le-true : (m n : ℕ) → m ≤ n → nat_le m n ≡ true
 le-true m n h = grind (arith, nat_tests)
@@ -48,13 +48,13 @@ unpadded-is front check pad four agrees small =
 
 -- the octets of a message's blocks
 pub message-read_back : (message : List ℕ) → unpadded (message_octets message) (pad_count (length message)) ≡ Some message
-unfolding message_octets padded_octets
+unfolding message_octets padded_octets checked_octets
 message-read_back message =
     let pad = pad_count (length message) in
     let zeros = replicate pad 0 in
     let many : length zeros ≡ pad = length-replicate {A = ℕ} pad 0 in
     let count : length (message ++ zeros) - pad ≡ length message = omega (arith, length-append message zeros, many) in
-    unpadded-is (message ++ zeros) (crc_octets (message ++ zeros)) pad (length-crc_octets (message ++ zeros)) (octets_number-crc_octets (message ++ zeros)) (omega (arith, length-append message zeros, many)) ∙ ap (λ (xs : List ℕ). Some xs) (take_at message zeros (length (message ++ zeros) - pad) (sym count))
+    unpadded-is (message ++ zeros) (four_octets (crc32_of (message ++ zeros))) pad refl (octets_number-four_octets (crc32_of (message ++ zeros))) (omega (arith, length-append message zeros, many)) ∙ ap (λ (xs : List ℕ). Some xs) (take_at message zeros (length (message ++ zeros) - pad) (sym count))
 
 lt-true : (m n : ℕ) → m < n → nat_lt m n ≡ true
 lt-true m n h = grind (arith, nat_tests)

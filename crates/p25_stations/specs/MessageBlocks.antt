@@ -1,8 +1,9 @@
 -- A message as the blocks of a confirmed packet carry it, and back.
-use Rattle.std.specs.Prelude.{ℕ, ◌+◌, ◌-◌, ◌*◌, ◌/◌, ◌%◌, ◌^◌, ◌&&◌, eqb, nat_le, List, [], ◌∷◌, ◌++◌, length, take, drop, replicate, Option, Some, None, if◌then◌else◌}
+use Rattle.std.specs.Prelude.{ℕ, ◌+◌, ◌-◌, ◌*◌, ◌/◌, ◌&&◌, eqb, nat_le, List, ◌++◌, length, take, drop, replicate, Option, Some, None, if◌then◌else◌}
 use Rattle.p25_bits.specs.Bits.{part}
 use Rattle.p25_bits.specs.Numbers.{octets_number, each_below}
 use Rattle.p25_crc.specs.Values.{crc32_of}
+use Rattle.p25_packet_blocks.specs.Image.{checked_octets}
 use Rattle.p25_packet_blocks.specs.Parts.{BlockParts}
 
 -- how many blocks of 16 octets carry so many octets and the four of the packet CRC
@@ -13,18 +14,13 @@ block_count octets = (octets + 19) / 16
 abbrev pub pad_count : ℕ → ℕ
 pad_count octets = 16 * block_count octets - 4 - octets
 
--- the packet CRC of some octets, the highest octet first
-unfoldable pub crc_octets : List ℕ → List ℕ
-crc_octets octets =
-    crc32_of octets / 2 ^ 24 ∷ crc32_of octets / 2 ^ 16 % 256 ∷ crc32_of octets / 2 ^ 8 % 256 ∷ crc32_of octets % 256 ∷ []
-
 -- a message and its pad octets
 unfoldable pub padded_octets : List ℕ → List ℕ
 padded_octets message = message ++ replicate (pad_count (length message)) 0
 
 -- all octets that the blocks of a message carry: the message, its pad octets, and the packet CRC over both
 unfoldable pub message_octets : List ℕ → List ℕ
-message_octets message = padded_octets message ++ crc_octets (padded_octets message)
+message_octets message = checked_octets (padded_octets message)
 
 -- the block with a serial number
 unfoldable pub message_block : List ℕ → ℕ → BlockParts

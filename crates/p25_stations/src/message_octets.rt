@@ -3,7 +3,7 @@
 ghost use Rattle.std.specs.Prelude.{◌≡◌, ℕ, ◌+◌, ◌-◌, ◌*◌, ◌/◌, ◌%◌, ◌^◌, ◌<◌, ◌≤◌, List, [], ◌∷◌, ◌++◌, length, replicate, IfSome};
 ghost use Rattle.p25_bits.specs.Bits.{part};
 ghost use Rattle.p25_bits.specs.Numbers.{octets_number};
-ghost use Rattle.p25_stations.specs.MessageBlocks.{block_count, pad_count, crc_octets, padded_octets, message_octets, unpadded};
+ghost use Rattle.p25_stations.specs.MessageBlocks.{block_count, pad_count, padded_octets, message_octets, unpadded};
 ghost use Rattle.p25_stations.specs.Places.{all_octets};
 
 use arrayvec::ArrayVec;
@@ -49,7 +49,7 @@ impl MessageOctets {
     ghost use Rattle.p25_packet_blocks.specs.Parts.{BlockParts};
 
     // The octets for a message.
-    #[tactic(auto, unfolding(crate::specs::MessageBlocks::message_octets, crate::specs::MessageBlocks::padded_octets, crate::specs::MessageBlocks::crc_octets))]
+    #[tactic(auto, unfolding(crate::specs::MessageBlocks::message_octets, crate::specs::MessageBlocks::padded_octets, p25_packet_blocks::specs::Image::checked_octets))]
     pub(crate) fn of(message: &Message) -> MessageOctets
         ensures list { result ≡ message_octets message.now }
         ensures len { length result ≡ 16 * block_count (length message.now) }

@@ -1,11 +1,10 @@
 //! The rules of both stations as tables, with blocks computed apart from this code.
 
-ghost use Rattle.std.specs.Prelude.{◌≡◌, ◌<◌, ◌⊎◌};
+ghost use Rattle.std.specs.Prelude.{◌<◌};
 
 use super::{Heard, LLID, Message, Offer, Receiver, Reopen, Resend, Sender, SenderHeard};
-use p25_packet_blocks::{
-    Block, Confirmed, Flags, Octets, Packet, PacketHead, Plain, Slot, Slots, flags_make,
-};
+use crate::sent;
+use p25_packet_blocks::{Block, Confirmed, Flags, Octets, Packet, PacketHead, Plain, Slot, Slots};
 use std::test::Fail;
 
 // The one block of the message 61 62 hex.
@@ -75,39 +74,37 @@ fn answers_to_responses(rt: HostRuntime) -> Result<(), Fail> {
     Ok(())
 }
 
-// A selective retry of number 0 with so many flags, of which one is false.
-fn retry(count: usize, missing: usize) -> Packet
-    requires count { (count ≡ 64) ⊎ (count ≡ 128) }
-{
+// A selective retry of number 0 with 64 flags or 128, of which one is false.
+fn retry(is_long: bool, missing: usize) -> Packet {
+    let count = if is_long { 128 } else { 64 };
     let mut flags = Flags::new(count);
     for i in 0..count {
         flags.set(i, i != missing);
     }
-    let head = PacketHead::response(LLID, 2, 0, 0, if count == 64 { 1 } else { 2 });
-    Packet::Plain(Plain::new(head, flags_make(&flags)))
+    sent::retry(0, &flags)
 }
 
 #[test]
 fn flags_of_a_selective_retry(rt: HostRuntime) -> Result<(), Fail> {
-    // the octets of the message, the flags of the response, the flag that is false, and the answer
+    // the octets of the message, whether there are 128 flags, the flag that is false, and the answer
     let rows = [
-        (2, 64, 0, "retry"),
-        (2, 64, 1, "ignored"),
-        (2, 128, 0, "retry"),
-        (1020, 64, 63, "retry"),
-        (1021, 64, 63, "ignored"),
-        (1021, 128, 64, "retry"),
-        (1021, 128, 65, "ignored"),
-        (2028, 128, 126, "retry"),
+        (2, false, 0, "retry"),
+        (2, false, 1, "ignored"),
+        (2, true, 0, "retry"),
+        (1020, false, 63, "retry"),
+        (1021, false, 63, "ignored"),
+        (1021, true, 64, "retry"),
+        (1021, true, 65, "ignored"),
+        (2028, true, 126, "retry"),
     ];
     let octets = [0; 2028];
-    for (size, count, missing, answer) in rows {
+    for (size, is_long, missing, answer) in rows {
         let mut sender = Sender::new();
         let _ = sender.offer(&Message::new(&octets[..size]).ok_or("at most 2,028 octets")?);
-        let heard = sender.hear(&retry(count, missing));
+        let heard = sender.hear(&retry(is_long, missing));
         assert_eq!(rt; sender_answer(&heard), answer);
         if let SenderHeard::Retry { wanted, packet, .. } = heard {
-            assert_eq!(rt; wanted.len(), count);
+            assert_eq!(rt; wanted.len() == 128, is_long);
             if let Packet::Confirmed(packet) = packet {
                 assert_eq!(rt; packet.head().blocks(), 1);
                 assert!(rt; !packet.head().is_full());

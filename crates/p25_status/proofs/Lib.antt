@@ -2,4 +2,5 @@ pub mod Parts
 pub mod SyncLaws
 pub mod WovenLaws
 pub mod PlacesLaws
-pub mod Steps
+pub mod WeavingSteps
+pub mod StatusLaws

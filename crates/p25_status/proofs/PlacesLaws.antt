@@ -46,7 +46,8 @@ plain_places bits (s ∷ ss) e u h =
           ∙ ap (slice_get bits) back_again
     ]
 
-pub symbol_places : (bits : List Bool) (statuses : List Status) → length bits ≡ 70 * length statuses → (i : ℕ) (status : Status) → slice_get statuses i ≡ Some status → part (72 * i + 70) 2 (woven bits statuses) ≡ bits_of 2 (status_number status)
+pub symbol_places : (bits : List Bool) (statuses : List Status) → length bits ≡ 70 * length statuses
+    → (i : ℕ) (status : Status) → slice_get statuses i ≡ Some status → part (72 * i + 70) 2 (woven bits statuses) ≡ bits_of 2 (status_number status)
 unfolding woven
 symbol_places bits [] e i status h = cc
 symbol_places bits (s ∷ ss) e zero status h =

@@ -7,7 +7,7 @@ use Rattle.std.proofs.lemmas.List.{take-append-drop, length-take-le, nil_from_le
 use Rattle.p25_bits.specs.Bits.{digit_of, bits_of, field_of, field_after, part}
 use Rattle.p25_bits.proofs.PartLaws.{part-take}
 use Rattle.p25_bits.proofs.BitsLaws.{length-bits_of, field_of-bits_of}
-use Rattle.p25_status.specs.Status.{status_number, symbol_of, same_status}
+use Rattle.p25_status.specs.Status.{status_number, status_from_bits, same_status}
 use Rattle.p25_status.specs.Woven.{woven, plain_in, plain_of, statuses_in, statuses_of}
 use Rattle.p25_status.specs.declared.symbols.Status.{Status}
 use Rattle.p25_status.proofs.Parts.{front, back, back_from}
@@ -18,13 +18,13 @@ unfolding field_of field_after bits_of
 two_digits n below = let e = field_of-bits_of 2 n ∙ mod-eq_of_lt below in omega (arith, e)
 
 -- the two bits of a symbol give it back
-pub symbol_again : (status : Status) → symbol_of (eqb (bit_at (status_number status) 1) 1) (eqb (bit_at (status_number status) 0) 1) ≡ status
-unfolding symbol_of
+pub symbol_again : (status : Status) → status_from_bits (eqb (bit_at (status_number status) 1) 1) (eqb (bit_at (status_number status) 0) 1) ≡ status
+unfolding status_from_bits
 symbol_again status = same_status _ status (two_digits (status_number status) status.below)
 
 -- the symbol of two bits has those bits
-pub bits_again : (high low : Bool) → bits_of 2 (status_number (symbol_of high low)) ≡ high ∷ low ∷ []
-unfolding symbol_of bits_of
+pub bits_again : (high low : Bool) → bits_of 2 (status_number (status_from_bits high low)) ≡ high ∷ low ∷ []
+unfolding status_from_bits bits_of
 bits_again true true = refl
 bits_again true false = refl
 bits_again false true = refl
@@ -78,7 +78,7 @@ statuses_in-woven bits (s ∷ ss) e =
     let high : get_or sent 70 false ≡ eqb (bit_at (status_number s) 1) 1 = sym (get_or-drop 70 sent 0 false) ∙ ap (λ l. get_or l 0 false) after in
     let low : get_or sent 71 false ≡ eqb (bit_at (status_number s) 0) 1 = sym (get_or-drop 70 sent 1 false) ∙ ap (λ l. get_or l 1 false) after in
     ap₂ ◌∷◌
-    (ap₂ symbol_of high low ∙ symbol_again s)
+    (ap₂ status_from_bits high low ∙ symbol_again s)
     (ap (statuses_in (length ss)) (after_block block (bits_of 2 (status_number s)) rest whole (length-bits_of 2 (status_number s))) ∙ statuses_in-woven (drop 70 bits) ss (rest_of_blocks bits s ss e))
 
 -- blocks that are counted by their length

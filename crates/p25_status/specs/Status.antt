@@ -10,8 +10,8 @@ abbrev pub status_number : Status → ℕ
 status_number status = status.value
 
 -- the status symbol of a number below 4
-abbrev pub status_of : (n : ℕ) → n < 4 → Status
-status_of n h = record { value = n; below = h }
+abbrev pub status_at_number : (n : ℕ) → n < 4 → Status
+status_at_number n h = record { value = n; below = h }
 
 pub two_digits-lt : (high low : Bool) → 2 * digit_of high + digit_of low < 4
 two_digits-lt true true = lit< tt
@@ -20,11 +20,11 @@ two_digits-lt false true = lit< tt
 two_digits-lt false false = lit< tt
 
 -- the status symbol of two bits, the first one higher
-unfoldable pub symbol_of : Bool → Bool → Status
-symbol_of high low = status_of (2 * digit_of high + digit_of low) (two_digits-lt high low)
+unfoldable pub status_from_bits : Bool → Bool → Status
+status_from_bits high low = status_at_number (2 * digit_of high + digit_of low) (two_digits-lt high low)
 
-same_made : (m n : ℕ) → m ≡ n → (p : m < 4) (q : n < 4) → status_of m p ≡ status_of n q
-same_made m n e p = subst (λ k. (q : k < 4) → status_of m p ≡ status_of k q) e (λ q. ap (λ r. status_of m r) (le_prop p q))
+same_made : (m n : ℕ) → m ≡ n → (p : m < 4) (q : n < 4) → status_at_number m p ≡ status_at_number n q
+same_made m n e p = subst (λ k. (q : k < 4) → status_at_number m p ≡ status_at_number k q) e (λ q. ap (λ r. status_at_number m r) (le_prop p q))
 
 -- status symbols of one number are one symbol
 pub same_status : (a b : Status) → status_number a ≡ status_number b → a ≡ b

@@ -1,7 +1,7 @@
 -- Where status symbols stand among the bits of a unit: one of two bits after every 70 bits.
 use Rattle.std.specs.Prelude.{◌≡◌, ℕ, zero, suc, ◌+◌, ◌*◌, ◌/◌, ◌<◌, Bool, false, List, [], ◌∷◌, ◌++◌, length, take, drop, slice_get, slice_index_or, Some}
 use Rattle.p25_bits.specs.Bits.{bits_of, part}
-use Rattle.p25_status.specs.Status.{status_number, symbol_of}
+use Rattle.p25_status.specs.Status.{status_number, status_from_bits}
 use Rattle.p25_status.specs.declared.symbols.Status.{Status}
 
 -- the bits of a unit as they are sent, with its status symbols
@@ -17,7 +17,7 @@ plain_in (suc blocks) sent = take 70 sent ++ plain_in blocks (drop 72 sent)
 -- the status symbols of so many blocks of 72 bits
 unfoldable pub statuses_in : ℕ → List Bool → List Status
 statuses_in zero sent = []
-statuses_in (suc blocks) sent = symbol_of (slice_index_or sent 70 false) (slice_index_or sent 71 false) ∷ statuses_in blocks (drop 72 sent)
+statuses_in (suc blocks) sent = status_from_bits (slice_index_or sent 70 false) (slice_index_or sent 71 false) ∷ statuses_in blocks (drop 72 sent)
 
 -- sent bits without their status symbols
 unfoldable pub plain_of : List Bool → List Bool

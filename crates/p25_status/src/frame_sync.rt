@@ -1,7 +1,7 @@
 ghost use Rattle.std.specs.Prelude.{◌≡◌, ◌+◌, ◌^◌, ◌<◌, ◌≤◌, ◌↔◌, IsTrue, length};
 ghost use Rattle.p25_bits.specs.Bits.{bits_of, part};
 ghost use Rattle.p25_bits.specs.Distance.{distance_of};
-ghost use Rattle.p25_status.specs.Sync.{sync_bits, sync_slack};
+ghost use Rattle.p25_status.specs.Sync.{sync_bits, sync_slack, sync_length, identifier_length};
 
 use p25_bits::BitBuf;
 
@@ -22,6 +22,9 @@ pub fn sync_distance(window: u64) -> u32
     requires { window < 2 ^ 48 }
     ensures distance { result ≡ distance_of (bits_of 48 window) sync_bits }
     ensures most { result ≤ 48 }
+    ensures sync { bits_of 48 SYNC ≡ sync_bits }
+    ensures slack { SYNC_SLACK ≡ sync_slack }
+    ensures lengths { (SYNC_LENGTH ≡ sync_length) × (IDENTIFIER_LENGTH ≡ identifier_length) }
 {
     (window ^ SYNC).count_ones()
 }
@@ -35,7 +38,8 @@ pub fn is_sync_window(window: u64) -> bool
     sync_distance(window) <= SYNC_SLACK
 }
 
-/// Answers whether the 48 bits from place `at` on differ from the frame sync in at most four places.
+/// Answers whether the 48 bits from place `at` on differ from the frame sync in at most four places. TIA-102.BAAA, Frame
+/// Synchronization.
 pub fn is_sync(bits: &BitBuf, at: usize) -> bool
     requires { at + 48 ≤ length bits.now }
     ensures { IsTrue result ↔ (distance_of (part at 48 bits.now) sync_bits ≤ sync_slack) }

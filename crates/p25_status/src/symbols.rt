@@ -1,4 +1,4 @@
-ghost use Rattle.std.specs.Prelude.{◌≡◌, ℕ, ◌+◌, ◌<◌, ◌≤◌, ◌↔◌, Bool, List, [], ◌∷◌, ◌++◌, length, slice_get, IsSome, IfSome};
+ghost use Rattle.std.specs.Prelude.{◌≡◌, ℕ, ◌+◌, ◌<◌, ◌≤◌, ◌↔◌, Bool, List, [], ◌∷◌, ◌++◌, length, slice_get, replicate, IsSome, IfSome};
 
 use arrayvec::ArrayVec;
 use std::marker::Model;
@@ -24,7 +24,7 @@ impl Default for Status {
 }
 
 impl Status {
-    ghost use Rattle.p25_status.specs.Status.{status_number, symbol_of};
+    ghost use Rattle.p25_status.specs.Status.{status_number};
 
     /// Answers the status symbol of a number. None comes exactly above 3.
     pub fn new(value: u8) -> Option<Status>
@@ -46,13 +46,12 @@ impl Status {
         self.value
     }
 
-    // The symbol of two bits, the first one higher.
-    pub(crate) fn from_bits(high: bool, low: bool) -> Status
-        ensures { result ≡ symbol_of high low }
+    // Answers the symbol that two bits write as a number, the first one higher.
+    pub(crate) fn at_number(value: u8) -> Status
+        requires { value < 4 }
+        ensures { status_number result ≡ value }
     {
-        Status {
-            value: 2 * u8::from(high) + u8::from(low),
-        }
+        Status { value }
     }
 }
 
@@ -79,6 +78,19 @@ impl Statuses {
         Statuses {
             items: ArrayVec::new(),
         }
+    }
+
+    /// Answers a list of `count` times one symbol.
+    pub fn filled(status: Status, count: usize) -> Statuses
+        requires { count ≤ 360 }
+        ensures list { result ≡ replicate count status }
+        ensures len { length result ≡ count }
+    {
+        let mut statuses = Statuses::new();
+        for _added in 0..count {
+            statuses.push(status);
+        }
+        statuses
     }
 
     /// Answers the number of symbols held.

@@ -60,6 +60,14 @@ fn two_blocks(rt: HostRuntime) -> Result<(), Fail> {
 }
 
 #[test]
+fn one_symbol_throughout(rt: HostRuntime) -> Result<(), Fail> {
+    let idle = Statuses::filled(Status::new(3).ok_or("3 is a status symbol")?, 360);
+    assert_eq!(rt; idle.len(), 360);
+    assert_eq!(rt; idle.get(359).value(), 3);
+    Ok(())
+}
+
+#[test]
 fn field_lists(rt: HostRuntime) {
     let mut fields = FieldList::new();
     fields.push(Field::LinkControl);

@@ -11,6 +11,9 @@ pub const PLAIN_BLOCK_LENGTH: usize = 70;
 /// How many bits are sent for them: a status symbol has two. TIA-102.BAAA, Status Symbols.
 pub const SENT_BLOCK_LENGTH: usize = 72;
 
+// How many bits a status symbol has.
+const STATUS_WIDTH: u32 = 2;
+
 /// Replaces `out` by a unit's bits as they are sent: after every 70 bits of `plain` comes one of the status symbols, in
 /// order. There are 70 bits for each symbol. TIA-102.BAAA, Status Symbols.
 pub fn weave(plain: &BitBuf, statuses: &Statuses, out: &mut BitBuf)
@@ -24,8 +27,8 @@ pub fn weave(plain: &BitBuf, statuses: &Statuses, out: &mut BitBuf)
 {
     out.clear();
     for i in 0..statuses.len() {
-        out.append(plain, 70 * i, 70);
-        out.put_field(u64::from(statuses.get(i).value()), 2);
+        out.append(plain, PLAIN_BLOCK_LENGTH * i, PLAIN_BLOCK_LENGTH);
+        out.put_field(u64::from(statuses.get(i).value()), STATUS_WIDTH);
     }
 }
 
@@ -46,9 +49,10 @@ pub fn unweave(bits: &BitBuf, at: usize, len: usize, out: &mut BitBuf, statuses:
     let _ = bits.len();
     out.clear();
     *statuses = Statuses::new();
-    for i in 0..len / 72 {
-        let start = at + 72 * i;
-        out.append(bits, start, 70);
-        statuses.push(Status::from_bits(bits.get(start + 70), bits.get(start + 71)));
+    for i in 0..len / SENT_BLOCK_LENGTH {
+        let start = at + SENT_BLOCK_LENGTH * i;
+        out.append(bits, start, PLAIN_BLOCK_LENGTH);
+        let status = bits.field(start + PLAIN_BLOCK_LENGTH, STATUS_WIDTH);
+        statuses.push(Status::at_number(status as u8));
     }
 }

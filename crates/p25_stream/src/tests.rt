@@ -1,1 +1,68 @@
 //! Each call once.
+
+use super::{Item, Scanner, bridge_item, item_laws, repair_item};
+use p25_bits::BitBuf;
+use p25_units::{Body, Frame, Status, Statuses, Unit, VoiceUnit, frame_length};
+use std::test::Fail;
+
+#[test]
+fn one_octet(rt: HostRuntime) {
+    item_laws();
+    let mut scanner = Scanner::new();
+    let mut raw = BitBuf::new();
+    if scanner.is_drained() {
+        scanner.push(0x55);
+    }
+    assert_eq!(rt; scanner.held(), 8);
+    assert!(rt; scanner.next(&mut raw).is_none());
+    scanner.finish();
+    match scanner.next(&mut raw) {
+        Some(item) => assert!(rt;
+            matches!(
+                item,
+                Item::Gap {
+                    place: 0,
+                    length: 8
+                }
+            )
+        ),
+        None => assert!(rt; false),
+    }
+    assert_eq!(rt; raw.len(), 8);
+    assert_eq!(rt; scanner.held(), 0);
+}
+
+#[test]
+fn a_terminator_sent_again(rt: HostRuntime) -> Result<(), Fail> {
+    let one = Status::new(1).ok_or("1 is a status symbol")?;
+    let three = Status::new(3).ok_or("3 is a status symbol")?;
+    let mut statuses = Statuses::new();
+    statuses.push(one);
+    statuses.push(one);
+    let frame = Frame {
+        unit: Unit::new(0, Body::Voice(VoiceUnit::End)),
+        statuses,
+    };
+    let mut raw = BitBuf::new();
+    let mut out = BitBuf::new();
+    if frame_length(&frame.unit) == 72 * frame.statuses.len() {
+        let item = Item::Whole {
+            place: 0,
+            frame,
+            fixes: 3,
+        };
+        repair_item(&item, &mut raw);
+        assert_eq!(rt; raw.len(), 144);
+        assert!(rt; bridge_item(&item, 0x293, three, &mut out));
+    }
+    if out.len() == 144 {
+        assert_eq!(rt; out.field(48, 12), 0x293);
+        assert_eq!(rt; out.field(70, 2), 3);
+        assert_eq!(rt; out.field(142, 2), 3);
+    }
+    let cut = Item::Cut { place: 7, have: 48 };
+    repair_item(&cut, &mut raw);
+    assert_eq!(rt; raw.len(), 144);
+    assert!(rt; !bridge_item(&cut, 0x293, three, &mut out));
+    Ok(())
+}

@@ -1,7 +1,7 @@
 -- One status symbol or one field more, as the loops of the texts of items take it.
-use Rattle.std.proofs.Common.{◌≡◌, ℕ, suc, ◌+◌, ◌<◌, ◌≤◌, List, [], ◌∷◌, ◌++◌, length, take, map, slice_get, Some, refl, sym, ap, ap₂, ◌∙◌, arith, append-nil, append_assoc, length-take}
+use Rattle.std.proofs.Common.{◌≡◌, ℕ, ◌+◌, ◌<◌, List, [], ◌∷◌, ◌++◌, length, take, map, slice_get, Some, refl, sym, ap, ap₂, ◌∙◌, arith, append-nil, append_assoc, length-take}
 use Rattle.std.specs.List.{join_with_byte}
-use Rattle.std.proofs.lemmas.List.{length-map, take_more, take_all, map_push}
+use Rattle.std.proofs.lemmas.List.{length-map, take_more, map_push}
 use Rattle.std.proofs.lemmas.Option.{slice_get_within, get_or_from_slice_get}
 use Rattle.p25_status.specs.Status.{status_number}
 use Rattle.p25_status.specs.declared.fields.Field.{Field}

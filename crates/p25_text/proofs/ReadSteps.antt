@@ -1,5 +1,5 @@
 -- What each answer of the reader of lines shows of the reading by the definition.
-use Rattle.std.proofs.Common.{◌≡◌, ℕ, zero, suc, Bool, true, false, ◌+◌, ◌-◌, ◌<◌, ◌≤◌, List, [], ◌∷◌, ◌++◌, length, take, drop, slice_get, get_or, Option, Some, None, Result, Ok, Err, refl, sym, ap, ap₂, subst, ◌∙◌, arith, append-nil, append_assoc, length-take, length-drop}
+use Rattle.std.proofs.Common.{◌≡◌, ℕ, suc, true, false, ◌+◌, ◌-◌, ◌<◌, ◌≤◌, List, [], ◌∷◌, ◌++◌, length, take, drop, slice_get, get_or, Option, Some, None, Result, Ok, Err, refl, sym, ap, ap₂, subst, ◌∙◌, arith, append-nil, append_assoc, length-take, length-drop}
 use Rattle.std.specs.Prelude.{nat_eq}
 use Rattle.std.specs.Option.{option_map, option_and_then}
 use Rattle.std.specs.List.{All, starts_with}
@@ -12,8 +12,7 @@ use Rattle.p25_line.specs.Words.{LiesIn, WordsAnswer, WordsFound, marked, word_a
 use Rattle.p25_line.specs.declared.fault.LineFault.{LineFault}
 use Rattle.p25_line.specs.declared.fault.LineFault.TheVariants.{Key, Kind as WrongKind}
 use Rattle.p25_line.proofs.JoinLaws.{Known, Known-words}
-use Rattle.p25_units.specs.UnitParts.{UnitParts}
-use Rattle.p25_text.specs.Grammar.{or_value, read_kind, read_line_of, read_values, read_words, unit_in, values_behind, behind, with_value}
+use Rattle.p25_text.specs.Grammar.{read_kind, read_line_of, read_values, read_words, values_behind, behind, with_value}
 use Rattle.p25_text.specs.Names.{kind_named, keys_of, key_text}
 use Rattle.p25_text.specs.declared.names.UnitKey.{UnitKey}
 use Rattle.p25_text.specs.declared.names.UnitKind.{UnitKind}

@@ -25,4 +25,5 @@ pub use items::item_text;
 pub use names::{UnitKey, UnitKind};
 pub use p25_line::{Line, LineFault};
 pub use read::read_line;
+pub use values::nac_value;
 pub use write::unit_text;

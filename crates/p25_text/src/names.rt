@@ -1,7 +1,7 @@
 //! The kinds of unit lines, and their keys.
 
 ghost use Rattle.std.specs.Prelude.{◌≡◌, ◌<◌, ◌≤◌, length};
-ghost use Rattle.p25_text.specs.Names.{key_text, keys_of, kind_named, kind_word};
+ghost use Rattle.p25_text.specs.Names.{key_text, keys_of, kind_named};
 
 /// A kind of unit line.
 #[derive(Clone, Copy)]
@@ -25,16 +25,6 @@ impl UnitKind {
         match word {
             b"tdu" => Some(UnitKind::Tdu),
             _ => None,
-        }
-    }
-
-    /// Answers the word that begins a line of this kind.
-    pub fn word(self) -> &'static [u8]
-        ensures word { result.now ≡ kind_word self }
-        ensures short { length result.now ≤ 9 }
-    {
-        match self {
-            UnitKind::Tdu => b"tdu",
         }
     }
 

@@ -1,10 +1,8 @@
-pub mod DecidedLaws
 pub mod Decimals
-pub mod ItemCases
-pub mod ItemsLaws
-pub mod LayoutLaws
-pub mod NidFacts
-pub mod PlainLists
-pub mod ProgressLaws
-pub mod ScanLaws
-pub mod SeamLaws
+pub mod OctetsLaws
+pub mod ReportsLaws
+pub mod RecordingsLaws
+pub mod BuildingsLaws
+pub mod WordsLaws
+pub mod CommandsLaws
+pub mod RunsLaws

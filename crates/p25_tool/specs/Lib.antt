@@ -1,8 +1,8 @@
 pub mod Words
 pub mod Outcomes
-pub mod Progress
-pub mod Decided
-pub mod ItemLaws
-pub mod Items
+pub mod Reports
+pub mod Recordings
+pub mod Outputs
+pub mod Commands
+pub mod Buildings
 pub mod Runs
-pub mod Texts

@@ -1,24 +1,30 @@
--- What the outcome of a call says of its source and of its sink.
-use Rattle.std.specs.Prelude.{◌≡◌, ℕ, ◌<◌, ◌↔◌, Option, List, length}
-use Rattle.p25_io.specs.Octets.{Taken, Kept, Appended, AppendedFront}
+-- What a call leaves, and how it answers an input without faults.
+use Rattle.std.specs.Prelude.{◌≡◌, ℕ, true, false, cond, nat_lt, List, length, take, Option, Some, None}
+use Rattle.p25_work.specs.Futures.{Future}
+use Rattle.p25_work.specs.Runs.{Worked, input_most}
+use Rattle.p25_work.specs.declared.ending.Ending.{Ending}
+use Rattle.p25_work.specs.declared.ending.WorkEnd.{WorkEnd}
+use Rattle.p25_tool.specs.declared.command.Command.{Command}
 use Rattle.p25_tool.specs.declared.outcome.Outcome.{Outcome}
-use Rattle.p25_tool.specs.declared.outcome.Outcome.TheVariants.{Done, Usage, ReadFault, WriteFault, Memory, TooLong}
+use Rattle.p25_tool.specs.declared.outcome.Outcome.TheVariants.{TooLong}
+use Rattle.p25_tool.specs.Outcomes.{ending_outcome, work_outcome}
+use Rattle.p25_tool.specs.Outputs.{ending_by, output_by}
 
--- the most octets of an input
-abbrev pub input_most : ℕ
-input_most = 16777216
+-- what a command writes, and how it ends, for the octets of an input
+abbrev pub command_future : Command → Future
+command_future command = record { writes = output_by command; ends = ending_by command }
 
--- some octets were taken from the source, and the input is too long exactly where they are more than the most
-pub record TookWithin (before now : Option (List ℕ)) (outcome : Outcome) : Type 0 where
-  pub octets : List ℕ
-  pub taken : Taken before octets now
-  pub limit : (outcome ≡ TooLong) ↔ (input_most < length octets)
+-- what a call of a command took and wrote, by its outcome
+pub record Ran (told left first last : Option (List ℕ)) (command : Command) (outcome : Outcome) : Type 0 where
+  pub end : WorkEnd
+  pub outcome_is : outcome ≡ work_outcome end
+  pub worked : Worked told left first last (command_future command) end
 
--- what was written: all of the output at Done, a front of it after a write fault, and nothing after another refusal
-abbrev pub Wrote : Outcome → Option (List ℕ) → List ℕ → Option (List ℕ) → Type 0
-Wrote Done before output now = Appended before output now
-Wrote WriteFault before output now = AppendedFront before output now
-Wrote Usage before output now = Kept before now
-Wrote ReadFault before output now = Kept before now
-Wrote Memory before output now = Kept before now
-Wrote TooLong before output now = Kept before now
+-- the outcome that an ending has, or another
+abbrev pub ending_or : Option Ending → Outcome → Outcome
+ending_or (Some ending) other = ending_outcome ending
+ending_or None other = other
+
+-- how a call of a command answers an input where no read and no write fails: by what it holds, or that it is too long
+abbrev pub answer_of : Command → List ℕ → Outcome
+answer_of command input = cond (nat_lt input_most (length input)) (ending_or (ending_by command false (take input_most input)) TooLong) (ending_or (ending_by command true input) TooLong)

@@ -1,6 +1,16 @@
+use p25_status::Status;
+
 /// What a call asks for.
 #[derive(Clone, Copy, Debug, PartialEq, Eq)]
 pub enum Command {
     /// The text of each item of a recording, one a line.
     Show,
+    /// The text of each item that is not a whole unit, and how many units and others there are.
+    Check,
+    /// The recording, each whole unit in it as it was sent.
+    Repair,
+    /// The whole units of a recording, under another network access code and with this status symbol everywhere.
+    Bridge { nac: u16, status: Status },
+    /// The units that lines of text describe, with this status symbol everywhere.
+    Build { status: Status },
 }

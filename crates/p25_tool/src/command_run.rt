@@ -1,24 +1,33 @@
 //! The call that the program makes.
 
-ghost use Rattle.std.specs.Prelude.{◌≡◌, ℕ, ◌≤◌, ◌↔◌, ◌⊎◌, List, [], None, Some, IfSome, IsSome};
+ghost use Rattle.std.specs.Prelude.{◌≡◌, ◌≢◌, ℕ, ◌≤◌, ◌↔◌, List, [], None, Some, IfSome};
 ghost use Rattle.p25_io.specs.Faults.{Rose};
-ghost use Rattle.p25_tool.specs.Runs.{TookWithin, Wrote};
-ghost use Rattle.p25_tool.specs.Texts.{output_of};
-ghost use Rattle.p25_tool.specs.Words.{command_of};
+ghost use Rattle.p25_work.specs.Runs.{Worked, all_written};
+ghost use Rattle.p25_tool.specs.Buildings.{building_future, first_line};
+ghost use Rattle.p25_tool.specs.Recordings.{fresh, recording_future};
+ghost use Rattle.p25_tool.specs.Runs.{Ran, answer_of, command_future};
+ghost use Rattle.p25_tool.specs.Words.{IsSoundCommand, command_of};
+ghost use Rattle.p25_tool.specs.declared.command.Command.{Command};
 
+use super::build::Build;
 use super::command::Command;
-use super::outcome::Outcome;
-use super::read::{Unread, read_all};
-use super::recording_text::write_items;
+use super::outcome::{Outcome, outcome_of};
+use super::recording::Recording;
+use super::report::Report;
+use super::reports::{Change, Changed, Check, Show};
 use super::words::Words;
-use p25_io::{Failed, Sink, Source};
+use p25_io::{Sink, Source};
+use p25_status::Status;
+use p25_work::{WorkEnd, work};
 use std::alloc::Global;
 
 /// Does what the words say: reads the source to its end, at most 16,777,216 octets, and writes the answer to the sink.
 ///
-/// The words are judged first; where they name no command the outcome is `Usage`, and nothing is read or written.
-/// The first refusal ends the call: a read fault, an input that is too long, want of memory, a write fault. `show`
-/// has written nothing then, but after a write fault a front of its output.
+/// The words are judged first; where they name no command the outcome is `Usage`, and nothing is read or written. Then the
+/// input is worked on in its order, and the first refusal ends the call: a read fault, an input that is too long, a line
+/// that is refused, a write fault. What the octets taken so far decide is written before the next read. So after a read
+/// fault or an input that is too long the sink holds what the octets before decide, in whole octets and without a last line
+/// of a check; after a refused line what the lines before ask for; and after a write fault a beginning of the output.
 pub fn run<S: Source, K: Sink>(
     alloc: Global,
     words: &Words,
@@ -28,44 +37,69 @@ pub fn run<S: Source, K: Sink>(
     ensures usage { (result ≡ Outcome.Usage) ↔ (command_of words.now ≡ None) }
     ensures untouched { result ≡ Outcome.Usage → (source.new ≡ source.old) × (sink.new ≡ sink.old) }
 
-    // What was taken, and what was written.
-    ensures took { TookWithin (S.left source.old) (S.left source.new) result }
-    ensures ended { (input : List ℕ) → S.left source.old ≡ Some input → (result ≡ Outcome.Done) ⊎ (result ≡ Outcome.WriteFault) → S.left source.new ≡ Some [] }
-    ensures wrote { (input : List ℕ) → S.left source.old ≡ Some input → IfSome (command_of words.now) (λ command. Wrote result (K.written sink.old) (output_of command input) (K.written sink.new)) }
+    // What was taken and written, and how it ended.
+    ensures ran { IfSome (command_of words.now) (λ command. Ran (S.left source.old) (S.left source.new) (K.written sink.old) (K.written sink.new) command result) }
+    ensures quiet { (command : Command) (input : List ℕ) → command_of words.now ≡ Some command → S.left source.old ≡ Some input → all_written (command_future command) input ≡ [] → sink.new ≡ sink.old }
+    ensures complete { (command : Command) (input : List ℕ) → command_of words.now ≡ Some command → S.left source.old ≡ Some input → ¬ Rose (S.faults source.old) (S.faults source.new) → ¬ Rose (K.faults sink.old) (K.faults sink.new) → result ≡ answer_of command input }
 
     // Why it was refused.
     ensures source_later { S.faults source.old ≤ S.faults source.new }
     ensures sink_later { K.faults sink.old ≤ K.faults sink.new }
     ensures read_fault { result ≡ Outcome.ReadFault → Rose (S.faults source.old) (S.faults source.new) }
     ensures write_fault { result ≡ Outcome.WriteFault → Rose (K.faults sink.old) (K.faults sink.new) }
-    ensures complete { IsSome (command_of words.now) → ¬ Rose (S.faults source.old) (S.faults source.new) → ¬ Rose (K.faults sink.old) (K.faults sink.new) → (result ≡ Outcome.Done) ⊎ ((result ≡ Outcome.Memory) ⊎ (result ≡ Outcome.TooLong)) }
+    ensures memory { result ≢ Outcome.Memory }
 {
+    let _ = alloc;
     match words.command() {
         None => Outcome::Usage,
-        Some(Command::Show) => run_show(alloc, source, sink),
+        Some(command) => outcome_of(run_command(command, source, sink)),
     }
 }
 
-// The outcome of `show`.
-fn run_show<S: Source, K: Sink>(alloc: Global, source: &mut S, sink: &mut K) -> Outcome
-    ensures named { (result ≡ Outcome.Usage) → ⊥ }
-    ensures took { TookWithin (S.left source.old) (S.left source.new) result }
-    ensures ended { (input : List ℕ) → S.left source.old ≡ Some input → (result ≡ Outcome.Done) ⊎ (result ≡ Outcome.WriteFault) → S.left source.new ≡ Some [] }
-    ensures wrote { (input : List ℕ) → S.left source.old ≡ Some input → Wrote result (K.written sink.old) (output_of Command.Show input) (K.written sink.new) }
+// The work of a command.
+fn run_command<S: Source, K: Sink>(command: Command, source: &mut S, sink: &mut K) -> WorkEnd
+    requires { IsSoundCommand command }
+    ensures worked { Worked (S.left source.old) (S.left source.new) (K.written sink.old) (K.written sink.new) (command_future command) result }
+    ensures quiet { (input : List ℕ) → S.left source.old ≡ Some input → all_written (command_future command) input ≡ [] → sink.new ≡ sink.old }
     ensures source_later { S.faults source.old ≤ S.faults source.new }
     ensures sink_later { K.faults sink.old ≤ K.faults sink.new }
-    ensures read_fault { result ≡ Outcome.ReadFault → Rose (S.faults source.old) (S.faults source.new) }
-    ensures write_fault { result ≡ Outcome.WriteFault → Rose (K.faults sink.old) (K.faults sink.new) }
-    ensures complete { ¬ Rose (S.faults source.old) (S.faults source.new) → ¬ Rose (K.faults sink.old) (K.faults sink.new) → (result ≡ Outcome.Done) ⊎ ((result ≡ Outcome.Memory) ⊎ (result ≡ Outcome.TooLong)) }
+    ensures read_fault { result ≡ WorkEnd.ReadFault → Rose (S.faults source.old) (S.faults source.new) }
+    ensures write_fault { result ≡ WorkEnd.WriteFault → Rose (K.faults sink.old) (K.faults sink.new) }
 {
-    let octets = match read_all(alloc, source) {
-        Ok(octets) => octets,
-        Err(Unread::Fault) => return Outcome::ReadFault,
-        Err(Unread::TooLong) => return Outcome::TooLong,
-        Err(Unread::Memory) => return Outcome::Memory,
-    };
-    match write_items(octets.as_slice(), sink) {
-        Ok(()) => Outcome::Done,
-        Err(Failed) => Outcome::WriteFault,
+    match command {
+        Command::Show => run_report(Show, source, sink),
+        Command::Check => run_report(Check::new(), source, sink),
+        Command::Repair => run_report(Changed::new(Change::Repaired), source, sink),
+        Command::Bridge { nac, status } => {
+            run_report(Changed::new(Change::Bridged { nac, status }), source, sink)
+        }
+        Command::Build { status } => run_build(status, source, sink),
     }
+}
+
+// The work of a report on a recording.
+fn run_report<R: Report + Drop, S: Source, K: Sink>(report: R, source: &mut S, sink: &mut K) -> WorkEnd
+    requires { R.counted report ≡ 0 }
+    ensures worked { Worked (S.left source.old) (S.left source.new) (K.written sink.old) (K.written sink.new) (recording_future R.reporting (fresh report)) result }
+    ensures quiet { (input : List ℕ) → S.left source.old ≡ Some input → all_written (recording_future R.reporting (fresh report)) input ≡ [] → sink.new ≡ sink.old }
+    ensures source_later { S.faults source.old ≤ S.faults source.new }
+    ensures sink_later { K.faults sink.old ≤ K.faults sink.new }
+    ensures read_fault { result ≡ WorkEnd.ReadFault → Rose (S.faults source.old) (S.faults source.new) }
+    ensures write_fault { result ≡ WorkEnd.WriteFault → Rose (K.faults sink.old) (K.faults sink.new) }
+{
+    let mut recording = Recording::new(report);
+    work(&mut recording, source, sink)
+}
+
+// The work of `build`.
+fn run_build<S: Source, K: Sink>(status: Status, source: &mut S, sink: &mut K) -> WorkEnd
+    ensures worked { Worked (S.left source.old) (S.left source.new) (K.written sink.old) (K.written sink.new) (building_future (first_line status)) result }
+    ensures quiet { (input : List ℕ) → S.left source.old ≡ Some input → all_written (building_future (first_line status)) input ≡ [] → sink.new ≡ sink.old }
+    ensures source_later { S.faults source.old ≤ S.faults source.new }
+    ensures sink_later { K.faults sink.old ≤ K.faults sink.new }
+    ensures read_fault { result ≡ WorkEnd.ReadFault → Rose (S.faults source.old) (S.faults source.new) }
+    ensures write_fault { result ≡ WorkEnd.WriteFault → Rose (K.faults sink.old) (K.faults sink.new) }
+{
+    let mut build = Build::new(status);
+    work(&mut build, source, sink)
 }

@@ -9,33 +9,24 @@
 //! ```
 //!
 //! A recording is a list of bits, each octet's most significant bit first. It falls into items that lie end to end and
-//! cover every bit: a place has a sync where its 48 bits differ from the frame sync in at most four places
-//! (TIA-102.BAAA, Frame Synchronization), and there a unit stands where a word of the BCH code (63,16) lies within 11
-//! bits of the first 63 of its network identifier and its DUID is that of a terminator, 3. Contracts see the items of
-//! some bits as `items_of`; what a command writes for the octets of its input is `output_of`, one line an item.
-//!
-//! `item_laws` says what is true of the items of all bits. `outcome_text` and `outcome_status` are what the program makes
-//! of the outcome of a call.
+//! cover every bit. What a command writes for the octets of its input is `output_by`: `show` and `check` the texts of items,
+//! `repair` and `bridge` their bits, `build` the images of the units that lines describe. What stands after each way to end
+//! is `Ran`. `outcome_text` and `outcome_status` are what the program makes of the outcome of a call.
 #![tactic(auto)]
 
+mod build;
 mod command;
 mod command_run;
-mod item;
-mod item_text;
-mod laws;
-mod line;
-mod octet_bits;
 mod outcome;
-mod read;
-mod recording_text;
-mod scan;
+mod recording;
+mod report;
+mod reports;
 mod words;
 
+pub use command::Command;
 pub use command_run::run;
-pub use item::{Field, Frame, Item};
-pub use laws::item_laws;
-pub use line::Line;
 pub use outcome::{Outcome, outcome_status, outcome_text};
+pub use p25_line::Line;
 pub use words::Words;
 
 #[cfg(test)]

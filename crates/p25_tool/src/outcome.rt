@@ -1,7 +1,8 @@
-ghost use Rattle.std.specs.Prelude.{◌≡◌, ◌≤◌, length};
-ghost use Rattle.p25_tool.specs.Outcomes.{line_of, status_of};
+ghost use Rattle.std.specs.Prelude.{◌≡◌, ◌+◌, ◌≤◌, ◌++◌, length, codes, decimal};
+ghost use Rattle.p25_tool.specs.Outcomes.{ending_outcome, fault_word, line_of, status_of, work_outcome};
 
-use super::line::Line;
+use p25_line::{Line, LineFault};
+use p25_work::{Ending, WorkEnd};
 
 /// How a call ended.
 #[derive(Clone, Copy, Debug, PartialEq, Eq)]
@@ -10,31 +11,74 @@ pub enum Outcome {
     Done,
     /// The words name no command; nothing was read or written.
     Usage,
+    /// This line of the input, counted from 1, is the first that is refused. What the lines before it ask for is written.
+    BadLine { line: u64, fault: LineFault },
     /// The source failed.
     ReadFault,
     /// The sink failed.
     WriteFault,
-    /// Memory was wanting.
+    /// There was not enough memory.
     Memory,
     /// The input has more than 16,777,216 octets.
     TooLong,
+    /// `check` read and wrote all, and found so many items that are not whole units.
+    Found { faults: u64 },
 }
 
 /// Sets `out` to the line that stands on standard error after a call, without its end; it is empty for `Done`.
 pub fn outcome_text(outcome: &Outcome, out: &mut Line)
     ensures text { out.new ≡ line_of outcome.now }
-    ensures short { length out.new ≤ 20 }
+    ensures short { length out.new ≤ 40 }
 {
     out.clear();
-    let line: &[u8] = match outcome {
-        Outcome::Done => b"",
-        Outcome::Usage => b"usage",
-        Outcome::ReadFault => b"read fault",
-        Outcome::WriteFault => b"write fault",
-        Outcome::Memory => b"out of memory",
-        Outcome::TooLong => b"input too long",
-    };
-    out.put(line);
+    match outcome {
+        Outcome::Done => {}
+        Outcome::Usage => out.put(b"usage"),
+        Outcome::BadLine { line, fault } => put_bad_line(*line, *fault, out),
+        Outcome::ReadFault => out.put(b"read fault"),
+        Outcome::WriteFault => out.put(b"write fault"),
+        Outcome::Memory => out.put(b"out of memory"),
+        Outcome::TooLong => out.put(b"input too long"),
+        Outcome::Found { faults } => put_found(*faults, out),
+    }
+}
+
+// Appends the line of a refused line to an empty one.
+#[tactic(auto, using(crate::proofs::Decimals::decimal_short))]
+fn put_bad_line(line: u64, fault: LineFault, out: &mut Line)
+    requires { length out.old ≡ 0 }
+    ensures text { out.new ≡ out.old ++ codes "line " ++ decimal line ++ codes ": " ++ fault_word fault }
+    ensures short { length out.new ≤ 40 }
+{
+    out.put(b"line ");
+    out.put_number(line);
+    out.put(b": ");
+    out.put(fault_text(fault));
+}
+
+// Appends the line of a check that found faults to an empty one.
+#[tactic(auto, using(crate::proofs::Decimals::decimal_short))]
+fn put_found(faults: u64, out: &mut Line)
+    requires { length out.old ≡ 0 }
+    ensures text { out.new ≡ out.old ++ codes "found " ++ decimal faults }
+    ensures short { length out.new ≤ 40 }
+{
+    out.put(b"found ");
+    out.put_number(faults);
+}
+
+// The word of a fault in a line.
+fn fault_text(fault: LineFault) -> &'static [u8]
+    ensures word { result.now ≡ fault_word fault }
+    ensures short { length result.now ≤ 5 }
+{
+    match fault {
+        LineFault::Long => b"long",
+        LineFault::Form => b"form",
+        LineFault::Kind => b"kind",
+        LineFault::Key => b"key",
+        LineFault::Value => b"value",
+    }
 }
 
 /// Answers the status with which the program ends.
@@ -44,9 +88,25 @@ pub fn outcome_status(outcome: &Outcome) -> u8
     match outcome {
         Outcome::Done => 0,
         Outcome::Usage => 1,
+        Outcome::BadLine { .. } => 2,
         Outcome::ReadFault => 3,
         Outcome::WriteFault => 4,
         Outcome::Memory => 5,
         Outcome::TooLong => 6,
+        Outcome::Found { .. } => 7,
+    }
+}
+
+// The outcome of work on an input that ended so.
+pub(crate) fn outcome_of(end: WorkEnd) -> Outcome
+    ensures { result ≡ work_outcome end }
+{
+    match end {
+        WorkEnd::Ended(Ending::Done) => Outcome::Done,
+        WorkEnd::Ended(Ending::Found { faults }) => Outcome::Found { faults },
+        WorkEnd::Ended(Ending::BadLine { line, fault }) => Outcome::BadLine { line, fault },
+        WorkEnd::ReadFault => Outcome::ReadFault,
+        WorkEnd::WriteFault => Outcome::WriteFault,
+        WorkEnd::TooLong => Outcome::TooLong,
     }
 }

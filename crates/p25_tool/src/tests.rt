@@ -1,11 +1,8 @@
-//! Values from outside, each refusal, and a slow program that the tool is compared with.
+//! Values from outside, through `run`: what each command writes, and each refusal.
 
-mod damage;
-mod plain;
-mod refusals;
+mod faults;
 mod rows;
 mod size;
-mod sources;
 mod words;
 
 use super::words::Words;

@@ -1,6 +1,9 @@
-ghost use Rattle.std.specs.Prelude.{◌≡◌, ℕ, ◌≤◌, List, [], length, take};
+ghost use Rattle.std.specs.Prelude.{◌≡◌, ℕ, ◌≤◌, List, [], length, take, IfSome};
+ghost use Rattle.p25_tool.specs.Words.{IsSoundCommand, one_word_command, status_in, three_word_command, two_word_command};
 
 use super::command::Command;
+use p25_status::Status;
+use p25_text::nac_value;
 use std::marker::Model;
 
 // A word of at most 16 octets.
@@ -36,8 +39,8 @@ impl Word {
     }
 }
 
-/// The words of a call: at most four, each of at most 16 octets. No command has four words or a word of 16 octets,
-/// so nothing is lost.
+/// The words of a call: at most four, each of at most 16 octets. No command has four words or a word of 16 octets, so
+/// nothing is lost.
 #[derive(Drop)]
 pub struct Words {
     words: [Word; 4],
@@ -53,7 +56,7 @@ impl Model for Words {
 }
 
 impl Words {
-    ghost use Rattle.p25_tool.specs.Words.{added, command_of};
+    ghost use Rattle.p25_tool.specs.Words.{added, command_of, IsSoundCommand};
 
     /// Answers no words.
     pub fn new() -> Words
@@ -82,16 +85,74 @@ impl Words {
 
     // The command that the words name.
     pub(crate) fn command(&self) -> Option<Command>
-        ensures { result ≡ command_of self.now }
+        ensures command { result ≡ command_of self.now }
+        ensures sound { IfSome result IsSoundCommand }
     {
-        if self.count != 1 {
-            return None;
-        }
-        let word = &self.words[0];
-        if word.octets() == b"show".as_slice() {
-            Some(Command::Show)
-        } else {
-            None
+        match self.count {
+            1 => one_word(self.words[0].octets()),
+            2 => two_words(self.words[0].octets(), self.words[1].octets()),
+            3 => three_words(
+                self.words[0].octets(),
+                self.words[1].octets(),
+                self.words[2].octets(),
+            ),
+            _ => None,
         }
     }
+}
+
+// The command of one word.
+fn one_word(word: &[u8]) -> Option<Command>
+    ensures { result ≡ one_word_command word.now }
+{
+    if word == b"show".as_slice() {
+        Some(Command::Show)
+    } else if word == b"check".as_slice() {
+        Some(Command::Check)
+    } else if word == b"repair".as_slice() {
+        Some(Command::Repair)
+    } else {
+        None
+    }
+}
+
+// The command of two words.
+fn two_words(word: &[u8], status: &[u8]) -> Option<Command>
+    ensures { result ≡ two_word_command word.now status.now }
+{
+    if word != b"build".as_slice() {
+        return None;
+    }
+    match status_value(status) {
+        Some(status) => Some(Command::Build { status }),
+        None => None,
+    }
+}
+
+// The command of three words.
+fn three_words(word: &[u8], nac: &[u8], status: &[u8]) -> Option<Command>
+    ensures command { result ≡ three_word_command word.now nac.now status.now }
+    ensures sound { IfSome result IsSoundCommand }
+{
+    if word != b"bridge".as_slice() {
+        return None;
+    }
+    match (nac_value(nac), status_value(status)) {
+        (Some(nac), Some(status)) => Some(Command::Bridge { nac, status }),
+        _ => None,
+    }
+}
+
+// The status symbol that a word of one digit is.
+fn status_value(word: &[u8]) -> Option<Status>
+    ensures { result ≡ status_in word.now }
+{
+    if word.len() != 1 {
+        return None;
+    }
+    let digit = word[0];
+    if digit < b'0' || digit > b'3' {
+        return None;
+    }
+    Status::new(digit - b'0')
 }

@@ -116,8 +116,8 @@ fn first_path<R: Rate>(costs: &[u32], rests: &[u32]) -> [u8; 49]
     path
 }
 
-/// Writes the octets of the first least path by a table of costs, and answers what that path costs: no path costs less,
-/// and of several that cost as little it is the first in dictionary order of symbols.
+/// Sets `octets` to those of the first least path by a table of costs, and answers what that path costs: no path costs
+/// less, and of several that cost as little it is the first in dictionary order of symbols.
 ///
 /// The table has 16 costs for each of the 49 steps, that of nibble n at step i at place 16·i + n, each at most 2^24. A path
 /// costs the sum over its nibbles, as they are before they are interleaved. `read_block` is this with the distances from

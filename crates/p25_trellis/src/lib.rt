@@ -9,6 +9,9 @@
 //! and two different three-quarter-rate paths in at least 3, so 2 wrong bits, or 1, are put right. The tables of points,
 //! the nibbles of the points and the choice among paths that are as near are this project's profile.
 //!
+//! Contracts see what 196 bits read as, and the block of octets, as functions: `half_octets` and `half_block`, and
+//! `three_quarter_octets` and `three_quarter_block`. `nearest_laws` says what they are.
+//!
 //! ```
 //! let mut bits = BitBuf::new();
 //! encode_block::<Half>(&[7; 12], &mut bits);

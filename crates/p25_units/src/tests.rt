@@ -78,11 +78,26 @@ fn a_terminator_with_15_wrong_bits(rt: HostRuntime) -> Result<(), Fail> {
 }
 
 #[test]
-fn under_another_code(rt: HostRuntime) -> Result<(), Fail> {
+fn written_and_read_again(rt: HostRuntime) -> Result<(), Fail> {
     let one = Status::new(1).ok_or("1 is a status symbol")?;
     let sent = terminator(0x5575_F5FF_77FF, 0xCD, 0x24C_2F74_ECAC);
+    let written = frame(0, one);
     let mut made = BitBuf::new();
-    let other = frame(0x293, one);
-    assert_eq!(rt; frame_length(&other.unit), 144);
+    if frame_length(&written.unit) == 72 * written.statuses.len() {
+        image(&written, &mut made);
+        if made.len() == sent.len() {
+            assert_eq!(rt; BitBuf::distance(&made, &sent), 0);
+        }
+        if frame_length(&written.unit) <= sent.len() {
+            assert_eq!(rt; fixes(&sent, 0, &written), 0);
+        }
+        image_as(&written, 0x293, &written.statuses, &mut made);
+        if made.len() == 144 {
+            assert_eq!(rt; made.field(48, 12), 0x293);
+        }
+    }
+    if need(&sent, 0) == Need::Length(144) {
+        assert!(rt; read_unit(&sent, 0, 144).is_ok());
+    }
     Ok(())
 }

@@ -10,6 +10,7 @@ use Rattle.p25_io.proofs.OctetsLemmas.{Taken-trans, Taken-told, Taken-ended, App
 use Rattle.p25_work.specs.declared.ending.Ending.{Ending}
 use Rattle.p25_work.specs.declared.ending.Stop.{Stop}
 use Rattle.p25_work.specs.declared.ending.Stop.TheVariants.{Fault, Ended}
+use Rattle.p25_work.specs.declared.ending.WorkEnd.{WorkEnd}
 use Rattle.p25_work.specs.declared.ending.WorkEnd.TheVariants.{Ended as WorkEnded, ReadFault, WriteFault, TooLong}
 use Rattle.p25_work.specs.Endings.{end_of}
 use Rattle.p25_work.specs.Futures.{Future, IsIdle, Moved, IsCutOff, IsEnded, IsStopped, EndsBy}
@@ -113,6 +114,7 @@ module _ {K : Type 0} (written : K → Option (List ℕ)) (first last : K) (futu
         meets = record {
           ended = true;
           all = λ same. (few, all);
+          stays = λ same. cc;
           ends = ap (future.ends true) first_octets ∙ ap (future.ends true) (sym (append-nil octets)) ∙ moved.ends true [] ∙ ended.1;
           wrote = Appended-same (whole ∙ ap (future.writes true) (sym first_octets)) (Appended-trans moved.appended ended.0);
         };
@@ -144,6 +146,10 @@ stops-final written first third future fed tail told left (Ended ending) few mos
         ended = false;
         all = λ same. cc;
         ends = ap (future.ends false) e ∙ ended.ends false (take (input_most - length fed) tail);
+        stays = λ same is more.
+          ap (λ (zs : List ℕ). future.ends is (zs ++ more)) e
+          ∙ ap (future.ends is) (append_assoc fed (take (input_most - length fed) tail) more)
+          ∙ ended.ends is (take (input_most - length fed) tail ++ more);
         wrote = Appended-same (ap (future.writes false) (sym e)) (ended.wrote false (take (input_most - length fed) tail));
       };
     }
@@ -297,3 +303,57 @@ module _ {K : Type 0} (written : K → Option (List ℕ)) (first second third : 
           nothing-touched written first third future last (octets ++ take fits buf) read-moved input (tail ++ parts.0) long
           (parts.1 ∙ ap (λ (zs : List ℕ). (octets ++ zs) ++ parts.0) take-fits ∙ ap (λ (zs : List ℕ). zs ++ parts.0) (sym (append_assoc octets (take fits buf) tail)) ∙ append_assoc (octets ++ take fits buf) tail parts.0)
           none
+
+-- what is said of one future holds of another that writes and ends alike
+pub all_written-same : (f g : Future) → ((is : Bool) (octets : List ℕ) → f.writes is octets ≡ g.writes is octets) → (input : List ℕ) → all_written f input ≡ all_written g input
+all_written-same f g writes input = by_length (nat_lt input_most (length input))
+  where
+    by_length : (long : Bool) → cond long (f.writes false (take input_most input)) (f.writes true input) ≡ cond long (g.writes false (take input_most input)) (g.writes true input)
+    by_length true = writes false (take input_most input)
+    by_length false = writes true input
+
+pub Worked-same : (told left first last : Option (List ℕ)) (f g : Future) (end : WorkEnd)
+    → ((is : Bool) (octets : List ℕ) → f.writes is octets ≡ g.writes is octets) → ((is : Bool) (octets : List ℕ) → f.ends is octets ≡ g.ends is octets)
+    → Worked told left first last f end → Worked told left first last g end
+Worked-same told left first last f g (WorkEnded ending) writes ends worked =
+    record {
+      octets = worked.octets;
+      taken = worked.taken;
+      few = worked.few;
+      meets = record {
+        ended = worked.meets.ended;
+        all = worked.meets.all;
+        ends = sym (ends worked.meets.ended (take input_most worked.octets)) ∙ worked.meets.ends;
+        stays = λ same is more. sym (ends is (take input_most worked.octets ++ more)) ∙ worked.meets.stays same is more;
+        wrote = Appended-same (writes worked.meets.ended (take input_most worked.octets)) worked.meets.wrote;
+      };
+    }
+Worked-same told left first last f g ReadFault writes ends worked =
+    record {
+      octets = worked.octets;
+      taken = worked.taken;
+      few = worked.few;
+      meets = record {
+        few = worked.meets.few;
+        ends = sym (ends false worked.octets) ∙ worked.meets.ends;
+        wrote = Appended-same (writes false worked.octets) worked.meets.wrote;
+      };
+    }
+Worked-same told left first last f g WriteFault writes ends worked =
+    record {
+      octets = worked.octets;
+      taken = worked.taken;
+      few = worked.few;
+      meets = record { front = λ rest is. AppendedFront-same (all_written-same f g writes (worked.octets ++ rest)) (worked.meets.front rest is) };
+    }
+Worked-same told left first last f g TooLong writes ends worked =
+    record {
+      octets = worked.octets;
+      taken = worked.taken;
+      few = worked.few;
+      meets = record {
+        many = worked.meets.many;
+        ends = sym (ends false (take input_most worked.octets)) ∙ worked.meets.ends;
+        wrote = Appended-same (writes false (take input_most worked.octets)) worked.meets.wrote;
+      };
+    }

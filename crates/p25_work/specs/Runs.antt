@@ -17,11 +17,13 @@ read_most = 4096
 abbrev pub all_written : Future → List ℕ → List ℕ
 all_written future input = cond (nat_lt input_most (length input)) (future.writes false (take input_most input)) (future.writes true input)
 
--- the work ended by what the input holds: at its end, or at a refusal within it; no octet past the most is looked at
+-- the work ended by what the input holds: at its end, or at a refusal within it, which stays whatever octets come later; no
+-- octet past the most is looked at
 pub record IsFinal (told first last : Option (List ℕ)) (future : Future) (octets : List ℕ) (ending : Ending) : Type 0 where
   pub ended : Bool
   pub all : ended ≡ true → (length octets ≤ input_most) × IfSome told (λ input. input ≡ octets)
   pub ends : future.ends ended (take input_most octets) ≡ Some ending
+  pub stays : ended ≡ false → (is : Bool) (more : List ℕ) → future.ends is (take input_most octets ++ more) ≡ Some ending
   pub wrote : Appended first (future.writes ended (take input_most octets)) last
 
 -- a read failed: nothing refuses the octets taken, and what they decide is written

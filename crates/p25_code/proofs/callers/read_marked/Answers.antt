@@ -28,7 +28,9 @@ returns g c =
     let reading = c.read_erased.result in
     record {
       reading = c.read_erased.ensures;
-      value = one_marked_reading laws close list (word_read reading word) (g.C.ErasedCode.marked_reading_is list) long (marked_word_read_as same b.IsWord _ list received word reading c.read_erased.ensures) (e.marked_reads_as c.requires.code list);
+      value =
+          one_marked_reading laws close list (word_read reading word) (g.C.ErasedCode.marked_reading_is list) long (marked_word_read_as same b.IsWord _ list received word reading c.read_erased.ensures)
+          (e.marked_reads_as c.requires.code list);
       sent = λ sent is near. marked_reading_sent laws close list received word sent reading long c.read_erased.ensures is near;
       plain = λ twice none. plain_reading same b.IsWord _ b.radius_is twice received word c.args.erased.now reading none c.read_erased.ensures;
     }

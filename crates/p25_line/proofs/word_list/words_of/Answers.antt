@@ -17,8 +17,10 @@ pub loop-i-preserved : goal.loop-i-preserved
 loop-i-preserved c =
     let line = c.args.line.now in
     elim c.if-octet-eq32.branch [
-      | then-octet-eq32+then-start-i w ↦ rw (w.out-is, w.start-is) (Cut-space line c.loop-i.out w.note.new.self c.loop-i.start c.loop-i.i c.loop-i.invariant c.loop-i-test.true w.if-start-i.true w.if-octet-eq32.true w.note.ensures.count w.note.ensures.places)
-      | else-octet-eq32+else-not-is_ascii_graphic w ↦ rw (w.out-is, w.start-is) (Cut-printed line c.loop-i.out c.loop-i.start c.loop-i.i c.loop-i.invariant c.loop-i-test.true (sym w.is_ascii_graphic.ensures.value ∙ w.if-not-is_ascii_graphic.false))
+      | then-octet-eq32+then-start-i w ↦ rw (w.out-is, w.start-is)
+          (Cut-space line c.loop-i.out w.note.new.self c.loop-i.start c.loop-i.i c.loop-i.invariant c.loop-i-test.true w.if-start-i.true w.if-octet-eq32.true w.note.ensures.count w.note.ensures.places)
+      | else-octet-eq32+else-not-is_ascii_graphic w ↦ rw (w.out-is, w.start-is)
+          (Cut-printed line c.loop-i.out c.loop-i.start c.loop-i.i c.loop-i.invariant c.loop-i-test.true (sym w.is_ascii_graphic.ensures.value ∙ w.if-not-is_ascii_graphic.false))
     ]
 
 pub returns-then-start-line : goal.returns-then-start-line

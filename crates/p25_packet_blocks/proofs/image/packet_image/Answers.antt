@@ -1,4 +1,4 @@
-use Rattle.std.proofs.Common.{◌≡◌, ◌+◌, ◌-◌, ◌*◌, ◌++◌, Bool, false, List, length, replicate, ap, ap₂, sym, ◌∙◌, arith}
+use Rattle.std.proofs.Common.{◌≡◌, ◌-◌, ◌*◌, ◌++◌, Bool, false, List, length, replicate, ap, ap₂, ◌∙◌, arith}
 use Rattle.p25_bits.specs.Numbers.{joined_below}
 use Rattle.p25_front.specs.Front.{unit_front}
 use Rattle.p25_trellis.specs.Nearest.{half_block}

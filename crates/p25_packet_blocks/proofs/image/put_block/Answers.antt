@@ -1,8 +1,7 @@
-use Rattle.std.proofs.Common.{◌≡◌, ◌<◌, ◌^◌, ◌+◌, ◌*◌, List, ℕ, ◌/◌, ◌%◌, Bool, [], ◌∷◌, ◌++◌, ap, ap₂, sym, ◌∙◌, arith}
+use Rattle.std.proofs.Common.{◌≡◌, ◌<◌, ◌^◌, ◌+◌, ◌*◌, List, ℕ, ◌/◌, ◌%◌, [], ◌∷◌, ◌++◌, ap, ap₂, sym, ◌∙◌, arith}
 use Rattle.p25_crc.specs.Values.{crc9_of}
 use Rattle.p25_crc.proofs.ChecksLaws.{crc9_of-lt}
 use Rattle.p25_trellis.specs.Nearest.{three_quarter_block}
-use Rattle.p25_packet_blocks.specs.Image.{two_octets}
 use Rattle.p25_packet_blocks.proofs.ImageLaws.{confirmed_octets-is}
 use Rattle.p25_packet_blocks.proofs.ImageSteps.{put_two}
 use Rattle.p25_packet_blocks.proofs.image.put_block.Goals as goal

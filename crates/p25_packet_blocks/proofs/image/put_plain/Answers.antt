@@ -1,4 +1,4 @@
-use Rattle.std.proofs.Common.{◌≡◌, ◌+◌, ◌-◌, ◌*◌, List, ℕ, ◌/◌, ◌%◌, Bool, [], ◌∷◌, ◌++◌, take, drop, ap, ap₂, sym, ◌∙◌, arith}
+use Rattle.std.proofs.Common.{◌≡◌, ◌+◌, ◌-◌, ◌*◌, List, ℕ, ◌/◌, ◌%◌, [], ◌∷◌, ◌++◌, take, drop, ap, ap₂, sym, ◌∙◌, arith}
 use Rattle.p25_crc.specs.Values.{crc32_of}
 use Rattle.p25_crc.proofs.ChecksLaws.{crc32_of-lt}
 use Rattle.p25_trellis.specs.Nearest.{half_block}

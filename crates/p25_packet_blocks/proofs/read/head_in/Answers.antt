@@ -1,4 +1,4 @@
-use Rattle.std.proofs.Common.{◌≡◌, ◌≢◌, ℕ, List, length, take, drop, Ok, ap, sym, ◌∙◌, arith}
+use Rattle.std.proofs.Common.{◌≡◌, ℕ, List, drop, Ok, ap, sym, ◌∙◌, arith}
 use Rattle.p25_bits.specs.Numbers.{octets_number}
 use Rattle.p25_crc.specs.Values.{crc16_of}
 use Rattle.p25_packet_blocks.specs.declared.head.PacketHead.{PacketHead}

@@ -1,4 +1,4 @@
-use Rattle.std.proofs.Common.{◌≡◌, ◌≢◌, ◌<◌, ℕ, ◌-◌, ◌*◌, ◌++◌, List, Ok, eqb, take, drop, sym, ◌∙◌, arith, ap}
+use Rattle.std.proofs.Common.{◌≡◌, ◌≢◌, ℕ, ◌-◌, ◌*◌, ◌++◌, List, Ok, eqb, take, drop, sym, ◌∙◌, arith, ap}
 use Rattle.p25_bits.specs.Numbers.{octets_number}
 use Rattle.p25_crc.specs.Values.{crc32_of}
 use Rattle.p25_packet_blocks.specs.Parts.{PlainParts}

@@ -1,4 +1,4 @@
-use Rattle.std.proofs.Common.{◌≡◌, ◌*◌, length, take}
+use Rattle.std.proofs.Common.{◌≡◌, ◌*◌, take}
 use Rattle.p25_packet_blocks.specs.Reading.{octets_read}
 use Rattle.p25_packet_blocks.proofs.read.read_octets.Given as goal
 

@@ -1,8 +1,7 @@
-use Rattle.std.proofs.Common.{◌≡◌, ◌≤◌, Err, length, sym, ◌∙◌, arith, ap}
+use Rattle.std.proofs.Common.{◌≤◌, Err, length, sym, ◌∙◌, arith, ap}
 use Rattle.std.proofs.lemmas.Result.{err_from_is_err_and}
 use Rattle.p25_packet_blocks.specs.Heads.{head_blocks}
 use Rattle.p25_packet_blocks.specs.Lengths.{packet_bits}
-use Rattle.p25_packet_blocks.specs.Reading.{HasItsLength}
 use Rattle.p25_packet_blocks.proofs.ReadingLaws.{packet_reading_of-bad, packet_reading_of-good, HasItsLength-head}
 use Rattle.p25_packet_blocks.proofs.read.read_packet.Goals as goal
 

@@ -1,6 +1,6 @@
-use Rattle.std.proofs.Common.{◌≡◌, ◌++◌, ◌∷◌, [], List, refl, ap, ap₂, sym, ◌∙◌, arith}
+use Rattle.std.proofs.Common.{◌++◌, ◌∷◌, [], List, refl, ap, ap₂, sym, ◌∙◌, arith}
 use Rattle.p25_packet_blocks.specs.declared.block.Slot.{Slot}
-use Rattle.p25_packet_blocks.specs.Reading.{slots_read, slot_from}
+use Rattle.p25_packet_blocks.specs.Reading.{slot_from}
 use Rattle.p25_packet_blocks.proofs.ReadingLaws.{slots_read-zero, slots_read-more}
 use Rattle.p25_packet_blocks.proofs.read.read_slots.Goals as goal
 

@@ -1,7 +1,7 @@
-use Rattle.std.proofs.Common.{◌≡◌, ◌≢◌, ◌<◌, ◌≤◌, true, false, Err, Ok, take, ap, sym, ◌∙◌, arith}
+use Rattle.std.proofs.Common.{◌<◌, ◌≤◌, Err, take, ap, sym, ◌∙◌, arith}
 use Rattle.std.proofs.lemmas.Result.{err_from_is_err_and}
 use Rattle.p25_bits.specs.Distance.{distance_of}
-use Rattle.p25_status.specs.Sync.{has_sync, sync_bits, sync_slack}
+use Rattle.p25_status.specs.Sync.{sync_bits, sync_slack}
 use Rattle.p25_status.proofs.SyncLaws.{has_sync-yes, has_sync-no}
 use Rattle.p25_packet_blocks.proofs.UnitLaws.{packet_unit_of-sync, packet_unit_of-nid, packet_unit_of-duid, packet_unit_of-bad, packet_unit_of-good}
 use Rattle.p25_packet_blocks.proofs.unit.read_packet_unit.Goals as goal
@@ -25,7 +25,8 @@ pub returns-in_err-packet : goal.returns-in_err-packet
 returns-in_err-packet c =
     let near : distance_of (take 48 c.args.bits.now) sync_bits ≤ sync_slack = grind (arith, c.if-not-is_sync.ensures) in
     let p = err_from_is_err_and c.from_residual.result c.from_residual.ensures.1 in
-    p.1 ∙ sym (packet_unit_of-bad c.args.bits.now (c.in-Some.nid.nac, c.in-Some.nid.duid) p.0 (has_sync-yes c.args.bits.now (omega arith) near) (sym c.in-Some.ensures) c.if-nid-ne-PACKET_DUID.false (sym c.in_err-packet.ensures ∙ ap Err (sym p.2)))
+    p.1
+    ∙ sym (packet_unit_of-bad c.args.bits.now (c.in-Some.nid.nac, c.in-Some.nid.duid) p.0 (has_sync-yes c.args.bits.now (omega arith) near) (sym c.in-Some.ensures) c.if-nid-ne-PACKET_DUID.false (sym c.in_err-packet.ensures ∙ ap Err (sym p.2)))
 
 pub returns : goal.returns
 returns c =

@@ -1,4 +1,4 @@
-use Rattle.std.proofs.Common.{◌≡◌, ◌<◌, ◌≤◌, Err, length, take, ap, sym, ◌∙◌, arith}
+use Rattle.std.proofs.Common.{◌<◌, ◌≤◌, Err, length, take, ap, sym, ◌∙◌, arith}
 use Rattle.std.proofs.lemmas.Result.{err_from_is_err_and}
 use Rattle.p25_status.specs.Woven.{plain_of}
 use Rattle.p25_packet_blocks.specs.Heads.{head_blocks}
@@ -14,13 +14,13 @@ returns-in_err-head c =
 
 pub returns-then-len : goal.returns-then-len
 returns-then-len c =
-    let short : length c.args.bits.now < packet_sent_length (head_blocks c.in_ok-head.head) = omega (arith, c.len.ensures.value, c.packet_length-len.ensures, c.if-len.true) in
+    let short : length c.args.bits.now < packet_sent_length (head_blocks c.in_ok-head.head) = omega (arith, c.len.ensures.value, c.packet_length-len.ensures.value, c.if-len.true) in
     sym (sent_packet_of-short c.args.bits.now c.in_ok-head.head (sym c.in_ok-head.ensures) short)
 
 pub returns : goal.returns
 returns c =
     let head = c.in_ok-head.head in
-    let fits : packet_sent_length (head_blocks head) ≤ length c.args.bits.now = omega (arith, c.len.ensures.value, c.packet_length-len.ensures, c.if-len.false) in
+    let fits : packet_sent_length (head_blocks head) ≤ length c.args.bits.now = omega (arith, c.len.ensures.value, c.packet_length-len.ensures.value, c.if-len.false) in
     c.read_packet_of_head.ensures
-    ∙ ap (packet_of_head head) (c.unweave.ensures.plain ∙ ap (λ count. plain_of (take count c.args.bits.now)) c.packet_length-len.ensures)
+    ∙ ap (packet_of_head head) (c.unweave.ensures.plain ∙ ap (λ count. plain_of (take count c.args.bits.now)) c.packet_length-len.ensures.value)
     ∙ sym (sent_packet_of-whole c.args.bits.now head (sym c.in_ok-head.ensures) fits)

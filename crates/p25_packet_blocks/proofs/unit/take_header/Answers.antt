@@ -1,5 +1,4 @@
-use Rattle.std.proofs.Common.{◌+◌, ◌++◌, Bool, List, ap, ap₂, sym, ◌∙◌}
-use Rattle.p25_bits.specs.Bits.{part}
+use Rattle.std.proofs.Common.{◌++◌, Bool, List, ap₂, sym, ◌∙◌}
 use Rattle.p25_bits.proofs.PartLaws.{part-drop}
 use Rattle.p25_packet_blocks.specs.UnitReading.{sent_header_bits}
 use Rattle.p25_packet_blocks.proofs.unit.take_header.Goals as goal

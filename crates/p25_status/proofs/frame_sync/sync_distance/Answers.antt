@@ -4,7 +4,7 @@ use Rattle.p25_bits.specs.Bits.{bits_of}
 use Rattle.p25_bits.proofs.BitsLaws.{length-bits_of, field_of-bits_of}
 use Rattle.p25_bits.proofs.DistanceLaws.{distance_by-le}
 use Rattle.p25_status.specs.Sync.{sync_bits}
-use Rattle.p25_status.proofs.SyncLaws.{sync_distance-is}
+use Rattle.p25_status.proofs.SyncLaws.{sync_distance-is, sync_bits-is}
 use Rattle.p25_status.proofs.frame_sync.sync_distance.Goals as goal
 
 is_distance : goal.returns-clause-distance
@@ -17,3 +17,6 @@ returns-clause-distance c = is_distance c
 -- two lists differ in no more places than they have
 pub returns-clause-most : goal.returns-clause-most
 returns-clause-most c = omega (arith, is_distance c, distance_by-le beq (bits_of 48 c.args.window) sync_bits, length-bits_of 48 c.args.window)
+
+pub returns-clause-sync : goal.returns-clause-sync
+returns-clause-sync c = sync_bits-is

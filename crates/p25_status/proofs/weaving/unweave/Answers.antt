@@ -1,12 +1,13 @@
-use Rattle.std.proofs.Common.{◌≡◌, ◌+◌, ◌*◌, ◌/◌, ◌<◌, ◌≤◌, ◌++◌, Bool, List, length, drop, ap, ap₂, sym, ◌∙◌, subst, arith, length-drop}
+use Rattle.std.proofs.Common.{◌≡◌, ◌+◌, ◌*◌, ◌/◌, ◌<◌, ◌≤◌, ◌++◌, Bool, List, length, drop, get_or, false, ap, ap₂, sym, ◌∙◌, subst, arith, length-drop}
 use Rattle.std.proofs.lemmas.List.{append-nil, length-take-le}
-use Rattle.p25_bits.specs.Bits.{part}
-use Rattle.p25_status.specs.Status.{symbol_of}
+use Rattle.p25_bits.specs.Bits.{field_of, part}
+use Rattle.p25_bits.proofs.PartLaws.{part-part}
+use Rattle.p25_status.specs.Status.{status_from_bits}
 use Rattle.p25_status.specs.declared.symbols.Status.{Status}
 use Rattle.p25_status.specs.Woven.{woven, plain_in, plain_of, statuses_in, statuses_of, StandsByPlaces}
 use Rattle.p25_status.proofs.PlacesLaws.{woven-places}
 use Rattle.p25_status.proofs.WovenLaws.{woven-of}
-use Rattle.p25_status.proofs.Steps.{plain_more, statuses_more, plain_none, statuses_none, part_of_part, bit_of_part}
+use Rattle.p25_status.proofs.WeavingSteps.{plain_more, statuses_more, plain_none, statuses_none, status_read}
 use Rattle.p25_status.proofs.weaving.unweave.Goals as goal
 
 pub loop-i-preserved : goal.loop-i-preserved
@@ -18,15 +19,16 @@ loop-i-preserved c =
     let sent = part at len bits in
     let more : i < len / 72 = omega arith in
     let block : 72 * i + 70 ≤ len = omega arith in
-    let first : 72 * i + 70 < len = omega arith in
-    let second : 72 * i + 71 < len = omega arith in
-    let high = bit_of_part bits at len (72 * i) 70 c.get.result first c.get.ensures in
-    let low = bit_of_part bits at len (72 * i) 71 c.get-in-loop-i.result second c.get-in-loop-i.ensures in
-    let symbol = c.from_bits.ensures ∙ ap₂ symbol_of high low in record {
+    let both : 72 * i + 70 + 2 ≤ len = omega arith in
+    let second : 72 * i + 70 + 1 ≡ 72 * i + 71 = omega arith in
+    let place : at + 72 * i + 70 ≡ at + (72 * i + 70) = omega arith in
+    let read = c.field-status.ensures.value ∙ ap (λ k. field_of (part k 2 bits)) place in
+    let symbol = status_read bits at len (72 * i + 70) c.field-status.result c.at_number.result both c.requires.there c.at_number.ensures read
+    ∙ ap (λ k. status_from_bits (get_or sent (72 * i + 70) false) (get_or sent k false)) second in record {
       plain =
-          plain_more (len / 72) i sent c.loop-i.out c.append.new.self (part (at + 72 * i) 70 bits) more (sym (part_of_part bits at len (72 * i) 70 block)) c.append.ensures.list
+          plain_more (len / 72) i sent c.loop-i.out c.append.new.self (part (at + 72 * i) 70 bits) more (sym (part-part at len (72 * i) 70 bits block)) c.append.ensures.list
           ∙ c.loop-i.invariant.plain;
-      statuses = statuses_more (len / 72) i sent c.loop-i.statuses c.push.new.self c.from_bits.result more symbol c.push.ensures.list ∙ c.loop-i.invariant.statuses;
+      statuses = statuses_more (len / 72) i sent c.loop-i.statuses c.push.new.self c.at_number.result more symbol c.push.ensures.list ∙ c.loop-i.invariant.statuses;
       plain_len = omega arith;
       statuses_len = omega arith;
     }

@@ -5,7 +5,7 @@ use Rattle.p25_status.specs.Status.{status_number}
 use Rattle.p25_status.specs.Woven.{plain_of, statuses_of, StandsByPlaces}
 use Rattle.p25_status.proofs.WovenLaws.{plain_of-woven, statuses_of-woven}
 use Rattle.p25_status.proofs.PlacesLaws.{woven-places, StandsByPlaces-unique}
-use Rattle.p25_status.proofs.Steps.{woven_none, woven_more}
+use Rattle.p25_status.proofs.WeavingSteps.{woven_none, woven_more}
 use Rattle.p25_status.proofs.weaving.weave.Goals as goal
 
 pub loop-i-preserved : goal.loop-i-preserved

@@ -1,5 +1,5 @@
-use Rattle.std.proofs.Common.{◌≡◌, ◌+◌, List, [], ◌∷◌, ◌++◌, length, take, sym, ap, subst, ◌∙◌, append-nil, append_assoc, arith, refl}
-use Rattle.p25_text.specs.ItemTexts.{field_name, field_names}
+use Rattle.std.proofs.Common.{◌++◌, length, sym, ap, ◌∙◌, append-nil, arith}
+use Rattle.p25_text.specs.ItemTexts.{field_name}
 use Rattle.p25_text.proofs.ItemTextSteps.{field_names-none, first-field, next-field}
 use Rattle.p25_text.proofs.items.put_fields.Goals as goal
 use Rattle.p25_text.proofs.items.put_fields.Goals.{then-i-gt0, else-i-gt0}

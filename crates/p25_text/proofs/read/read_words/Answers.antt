@@ -1,8 +1,8 @@
-use Rattle.std.proofs.Common.{◌≡◌, ◌+◌, List, length, drop, Some, None, sym, ap, ◌∙◌, arith}
+use Rattle.std.proofs.Common.{◌≡◌, ◌+◌, length, drop, sym, ap, ◌∙◌, arith}
 use Rattle.p25_line.specs.Words.{marked}
-use Rattle.p25_text.specs.Grammar.{or_value, read_values, unit_in, values_behind}
+use Rattle.p25_text.specs.Grammar.{or_value, read_values, values_behind}
 use Rattle.p25_text.specs.Names.{keys_of}
-use Rattle.p25_text.proofs.ReadSteps.{Counted, right_count, some_place, wrong_count, wrong_kind}
+use Rattle.p25_text.proofs.ReadSteps.{right_count, some_place, wrong_count, wrong_kind}
 use Rattle.p25_text.proofs.read.read_words.Goals as goal
 
 pub word-requires-clause-held : goal.word-requires-clause-held

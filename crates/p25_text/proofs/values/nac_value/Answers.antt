@@ -1,4 +1,4 @@
-use Rattle.std.proofs.Common.{◌≡◌, length, refl, sym, arith}
+use Rattle.std.proofs.Common.{sym, arith}
 use Rattle.p25_text.proofs.ValueLaws.{nac_in-text, nac_value-none, nac_value-some}
 use Rattle.p25_text.proofs.values.nac_value.Goals as goal
 

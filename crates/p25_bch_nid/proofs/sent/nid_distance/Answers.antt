@@ -1,0 +1,25 @@
+use Rattle.std.proofs.Common.{◌≡◌, take, length, arith}
+use Rattle.std.specs.Bool.{beq}
+use Rattle.std.proofs.lemmas.List.{length-take-le}
+use Rattle.p25_bits.specs.Bits.{bits_of}
+use Rattle.p25_bits.proofs.BitsLaws.{length-bits_of}
+use Rattle.p25_bits.proofs.DistanceLaws.{distance_by-le}
+use Rattle.p25_bch_nid.specs.NidWord.{nid_word}
+use Rattle.p25_bch_nid.proofs.NidWordLaws.{nid_reading_of-near}
+use Rattle.p25_bch_nid.proofs.SentSteps.{weight-distance}
+use Rattle.p25_bch_nid.proofs.sent.nid_distance.Goals as goal
+
+is_distance : goal.returns-clause-distance
+is_distance c = weight-distance c.args.bits c.nid_bits.result _ (omega arith) c.nid_bits.ensures.sent.fits c.nid_bits.ensures.list
+
+pub returns-clause-distance : goal.returns-clause-distance
+returns-clause-distance c = is_distance c
+
+pub returns-clause-most : goal.returns-clause-most
+returns-clause-most c =
+    let received = take 63 (bits_of 64 c.args.bits) in
+    let long : length received ≡ 63 = length-take-le 63 (bits_of 64 c.args.bits) (omega (arith, length-bits_of 64 c.args.bits)) in
+    omega (arith, is_distance c, distance_by-le beq received (take 63 (nid_word c.args.nid.now.nac c.args.nid.now.duid)))
+
+pub returns-clause-read : goal.returns-clause-read
+returns-clause-read c = λ read. omega (arith, is_distance c, nid_reading_of-near (bits_of 64 c.args.bits) (c.args.nid.now.nac, c.args.nid.now.duid) read)

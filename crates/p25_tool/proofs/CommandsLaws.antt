@@ -1,0 +1,65 @@
+-- What the work of each command writes from the first octet on is what the command is defined to write.
+use Rattle.std.proofs.Common.{◌≡◌, ℕ, ◌+◌, Bool, true, false, cond, List, [], ◌++◌, Some, refl, ap, ap₂, ◌∙◌, arith}
+use Rattle.std.specs.List.{flat_map}
+use Rattle.p25_bits.specs.Bits.{octet_bits}
+use Rattle.p25_status.specs.declared.symbols.Status.{Status}
+use Rattle.p25_stream.specs.Items.{items_by}
+use Rattle.p25_work.specs.Futures.{Future}
+use Rattle.p25_tool.specs.declared.command.Command.TheVariants.{Show as ShowIt, Check as CheckIt, Repair as RepairIt, Bridge as BridgeIt, Build as BuildIt}
+use Rattle.p25_tool.specs.declared.reports.show.Show.{Show}
+use Rattle.p25_tool.specs.declared.reports.check.Check.{Check}
+use Rattle.p25_tool.specs.declared.reports.changed.Change.TheVariants.{Repaired, Bridged}
+use Rattle.p25_tool.specs.Buildings.{building_future, first_line}
+use Rattle.p25_tool.specs.Commands.{changed_reporting, check_reporting, show_reporting}
+use Rattle.p25_tool.specs.Outputs.{check_ending, check_line, ending_by, faults_in, faulty, units_in}
+use Rattle.p25_tool.specs.Recordings.{fresh, recording_future}
+use Rattle.p25_tool.specs.Runs.{command_future}
+use Rattle.p25_tool.proofs.ReportsLaws.{behind-check, reported-changed, reported-check, reported-show}
+
+-- two futures write and end alike
+pub record AreAlike (f g : Future) : Type 0 where
+  pub writes : (is : Bool) (octets : List ℕ) → f.writes is octets ≡ g.writes is octets
+  pub ends : (is : Bool) (octets : List ℕ) → f.ends is octets ≡ g.ends is octets
+
+pub show-alike : (report : Show) → AreAlike (recording_future show_reporting (fresh report)) (command_future ShowIt)
+unfolding recording_future
+show-alike report = record {
+  writes = λ is octets. reported-show is report (items_by is 0 (octet_bits octets)) (octet_bits octets);
+  ends = λ is octets. refl;
+}
+
+pub check-alike : (report : Check) → report ≡ record { units = 0; faults = 0 } → AreAlike (recording_future check_reporting (fresh report)) (command_future CheckIt)
+unfolding recording_future
+check-alike report empty = record {
+  writes = λ is octets.
+    let items = items_by is 0 (octet_bits octets) in
+    let units : report.units + units_in items ≡ units_in items = omega (arith, ap (λ (r : Check). r.units) empty) in
+    let faults : report.faults + faults_in items ≡ faults_in items = omega (arith, ap (λ (r : Check). r.faults) empty) in
+    reported-check is report items (octet_bits octets) ∙ ap₂ (λ (u f : ℕ). flat_map faulty items ++ cond is (check_line u f) []) units faults;
+  ends = ends;
+}
+  where
+    ends : (is : Bool) (octets : List ℕ) → (recording_future check_reporting (fresh report)).ends is octets ≡ ending_by CheckIt is octets
+    ends false octets = unfold recording_future in refl
+    ends true octets =
+        let items = items_by true 0 (octet_bits octets) in
+        let faults : report.faults + faults_in items ≡ faults_in items = omega (arith, ap (λ (r : Check). r.faults) empty) in
+        unfold recording_future in ap (λ (f : ℕ). Some (check_ending f)) (behind-check report items (octet_bits octets) ∙ faults)
+
+pub repair-alike : AreAlike (recording_future changed_reporting (fresh (record { change = Repaired; kept = [] }))) (command_future RepairIt)
+unfolding recording_future
+repair-alike = record {
+  writes = λ is octets. reported-changed is (record { change = Repaired; kept = [] }) (items_by is 0 (octet_bits octets)) (octet_bits octets) (omega arith);
+  ends = λ is octets. refl;
+}
+
+pub bridge-alike : (nac : ℕ) (status : Status) → AreAlike (recording_future changed_reporting (fresh (record { change = Bridged nac status; kept = [] }))) (command_future (BridgeIt nac status))
+unfolding recording_future
+bridge-alike nac status = record {
+  writes = λ is octets. reported-changed is (record { change = Bridged nac status; kept = [] }) (items_by is 0 (octet_bits octets)) (octet_bits octets) (omega arith);
+  ends = λ is octets. refl;
+}
+
+pub build-alike : (status : Status) → AreAlike (building_future (first_line status)) (command_future (BuildIt status))
+unfolding building_future
+build-alike status = record { writes = λ is octets. refl; ends = λ is octets. refl }

@@ -1,0 +1,100 @@
+-- What is said of the work of one future is said of another that writes and ends alike; and the outcome of work on an input
+-- without faults.
+use Rattle.std.proofs.Common.{◌≡◌, ℕ, ◌-◌, ◌<◌, ◌≤◌, Bool, true, false, cond, nat_lt, List, [], ◌++◌, length, take, Option, Some, refl, ap, sym, subst, ◌∙◌, arith, append-nil, length-append, inl, inr}
+use Rattle.std.specs.Prelude.{IfSome}
+use Rattle.std.proofs.lemmas.List.{take_all, take-append-le}
+use Rattle.std.proofs.lemmas.Bool.{cases_lt}
+use Rattle.std.proofs.lemmas.Bool.Decides.{nat_tests}
+use Rattle.p25_io.specs.Octets.{Taken}
+use Rattle.p25_work.specs.Futures.{Future}
+use Rattle.p25_work.specs.Runs.{IsFinal, IsTooLong, Worked, all_written, input_most}
+use Rattle.p25_work.specs.declared.ending.Ending.{Ending}
+use Rattle.p25_work.specs.declared.ending.WorkEnd.{WorkEnd}
+use Rattle.p25_work.specs.declared.ending.WorkEnd.TheVariants.{Ended, ReadFault, WriteFault, TooLong as InputTooLong}
+use Rattle.p25_work.proofs.RunsLaws.{Worked-same, all_written-same, ended-input, first-take, told-parts}
+use Rattle.p25_tool.specs.declared.command.Command.{Command}
+use Rattle.p25_tool.specs.declared.outcome.Outcome.{Outcome}
+use Rattle.p25_tool.specs.declared.outcome.Outcome.TheVariants.{TooLong}
+use Rattle.p25_tool.specs.Outcomes.{ending_outcome, work_outcome}
+use Rattle.p25_tool.specs.Outputs.{ending_by}
+use Rattle.p25_tool.specs.Runs.{answer_of, command_future, ending_or}
+use Rattle.p25_tool.proofs.CommandsLaws.{AreAlike}
+
+-- the work of a future is that of one that is alike
+pub worked-alike : (told left first last : Option (List ℕ)) (f g : Future) (end : WorkEnd) → AreAlike f g → Worked told left first last f end → Worked told left first last g end
+worked-alike told left first last f g end alike worked = Worked-same told left first last f g end alike.writes alike.ends worked
+
+pub all_written-alike : (f g : Future) → AreAlike f g → (input : List ℕ) → all_written g input ≡ [] → all_written f input ≡ []
+all_written-alike f g alike input none = all_written-same f g alike.writes input ∙ none
+
+-- the first octets of an input begin with those of the octets that were taken from it
+first-parts : (octets rest : List ℕ) → (more : List ℕ) × (take input_most (octets ++ rest) ≡ take input_most octets ++ more)
+first-parts octets rest = elim (cases_lt input_most (length octets)) [
+    | inr few ↦
+        let part = take (input_most - length octets) rest in
+        (part, first-take octets rest few ∙ ap (λ (xs : List ℕ). xs ++ part) (sym (take_all input_most octets few)))
+    | inl many ↦ ([], take-append-le input_most octets rest (omega (arith, many)) ∙ sym (append-nil (take input_most octets)))
+]
+
+module _ (command : Command) (input : List ℕ) where
+  -- the answer for an input that is too long, and for another
+  answer-long : (outcome : Outcome) → input_most < length input → ending_or (ending_by command false (take input_most input)) TooLong ≡ outcome → outcome ≡ answer_of command input
+  answer-long outcome long is = by_length (nat_lt input_most (length input)) (grind (arith, nat_tests))
+    where
+      by_length : (b : Bool) → b ≡ true → outcome ≡ cond b (ending_or (ending_by command false (take input_most input)) TooLong) (ending_or (ending_by command true input) TooLong)
+      by_length true same = sym is
+      by_length false same = cc
+
+  answer-short : (outcome : Outcome) → length input ≤ input_most → ending_or (ending_by command true input) TooLong ≡ outcome → outcome ≡ answer_of command input
+  answer-short outcome short is = by_length (nat_lt input_most (length input)) (grind (arith, nat_tests))
+    where
+      by_length : (b : Bool) → b ≡ false → outcome ≡ cond b (ending_or (ending_by command false (take input_most input)) TooLong) (ending_or (ending_by command true input) TooLong)
+      by_length true same = cc
+      by_length false same = sym is
+
+  -- the answer where the work ended by what the input holds
+  module _ (told left first last : Option (List ℕ)) (octets : List ℕ) (taken : Taken told octets left) (is_told : told ≡ Some input) where
+    answer-final : (ending : Ending) → IsFinal told first last (command_future command) octets ending → ending_outcome ending ≡ answer_of command input
+    answer-final ending final = by_end final.ended final.all final.ends final.stays
+      where
+        rest : List ℕ
+        rest = (told-parts told left octets input taken is_told).0
+        parts : input ≡ octets ++ rest
+        parts = (told-parts told left octets input taken is_told).1
+
+        by_end : (ended : Bool) → (ended ≡ true → (length octets ≤ input_most) × IfSome told (λ all. all ≡ octets)) → ending_by command ended (take input_most octets) ≡ Some ending
+            → (ended ≡ false → (is : Bool) (more : List ℕ) → ending_by command is (take input_most octets ++ more) ≡ Some ending) → ending_outcome ending ≡ answer_of command input
+        by_end true all ends stays =
+            let same : input ≡ octets = ended-input told octets input (all refl).1 is_told in
+            let few : length octets ≤ input_most = (all refl).0 in
+            answer-short (ending_outcome ending) (subst (λ (xs : List ℕ). length xs ≤ input_most) (sym same) few)
+            (ap (λ (xs : List ℕ). ending_or (ending_by command true xs) TooLong) (same ∙ sym (take_all input_most octets few)) ∙ ap (λ (end : Option Ending). ending_or end TooLong) ends)
+        by_end false all ends stays = elim (cases_lt input_most (length input)) [
+            | inr short ↦
+                let few : length octets ≤ input_most = omega (arith, short, ap length parts, length-append octets rest) in
+                answer-short (ending_outcome ending) short
+                (ap (λ (xs : List ℕ). ending_or (ending_by command true xs) TooLong) (parts ∙ ap (λ (xs : List ℕ). xs ++ rest) (sym (take_all input_most octets few)))
+                ∙ ap (λ (end : Option Ending). ending_or end TooLong) (stays refl true rest))
+            | inl long ↦
+                let begun = first-parts octets rest in
+                answer-long (ending_outcome ending) (omega (arith, long))
+                (ap (λ (xs : List ℕ). ending_or (ending_by command false xs) TooLong) (ap (take input_most) parts ∙ begun.1)
+                ∙ ap (λ (end : Option Ending). ending_or end TooLong) (stays refl false begun.0))
+        ]
+
+    -- the answer for an input that is too long
+    answer-too_long : IsTooLong first last (command_future command) octets → TooLong ≡ answer_of command input
+    answer-too_long is =
+        let parts = told-parts told left octets input taken is_told in
+        let rest = parts.0 in
+        let same : take input_most input ≡ take input_most octets = ap (take input_most) parts.1 ∙ take-append-le input_most octets rest (omega (arith, is.many)) in
+        answer-long TooLong (omega (arith, is.many, ap length parts.1, length-append octets rest))
+        (ap (λ (xs : List ℕ). ending_or (ending_by command false xs) TooLong) same ∙ ap (λ (end : Option Ending). ending_or end TooLong) is.ends)
+
+-- without a fault of the source or of the sink the outcome is the answer for the input
+pub answer-without-faults : (command : Command) (told left first last : Option (List ℕ)) (end : WorkEnd) → Worked told left first last (command_future command) end → (end ≡ ReadFault → ⊥) → (end ≡ WriteFault → ⊥)
+    → (input : List ℕ) → told ≡ Some input → work_outcome end ≡ answer_of command input
+answer-without-faults command told left first last (Ended ending) worked read write input is_told = answer-final command input told left first last worked.octets worked.taken is_told ending worked.meets
+answer-without-faults command told left first last ReadFault worked read write input is_told = absurd (read refl)
+answer-without-faults command told left first last WriteFault worked read write input is_told = absurd (write refl)
+answer-without-faults command told left first last InputTooLong worked read write input is_told = answer-too_long command input told left first last worked.octets worked.taken is_told worked.meets

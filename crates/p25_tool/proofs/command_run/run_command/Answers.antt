@@ -1,0 +1,51 @@
+use Rattle.std.proofs.Common.{◌≡◌, sym, subst}
+use Rattle.p25_work.specs.Futures.{Future}
+use Rattle.p25_tool.specs.declared.command.Command.{Command}
+use Rattle.p25_tool.specs.Commands.{ChangedParts, changed_reporting}
+use Rattle.p25_tool.specs.Recordings.{fresh, recording_future}
+use Rattle.p25_tool.specs.Runs.{command_future}
+use Rattle.p25_tool.proofs.CommandsLaws.{AreAlike, bridge-alike, build-alike, check-alike, repair-alike, show-alike}
+use Rattle.p25_tool.proofs.RunsLaws.{worked-alike, all_written-alike}
+use Rattle.p25_tool.proofs.command_run.run_command.Goals as goal
+
+-- a future that is alike to that of the command that is asked for
+alike-to : (f : Future) (command asked : Command) → asked ≡ command → AreAlike f (command_future command) → AreAlike f (command_future asked)
+alike-to f command asked is alike = subst (λ (x : Command). AreAlike f (command_future x)) (sym is) alike
+
+changed-alike : (made named : ChangedParts) (command asked : Command) → made ≡ named → asked ≡ command → AreAlike (recording_future changed_reporting (fresh named)) (command_future command)
+    → AreAlike (recording_future changed_reporting (fresh made)) (command_future asked)
+changed-alike made named command asked same is alike =
+    subst (λ (x : ChangedParts). AreAlike (recording_future changed_reporting (fresh x)) (command_future asked)) (sym same) (alike-to (recording_future changed_reporting (fresh named)) command asked is alike)
+
+pub returns-in-Show-clause-worked : goal.returns-in-Show-clause-worked
+returns-in-Show-clause-worked g c = worked-alike _ _ _ _ _ _ _ (alike-to _ _ _ c.in-Show.is (show-alike _)) c.run_report.ensures.worked
+
+pub returns-in-Show-clause-quiet : goal.returns-in-Show-clause-quiet
+returns-in-Show-clause-quiet g c = λ input told none. c.run_report.ensures.quiet input told (all_written-alike _ _ (alike-to _ _ _ c.in-Show.is (show-alike _)) input none)
+
+pub returns-in-Check-clause-worked : goal.returns-in-Check-clause-worked
+returns-in-Check-clause-worked g c = worked-alike _ _ _ _ _ _ _ (alike-to _ _ _ c.in-Check.is (check-alike _ c.new.ensures)) c.run_report-in-Check.ensures.worked
+
+pub returns-in-Check-clause-quiet : goal.returns-in-Check-clause-quiet
+returns-in-Check-clause-quiet g c = λ input told none. c.run_report-in-Check.ensures.quiet input told (all_written-alike _ _ (alike-to _ _ _ c.in-Check.is (check-alike _ c.new.ensures)) input none)
+
+pub returns-in-Repair-clause-worked : goal.returns-in-Repair-clause-worked
+returns-in-Repair-clause-worked g c = worked-alike _ _ _ _ _ _ _ (changed-alike _ _ _ _ c.new-in-Repair.ensures c.in-Repair.is repair-alike) c.run_report-in-Repair.ensures.worked
+
+pub returns-in-Repair-clause-quiet : goal.returns-in-Repair-clause-quiet
+returns-in-Repair-clause-quiet g c = λ input told none. c.run_report-in-Repair.ensures.quiet input told (all_written-alike _ _ (changed-alike _ _ _ _ c.new-in-Repair.ensures c.in-Repair.is repair-alike) input none)
+
+pub returns-in-Bridge-clause-worked : goal.returns-in-Bridge-clause-worked
+returns-in-Bridge-clause-worked g c =
+    worked-alike _ _ _ _ _ _ _ (changed-alike _ _ _ _ c.new-in-Bridge.ensures c.in-Bridge.is (bridge-alike c.in-Bridge.nac c.in-Bridge.status)) c.run_report-in-Bridge.ensures.worked
+
+pub returns-in-Bridge-clause-quiet : goal.returns-in-Bridge-clause-quiet
+returns-in-Bridge-clause-quiet g c =
+    λ input told none.
+    c.run_report-in-Bridge.ensures.quiet input told (all_written-alike _ _ (changed-alike _ _ _ _ c.new-in-Bridge.ensures c.in-Bridge.is (bridge-alike c.in-Bridge.nac c.in-Bridge.status)) input none)
+
+pub returns-in-Build-clause-worked : goal.returns-in-Build-clause-worked
+returns-in-Build-clause-worked g c = worked-alike _ _ _ _ _ _ _ (alike-to _ _ _ c.in-Build.is (build-alike c.in-Build.status)) c.run_build.ensures.worked
+
+pub returns-in-Build-clause-quiet : goal.returns-in-Build-clause-quiet
+returns-in-Build-clause-quiet g c = λ input told none. c.run_build.ensures.quiet input told (all_written-alike _ _ (alike-to _ _ _ c.in-Build.is (build-alike c.in-Build.status)) input none)

@@ -1,0 +1,49 @@
+-- The reports of the commands, item by item.
+use Rattle.std.specs.Prelude.{◌+◌, ◌*◌, ◌/◌, ◌<◌, Bool, cond, List, [], ◌++◌, length, drop}
+use Rattle.p25_units.specs.declared.item.Item.{Item}
+use Rattle.p25_stream.specs.Repeats.{bridged, is_whole_item, repaired}
+use Rattle.p25_work.specs.declared.ending.Ending.TheVariants.{Done}
+use Rattle.p25_tool.specs.declared.reports.show.Show.{Show}
+use Rattle.p25_tool.specs.declared.reports.check.Check.{Check}
+use Rattle.p25_tool.specs.declared.reports.changed.Change.{Change}
+use Rattle.p25_tool.specs.declared.reports.changed.Change.TheVariants.{Repaired, Bridged}
+use Rattle.p25_tool.specs.Outputs.{whole_octets, shown, faulty, check_line, check_ending}
+use Rattle.p25_tool.specs.Reports.{Reporting}
+
+abbrev pub show_reporting : Reporting Show
+show_reporting = record { piece = λ report item raw. shown item; behind = λ report item raw. report; closing = λ report. []; ending = λ report. Done }
+
+abbrev pub check_reporting : Reporting Check
+check_reporting = record {
+  piece = λ report item raw. faulty item;
+  behind = λ report item raw. record { units = report.units + cond (is_whole_item item) 1 0; faults = report.faults + cond (is_whole_item item) 0 1 };
+  closing = λ report. check_line report.units report.faults;
+  ending = λ report. check_ending report.faults;
+}
+
+-- a change of the bits of a recording, and the bits that are kept back
+pub record ChangedParts : Type 0 where
+  pub change : Change
+  pub kept : List Bool
+
+-- the bits of an item, changed
+abbrev pub change_of : Change → Item → List Bool → List Bool
+change_of Repaired item raw = repaired item raw
+change_of (Bridged nac status) item raw = bridged nac status item []
+
+-- the network access code of a change is one
+abbrev pub IsSoundChange : Change → Type 0
+IsSoundChange Repaired = Unit {0}
+IsSoundChange (Bridged nac status) = nac < 4096
+
+-- the last bits, which do not fill an octet
+abbrev pub unfilled : List Bool → List Bool
+unfilled bits = drop (8 * (length bits / 8)) bits
+
+abbrev pub changed_reporting : Reporting ChangedParts
+changed_reporting = record {
+  piece = λ report item raw. whole_octets (report.kept ++ change_of report.change item raw);
+  behind = λ report item raw. record { change = report.change; kept = unfilled (report.kept ++ change_of report.change item raw) };
+  closing = λ report. [];
+  ending = λ report. Done;
+}

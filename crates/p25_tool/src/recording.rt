@@ -1,0 +1,115 @@
+//! The work of a command on a recording: its items, as they are decided, and what a report writes of them.
+
+ghost use Rattle.std.specs.Prelude.{◌≡◌, [], Result, Ok};
+ghost use Rattle.p25_stream.specs.Scan.{given};
+ghost use Rattle.p25_tool.specs.Recordings.{fresh, IsClosing};
+
+use crate::report::Report;
+use p25_bits::BitBuf;
+use p25_line::Line;
+use p25_stream::{Scanner, item_laws};
+use p25_work::{Ending, Worker};
+use std::marker::Model;
+
+// How far the work has come.
+#[derive(Clone, Copy, Debug, PartialEq, Eq)]
+pub(crate) enum Phase {
+    // More octets may come.
+    Reading,
+    // The input has ended.
+    Ended,
+    // What is written at the end was given.
+    Closed,
+}
+
+// A report at work on a recording.
+#[derive(Drop)]
+pub(crate) struct Recording<R: Report> {
+    report: R,
+    scanner: Scanner,
+    raw: BitBuf,
+    phase: Phase,
+}
+
+impl<R: Report> Model for Recording<R> {
+    ghost use Rattle.std.specs.Prelude.{◌≡◌, ◌+◌, ◌^◌, ◌<◌, ◌≤◌, length};
+    ghost use Rattle.p25_tool.specs.Recordings.{HasClosed, RecordingParts, has_ended};
+
+    ghost Value = { RecordingParts R };
+
+    ghost view = { λ s. record { report = s.report; scan = s.scanner; phase = s.phase } };
+
+    ghost invariant = { λ s. (s.scanner.finished ≡ has_ended s.phase) × (R.counted s.report ≤ s.scanner.place) × (s.scanner.place + length s.scanner.held < 2 ^ 61) × HasClosed s.phase s.scanner };
+}
+
+impl<R: Report> Recording<R> {
+    // Before the first octet.
+    pub(crate) fn new(report: R) -> Recording<R>
+        requires { R.counted report ≡ 0 }
+        ensures { result ≡ fresh report }
+    {
+        Recording {
+            report,
+            scanner: Scanner::new(),
+            raw: BitBuf::new(),
+            phase: Phase::Reading,
+        }
+    }
+
+    // Sets `out` to what is written at the end of the input, once it has ended, and answers whether it did.
+    fn close(&mut self, out: &mut Line) -> bool
+        requires { given self.old.scan ≡ [] }
+        ensures { IsClosing R.reporting self.old result out.new self.new }
+    {
+        match self.phase {
+            Phase::Ended => {
+                self.report.close(out);
+                self.phase = Phase::Closed;
+                true
+            }
+            Phase::Reading | Phase::Closed => false,
+        }
+    }
+}
+
+impl<R: Report> Worker for Recording<R> {
+    ghost use Rattle.std.specs.Prelude.{◌≡◌, ◌≢◌, ◌+◌, [], length};
+    ghost use Rattle.p25_stream.specs.Scan.{given};
+    ghost use Rattle.p25_tool.specs.declared.recording.Phase.TheVariants.{Ended};
+    ghost use Rattle.p25_tool.specs.Recordings.{has_ended, pieces_of, recording_future};
+
+    ghost future = { recording_future R.reporting };
+
+    ghost is_finished = { λ s. has_ended s.phase };
+
+    ghost IsDrained = { λ s. (given s.scan ≡ []) × (s.phase ≢ Ended) };
+
+    ghost pieces_left = { λ s. length s.scan.held + pieces_of s.phase };
+
+    ghost size = { λ s. s.scan.place + length s.scan.held };
+
+    fn push(&mut self, octet: u8) {
+        let _ = &self.raw;
+        self.scanner.push(octet);
+    }
+
+    fn finish(&mut self) {
+        self.scanner.finish();
+        self.phase = Phase::Ended;
+    }
+
+    fn next(&mut self, out: &mut Line) -> Result<bool, Ending> {
+        match self.scanner.next(&mut self.raw) {
+            Some(item) => {
+                item_laws();
+                self.report.put(&item, &mut self.raw, out);
+                Ok(true)
+            }
+            None => Ok(self.close(out)),
+        }
+    }
+
+    fn ending(&self) -> Ending {
+        self.report.ending()
+    }
+}

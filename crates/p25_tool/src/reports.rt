@@ -1,0 +1,9 @@
+//! The reports of the commands that read recordings.
+
+mod changed;
+mod check;
+mod show;
+
+pub(crate) use changed::{Change, Changed, put_octets};
+pub(crate) use check::Check;
+pub(crate) use show::Show;

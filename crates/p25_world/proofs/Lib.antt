@@ -1,0 +1,9 @@
+pub mod HeadLaws
+pub mod SentLaws
+pub mod ReceiverLaws
+pub mod SenderLaws
+pub mod Phases
+pub mod CallSteps
+pub mod LinkSteps
+pub mod FactsLaws
+pub mod CountLaws

@@ -1,0 +1,5 @@
+use Rattle.p25_world.proofs.LinkSteps.{sessions-orderly}
+use Rattle.p25_world.proofs.laws.sessions_are_orderly.Goals as goal
+
+pub returns : goal.returns
+returns c = sessions-orderly

@@ -1,0 +1,4 @@
+pub mod Link
+pub mod Clean
+pub mod Orderly
+pub mod Facts
