@@ -135,6 +135,12 @@ module _ {F : Type 0} (K : Field F) where
 
   -- ---- slopes
 
+  -- coefficients that are zero change no slope
+  pub slope_longer : (n m : ℕ) (f : ℕ → F) (z : F) → n ≤ m → IsShort K n f → slope_at K m f z ≡ slope_at K n f z
+  slope_longer n m f z fits short =
+      value_same K m (rest_at K m f z) (rest_at K n f z) z (λ k low. value_longer K (n - suc k) (m - suc k) (λ i. f (suc k + i)) z (omega arith) (record { above = λ i high. short.above (suc k + i) (omega arith) }))
+      ∙ value_longer K n m (rest_at K n f z) z fits (record { above = λ i high. (short_rest n f z).above i (omega arith) })
+
   -- a zero that stays keeps its slope, times the value of 1 + y x
   pub slope-kept : (n : ℕ) (y : F) (f : ℕ → F) (z : F) → 0 < n → IsShort K n f → value_at K n f z ≡ 𝟘 → slope_at K (suc n) (times_linear K y f) z ≡ (𝟙 ⊕ y ⊗ z) ⊗ slope_at K n f z
   slope-kept n y f z some short none =

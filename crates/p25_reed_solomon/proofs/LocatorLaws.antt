@@ -1,7 +1,7 @@
 -- A solution of the key equation of the lowered syndromes, times a factor for each mark, is a locator. The wrong places without a mark
 -- are zeros of the key's locator; its zeros have slopes, since key and evaluator have no zero in common; and a factor more keeps the
 -- slopes of old zeros and makes a new zero with a slope.
-use Rattle.std.proofs.Common.{◌≡◌, ◌≢◌, ℕ, zero, suc, ◌+◌, ◌-◌, ◌*◌, ◌/◌, ◌<◌, ◌≤◌, Bool, true, false, List, length, take, drop, sym, ap, ap₂, ◌∙◌, subst, inl, inr, arith}
+use Rattle.std.proofs.Common.{◌≡◌, ◌≢◌, ℕ, zero, suc, ◌+◌, ◌-◌, ◌*◌, ◌/◌, ◌<◌, ◌≤◌, Bool, true, false, List, length, take, drop, sym, ap, ap₂, ◌∙◌, inl, inr, arith}
 use Rattle.std.proofs.lemmas.Bool.{cases_eq, cases_lt, cases_Bool, both_ways}
 use Rattle.std.proofs.lemmas.List.{get_or-take, get_or-drop, length-take, length-drop}
 use Rattle.p25_gf64.specs.declared.symbol.Sym.{Sym}
@@ -15,7 +15,7 @@ use Rattle.p25_algebra.proofs.SumFacts.{sum_of_one}
 use Rattle.p25_algebra.proofs.Values.{value-none, value_same}
 use Rattle.p25_algebra.proofs.Products.{product_agree, product_same, product_same_left, product_comm, product_first, product_at_zero}
 use Rattle.p25_algebra.proofs.ProductValues.{value_longer}
-use Rattle.p25_algebra.proofs.Quotients.{shifted-first, shifted-next, slope-kept, slope-new}
+use Rattle.p25_algebra.proofs.Quotients.{shifted-first, shifted-next, slope_longer, slope-kept, slope-new}
 use Rattle.p25_algebra.proofs.Locators.{locator_vanishes}
 use Rattle.p25_algebra.proofs.ForneyLaws.{forney}
 use Rattle.p25_poly.specs.declared.polynomial.Poly.{Poly}
@@ -202,40 +202,40 @@ module _ (n checks half : ℕ) (syndromes symbols : List Sym) (erased : List Boo
           | inr other ↦ zero_is_wrong i (omega arith) j inside plain (sym (value-times_plain n erased (half + 1) i (coefficient_of locator) (point_of n j) other) ∙ none) right
         ]
 
-    -- the error at a zero
-    error_there : (e : ℕ → Sym) → ((k : ℕ) → k < half + marks_below erased n → e k ≡ product_at gf64 (coefficient_of locator) (times_marks n erased n (coefficient gf64 syndromes)) k) → (j : ℕ) → j < n
-        → value_at gf64 (half + marks_below erased n + 1) (times_marks n erased n (coefficient_of locator)) (point_of n j) ≡ gf64.zero
-        → gf64.mul (errors j) (slope_at gf64 (half + marks_below erased n + 1) (times_marks n erased n (coefficient_of locator)) (point_of n j)) ≡ value_at gf64 (half + marks_below erased n) e (point_of n j)
-    error_there e is_product j inside none =
-        let most : ℕ = half + marks_below erased n in
-        let size : half + 1 + marks_below erased n ≡ most + 1 = omega arith in
+    -- the error at a zero, for any bound of the degree
+    error_there : (m : ℕ) (e : ℕ → Sym) → 1 ≤ m → m ≤ half + marks_below erased n → IsShort gf64 (m + 1) (times_marks n erased n (coefficient_of locator))
+        → ((k : ℕ) → k < half + marks_below erased n → e k ≡ product_at gf64 (coefficient_of locator) (times_marks n erased n (coefficient gf64 syndromes)) k) → (j : ℕ) → j < n
+        → value_at gf64 (m + 1) (times_marks n erased n (coefficient_of locator)) (point_of n j) ≡ gf64.zero
+        → gf64.mul (errors j) (slope_at gf64 (m + 1) (times_marks n erased n (coefficient_of locator)) (point_of n j)) ≡ value_at gf64 m e (point_of n j)
+    error_there m e positive bound short is_product j inside none =
         let f : ℕ → Sym = times_marks n erased n (coefficient_of locator) in
-        forney gf64 n most (element_of n) errors f (coefficient gf64 syndromes) some (elements_apart n places) (λ l h. element_ne_zero n l) (rw size at (short_times_marks n erased (half + 1) n (coefficient_of locator) key_short))
-        (λ i low. sym (explains.sums i (omega (arith, fits)))) (λ l low other. ap (λ k. value_at gf64 k f (point_of n l)) (sym size) ∙ wrong l low other) j inside none
-        ∙ value_same gf64 most (product_at gf64 f (coefficient gf64 syndromes)) e (point_of n j) (λ k low. product-times_marks n erased n (coefficient_of locator) (coefficient gf64 syndromes) k ∙ sym (is_product k low))
+        forney gf64 n m (element_of n) errors f (coefficient gf64 syndromes) positive (elements_apart n places) (λ l h. element_ne_zero n l) short
+        (λ i low. sym (explains.sums i (omega (arith, fits)))) (λ l low other. sym (value_longer gf64 (m + 1) (half + 1 + marks_below erased n) f (point_of n l) (omega arith) short) ∙ wrong l low other) j inside none
+        ∙ value_same gf64 m (product_at gf64 f (coefficient gf64 syndromes)) e (point_of n j)
+        (λ k low. product-times_marks n erased n (coefficient_of locator) (coefficient gf64 syndromes) k ∙ sym (is_product k (omega arith)))
 
-  -- the product with the factors of the marks is a locator
-  pub key_is_locator : (f e : ℕ → Sym) → ((k : ℕ) → f k ≡ times_marks n erased n (coefficient_of locator) k)
+  -- the product with the factors of the marks is a locator, for any bound of its degree
+  pub key_is_locator : (m : ℕ) (f e : ℕ → Sym) → 1 ≤ m → m ≤ half + marks_below erased n → IsShort gf64 (m + 1) f → ((k : ℕ) → f k ≡ times_marks n erased n (coefficient_of locator) k)
       → ((k : ℕ) → k < half + marks_below erased n → e k ≡ product_at gf64 (coefficient_of locator) (times_marks n erased n (coefficient gf64 syndromes)) k)
-      → IsLocator n checks syndromes erased (half + marks_below erased n) f e
-  key_is_locator f e is_f is_e =
+      → IsLocator n checks syndromes erased m f e
+  key_is_locator m f e positive bound short_f is_f is_e =
       rw (same_function f (times_marks n erased n (coefficient_of locator)) is_f)
       (record {
-        short = rw size at (short_times_marks n erased (half + 1) n (coefficient_of locator) key_short);
+        short = short;
         nonzero = λ none. key.nonzero (zero_from_times_marks n erased n (coefficient_of locator) none);
         marked = λ j inside here. sized j ∙ mark_vanishes n erased (half + 1) n (coefficient_of locator) j key_short inside here;
         wrong = λ errors explains j inside other. sized j ∙ wrong errors explains j inside other;
-        slope = λ errors explains j inside none flat. simple errors explains n (omega arith) j inside (sym (sized j) ∙ none) (ap (λ k. slope_at gf64 k (times_marks n erased n (coefficient_of locator)) (point_of n j)) size ∙ flat);
-        value = λ errors explains j inside none. error_there errors explains e is_e j inside none;
+        slope = λ errors explains j inside none flat. simple errors explains n (omega arith) j inside (sym (sized j) ∙ none)
+            (slope_longer gf64 (m + 1) (half + 1 + marks_below erased n) (times_marks n erased n (coefficient_of locator)) (point_of n j) (omega arith) short ∙ flat);
+        value = λ errors explains j inside none. error_there errors explains m e positive bound short is_e j inside none;
         found = λ errors explains j inside plain none. zero_is_wrong errors explains n (omega arith) j inside plain (sym (sized j) ∙ none);
       })
     where
-      size : half + 1 + marks_below erased n ≡ half + marks_below erased n + 1
-      size = omega arith
+      short : IsShort gf64 (m + 1) (times_marks n erased n (coefficient_of locator))
+      short = record { above = λ i high. sym (is_f i) ∙ short_f.above i high }
 
-      sized : (j : ℕ) → value_at gf64 (half + marks_below erased n + 1) (times_marks n erased n (coefficient_of locator)) (point_of n j) ≡ value_at gf64 (half + 1 + marks_below erased n) (times_marks n erased n (coefficient_of locator))
-          (point_of n j)
-      sized j = ap (λ k. value_at gf64 k (times_marks n erased n (coefficient_of locator)) (point_of n j)) (sym size)
+      sized : (j : ℕ) → value_at gf64 (m + 1) (times_marks n erased n (coefficient_of locator)) (point_of n j) ≡ value_at gf64 (half + 1 + marks_below erased n) (times_marks n erased n (coefficient_of locator)) (point_of n j)
+      sized j = sym (value_longer gf64 (m + 1) (half + 1 + marks_below erased n) (times_marks n erased n (coefficient_of locator)) (point_of n j) (omega arith) short)
 
   -- before any coefficient of the lowered syndromes is added, the evaluator is that of the key
   pub evaluator_first : (e : ℕ → Sym) → ((k : ℕ) → k < 32 → e k ≡ coefficient_of evaluator k) → (k : ℕ) → k + marks_below erased n < half + marks_below erased n
@@ -280,20 +280,32 @@ module _ (n checks marks half : ℕ) (syndromes lowered front : List Sym) (erase
       ∙ ap (λ m. product_at gf64 (coefficient_of locator) (λ r. times_marks n erased n (coefficient gf64 syndromes) (m + r)) k) (sym is_marks)
       ∙ product_same_left gf64 (coefficient_of locator) (coefficient gf64 front) (λ r. times_marks n erased n (coefficient gf64 syndromes) (marks + r)) (λ i. sym (front_is i)) k
 
-  pub located : (new e : List Sym) (i : ℕ) → i ≡ 0 → length new ≡ 32 → ((k : ℕ) → k < 32 → coefficient gf64 new k ≡ times_marks n erased n (coefficient gf64 front) k)
+  pub located : (m : ℕ) (new e : List Sym) (i : ℕ) → i ≡ 0 → length new ≡ 32 → 1 ≤ m → IsShort gf64 (m + 1) (coefficient gf64 new)
+      → ((k : ℕ) → 1 ≤ k → IsShort gf64 (k + 1) (coefficient gf64 new) → m ≤ k)
+      → ((k : ℕ) → k < 32 → coefficient gf64 new k ≡ times_marks n erased n (coefficient gf64 front) k)
       → ((k : ℕ) → k + i < half + marks → coefficient gf64 e k ≡ product_at gf64 (coefficient gf64 front) (λ r. times_marks n erased n (coefficient gf64 syndromes) (i + r)) k)
-      → IsLocator n checks syndromes erased (half + marks) (coefficient gf64 new) (coefficient gf64 e)
+      → IsLocator n checks syndromes erased m (coefficient gf64 new) (coefficient gf64 e) × (m ≤ half + marks)
   unfolding symbols
-  located new e i none new_full is_new is_e =
-      subst (λ m. IsLocator n checks syndromes erased (half + m) (coefficient gf64 new) (coefficient gf64 e)) (sym is_marks)
-      (key_is_locator n checks half syndromes symbols erased locator evaluator places few (omega arith) (omega arith) (omega arith) long is key (coefficient gf64 new) (coefficient gf64 e)
-      (front_everywhere (half + 1 + marks_below erased n) (times_marks n erased n (coefficient_of locator)) new new_full (short_times_marks n erased (half + 1) n (coefficient_of locator) short) (omega arith)
-      (λ k low. is_new k low ∙ ap (λ (g : ℕ → Sym). times_marks n erased n g k) (same_function (coefficient gf64 front) (coefficient_of locator) front_is)))
-      (λ k low.
-      is_e k (omega arith)
-      ∙ product_same_left gf64 (coefficient gf64 front) (coefficient_of locator) (λ r. times_marks n erased n (coefficient gf64 syndromes) (i + r)) front_is k
-      ∙ product_same gf64 (coefficient_of locator) (λ r. times_marks n erased n (coefficient gf64 syndromes) (i + r)) (times_marks n erased n (coefficient gf64 syndromes))
-      (λ r. ap (times_marks n erased n (coefficient gf64 syndromes)) (at r)) k))
+  located m new e i none new_full positive short_new least is_new is_e = (
+    key_is_locator n checks half syndromes symbols erased locator evaluator places few (omega arith) (omega arith) (omega arith) long is key m (coefficient gf64 new) (coefficient gf64 e) positive (omega (arith, bound)) short_new everywhere
+        (λ k low.
+        is_e k (omega arith)
+        ∙ product_same_left gf64 (coefficient gf64 front) (coefficient_of locator) (λ r. times_marks n erased n (coefficient gf64 syndromes) (i + r)) front_is k
+        ∙ product_same gf64 (coefficient_of locator) (λ r. times_marks n erased n (coefficient gf64 syndromes) (i + r)) (times_marks n erased n (coefficient gf64 syndromes))
+        (λ r. ap (times_marks n erased n (coefficient gf64 syndromes)) (at r)) k),
+    bound,
+  )
     where
       at : (r : ℕ) → i + r ≡ r
       at r = omega arith
+
+      whole : IsShort gf64 (half + 1 + marks_below erased n) (times_marks n erased n (coefficient_of locator))
+      whole = short_times_marks n erased (half + 1) n (coefficient_of locator) short
+
+      everywhere : (k : ℕ) → coefficient gf64 new k ≡ times_marks n erased n (coefficient_of locator) k
+      everywhere =
+          front_everywhere (half + 1 + marks_below erased n) (times_marks n erased n (coefficient_of locator)) new new_full whole (omega arith)
+          (λ k low. is_new k low ∙ ap (λ (g : ℕ → Sym). times_marks n erased n g k) (same_function (coefficient gf64 front) (coefficient_of locator) front_is))
+
+      bound : m ≤ half + marks
+      bound = least (half + marks) (omega arith) (record { above = λ k high. everywhere k ∙ whole.above k (omega arith) })

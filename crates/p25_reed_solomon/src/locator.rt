@@ -2,7 +2,7 @@
 
 ghost use Rattle.std.specs.Prelude.{◌≡◌, ℕ, ◌+◌, ◌*◌, ◌/◌, ◌<◌, ◌≤◌, length};
 ghost use Rattle.p25_gf64.specs.Gf64.{gf64};
-ghost use Rattle.p25_algebra.specs.Series.{coefficient};
+ghost use Rattle.p25_algebra.specs.Series.{coefficient, IsShort};
 ghost use Rattle.p25_poly.specs.Key.{IsKey};
 ghost use Rattle.p25_poly.specs.Polynomial.{coefficient_of};
 ghost use Rattle.p25_reed_solomon.specs.Errors.{marks_below};
@@ -13,7 +13,7 @@ use p25_gf64::Sym;
 use p25_poly::{Key, Poly, key_solve};
 
 // Sets `locator` and `evaluator` to a locator of the first `checks` syndromes of a word with marks, and its evaluator: the solution
-// of the key equation of the syndromes times the factor of each mark, and this factor again.
+// of the key equation of the syndromes times the factor of each mark, and this factor again. Answers the locator's degree, or 1.
 pub(crate) fn locate(
     syndromes: &[Sym],
     checks: usize,
@@ -43,7 +43,22 @@ pub(crate) fn locate(
         multiply_by_x_and_add(evaluator, lowered[i], locator);
     }
     multiply_by_marks(locator, erased);
-    half + marks
+    degree_bound(locator)
+}
+
+// The degree of a polynomial of 32 coefficients, and 1 where it is lower.
+fn degree_bound(polynomial: &[Sym]) -> usize
+    requires { length polynomial.now ≡ 32 }
+    ensures some { 1 ≤ result }
+    ensures short { IsShort gf64 (result + 1) (coefficient gf64 polynomial.now) }
+    ensures least { (k : ℕ) → 1 ≤ k → IsShort gf64 (k + 1) (coefficient gf64 polynomial.now) → result ≤ k }
+{
+    for i in (2..32).rev() {
+        if !polynomial[i].is_zero() {
+            return i;
+        }
+    }
+    1
 }
 
 // The solution of the key equation, which without symbols is 1 with the evaluator 0.

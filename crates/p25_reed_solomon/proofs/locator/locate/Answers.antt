@@ -1,9 +1,9 @@
-use Rattle.std.proofs.Common.{◌≡◌, suc, ◌+◌, ◌-◌, ◌/◌, List, length, get_or, ap, ◌∙◌, refl, arith}
+use Rattle.std.proofs.Common.{◌≡◌, suc, ◌+◌, ◌-◌, ◌/◌, List, length, get_or, ap, ◌∙◌, refl, arith, ◌≤◌}
 use Rattle.std.proofs.lemmas.List.{get_or_default}
 use Rattle.p25_gf64.specs.declared.symbol.Sym.{Sym}
 use Rattle.p25_gf64.specs.Gf64.{gf64}
 use Rattle.p25_algebra.specs.Series.{coefficient}
-use Rattle.p25_reed_solomon.specs.Locator.{times_marks}
+use Rattle.p25_reed_solomon.specs.Locator.{times_marks, IsLocator}
 use Rattle.p25_reed_solomon.proofs.LocatorLaws.{located, located_first, evaluator_step}
 use Rattle.p25_reed_solomon.proofs.locator.locate.Goals as goal
 
@@ -29,11 +29,19 @@ loop-i-preserved c =
     c.multiply_by_x_and_add.ensures
     (rw next c.loop-i.invariant)
 
-pub returns-clause-locator : goal.returns-clause-locator
-returns-clause-locator c =
+whole : (c : goal.After-degree_bound)
+    → IsLocator (length c.args.erased.now) c.args.checks c.args.syndromes.now c.args.erased.now c.degree_bound.result (coefficient gf64 c.multiply_by_marks-2.new.polynomial) (coefficient gf64 c.loop-i.evaluator)
+    × (c.degree_bound.result ≤ (c.args.checks - c.count_marks-marks.result) / 2 + c.count_marks-marks.result)
+whole c =
     let n = length c.args.erased.now in
-    located n c.args.checks c.count_marks-marks.result
-    ((c.args.checks - c.count_marks-marks.result) / 2) c.args.syndromes.now c.multiply_by_marks.new.polynomial c.fill_front.new.out c.args.erased.now c.key_of-key.result.locator c.key_of-key.result.evaluator
-    c.requires.places c.count_marks-marks.ensures.count (omega (arith, c.count_marks-marks.ensures.count, c.requires.marks)) c.requires.some c.requires.few refl (omega arith)
+    located n c.args.checks c.count_marks-marks.result ((c.args.checks - c.count_marks-marks.result) / 2) c.args.syndromes.now c.multiply_by_marks.new.polynomial c.fill_front.new.out c.args.erased.now c.key_of-key.result.locator
+    c.key_of-key.result.evaluator c.requires.places c.count_marks-marks.ensures.count (omega (arith, c.count_marks-marks.ensures.count, c.requires.marks)) c.requires.some c.requires.few refl (omega arith)
     (λ k low. c.multiply_by_marks.ensures k low ∙ ap (λ (s : List Sym). times_marks n c.args.erased.now n (coefficient gf64 s) k) c.copy_from_slice.ensures.after)
-    c.key_of-key.ensures (omega arith) c.fill_front.ensures c.multiply_by_marks-2.new.polynomial c.loop-i.evaluator c.loop-i.i (omega arith) (omega arith) c.multiply_by_marks-2.ensures c.loop-i.invariant
+    c.key_of-key.ensures (omega arith) c.fill_front.ensures c.degree_bound.result c.multiply_by_marks-2.new.polynomial c.loop-i.evaluator c.loop-i.i (omega arith) (omega arith)
+    c.degree_bound.ensures.some c.degree_bound.ensures.short c.degree_bound.ensures.least c.multiply_by_marks-2.ensures c.loop-i.invariant
+
+pub returns-clause-locator : goal.returns-clause-locator
+returns-clause-locator c = (whole c).0
+
+pub returns-clause-most : goal.returns-clause-most
+returns-clause-most c = omega (arith, (whole c).1, c.count_marks-marks.ensures.count, c.requires.marks)
