@@ -71,7 +71,8 @@ pub record IsPiece (octets : List ℕ) (list : List (List ℕ)) (i start end : �
   pub piece : slice_get list i ≡ Some (slice_range octets start end)
 
 -- each message is such a piece, wherever the ends and the octets are held
-pub IsPiece-at : (all : Vec ℕ) (octets ends held : List ℕ) (list : List (List ℕ)) (i start end : ℕ) → AreEnds 0 ends (vec_len all) → pieces_between 0 ends all.items ≡ list → octets ≡ all.items → held ≡ ends → i < length list → start ≡ start_before 0 held i → end ≡ start_before 0 held (i + 1) → IsPiece octets list i start end
+pub IsPiece-at : (all : Vec ℕ) (octets ends held : List ℕ) (list : List (List ℕ)) (i start end : ℕ) → AreEnds 0 ends (vec_len all) → pieces_between 0 ends all.items ≡ list → octets ≡ all.items → held ≡ ends → i < length list →
+    start ≡ start_before 0 held i → end ≡ start_before 0 held (i + 1) → IsPiece octets list i start end
 IsPiece-at all octets ends held list i start end are e o f h s t =
     let count : vec_len all ≡ length octets = all.ok.0 ∙ ap length (sym o) in
     let ascend : AreEnds 0 held (length octets) = rw (f, ← count) are in

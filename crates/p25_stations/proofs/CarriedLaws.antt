@@ -54,7 +54,8 @@ message-read_back message =
     let zeros = replicate pad 0 in
     let many : length zeros ≡ pad = length-replicate {A = ℕ} pad 0 in
     let count : length (message ++ zeros) - pad ≡ length message = omega (arith, length-append message zeros, many) in
-    unpadded-is (message ++ zeros) (four_octets (crc32_of (message ++ zeros))) pad refl (octets_number-four_octets (crc32_of (message ++ zeros))) (omega (arith, length-append message zeros, many)) ∙ ap (λ (xs : List ℕ). Some xs) (take_at message zeros (length (message ++ zeros) - pad) (sym count))
+    unpadded-is (message ++ zeros) (four_octets (crc32_of (message ++ zeros))) pad refl (octets_number-four_octets (crc32_of (message ++ zeros))) (omega (arith, length-append message zeros, many)) ∙
+    ap (λ (xs : List ℕ). Some xs) (take_at message zeros (length (message ++ zeros) - pad) (sym count))
 
 lt-true : (m n : ℕ) → m < n → nat_lt m n ≡ true
 lt-true m n h = grind (arith, nat_tests)
@@ -64,7 +65,8 @@ pub put_block-here : (places : List (Option BlockParts)) (block : BlockParts) (j
 unfolding put_block
 put_block-here places block j h e =
     let there : nat_lt block.serial (length places) ≡ true = lt-true block.serial (length places) (omega arith) in
-    ap (λ (ps : List (Option BlockParts)). get_or ps j None) (cond-true (nat_lt block.serial (length places)) (set places block.serial (Some block)) places there) ∙ ap (λ (k : ℕ). get_or (set places k (Some block)) j None) e ∙ get_or-set_same places j (Some block) None h
+    ap (λ (ps : List (Option BlockParts)). get_or ps j None) (cond-true (nat_lt block.serial (length places)) (set places block.serial (Some block)) places there) ∙ ap (λ (k : ℕ). get_or (set places k (Some block)) j None) e ∙
+    get_or-set_same places j (Some block) None h
 
 pub put_block-other : (places : List (Option BlockParts)) (block : BlockParts) (j : ℕ) → (block.serial ≡ j → ⊥) → get_or (put_block places block) j None ≡ get_or places j None
 unfolding put_block
@@ -72,7 +74,8 @@ put_block-other places block j n =
     elim (nat_lt block.serial (length places)) as (λ (b : Bool). get_or (cond b (set places block.serial (Some block)) places) j None ≡ get_or places j None) [ true ↦ get_or-set_other places block.serial j (Some block) None (λ e. n (sym e)) | false ↦ refl ]
 
 -- a block that is held stays
-pub put_slots-stays : (message : List ℕ) (slots : List Slot) (places : List (Option BlockParts)) (j : ℕ) → AreBlocksOf message slots → j < length places → get_or places j None ≡ Some (message_block message j) → get_or (put_slots places slots) j None ≡ Some (message_block message j)
+pub put_slots-stays : (message : List ℕ) (slots : List Slot) (places : List (Option BlockParts)) (j : ℕ) → AreBlocksOf message slots → j < length places → get_or places j None ≡ Some (message_block message j) →
+    get_or (put_slots places slots) j None ≡ Some (message_block message j)
 unfolding AreBlocksOf put_slots
 put_slots-stays message [] places j are h held = held
 put_slots-stays message (Bad ∷ slots) places j are h held = put_slots-stays message slots places j are h held
@@ -85,7 +88,8 @@ put_slots-stays message (Good block ∷ slots) places j are h held =
     put_slots-stays message slots (put_block places block) j are.1 (omega (arith, length-put_block places block)) same
 
 -- a block that comes is held
-pub put_slots-comes : (message : List ℕ) (slots : List Slot) (places : List (Option BlockParts)) (j : ℕ) → AreBlocksOf message slots → j < length places → HoldsSerial j slots → get_or (put_slots places slots) j None ≡ Some (message_block message j)
+pub put_slots-comes : (message : List ℕ) (slots : List Slot) (places : List (Option BlockParts)) (j : ℕ) → AreBlocksOf message slots → j < length places → HoldsSerial j slots →
+    get_or (put_slots places slots) j None ≡ Some (message_block message j)
 unfolding AreBlocksOf HoldsSerial put_slots
 put_slots-comes message [] places j are h holds = absurd holds
 put_slots-comes message (Bad ∷ slots) places j are h holds = put_slots-comes message slots places j are h holds
@@ -101,7 +105,9 @@ all_octets-each zero block =
     ap all_octets (each_below-zero (λ (j : ℕ). Some (block j))) ∙ ap (λ (xs : List ℕ). Some xs) (sym (joined_below-zero (λ (j : ℕ). (block j).octets)))
 all_octets-each (suc n) block =
     let octets = joined_below n (λ (j : ℕ). (block j).octets) in
-    ap all_octets (each_below-suc n (λ (j : ℕ). Some (block j))) ∙ all_octets-append (each_below n (λ (j : ℕ). Some (block j))) (Some (block n) ∷ []) ∙ ap (λ (o : Option (List ℕ)). both_octets o (before_octets (block n).octets (Some []))) (all_octets-each n block) ∙ ap (λ (xs : List ℕ). Some (octets ++ xs)) (append-nil (block n).octets) ∙ ap (λ (xs : List ℕ). Some xs) (sym (joined_below-suc n (λ (j : ℕ). (block j).octets)))
+    ap all_octets (each_below-suc n (λ (j : ℕ). Some (block j))) ∙ all_octets-append (each_below n (λ (j : ℕ). Some (block j))) (Some (block n) ∷ []) ∙
+    ap (λ (o : Option (List ℕ)). both_octets o (before_octets (block n).octets (Some []))) (all_octets-each n block) ∙ ap (λ (xs : List ℕ). Some (octets ++ xs)) (append-nil (block n).octets) ∙
+    ap (λ (xs : List ℕ). Some xs) (sym (joined_below-suc n (λ (j : ℕ). (block j).octets)))
 
 -- the blocks of a message joined are its octets
 pub joined-message_blocks : (message : List ℕ) → joined_below (block_count (length message)) (λ j. (message_block message j).octets) ≡ message_octets message
@@ -109,10 +115,12 @@ unfolding message_block
 joined-message_blocks message =
     let n = block_count (length message) in
     let octets = message_octets message in
-    joined_below-same n (λ (j : ℕ). part (16 * j) 16 octets) (λ (j : ℕ). part (0 + 16 * j) 16 octets) (λ (j : ℕ) (h : j < n). ap (λ (at : ℕ). part at 16 octets) (sym (zero-add (16 * j)))) ∙ joined_below-parts 0 16 n octets ∙ part_whole (16 * n) octets (length-message_octets message)
+    joined_below-same n (λ (j : ℕ). part (16 * j) 16 octets) (λ (j : ℕ). part (0 + 16 * j) 16 octets) (λ (j : ℕ) (h : j < n). ap (λ (at : ℕ). part at 16 octets) (sym (zero-add (16 * j)))) ∙ joined_below-parts 0 16 n octets ∙
+    part_whole (16 * n) octets (length-message_octets message)
 
 -- places of a message that are all held
-pub places-of_message : (message : List ℕ) (places : List (Option BlockParts)) → length places ≡ block_count (length message) → ((j : ℕ) → j < block_count (length message) → get_or places j None ≡ Some (message_block message j)) → all_octets places ≡ Some (message_octets message)
+pub places-of_message : (message : List ℕ) (places : List (Option BlockParts)) → length places ≡ block_count (length message) → ((j : ℕ) → j < block_count (length message) → get_or places j None ≡ Some (message_block message j)) →
+    all_octets places ≡ Some (message_octets message)
 places-of_message message places long held =
     let n = block_count (length message) in
     let each : ℕ → Option BlockParts = λ (j : ℕ). Some (message_block message j) in

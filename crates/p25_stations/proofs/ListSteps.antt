@@ -18,7 +18,8 @@ flags_more front i n flag e h =
     ap (λ (k : ℕ). set (front ++ replicate k false) i flag) more ∙ set_at front false (replicate (n - (i + 1)) false) flag i e ∙ sym (append_assoc front (flag ∷ []) (replicate (n - (i + 1)) false))
 
 -- a list of flags, set from its beginning on to what a test says of the elements of a list
-pub flags_set : {X : Type 0} (test : X → Bool) (xs : List X) (n i : ℕ) (x : X) (before after : List Bool) → slice_get xs i ≡ Some x → i < n → before ≡ map test (take i xs) ++ replicate (n - i) false → after ≡ set before i (test x) → after ≡ map test (take (i + 1) xs) ++ replicate (n - (i + 1)) false
+pub flags_set : {X : Type 0} (test : X → Bool) (xs : List X) (n i : ℕ) (x : X) (before after : List Bool) → slice_get xs i ≡ Some x → i < n → before ≡ map test (take i xs) ++ replicate (n - i) false → after ≡ set before i (test x) →
+    after ≡ map test (take (i + 1) xs) ++ replicate (n - (i + 1)) false
 flags_set {X} test xs n i x before after e h b a =
     let inside : i < length xs = slice_get_within xs i x e in
     let count : length (map test (take i xs)) ≡ i = length-map (take i xs) test ∙ length-take-le i xs (omega arith) in

@@ -62,10 +62,12 @@ all_octets-append (None ∷ xs) ys = refl
 all_octets-append (Some block ∷ xs) ys = ap (before_octets block.octets) (all_octets-append xs ys) ∙ both_octets-before block.octets (all_octets xs) (all_octets ys)
 
 -- one more place of which the block is held
-pub all_octets-more : (places : List (Option BlockParts)) (i : ℕ) (block : BlockParts) (octets : List ℕ) → slice_get places i ≡ Some (Some block) → all_octets (take i places) ≡ Some octets → all_octets (take (i + 1) places) ≡ Some (octets ++ block.octets)
+pub all_octets-more : (places : List (Option BlockParts)) (i : ℕ) (block : BlockParts) (octets : List ℕ) → slice_get places i ≡ Some (Some block) → all_octets (take i places) ≡ Some octets →
+    all_octets (take (i + 1) places) ≡ Some (octets ++ block.octets)
 unfolding all_octets
 all_octets-more places i block octets e f =
-    ap all_octets (take_get places i (Some block) e) ∙ all_octets-append (take i places) (Some block ∷ []) ∙ ap (λ (o : Option (List ℕ)). both_octets o (before_octets block.octets (Some []))) f ∙ ap (λ (xs : List ℕ). Some (octets ++ xs)) (append-nil block.octets)
+    ap all_octets (take_get places i (Some block) e) ∙ all_octets-append (take i places) (Some block ∷ []) ∙ ap (λ (o : Option (List ℕ)). both_octets o (before_octets block.octets (Some []))) f ∙
+    ap (λ (xs : List ℕ). Some (octets ++ xs)) (append-nil block.octets)
 
 -- no octets where a place is empty
 pub all_octets-empty : (places : List (Option BlockParts)) (i : ℕ) → slice_get places i ≡ Some None → all_octets places ≡ None

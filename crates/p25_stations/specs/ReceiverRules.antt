@@ -54,7 +54,8 @@ filled r packet (Some kept) =
 -- the link is opened anew, by a packet of no blocks
 unfoldable pub opening_heard : Receiving → PacketHead → Receiving × Heard
 opening_heard r head =
-    if eqb (head_blocks head) 0 then (record { last = head_number head; kept = None }, Opened (head_number head) (ack_packet (head_number head))) else (r, Ignored)
+    let number = head_number head in
+    if eqb (head_blocks head) 0 then (record { last = number; kept = None }, Opened number (ack_packet number)) else (r, Ignored)
 
 -- a packet of data comes: that of the last message again, one out of order, or that of the next message
 unfoldable pub data_heard : Receiving → ConfirmedParts → Receiving × Heard

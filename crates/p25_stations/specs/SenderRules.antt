@@ -43,7 +43,8 @@ may_send s = nat_lt s.tries 16
 -- a message is offered: it is taken where nothing is outstanding
 unfoldable pub offered_beside : Outstanding → Sending → List ℕ → Sending × Offer
 offered_beside Nothing s message =
-    (record { next = s.next; outstanding = Message message; tries = 1; down = false }, Taken s.next (block_count (length message)) (message_packet s.next message))
+    let blocks = block_count (length message) in
+    (record { next = s.next; outstanding = Message message; tries = 1; down = false }, Taken s.next blocks (message_packet s.next message))
 offered_beside (Message other) s message = (s, Busy)
 offered_beside (Opening number) s message = (s, Busy)
 

@@ -21,7 +21,9 @@ good_slot block = Good block
 -- the whole packet of a message: the full message flag, and all blocks
 unfoldable pub message_packet : ℕ → List ℕ → Packet
 message_packet number message =
-    Confirmed (record { head = confirmed_head station_llid true (block_count (length message)) (pad_count (length message)) number; slots = map good_slot (message_blocks message) })
+    let count = block_count (length message) in
+    let pad = pad_count (length message) in
+    Confirmed (record { head = confirmed_head station_llid true count pad number; slots = map good_slot (message_blocks message) })
 
 -- the slots of the blocks that are wanted, in the order of their serial numbers
 unfoldable pub wanted_slots : List ℕ → List Bool → List Slot
@@ -31,7 +33,8 @@ wanted_slots message wanted =
 -- the packet of the blocks of a message that are wanted, without the full message flag
 unfoldable pub blocks_packet : ℕ → List ℕ → List Bool → Packet
 blocks_packet number message wanted =
-    Confirmed (record { head = confirmed_head station_llid false (length (wanted_slots message wanted)) (pad_count (length message)) number; slots = wanted_slots message wanted })
+    let slots = wanted_slots message wanted in
+    Confirmed (record { head = confirmed_head station_llid false (length slots) (pad_count (length message)) number; slots = slots })
 
 -- the packet that opens the link anew
 unfoldable pub opening_packet : ℕ → Packet

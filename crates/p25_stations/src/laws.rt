@@ -9,5 +9,6 @@ ghost use Rattle.p25_stations.specs.Carried.{CarriesMessage, read_back};
 /// length it is, and that this is so in whatever order its blocks come, in one packet or in several.
 pub fn messages_read_back()
     ensures octets { (message : List ℕ) → unpadded (message_octets message) (pad_count (length message)) ≡ Some message }
-    ensures blocks { (message : List ℕ) (slots : List Slot) → CarriesMessage message slots → read_back (block_count (length message)) (pad_count (length message)) slots ≡ Some message }
+    ensures blocks { (message : List ℕ) (slots : List Slot) → CarriesMessage message slots →
+        read_back (block_count (length message)) (pad_count (length message)) slots ≡ Some message }
 {}

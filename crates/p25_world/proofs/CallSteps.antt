@@ -121,7 +121,8 @@ opening-data number w s packet h t d = record {
 
 -- a message is offered
 
-taken : (last : ℕ) (w : Link) (message : List ℕ) → IsQuiet last w → length message ≤ 2028 → IsWaiting ((last + 1) % 8) message (link_of_data w (record { next = w.sender.next; outstanding = Message message; tries = 1; down = false }) (message_packet w.sender.next message) (with_sent w.session message))
+taken : (last : ℕ) (w : Link) (message : List ℕ) → IsQuiet last w → length message ≤ 2028 →
+    IsWaiting ((last + 1) % 8) message (link_of_data w (record { next = w.sender.next; outstanding = Message message; tries = 1; down = false }) (message_packet w.sender.next message) (with_sent w.session message))
 unfolding IsDataOf
 taken last w message q short = record {
   next = q.next;
@@ -193,7 +194,8 @@ timeout-phase w (opening number h) ended = opening-resent number w (timed_out w.
 
 -- the link is opened again
 
-given-up-waiting : (number : ℕ) (message : List ℕ) (w : Link) (s : Sending) → IsWaiting number message w → s.outstanding ≡ Opening ((number + 4) % 8) → IsOpening ((number + 4) % 8) (next_session w s ((number + 4) % 8) (opening_packet ((number + 4) % 8)))
+given-up-waiting : (number : ℕ) (message : List ℕ) (w : Link) (s : Sending) → IsWaiting number message w → s.outstanding ≡ Opening ((number + 4) % 8) →
+    IsOpening ((number + 4) % 8) (next_session w s ((number + 4) % 8) (opening_packet ((number + 4) % 8)))
 unfolding next_session
 given-up-waiting number message w s h o = record {
   outstanding = o;
@@ -213,7 +215,8 @@ given-up-waiting number message w s h o = record {
   base_is = refl;
 }
 
-given-up-arrived : (number : ℕ) (message : List ℕ) (w : Link) (s : Sending) → IsArrived number message w → s.outstanding ≡ Opening ((number + 4) % 8) → IsOpening ((number + 4) % 8) (next_session w s ((number + 4) % 8) (opening_packet ((number + 4) % 8)))
+given-up-arrived : (number : ℕ) (message : List ℕ) (w : Link) (s : Sending) → IsArrived number message w → s.outstanding ≡ Opening ((number + 4) % 8) →
+    IsOpening ((number + 4) % 8) (next_session w s ((number + 4) % 8) (opening_packet ((number + 4) % 8)))
 unfolding next_session
 given-up-arrived number message w s h o = record {
   outstanding = o;

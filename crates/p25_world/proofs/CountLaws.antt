@@ -49,7 +49,8 @@ counts-at w out e h = subst (λ (x : Outstanding). CountsBy x (length w.session.
 
 -- an offer
 
-offer-nothing : (s : Sending) (message : List ℕ) → s.outstanding ≡ Nothing → (offered s message ≡ (s, OfferDown)) ⊎ (offered s message ≡ (record { next = s.next; outstanding = Message message; tries = 1; down = false }, Taken s.next (block_count (length message)) (message_packet s.next message)))
+offer-nothing : (s : Sending) (message : List ℕ) → s.outstanding ≡ Nothing → (offered s message ≡ (s, OfferDown)) ⊎
+    (offered s message ≡ (record { next = s.next; outstanding = Message message; tries = 1; down = false }, Taken s.next (block_count (length message)) (message_packet s.next message)))
 unfolding offered offered_beside
 offer-nothing s message o =
     let taken : Sending × Offer = (record { next = s.next; outstanding = Message message; tries = 1; down = false }, Taken s.next (block_count (length message)) (message_packet s.next message)) in
@@ -106,7 +107,8 @@ reopen-counts w Nothing o h =
 reopen-counts w (Message message) o h =
     elim (reopen-cases w.sender (opening_number w.sender.outstanding w.sender.next) refl) [
       | inl e ↦ subst (λ (x : Sending × Reopen). HasCounts (after_reopening w (Message message) x)) (sym e) (record { present = h.present; ended = h.ended })
-      | inr e ↦ subst (λ (x : Sending × Reopen). HasCounts (after_reopening w (Message message) x)) (sym e) (record { present = refl; ended = counted-more w.ended w.session h.ended (counted-present w.sender.outstanding w.session h.present) })
+      | inr e ↦ subst (λ (x : Sending ×
+          Reopen). HasCounts (after_reopening w (Message message) x)) (sym e) (record { present = refl; ended = counted-more w.ended w.session h.ended (counted-present w.sender.outstanding w.session h.present) })
     ]
 reopen-counts w (Opening number) o h =
     elim (reopen-cases w.sender (opening_number w.sender.outstanding w.sender.next) refl) [

@@ -42,7 +42,8 @@ quiet-heard last w r q l k = record {
   counted = q.counted;
 }
 
-waiting-kept : (number : ℕ) (message : List ℕ) (w : Link) (kept : Keeping) → IsWaiting number message w → KeepsOf message kept → IsWaiting number message (link_of_answer w (record { last = w.receiver.last; kept = Some kept }) (retry_packet number (held_flags kept.places)) w.session)
+waiting-kept : (number : ℕ) (message : List ℕ) (w : Link) (kept : Keeping) → IsWaiting number message w → KeepsOf message kept →
+    IsWaiting number message (link_of_answer w (record { last = w.receiver.last; kept = Some kept }) (retry_packet number (held_flags kept.places)) w.session)
 waiting-kept number message w kept h k = record {
   next = h.next;
   outstanding = h.outstanding;
@@ -115,7 +116,8 @@ data-quiet last w packet q ended heard =
       | inl (none, e) ↦
           (let p = opening-packet_heard last heard.sent packet e heard.true_to in
           subst (λ (x : Packet). After w x) (sym p.1)
-          (subst (λ (x : Receiving × Heard). IsKept (after_data w x)) (sym (opening-is_heard w.receiver last p.0 q.small p.2)) (record { linked = quiet last (quiet-heard last w (record { last = last; kept = None }) q refl refl); ended = ended })))
+          (subst (λ (x : Receiving ×
+          Heard). IsKept (after_data w x)) (sym (opening-is_heard w.receiver last p.0 q.small p.2)) (record { linked = quiet last (quiet-heard last w (record { last = last; kept = None }) q refl refl); ended = ended })))
       | inr (front, message, e, short, d) ↦
           (let p = data-heard last message heard.sent packet q.small short d heard.true_to in
           let again : IsQuiet last (link_of_answer w w.receiver (ack_packet w.receiver.last) w.session)
@@ -191,7 +193,8 @@ waiting-unacknowledged number message w sent packet h (inr (kept, k, e)) t a =
     let is : packet ≡ retry_packet number (held_flags kept.places) = retry-heard number (held_flags kept.places) sent packet e t ∙ e in
     acks-retry number w.sender.next (held_flags kept.places) h.small (subst (λ (p : Packet). acks p w.sender.next ≡ true) is a)
 
-answer-waiting : (number : ℕ) (message : List ℕ) (w : Link) (packet : Packet) (x : Sending × SenderHeard) → IsWaiting number message w → AreOrderly w.ended → IsHeardOf w.answer packet → HearsAnswer w.sender message packet x → IsKept (after_answer w x)
+answer-waiting : (number : ℕ) (message : List ℕ) (w : Link) (packet : Packet) (x : Sending × SenderHeard) → IsWaiting number message w → AreOrderly w.ended → IsHeardOf w.answer packet → HearsAnswer w.sender message packet x →
+    IsKept (after_answer w x)
 answer-waiting number message w packet x h ended heard (goes_on a e) =
     absurd (waiting-unacknowledged number message w heard.sent packet h (newest w.answer (IsWaitingAnswer w.receiver number) heard.sent h.answer heard.newest_is) heard.true_to a)
 answer-waiting number message w packet x h ended heard (stays s) = waiting-stays number message w x h ended s.0 (subst (λ (n : ℕ). RetriesOf n message x.1) h.next s.1)
@@ -221,7 +224,8 @@ answer-arrived number message w packet x h ended (goes_on a e) =
 answer-arrived number message w packet x h ended (stays s) = arrived-stays number message w x h ended s.0 (subst (λ (n : ℕ). RetriesOf n message x.1) h.next s.1)
 
 -- an opening packet is acknowledged only once it has come
-opened-place : (number : ℕ) (w : Link) (sent packet : Packet) → IsOpening number w → IsOpeningAnswer w.receiver.last number sent → IsTrueTo sent packet → acks packet number ≡ true → (w.receiver.last ≡ number) × (w.receiver.kept ≡ None) × (sent ≡ ack_packet number)
+opened-place : (number : ℕ) (w : Link) (sent packet : Packet) → IsOpening number w → IsOpeningAnswer w.receiver.last number sent → IsTrueTo sent packet → acks packet number ≡ true → (w.receiver.last ≡ number) × (w.receiver.kept ≡ None) ×
+    (sent ≡ ack_packet number)
 opened-place number w sent packet h (inl e) t a =
     let is : packet ≡ ack_packet w.receiver.last = ack-heard w.receiver.last sent packet e t ∙ e in
     let here : w.receiver.last ≡ number = acks-ack w.receiver.last number h.last_small (subst (λ (p : Packet). acks p number ≡ true) is a) in

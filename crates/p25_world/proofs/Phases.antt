@@ -106,7 +106,8 @@ orderly-linked w (arrived number message h) =
     let count : length w.session.delivered ≡ length h.front + 1 = ap length (h.delivered ∙ h.sent) ∙ length-append h.front (message ∷ []) in
     orderly-arrived w.session h.delivered (omega (arith, count, h.acknowledged)) (omega (arith, count, h.acknowledged))
 orderly-linked w (opening number h) =
-    orderly-arrived w.session (ap (λ (s : Session). s.delivered) h.session_is ∙ sym (ap (λ (s : Session). s.sent) h.session_is)) (omega (arith, ap (λ (s : Session). s.acknowledged) h.session_is)) (omega (arith, ap (λ (s : Session). length s.delivered) h.session_is))
+    orderly-arrived w.session (ap (λ (s : Session). s.delivered) h.session_is ∙
+    sym (ap (λ (s : Session). s.sent) h.session_is)) (omega (arith, ap (λ (s : Session). s.acknowledged) h.session_is)) (omega (arith, ap (λ (s : Session). length s.delivered) h.session_is))
 
 pub orderly-more : (sessions : List Session) (session : Session) → AreOrderly sessions → IsOrderly session → AreOrderly (sessions ++ session ∷ [])
 unfolding AreOrderly

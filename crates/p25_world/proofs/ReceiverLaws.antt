@@ -40,14 +40,16 @@ empty-keeps message = record {
 }
 
 -- blocks of the message keep them its places
-put_block-keeps : (message : List ℕ) (places : List (Option BlockParts)) (block : BlockParts) (j : ℕ) → j < length places → block ≡ message_block message block.serial → (get_or places j None ≡ None) ⊎ (get_or places j None ≡ Some (message_block message j)) → (get_or (put_block places block) j None ≡ None) ⊎ (get_or (put_block places block) j None ≡ Some (message_block message j))
+put_block-keeps : (message : List ℕ) (places : List (Option BlockParts)) (block : BlockParts) (j : ℕ) → j < length places → block ≡ message_block message block.serial → (get_or places j None ≡ None) ⊎
+    (get_or places j None ≡ Some (message_block message j)) → (get_or (put_block places block) j None ≡ None) ⊎ (get_or (put_block places block) j None ≡ Some (message_block message j))
 put_block-keeps message places block j h b held =
     elim (cases_eq block.serial j) [
       | inl e ↦ inr (put_block-here places block j h e ∙ ap (λ (x : BlockParts). Some x) b ∙ ap (λ (k : ℕ). Some (message_block message k)) e)
       | inr n ↦ elim held [ inl e ↦ inl (put_block-other places block j n ∙ e) | inr e ↦ inr (put_block-other places block j n ∙ e) ]
     ]
 
-put_slots-keeps : (message : List ℕ) (slots : List Slot) (places : List (Option BlockParts)) (j : ℕ) → j < length places → AreBlocksOf message slots → (get_or places j None ≡ None) ⊎ (get_or places j None ≡ Some (message_block message j)) → (get_or (put_slots places slots) j None ≡ None) ⊎ (get_or (put_slots places slots) j None ≡ Some (message_block message j))
+put_slots-keeps : (message : List ℕ) (slots : List Slot) (places : List (Option BlockParts)) (j : ℕ) → j < length places → AreBlocksOf message slots → (get_or places j None ≡ None) ⊎ (get_or places j None ≡ Some (message_block message j)) →
+    (get_or (put_slots places slots) j None ≡ None) ⊎ (get_or (put_slots places slots) j None ≡ Some (message_block message j))
 unfolding AreBlocksOf put_slots
 put_slots-keeps message [] places j h are held = held
 put_slots-keeps message (Bad ∷ slots) places j h are held = put_slots-keeps message slots places j h are held
@@ -86,7 +88,8 @@ keeping-keeps message (Some kept) k =
     = and_from _ _ (eq-true (length kept.places) (block_count (length message)) k.count) (eq-true kept.pad (pad_count (length message)) k.pad_is) in
     subst (KeepsOf message) (sym (cond-true _ kept (empty_places (block_count (length message)) (pad_count (length message))) same)) k
 
-kept-by_full : (message : List ℕ) (kept : Option Keeping) (number : ℕ) (packet : ConfirmedParts) (full : Bool) → CarriesData number message packet → IfSome kept (KeepsOf message) → head_is_full packet.head ≡ full → IfSome (cond full (cond (eqb (head_blocks packet.head) 0) None (Some (keeping_full kept (head_blocks packet.head) (head_pad packet.head)))) kept) (KeepsOf message)
+kept-by_full : (message : List ℕ) (kept : Option Keeping) (number : ℕ) (packet : ConfirmedParts) (full : Bool) → CarriesData number message packet → IfSome kept (KeepsOf message) → head_is_full packet.head ≡ full →
+    IfSome (cond full (cond (eqb (head_blocks packet.head) 0) None (Some (keeping_full kept (head_blocks packet.head) (head_pad packet.head)))) kept) (KeepsOf message)
 kept-by_full message kept number packet false c k e = k
 kept-by_full message kept number packet true c k e =
     let blocks = c.full e in
@@ -126,7 +129,8 @@ data-is_heard r number message packet c =
     cond-true _ (cond (head_syn packet.head) (opening_heard r packet.head) (data_heard r packet)) (r, Ignored) (eq-true (head_llid packet.head) 1 c.llid) ∙ cond-false _ (opening_heard r packet.head) (data_heard r packet) c.syn
 
 -- blocks of the next message
-pub next-heard : (r : Receiving) (number : ℕ) (message : List ℕ) (packet : ConfirmedParts) → r.last < 8 → (r.last + 1) % 8 ≡ number → IfSome r.kept (KeepsOf message) → CarriesData number message packet → HearsNext r number message (receiver_heard r (Confirmed packet))
+pub next-heard : (r : Receiving) (number : ℕ) (message : List ℕ) (packet : ConfirmedParts) → r.last < 8 → (r.last + 1) % 8 ≡ number → IfSome r.kept (KeepsOf message) → CarriesData number message packet →
+    HearsNext r number message (receiver_heard r (Confirmed packet))
 unfolding data_heard
 next-heard r number message packet small sync kept c =
     let other : eqb (head_number packet.head) r.last ≡ false = eq-false (head_number packet.head) r.last (λ e. absurd (omega (arith, e, sync, c.number_is, small))) in
@@ -142,7 +146,8 @@ last-heard r number message packet last c =
     data-is_heard r number message packet c ∙ cond-true _ _ _ (eq-true (head_number packet.head) r.last (c.number_is ∙ sym last))
 
 -- an opening packet
-pub opening-is_heard : (r : Receiving) (number : ℕ) (packet : ConfirmedParts) → number < 8 → packet.head ≡ opening_head 1 number → receiver_heard r (Confirmed packet) ≡ (record { last = number; kept = None }, Opened number (ack_packet number))
+pub opening-is_heard : (r : Receiving) (number : ℕ) (packet : ConfirmedParts) → number < 8 → packet.head ≡ opening_head 1 number →
+    receiver_heard r (Confirmed packet) ≡ (record { last = number; kept = None }, Opened number (ack_packet number))
 unfolding receiver_heard opening_heard
 opening-is_heard r number packet small e =
     let llid : head_llid packet.head ≡ 1 = ap head_llid e ∙ opening_head-llid number in

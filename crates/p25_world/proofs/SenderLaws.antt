@@ -35,7 +35,8 @@ pub record IsSame (s t : Sending) : Type 0 where
 
 -- an offer
 
-pub offer-quiet : (s : Sending) (message : List ℕ) → s.down ≡ false → s.outstanding ≡ Nothing → offered s message ≡ (record { next = s.next; outstanding = Message message; tries = 1; down = false }, Taken s.next (block_count (length message)) (message_packet s.next message))
+pub offer-quiet : (s : Sending) (message : List ℕ) → s.down ≡ false → s.outstanding ≡ Nothing →
+    offered s message ≡ (record { next = s.next; outstanding = Message message; tries = 1; down = false }, Taken s.next (block_count (length message)) (message_packet s.next message))
 unfolding offered offered_beside
 offer-quiet s message d o = cond-false s.down _ _ d ∙ ap (λ (out : Outstanding). offered_beside out s message) o
 
@@ -94,7 +95,8 @@ timeout-quiet s d o = cond-false s.down _ _ d ∙ ap (λ (out : Outstanding). ti
 
 -- a reopening
 
-pub reopen-cases : (s : Sending) (number : ℕ) → opening_number s.outstanding s.next ≡ number → (reopened s ≡ (s, Up)) ⊎ (reopened s ≡ (record { next = s.next; outstanding = Opening number; tries = 1; down = false }, ReopenSent number (opening_packet number)))
+pub reopen-cases : (s : Sending) (number : ℕ) → opening_number s.outstanding s.next ≡ number → (reopened s ≡ (s, Up)) ⊎
+    (reopened s ≡ (record { next = s.next; outstanding = Opening number; tries = 1; down = false }, ReopenSent number (opening_packet number)))
 unfolding reopened
 reopen-cases s number e =
     let sent : ℕ → Sending × Reopen = λ (y : ℕ). (record { next = s.next; outstanding = Opening y; tries = 1; down = false }, ReopenSent y (opening_packet y)) in

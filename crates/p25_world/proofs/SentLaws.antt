@@ -112,7 +112,8 @@ CarriesData-true number message sent packet c h t = record {
 pub counts-small : (message : List ℕ) → length message ≤ 2028 → (block_count (length message) < 128) × (pad_count (length message) < 32)
 counts-small message h = (omega arith, omega arith)
 
-whole-carries : (number : ℕ) (message : List ℕ) → number < 8 → length message ≤ 2028 → CarriesData number message (record { head = confirmed_head 1 true (block_count (length message)) (pad_count (length message)) number; slots = map good_slot (message_blocks message) })
+whole-carries : (number : ℕ) (message : List ℕ) → number < 8 → length message ≤ 2028 →
+    CarriesData number message (record { head = confirmed_head 1 true (block_count (length message)) (pad_count (length message)) number; slots = map good_slot (message_blocks message) })
 unfolding message_blocks
 whole-carries number message n l =
     let small = counts-small message l in
@@ -127,7 +128,8 @@ whole-carries number message n l =
       blocks = all-blocks message blocks;
     }
 
-blocks-carry : (number : ℕ) (message : List ℕ) (wanted : List Bool) → number < 8 → length message ≤ 2028 → CarriesData number message (record { head = confirmed_head 1 false (length (wanted_slots message wanted)) (pad_count (length message)) number; slots = wanted_slots message wanted })
+blocks-carry : (number : ℕ) (message : List ℕ) (wanted : List Bool) → number < 8 → length message ≤ 2028 →
+    CarriesData number message (record { head = confirmed_head 1 false (length (wanted_slots message wanted)) (pad_count (length message)) number; slots = wanted_slots message wanted })
 unfolding wanted_slots
 blocks-carry number message wanted n l =
     let small = counts-small message l in
@@ -145,7 +147,8 @@ blocks-carry number message wanted n l =
     }
 
 -- what is heard of a message's packet
-pub data-heard : (number : ℕ) (message : List ℕ) (sent heard : Packet) → number < 8 → length message ≤ 2028 → IsDataOf number message sent → IsTrueTo sent heard → (packet : ConfirmedParts) × (heard ≡ Confirmed packet) × CarriesData number message packet
+pub data-heard : (number : ℕ) (message : List ℕ) (sent heard : Packet) → number < 8 → length message ≤ 2028 → IsDataOf number message sent → IsTrueTo sent heard → (packet : ConfirmedParts) × (heard ≡ Confirmed packet) ×
+    CarriesData number message packet
 unfolding IsDataOf message_packet blocks_packet
 data-heard number message sent heard n l (inl e) t =
     let whole : ConfirmedParts = record { head = confirmed_head 1 true (block_count (length message)) (pad_count (length message)) number; slots = map good_slot (message_blocks message) } in

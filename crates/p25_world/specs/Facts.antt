@@ -29,7 +29,8 @@ pub record OpeningFacts (number : ℕ) (w : Link) : Type 0 where
   -- it has come, or V(R) is still that of the session before
   pub place : ((w.receiver.last ≡ number) × (w.receiver.kept ≡ None)) ⊎ ((w.receiver.last ≡ (number + 3) % 8) ⊎ (w.receiver.last ≡ (number + 4) % 8))
   -- the newest answer is ACK of V(R), or selective retry of the message that was given up, while the packet has not come
-  pub newest_answer : IfSome w.answer (λ packet. (packet ≡ ack_packet w.receiver.last) ⊎ ((w.receiver.last ≢ number) × (flags : List Bool) × (packet ≡ retry_packet ((number + 4) % 8) flags)))
+  pub newest_answer : IfSome w.answer (λ packet. (packet ≡ ack_packet w.receiver.last) ⊎
+      ((w.receiver.last ≢ number) × (flags : List Bool) × (packet ≡ retry_packet ((number + 4) % 8) flags)))
 
 -- how many messages were sent, by what is outstanding: a, or a + 1 with the outstanding message as the last
 unfoldable pub SentBy : Outstanding → Link → Type 0
@@ -41,21 +42,26 @@ SentBy (Opening number) w = ⊥
 -- the newest transmission of data: the opening packet where nothing was sent, else of the last message sent
 unfoldable pub IsNewestData : Link → Packet → Type 0
 IsNewestData w packet =
-    ((w.session.sent ≡ []) × (packet ≡ opening_packet ((w.base + 7) % 8))) ⊎ ((front : List (List ℕ)) × (message : List ℕ) × (w.session.sent ≡ front ++ message ∷ []) × IsDataOf ((w.base + length w.session.sent - 1) % 8) message packet)
+    ((w.session.sent ≡ []) × (packet ≡ opening_packet ((w.base + 7) % 8))) ⊎
+    ((front : List (List ℕ)) × (message : List ℕ) × (w.session.sent ≡ front ++ message ∷ []) ×
+    IsDataOf ((w.base + length w.session.sent - 1) % 8) message packet)
 
 -- at all other times
 pub record SessionFacts (w : Link) : Type 0 where
   pub sent : SentBy w.sender.outstanding w
   pub number : w.sender.next ≡ (w.base + w.session.acknowledged) % 8
   -- d is a, or a + 1 with a message outstanding
-  pub count : (length w.session.delivered ≡ w.session.acknowledged) ⊎ ((length w.session.delivered ≡ w.session.acknowledged + 1) × (message : List ℕ) × (w.sender.outstanding ≡ Message message))
+  pub count : (length w.session.delivered ≡ w.session.acknowledged) ⊎
+      ((length w.session.delivered ≡ w.session.acknowledged + 1) × (message : List ℕ) × (w.sender.outstanding ≡ Message message))
   pub last : w.receiver.last ≡ (w.base + length w.session.delivered + 7) % 8
   pub delivered : w.session.delivered ≡ take (length w.session.delivered) w.session.sent
   pub newest_data : IfSome w.packet_sent (IsNewestData w)
   -- what is kept is of the outstanding message, which was not delivered
-  pub kept : IfSome w.receiver.kept (λ kept. (length w.session.delivered ≡ w.session.acknowledged) × (message : List ℕ) × (w.sender.outstanding ≡ Message message) × KeepsOf message kept)
+  pub kept : IfSome w.receiver.kept (λ kept. (length w.session.delivered ≡ w.session.acknowledged) × (message : List ℕ) ×
+      (w.sender.outstanding ≡ Message message) × KeepsOf message kept)
   -- the newest answer is ACK of V(R), or selective retry of the next message with a flag for each place held
-  pub newest_answer : IfSome w.answer (λ packet. (packet ≡ ack_packet w.receiver.last) ⊎ ((kept : Keeping) × (w.receiver.kept ≡ Some kept) × (packet ≡ retry_packet ((w.receiver.last + 1) % 8) (held_flags kept.places))))
+  pub newest_answer : IfSome w.answer (λ packet. (packet ≡ ack_packet w.receiver.last) ⊎
+      ((kept : Keeping) × (w.receiver.kept ≡ Some kept) × (packet ≡ retry_packet ((w.receiver.last + 1) % 8) (held_flags kept.places))))
 
 unfoldable pub FactsBy : Outstanding → Link → Type 0
 FactsBy Nothing w = SessionFacts w

@@ -64,20 +64,25 @@ with_acknowledged s = record { sent = s.sent; delivered = s.delivered; acknowled
 
 -- a link with another sender, and with another newest transmission of data beside it
 abbrev pub link_of_sender : Link → Sending → Link
-link_of_sender w s = record { sender = s; receiver = w.receiver; packet_sent = w.packet_sent; answer = w.answer; session = w.session; base = w.base; ended = w.ended }
+link_of_sender w s =
+    record { sender = s; receiver = w.receiver; packet_sent = w.packet_sent; answer = w.answer; session = w.session; base = w.base; ended = w.ended }
 
 abbrev pub link_of_data : Link → Sending → Packet → Session → Link
-link_of_data w s packet session = record { sender = s; receiver = w.receiver; packet_sent = Some packet; answer = w.answer; session = session; base = w.base; ended = w.ended }
+link_of_data w s packet session =
+    record { sender = s; receiver = w.receiver; packet_sent = Some packet; answer = w.answer; session = session; base = w.base; ended = w.ended }
 
 abbrev pub link_of_session : Link → Sending → Session → Link
-link_of_session w s session = record { sender = s; receiver = w.receiver; packet_sent = w.packet_sent; answer = w.answer; session = session; base = w.base; ended = w.ended }
+link_of_session w s session =
+    record { sender = s; receiver = w.receiver; packet_sent = w.packet_sent; answer = w.answer; session = session; base = w.base; ended = w.ended }
 
 -- a link with another receiver, and with another newest answer beside it
 abbrev pub link_of_receiver : Link → Receiving → Link
-link_of_receiver w r = record { sender = w.sender; receiver = r; packet_sent = w.packet_sent; answer = w.answer; session = w.session; base = w.base; ended = w.ended }
+link_of_receiver w r =
+    record { sender = w.sender; receiver = r; packet_sent = w.packet_sent; answer = w.answer; session = w.session; base = w.base; ended = w.ended }
 
 abbrev pub link_of_answer : Link → Receiving → Packet → Session → Link
-link_of_answer w r packet session = record { sender = w.sender; receiver = r; packet_sent = w.packet_sent; answer = Some packet; session = session; base = w.base; ended = w.ended }
+link_of_answer w r packet session =
+    record { sender = w.sender; receiver = r; packet_sent = w.packet_sent; answer = Some packet; session = session; base = w.base; ended = w.ended }
 
 -- after a message was offered
 unfoldable pub after_offer : Link → List ℕ → Sending × Offer → Link
@@ -94,7 +99,15 @@ after_timeout w (s, ResendDown) = link_of_sender w s
 -- a message is given up, and its session ends
 unfoldable pub next_session : Link → Sending → ℕ → Packet → Link
 next_session w s number packet =
-    record { sender = s; receiver = w.receiver; packet_sent = Some packet; answer = w.answer; session = empty_session; base = (number + 1) % 8; ended = w.ended ++ w.session ∷ [] }
+    record {
+      sender = s;
+      receiver = w.receiver;
+      packet_sent = Some packet;
+      answer = w.answer;
+      session = empty_session;
+      base = (number + 1) % 8;
+      ended = w.ended ++ w.session ∷ [];
+    }
 
 -- after the link was opened again, by what was outstanding
 unfoldable pub after_reopening : Link → Outstanding → Sending × Reopen → Link

@@ -8,7 +8,8 @@ ghost use Rattle.p25_world.specs.Facts.{LinkFacts};
 /// one that was sent, every session is orderly: what is delivered is the beginning of what was sent, each message once,
 /// and every message that is acknowledged was delivered.
 pub fn sessions_are_orderly()
-    ensures { (events : List Happening) → IsCleanRun first_link events → AreOrderly ((link_run first_link events).ended ++ (link_run first_link events).session ∷ []) }
+    ensures { (events : List Happening) → IsCleanRun first_link events →
+        AreOrderly ((link_run first_link events).ended ++ (link_run first_link events).session ∷ []) }
 {}
 
 /// Answers nothing: its clause says which facts a link keeps in every such run: what was sent, delivered and acknowledged,

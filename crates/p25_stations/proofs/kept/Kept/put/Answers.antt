@@ -20,7 +20,8 @@ loop-j-preserved c =
           (let here : slice_get c.args.slots.now c.loop-j.j ≡ Some (Good w.in-Good.block) = c.get.ensures ∙ ap Some w.in-Good.is in
           record {
             list =
-                ap (λ (s : Inside). s.places.items) w.self-inside-is ∙ w.put_at.ensures ∙ ap (λ ps. put_block ps w.in-Good.block) c.loop-j.invariant.list ∙ sym (put_slots-good c.self.inside.places.items c.args.slots.now c.loop-j.j w.in-Good.block here);
+                ap (λ (s : Inside). s.places.items) w.self-inside-is ∙ w.put_at.ensures ∙ ap (λ ps. put_block ps w.in-Good.block) c.loop-j.invariant.list ∙
+                sym (put_slots-good c.self.inside.places.items c.args.slots.now c.loop-j.j w.in-Good.block here);
             pad = ap (λ (s : Inside). s.pad) w.self-inside-is ∙ c.loop-j.invariant.pad;
           })
       | in_default w ↦
