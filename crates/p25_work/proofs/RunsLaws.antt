@@ -147,9 +147,9 @@ stops-final written first third future fed tail told left (Ended ending) few mos
         all = λ same. cc;
         ends = ap (future.ends false) e ∙ ended.ends false (take (input_most - length fed) tail);
         stays = λ same is more.
-          ap (λ (zs : List ℕ). future.ends is (zs ++ more)) e
-          ∙ ap (future.ends is) (append_assoc fed (take (input_most - length fed) tail) more)
-          ∙ ended.ends is (take (input_most - length fed) tail ++ more);
+            ap (λ (zs : List ℕ). future.ends is (zs ++ more)) e
+            ∙ ap (future.ends is) (append_assoc fed (take (input_most - length fed) tail) more)
+            ∙ ended.ends is (take (input_most - length fed) tail ++ more);
         wrote = Appended-same (ap (future.writes false) (sym e)) (ended.wrote false (take (input_most - length fed) tail));
       };
     }
