@@ -1,6 +1,6 @@
 -- The fields of the headers that stations send. By arithmetic on their octets.
 use Rattle.std.proofs.Common.{◌≡◌, ℕ, ◌+◌, ◌*◌, ◌/◌, ◌<◌, Bool, true, false, eqb, refl, ap, arith}
-use Rattle.p25_packet_blocks.specs.Heads.{head_is_full, head_blocks, head_pad, head_llid, head_syn, head_number, response_class, response_status, confirmed_head, response_head, opening_head}
+use Rattle.p25_packet_blocks.specs.Heads.{head_is_full, head_blocks, head_pad, head_format, head_llid, head_syn, head_number, response_class, response_kind, response_status, confirmed_head, response_head, opening_head}
 
 -- a header of data
 pub confirmed_head-llid : (full : Bool) (blocks pad number : ℕ) → head_llid (confirmed_head 1 full blocks pad number) ≡ 1
@@ -54,3 +54,15 @@ response_head-status class kind status blocks h = omega arith
 pub response_head-class : (class kind status blocks : ℕ) → kind < 8 → status < 8 → response_class (response_head 1 class kind status blocks) ≡ class
 unfolding response_class response_head
 response_head-class class kind status blocks k s = omega arith
+
+pub response_head-kind : (class kind status blocks : ℕ) → kind < 8 → status < 8 → response_kind (response_head 1 class kind status blocks) ≡ kind
+unfolding response_kind response_head
+response_head-kind class kind status blocks k s = omega arith
+
+pub response_head-format : (class kind status blocks : ℕ) → head_format (response_head 1 class kind status blocks) ≡ 3
+unfolding head_format response_head
+response_head-format class kind status blocks = refl
+
+pub response_head-llid : (class kind status blocks : ℕ) → head_llid (response_head 1 class kind status blocks) ≡ 1
+unfolding head_llid response_head
+response_head-llid class kind status blocks = refl

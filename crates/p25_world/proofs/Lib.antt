@@ -7,3 +7,4 @@ pub mod CallSteps
 pub mod LinkSteps
 pub mod FactsLaws
 pub mod CountLaws
+pub mod AtOnceLaws

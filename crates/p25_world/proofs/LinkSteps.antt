@@ -1,6 +1,6 @@
 -- A packet that is heard and true to the one sent keeps a link in a phase: each phase in turn, by what the station answers
 -- there. And so does every event of a clean run.
-use Rattle.std.proofs.Common.{◌≡◌, ℕ, ◌+◌, ◌%◌, inl, inr, true, List, [], ◌∷◌, ◌++◌, length, Option, Some, None, refl, ap, sym, ◌∙◌, subst, arith, length-append}
+use Rattle.std.proofs.Common.{◌≤◌, ◌≡◌, ℕ, ◌+◌, ◌%◌, inl, inr, true, List, [], ◌∷◌, ◌++◌, length, Option, Some, None, refl, ap, sym, ◌∙◌, subst, arith, length-append}
 use Rattle.std.specs.Prelude.{IfSome}
 use Rattle.std.proofs.lemmas.Option.{IfSome_then, same_Some}
 use Rattle.p25_packet_blocks.specs.declared.packet.Packet.{Packet}
@@ -16,7 +16,10 @@ use Rattle.p25_stations.specs.declared.sender.SenderHeard.TheVariants.{Acknowled
 use Rattle.p25_stations.specs.declared.receiver.Heard.{Heard}
 use Rattle.p25_world.specs.Link.{Session, with_delivered, with_acknowledged, Link, first_link, link_of_sender, link_of_session, link_of_answer, after_data, after_answer, Happening, Offering, Time_up, Opening_again, Data_heard, Answer_heard, happens, link_run}
 use Rattle.p25_world.specs.Facts.{IsDataOf, KeepsOf, LinkFacts}
+use Rattle.p25_stations.specs.declared.sender_state.Outstanding.TheVariants.{Nothing}
+use Rattle.p25_world.specs.AtOnce.{DeliversAtOnce}
 use Rattle.p25_world.proofs.FactsLaws.{facts-linked}
+use Rattle.p25_world.proofs.AtOnceLaws.{delivers-linked}
 use Rattle.p25_world.specs.Clean.{IsTrueTo, IsHeardOf, IsClean, IsCleanRun}
 use Rattle.p25_world.specs.Orderly.{AreOrderly}
 use Rattle.p25_world.proofs.SentLaws.{data-heard, opening-packet_heard, ack-heard, retry-heard}
@@ -312,3 +315,7 @@ sessions-orderly events c =
 
 pub facts-kept : (events : List Happening) → IsCleanRun first_link events → LinkFacts (link_run first_link events)
 facts-kept events c = facts-linked (link_run first_link events) (run-kept events first_link first-kept c).linked
+
+pub run-delivers : (events : List Happening) (message : List ℕ) → IsCleanRun first_link events → (link_run first_link events).sender.outstanding ≡ Nothing → length message ≤ 2028 →
+    DeliversAtOnce (link_run first_link events).sender (link_run first_link events).receiver message
+run-delivers events message c o short = delivers-linked (link_run first_link events) message (run-kept events first_link first-kept c).linked o short

@@ -25,10 +25,10 @@ use Rattle.p25_world.specs.Facts.{KeepsOf}
 use Rattle.p25_world.proofs.HeadLaws.{opening_head-llid, opening_head-syn, opening_head-number, opening_head-blocks}
 use Rattle.p25_world.proofs.SentLaws.{CarriesData}
 
-eq-true : (m n : ℕ) → m ≡ n → eqb m n ≡ true
+pub eq-true : (m n : ℕ) → m ≡ n → eqb m n ≡ true
 eq-true m n e = grind (arith, nat_tests)
 
-eq-false : (m n : ℕ) → (m ≡ n → ⊥) → eqb m n ≡ false
+pub eq-false : (m n : ℕ) → (m ≡ n → ⊥) → eqb m n ≡ false
 eq-false m n e = grind (arith, nat_tests)
 
 -- empty places hold nothing
@@ -123,7 +123,7 @@ hears-filled r number message packet (Some kept) c k =
     subst (λ (n : ℕ). HearsNext r number message (completed r n now (all_octets now.places))) (sym c.number_is) (hears-completed r number message now (all_octets now.places) (slots-keep message packet.slots kept c.blocks k) refl)
 
 -- a packet of data is not one with Syn
-data-is_heard : (r : Receiving) (number : ℕ) (message : List ℕ) (packet : ConfirmedParts) → CarriesData number message packet → receiver_heard r (Confirmed packet) ≡ data_heard r packet
+pub data-is_heard : (r : Receiving) (number : ℕ) (message : List ℕ) (packet : ConfirmedParts) → CarriesData number message packet → receiver_heard r (Confirmed packet) ≡ data_heard r packet
 unfolding receiver_heard
 data-is_heard r number message packet c =
     cond-true _ (cond (head_syn packet.head) (opening_heard r packet.head) (data_heard r packet)) (r, Ignored) (eq-true (head_llid packet.head) 1 c.llid) ∙ cond-false _ (opening_heard r packet.head) (data_heard r packet) c.syn

@@ -43,7 +43,7 @@ no-blocks : (message : List ℕ) → AreBlocksOf message []
 unfolding AreBlocksOf
 no-blocks message = tt
 
-all-blocks : (message : List ℕ) (n : ℕ) → AreBlocksOf message (map good_slot (each_below n (message_block message)))
+pub all-blocks : (message : List ℕ) (n : ℕ) → AreBlocksOf message (map good_slot (each_below n (message_block message)))
 all-blocks message zero = subst (λ (xs : List BlockParts). AreBlocksOf message (map good_slot xs)) (sym (each_below-zero (message_block message))) (no-blocks message)
 all-blocks message (suc n) =
     let split : map good_slot (each_below (suc n) (message_block message)) ≡ map good_slot (each_below n (message_block message)) ++ good_slot (message_block message n) ∷ []
@@ -112,7 +112,7 @@ CarriesData-true number message sent packet c h t = record {
 pub counts-small : (message : List ℕ) → length message ≤ 2028 → (block_count (length message) < 128) × (pad_count (length message) < 32)
 counts-small message h = (omega arith, omega arith)
 
-whole-carries : (number : ℕ) (message : List ℕ) → number < 8 → length message ≤ 2028 →
+pub whole-carries : (number : ℕ) (message : List ℕ) → number < 8 → length message ≤ 2028 →
     CarriesData number message (record { head = confirmed_head 1 true (block_count (length message)) (pad_count (length message)) number; slots = map good_slot (message_blocks message) })
 unfolding message_blocks
 whole-carries number message n l =

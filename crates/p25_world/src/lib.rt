@@ -3,4 +3,4 @@
 
 mod laws;
 
-pub use laws::{facts_are_kept, sessions_are_counted, sessions_are_orderly};
+pub use laws::{facts_are_kept, sessions_are_counted, sessions_are_orderly, undamaged_packets_do};
