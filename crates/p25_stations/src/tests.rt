@@ -114,6 +114,18 @@ fn flags_of_a_selective_retry(rt: HostRuntime) -> Result<(), Fail> {
     Ok(())
 }
 
+// Flags that ask for blocks that the message has not.
+#[test]
+fn flags_for_other_blocks(rt: HostRuntime) -> Result<(), Fail> {
+    let mut flags = Flags::new(64);
+    flags.set(0, true);
+    let mut sender = Sender::new();
+    let _ = sender.offer(&Message::new(b"ab").ok_or("two octets")?);
+    let heard = sender.hear(&sent::retry(0, &flags));
+    assert_eq!(rt; sender_answer(&heard), "ignored");
+    Ok(())
+}
+
 #[test]
 fn sixteen_transmissions(rt: HostRuntime) -> Result<(), Fail> {
     let message = Message::new(b"ab").ok_or("two octets")?;
