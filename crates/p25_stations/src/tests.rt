@@ -234,3 +234,22 @@ fn answers_to_packets(rt: HostRuntime) {
         assert_eq!(rt; receiver_answer(&receiver.hear(&packet)), answer);
     }
 }
+
+// An opening packet has no block to follow; one with a block is ignored, whatever its number.
+#[test]
+fn syn_with_a_block(rt: HostRuntime) -> Result<(), Fail> {
+    let head = PacketHead([0x56, 0xC0, 0, 0, 0, 1, 0x81, 0, 0x98, 0]);
+    if head.format() != 0x16 || head.blocks() != 1 {
+        return Err("a confirmed header with one block".into());
+    }
+    assert!(rt; head.syn());
+    assert_eq!(rt; head.llid(), LLID);
+    let mut slots = Slots::new();
+    slots.push(Slot::Good(Block::new(0, BLOCK)));
+    let mut receiver = Receiver::new();
+    let packet = Packet::Confirmed(Confirmed::new(head, slots));
+    assert_eq!(rt; receiver_answer(&receiver.hear(&packet)), "ignored");
+    let whole = data(10, 0, Block::new(0, BLOCK));
+    assert_eq!(rt; receiver_answer(&receiver.hear(&whole)), "delivered");
+    Ok(())
+}
