@@ -6,7 +6,7 @@ use Rattle.std.proofs.lemmas.List.{take-append-drop, take_all}
 use Rattle.std.proofs.lemmas.Bool.Decides.{nat_tests}
 use Rattle.std.proofs.Math.Seq.{take-add, take-append-add}
 use Rattle.p25_io.specs.Octets.{Taken, Gives, Appended, AppendedFront}
-use Rattle.p25_io.proofs.OctetsLemmas.{Taken-trans, Taken-told, Taken-ended, Appended-same, Appended-trans, AppendedFront-same, AppendedFront-next}
+use Rattle.p25_io.proofs.OctetsLaws.{Taken-trans, Taken-told, Taken-ended, Appended-same, Appended-trans, AppendedFront-same, AppendedFront-next}
 use Rattle.p25_work.specs.declared.ending.Ending.{Ending}
 use Rattle.p25_work.specs.declared.ending.Stop.{Stop}
 use Rattle.p25_work.specs.declared.ending.Stop.TheVariants.{Fault, Ended}
@@ -15,7 +15,7 @@ use Rattle.p25_work.specs.declared.ending.WorkEnd.TheVariants.{Ended as WorkEnde
 use Rattle.p25_work.specs.Endings.{end_of}
 use Rattle.p25_work.specs.Futures.{Future, IsIdle, Moved, IsCutOff, IsEnded, IsStopped, EndsBy}
 use Rattle.p25_work.proofs.FuturesLaws.{Moved-trans}
-use Rattle.p25_work.proofs.InputSteps.{stopped-after, on-blank_page}
+use Rattle.p25_work.proofs.InputLaws.{stopped-after, on-blank_page}
 use Rattle.p25_work.specs.Runs.{input_most, read_most, all_written, IsFinal, IsReadFault, IsTooLong, IsWriteFault, Worked}
 
 -- the first octets of an input and so many more

@@ -3,7 +3,7 @@ use Rattle.std.proofs.lemmas.List.{take_more, take_all}
 use Rattle.p25_work.specs.declared.ending.Stop.TheVariants.{Fault}
 use Rattle.p25_work.specs.Futures.{Future, Moved, IsStopped}
 use Rattle.p25_work.proofs.FuturesLaws.{Moved-trans, Moved-flush, IsCutOff-page}
-use Rattle.p25_work.proofs.InputSteps.{stopped-after, stopped-fault}
+use Rattle.p25_work.proofs.InputLaws.{stopped-after, stopped-fault}
 use Rattle.p25_work.proofs.input.feed.Goals as goal
 
 pub returns-in-Err-clause-stopped : goal.returns-in-Err-clause-stopped

@@ -1,6 +1,6 @@
 use Rattle.std.proofs.Common.{◌≡◌, ℕ, ◌+◌, ◌≤◌, List, [], ◌++◌, take, length, Option, sym, subst, ap, ◌∙◌, arith, length-append, length-take}
 use Rattle.p25_io.specs.Octets.{Taken}
-use Rattle.p25_io.proofs.OctetsLemmas.{Taken-trans, Taken-ended}
+use Rattle.p25_io.proofs.OctetsLaws.{Taken-trans, Taken-ended}
 use Rattle.p25_work.specs.declared.ending.WorkEnd.{WorkEnd}
 use Rattle.p25_work.specs.Futures.{Moved}
 use Rattle.p25_work.specs.Runs.{Worked}
