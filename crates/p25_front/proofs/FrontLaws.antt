@@ -1,12 +1,11 @@
 -- The laws of a unit's front: its two parts, its form by places, and where it stands in a sent unit. Each goes by cutting
 -- lists at known lengths.
-use Rattle.std.proofs.Common.{◌≡◌, ◌↔◌, ◌<◌, Option, Some, ℕ, ◌+◌, ◌*◌, ◌≤◌, Bool, eqb, List, [], ◌∷◌, ◌++◌, length, take, drop, ap, ap₂, sym, ◌∙◌, subst, arith, length-append, length-drop}
+use Rattle.std.proofs.Common.{◌≡◌, ◌↔◌, ◌<◌, Option, Some, ℕ, ◌+◌, ◌*◌, ◌≤◌, Bool, List, ◌++◌, length, take, drop, ap, ap₂, sym, ◌∙◌, subst, arith, length-append, length-drop}
 use Rattle.std.proofs.Math.Seq.{take-add, take-append-add, take-length}
 use Rattle.std.proofs.lemmas.List.{length-take-le, take-append-drop, drop-drop, take-append-le, take-take, take_at, drop_at}
 use Rattle.p25_bits.specs.Bits.{bits_of, field_of, part}
 use Rattle.p25_bits.proofs.NumbersLaws.{field-lt}
 use Rattle.p25_bits.specs.Distance.{distance_of}
-use Rattle.p25_bits.proofs.BitsLaws.{length-bits_of}
 use Rattle.p25_bits.proofs.PartLaws.{part-take}
 use Rattle.p25_bits.proofs.DistanceLaws.{distance_of-same, distance_by-append}
 use Rattle.std.specs.Bool.{beq}
@@ -16,11 +15,10 @@ use Rattle.p25_status.specs.Woven.{plain_of}
 use Rattle.p25_status.proofs.SyncLaws.{length-sync_bits}
 use Rattle.p25_status.proofs.WovenLaws.{part-plain_of}
 use Rattle.p25_bch_nid.specs.Bch63.{IsBch63}
-use Rattle.p25_bch_nid.specs.Bch63Laws.{encoded, IsEncoding-encoded, one_word}
-use Rattle.p25_bch_nid.specs.Nid.{parity_of}
+use Rattle.p25_bch_nid.specs.Bch63Laws.{one_word}
 use Rattle.p25_bch_nid.specs.NidReading.{IsNidFound, IsNidReading, nid_reading_of}
 use Rattle.p25_bch_nid.proofs.NidReadingLaws.{IsNidReading-nid_reading_of, nid_reading_of-word}
-use Rattle.p25_bch_nid.proofs.NidWordLaws.{take-nid_word, drop-nid_word, IsEncoding-nid_word, length-nid_word, identifier_of_word-encoding}
+use Rattle.p25_bch_nid.proofs.NidWordLaws.{drop-nid_word, IsEncoding-nid_word, length-nid_word, identifier_of_word-encoding}
 use Rattle.p25_bch_nid.specs.NidWord.{nid_word}
 use Rattle.p25_front.specs.Front.{unit_front, IsFront, identifier_bits, identifier_of, front_of, front_fixes_of}
 

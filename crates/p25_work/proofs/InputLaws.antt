@@ -1,5 +1,5 @@
 -- The steps of the work on an input: what asking for a piece answers, and why the work stops, case by case.
-use Rattle.std.proofs.Common.{◌≡◌, ℕ, ◌<◌, Bool, true, false, List, [], ◌++◌, length, Option, Some, Result, Ok, Err, ◌⊎◌, inl, inr, ap, sym, subst, ◌∙◌, append-nil}
+use Rattle.std.proofs.Common.{◌≡◌, ℕ, ◌<◌, Bool, true, false, List, [], ◌++◌, length, Option, Some, Result, Ok, Err, ◌⊎◌, inl, inr, sym, subst, ◌∙◌}
 use Rattle.std.specs.Prelude.{IfErr}
 use Rattle.p25_io.specs.Octets.{Appended, AppendedFront}
 use Rattle.p25_io.proofs.OctetsLaws.{Appended-same, AppendedFront-same}
@@ -7,7 +7,7 @@ use Rattle.p25_work.specs.declared.ending.Ending.{Ending}
 use Rattle.p25_work.specs.declared.ending.Stop.{Stop}
 use Rattle.p25_work.specs.declared.ending.Stop.TheVariants.{Fault, Ended}
 use Rattle.p25_work.specs.Futures.{Future, Progress, IsClosed, IsRefused, IsIdle, NextPiece, Moved, IsCutOff, IsEnded, IsStopped, EndsBy}
-use Rattle.p25_work.proofs.FuturesLaws.{Moved-flush, IsCutOff-page, IsCutOff-after, IsEnded-page, IsEnded-after}
+use Rattle.p25_work.proofs.FuturesLaws.{IsCutOff-page, IsCutOff-after, IsEnded-page, IsEnded-after}
 
 -- a piece was given
 pub piece-given : (before now : Future) (is : Bool) (piece : List ℕ) → NextPiece before (Ok is) piece now → is ≡ true → Progress before [] piece now
