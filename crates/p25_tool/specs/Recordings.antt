@@ -66,7 +66,8 @@ recording_future reporting work = phase_future reporting work.report work.scan w
 -- what asking for the piece at the end answers: once the input has ended and before it was given, it is given
 abbrev pub IsClosingBy : {R : Type 0} → Reporting R → Phase → RecordingParts R → Bool → List ℕ → RecordingParts R → Type 0
 IsClosingBy reporting Reading before answer out now = (answer ≡ false) × (now ≡ before)
-IsClosingBy reporting Ended before answer out now = (answer ≡ true) × (out ≡ reporting.closing before.report) × (now ≡ record { report = before.report; scan = before.scan; phase = Closed })
+IsClosingBy reporting Ended before answer out now =
+    (answer ≡ true) × (out ≡ reporting.closing before.report) × (now ≡ record { report = before.report; scan = before.scan; phase = Closed })
 IsClosingBy reporting Closed before answer out now = (answer ≡ false) × (now ≡ before)
 
 abbrev pub IsClosing : {R : Type 0} → Reporting R → RecordingParts R → Bool → List ℕ → RecordingParts R → Type 0

@@ -39,7 +39,10 @@ impl<R: Report> Model for Recording<R> {
 
     ghost view = { λ s. record { report = s.report; scan = s.scanner; phase = s.phase } };
 
-    ghost invariant = { λ s. (s.scanner.finished ≡ has_ended s.phase) × (R.counted s.report ≤ s.scanner.place) × (s.scanner.place + length s.scanner.held < 2 ^ 61) × HasClosed s.phase s.scanner };
+    ghost invariant = { λ s. (s.scanner.finished ≡ has_ended s.phase)
+        × (R.counted s.report ≤ s.scanner.place)
+        × (s.scanner.place + length s.scanner.held < 2 ^ 61)
+        × HasClosed s.phase s.scanner };
 }
 
 impl<R: Report> Recording<R> {
