@@ -1,7 +1,7 @@
-use Rattle.std.proofs.Common.{◌≡◌, ◌+◌, ◌*◌, ◌/◌, ◌<◌, ◌≤◌, ◌++◌, Bool, List, length, drop, get_or, false, ap, ap₂, sym, ◌∙◌, subst, arith, length-drop}
-use Rattle.std.proofs.lemmas.List.{append-nil, length-take-le}
+use Rattle.std.proofs.Common.{◌≡◌, ◌+◌, ◌*◌, ◌/◌, ◌<◌, ◌≤◌, ◌++◌, Bool, List, length, drop, get_or, false, ap, ap₂, sym, ◌∙◌, subst, arith}
+use Rattle.std.proofs.lemmas.List.{append-nil}
 use Rattle.p25_bits.specs.Bits.{field_of, part}
-use Rattle.p25_bits.proofs.PartLaws.{part-part}
+use Rattle.p25_bits.proofs.PartLaws.{length-part, part-part}
 use Rattle.p25_status.specs.Status.{status_from_bits}
 use Rattle.p25_status.specs.declared.symbols.Status.{Status}
 use Rattle.p25_status.specs.Woven.{woven, plain_in, plain_of, statuses_in, statuses_of, StandsByPlaces}
@@ -37,8 +37,7 @@ pub returns-clause-plain : goal.returns-clause-plain
 unfolding plain_of
 returns-clause-plain c =
     let sent = part c.args.at c.args.len c.args.bits.now in
-    let there : c.args.len ≤ length (drop c.args.at c.args.bits.now) = omega (arith, length-drop c.args.at c.args.bits.now) in
-    let long : length sent ≡ c.args.len = length-take-le c.args.len (drop c.args.at c.args.bits.now) there in
+    let long : length sent ≡ c.args.len = length-part c.args.at c.args.len c.args.bits.now c.requires.there in
     let done : c.args.len / 72 ≤ c.loop-i.i = c.loop-i-test.false in
     sym (append-nil c.loop-i.out)
     ∙ ap (λ (xs : List Bool). c.loop-i.out ++ xs) (sym (plain_none (c.args.len / 72) c.loop-i.i (drop (72 * c.loop-i.i) sent) done))
@@ -49,8 +48,7 @@ pub returns-clause-statuses : goal.returns-clause-statuses
 unfolding statuses_of
 returns-clause-statuses c =
     let sent = part c.args.at c.args.len c.args.bits.now in
-    let there : c.args.len ≤ length (drop c.args.at c.args.bits.now) = omega (arith, length-drop c.args.at c.args.bits.now) in
-    let long : length sent ≡ c.args.len = length-take-le c.args.len (drop c.args.at c.args.bits.now) there in
+    let long : length sent ≡ c.args.len = length-part c.args.at c.args.len c.args.bits.now c.requires.there in
     let done : c.args.len / 72 ≤ c.loop-i.i = c.loop-i-test.false in
     sym (append-nil c.loop-i.statuses)
     ∙ ap (λ (xs : List Status). c.loop-i.statuses ++ xs) (sym (statuses_none (c.args.len / 72) c.loop-i.i (drop (72 * c.loop-i.i) sent) done))
@@ -60,9 +58,8 @@ returns-clause-statuses c =
 pub returns-clause-woven : goal.returns-clause-woven
 returns-clause-woven c =
     let sent = part c.args.at c.args.len c.args.bits.now in
-    let there : c.args.len ≤ length (drop c.args.at c.args.bits.now) = omega (arith, length-drop c.args.at c.args.bits.now) in
     let blocks : c.args.len ≡ 72 * (c.args.len / 72) = omega arith in
-    let long : length sent ≡ 72 * (c.args.len / 72) = length-take-le c.args.len (drop c.args.at c.args.bits.now) there ∙ blocks in
+    let long : length sent ≡ 72 * (c.args.len / 72) = length-part c.args.at c.args.len c.args.bits.now c.requires.there ∙ blocks in
     ap₂ woven (returns-clause-plain c) (returns-clause-statuses c) ∙ woven-of (c.args.len / 72) sent long
 
 pub returns-clause-places : goal.returns-clause-places
