@@ -20,7 +20,15 @@ const GAP_MOST: usize = 4_096;
 const BEHIND: usize = 47;
 
 // How many places the bits of one number judge.
-const AT_ONCE: usize = 17;
+const AT_ONCE: usize = 8;
+
+// Every second bit of a sync is 1. Of the 55 bits from eight places on, these stand at such bits of the places 0, 2, 4
+// and 6 alike, and those below at such bits of the places 1, 3, 5 and 7.
+const ONES_AT_EVEN: u64 = 0xAAAA_AAAA_AA80;
+const ONES_AT_ODD: u64 = 0x5555_5555_5540;
+
+// How many of these 21 bits are 1 at least where at most four bits of a sync are wrong.
+const ONES_LEAST: u32 = 17;
 
 // What is known of bits whose first `clear` places have no sync.
 pub(crate) fn beginning_from(held: &BitBuf, clear: usize) -> Beginning
@@ -55,12 +63,24 @@ fn places_before_sync(number: u64, count: usize) -> usize
     ensures none { (place : ℕ) → place < result → has_sync (part place 48 (bits_of (47 + count) number)) ≡ false }
     ensures sync { result < count → has_sync (part result 48 (bits_of (47 + count) number)) ≡ true }
 {
+    if count == AT_ONCE && none_of_eight(number) {
+        return count;
+    }
     for place in 0..count {
         if is_sync_window((number >> (count - 1 - place)) % (1 << 48)) {
             return place;
         }
     }
     count
+}
+
+// Whether two counts of ones tell that none of the first eight places of 55 bits has a sync.
+fn none_of_eight(number: u64) -> bool
+    requires fits { number < 2 ^ 55 }
+    ensures { result ≡ true → (place : ℕ) → place < 8 → has_sync (part place 48 (bits_of 55 number)) ≡ false }
+{
+    (number & ONES_AT_EVEN).count_ones() < ONES_LEAST
+        && (number & ONES_AT_ODD).count_ones() < ONES_LEAST
 }
 
 // What is known of bits whose first sync is at a place.
