@@ -114,17 +114,36 @@ fn beginning_at_sync(held: &BitBuf, begun: Begun) -> Beginning
 }
 
 // What is known once more bits have come, where the first item was not known before.
+#[inline]
 pub(crate) fn beginning_after(beginning: Beginning, held: &BitBuf) -> Beginning
     requires was { WasBeginning beginning held.now }
     requires unsettled { is_settled beginning ≡ false }
     ensures { IsBeginning result held.now }
 {
     match beginning {
-        Beginning::Searching(clear) => beginning_from(held, clear),
+        Beginning::Searching(clear) => beginning_searching(held, clear),
         Beginning::Waiting(count, begun) => beginning_waiting(held, count, begun),
-        Beginning::Gap(_) => beginning_from(held, 0),
-        Beginning::Ready(_, _) => beginning_from(held, 0),
-        Beginning::NoUnit(_) => beginning_from(held, 0),
+        Beginning::Gap(_) => unreachable!(),
+        Beginning::Ready(_, _) => unreachable!(),
+        Beginning::NoUnit(_) => unreachable!(),
+    }
+}
+
+// The same where the first `clear` places have no sync. An octet brings eight places, which mostly have none.
+#[inline]
+fn beginning_searching(held: &BitBuf, clear: usize) -> Beginning
+    requires clear { clear ≤ sync_place held.now }
+    requires judged { clear ≤ length held.now - 47 }
+    requires few { clear ≤ 4096 }
+    ensures { IsBeginning result held.now }
+{
+    if clear + AT_ONCE < GAP_MOST
+        && held.len() == clear + AT_ONCE + BEHIND
+        && none_of_eight(held.field(clear, (AT_ONCE + BEHIND) as u32))
+    {
+        Beginning::Searching(clear + AT_ONCE)
+    } else {
+        beginning_from(held, clear)
     }
 }
 

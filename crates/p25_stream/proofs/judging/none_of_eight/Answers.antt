@@ -1,4 +1,3 @@
-use Rattle.std.proofs.Common.{true, nat_lt}
 use Rattle.std.proofs.lemmas.Bool.{ltb-true}
 use Rattle.std.specs.Int.RustNames.{count_ones}
 use Rattle.p25_stream.proofs.EarlySteps.{none-of_eight}
