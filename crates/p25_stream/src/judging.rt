@@ -30,8 +30,20 @@ const ONES_AT_ODD: u64 = 0x5555_5555_5540;
 // How many of these 21 bits are 1 at least where at most four bits of a sync are wrong.
 const ONES_LEAST: u32 = 17;
 
+// What is known of bits of which nothing is known yet.
+#[inline]
+pub(crate) fn beginning_anew(held: &BitBuf) -> Beginning
+    ensures { IsBeginning result held.now }
+{
+    if held.len() <= BEHIND {
+        Beginning::Searching(0)
+    } else {
+        beginning_from(held, 0)
+    }
+}
+
 // What is known of bits whose first `clear` places have no sync.
-pub(crate) fn beginning_from(held: &BitBuf, clear: usize) -> Beginning
+fn beginning_from(held: &BitBuf, clear: usize) -> Beginning
     requires clear { clear ≤ sync_place held.now }
     requires judged { clear ≤ length held.now - 47 }
     requires few { clear ≤ 4096 }
@@ -159,7 +171,8 @@ fn beginning_waiting(held: &BitBuf, count: usize, begun: Begun) -> Beginning
     }
 }
 
-// The first item of some bits; where it is not known, they are all there are.
+// The first item of some bits, made apart from its caller, which copies it once; where it is not known, they are all there are.
+#[inline(never)]
 pub(crate) fn item_of_beginning(beginning: Beginning, held: &BitBuf, place: u64) -> Item
     requires { IsBeginning beginning held.now }
     ensures item { result ≡ first_item place held.now }

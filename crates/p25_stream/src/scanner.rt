@@ -6,7 +6,7 @@ ghost use Rattle.p25_stream.specs.Scan.{Gave, given};
 ghost use Rattle.p25_units.specs.Items.{IsSoundItem};
 
 use crate::beginning::Beginning;
-use crate::judging::{beginning_after, beginning_from, item_of_beginning};
+use crate::judging::{beginning_after, beginning_anew, item_of_beginning};
 use p25_bits::BitBuf;
 use p25_units::Item;
 use std::marker::Model;
@@ -39,7 +39,7 @@ impl Scanner {
         ensures { result ≡ record { place = 0; held = []; finished = false } }
     {
         let held = BitBuf::new();
-        let beginning = beginning_from(&held, 0);
+        let beginning = beginning_anew(&held);
         Scanner {
             held,
             place: 0,
@@ -57,6 +57,9 @@ impl Scanner {
         ensures { self.new ≡ record self.old { held = self.old.held ++ bits_of 8 octet } }
     {
         self.held.put_field(u64::from(octet), 8);
+        if self.beginning.waits(self.held.len()) {
+            return;
+        }
         self.beginning = beginning_after(self.beginning, &self.held);
     }
 
@@ -103,7 +106,7 @@ impl Scanner {
         raw.append(&self.held, 0, count as usize);
         self.held.drop_front(count as usize);
         self.place += count;
-        self.beginning = beginning_from(&self.held, 0);
+        self.beginning = beginning_anew(&self.held);
         Some(item)
     }
 }
