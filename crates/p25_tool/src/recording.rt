@@ -61,8 +61,9 @@ impl<R: Report> Recording<R> {
         requires { given self.old.scan ≢ [] }
         ensures { PutItem R.reporting self.old out.new self.new }
     {
-        match self.scanner.next(&mut self.raw) {
-            Some(item) => self.report.put(&item, &mut self.raw, out),
+        // An item is large: it is not moved.
+        match &self.scanner.next(&mut self.raw) {
+            Some(item) => self.report.put(item, &mut self.raw, out),
             None => unreachable!(),
         }
     }
