@@ -25,6 +25,7 @@ const AT_ONCE: usize = 8;
 // Every second bit of a sync is 1. Of the 55 bits from eight places on, these stand at such bits of the places 0, 2, 4
 // and 6 alike, and those below at such bits of the places 1, 3, 5 and 7.
 const ONES_AT_EVEN: u64 = 0xAAAA_AAAA_AA80;
+
 const ONES_AT_ODD: u64 = 0x5555_5555_5540;
 
 // How many of these 21 bits are 1 at least where at most four bits of a sync are wrong.
@@ -125,15 +126,24 @@ fn beginning_at_sync(held: &BitBuf, begun: Begun) -> Beginning
     }
 }
 
-// What is known once more bits have come, where the first item was not known before.
-#[inline]
-pub(crate) fn beginning_after(beginning: Beginning, held: &BitBuf) -> Beginning
+// Sets what is known once more bits have come, where the first item was not known before.
+#[inline(never)]
+pub(crate) fn judge_more(beginning: &mut Beginning, held: &BitBuf)
+    requires was { WasBeginning beginning.old held.now }
+    requires unsettled { is_settled beginning.old ≡ false }
+    ensures { IsBeginning beginning.new held.now }
+{
+    *beginning = beginning_after(*beginning, held);
+}
+
+// What is known once more bits have come.
+fn beginning_after(beginning: Beginning, held: &BitBuf) -> Beginning
     requires was { WasBeginning beginning held.now }
     requires unsettled { is_settled beginning ≡ false }
     ensures { IsBeginning result held.now }
 {
     match beginning {
-        Beginning::Searching(clear) => beginning_searching(held, clear),
+        Beginning::Searching(clear) => beginning_from(held, clear),
         Beginning::Waiting(count, begun) => beginning_waiting(held, count, begun),
         Beginning::Gap(_) => unreachable!(),
         Beginning::Ready(_, _) => unreachable!(),
@@ -141,22 +151,25 @@ pub(crate) fn beginning_after(beginning: Beginning, held: &BitBuf) -> Beginning
     }
 }
 
-// The same where the first `clear` places have no sync. An octet brings eight places, which mostly have none.
+// Notes, where two counts tell it, that the next eight places have no sync: mostly they have none where an octet has come.
+// Answers whether it did.
 #[inline]
-fn beginning_searching(held: &BitBuf, clear: usize) -> Beginning
-    requires clear { clear ≤ sync_place held.now }
-    requires judged { clear ≤ length held.now - 47 }
-    requires few { clear ≤ 4096 }
-    ensures { IsBeginning result held.now }
+pub(crate) fn passes_eight(beginning: &mut Beginning, held: &BitBuf) -> bool
+    requires { WasBeginning beginning.old held.now }
+    ensures passed { result ≡ true → IsBeginning beginning.new held.now }
+    ensures same { result ≡ false → beginning.new ≡ beginning.old }
 {
+    let Beginning::Searching(clear) = *beginning else {
+        return false;
+    };
     if clear + AT_ONCE < GAP_MOST
         && held.len() == clear + AT_ONCE + BEHIND
         && none_of_eight(held.field(clear, (AT_ONCE + BEHIND) as u32))
     {
-        Beginning::Searching(clear + AT_ONCE)
-    } else {
-        beginning_from(held, clear)
+        *beginning = Beginning::Searching(clear + AT_ONCE);
+        return true;
     }
+    false
 }
 
 // The same at a sync behind which so many bits were waited for.

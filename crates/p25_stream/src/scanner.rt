@@ -6,7 +6,7 @@ ghost use Rattle.p25_stream.specs.Scan.{Gave, given};
 ghost use Rattle.p25_units.specs.Items.{IsSoundItem};
 
 use crate::beginning::Beginning;
-use crate::judging::{beginning_after, beginning_anew, item_of_beginning};
+use crate::judging::{beginning_anew, item_of_beginning, judge_more, passes_eight};
 use p25_bits::BitBuf;
 use p25_units::Item;
 use std::marker::Model;
@@ -50,6 +50,7 @@ impl Scanner {
 
     /// Appends the bits of an octet, the most significant first. No item is left to give, the stream is not finished, and
     /// fewer than 2^60 bits were taken.
+    #[inline]
     pub fn push(&mut self, octet: u8)
         requires drained { given self.old ≡ [] }
         requires going { self.old.finished ≡ false }
@@ -57,10 +58,11 @@ impl Scanner {
         ensures { self.new ≡ record self.old { held = self.old.held ++ bits_of 8 octet } }
     {
         self.held.put_field(u64::from(octet), 8);
-        if self.beginning.waits(self.held.len()) {
-            return;
+        if !self.beginning.waits(self.held.len())
+            && !passes_eight(&mut self.beginning, &self.held)
+        {
+            judge_more(&mut self.beginning, &self.held);
         }
-        self.beginning = beginning_after(self.beginning, &self.held);
     }
 
     /// Sets that no more bits come: what is held is divided to its end.
