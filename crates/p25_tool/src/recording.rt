@@ -1,8 +1,8 @@
 //! The work of a command on a recording: its items, as they are decided, and what a report writes of them.
 
-ghost use Rattle.std.specs.Prelude.{◌≡◌, [], Result, Ok};
+ghost use Rattle.std.specs.Prelude.{◌≡◌, ◌≢◌, [], Result, Ok};
 ghost use Rattle.p25_stream.specs.Scan.{given};
-ghost use Rattle.p25_tool.specs.Recordings.{fresh, IsClosing};
+ghost use Rattle.p25_tool.specs.Recordings.{fresh, IsClosing, PutItem};
 
 use crate::report::Report;
 use p25_bits::BitBuf;
@@ -59,6 +59,18 @@ impl<R: Report> Recording<R> {
         }
     }
 
+    // Sets `out` to what is written of the next item. There is one.
+    fn put_next(&mut self, out: &mut Line)
+        requires { given self.old.scan ≢ [] }
+        ensures { PutItem R.reporting self.old out.new self.new }
+    {
+        // An item is large: it is not moved.
+        match &self.scanner.next(&mut self.raw) {
+            Some(item) => self.report.put(item, &mut self.raw, out),
+            None => unreachable!(),
+        }
+    }
+
     // Sets `out` to what is written at the end of the input, once it has ended, and answers whether it did.
     fn close(&mut self, out: &mut Line) -> bool
         requires { given self.old.scan ≡ [] }
@@ -102,14 +114,13 @@ impl<R: Report> Worker for Recording<R> {
     }
 
     fn next(&mut self, out: &mut Line) -> Result<bool, Ending> {
-        match self.scanner.next(&mut self.raw) {
-            Some(item) => {
-                item_laws();
-                self.report.put(&item, &mut self.raw, out);
-                Ok(true)
-            }
-            None => Ok(self.close(out)),
+        // Mostly no item is decided: then no room is made for one.
+        if self.scanner.is_drained() {
+            return Ok(self.close(out));
         }
+        item_laws();
+        self.put_next(out);
+        Ok(true)
     }
 
     fn ending(&self) -> Ending {
