@@ -13,7 +13,7 @@ use Rattle.p25_stream.specs.Items.{sync_place, gap_of, gap_known, is_decided}
 use Rattle.p25_stream.specs.Beginnings.{Needs, HasNoUnit, IsSearched, IsKnownGap, is_settled, waits, IsBeginning}
 use Rattle.p25_stream.specs.declared.beginning.Beginning.{Beginning}
 use Rattle.p25_stream.specs.declared.beginning.Beginning.TheVariants.{Searching, Waiting, Gap, Ready, NoUnit}
-use Rattle.p25_stream.proofs.SyncPlaces.{sync_place-synced, sync_place-all, sync_place-from, sync_place-append_far}
+use Rattle.p25_stream.proofs.SyncPlaceLaws.{sync_place-synced, sync_place-all, sync_place-from, sync_place-append_far}
 use Rattle.p25_stream.proofs.ItemsLaws.{is_decided-gap, is_decided-synced}
 
 -- bits that were searched begin with no sync, and have none

@@ -15,7 +15,7 @@ use Rattle.p25_units.specs.declared.item.Item.TheVariants.{NoUnit, Gap, Cut}
 use Rattle.p25_units.proofs.NeedsLaws.{need_of-there, need_of-seen, need_of-stays}
 use Rattle.p25_units.proofs.ItemsLaws.{covered-unit_item_of, place_of-unit_item_of, IsSoundItem-unit_item_of, unit_item_of-no_gap}
 use Rattle.p25_stream.specs.Items.{sync_place, synced_item, gap_of, first_item, gap_known, is_decided, items_in, items_by, decided_of}
-use Rattle.p25_stream.proofs.SyncPlaces.{sync_place-le, sync_place-unsynced, sync_place-append, sync_place-append_far}
+use Rattle.p25_stream.proofs.SyncPlaceLaws.{sync_place-le, sync_place-unsynced, sync_place-append, sync_place-append_far}
 
 -- the first item, with and without a sync
 pub first_item-gap : (at : ℕ) (bits : List Bool) → has_sync bits ≡ false → first_item at bits ≡ Gap at (gap_of bits)
@@ -111,7 +111,8 @@ unfolding items_by items_in
 items_by-nil ended at = refl
 
 -- a step of the walk
-items_by-cons : (ended : Bool) (at : ℕ) (bit : Bool) (bits : List Bool) → items_by ended at (bit ∷ bits) ≡ cond (ended || is_decided (bit ∷ bits)) (first_item at (bit ∷ bits) ∷ items_by ended (at + covered (first_item at (bit ∷ bits))) (drop (covered (first_item at (bit ∷ bits))) (bit ∷ bits))) []
+items_by-cons : (ended : Bool) (at : ℕ) (bit : Bool) (bits : List Bool)
+    → items_by ended at (bit ∷ bits) ≡ cond (ended || is_decided (bit ∷ bits)) (first_item at (bit ∷ bits) ∷ items_by ended (at + covered (first_item at (bit ∷ bits))) (drop (covered (first_item at (bit ∷ bits))) (bit ∷ bits))) []
 unfolding items_by items_in
 items_by-cons ended at bit bits =
     let item = first_item at (bit ∷ bits) in
@@ -120,7 +121,8 @@ items_by-cons ended at bit bits =
     let less : length rest ≤ length bits = omega (arith, length-drop (covered item) (bit ∷ bits)) in
     ap (λ items. cond (ended || is_decided (bit ∷ bits)) (item ∷ items) []) (items_in-enough (length bits) (length rest) ended (at + covered item) rest less (omega arith))
 
-pub items_by-more : (ended : Bool) (at : ℕ) (bits : List Bool) → 0 < length bits → (ended || is_decided bits) ≡ true → items_by ended at bits ≡ first_item at bits ∷ items_by ended (at + covered (first_item at bits)) (drop (covered (first_item at bits)) bits)
+pub items_by-more : (ended : Bool) (at : ℕ) (bits : List Bool) → 0 < length bits → (ended || is_decided bits) ≡ true
+    → items_by ended at bits ≡ first_item at bits ∷ items_by ended (at + covered (first_item at bits)) (drop (covered (first_item at bits)) bits)
 items_by-more ended at [] some goes = absurd (omega arith)
 items_by-more ended at (bit ∷ bits) some goes = items_by-cons ended at bit bits ∙ cond-true (ended || is_decided (bit ∷ bits)) _ [] goes
 
@@ -202,7 +204,8 @@ or_true true decided is = refl
 or_true false decided is = is
 
 -- the items of more bits, where the first is decided
-pub items_by-decided : (ended : Bool) (at : ℕ) (bits more : List Bool) → is_decided bits ≡ true → items_by ended at (bits ++ more) ≡ first_item at bits ∷ items_by ended (at + covered (first_item at bits)) (drop (covered (first_item at bits)) bits ++ more)
+pub items_by-decided : (ended : Bool) (at : ℕ) (bits more : List Bool) → is_decided bits ≡ true
+    → items_by ended at (bits ++ more) ≡ first_item at bits ∷ items_by ended (at + covered (first_item at bits)) (drop (covered (first_item at bits)) bits ++ more)
 items_by-decided ended at bits more decided =
     let some = decided-some bits decided in
     let stays = first_item-append at bits more decided in

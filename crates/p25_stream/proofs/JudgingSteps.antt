@@ -11,7 +11,7 @@ use Rattle.p25_bits.proofs.PartLaws.{part-part, part_joined}
 use Rattle.p25_status.specs.Sync.{has_sync, sync_bits, sync_slack}
 use Rattle.p25_status.proofs.SyncLaws.{has_sync-yes, has_sync-no, has_sync-take}
 use Rattle.p25_stream.specs.Items.{sync_place}
-use Rattle.p25_stream.proofs.SyncPlaces.{sync_place-more}
+use Rattle.p25_stream.proofs.SyncPlaceLaws.{sync_place-more}
 
 -- 48 bits of a number that is at least so long
 low_bits : (number : ℕ) → bits_of 48 (number % 2 ^ 48) ≡ bits_of 48 number
@@ -52,7 +52,8 @@ window-unsynced bits window is far =
     ]
 
 -- the windows of a field are those of the bits that it stands in
-pub window_in : (bits : List Bool) (k count place number : ℕ) → k + 47 + count ≤ length bits → place < count → number ≡ field_of (part k (47 + count) bits) → has_sync (part place 48 (bits_of (47 + count) number)) ≡ has_sync (drop (k + place) bits)
+pub window_in : (bits : List Bool) (k count place number : ℕ) → k + 47 + count ≤ length bits → place < count → number ≡ field_of (part k (47 + count) bits)
+    → has_sync (part place 48 (bits_of (47 + count) number)) ≡ has_sync (drop (k + place) bits)
 window_in bits k count place number there inside is =
     let fits : k + (47 + count) ≤ length bits = omega arith in
     let within : place + 48 ≤ 47 + count = omega arith in

@@ -1,4 +1,4 @@
-pub mod SyncPlaces
+pub mod SyncPlaceLaws
 pub mod ItemsLaws
 pub mod ItemLaws
 pub mod TerminatorLaws
