@@ -1,0 +1,6 @@
+pub mod SendableLaws
+pub mod SendingLaws
+pub mod ReceivingLaws
+pub mod SoundLaws
+pub mod WorldOfLaws
+pub mod SimulationLaws
