@@ -6,3 +6,5 @@ pub mod WorldOfLaws
 pub mod SimulationLaws
 pub mod AirSteps
 pub mod AirLaws
+pub mod CleanLaws
+pub mod TriesLaws

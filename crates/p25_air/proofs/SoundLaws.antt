@@ -54,7 +54,7 @@ sound-apart {S = S} {A = A} after x s a b e f g h =
     let same : x ≡ (s, b) = ap₂ (λ (t : S) (c : A). (t, c)) (sym e) (sym f ∙ g) in
     subst (λ (y : S × A). IsSound (after y)) same h
 
-counted-at : (w : WorldState) (out : Outstanding) → w.sender.outstanding ≡ out → IsSound w → IsCountedWith out w
+pub counted-at : (w : WorldState) (out : Outstanding) → w.sender.outstanding ≡ out → IsSound w → IsCountedWith out w
 counted-at w out o sound = subst (λ (x : Outstanding). IsCountedWith x w) o sound.counted
 
 message-in : (out : Outstanding) (message : List ℕ) → out ≡ Message message → IsMessageIn out → IsMessage message
@@ -65,7 +65,7 @@ number-in : (out : Outstanding) (number : ℕ) → out ≡ Opening number → Is
 unfolding IsNumbered
 number-in out number o is = subst IsNumbered o is
 
-quiet-is : (w : WorldState) → IsCountedWith Nothing w → (w.sender.down ≡ false) × (w.sender.tries ≡ 0) × (w.acknowledged + length w.marks ≤ length w.sent)
+pub quiet-is : (w : WorldState) → IsCountedWith Nothing w → (w.sender.down ≡ false) × (w.sender.tries ≡ 0) × (w.acknowledged + length w.marks ≤ length w.sent)
 unfolding IsCountedWith
 quiet-is w c = c
 
