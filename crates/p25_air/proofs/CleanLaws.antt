@@ -1,7 +1,7 @@
 -- A run without a false pass is a clean run of its link. By the law of the air, one event after the other.
 use Rattle.std.proofs.Common.{◌≡◌, ℕ, false, Bool, List, [], ◌∷◌, ◌++◌, Option, Some, None, refl, ap, sym, subst, ◌∙◌}
 use Rattle.p25_packet_blocks.specs.declared.packet.Packet.{Packet}
-use Rattle.p25_world.specs.Link.{Session, Link, first_link, Happening, Offering, Data_heard, Answer_heard, happens, link_run}
+use Rattle.p25_world.specs.Link.{Link, first_link, Happening, Data_heard, Answer_heard, happens, link_run}
 use Rattle.p25_world.specs.Clean.{IsHeardOf, IsClean, IsCleanRun as IsCleanLink}
 use Rattle.p25_world.specs.Orderly.{AreOrderly, AreCounted}
 use Rattle.p25_world.specs.Facts.{LinkFacts}
@@ -74,7 +74,7 @@ run-clean (event ∷ events) link count are clean =
     let rest : AreClean (steps_of (world_of next step.count) events) = subst (λ (w : WorldState). AreClean (steps_of w events)) step.is clean.1 in
     clean-append link hs (happenings_in next events) (step-clean link count event are.0 clean.0) (run-clean events next step.count are.1 rest)
 
-clean-from_first : (events : List Event) → AreEvents events → IsCleanRun events → IsCleanLink first_link (happenings_in first_link events)
+pub clean-from_first : (events : List Event) → AreEvents events → IsCleanRun events → IsCleanLink first_link (happenings_in first_link events)
 clean-from_first events are clean = run-clean events first_link 0 are (subst (λ (w : WorldState). AreClean (steps_of w events)) first-world_of clean)
 
 -- so it keeps what a clean link keeps

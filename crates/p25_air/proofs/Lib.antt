@@ -8,3 +8,6 @@ pub mod AirSteps
 pub mod AirLaws
 pub mod CleanLaws
 pub mod TriesLaws
+pub mod FewFlipsLaws
+pub mod FalsePassLaws
+pub mod AtOnceLaws

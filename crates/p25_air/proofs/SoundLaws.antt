@@ -1,9 +1,8 @@
 -- Every step keeps a world sound. By what is outstanding, each answer of a station in turn.
-use Rattle.std.proofs.Common.{◌≡◌, ℕ, ◌+◌, ◌-◌, ◌^◌, ◌%◌, ◌<◌, ◌≤◌, min, inl, inr, Bool, true, false, List, [], ◌∷◌, ◌++◌, length, Option, Some, None, refl, ap, ap₂, sym, subst, ◌∙◌, arith, length-append}
+use Rattle.std.proofs.Common.{◌≡◌, ℕ, ◌+◌, ◌-◌, ◌^◌, ◌<◌, ◌≤◌, min, inl, inr, Bool, true, false, List, [], ◌∷◌, ◌++◌, length, Option, Some, None, refl, ap, ap₂, sym, subst, ◌∙◌, arith, length-append}
 use Rattle.std.specs.Prelude.{IfSome}
 use Rattle.p25_packet_blocks.specs.declared.packet.Packet.{Packet}
 use Rattle.p25_packet_blocks.specs.Sendable.{IsSendable}
-use Rattle.p25_stations.specs.MessageBlocks.{block_count}
 use Rattle.p25_stations.specs.SentPackets.{message_packet, opening_packet}
 use Rattle.p25_stations.specs.SenderState.{Sending, IsNumbered, IsSending}
 use Rattle.p25_stations.specs.ReceiverState.{Receiving}
@@ -12,17 +11,15 @@ use Rattle.p25_stations.specs.ReceiverRules.{receiver_heard}
 use Rattle.p25_stations.specs.declared.sender_state.Outstanding.{Outstanding}
 use Rattle.p25_stations.specs.declared.sender_state.Outstanding.TheVariants.{Nothing, Message, Opening}
 use Rattle.p25_stations.specs.declared.sender.Offer.{Offer}
-use Rattle.p25_stations.specs.declared.sender.Offer.TheVariants.{Taken as OfferTaken, Busy as OfferBusy, Down as DownAtOffer}
 use Rattle.p25_stations.specs.declared.sender.Resend.{Resend}
 use Rattle.p25_stations.specs.declared.sender.Resend.TheVariants.{Sent, Idle as ResendIdle, Down as DownAtTimeout}
 use Rattle.p25_stations.specs.declared.sender.SenderHeard.{SenderHeard}
 use Rattle.p25_stations.specs.declared.sender.SenderHeard.TheVariants.{Acknowledged as HeardAck, Opened as SenderOpened, Retry as HeardRetry, Repeat as HeardRepeat, Ignored as SenderIgnored, Down as DownAtAnswer}
 use Rattle.p25_stations.specs.declared.sender.Reopen.{Reopen as ReopenAnswer}
-use Rattle.p25_stations.specs.declared.sender.Reopen.TheVariants.{Sent as ReopenSent, Up as ReopenUp}
 use Rattle.p25_stations.specs.declared.receiver.Heard.{Heard as HeardAnswer}
 use Rattle.p25_stations.specs.declared.receiver.Heard.TheVariants.{Delivered as HeardDelivered, Opened as ReceiverOpened, Again as HeardAgain, Kept as HeardKept, RefusedCrc as HeardCrc, RefusedOrder as HeardOrder, Ignored as ReceiverIgnored}
 use Rattle.p25_world.specs.Facts.{IsDataOf}
-use Rattle.p25_world.proofs.SenderLaws.{IsSame, ResendsOf, Resends, RetriesOf, Stays, HearsAnswer, goes_on, stays, HearsOpening, opens, waits, offer-quiet, offer-message, offer-opening, timeout-message, timeout-opening, timeout-quiet, reopen-cases, reopen-up, message-answer, opening-answer, quiet-answer}
+use Rattle.p25_world.proofs.SenderLaws.{IsSame, Resends, Stays, HearsAnswer, goes_on, stays, HearsOpening, opens, waits, offer-quiet, offer-message, offer-opening, timeout-message, timeout-opening, timeout-quiet, reopen-cases, reopen-up, message-answer, opening-answer, quiet-answer}
 use Rattle.p25_air.specs.declared.mark.Mark.{Mark}
 use Rattle.p25_air.specs.declared.air.Carried.{Carried}
 use Rattle.p25_air.specs.declared.air.Carried.TheVariants.{Lost as CarriedLost, Foreign, Heard}
@@ -30,7 +27,7 @@ use Rattle.p25_air.specs.declared.step.Event.{Event}
 use Rattle.p25_air.specs.declared.step.Event.TheVariants.{Send, Timeout, Reopen, ToReceiver, ToSender}
 use Rattle.p25_air.specs.Air.{carried_of}
 use Rattle.p25_air.specs.WorldState.{WorldState, first_world}
-use Rattle.p25_air.specs.Sound.{IsMessage, IsMessageIn, IsCountedWith, IsFew, IsSound}
+use Rattle.p25_air.specs.Sound.{IsMessage, IsMessageIn, IsCountedWith, IsSound}
 use Rattle.p25_air.specs.Steps.{present_mark, after_offer, after_timeout, after_reopening, after_data, after_answer, counted_when, data_carried, data_delivered, answer_carried, answer_delivered, world_step}
 use Rattle.p25_air.specs.Runs.{IsEvent, AreEvents, world_run}
 use Rattle.p25_air.proofs.SendableLaws.{message_packet-sendable, blocks_packet-sendable, opening_packet-sendable}

@@ -1,5 +1,5 @@
 -- The transmissions that steps tell are those that the sender counts. By the rules, each test taken both ways.
-use Rattle.std.proofs.Common.{◌≡◌, ℕ, ◌+◌, ◌≤◌, ◌&&◌, inl, inr, Bool, true, false, cond, eqb, List, [], ◌∷◌, length, take, Option, Some, None, refl, ap, sym, subst, ◌∙◌, arith}
+use Rattle.std.proofs.Common.{◌≡◌, ℕ, ◌+◌, ◌≤◌, inl, inr, Bool, true, false, cond, List, [], ◌∷◌, length, Option, Some, None, refl, ap, sym, subst, ◌∙◌, arith}
 use Rattle.p25_packet_blocks.specs.Parts.{PlainParts}
 use Rattle.p25_packet_blocks.specs.declared.packet.Packet.{Packet}
 use Rattle.p25_packet_blocks.specs.declared.packet.Packet.TheVariants.{Confirmed, Plain}
@@ -8,18 +8,18 @@ use Rattle.p25_stations.specs.SentPackets.{message_packet, blocks_packet, openin
 use Rattle.p25_stations.specs.SenderState.{Sending}
 use Rattle.p25_stations.specs.ReceiverState.{Receiving}
 use Rattle.p25_stations.specs.Asked.{is_response, is_ack, asked_of}
-use Rattle.p25_stations.specs.SenderRules.{sending_after, tried, fallen, may_send, offered_beside, offered, resent, timed_out_with, timed_out, repeated, retried, answered, response_heard, sender_heard, opening_number, reopened, is_opening}
+use Rattle.p25_stations.specs.SenderRules.{sending_after, tried, fallen, may_send, offered, resent, timed_out_with, timed_out, repeated, retried, answered, response_heard, sender_heard, opening_number, reopened, is_opening}
 use Rattle.p25_stations.specs.ReceiverRules.{receiver_heard}
 use Rattle.p25_stations.specs.declared.asked.Asked.{Asked}
 use Rattle.p25_stations.specs.declared.asked.Asked.TheVariants.{Nothing as NothingAsked, NextMessage, WholeMessage, Blocks}
 use Rattle.p25_stations.specs.declared.sender_state.Outstanding.{Outstanding}
 use Rattle.p25_stations.specs.declared.sender_state.Outstanding.TheVariants.{Nothing, Message, Opening}
 use Rattle.p25_stations.specs.declared.sender.Offer.{Offer}
-use Rattle.p25_stations.specs.declared.sender.Offer.TheVariants.{Taken as OfferTaken, Busy as OfferBusy, Down as DownAtOffer}
+use Rattle.p25_stations.specs.declared.sender.Offer.TheVariants.{Taken as OfferTaken}
 use Rattle.p25_stations.specs.declared.sender.Resend.{Resend}
-use Rattle.p25_stations.specs.declared.sender.Resend.TheVariants.{Sent, Idle as ResendIdle, Down as DownAtTimeout}
+use Rattle.p25_stations.specs.declared.sender.Resend.TheVariants.{Sent, Down as DownAtTimeout}
 use Rattle.p25_stations.specs.declared.sender.SenderHeard.{SenderHeard}
-use Rattle.p25_stations.specs.declared.sender.SenderHeard.TheVariants.{Acknowledged as HeardAck, Opened as SenderOpened, Retry as HeardRetry, Repeat as HeardRepeat, Ignored as SenderIgnored, Down as DownAtAnswer}
+use Rattle.p25_stations.specs.declared.sender.SenderHeard.TheVariants.{Opened as SenderOpened, Retry as HeardRetry, Repeat as HeardRepeat, Ignored as SenderIgnored, Down as DownAtAnswer}
 use Rattle.p25_stations.specs.declared.sender.Reopen.{Reopen as ReopenAnswer}
 use Rattle.p25_stations.specs.declared.sender.Reopen.TheVariants.{Sent as ReopenSent, Up as ReopenUp}
 use Rattle.p25_stations.specs.declared.receiver.Heard.{Heard as HeardAnswer}
@@ -29,12 +29,11 @@ use Rattle.p25_air.specs.declared.air.Carried.{Carried}
 use Rattle.p25_air.specs.declared.air.Carried.TheVariants.{Lost as CarriedLost, Foreign, Heard}
 use Rattle.p25_air.specs.declared.step.Event.{Event}
 use Rattle.p25_air.specs.declared.step.Event.TheVariants.{Send, Timeout, Reopen, ToReceiver, ToSender}
-use Rattle.p25_air.specs.declared.step.Step.{Step}
 use Rattle.p25_air.specs.Air.{carried_of}
 use Rattle.p25_air.specs.WorldState.{WorldState, first_world}
 use Rattle.p25_air.specs.Sound.{IsSound}
 use Rattle.p25_air.specs.Steps.{after_offer, after_timeout, after_reopening, after_data, after_answer, counted_when, data_carried, data_delivered, answer_carried, answer_delivered, world_step}
-use Rattle.p25_air.specs.Runs.{IsEvent, AreEvents, world_run, steps_of}
+use Rattle.p25_air.specs.Runs.{AreEvents, world_run, steps_of}
 use Rattle.p25_air.specs.RunLaws.{tries_after, tries_in}
 use Rattle.p25_air.proofs.SoundLaws.{counted-at, quiet-is, step-sound, run-sound, first-sound}
 

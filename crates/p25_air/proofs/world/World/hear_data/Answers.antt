@@ -1,4 +1,4 @@
-use Rattle.std.proofs.Common.{◌≡◌, List, ℕ, Some, refl, sym, subst}
+use Rattle.std.proofs.Common.{◌≡◌, List, ℕ, Some, sym, subst}
 use Rattle.p25_packet_blocks.specs.declared.packet.Packet.{Packet}
 use Rattle.p25_stations.specs.ReceiverState.{Receiving}
 use Rattle.p25_stations.specs.ReceiverRules.{receiver_heard}

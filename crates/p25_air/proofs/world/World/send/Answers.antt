@@ -1,4 +1,4 @@
-use Rattle.std.proofs.Common.{List, ℕ, ◌++◌, ◌∷◌, [], sym, subst}
+use Rattle.std.proofs.Common.{List, ℕ, sym, subst}
 use Rattle.p25_stations.specs.SenderState.{Sending}
 use Rattle.p25_stations.specs.SenderRules.{offered}
 use Rattle.p25_stations.specs.declared.sender.Offer.{Offer}
