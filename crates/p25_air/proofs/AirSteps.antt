@@ -38,7 +38,8 @@ with_flips-more bits now flips i place is h e =
 
 -- Slots.
 
-are_true_slots-is : (sent heard : List Slot) (i : ℕ) → i < length sent → i < length heard → are_true_slots (drop i sent) (drop i heard) ≡ (is_true_slot (get_or sent i Bad) (get_or heard i Bad) && are_true_slots (drop (i + 1) sent) (drop (i + 1) heard))
+are_true_slots-is : (sent heard : List Slot) (i : ℕ) → i < length sent → i < length heard → are_true_slots (drop i sent) (drop i heard) ≡ (is_true_slot (get_or sent i Bad) (get_or heard i Bad) && are_true_slots (drop (i + 1) sent)
+    (drop (i + 1) heard))
 unfolding are_true_slots
 are_true_slots-is sent heard i s h = ap₂ are_true_slots (drop_more sent i Bad s) (drop_more heard i Bad h)
 

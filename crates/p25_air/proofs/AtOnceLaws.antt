@@ -69,7 +69,8 @@ second-within w a b c within = within.1.0
 
 -- A delivery within radius.
 
-data-step : ReadsWithin → (w : WorldState) (packet : Packet) (flips : List ℕ) → IsSound w → w.packet_sent ≡ Some packet → IsWithin w (ToReceiver flips) → world_step w (ToReceiver flips) ≡ quiet_step (after_data w (receiver_heard w.receiver packet))
+data-step : ReadsWithin → (w : WorldState) (packet : Packet) (flips : List ℕ) → IsSound w → w.packet_sent ≡ Some packet → IsWithin w (ToReceiver flips) →
+    world_step w (ToReceiver flips) ≡ quiet_step (after_data w (receiver_heard w.receiver packet))
 unfolding world_step IsWithin data_delivered data_carried counted_when
 data-step reads w packet flips sound e within =
     let sendable = subst (λ (newest : Option Packet). IfSome newest IsSendable) e sound.packet_sent in
@@ -127,10 +128,12 @@ delivers reads w message first second sound is d within =
     = answer-step reads u d.answer second u_sound refl m.second ∙ ap (λ (x : Sending × SenderHeard). quiet_step (after_answer u x)) d.acknowledged in
     three-steps w v u t (Send message) (ToReceiver first) (ToSender second) (true_step (Taken number blocks)) (true_step (Delivered number message)) (true_step (Acknowledged number)) one two three
 
-pub run-delivers_within : ReadsWithin → (events : List Event) (message first second : List ℕ) → AreEvents events → (world_run first_world events).false_passes ≡ 0 → IsMessage message → (world_run first_world events).sender.outstanding ≡ Nothing →
+pub run-delivers_within : ReadsWithin → (events : List Event) (message first second : List ℕ) → AreEvents events → (world_run first_world events).false_passes ≡ 0 → IsMessage message →
+    (world_run first_world events).sender.outstanding ≡ Nothing →
     AreWithin (world_run first_world events) (Send message ∷ ToReceiver first ∷ ToSender second ∷ []) →
     steps_of (world_run first_world events) (Send message ∷ ToReceiver first ∷ ToSender second ∷ []) ≡
-    true_step (Taken (world_run first_world events).sender.next (block_count (length message))) ∷ true_step (Delivered (world_run first_world events).sender.next message) ∷ true_step (Acknowledged (world_run first_world events).sender.next) ∷ []
+    true_step (Taken (world_run first_world events).sender.next (block_count (length message))) ∷ true_step (Delivered (world_run first_world events).sender.next message) ∷ true_step (Acknowledged
+    (world_run first_world events).sender.next) ∷ []
 run-delivers_within reads events message first second are none is quiet within =
     let w = world_run first_world events in
     let link = link_of events in
@@ -195,7 +198,8 @@ opens reads w v first second sound o h within =
     ∙ ap (λ (x : Sending × SenderHeard). quiet_step (after_answer u x)) (ap (λ (s : Sending). sender_heard s o.answer) h.sender ∙ o.opened) in
     three-steps w v u t Reopen (ToReceiver first) (ToSender second) (true_step (Reopened number)) (true_step (SynHeard number)) (true_step (LinkOpened number)) h.step two three
 
-pub run-opens_within : ReadsWithin → (events : List Event) (first second : List ℕ) → AreEvents events → (world_run first_world events).sender.down ≡ true → AreWithin (world_run first_world events) (Reopen ∷ ToReceiver first ∷ ToSender second ∷ []) →
+pub run-opens_within : ReadsWithin → (events : List Event) (first second : List ℕ) → AreEvents events → (world_run first_world events).sender.down ≡ true →
+    AreWithin (world_run first_world events) (Reopen ∷ ToReceiver first ∷ ToSender second ∷ []) →
     steps_of (world_run first_world events) (Reopen ∷ ToReceiver first ∷ ToSender second ∷ []) ≡
     true_step (Reopened (opening_number (world_run first_world events).sender.outstanding (world_run first_world events).sender.next)) ∷
     true_step (SynHeard (opening_number (world_run first_world events).sender.outstanding (world_run first_world events).sender.next)) ∷

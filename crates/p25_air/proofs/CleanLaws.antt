@@ -31,7 +31,8 @@ data-clean link count sent flips (Lost field) n e f = tt
 data-clean link count sent flips Foreign n e f = tt
 data-clean link count sent flips (Heard packet false_pass) n e f = (heard-of sent packet flips link.packet_sent false_pass n e f, tt)
 
-data-newest : (link : Link) (count : ℕ) (newest : Option Packet) (flips : List ℕ) → link.packet_sent ≡ newest → (data_delivered (world_of link count) newest flips).1.false_pass ≡ false → IsCleanLink link (hearing_of (λ packet. Data_heard packet) newest flips)
+data-newest : (link : Link) (count : ℕ) (newest : Option Packet) (flips : List ℕ) → link.packet_sent ≡ newest → (data_delivered (world_of link count) newest flips).1.false_pass ≡ false →
+    IsCleanLink link (hearing_of (λ packet. Data_heard packet) newest flips)
 unfolding data_delivered hearing_of IsCleanLink
 data-newest link count None flips n f = tt
 data-newest link count (Some sent) flips n f = data-clean link count sent flips (carried_of sent flips) n refl f
@@ -43,7 +44,8 @@ answer-clean link count sent flips (Lost field) n e f = tt
 answer-clean link count sent flips Foreign n e f = tt
 answer-clean link count sent flips (Heard packet false_pass) n e f = (heard-of sent packet flips link.answer false_pass n e f, tt)
 
-answer-newest : (link : Link) (count : ℕ) (newest : Option Packet) (flips : List ℕ) → link.answer ≡ newest → (answer_delivered (world_of link count) newest flips).1.false_pass ≡ false → IsCleanLink link (hearing_of (λ packet. Answer_heard packet) newest flips)
+answer-newest : (link : Link) (count : ℕ) (newest : Option Packet) (flips : List ℕ) → link.answer ≡ newest → (answer_delivered (world_of link count) newest flips).1.false_pass ≡ false →
+    IsCleanLink link (hearing_of (λ packet. Answer_heard packet) newest flips)
 unfolding answer_delivered hearing_of IsCleanLink
 answer-newest link count None flips n f = tt
 answer-newest link count (Some sent) flips n f = answer-clean link count sent flips (carried_of sent flips) n refl f

@@ -62,13 +62,15 @@ twice packet flips false_pass clean e sendable =
       | inr many ↦ omega arith
     ]
 
-data-twice : ReadsWithin → (w : WorldState) (newest : Option Packet) (flips : List ℕ) → IfSome newest IsSendable → (data_delivered w newest flips).1.false_pass ≡ true → (packet : Packet) × (newest ≡ Some packet) × (2 ≤ places_within packet flips)
+data-twice : ReadsWithin → (w : WorldState) (newest : Option Packet) (flips : List ℕ) → IfSome newest IsSendable → (data_delivered w newest flips).1.false_pass ≡ true →
+    (packet : Packet) × (newest ≡ Some packet) × (2 ≤ places_within packet flips)
 unfolding data_delivered
 data-twice reads w None flips sendable e = absurd (false≢true e)
 data-twice reads w (Some packet) flips sendable e =
     (packet, refl, twice packet flips (data_delivered w (Some packet) flips).1.false_pass (λ (within : ArrivesWithin packet flips). data-within reads w (Some packet) flips sendable within) e sendable)
 
-answer-twice : ReadsWithin → (w : WorldState) (newest : Option Packet) (flips : List ℕ) → IfSome newest IsSendable → (answer_delivered w newest flips).1.false_pass ≡ true → (packet : Packet) × (newest ≡ Some packet) × (2 ≤ places_within packet flips)
+answer-twice : ReadsWithin → (w : WorldState) (newest : Option Packet) (flips : List ℕ) → IfSome newest IsSendable → (answer_delivered w newest flips).1.false_pass ≡ true →
+    (packet : Packet) × (newest ≡ Some packet) × (2 ≤ places_within packet flips)
 unfolding answer_delivered
 answer-twice reads w None flips sendable e = absurd (false≢true e)
 answer-twice reads w (Some packet) flips sendable e =

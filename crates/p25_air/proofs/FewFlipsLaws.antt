@@ -124,7 +124,14 @@ distance-identifier xs ys e h =
     let second : length (part 72 42 xs) ≡ length (part 72 42 ys) = length-part 72 42 xs (omega arith) ∙ sym (length-part 72 42 ys (omega (arith, e))) in
     let all : length (part 48 22 xs ++ part 72 42 xs) ≡ length (part 48 22 ys ++ part 72 42 ys)
     = length-append (part 48 22 xs) (part 72 42 xs) ∙ ap₂ (λ (a b : ℕ). a + b) first second ∙ sym (length-append (part 48 22 ys) (part 72 42 ys)) in
-    omega (arith, distance-take 63 (part 48 22 xs ++ part 72 42 xs) (part 48 22 ys ++ part 72 42 ys) all, distance_by-append beq (part 48 22 xs) (part 72 42 xs) (part 48 22 ys) (part 72 42 ys) first, distance-part 48 22 xs ys e, distance-part 72 42 xs ys e)
+    omega (
+      arith,
+      distance-take 63 (part 48 22 xs ++ part 72 42 xs) (part 48 22 ys ++ part 72 42 ys) all,
+      distance_by-append beq (part 48 22 xs) (part 72 42 xs) (part 48 22 ys)
+          (part 72 42 ys) first,
+      distance-part 48 22 xs ys e,
+      distance-part 72 42 xs ys e,
+    )
 
 -- at most one bit of it comes inverted
 pub few-arrive : (packet : Packet) (flips : List ℕ) → IsSendable packet → places_within packet flips < 2 → ArrivesWithin packet flips

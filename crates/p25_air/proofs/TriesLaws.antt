@@ -39,14 +39,16 @@ use Rattle.p25_air.proofs.SoundLaws.{counted-at, quiet-is, step-sound, run-sound
 
 -- An offer.
 
-taken-tries : (w : WorldState) (message : List ℕ) (x : Sending × Offer) (number blocks : ℕ) (packet : Packet) → w.sender.tries ≡ 0 → x ≡ (record { next = w.sender.next; outstanding = Message message; tries = 1; down = false }, OfferTaken number blocks packet) →
+taken-tries : (w : WorldState) (message : List ℕ) (x : Sending × Offer) (number blocks : ℕ) (packet : Packet) → w.sender.tries ≡ 0 →
+    x ≡ (record { next = w.sender.next; outstanding = Message message; tries = 1; down = false }, OfferTaken number blocks packet) →
     tries_after w.sender.tries (after_offer w message x).1 ≡ (after_offer w message x).0.sender.tries
 unfolding after_offer tries_after
 taken-tries w message x number blocks packet none e =
     let P : Sending × Offer → Type 0 = λ (y : Sending × Offer). tries_after w.sender.tries (after_offer w message y).1 ≡ (after_offer w message y).0.sender.tries in
     subst P (sym e) (ap (λ (n : ℕ). n + 1) none)
 
-offer-tries : (w : WorldState) (message : List ℕ) (out : Outstanding) → w.sender.outstanding ≡ out → IsSound w → tries_after w.sender.tries (after_offer w message (offered w.sender message)).1 ≡ (after_offer w message (offered w.sender message)).0.sender.tries
+offer-tries : (w : WorldState) (message : List ℕ) (out : Outstanding) → w.sender.outstanding ≡ out → IsSound w →
+    tries_after w.sender.tries (after_offer w message (offered w.sender message)).1 ≡ (after_offer w message (offered w.sender message)).0.sender.tries
 unfolding after_offer tries_after
 offer-tries w message Nothing o sound =
     let quiet = quiet-is w (counted-at w Nothing o sound) in

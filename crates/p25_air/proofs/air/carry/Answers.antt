@@ -8,7 +8,8 @@ use Rattle.p25_air.proofs.AirLaws.{carried-lost, carried-foreign, carried-heard}
 use Rattle.p25_air.proofs.air.carry.Goals as goal
 
 -- what the bits that came read as
-reading : (packet : Packet) (flips : List ℕ) (sent received : List Bool) (given read : Result (ℕ × Packet) Field) → sent ≡ transmission_of packet → received ≡ with_flips sent flips → given ≡ packet_unit_of received → given ≡ read → packet_unit_of (received_bits packet flips) ≡ read
+reading : (packet : Packet) (flips : List ℕ) (sent received : List Bool) (given read : Result (ℕ × Packet) Field) → sent ≡ transmission_of packet → received ≡ with_flips sent flips → given ≡ packet_unit_of received → given ≡ read →
+    packet_unit_of (received_bits packet flips) ≡ read
 reading packet flips sent received given read s r g e = ap packet_unit_of (sym (r ∙ ap (λ (bits : List Bool). with_flips bits flips) s)) ∙ sym g ∙ e
 
 pub returns-in-Err : goal.returns-in-Err

@@ -12,11 +12,13 @@ use Rattle.p25_air.proofs.SoundLaws.{sound-apart, sound-counts, answer-sound}
 use Rattle.p25_air.proofs.world.World.hear_answer.Goals as goal
 
 -- the world after an answer of the sender
-sound-after : (w : WorldState) (packet : Packet) (s : Sending) (given answer : SenderHeard) → s ≡ (sender_heard w.sender packet).0 → given ≡ (sender_heard w.sender packet).1 → given ≡ answer → IsSound w → IsSound (after_answer w (s, answer)).0
+sound-after : (w : WorldState) (packet : Packet) (s : Sending) (given answer : SenderHeard) → s ≡ (sender_heard w.sender packet).0 → given ≡ (sender_heard w.sender packet).1 → given ≡ answer → IsSound w →
+    IsSound (after_answer w (s, answer)).0
 sound-after w packet s given answer state is same sound =
     sound-apart (λ (x : Sending × SenderHeard). (after_answer w x).0) (sender_heard w.sender packet) s given answer state is same (answer-sound w packet sound)
 
-acknowledged : (w : WorldState) (packet : Packet) (s : Sending) (given : SenderHeard) (number : ℕ) → s ≡ (sender_heard w.sender packet).0 → given ≡ (sender_heard w.sender packet).1 → given ≡ Acknowledged number → IsSound w → IsSound (record w { sender = s; acknowledged = w.acknowledged + 1 })
+acknowledged : (w : WorldState) (packet : Packet) (s : Sending) (given : SenderHeard) (number : ℕ) → s ≡ (sender_heard w.sender packet).0 → given ≡ (sender_heard w.sender packet).1 → given ≡ Acknowledged number → IsSound w →
+    IsSound (record w { sender = s; acknowledged = w.acknowledged + 1 })
 unfolding after_answer
 acknowledged w packet s given number state is same sound = sound-after w packet s given (Acknowledged number) state is same sound
 
