@@ -41,7 +41,7 @@ impl Sym {
         (Sym::ZERO, Sym::ONE)
     }
 
-    /// The symbol of a number. None comes exactly above 63.
+    /// Answers the symbol of a number. None comes exactly above 63.
     pub fn new(value: u8) -> Option<Sym>
         ensures below { IsSome result ↔ (value < 64) }
         ensures number { IfSome result (λ symbol. number symbol ≡ value) }
@@ -53,7 +53,7 @@ impl Sym {
         }
     }
 
-    /// The number of the symbol, from 0 to 63.
+    /// Answers the number of the symbol, from 0 to 63.
     pub fn value(self) -> u8
         ensures number { result ≡ number self }
         ensures below { result < 64 }
@@ -61,14 +61,14 @@ impl Sym {
         self.value
     }
 
-    /// Whether the symbol is 0.
+    /// Answers whether the symbol is 0.
     pub fn is_zero(self) -> bool
         ensures { IsTrue result ↔ (self ≡ gf64.zero) }
     {
         self.value == 0
     }
 
-    /// The sum of two symbols, which is their exclusive or. It is their difference too.
+    /// Answers the sum of two symbols, which is their exclusive or. It is their difference too.
     pub fn add(self, other: Sym) -> Sym
         ensures sum { result ≡ gf64.add self other }
         ensures number { number result ≡ bit_xor (number self) (number other) }
@@ -78,7 +78,7 @@ impl Sym {
         }
     }
 
-    /// The product of two symbols, as polynomials modulo x^6 + x + 1.
+    /// Answers the product of two symbols, as polynomials modulo x^6 + x + 1.
     pub fn mul(self, other: Sym) -> Sym
         ensures product { result ≡ gf64.mul self other }
         ensures number { number result ≡ product (number self) (number other) }
@@ -88,7 +88,7 @@ impl Sym {
         }
     }
 
-    /// The inverse of a symbol that isn't 0: the one symbol whose product with it is 1.
+    /// Answers the inverse of a symbol that isn't 0: the one symbol whose product with it is 1.
     pub fn inv(self) -> Sym
         requires { self ≢ gf64.zero }
         ensures inverse { result ≡ gf64.inverse self }
@@ -97,7 +97,7 @@ impl Sym {
         Sym::power_below((63 - self.logarithm()) % 63)
     }
 
-    /// α = 2 to any power. The powers repeat after 63.
+    /// Answers α = 2 to any power. The powers repeat after 63.
     pub fn pow_alpha(exponent: u32) -> Sym
         ensures { result ≡ power gf64 alpha exponent }
     {

@@ -135,8 +135,8 @@ fn end<W: Worker, K: Sink>(worker: &mut W, page: &mut Line, piece: &mut Line, si
     refused(worker.ending(), page, sink)
 }
 
-// Reads the source to its end, at most 16,777,216 octets, hands the octets to the command and writes what it gives. All
-// that the octets taken so far decide is written before the next read.
+/// Reads the source to its end, at most 16,777,216 octets, hands the octets to the command and writes what it gives. All
+/// that the octets taken so far decide is written before the next read.
 pub fn work<W: Worker, S: Source, K: Sink>(worker: &mut W, source: &mut S, sink: &mut K) -> WorkEnd
     requires drained { W.IsDrained worker.old }
     requires idle { IsIdle false (W.future worker.old) }
