@@ -3,7 +3,7 @@
 ghost use Rattle.std.specs.Prelude.{◌≡◌, length};
 ghost use Rattle.p25_link.specs.Words.{sync_symbols, sync_of_symbols, IsEncryptionSync};
 
-use crate::symbols::{put_symbols, take_symbols};
+use crate::symbols::{first_octets, put_octets, put_symbols, take_symbols};
 use p25_bits::BitBuf;
 use p25_gf64::Sym;
 
@@ -27,7 +27,7 @@ impl EncryptionSync {
         ensures sound { IsEncryptionSync self.now }
     {
         let mut bits = BitBuf::new();
-        bits.put_numbers(&self.mi, 8);
+        put_octets(&self.mi, &mut bits);
         bits.put_field(u64::from(self.algid), 8);
         bits.put_field(u64::from(self.kid), 16);
         let mut symbols = [Sym::ZERO; 16];
@@ -42,10 +42,8 @@ impl EncryptionSync {
     {
         let mut bits = BitBuf::new();
         put_symbols(symbols, &mut bits);
-        let mut mi = [0; 9];
-        bits.take_numbers(0, 8, &mut mi);
         EncryptionSync {
-            mi,
+            mi: first_octets(&bits),
             algid: bits.field(72, 8) as u8,
             kid: bits.field(80, 16) as u16,
         }

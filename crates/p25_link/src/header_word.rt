@@ -3,7 +3,7 @@
 ghost use Rattle.std.specs.Prelude.{◌≡◌, length};
 ghost use Rattle.p25_link.specs.Words.{header_symbols, header_of_symbols, IsHeaderWord};
 
-use crate::symbols::{put_symbols, take_symbols};
+use crate::symbols::{first_octets, put_octets, put_symbols, take_symbols};
 use p25_bits::BitBuf;
 use p25_gf64::Sym;
 
@@ -31,7 +31,7 @@ impl HeaderWord {
         ensures sound { IsHeaderWord self.now }
     {
         let mut bits = BitBuf::new();
-        bits.put_numbers(&self.mi, 8);
+        put_octets(&self.mi, &mut bits);
         bits.put_field(u64::from(self.mfid), 8);
         bits.put_field(u64::from(self.algid), 8);
         bits.put_field(u64::from(self.kid), 16);
@@ -48,10 +48,8 @@ impl HeaderWord {
     {
         let mut bits = BitBuf::new();
         put_symbols(symbols, &mut bits);
-        let mut mi = [0; 9];
-        bits.take_numbers(0, 8, &mut mi);
         HeaderWord {
-            mi,
+            mi: first_octets(&bits),
             mfid: bits.field(72, 8) as u8,
             algid: bits.field(80, 8) as u8,
             kid: bits.field(88, 16) as u16,

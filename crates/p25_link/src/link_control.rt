@@ -1,10 +1,10 @@
 //! Link control.
 
-ghost use Rattle.std.specs.Prelude.{◌≡◌, ◌≢◌, ◌↔◌, length, slice_index};
+ghost use Rattle.std.specs.Prelude.{◌≡◌, ◌≢◌, ◌↔◌, ◌+◌, ◌*◌, length, slice_index};
 ghost use Rattle.p25_link.specs.Words.{link_symbols, link_of_symbols, IsLinkControl};
-ghost use Rattle.p25_link.specs.Kinds.{link_kind_of, group_call, individual_call};
+ghost use Rattle.p25_link.specs.Kinds.{link_kind_of, group_call, individual_call, three_from};
 
-use crate::symbols::{put_symbols, take_symbols};
+use crate::symbols::{first_octets, put_octets, put_symbols, take_symbols};
 use p25_bits::BitBuf;
 use p25_gf64::Sym;
 
@@ -48,7 +48,7 @@ impl LinkControl {
         ensures sound { IsLinkControl self.now }
     {
         let mut bits = BitBuf::new();
-        bits.put_numbers(&self.0, 8);
+        put_octets(&self.0, &mut bits);
         let mut symbols = [Sym::ZERO; 12];
         take_symbols(&bits, &mut symbols);
         symbols
@@ -61,9 +61,7 @@ impl LinkControl {
     {
         let mut bits = BitBuf::new();
         put_symbols(symbols, &mut bits);
-        let mut octets = [0; 9];
-        bits.take_numbers(0, 8, &mut octets);
-        LinkControl(octets)
+        LinkControl(first_octets(&bits))
     }
 
     /// Answers what the octets say of the call. Other comes exactly where the first octet is neither 00 nor 03 hex.
@@ -79,6 +77,7 @@ impl LinkControl {
     }
 }
 
+#[tactic(auto, unfolding(crate::specs::Kinds::group_call, crate::specs::Kinds::individual_call))]
 impl LinkControl {
     // Answers the call to a group that the octets describe.
     fn group_call(&self) -> LinkKind
@@ -87,8 +86,8 @@ impl LinkControl {
         LinkKind::Group {
             mfid: self.0[1],
             emergency: self.0[2] / 128 == 1,
-            group: u16::from_be_bytes([self.0[4], self.0[5]]),
-            source: u32::from_be_bytes([0, self.0[6], self.0[7], self.0[8]]),
+            group: 256 * u16::from(self.0[4]) + u16::from(self.0[5]),
+            source: self.source(),
         }
     }
 
@@ -96,10 +95,18 @@ impl LinkControl {
     fn individual_call(&self) -> LinkKind
         ensures { result ≡ individual_call self.now }
     {
+        let high = 65536 * u32::from(self.0[3]);
         LinkKind::Individual {
             mfid: self.0[1],
-            destination: u32::from_be_bytes([0, self.0[3], self.0[4], self.0[5]]),
-            source: u32::from_be_bytes([0, self.0[6], self.0[7], self.0[8]]),
+            destination: high + 256 * u32::from(self.0[4]) + u32::from(self.0[5]),
+            source: self.source(),
         }
+    }
+
+    // Answers the unit that speaks.
+    fn source(&self) -> u32
+        ensures { result ≡ three_from self.now 6 }
+    {
+        65536 * u32::from(self.0[6]) + 256 * u32::from(self.0[7]) + u32::from(self.0[8])
     }
 }

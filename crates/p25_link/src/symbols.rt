@@ -1,10 +1,34 @@
-//! Symbols of six bits in lists of bits.
+//! Octets, and symbols of six bits, in lists of bits.
 
 ghost use Rattle.std.specs.Prelude.{◌≡◌, ◌+◌, ◌*◌, ◌≤◌, ◌++◌, length, drop};
+ghost use Rattle.p25_bits.specs.Bits.{octet_bits};
+ghost use Rattle.p25_bits.specs.Numbers.{octets_from};
+ghost use Rattle.p25_link.specs.Words.{AreNineOctets};
 ghost use Rattle.p25_link.specs.Symbols.{symbol_in, symbols_in, symbol_bits};
 
 use p25_bits::BitBuf;
 use p25_gf64::Sym;
+
+// Appends the bits of nine octets.
+pub(crate) fn put_octets(octets: &[u8; 9], bits: &mut BitBuf)
+    requires { length bits.old + 72 ≤ 25928 }
+    ensures list { bits.new ≡ bits.old ++ octet_bits octets.now }
+    ensures len { length bits.new ≡ length bits.old + 72 }
+    ensures nine { AreNineOctets octets.now }
+{
+    bits.put_numbers(octets, 8);
+}
+
+// Answers the nine octets that the bits write from their beginning on.
+pub(crate) fn first_octets(bits: &BitBuf) -> [u8; 9]
+    requires { 72 ≤ length bits.now }
+    ensures list { result ≡ octets_from 9 bits.now }
+    ensures len { length result ≡ 9 }
+{
+    let mut octets = [0; 9];
+    bits.take_numbers(0, 8, &mut octets);
+    octets
+}
 
 // Answers the symbol that the six bits from place `at` on write.
 fn symbol_at(bits: &BitBuf, at: usize) -> Sym
