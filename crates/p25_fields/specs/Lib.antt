@@ -1,0 +1,4 @@
+pub mod Symbols
+pub mod Layouts
+pub mod Written
+pub mod Within
