@@ -1,4 +1,4 @@
-pub mod SymbolsLaws
 pub mod SymbolsSteps
 pub mod ReadSteps
 pub mod WrittenLaws
+pub mod WithinLaws

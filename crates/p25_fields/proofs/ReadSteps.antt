@@ -1,5 +1,5 @@
 -- The reader of fields: what one inner word gives, by whether it is read, and one more inner word in the loop.
-use Rattle.std.proofs.Common.{◌≡◌, ℕ, zero, suc, ◌+◌, ◌-◌, ◌*◌, ◌<◌, ◌≤◌, Bool, true, false, cond, List, [], ◌∷◌, ◌++◌, length, take, drop, map, replicate, get_or, Option, Some, None, All, refl, ap, ap₂, sym, ◌∙◌, arith}
+use Rattle.std.proofs.Common.{◌≡◌, ℕ, zero, suc, ◌+◌, ◌*◌, ◌<◌, ◌≤◌, Bool, true, false, cond, List, [], ◌∷◌, ◌++◌, length, take, map, replicate, get_or, Option, Some, None, refl, ap, ap₂, sym, ◌∙◌, arith}
 use Rattle.std.specs.List.{flat_map}
 use Rattle.std.proofs.lemmas.List.{append-nil, length-take-le, take_all, take_more}
 use Rattle.std.proofs.Math.Nat.{mul_comm}
@@ -7,16 +7,17 @@ use Rattle.std.proofs.lemmas.List.Concat.{flat_map-append}
 use Rattle.std.proofs.lemmas.List.Elements.{All-replicate}
 use Rattle.std.proofs.lemmas.Slice.{take-put_mid}
 use borrow.Rule.Slice.PartMut.{put_mid}
+use Rattle.p25_bits.specs.Bits.{bits_of, field_of, part}
+use Rattle.p25_bits.proofs.NumbersLaws.{bits_of-field}
 use Rattle.p25_code.specs.declared.code.Reading.{Reading}
 use Rattle.p25_code.specs.declared.code.Reading.TheVariants.{Found, Beyond}
 use Rattle.p25_code.specs.Readings.{word_read}
 use Rattle.p25_code.specs.Marks.{marked}
 use Rattle.p25_code.proofs.MarkedLaws.{marked-plain}
 use Rattle.p25_gf64.specs.declared.symbol.Sym.{Sym}
-use Rattle.p25_fields.specs.Symbols.{symbols_in}
+use Rattle.p25_link.specs.Symbols.{symbols_in}
 use Rattle.p25_fields.specs.Layouts.{marks_of}
-use Rattle.p25_fields.proofs.SymbolsLaws.{symbols_in-take}
-use Rattle.p25_fields.proofs.SymbolsSteps.{one_more}
+use Rattle.p25_fields.proofs.SymbolsSteps.{one_more, symbols_in-take}
 
 -- a word that is read gives the symbols of its information
 pub marks_of-some : (each : ℕ) (word : List Bool) → marks_of each (Some word) ≡ map Some (symbols_in each word)
@@ -48,6 +49,18 @@ marked-append [] ys (e ∷ es) fs long = absurd (omega arith)
 marked-append (x ∷ xs) ys [] fs long = absurd (omega arith)
 marked-append (x ∷ xs) ys (e ∷ es) fs long = let rest : length xs ≡ length es = omega arith in ap (λ list. cond e None (Some x) ∷ list) (marked-append xs ys es fs rest)
 
+-- the bits at a place, by way of the number that they write
+pub bits_taken : (n width value at : ℕ) (front : ℕ) (buffer plain new : List Bool) → new ≡ bits_of (length (take front buffer)) value → front ≡ n → n ≤ length buffer → value ≡ field_of (part at width plain) → width ≡ n
+    → at + n ≤ length plain → new ≡ part at n plain
+bits_taken n width value at front buffer plain new made cut fits is same there =
+    made
+    ∙ ap₂ bits_of (ap (λ k. length (take k buffer)) cut ∙ length-take-le n buffer fits) (is ∙ ap (λ k. field_of (part at k plain)) same)
+    ∙ bits_of-field n at plain there
+
+-- the length of the front of a buffer
+pub cut_long : {X : Type 0} (n : ℕ) (buffer xs : List X) → length xs ≡ length (take n buffer) → n ≤ length buffer → length xs ≡ n
+cut_long n buffer xs same fits = same ∙ length-take-le n buffer fits
+
 -- an inner word was read
 pub inner_found : (each k fixes : ℕ) (word : List Bool) (value : Option (List Bool)) (answer : Reading) (symbols : List Sym) (erased : List Bool) → 6 * each ≡ k → k ≤ length word → answer ≡ Found fixes → word_read answer word ≡ value
     → symbols ≡ symbols_in each (take k word) → erased ≡ replicate each false → marked symbols erased ≡ marks_of each value
@@ -76,7 +89,7 @@ marked_before each word erased =
     ap₂ (λ m n. marked (take m word) (take n erased)) none none ∙ marked-nil []
 
 -- one more place
-pub marked_next : {L : Type 0} (f : ℕ → List (Option L)) (places : List ℕ) (each i k at : ℕ) (word xs : List L) (erased es : List Bool) → i < length places → at ≡ get_or places i at → each * i + each ≤ length word → length erased ≡ length word
+pub marked_next : {L : Type 0} (f : ℕ → List (Option L)) (places : List ℕ) (each i k at : ℕ) (word xs : List L) (erased es : List Bool) → i < length places → at ≡ get_or places i 0 → each * i + each ≤ length word → length erased ≡ length word
     → length xs ≡ each → length es ≡ each → marked (take (each * i) word) (take (each * i) erased) ≡ flat_map f (take i places) → marked xs es ≡ f at
     → marked (take (each * (i + 1)) (put_mid (each * i) k word xs)) (take (each * (i + 1)) (put_mid (each * i) k erased es)) ≡ flat_map f (take (i + 1) places)
 marked_next f places each i k at word xs erased es inside read there same long_x long_e before is =
@@ -85,7 +98,7 @@ marked_next f places each i k at word xs erased es inside read there same long_x
     let fits_x : each * i ≤ length word = omega arith in
     let fits_e : each * i ≤ length erased = omega arith in
     let even : length (take (each * i) word) ≡ length (take (each * i) erased) = length-take-le (each * i) word fits_x ∙ sym (length-take-le (each * i) erased fits_e) in
-    let more : take (i + 1) places ≡ take i places ++ at ∷ [] = take_more places i at inside ∙ ap (λ x. take i places ++ x ∷ []) (sym read) in
+    let more : take (i + 1) places ≡ take i places ++ at ∷ [] = take_more places i 0 inside ∙ ap (λ x. take i places ++ x ∷ []) (sym read) in
     ap₂ marked (take-put_mid (each * i) k word xs (each * (i + 1)) next_x fits_x) (take-put_mid (each * i) k erased es (each * (i + 1)) next_e fits_e)
     ∙ marked-append (take (each * i) word) xs (take (each * i) erased) es even
     ∙ ap₂ (λ (us vs : List (Option _)). us ++ vs) before (is ∙ sym (append-nil (f at)))

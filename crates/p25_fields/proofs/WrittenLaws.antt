@@ -1,20 +1,19 @@
 -- What a writer of fields appends, word by word: the words written stay, the next one stands behind them; and for a function that
 -- encodes, all of them are its values, since no other word has the same information.
-use Rattle.std.proofs.Common.{◌≡◌, ℕ, ◌+◌, ◌-◌, ◌*◌, ◌<◌, ◌≤◌, inl, inr, Bool, List, ◌++◌, length, take, drop, refl, ap, ap₂, sym, ◌∙◌, subst, arith, length-append}
+use Rattle.std.proofs.Common.{◌≡◌, ℕ, ◌+◌, ◌-◌, ◌*◌, ◌<◌, ◌≤◌, inl, inr, Bool, List, ◌++◌, length, take, drop, ap, ap₂, sym, ◌∙◌, subst, arith, length-append}
 use Rattle.std.proofs.Math.Nat.{mul-le-mul_left}
 use Rattle.std.proofs.lemmas.Bool.{cases_lt}
-use Rattle.std.proofs.lemmas.List.{take-append-drop, take_all, take_at, take-append-le, append-nil}
+use Rattle.std.proofs.lemmas.List.{take-append-drop, take_all, take-append-le}
 use Rattle.p25_bits.specs.Bits.{part}
-use Rattle.p25_bits.specs.Numbers.{joined_below}
 use Rattle.p25_bits.proofs.PartLaws.{length-part, part_left, part_last, drop-is_part}
 use Rattle.p25_bits.proofs.NumbersLaws.{joined_below-same, joined_below-parts}
 use Rattle.p25_code.specs.Words.{IsEncoding}
 use Rattle.p25_gf64.specs.declared.symbol.Sym.{Sym}
-use Rattle.p25_fields.specs.Symbols.{symbol_bits}
+use Rattle.p25_link.specs.Symbols.{symbol_bits}
 use Rattle.p25_fields.specs.Layouts.{field_bits}
 use Rattle.p25_fields.specs.Written.{Encodes, IsPut, IsWritten}
-use Rattle.p25_fields.proofs.SymbolsLaws.{length-symbol_bits}
-use Rattle.p25_fields.proofs.SymbolsSteps.{one_more}
+use Rattle.p25_link.proofs.SymbolsLaws.{length-symbol_bits}
+use Rattle.p25_fields.proofs.SymbolsSteps.{one_more, room_at}
 
 module _ {IsWord : List Bool → Type 0} where
   -- before the first word
@@ -66,8 +65,7 @@ module _ {IsWord : List Bool → Type 0} where
     where
       same : (j : ℕ) → j < count → part (length old + size * j) size new ≡ encoding (symbol_bits (part (each * j) each symbols))
       same j inside =
-          let next : j + 1 ≤ count = omega arith in
-          let there : each * j + each ≤ length symbols = omega (arith, one_more each j, mul-le-mul_left each next) in
+          let there = room_at each j count (length symbols) inside covers in
           let group = part (each * j) each symbols in
           let long : length (symbol_bits group) ≡ k = length-symbol_bits group ∙ ap (λ n. 6 * n) (length-part (each * j) each symbols there) ∙ sixes in
           let here = is.words j inside in

@@ -4,7 +4,7 @@ use Rattle.std.specs.List.{flat_map}
 use Rattle.p25_bits.specs.Bits.{part}
 use Rattle.p25_bits.specs.Numbers.{joined_below}
 use Rattle.p25_gf64.specs.declared.symbol.Sym.{Sym}
-use Rattle.p25_fields.specs.Symbols.{symbols_in, symbol_bits}
+use Rattle.p25_link.specs.Symbols.{symbols_in, symbol_bits}
 
 -- where the inner words of a field stand, how many bits one has and how many symbols its information is, how inner and outer
 -- words are read, and how many symbols of the outer word are the information

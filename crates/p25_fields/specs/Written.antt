@@ -3,7 +3,7 @@ use Rattle.std.specs.Prelude.{◌≡◌, ℕ, ◌+◌, ◌*◌, ◌<◌, Bool, L
 use Rattle.p25_bits.specs.Bits.{part}
 use Rattle.p25_code.specs.Words.{IsEncoding}
 use Rattle.p25_gf64.specs.declared.symbol.Sym.{Sym}
-use Rattle.p25_fields.specs.Symbols.{symbol_bits}
+use Rattle.p25_link.specs.Symbols.{symbol_bits}
 
 -- a function that encodes: of each information of k bits it is a word of the set that begins with it
 abbrev pub Encodes : (List Bool → Type 0) → ℕ → (List Bool → List Bool) → Type 0

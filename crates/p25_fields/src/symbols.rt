@@ -1,7 +1,7 @@
 //! Symbols and the bits that write them.
 
 ghost use Rattle.std.specs.Prelude.{◌≡◌, ◌*◌, length};
-ghost use Rattle.p25_fields.specs.Symbols.{symbol_in, symbols_in, symbol_bits};
+ghost use Rattle.p25_link.specs.Symbols.{symbol_in, symbols_in, symbol_bits};
 
 use p25_bits::{number_of, put_number};
 use p25_gf64::Sym;

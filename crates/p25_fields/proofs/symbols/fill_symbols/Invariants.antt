@@ -1,5 +1,5 @@
 use Rattle.std.proofs.Common.{◌≡◌, take}
-use Rattle.p25_fields.specs.Symbols.{symbols_in}
+use Rattle.p25_link.specs.Symbols.{symbols_in}
 use Rattle.p25_fields.proofs.symbols.fill_symbols.Given as goal
 
 abbrev pub invariant-loop-i : goal.invariant-loop-i
