@@ -1,0 +1,4 @@
+pub mod SymbolsSteps
+pub mod ReadSteps
+pub mod WrittenLaws
+pub mod WithinLaws
