@@ -44,4 +44,12 @@ impl Voice {
     {
         self.frames[i]
     }
+
+    /// Answers all nine frames, in order.
+    pub fn frames(&self) -> &[VoiceFrame; 9]
+        ensures value { result.now ≡ self.now }
+        ensures len { length self.now ≡ 9 }
+    {
+        &self.frames
+    }
 }
