@@ -9,3 +9,4 @@ pub mod ListSteps
 pub mod ErrorsSteps
 pub mod CostLaws
 pub mod WrongSteps
+pub mod EncodingLaws

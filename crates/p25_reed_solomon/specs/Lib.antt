@@ -7,3 +7,4 @@ pub mod ElementFacts
 pub mod DistanceFacts
 pub mod WordLaws
 pub mod RsReadings
+pub mod Encoding

@@ -1,3 +1,4 @@
+pub mod Layouts
 pub mod Lengths
 pub mod Images
 pub mod Readings

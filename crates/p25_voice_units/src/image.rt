@@ -24,6 +24,7 @@ pub fn voice_image(nac: u16, unit: &VoiceUnit, out: &mut BitBuf)
     put_front(&identifier(nac, unit.duid()), out);
     match unit {
         VoiceUnit::End => out.put_field(0, END_NULLS),
+        _ => {}
     }
 }
 
