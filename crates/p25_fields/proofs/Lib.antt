@@ -2,3 +2,4 @@ pub mod SymbolsSteps
 pub mod ReadSteps
 pub mod WrittenLaws
 pub mod WithinLaws
+pub mod FieldLaws

@@ -16,7 +16,7 @@ use Rattle.p25_code.specs.Marks.{marked}
 use Rattle.p25_code.proofs.MarkedLaws.{marked-plain}
 use Rattle.p25_gf64.specs.declared.symbol.Sym.{Sym}
 use Rattle.p25_link.specs.Symbols.{symbols_in}
-use Rattle.p25_fields.specs.Layouts.{marks_of}
+use Rattle.p25_fields.specs.Layouts.{Layout, marks_of, received_in, outer_word_of}
 use Rattle.p25_fields.proofs.SymbolsSteps.{one_more, symbols_in-take}
 
 -- a word that is read gives the symbols of its information
@@ -115,3 +115,9 @@ marked_whole f places each i word erased past covers same most is =
     let fits_e : length erased ≤ each * i = omega arith in
     let fits : length places ≤ i = omega arith in
     ap₂ marked (sym (take_all (each * i) word fits_x)) (sym (take_all (each * i) erased fits_e)) ∙ is ∙ ap (flat_map f) (take_all i places fits)
+
+-- the outer word, from the symbols and marks of all places
+pub outer_read : (layout : Layout) (bits : List Bool) (list : List (Option Sym)) (value : Option (List Sym)) → value ≡ layout.outer_reading list
+    → list ≡ flat_map (λ at. marks_of layout.each (layout.inner_reading (part at layout.size bits))) layout.places → value ≡ outer_word_of layout bits
+unfolding outer_word_of received_in
+outer_read layout bits list value read is = read ∙ ap layout.outer_reading is

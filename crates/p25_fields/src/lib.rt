@@ -22,6 +22,8 @@
 mod put;
 mod read;
 mod symbols;
+#[cfg(test)]
+mod tests;
 
 pub use put::put_field;
 pub use read::read_field;

@@ -1,9 +1,9 @@
 use Rattle.std.proofs.Common.{◌≡◌, ◌+◌, ◌*◌, ◌/◌, ◌≤◌, length, get_or, refl, sym, subst, ap, ◌∙◌, arith}
 use Rattle.std.proofs.Math.Nat.{mul_comm}
 use Rattle.p25_bits.specs.Bits.{part}
-use Rattle.p25_fields.specs.Layouts.{marks_of, received_in, outer_word_of}
+use Rattle.p25_fields.specs.Layouts.{field_layout, marks_of}
 use Rattle.p25_fields.proofs.SymbolsSteps.{length_group, room_at}
-use Rattle.p25_fields.proofs.ReadSteps.{cut_long, marked_before, marked_next, marked_whole}
+use Rattle.p25_fields.proofs.ReadSteps.{cut_long, outer_read, marked_before, marked_next, marked_whole}
 use Rattle.p25_fields.proofs.read.read_field.Goals as goal
 
 pub loop-i-init : goal.loop-i-init
@@ -29,7 +29,6 @@ loop-i-preserved g c =
     (c.read_inner.ensures ∙ ap (λ n. marks_of n (b.reading_is (part (get_or places i 0) b.N c.args.plain.now))) (length_group each i c.loop-i.word there ∙ group))
 
 pub returns : goal.returns
-unfolding received_in outer_word_of
 returns g c =
     let b = g.I.BlockCode in
     let places = c.args.places.now in
@@ -40,4 +39,4 @@ returns g c =
     let same : length c.loop-i.erased ≡ length c.loop-i.word = cut ∙ sym c.loop-i.auto.word in
     let whole
     = marked_whole (λ at. marks_of (b.K / 6) (b.reading_is (part at b.N c.args.plain.now))) places each c.loop-i.i c.loop-i.word c.loop-i.erased (omega arith) covers same (omega arith) c.loop-i.invariant in
-    c.read_marked.ensures.value ∙ ap g.O.ErasedCode.marked_reading_is whole
+    outer_read (field_layout places b.N (b.K / 6) b.reading_is g.O.ErasedCode.marked_reading_is g.O.BlockCode.K) c.args.plain.now _ _ c.read_marked.ensures.value whole
