@@ -1,2 +1,5 @@
+pub mod CodesLaws
+pub mod LengthsLaws
+pub mod SendableLaws
 pub mod VoiceLaws
 pub mod ImageSteps
