@@ -7,5 +7,5 @@ use Rattle.p25_voice_units.proofs.image.put_rows.Given as goal
 abbrev pub invariant-loop-row : goal.invariant-loop-row
 invariant-loop-row g l =
     ((encoding : List Bool → List Bool) → Encodes g.I.BlockCode.IsWord g.I.BlockCode.K encoding
-        → l.out ≡ l.initial.out ++ rows_bits (contents encoding (g.I.BlockCode.K / 6) l.symbols l.low l.frames) (take l.row-index l.rows))
+    → l.out ≡ l.initial.out ++ rows_bits (contents encoding (g.I.BlockCode.K / 6) l.symbols l.low l.frames) (take l.row-index l.rows))
     × (length l.out ≡ length l.initial.out + sum_by (λ row. piece_length g.I.BlockCode.N row.1) (take l.row-index l.rows))
