@@ -17,7 +17,7 @@ use Rattle.p25_algebra.specs.Series.{coefficient, value_at, shifted, IsShort}
 use Rattle.p25_algebra.proofs.ValueLaws.{value_same}
 use Rattle.p25_algebra.proofs.ProductValueLaws.{value-add}
 use Rattle.p25_algebra.proofs.ProductLaws.{shifted_from}
-use Rattle.p25_poly.proofs.Coefficients.{nothing_added}
+use Rattle.p25_poly.proofs.CoefficientLaws.{nothing_added}
 use Rattle.p25_reed_solomon.specs.Words.{IsCode, IsWord}
 use Rattle.p25_reed_solomon.specs.Encoding.{generator_of, reduced, rs_word}
 use Rattle.p25_reed_solomon.specs.WordLaws.{one_word_of}
