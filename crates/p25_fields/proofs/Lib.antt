@@ -3,3 +3,4 @@ pub mod ReadSteps
 pub mod WrittenLaws
 pub mod WithinLaws
 pub mod FieldLaws
+pub mod CodesLaws

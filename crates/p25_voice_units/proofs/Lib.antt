@@ -1,2 +1,4 @@
 pub mod VoiceLaws
 pub mod ImageSteps
+pub mod KindsLaws
+pub mod ReadSteps

@@ -16,6 +16,7 @@
 mod image;
 mod laws;
 mod layout;
+mod places;
 mod read;
 #[cfg(test)]
 mod tests;
@@ -24,6 +25,7 @@ mod voice;
 
 pub use image::voice_image;
 pub use laws::voice_laws;
+pub use places::part_places;
 pub use layout::{END_LINK_ROWS, END_ROWS, HEADER_ROWS, LINK_ROWS, Piece, layouts};
 pub use read::read_voice;
 pub use unit::{VoiceUnit, voice_length};
