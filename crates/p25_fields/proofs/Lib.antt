@@ -4,3 +4,4 @@ pub mod WrittenLaws
 pub mod WithinLaws
 pub mod FieldLaws
 pub mod CodesLaws
+pub mod FieldWordsLaws

@@ -1,6 +1,5 @@
 -- How many bits the pieces of a layout have, and which of them there is something for.
-use Rattle.std.specs.Prelude.{ℕ, ◌+◌, ◌*◌, Bool, true, nat_le, nat_lt, List, sum_by}
-use Rattle.std.specs.List.{list_all}
+use Rattle.std.specs.Prelude.{ℕ, ◌+◌, ◌*◌, Bool, nat_le, nat_lt}
 use Rattle.p25_voice_units.specs.declared.layout.Piece.{Piece}
 use Rattle.p25_voice_units.specs.declared.layout.Piece.TheVariants.{Words, Frame, LowSpeed, Nulls}
 
@@ -11,9 +10,9 @@ piece_length size (Frame i) = 144
 piece_length size (LowSpeed i) = 16
 piece_length size (Nulls count) = count
 
--- there are so many inner words, so many octets of low speed data and so many voice frames, or more
-abbrev pub piece_fits : ℕ → ℕ → ℕ → Piece → Bool
-piece_fits words low frames (Words first count) = nat_le (first + count) words
-piece_fits words low frames (Frame i) = nat_lt i frames
-piece_fits words low frames (LowSpeed i) = nat_lt i low
-piece_fits words low frames (Nulls count) = nat_le count 64
+-- there are enough symbols, `each` for an inner word, enough octets of low speed data and enough voice frames
+abbrev pub piece_fits : ℕ → ℕ → ℕ → ℕ → Piece → Bool
+piece_fits each symbols low frames (Words first count) = nat_le (each * first + each * count) symbols
+piece_fits each symbols low frames (Frame i) = nat_lt i frames
+piece_fits each symbols low frames (LowSpeed i) = nat_lt i low
+piece_fits each symbols low frames (Nulls count) = nat_le count 64

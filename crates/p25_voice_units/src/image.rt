@@ -1,6 +1,6 @@
 //! Voice units as bits.
 
-ghost use Rattle.std.specs.Prelude.{◌≡◌, ◌+◌, ◌*◌, ◌/◌, ◌<◌, ◌≤◌, ◌++◌, Bool, List, Some, true, length, sum_by};
+ghost use Rattle.std.specs.Prelude.{All, ◌≡◌, ◌+◌, ◌*◌, ◌/◌, ◌<◌, ◌≤◌, ◌++◌, Bool, List, Some, true, length, sum_by};
 ghost use Rattle.std.specs.List.{list_all};
 ghost use Rattle.p25_fields.specs.Written.{Encodes};
 ghost use Rattle.p25_bits.specs.Bits.{bits_of, octet_bits};
@@ -25,14 +25,13 @@ use p25_hamming::{Hamming10, Lsd16};
 use p25_link::{EncryptionSync, HeaderWord, LinkControl};
 use p25_reed_solomon::Rs;
 
-// Appends the bits of a voice frame.
-fn put_frame(frame: &VoiceFrame, out: &mut BitBuf)
+// Appends the octets of a voice frame.
+fn put_frame(octets: &[u8; 18], out: &mut BitBuf)
     requires { length out.old + 144 ≤ 25928 }
-    ensures list { out.new ≡ out.old ++ octet_bits frame.now.0 }
+    ensures list { out.new ≡ out.old ++ octet_bits octets.now }
     ensures len { length out.new ≡ length out.old + 144 }
-    ensures frame { IsVoiceFrame frame.now }
 {
-    out.put_numbers(&frame.0, 8);
+    out.put_numbers(octets, 8);
 }
 
 // Appends the low speed word of an octet.
@@ -59,7 +58,7 @@ fn put_piece<I: BlockCode<Letter = bool>>(
     requires code { I.HasCode }
     requires small { I.N ≤ 24 }
     requires sixes { 6 * (I.K / 6) ≡ I.K }
-    requires fits { piece_fits (length symbols.now / (I.K / 6)) (length low.now) (length frames.now) piece ≡ true }
+    requires fits { piece_fits (I.K / 6) (length symbols.now) (length low.now) (length frames.now) piece ≡ true }
     requires room { length out.old + piece_length I.N piece ≤ 25928 }
     ensures list { (encoding : List Bool → List Bool) → Encodes I.IsWord I.K encoding
         → out.new ≡ out.old ++ piece_bits (contents encoding (I.K / 6) symbols.now low.now frames.now) piece }
@@ -71,7 +70,7 @@ fn put_piece<I: BlockCode<Letter = bool>>(
             let start = each * first;
             put_field::<I>(&symbols[start..start + each * count], count, out);
         }
-        Piece::Frame(i) => put_frame(&frames[i], out),
+        Piece::Frame(i) => put_frame(&frames[i].0, out),
         Piece::LowSpeed(i) => put_low(low[i], out),
         Piece::Nulls(count) => out.put_field(0, count as u32),
     }
@@ -88,7 +87,7 @@ fn put_rows<I: BlockCode<Letter = bool>>(
     requires code { I.HasCode }
     requires small { I.N ≤ 24 }
     requires sixes { 6 * (I.K / 6) ≡ I.K }
-    requires fits { list_all (λ row. piece_fits (length symbols.now / (I.K / 6)) (length low.now) (length frames.now) row.1) rows.now ≡ true }
+    requires fits { list_all (λ row. piece_fits (I.K / 6) (length symbols.now) (length low.now) (length frames.now) row.1) rows.now ≡ true }
     requires room { length out.old + sum_by (λ row. piece_length I.N row.1) rows.now ≤ 25928 }
     ensures list { (encoding : List Bool → List Bool) → Encodes I.IsWord I.K encoding
         → out.new ≡ out.old ++ rows_bits (contents encoding (I.K / 6) symbols.now low.now frames.now) rows.now }
@@ -160,20 +159,43 @@ fn put_end_link(link: &LinkControl, out: &mut BitBuf)
     put_rows::<Golay24>(&END_LINK_ROWS, &symbols, &[], &[], out);
 }
 
-// Does nothing: its contract says what a frame keeps.
+// Does nothing: its contract says that octets fit.
+fn fit(octets: &[u8])
+    ensures { All (λ octet. octet < 256) octets.now }
+{
+    let _ = octets.len();
+}
+
+// Does nothing: its contract says what a voice frame keeps.
 fn fit_frame(frame: &VoiceFrame)
     ensures { IsVoiceFrame frame.now }
 {
-    let _ = frame.0.len();
+    fit(&frame.0);
 }
 
 // Does nothing: its contract says what low speed data and voice keep.
 fn fit_speech(low: &[u8; 2], voice: &Voice)
     ensures { IsSpeech low.now voice.now }
 {
-    let _ = low.len();
+    fit(low);
     for frame in voice.frames() {
         fit_frame(frame);
+    }
+}
+
+// Appends what stands behind the front of a unit.
+fn put_body(unit: &VoiceUnit, out: &mut BitBuf)
+    requires { length out.old ≡ 112 }
+    ensures list { out.new ≡ out.old ++ voice_body unit.now }
+    ensures len { voice_length_of (voice_duid unit.now) ≡ Some (length out.new) }
+    ensures sendable { IsSendableVoice unit.now }
+{
+    match unit {
+        VoiceUnit::Header(word) => put_header(word, out),
+        VoiceUnit::Link1 { link, low, voice } => put_link1(link, low, voice, out),
+        VoiceUnit::Link2 { sync, low, voice } => put_link2(sync, low, voice, out),
+        VoiceUnit::End => put_end(out),
+        VoiceUnit::EndLink { link } => put_end_link(link, out),
     }
 }
 
@@ -187,13 +209,7 @@ pub fn voice_image(nac: u16, unit: &VoiceUnit, out: &mut BitBuf)
 {
     out.clear();
     put_front(&identifier(nac, unit.duid()), out);
-    match unit {
-        VoiceUnit::Header(word) => put_header(word, out),
-        VoiceUnit::Link1 { link, low, voice } => put_link1(link, low, voice, out),
-        VoiceUnit::Link2 { sync, low, voice } => put_link2(sync, low, voice, out),
-        VoiceUnit::End => put_end(out),
-        VoiceUnit::EndLink { link } => put_end_link(link, out),
-    }
+    put_body(unit, out);
 }
 
 // The identifier of a NAC and a DUID.

@@ -24,7 +24,7 @@ mod unit;
 mod voice;
 
 pub use image::voice_image;
-pub use laws::voice_laws;
+pub use laws::image_laws;
 pub use places::part_places;
 pub use layout::{END_LINK_ROWS, END_ROWS, HEADER_ROWS, LINK_ROWS, Piece, layouts};
 pub use read::read_voice;
