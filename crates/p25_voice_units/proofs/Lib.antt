@@ -1,7 +1,6 @@
 pub mod CodesLaws
 pub mod LengthsLaws
 pub mod SendableLaws
-pub mod VoiceLaws
 pub mod ImageSteps
 pub mod KindsLaws
 pub mod ReadSteps

@@ -4,6 +4,7 @@ use Rattle.p25_fields.specs.Layouts.{places_from, field_reading_of}
 use Rattle.p25_fields.proofs.CodesLaws.{all_end}
 use Rattle.p25_voice_units.specs.FieldLayouts.{word_places, header_layout}
 use Rattle.p25_voice_units.specs.Readings.{header_in}
+use Rattle.p25_voice_units.proofs.CodesLaws.{header_code}
 use Rattle.p25_voice_units.proofs.ReadSteps.{part_some, part_none}
 use Rattle.p25_voice_units.proofs.read.read_header_word.Goals as goal
 
@@ -17,12 +18,5 @@ unfolding header_in word_places places_from
 returns-in-None c = part_none header_of_symbols c.read_symbols.result (field_reading_of header_layout c.args.plain.now) c.in-None.is c.read_symbols.ensures
 
 pub read_symbols-requires : goal.read_symbols-requires
-read_symbols-requires c = record {
-  code = search rules;
-  outer = search rules;
-  small = search rules;
-  sixes = search rules;
-  short = search rules;
-  places = search rules;
-  there = all_end 18 770 (length c.args.plain.now) _ refl c.requires;
-}
+read_symbols-requires c =
+    (search rules, (tt, (header_code, (search rules, (refl, (search rules, (refl, (all_end 18 770 (length c.args.plain.now) _ refl c.requires)))))))

@@ -1,5 +1,7 @@
-use Rattle.std.proofs.Common.{length, Ok, refl, arith}
-use Rattle.p25_voice_units.proofs.KindsLaws.{length-header, length-link1, length-link2, length-end_link, long_by_kind, reading-header, reading-end, reading-link1, reading-link2, reading-end_link, reading_by_kind}
+use Rattle.std.proofs.Common.{◌≡◌, length, Some, None, Ok, refl, sym, ◌∙◌, arith}
+use Rattle.p25_voice_units.specs.Lengths.{voice_length_of}
+use Rattle.p25_voice_units.proofs.LengthsLaws.{length-header, length-link1, length-link2, length-end_link, length-other}
+use Rattle.p25_voice_units.proofs.KindsLaws.{long_by_kind, reading-header, reading-end, reading-link1, reading-link2, reading-end_link, reading_by_kind}
 use Rattle.p25_voice_units.proofs.read.read_voice.Goals as goal
 
 pub read_header-requires : goal.read_header-requires
@@ -30,4 +32,8 @@ pub returns-in-15 : goal.returns-in-15
 returns-in-15 c = reading_by_kind c.args.duid 15 c.args.plain.now c.read_end_link.result _ c.in-15.is c.read_end_link.ensures (reading-end_link c.args.plain.now)
 
 pub returns-in_default : goal.returns-in_default
-returns-in_default c = ?
+returns-in_default c =
+    let none : voice_length_of c.args.duid ≡ None
+    = length-other c.args.duid (λ is. omega arith) (λ is. omega arith) (λ is. omega arith) (λ is. omega arith) (λ is. omega arith) in
+    let both : None ≡ Some (length c.args.plain.now) = sym none ∙ c.requires in
+    absurd (cc)
