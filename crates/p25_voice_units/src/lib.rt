@@ -14,6 +14,8 @@
 #![tactic(auto)]
 
 mod image;
+#[cfg(test)]
+mod image_tests;
 mod laws;
 mod layout;
 mod places;

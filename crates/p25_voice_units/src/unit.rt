@@ -55,6 +55,7 @@ impl VoiceUnit {
     }
 
     /// Answers how many bits the unit has without status symbols.
+    #[tactic(auto, unfolding(crate::specs::Lengths::voice_length_of))]
     pub fn length(&self) -> usize
         ensures value { voice_length_of (voice_duid self.now) ≡ Some result }
         ensures most { result ≤ 1680 }
@@ -71,6 +72,7 @@ impl VoiceUnit {
 /// Answers how many bits a voice unit with a data unit identifier has without status symbols: 770 for a header (0), 1,680
 /// for voice with link control (5) or encryption sync (A hex), 140 for a terminator (3), and 420 for one with link control
 /// (F hex). `None` comes exactly where the identifier is that of no voice unit.
+#[tactic(auto, unfolding(crate::specs::Lengths::voice_length_of))]
 pub fn voice_length(duid: u8) -> Option<usize>
     ensures { result ≡ voice_length_of duid }
 {
