@@ -27,8 +27,8 @@ mod voice;
 
 pub use image::voice_image;
 pub use laws::image_laws;
-pub use places::part_places;
 pub use layout::{END_LINK_ROWS, END_ROWS, HEADER_ROWS, LINK_ROWS, Piece, layouts};
+pub use places::part_places;
 pub use read::read_voice;
 pub use unit::{VoiceUnit, voice_length};
 pub use voice::{Voice, VoiceFrame};
