@@ -8,3 +8,7 @@ pub mod RowsLaws
 pub mod FieldRowsLaws
 pub mod FormLaws
 pub mod ImagesLaws
+pub mod FieldCodesLaws
+pub mod ReadingLaws
+pub mod RadiusLaws
+pub mod FixesLaws
