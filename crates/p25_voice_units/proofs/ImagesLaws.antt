@@ -1,7 +1,6 @@
 -- The images of voice units, by their kinds: what each carries suits its rows, as tests of the layouts say, so a unit's bits are those
 -- that stand as its layout says and carry its field.
-use Rattle.std.proofs.Common.{◌≡◌, ◌↔◌, ℕ, ◌+◌, ◌*◌, ◌%◌, ◌≤◌, Bool, List, [], ◌∷◌, ◌++◌, length, All, Option, Some, None, refl, ap, ap₂, sym, subst, ◌∙◌, inl, inr, arith, lit≤}
-use Rattle.std.proofs.lemmas.Bool.{cases_eq}
+use Rattle.std.proofs.Common.{◌≡◌, ◌↔◌, ℕ, Bool, List, [], ◌++◌, length, All, Some, refl, ap, ap₂, sym, ◌∙◌, arith, lit≤}
 use Rattle.std.proofs.lemmas.List.Elements.{All-nil}
 use Rattle.p25_code.specs.Words.{IsEncoding}
 use Rattle.p25_hamming.specs.Hamming10.{IsHamming10}
