@@ -10,14 +10,14 @@ use Rattle.p25_gf64.specs.declared.symbol.Sym.{Sym}
 use Rattle.p25_gf64.specs.Field.{power}
 use Rattle.p25_gf64.specs.Symbol.{alpha}
 use Rattle.p25_gf64.specs.Gf64.{gf64}
-use Rattle.p25_gf64.proofs.FieldFacts.{add_zero, add_self, mul_one}
-use Rattle.p25_gf64.proofs.Powers.{power_ne_zero}
-use Rattle.p25_gf64.proofs.Symbols.{alpha_ne_zero}
+use Rattle.p25_gf64.proofs.FieldLaws.{add_zero, add_self, mul_one}
+use Rattle.p25_gf64.proofs.PowerLaws.{power_ne_zero}
+use Rattle.p25_gf64.proofs.SymbolLaws.{alpha_ne_zero}
 use Rattle.p25_algebra.specs.Series.{coefficient, value_at, shifted, IsShort}
-use Rattle.p25_algebra.proofs.Values.{value_same}
-use Rattle.p25_algebra.proofs.ProductValues.{value-add}
-use Rattle.p25_algebra.proofs.Products.{shifted_from}
-use Rattle.p25_poly.proofs.Coefficients.{nothing_added}
+use Rattle.p25_algebra.proofs.ValueLaws.{value_same}
+use Rattle.p25_algebra.proofs.ProductValueLaws.{value-add}
+use Rattle.p25_algebra.proofs.ProductLaws.{shifted_from}
+use Rattle.p25_poly.proofs.CoefficientLaws.{nothing_added}
 use Rattle.p25_reed_solomon.specs.Words.{IsCode, IsWord}
 use Rattle.p25_reed_solomon.specs.Encoding.{generator_of, reduced, rs_word}
 use Rattle.p25_reed_solomon.specs.WordLaws.{one_word_of}

@@ -8,7 +8,7 @@ use Rattle.std.proofs.lemmas.List.Sums.{AllPass-from_list_all}
 use Rattle.std.proofs.lemmas.List.{get_or_default}
 use Rattle.p25_bits.specs.Bits.{part}
 use Rattle.p25_code.specs.Words.{IsEncoding}
-use Rattle.p25_status.proofs.Parts.{front}
+use Rattle.std.proofs.lemmas.List.{take_at}
 use Rattle.p25_gf64.specs.declared.symbol.Sym.{Sym}
 use Rattle.p25_link.specs.Symbols.{symbol_bits}
 use Rattle.p25_front.specs.Front.{unit_front, IsFront}
@@ -23,13 +23,13 @@ use Rattle.p25_voice_units.specs.FieldLayouts.{word_places}
 use Rattle.p25_voice_units.specs.Pieces.{piece_length}
 use Rattle.p25_voice_units.specs.Images.{Contents, piece_bits, rows_bits}
 use Rattle.p25_voice_units.specs.Places.{HasPiece, IsLaidOut}
-use Rattle.p25_voice_units.proofs.RowsLaws.{IsCarried, rows_length, rows_stand, rows_fit, length-rows_bits, rows_parts, rows_only}
+use Rattle.p25_voice_units.proofs.RowsLaws.{IsCarried, rows_length, rows_stand, rows_supplied, length-rows_bits, rows_parts, rows_only}
 use Rattle.p25_voice_units.proofs.FieldRowsLaws.{rows_counted, group_word, words_from_rows, rows_from_words, rows_have}
 
 -- rows that suit what is carried: they follow the front end to end, and number its inner words in order
 pub record AreRows (size count : ℕ) (carried : Contents) (rows : List (ℕ × Piece)) : Type 0 where
   pub stand : rows_stand size 112 rows ≡ true
-  pub fit : rows_fit carried.each (length carried.symbols) (length carried.low) (length carried.voice) rows ≡ true
+  pub fit : rows_supplied carried.each (length carried.symbols) (length carried.low) (length carried.voice) rows ≡ true
   pub counted : rows_counted 0 rows ≡ true
   pub fill : count ≡ 112 + rows_length size rows
 
@@ -54,7 +54,7 @@ module _ {IsWord : List Bool → Type 0} {size k : ℕ} {carried : Contents} (ca
   pub laid_out : (nac duid : ℕ) (plain : List Bool) → plain ≡ unit_front nac duid ++ rows_bits carried rows → IsLaidOut nac duid count rows carried.low carried.voice plain
   laid_out nac duid plain is = record {
     long = ap length is ∙ length-unit nac duid;
-    front = subst (λ (xs : List Bool). IsFront nac duid xs) (sym (ap (take 112) is ∙ front 112 (unit_front nac duid) (rows_bits carried rows) (length-unit_front nac duid))) (IsFront-unit_front nac duid);
+    front = subst (λ (xs : List Bool). IsFront nac duid xs) (sym (ap (take 112) is ∙ take_at (unit_front nac duid) (rows_bits carried rows) 112 (length-unit_front nac duid))) (IsFront-unit_front nac duid);
     pieces = rows_have carried size rows plain (unit_parts nac duid plain is);
   }
 
