@@ -13,7 +13,7 @@ use Rattle.p25_code.proofs.ReadingLaws.{IsBlockCode, read_as_sent}
 use Rattle.p25_code.proofs.MarkedLaws.{marked_read_as_sent}
 use Rattle.p25_gf64.specs.declared.symbol.Sym.{Sym}
 use Rattle.p25_gf64.specs.Symbol.{number}
-use Rattle.p25_gf64.proofs.Symbols.{same_from_eq}
+use Rattle.p25_gf64.proofs.SymbolLaws.{same_from_eq}
 use Rattle.p25_reed_solomon.specs.Words.{IsCode, IsWord, radius_of, same_symbols}
 use Rattle.p25_reed_solomon.specs.WordLaws.{begins_of, length_of_word_of, one_word_of, within_of, words_apart}
 use Rattle.p25_reed_solomon.specs.RsReadings.{marks_within_of, rs_marked_reading_of, rs_marked_reads_as}
