@@ -1,2 +1,15 @@
-pub mod VoiceLaws
+pub mod CodesLaws
+pub mod LengthsLaws
+pub mod SendableLaws
 pub mod ImageSteps
+pub mod KindsLaws
+pub mod ReadSteps
+pub mod RowsLaws
+pub mod FieldRowsLaws
+pub mod FormLaws
+pub mod ImagesLaws
+pub mod FieldCodesLaws
+pub mod ReadingLaws
+pub mod RadiusLaws
+pub mod FixesLaws
+pub mod ImageReadingLaws
