@@ -1,5 +1,6 @@
 pub mod UnitsLaws
 pub mod NeedsLaws
+pub mod KindsLaws
 pub mod ReadingsLaws
 pub mod FixesLaws
 pub mod ItemsLaws
@@ -7,3 +8,4 @@ pub mod WithinRadiusLaws
 pub mod WholeLaws
 pub mod BegunSteps
 pub mod ReadSteps
+pub mod FixingSteps

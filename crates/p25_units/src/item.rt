@@ -9,7 +9,7 @@ ghost use Rattle.p25_units.specs.declared.needs.Need.TheVariants.{Length};
 ghost use Rattle.p25_units.specs.Readings.{reading_from};
 
 use crate::begun::Begun;
-use crate::fixes::fixes;
+use crate::fixing::fixes;
 use crate::frame::{Frame, frame_length};
 use crate::read::read_identified;
 use p25_bch_nid::Nid;

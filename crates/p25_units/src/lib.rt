@@ -18,7 +18,7 @@
 #![tactic(auto)]
 
 mod begun;
-mod fixes;
+mod fixing;
 mod frame;
 mod item;
 mod laws;
@@ -32,7 +32,7 @@ mod tests;
 mod unit;
 
 pub use begun::Begun;
-pub use fixes::fixes;
+pub use fixing::fixes;
 pub use frame::{Frame, frame_length};
 pub use item::{Item, unit_item};
 pub use laws::{need_laws, unit_laws};

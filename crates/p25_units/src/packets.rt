@@ -1,8 +1,8 @@
 //! Packets as what units carry.
 
-ghost use Rattle.std.specs.Prelude.{◌≡◌, ◌≤◌, [], ◌∷◌, length, Ok, Err};
+ghost use Rattle.std.specs.Prelude.{◌≡◌, ◌+◌, ◌<◌, ◌≤◌, [], ◌∷◌, ◌++◌, length};
 ghost use Rattle.p25_packet_blocks.specs.Reading.{head_reading_of, packet_reading_of, HasItsLength};
-ghost use Rattle.p25_units.specs.Readings.{failing_blocks_of, failing_slots_of, packet_body_from, whole_from};
+ghost use Rattle.p25_units.specs.Readings.{failing_blocks_of, failing_slot, failing_slots_of, packet_body_from, whole_from};
 
 use crate::unit::Body;
 use p25_bits::BitBuf;
@@ -64,12 +64,21 @@ fn failing_slots(slots: &Slots) -> FieldList
 {
     let mut fields = FieldList::new();
     for j in 0..slots.len() {
-        match slots.get(j) {
-            Slot::Good(_) => {}
-            Slot::Bad => fields.push(Field::Block(j as u8)),
-        }
+        push_failing(j as u8, &slots.get(j), &mut fields);
     }
     fields
+}
+
+// Appends the block at a place where its slot is Bad.
+fn push_failing(j: u8, slot: &Slot, fields: &mut FieldList)
+    requires { length fields.old < 127 }
+    ensures list { fields.new ≡ fields.old ++ failing_slot j slot.now }
+    ensures few { length fields.new ≤ length fields.old + 1 }
+{
+    match slot {
+        Slot::Good(_) => {}
+        Slot::Bad => fields.push(Field::Block(j)),
+    }
 }
 
 // One field.

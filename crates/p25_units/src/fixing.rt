@@ -5,10 +5,11 @@ ghost use Rattle.p25_bits.specs.Bits.{part};
 ghost use Rattle.p25_bits.specs.Distance.{distance_of};
 ghost use Rattle.p25_packet_blocks.specs.Heads.{head_blocks};
 ghost use Rattle.p25_packet_blocks.specs.Lengths.{packet_sent_length};
+ghost use Rattle.p25_packet_blocks.specs.Sendable.{IsSendable};
 ghost use Rattle.p25_packet_blocks.specs.Whole.{packet_head, IsWholePacket};
 ghost use Rattle.p25_status.specs.Woven.{plain_of};
 ghost use Rattle.p25_units.specs.Fixes.{body_fixes_of, fixes_of};
-ghost use Rattle.p25_units.specs.Units.{IsSoundFrame, IsWholeBody, frame_length_of};
+ghost use Rattle.p25_units.specs.Units.{IsSendableUnit, IsSoundFrame, IsWholeBody, frame_length_of};
 ghost use Rattle.p25_units.specs.declared.unit.Body.TheVariants.{Packet as packet_in};
 
 use crate::frame::Frame;
@@ -38,12 +39,14 @@ pub fn fixes(bits: &BitBuf, at: usize, frame: &Frame) -> u32
 fn body_fixes(bits: &BitBuf, at: usize, unit: &Unit) -> u32
     requires there { at + frame_length_of unit.now ≤ length bits.now }
     requires whole { IsWholeBody unit.now.body }
+    ensures sendable { IsSendableUnit unit.now }
     ensures value { result ≡ body_fixes_of unit.now (plain_of (part at (frame_length_of unit.now) bits.now)) }
     ensures most { result ≤ 25200 }
 {
+    let nac = unit.nac();
     match unit.body() {
         Body::Voice(_) => 0,
-        Body::Packet(packet) => packet_fixes(bits, at, unit.nac(), packet),
+        Body::Packet(packet) => packet_fixes(bits, at, nac, packet),
     }
 }
 
@@ -52,12 +55,19 @@ fn packet_fixes(bits: &BitBuf, at: usize, nac: u16, packet: &Packet) -> u32
     requires there { at + packet_sent_length (head_blocks (packet_head packet.now)) ≤ length bits.now }
     requires nac { nac ≤ 4095 }
     requires whole { IsWholePacket packet.now }
+    ensures sendable { IsSendable packet.now }
     ensures value { result ≡ body_fixes_of (record { nac = nac; body = packet_in packet.now }) (plain_of (part at (packet_sent_length (head_blocks (packet_head packet.now))) bits.now)) }
     ensures most { result ≤ 25200 }
 {
     let head = packet.head();
     let mut plain = BitBuf::new();
-    unweave(bits, at, packet_length(&head), &mut plain, &mut Statuses::new());
+    unweave(
+        bits,
+        at,
+        packet_length(&head),
+        &mut plain,
+        &mut Statuses::new(),
+    );
     let mut image = BitBuf::new();
     packet_image(nac, packet, &mut image);
     let count = BLOCK_LENGTH * (1 + usize::from(head.blocks()));
@@ -68,6 +78,7 @@ fn packet_fixes(bits: &BitBuf, at: usize, nac: u16, packet: &Packet) -> u32
 fn part_distance(a: &BitBuf, b: &BitBuf, at: usize, count: usize) -> u32
     requires first { at + count ≤ length a.now }
     requires second { at + count ≤ length b.now }
+    requires few { count ≤ 25200 }
     ensures value { result ≡ distance_of (part at count a.now) (part at count b.now) }
     ensures most { result ≤ count }
 {
