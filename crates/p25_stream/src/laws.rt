@@ -11,7 +11,8 @@ ghost use Rattle.p25_stream.specs.ItemLaws.{DecidedStay, FirstStays, GapsAreFull
 /// - `sound`: each item is sound.
 /// - `first_stays`, `decided_stay`: what some bits decide stays and begins the items, whatever bits come later.
 /// - `near`: a unit with few wrong bits at a place where an item begins is that item, whole and as received.
-/// - `whole`: an item is a whole unit only where the bits that it covers lie within radius of its frame, as received.
+/// - `whole`: an item is a whole unit only where the bits that it covers read as its frame, as received: those of its front lie
+///   within radius, and what it carries is what its code words and blocks read as.
 /// - `undamaged`: where bits begin with a sound frame's image, the first item is that frame, whole and with no fixes.
 /// - `gave`: what a scanner gave is the first of the items of what it held and any bits that come later.
 pub fn item_laws()

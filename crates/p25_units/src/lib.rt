@@ -23,6 +23,8 @@ mod frame;
 mod item;
 mod laws;
 mod needs;
+#[cfg(test)]
+mod packet_tests;
 mod packets;
 mod read;
 mod scan;
