@@ -3,7 +3,7 @@ use Rattle.std.proofs.Common.{refl, arith}
 use Rattle.p25_trellis.specs.Nearest.{nearest_octets, nearest_distance, half_block, three_quarter_block}
 use Rattle.p25_trellis.specs.Tables.{half_point, three_quarter_point}
 use Rattle.p25_trellis.specs.TableLaws.{half_parted, half_together, half_stays_parted, half_parts, three_quarter_parted, three_quarter_together, three_quarter_stays_parted, three_quarter_parts, parted-from_test, parts-from_test}
-use Rattle.p25_trellis.proofs.Apart.{same_from_sent_bits, IsNearReading-from}
+use Rattle.p25_trellis.proofs.ApartLaws.{same_from_sent_bits, IsNearReading-from}
 use Rattle.p25_trellis.proofs.NearestLaws.{nearest_reading, IsBlock-block_from}
 use Rattle.p25_packet_blocks.proofs.RadiusLaws.{HalfNear, ThreeQuarterNear}
 

@@ -1,6 +1,7 @@
 pub mod SyncPlaces
 pub mod ItemsLaws
 pub mod ItemLaws
+pub mod TerminatorLaws
 pub mod BeginningsLaws
 pub mod JudgingSteps
 pub mod ScanLaws

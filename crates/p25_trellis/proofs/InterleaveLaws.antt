@@ -47,7 +47,12 @@ weighed weight [] ys = 0
 weighed weight (x ∷ xs) [] = 0
 weighed weight (x ∷ xs) (y ∷ ys) = weight x y + weighed weight xs ys
 
-weighed-fourths : {X Y : Type 0} (weight : X → Y → ℕ) (xs : List X) (ys : List Y) → length xs ≡ length ys → weighed weight (each_fourth 0 xs) (each_fourth 0 ys) + weighed weight (each_fourth 1 xs) (each_fourth 1 ys) + weighed weight (each_fourth 2 xs) (each_fourth 2 ys) + weighed weight (each_fourth 3 xs) (each_fourth 3 ys) ≡ weighed weight xs ys
+weighed-fourths : {X Y : Type 0} (weight : X → Y → ℕ) (xs : List X) (ys : List Y) → length xs ≡ length ys
+    → weighed weight (each_fourth 0 xs) (each_fourth 0 ys)
+    + weighed weight (each_fourth 1 xs) (each_fourth 1 ys)
+    + weighed weight (each_fourth 2 xs) (each_fourth 2 ys)
+    + weighed weight (each_fourth 3 xs) (each_fourth 3 ys)
+    ≡ weighed weight xs ys
 unfolding each_fourth weighed
 weighed-fourths weight [] [] long = refl
 weighed-fourths weight [] (y ∷ ys) long = absurd (omega arith)
@@ -145,7 +150,9 @@ pub same_from_take : {X : Type 0} (n : ℕ) (xs ys : List X) → length xs ≤ n
 same_from_take n xs ys short brief same = sym (take_all n xs short) ∙ same ∙ take_all n ys brief
 
 -- one more nibble is written to its place
-pub written_more : (plain nibbles : List ℕ) (place : ℕ) → length plain ≡ 49 → place < 49 → ((k : ℕ) → k < place → get_or plain (get_or SENT_ORDER k 0) 0 ≡ get_or nibbles k 0) → (k : ℕ) → k < place + 1 → get_or (set plain (get_or SENT_ORDER place 0) (get_or nibbles place 0)) (get_or SENT_ORDER k 0) 0 ≡ get_or nibbles k 0
+pub written_more : (plain nibbles : List ℕ) (place : ℕ) → length plain ≡ 49 → place < 49
+    → ((k : ℕ) → k < place → get_or plain (get_or SENT_ORDER k 0) 0 ≡ get_or nibbles k 0) → (k : ℕ) → k < place + 1
+    → get_or (set plain (get_or SENT_ORDER place 0) (get_or nibbles place 0)) (get_or SENT_ORDER k 0) 0 ≡ get_or nibbles k 0
 written_more plain nibbles place long inside so_far =
     below_more (λ k. get_or (set plain (get_or SENT_ORDER place 0) (get_or nibbles place 0)) (get_or SENT_ORDER k 0) 0 ≡ get_or nibbles k 0) place before here
   where

@@ -20,7 +20,7 @@ use Rattle.p25_packet_blocks.specs.Heads.{head_blocks}
 use Rattle.p25_packet_blocks.specs.Image.{packet_image_of}
 use Rattle.p25_packet_blocks.specs.Whole.{packet_head}
 use Rattle.p25_units.specs.UnitParts.{UnitParts}
-use Rattle.p25_units.specs.Units.{body_duid, unit_image_of, image_of, IsSoundFrame, IsSendableUnit}
+use Rattle.p25_units.specs.Units.{body_duid, unit_image_of, image_of, IsSoundFrame, IsSendableBody, IsSendableUnit}
 use Rattle.p25_units.specs.Fixes.{packet_looked, body_looked, looked_of, looked_at, body_fixes_of, fixes_of}
 use Rattle.p25_units.specs.declared.unit.Body.TheVariants.{Voice, Packet}
 use Rattle.p25_units.specs.declared.frame.Frame.{Frame}
@@ -40,7 +40,7 @@ first_111 : (bits start : List Bool) → take 112 bits ≡ start → take 111 bi
 first_111 bits start is = sym (take-take 111 112 bits (omega arith)) ∙ ap (take 111) is
 
 -- the fixes of a frame that can be sent are those of its front and those behind it
-pub fixes_of-parts : (frame : Frame) (blocks : ℕ) (sent : List Bool) → IsSendableUnit frame.unit → 2 ≤ blocks → length sent ≡ 72 * blocks
+pub fixes_of-parts : (frame : Frame) (blocks : ℕ) (sent : List Bool) → IsSendableBody frame.unit.body → 2 ≤ blocks → length sent ≡ 72 * blocks
     → fixes_of frame sent ≡ front_fixes_of (frame.unit.nac, body_duid frame.unit.body) sent + body_fixes_of frame.unit (plain_of sent)
 unfolding fixes_of front_fixes_of body_fixes_of
 fixes_of-parts frame blocks sent sendable two long =

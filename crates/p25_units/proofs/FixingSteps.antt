@@ -37,4 +37,4 @@ fixes_in frame bits at nac duid sound sendable there nac_is duid_is m n front bo
     ap₂ (λ (a b : ℕ). a + b)
     (front ∙ ap₂ (λ (a b : ℕ). front_fixes_of (a, b) rest) nac_is duid_is ∙ sym (front_fixes_of-take (frame.unit.nac, body_duid frame.unit.body) count rest many))
     body
-    ∙ sym (fixes_of-parts frame blocks sent sendable two long)
+    ∙ sym (fixes_of-parts frame blocks sent sendable.body two long)

@@ -6,6 +6,7 @@ pub mod FixesLaws
 pub mod ItemsLaws
 pub mod WithinRadiusLaws
 pub mod WholeLaws
+pub mod TerminatorsLaws
 pub mod BegunSteps
 pub mod ReadSteps
 pub mod FixingSteps

@@ -2,7 +2,7 @@
 use Rattle.std.proofs.Common.{◌≡◌, List, ℕ, ◌*◌, ◌/◌, ◌%◌, ◌<◌, ◌≤◌, length, take, Some, ap, sym, ◌∙◌, arith, subst}
 use Rattle.std.specs.Option.{unwrap_or}
 use Rattle.p25_status.specs.Woven.{plain_of, statuses_of}
-use Rattle.p25_status.proofs.Parts.{front}
+use Rattle.std.proofs.lemmas.List.{take_at}
 use Rattle.p25_status.proofs.WovenLaws.{length-woven, plain_of-woven, statuses_of-woven}
 use Rattle.p25_front.specs.Front.{unit_front, front_of}
 use Rattle.p25_front.proofs.FrontLaws.{length-unit_front, front_of-plain_of}
@@ -71,19 +71,19 @@ unfolding IsSendableBody
 length-body_image_of nac (Voice voice) sendable = sym (body_length-voice nac voice)
 length-body_image_of nac (Packet packet) sendable = image_long nac packet sendable
 
-pub length-unit_image_of : (unit : UnitParts) → IsSendableUnit unit → length (unit_image_of unit) ≡ body_length unit.body
+pub length-unit_image_of : (unit : UnitParts) → IsSendableBody unit.body → length (unit_image_of unit) ≡ body_length unit.body
 unfolding unit_image_of
-length-unit_image_of unit sendable = length-body_image_of unit.nac unit.body sendable.body
+length-unit_image_of unit sendable = length-body_image_of unit.nac unit.body sendable
 
 -- a unit begins with its front
 pub body_image_of-front : (nac : ℕ) (body : Body) → IsSendableBody body → take 112 (body_image_of nac body) ≡ unit_front nac (body_duid body)
 unfolding voice_image_of IsSendableBody
-body_image_of-front nac (Voice voice) sendable = front 112 (unit_front nac (voice_duid voice)) (voice_body voice) (length-unit_front nac (voice_duid voice))
+body_image_of-front nac (Voice voice) sendable = take_at (unit_front nac (voice_duid voice)) (voice_body voice) 112 (length-unit_front nac (voice_duid voice))
 body_image_of-front nac (Packet packet) sendable = image_front nac packet sendable
 
-pub unit_image_of-front : (unit : UnitParts) → IsSendableUnit unit → take 112 (unit_image_of unit) ≡ unit_front unit.nac (body_duid unit.body)
+pub unit_image_of-front : (unit : UnitParts) → IsSendableBody unit.body → take 112 (unit_image_of unit) ≡ unit_front unit.nac (body_duid unit.body)
 unfolding unit_image_of
-unit_image_of-front unit sendable = body_image_of-front unit.nac unit.body sendable.body
+unit_image_of-front unit sendable = body_image_of-front unit.nac unit.body sendable
 
 -- a sound frame has a status symbol for each 70 bits of its unit
 pub symbols-sound : (frame : Frame) → IsSoundFrame frame → body_length frame.unit.body ≡ 70 * length frame.statuses
@@ -93,7 +93,7 @@ symbols-sound frame sound =
     omega (arith, sound.symbols, is.fills, is.sent)
 
 pub symbols-image : (frame : Frame) → IsSoundFrame frame → IsSendableUnit frame.unit → length (unit_image_of frame.unit) ≡ 70 * length frame.statuses
-symbols-image frame sound sendable = length-unit_image_of frame.unit sendable ∙ symbols-sound frame sound
+symbols-image frame sound sendable = length-unit_image_of frame.unit sendable.body ∙ symbols-sound frame sound
 
 -- the sent bits of a sound frame
 pub length-image_of-blocks : (frame : Frame) → IsSoundFrame frame → IsSendableUnit frame.unit → length (image_of frame) ≡ 72 * length frame.statuses
@@ -122,7 +122,7 @@ pub front_of-image_of : (frame : Frame) → IsSoundFrame frame → IsSendableUni
 front_of-image_of frame sound sendable =
     sym (front_of-plain_of (length frame.statuses) (image_of frame) (blocks-sound frame sound).0 (length-image_of-blocks frame sound sendable))
     ∙ ap (take 112) (plain_of-image_of frame sound sendable)
-    ∙ unit_image_of-front frame.unit sendable
+    ∙ unit_image_of-front frame.unit sendable.body
 
 -- a frame under another network access code
 pub IsSoundFrame-frame_as : (nac : ℕ) (statuses : List Status) (frame : Frame) → IsSoundFrame frame → length statuses ≡ length frame.statuses → IsSoundFrame (frame_as nac statuses frame)

@@ -29,6 +29,7 @@ mod packets;
 mod read;
 mod scan;
 mod sending;
+mod terminators;
 #[cfg(test)]
 mod tests;
 mod unit;
@@ -45,4 +46,5 @@ pub use p25_voice_units::VoiceUnit;
 pub use read::read_unit;
 pub use scan::{need, need_begun};
 pub use sending::{image, image_as};
+pub use terminators::terminator_laws;
 pub use unit::{Body, Unit};
