@@ -9,3 +9,4 @@ pub mod ListLaws
 pub mod ErrorsSteps
 pub mod CostLaws
 pub mod WrongLaws
+pub mod EncodingLaws

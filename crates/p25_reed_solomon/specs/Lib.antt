@@ -7,3 +7,4 @@ pub mod ElementLaws
 pub mod DistanceLaws
 pub mod WordLaws
 pub mod RsReadings
+pub mod Encoding

@@ -49,6 +49,7 @@
 mod code;
 mod encoder;
 mod errors;
+mod laws;
 mod locator;
 mod marks;
 mod points;
@@ -62,5 +63,6 @@ mod wrong;
 mod zeros;
 
 pub use code::Rs;
+pub use laws::encoding_laws;
 pub use syndromes::fill_syndromes;
 pub use wrong::mark_wrong;

@@ -1,20 +1,112 @@
--- What the writer of voice units has put is the unit's bits, by its kind.
-use Rattle.std.proofs.Common.{◌≡◌, ℕ, Bool, false, List, ◌++◌, replicate, refl, ap₂, sym, ◌∙◌}
-use Rattle.p25_bits.specs.Bits.{bits_of}
+-- The steps of the writer of voice units: a piece, by what it is, and one more piece behind the others.
+use Rattle.std.proofs.Common.{◌≡◌, ℕ, zero, suc, eqb, append-nil, ◌+◌, ◌*◌, ◌/◌, ◌<◌, ◌≤◌, Bool, true, false, nat_le, List, [], ◌∷◌, ◌++◌, length, take, drop, get_or, replicate, refl, ap, ap₂, sym, subst, ◌∙◌, arith}
+use Rattle.std.specs.List.{flat_map}
+use Rattle.std.proofs.lemmas.Bool.{leb-true}
+use Rattle.std.proofs.lemmas.Nat.Bits.{bit_at-zero}
+use Rattle.std.proofs.lemmas.List.{flat_map_more, take_more}
+use Rattle.p25_bits.specs.Bits.{bits_of, octet_bits, part}
+use Rattle.p25_fields.specs.Layouts.{field_bits}
+use Rattle.p25_voice_units.specs.declared.layout.Piece.{Piece}
+use Rattle.p25_voice_units.specs.declared.layout.Piece.TheVariants.{Words, Frame, LowSpeed, Nulls}
+use Rattle.p25_code.specs.Words.{IsEncoding}
+use Rattle.p25_gf64.specs.declared.symbol.Sym.{Sym}
+use Rattle.p25_reed_solomon.specs.Words.{IsWord}
+use Rattle.p25_reed_solomon.specs.Encoding.{rs_word}
+use Rattle.p25_reed_solomon.proofs.EncodingLaws.{rs_word-only}
+use Rattle.p25_link.specs.declared.link_control.LinkControl.{LinkControl}
+use Rattle.p25_link.specs.declared.encryption_sync.EncryptionSync.{EncryptionSync}
+use Rattle.p25_link.specs.declared.header_word.HeaderWord.{HeaderWord}
+use Rattle.p25_link.specs.Words.{header_symbols, link_symbols, sync_symbols}
 use Rattle.p25_front.specs.Front.{unit_front}
+use Rattle.p25_voice_units.specs.declared.voice.VoiceFrame.{VoiceFrame}
 use Rattle.p25_voice_units.specs.declared.unit.VoiceUnit.{VoiceUnit}
-use Rattle.p25_voice_units.specs.declared.unit.VoiceUnit.TheVariants.{End}
+use Rattle.p25_voice_units.specs.declared.unit.VoiceUnit.TheVariants.{Header, Link1, Link2, End, EndLink}
+use Rattle.p25_voice_units.specs.Layouts.{header_rows, link_rows, end_rows, end_link_rows}
 use Rattle.p25_voice_units.specs.Lengths.{voice_duid}
-use Rattle.p25_voice_units.specs.Images.{voice_image_of}
-use Rattle.p25_voice_units.proofs.VoiceLaws.{voice_image_of-end}
+use Rattle.p25_voice_units.specs.Pieces.{piece_fits, piece_length}
+use Rattle.p25_voice_units.specs.Images.{Contents, contents, frame_at, golay18_word, golay24_word, hamming10_word, lsd16_word, piece_bits, rows_bits, voice_body, voice_image_of}
+use Rattle.p25_voice_units.proofs.CodesLaws.{header_code, link_code, sync_code}
+
+-- the bits of each piece
+pub piece_bits-words : (carried : Contents) (piece : Piece) (first count : ℕ) → piece ≡ Words first count
+    → piece_bits carried piece ≡ field_bits carried.encoding carried.each count (part (carried.each * first) (carried.each * count) carried.symbols)
+unfolding piece_bits
+piece_bits-words carried piece first count is = ap (piece_bits carried) is
+
+pub piece_bits-frame : (carried : Contents) (piece : Piece) (i : ℕ) → piece ≡ Frame i → piece_bits carried piece ≡ octet_bits (frame_at carried.voice i).0
+unfolding piece_bits
+piece_bits-frame carried piece i is = ap (piece_bits carried) is
+
+pub piece_bits-low : (carried : Contents) (piece : Piece) (i : ℕ) → piece ≡ LowSpeed i → piece_bits carried piece ≡ lsd16_word (bits_of 8 (get_or carried.low i 0))
+unfolding piece_bits
+piece_bits-low carried piece i is = ap (piece_bits carried) is
+
+pub piece_bits-nulls : (carried : Contents) (piece : Piece) (count : ℕ) → piece ≡ Nulls count → piece_bits carried piece ≡ replicate count false
+unfolding piece_bits
+piece_bits-nulls carried piece count is = ap (piece_bits carried) is
+
+-- there are the symbols of some inner words
+pub words_fit : (each symbols low frames : ℕ) (piece : Piece) (first count : ℕ) → piece ≡ Words first count → piece_fits each symbols low frames piece ≡ true → each * first + each * count ≤ symbols
+words_fit each symbols low frames piece first count is fits = leb-true _ _ (sym (ap (piece_fits each symbols low frames) is) ∙ fits)
 
 -- nulls are the bits of 0
-nulls_28 : bits_of 28 0 ≡ replicate 28 false
+pub bits_of-nulls : (count : ℕ) → bits_of count 0 ≡ replicate count false
 unfolding bits_of
-nulls_28 = refl
+bits_of-nulls zero = refl
+bits_of-nulls (suc count) = ap₂ (λ (x : Bool) xs. x ∷ xs) (ap (λ b. eqb b 1) (bit_at-zero count)) (bits_of-nulls count)
 
--- a front of the unit's NAC and DUID, and 28 nulls
-pub end_made : (nac : ℕ) (unit : VoiceUnit) (front_nac front_duid : ℕ) (start out : List Bool) → front_nac ≡ nac → front_duid ≡ voice_duid unit
-    → start ≡ unit_front front_nac front_duid → out ≡ start ++ bits_of 28 0 → out ≡ voice_image_of nac unit
-end_made nac End front_nac front_duid start out same_nac same_duid begins is =
-    is ∙ ap₂ (λ (xs ys : List Bool). xs ++ ys) (begins ∙ ap₂ unit_front same_nac same_duid) nulls_28 ∙ sym (voice_image_of-end nac)
+-- no row is written yet
+pub rows_none : (carried : Contents) (out : List Bool) → out ≡ out ++ rows_bits carried []
+unfolding rows_bits
+rows_none carried out = sym (append-nil out)
+
+-- one more row
+pub rows_more : (carried : Contents) (rows : List (ℕ × Piece)) (i : ℕ) (d : ℕ × Piece) (start out new : List Bool) → i < length rows → out ≡ start ++ rows_bits carried (take i rows) → new ≡ out ++ piece_bits carried (get_or rows i d).1
+    → new ≡ start ++ rows_bits carried (take (i + 1) rows)
+unfolding rows_bits
+rows_more carried rows i d start out new inside so_far is =
+    is
+    ∙ ap (λ xs. xs ++ piece_bits carried (get_or rows i d).1) so_far
+    ∙ flat_map_more (λ row. piece_bits carried row.1) start (take i rows) (get_or rows i d)
+    ∙ ap (λ xs. start ++ flat_map (λ row. piece_bits carried row.1) xs) (sym (take_more rows i d inside))
+
+-- what stands behind the front, by the kind of unit: the rows of its layout were written with the symbols of its coded field
+pub header_made : (word : HeaderWord) (info symbols : List Sym) (old new : List Bool) → info ≡ header_symbols word → length info ≡ 20 → IsEncoding (IsWord 36 20) 20 info symbols
+    → new ≡ old ++ rows_bits (contents golay18_word 1 symbols [] []) header_rows → new ≡ old ++ voice_body (Header word)
+unfolding voice_body
+header_made word info symbols old new is long made written =
+    written
+    ∙ ap (λ xs. old ++ rows_bits (contents golay18_word 1 xs [] []) header_rows) (rs_word-only 36 20 info symbols header_code long made ∙ ap (rs_word 36 20) is)
+
+pub link1_made : (link : LinkControl) (low : List ℕ) (voice : List VoiceFrame) (info symbols : List Sym) (old new : List Bool) → info ≡ link_symbols link → length info ≡ 12 → IsEncoding (IsWord 24 12) 12 info symbols
+    → new ≡ old ++ rows_bits (contents hamming10_word 1 symbols low voice) link_rows → new ≡ old ++ voice_body (Link1 link low voice)
+unfolding voice_body
+link1_made link low voice info symbols old new is long made written =
+    written
+    ∙ ap (λ xs. old ++ rows_bits (contents hamming10_word 1 xs low voice) link_rows) (rs_word-only 24 12 info symbols link_code long made ∙ ap (rs_word 24 12) is)
+
+pub link2_made : (sync : EncryptionSync) (low : List ℕ) (voice : List VoiceFrame) (info symbols : List Sym) (old new : List Bool) → info ≡ sync_symbols sync → length info ≡ 16 → IsEncoding (IsWord 24 16) 16 info symbols
+    → new ≡ old ++ rows_bits (contents hamming10_word 1 symbols low voice) link_rows → new ≡ old ++ voice_body (Link2 sync low voice)
+unfolding voice_body
+link2_made sync low voice info symbols old new is long made written =
+    written
+    ∙ ap (λ xs. old ++ rows_bits (contents hamming10_word 1 xs low voice) link_rows) (rs_word-only 24 16 info symbols sync_code long made ∙ ap (rs_word 24 16) is)
+
+pub end_made : (old new : List Bool) → new ≡ old ++ rows_bits (contents golay18_word 1 [] [] []) end_rows → new ≡ old ++ voice_body End
+unfolding voice_body
+end_made old new written = written
+
+pub end_link_made : (link : LinkControl) (info symbols : List Sym) (old new : List Bool) → info ≡ link_symbols link → length info ≡ 12 → IsEncoding (IsWord 24 12) 12 info symbols
+    → new ≡ old ++ rows_bits (contents golay24_word 2 symbols [] []) end_link_rows → new ≡ old ++ voice_body (EndLink link)
+unfolding voice_body
+end_link_made link info symbols old new is long made written =
+    written
+    ∙ ap (λ xs. old ++ rows_bits (contents golay24_word 2 xs [] []) end_link_rows) (rs_word-only 24 12 info symbols link_code long made ∙ ap (rs_word 24 12) is)
+
+-- the front of the unit, and what stands behind it
+pub image_made : (nac : ℕ) (unit : VoiceUnit) (front_nac front_duid : ℕ) (empty start out : List Bool) → empty ≡ [] → front_nac ≡ nac → front_duid ≡ voice_duid unit → start ≡ empty ++ unit_front front_nac front_duid
+    → out ≡ start ++ voice_body unit → out ≡ voice_image_of nac unit
+unfolding voice_image_of
+image_made nac unit front_nac front_duid empty start out none same_nac same_duid begins is =
+    is
+    ∙ ap (λ xs. xs ++ voice_body unit) (begins ∙ ap₂ (λ (xs : List Bool) n. xs ++ unit_front n front_duid) none same_nac ∙ ap (λ n. unit_front nac n) same_duid)

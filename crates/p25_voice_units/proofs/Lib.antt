@@ -1,2 +1,9 @@
+pub mod CodesLaws
+pub mod LengthsLaws
+pub mod SendableLaws
 pub mod VoiceLaws
 pub mod ImageSteps
+pub mod RowsLaws
+pub mod FieldRowsLaws
+pub mod FormLaws
+pub mod ImagesLaws

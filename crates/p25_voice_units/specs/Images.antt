@@ -1,25 +1,75 @@
--- The bits of voice units without status symbols.
-use Rattle.std.specs.Prelude.{◌≡◌, ℕ, Bool, false, List, ◌++◌, length, take, replicate}
-use Rattle.p25_bits.specs.Bits.{part}
-use Rattle.p25_front.specs.Front.{unit_front, IsFront}
+-- The bits of voice units without status symbols, as one list.
+use Rattle.std.specs.Prelude.{ℕ, ◌*◌, Bool, false, List, [], ◌++◌, replicate, slice_index}
+use Rattle.std.proofs.Common.{get_or}
+use Rattle.std.specs.List.{flat_map}
+use Rattle.p25_bits.specs.Bits.{bits_of, octet_bits, part}
+use Rattle.p25_code.specs.Binary.{systematic}
+use Rattle.p25_gf64.specs.declared.symbol.Sym.{Sym}
+use Rattle.p25_hamming.specs.Hamming10.{check_rows as hamming10_rows}
+use Rattle.p25_hamming.specs.Lsd16Laws.{check_rows as lsd16_rows}
+use Rattle.p25_golay.specs.Golay18Laws.{short_rows as golay18_rows}
+use Rattle.p25_golay.specs.Golay24Laws.{check_rows as golay24_rows}
+use Rattle.p25_reed_solomon.specs.Encoding.{rs_word}
+use Rattle.p25_link.specs.Words.{header_symbols, link_symbols, sync_symbols}
+use Rattle.p25_fields.specs.Layouts.{field_bits}
+use Rattle.p25_front.specs.Front.{unit_front}
+use Rattle.p25_voice_units.specs.declared.layout.Piece.{Piece}
+use Rattle.p25_voice_units.specs.declared.layout.Piece.TheVariants.{Words, Frame, LowSpeed, Nulls}
+use Rattle.p25_voice_units.specs.declared.voice.VoiceFrame.{VoiceFrame}
 use Rattle.p25_voice_units.specs.declared.unit.VoiceUnit.{VoiceUnit}
-use Rattle.p25_voice_units.specs.declared.unit.VoiceUnit.TheVariants.{End}
+use Rattle.p25_voice_units.specs.declared.unit.VoiceUnit.TheVariants.{Header, Link1, Link2, End, EndLink}
+use Rattle.p25_voice_units.specs.Layouts.{header_rows, link_rows, end_rows, end_link_rows}
 use Rattle.p25_voice_units.specs.Lengths.{voice_duid}
+
+-- the words of the binary codes: the information and its check bits
+unfoldable pub golay18_word : List Bool → List Bool
+golay18_word info = systematic golay18_rows 12 info
+
+unfoldable pub golay24_word : List Bool → List Bool
+golay24_word info = systematic golay24_rows 12 info
+
+unfoldable pub hamming10_word : List Bool → List Bool
+hamming10_word info = systematic hamming10_rows 4 info
+
+unfoldable pub lsd16_word : List Bool → List Bool
+lsd16_word info = systematic lsd16_rows 8 info
+
+-- what a unit carries: the code of its inner words and how many symbols one of them has, the symbols of its outer word, two octets of
+-- low speed data, and nine voice frames
+pub record Contents : Type 0 where
+  pub encoding : List Bool → List Bool
+  pub each : ℕ
+  pub symbols : List Sym
+  pub low : List ℕ
+  pub voice : List VoiceFrame
+
+abbrev pub contents : (List Bool → List Bool) → ℕ → List Sym → List ℕ → List VoiceFrame → Contents
+contents encoding each symbols low voice = record { encoding = encoding; each = each; symbols = symbols; low = low; voice = voice }
+
+-- a voice frame by its number
+abbrev pub frame_at : List VoiceFrame → ℕ → VoiceFrame
+frame_at voice i = let blank : VoiceFrame = record { 0 = [] } in get_or voice i blank
+
+-- the bits of a piece of a unit
+unfoldable pub piece_bits : Contents → Piece → List Bool
+piece_bits carried (Words first count) =
+    field_bits carried.encoding carried.each count (part (carried.each * first) (carried.each * count) carried.symbols)
+piece_bits carried (Frame i) = octet_bits (frame_at carried.voice i).0
+piece_bits carried (LowSpeed i) = lsd16_word (bits_of 8 (slice_index carried.low i))
+piece_bits carried (Nulls count) = replicate count false
+
+-- the pieces of rows, one behind the other
+unfoldable pub rows_bits : Contents → List (ℕ × Piece) → List Bool
+rows_bits carried rows = flat_map (λ row. piece_bits carried row.1) rows
 
 -- the bits behind the front
 unfoldable pub voice_body : VoiceUnit → List Bool
-voice_body End = replicate 28 false
+voice_body (Header word) = rows_bits (contents golay18_word 1 (rs_word 36 20 (header_symbols word)) [] []) header_rows
+voice_body (Link1 link low voice) = rows_bits (contents hamming10_word 1 (rs_word 24 12 (link_symbols link)) low voice) link_rows
+voice_body (Link2 sync low voice) = rows_bits (contents hamming10_word 1 (rs_word 24 16 (sync_symbols sync)) low voice) link_rows
+voice_body End = rows_bits (contents golay18_word 1 [] [] []) end_rows
+voice_body (EndLink link) = rows_bits (contents golay24_word 2 (rs_word 24 12 (link_symbols link)) [] []) end_link_rows
 
 -- the bits of a unit
 unfoldable pub voice_image_of : ℕ → VoiceUnit → List Bool
 voice_image_of nac unit = unit_front nac (voice_duid unit) ++ voice_body unit
-
--- a terminator by places: 140 bits, the front and 28 nulls
-pub record IsEndImage (nac : ℕ) (plain : List Bool) : Type 0 where
-  pub long : length plain ≡ 140
-  pub begins : IsFront nac 3 (take 112 plain)
-  pub nulls : part 112 28 plain ≡ replicate 28 false
-
--- the bits of a unit by places
-abbrev pub IsVoiceImage : ℕ → VoiceUnit → List Bool → Type 0
-IsVoiceImage nac End plain = IsEndImage nac plain

@@ -1,12 +1,21 @@
 -- The kinds of voice units, by their data unit identifiers, and how many bits they have.
 use Rattle.std.specs.Prelude.{ℕ, cond, nat_eq, Option, Some, None}
 use Rattle.p25_voice_units.specs.declared.unit.VoiceUnit.{VoiceUnit}
-use Rattle.p25_voice_units.specs.declared.unit.VoiceUnit.TheVariants.{End}
+use Rattle.p25_voice_units.specs.declared.unit.VoiceUnit.TheVariants.{Header, Link1, Link2, End, EndLink}
 
 -- the data unit identifier of a unit's kind
 abbrev pub voice_duid : VoiceUnit → ℕ
+voice_duid (Header word) = 0
+voice_duid (Link1 link low voice) = 5
+voice_duid (Link2 sync low voice) = 10
 voice_duid End = 3
+voice_duid (EndLink link) = 15
 
 -- how many bits a unit with a data unit identifier has without status symbols; none where it is that of no voice unit
 unfoldable pub voice_length_of : ℕ → Option ℕ
-voice_length_of duid = cond (nat_eq duid 3) (Some 140) None
+voice_length_of duid =
+    cond (nat_eq duid 0) (Some 770) (
+    cond (nat_eq duid 3) (Some 140) (
+    cond (nat_eq duid 5) (Some 1680) (
+    cond (nat_eq duid 10) (Some 1680) (
+    cond (nat_eq duid 15) (Some 420) None))))

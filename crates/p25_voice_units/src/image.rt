@@ -1,30 +1,215 @@
 //! Voice units as bits.
 
-ghost use Rattle.std.specs.Prelude.{◌≡◌, ◌<◌, ◌≤◌, Some, Ok, length};
-ghost use Rattle.p25_voice_units.specs.Images.{voice_image_of};
+ghost use Rattle.std.specs.Prelude.{All, ◌≡◌, ◌+◌, ◌*◌, ◌/◌, ◌<◌, ◌≤◌, ◌++◌, Bool, List, Some, true, length, sum_by};
+ghost use Rattle.std.specs.List.{list_all};
+ghost use Rattle.p25_fields.specs.Written.{Encodes};
+ghost use Rattle.p25_bits.specs.Bits.{bits_of, octet_bits};
+ghost use Rattle.p25_voice_units.specs.declared.unit.VoiceUnit.TheVariants.{Header as header_unit, Link1 as link1_unit, Link2 as link2_unit, End as end_unit, EndLink as end_link_unit};
+ghost use Rattle.p25_voice_units.specs.Images.{piece_bits, rows_bits, contents, lsd16_word, voice_body, voice_image_of};
 ghost use Rattle.p25_voice_units.specs.Lengths.{voice_duid, voice_length_of};
-ghost use Rattle.p25_voice_units.specs.Readings.{voice_reading_of};
+ghost use Rattle.p25_voice_units.specs.Pieces.{piece_fits, piece_length};
+ghost use Rattle.p25_voice_units.specs.Sendable.{IsSendableVoice, IsSpeech, IsVoiceFrame};
+ghost use Rattle.p25_link.specs.Words.{IsHeaderWord, IsLinkControl, IsEncryptionSync};
 
+use crate::layout::{END_LINK_ROWS, END_ROWS, HEADER_ROWS, LINK_ROWS, Piece};
 use crate::unit::VoiceUnit;
+use crate::voice::{Voice, VoiceFrame};
 use p25_bch_nid::Nid;
-use p25_bits::BitBuf;
+use p25_bits::{BitBuf, number_of, put_number};
+use p25_code::BlockCode;
+use p25_fields::put_field;
 use p25_front::put_front;
+use p25_gf64::Sym;
+use p25_golay::{Golay18, Golay24};
+use p25_hamming::{Hamming10, Lsd16};
+use p25_link::{EncryptionSync, HeaderWord, LinkControl};
+use p25_reed_solomon::Rs;
 
-// How many nulls stand behind the identifier of a terminator.
-const END_NULLS: u32 = 28;
+// Appends the octets of a voice frame.
+fn put_frame(octets: &[u8; 18], out: &mut BitBuf)
+    requires { length out.old + 144 ≤ 25928 }
+    ensures list { out.new ≡ out.old ++ octet_bits octets.now }
+    ensures len { length out.new ≡ length out.old + 144 }
+{
+    out.put_numbers(octets, 8);
+}
 
-/// Sets `out` to the bits of a voice unit without status symbols, first to last. TIA-102.BAAA, Voice Data Units.
+// Appends the low speed word of an octet.
+fn put_low(octet: u8, out: &mut BitBuf)
+    requires { length out.old + 16 ≤ 25928 }
+    ensures list { out.new ≡ out.old ++ lsd16_word (bits_of 8 octet) }
+    ensures len { length out.new ≡ length out.old + 16 }
+{
+    let mut info = [false; 8];
+    put_number(u64::from(octet), &mut info);
+    let mut word = [false; 16];
+    Lsd16::encode(&info, &mut word);
+    out.put_field(number_of(&word), 16);
+}
+
+// Appends a piece of a unit, whose inner words carry the symbols.
+fn put_piece<I: BlockCode<Letter = bool>>(
+    piece: Piece,
+    symbols: &[Sym],
+    low: &[u8],
+    frames: &[VoiceFrame],
+    out: &mut BitBuf,
+)
+    requires code { I.HasCode }
+    requires small { I.N ≤ 24 }
+    requires sixes { 6 * (I.K / 6) ≡ I.K }
+    requires fits { piece_fits (I.K / 6) (length symbols.now) (length low.now) (length frames.now) piece ≡ true }
+    requires room { length out.old + piece_length I.N piece ≤ 25928 }
+    ensures list { (encoding : List Bool → List Bool) → Encodes I.IsWord I.K encoding
+        → out.new ≡ out.old ++ piece_bits (contents encoding (I.K / 6) symbols.now low.now frames.now) piece }
+    ensures len { length out.new ≡ length out.old + piece_length I.N piece }
+{
+    let each = I::K / 6;
+    match piece {
+        Piece::Words(first, count) => {
+            let start = each * first;
+            put_field::<I>(&symbols[start..start + each * count], count, out);
+        }
+        Piece::Frame(i) => put_frame(&frames[i].0, out),
+        Piece::LowSpeed(i) => put_low(low[i], out),
+        Piece::Nulls(count) => out.put_field(0, count as u32),
+    }
+}
+
+// Appends the pieces of the rows of a layout, in order.
+fn put_rows<I: BlockCode<Letter = bool>>(
+    rows: &[(usize, Piece)],
+    symbols: &[Sym],
+    low: &[u8],
+    frames: &[VoiceFrame],
+    out: &mut BitBuf,
+)
+    requires code { I.HasCode }
+    requires small { I.N ≤ 24 }
+    requires sixes { 6 * (I.K / 6) ≡ I.K }
+    requires fits { list_all (λ row. piece_fits (I.K / 6) (length symbols.now) (length low.now) (length frames.now) row.1) rows.now ≡ true }
+    requires room { length out.old + sum_by (λ row. piece_length I.N row.1) rows.now ≤ 25928 }
+    ensures list { (encoding : List Bool → List Bool) → Encodes I.IsWord I.K encoding
+        → out.new ≡ out.old ++ rows_bits (contents encoding (I.K / 6) symbols.now low.now frames.now) rows.now }
+    ensures len { length out.new ≡ length out.old + sum_by (λ row. piece_length I.N row.1) rows.now }
+{
+    for row in rows {
+        put_piece::<I>(row.1, symbols, low, frames, out);
+    }
+}
+
+// Appends what stands behind the front of a header.
+fn put_header(word: &HeaderWord, out: &mut BitBuf)
+    requires { length out.old + 658 ≤ 25928 }
+    ensures list { out.new ≡ out.old ++ voice_body (header_unit word.now) }
+    ensures len { length out.new ≡ length out.old + 658 }
+    ensures sound { IsHeaderWord word.now }
+{
+    let mut symbols = [Sym::ZERO; 36];
+    Rs::<36, 20>::encode(&word.symbols(), &mut symbols);
+    put_rows::<Golay18>(&HEADER_ROWS, &symbols, &[], &[], out);
+}
+
+// Appends what stands behind the front of voice with link control.
+fn put_link1(link: &LinkControl, low: &[u8; 2], voice: &Voice, out: &mut BitBuf)
+    requires { length out.old + 1568 ≤ 25928 }
+    ensures list { out.new ≡ out.old ++ voice_body (link1_unit link.now low.now voice.now) }
+    ensures len { length out.new ≡ length out.old + 1568 }
+    ensures link { IsLinkControl link.now }
+    ensures speech { IsSpeech low.now voice.now }
+{
+    fit_speech(low, voice);
+    let mut symbols = [Sym::ZERO; 24];
+    Rs::<24, 12>::encode(&link.symbols(), &mut symbols);
+    put_rows::<Hamming10>(&LINK_ROWS, &symbols, low, voice.frames(), out);
+}
+
+// Appends what stands behind the front of voice with encryption sync.
+fn put_link2(sync: &EncryptionSync, low: &[u8; 2], voice: &Voice, out: &mut BitBuf)
+    requires { length out.old + 1568 ≤ 25928 }
+    ensures list { out.new ≡ out.old ++ voice_body (link2_unit sync.now low.now voice.now) }
+    ensures len { length out.new ≡ length out.old + 1568 }
+    ensures sync { IsEncryptionSync sync.now }
+    ensures speech { IsSpeech low.now voice.now }
+{
+    fit_speech(low, voice);
+    let mut symbols = [Sym::ZERO; 24];
+    Rs::<24, 16>::encode(&sync.symbols(), &mut symbols);
+    put_rows::<Hamming10>(&LINK_ROWS, &symbols, low, voice.frames(), out);
+}
+
+// Appends what stands behind the front of a terminator.
+fn put_end(out: &mut BitBuf)
+    requires { length out.old + 28 ≤ 25928 }
+    ensures list { out.new ≡ out.old ++ voice_body end_unit }
+    ensures len { length out.new ≡ length out.old + 28 }
+{
+    put_rows::<Golay18>(&END_ROWS, &[], &[], &[], out);
+}
+
+// Appends what stands behind the front of a terminator with link control.
+fn put_end_link(link: &LinkControl, out: &mut BitBuf)
+    requires { length out.old + 308 ≤ 25928 }
+    ensures list { out.new ≡ out.old ++ voice_body (end_link_unit link.now) }
+    ensures len { length out.new ≡ length out.old + 308 }
+    ensures sound { IsLinkControl link.now }
+{
+    let mut symbols = [Sym::ZERO; 24];
+    Rs::<24, 12>::encode(&link.symbols(), &mut symbols);
+    put_rows::<Golay24>(&END_LINK_ROWS, &symbols, &[], &[], out);
+}
+
+// Does nothing: its contract says that octets fit.
+fn fit(octets: &[u8])
+    ensures { All (λ octet. octet < 256) octets.now }
+{
+    let _ = octets.len();
+}
+
+// Does nothing: its contract says what a voice frame keeps.
+fn fit_frame(frame: &VoiceFrame)
+    ensures { IsVoiceFrame frame.now }
+{
+    fit(&frame.0);
+}
+
+// Does nothing: its contract says what low speed data and voice keep.
+fn fit_speech(low: &[u8; 2], voice: &Voice)
+    ensures { IsSpeech low.now voice.now }
+{
+    fit(low);
+    for frame in voice.frames() {
+        fit_frame(frame);
+    }
+}
+
+// Appends what stands behind the front of a unit.
+fn put_body(unit: &VoiceUnit, out: &mut BitBuf)
+    requires { length out.old ≡ 112 }
+    ensures list { out.new ≡ out.old ++ voice_body unit.now }
+    ensures len { voice_length_of (voice_duid unit.now) ≡ Some (length out.new) }
+    ensures sendable { IsSendableVoice unit.now }
+{
+    match unit {
+        VoiceUnit::Header(word) => put_header(word, out),
+        VoiceUnit::Link1 { link, low, voice } => put_link1(link, low, voice, out),
+        VoiceUnit::Link2 { sync, low, voice } => put_link2(sync, low, voice, out),
+        VoiceUnit::End => put_end(out),
+        VoiceUnit::EndLink { link } => put_end_link(link, out),
+    }
+}
+
+/// Sets `out` to the bits of a voice unit without status symbols, first to last: its front, with a network access code below
+/// 4,096, and the pieces of its layout. TIA-102.BAAA, Voice Data Units.
 pub fn voice_image(nac: u16, unit: &VoiceUnit, out: &mut BitBuf)
     requires { nac < 4096 }
     ensures list { out.new ≡ voice_image_of nac unit.now }
     ensures len { voice_length_of (voice_duid unit.now) ≡ Some (length out.new) }
-    ensures again { voice_reading_of (voice_duid unit.now) out.new ≡ Ok unit.now }
+    ensures sendable { IsSendableVoice unit.now }
 {
     out.clear();
     put_front(&identifier(nac, unit.duid()), out);
-    match unit {
-        VoiceUnit::End => out.put_field(0, END_NULLS),
-    }
+    put_body(unit, out);
 }
 
 // The identifier of a NAC and a DUID.

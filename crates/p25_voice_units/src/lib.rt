@@ -14,13 +14,19 @@
 #![tactic(auto)]
 
 mod image;
+#[cfg(test)]
+mod image_tests;
 mod laws;
+mod layout;
 mod read;
 #[cfg(test)]
 mod tests;
 mod unit;
+mod voice;
 
 pub use image::voice_image;
-pub use laws::voice_laws;
+pub use laws::image_laws;
+pub use layout::{END_LINK_ROWS, END_ROWS, HEADER_ROWS, LINK_ROWS, Piece, layouts};
 pub use read::read_voice;
 pub use unit::{VoiceUnit, voice_length};
+pub use voice::{Voice, VoiceFrame};

@@ -1,0 +1,6 @@
+pub mod SymbolsSteps
+pub mod ReadSteps
+pub mod WrittenLaws
+pub mod WithinLaws
+pub mod FieldLaws
+pub mod FieldWordsLaws

@@ -1,0 +1,4 @@
+pub mod SymbolsLaws
+pub mod WordsLaws
+pub mod WordsSteps
+pub mod KindsLaws

@@ -1,0 +1,82 @@
+-- The words of voice units as bits, by their fields in order, and as symbols of six bits.
+use Rattle.std.specs.Prelude.{◌≡◌, ℕ, ◌<◌, ◌^◌, Bool, List, ◌++◌, length, All}
+use Rattle.p25_bits.specs.Bits.{bits_of, field_of, octet_bits, part}
+use Rattle.p25_bits.specs.Numbers.{octets_from}
+use Rattle.p25_gf64.specs.declared.symbol.Sym.{Sym}
+use Rattle.p25_link.specs.declared.link_control.LinkControl.{LinkControl}
+use Rattle.p25_link.specs.declared.encryption_sync.EncryptionSync.{EncryptionSync}
+use Rattle.p25_link.specs.declared.header_word.HeaderWord.{HeaderWord}
+use Rattle.p25_link.specs.Symbols.{symbols_in, symbol_bits}
+
+-- the 72 bits of link control: its nine octets
+unfoldable pub link_word_bits : LinkControl → List Bool
+link_word_bits link = octet_bits link.0
+
+-- the 96 bits of encryption sync: MI 72, ALGID 8, KID 16
+unfoldable pub sync_word_bits : EncryptionSync → List Bool
+sync_word_bits sync = octet_bits sync.mi ++ bits_of 8 sync.algid ++ bits_of 16 sync.kid
+
+-- the 120 bits of the header word: MI 72, MFID 8, ALGID 8, KID 16, TGID 16
+unfoldable pub header_word_bits : HeaderWord → List Bool
+header_word_bits word = octet_bits word.mi ++ bits_of 8 word.mfid ++ bits_of 8 word.algid ++ bits_of 16 word.kid ++ bits_of 16 word.tgid
+
+-- the link control of 72 bits
+unfoldable pub link_of_bits : List Bool → LinkControl
+link_of_bits bits = record { 0 = octets_from 9 bits }
+
+-- the encryption sync of 96 bits
+unfoldable pub sync_of_bits : List Bool → EncryptionSync
+sync_of_bits bits = record { mi = octets_from 9 bits; algid = field_of (part 72 8 bits); kid = field_of (part 80 16 bits) }
+
+-- the header word of 120 bits
+unfoldable pub header_of_bits : List Bool → HeaderWord
+header_of_bits bits = record {
+  mi = octets_from 9 bits;
+  mfid = field_of (part 72 8 bits);
+  algid = field_of (part 80 8 bits);
+  kid = field_of (part 88 16 bits);
+  tgid = field_of (part 104 16 bits);
+}
+
+-- the symbols of the words
+unfoldable pub link_symbols : LinkControl → List Sym
+link_symbols link = symbols_in 12 (link_word_bits link)
+
+unfoldable pub sync_symbols : EncryptionSync → List Sym
+sync_symbols sync = symbols_in 16 (sync_word_bits sync)
+
+unfoldable pub header_symbols : HeaderWord → List Sym
+header_symbols word = symbols_in 20 (header_word_bits word)
+
+-- the words of symbols
+unfoldable pub link_of_symbols : List Sym → LinkControl
+link_of_symbols symbols = link_of_bits (symbol_bits symbols)
+
+unfoldable pub sync_of_symbols : List Sym → EncryptionSync
+sync_of_symbols symbols = sync_of_bits (symbol_bits symbols)
+
+unfoldable pub header_of_symbols : List Sym → HeaderWord
+header_of_symbols symbols = header_of_bits (symbol_bits symbols)
+
+-- nine octets
+pub record AreNineOctets (octets : List ℕ) : Type 0 where
+  pub long : length octets ≡ 9
+  pub small : All (λ octet. octet < 256) octets
+
+-- what every link control keeps
+pub record IsLinkControl (link : LinkControl) : Type 0 where
+  pub octets : AreNineOctets link.0
+
+-- what every encryption sync keeps
+pub record IsEncryptionSync (sync : EncryptionSync) : Type 0 where
+  pub mi : AreNineOctets sync.mi
+  pub algid : sync.algid < 2 ^ 8
+  pub kid : sync.kid < 2 ^ 16
+
+-- what every header word keeps
+pub record IsHeaderWord (word : HeaderWord) : Type 0 where
+  pub mi : AreNineOctets word.mi
+  pub mfid : word.mfid < 2 ^ 8
+  pub algid : word.algid < 2 ^ 8
+  pub kid : word.kid < 2 ^ 16
+  pub tgid : word.tgid < 2 ^ 16

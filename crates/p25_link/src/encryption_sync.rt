@@ -1,0 +1,51 @@
+//! Encryption sync.
+
+ghost use Rattle.std.specs.Prelude.{◌≡◌, length};
+ghost use Rattle.p25_link.specs.Words.{sync_symbols, sync_of_symbols, IsEncryptionSync};
+
+use crate::symbols::{first_octets, put_octets, put_symbols, take_symbols};
+use p25_bits::BitBuf;
+use p25_gf64::Sym;
+
+/// What a receiver needs to decrypt a call that it joins. TIA-102.BAAA, Encryption Sync Word.
+#[derive(Clone, Copy, Debug, PartialEq, Eq)]
+pub struct EncryptionSync {
+    /// The message indicator.
+    pub mi: [u8; 9],
+    /// The algorithm; 80 hex means that the voice is not encrypted.
+    pub algid: u8,
+    /// The key.
+    pub kid: u16,
+}
+
+impl EncryptionSync {
+    /// Answers the sixteen symbols of message indicator, algorithm and key.
+    pub fn symbols(&self) -> [Sym; 16]
+        ensures value { result ≡ sync_symbols self.now }
+        ensures len { length result ≡ 16 }
+        ensures back { sync_of_symbols result ≡ self.now }
+        ensures sound { IsEncryptionSync self.now }
+    {
+        let mut bits = BitBuf::new();
+        put_octets(&self.mi, &mut bits);
+        bits.put_field(u64::from(self.algid), 8);
+        bits.put_field(u64::from(self.kid), 16);
+        let mut symbols = [Sym::ZERO; 16];
+        take_symbols(&bits, &mut symbols);
+        symbols
+    }
+
+    /// Answers the encryption sync whose symbols these are.
+    pub fn from_symbols(symbols: &[Sym; 16]) -> EncryptionSync
+        ensures value { result ≡ sync_of_symbols symbols.now }
+        ensures back { sync_symbols result ≡ symbols.now }
+    {
+        let mut bits = BitBuf::new();
+        put_symbols(symbols, &mut bits);
+        EncryptionSync {
+            mi: first_octets(&bits),
+            algid: bits.field(72, 8) as u8,
+            kid: bits.field(80, 16) as u16,
+        }
+    }
+}

@@ -1,0 +1,29 @@
+//! The words that voice units carry beside voice, as the symbols of six bits that their codes take: link control, encryption
+//! sync and the header word (TIA-102.BAAA, Voice Data Units).
+//!
+//! The bits of a word are those of its fields in order, each field's most significant bit first. Six bits are a symbol, the
+//! first of them the highest of the symbol's number.
+//!
+//! ```text
+//! let link = LinkControl([0x00, 0x00, 0x80, 0x00, 0x12, 0x34, 0x56, 0x78, 0x9A]);
+//! let symbols = link.symbols();
+//! assert_eq!(LinkControl::from_symbols(&symbols), link);
+//! // link.kind() is a call with emergency to group 1234 hex from source 56789A hex
+//! ```
+//!
+//! Contracts see the symbols of a word as `link_symbols`, `sync_symbols` and `header_symbols`, and the word of symbols as
+//! `link_of_symbols`, `sync_of_symbols` and `header_of_symbols`. `word_laws` says that each undoes the other.
+#![tactic(auto)]
+
+mod encryption_sync;
+mod header_word;
+mod laws;
+mod link_control;
+mod symbols;
+#[cfg(test)]
+mod tests;
+
+pub use encryption_sync::EncryptionSync;
+pub use header_word::HeaderWord;
+pub use laws::word_laws;
+pub use link_control::{LinkControl, LinkKind};

@@ -1,0 +1,112 @@
+//! Link control.
+
+ghost use Rattle.std.specs.Prelude.{◌≡◌, ◌≢◌, ◌↔◌, ◌+◌, ◌*◌, length, slice_index};
+ghost use Rattle.p25_link.specs.Words.{link_symbols, link_of_symbols, IsLinkControl};
+ghost use Rattle.p25_link.specs.Kinds.{link_kind_of, group_call, individual_call, three_from};
+
+use crate::symbols::{first_octets, put_octets, put_symbols, take_symbols};
+use p25_bits::BitBuf;
+use p25_gf64::Sym;
+
+/// The nine octets of link control, which say whose voice a call carries and to whom. TIA-102.BAAA, Link Control Word.
+#[derive(Clone, Copy, Debug, PartialEq, Eq)]
+pub struct LinkControl(pub [u8; 9]);
+
+/// What link control says of a call, by its first octet. TIA-102.BAAA, Link Control Word, Formats.
+#[derive(Clone, Copy, Debug, PartialEq, Eq)]
+pub enum LinkKind {
+    /// A call to a group (first octet 00 hex).
+    Group {
+        /// The manufacturer, octet 1.
+        mfid: u8,
+        /// Whether the call is an emergency: the first bit of octet 2.
+        emergency: bool,
+        /// The group, octets 4 and 5.
+        group: u16,
+        /// The unit that speaks, octets 6 to 8.
+        source: u32,
+    },
+    /// A call from unit to unit (first octet 03 hex).
+    Individual {
+        /// The manufacturer, octet 1.
+        mfid: u8,
+        /// The unit that is called, octets 3 to 5.
+        destination: u32,
+        /// The unit that speaks, octets 6 to 8.
+        source: u32,
+    },
+    /// Link control with another first octet, which is not interpreted.
+    Other,
+}
+
+impl LinkControl {
+    /// Answers the twelve symbols of the nine octets.
+    pub fn symbols(&self) -> [Sym; 12]
+        ensures value { result ≡ link_symbols self.now }
+        ensures len { length result ≡ 12 }
+        ensures back { link_of_symbols result ≡ self.now }
+        ensures sound { IsLinkControl self.now }
+    {
+        let mut bits = BitBuf::new();
+        put_octets(&self.0, &mut bits);
+        let mut symbols = [Sym::ZERO; 12];
+        take_symbols(&bits, &mut symbols);
+        symbols
+    }
+
+    /// Answers the link control whose symbols these are.
+    pub fn from_symbols(symbols: &[Sym; 12]) -> LinkControl
+        ensures value { result ≡ link_of_symbols symbols.now }
+        ensures back { link_symbols result ≡ symbols.now }
+    {
+        let mut bits = BitBuf::new();
+        put_symbols(symbols, &mut bits);
+        LinkControl(first_octets(&bits))
+    }
+
+    /// Answers what the octets say of the call. Other comes exactly where the first octet is neither 00 nor 03 hex.
+    pub fn kind(&self) -> LinkKind
+        ensures value { result ≡ link_kind_of self.now }
+        ensures other { (result ≡ LinkKind.Other) ↔ ((slice_index self.now.0 0 ≢ 0) × (slice_index self.now.0 0 ≢ 3)) }
+    {
+        match self.0[0] {
+            0x00 => self.group_call(),
+            0x03 => self.individual_call(),
+            _ => LinkKind::Other,
+        }
+    }
+}
+
+#[tactic(auto, unfolding(crate::specs::Kinds::group_call, crate::specs::Kinds::individual_call))]
+impl LinkControl {
+    // Answers the call to a group that the octets describe.
+    fn group_call(&self) -> LinkKind
+        ensures { result ≡ group_call self.now }
+    {
+        LinkKind::Group {
+            mfid: self.0[1],
+            emergency: self.0[2] / 128 == 1,
+            group: 256 * u16::from(self.0[4]) + u16::from(self.0[5]),
+            source: self.source(),
+        }
+    }
+
+    // Answers the call from unit to unit that the octets describe.
+    fn individual_call(&self) -> LinkKind
+        ensures { result ≡ individual_call self.now }
+    {
+        let high = 65536 * u32::from(self.0[3]);
+        LinkKind::Individual {
+            mfid: self.0[1],
+            destination: high + 256 * u32::from(self.0[4]) + u32::from(self.0[5]),
+            source: self.source(),
+        }
+    }
+
+    // Answers the unit that speaks.
+    fn source(&self) -> u32
+        ensures { result ≡ three_from self.now 6 }
+    {
+        65536 * u32::from(self.0[6]) + 256 * u32::from(self.0[7]) + u32::from(self.0[8])
+    }
+}

@@ -1,0 +1,107 @@
+-- A unit's bits by its places: a unit is laid out and carries its coded field exactly where its bits are its front and the pieces of its
+-- rows. One way goes from the words of the field to the pieces and then to the whole, the other way back.
+use Rattle.std.proofs.Common.{◌≡◌, ◌↔◌, ℕ, zero, suc, ◌+◌, ◌*◌, ◌<◌, ◌≤◌, Bool, true, List, [], ◌∷◌, ◌++◌, length, take, drop, get_or, All, refl, ap, ap₂, sym, subst, ◌∙◌, arith, length-append, take-append-drop, Option}
+use Rattle.std.specs.List.{list_all}
+use Rattle.std.specs.Prelude.{nat_le}
+use Rattle.std.proofs.lemmas.Bool.{leb-true}
+use Rattle.std.proofs.lemmas.List.Sums.{AllPass-from_list_all}
+use Rattle.std.proofs.lemmas.List.{get_or_default}
+use Rattle.p25_bits.specs.Bits.{part}
+use Rattle.p25_code.specs.Words.{IsEncoding}
+use Rattle.std.proofs.lemmas.List.{take_at}
+use Rattle.p25_gf64.specs.declared.symbol.Sym.{Sym}
+use Rattle.p25_link.specs.Symbols.{symbol_bits}
+use Rattle.p25_front.specs.Front.{unit_front, IsFront}
+use Rattle.p25_front.proofs.FrontLaws.{length-unit_front, IsFront-unit_front, unit_front-only}
+use Rattle.p25_fields.specs.Layouts.{Layout, field_layout, sent_in}
+use Rattle.p25_fields.specs.Within.{HasField}
+use Rattle.p25_fields.proofs.FieldLaws.{field_there, field_word}
+use Rattle.p25_fields.proofs.FieldWordsLaws.{field_word_there}
+use Rattle.p25_voice_units.specs.declared.layout.Piece.{Piece}
+use Rattle.p25_voice_units.specs.declared.voice.VoiceFrame.{VoiceFrame}
+use Rattle.p25_voice_units.specs.FieldLayouts.{word_places}
+use Rattle.p25_voice_units.specs.Pieces.{piece_length}
+use Rattle.p25_voice_units.specs.Images.{Contents, piece_bits, rows_bits}
+use Rattle.p25_voice_units.specs.Places.{HasPiece, IsLaidOut}
+use Rattle.p25_voice_units.proofs.RowsLaws.{IsCarried, rows_length, rows_stand, rows_fit, length-rows_bits, rows_parts, rows_only}
+use Rattle.p25_voice_units.proofs.FieldRowsLaws.{rows_counted, group_word, words_from_rows, rows_from_words, rows_have}
+
+-- rows that suit what is carried: they follow the front end to end, and number its inner words in order
+pub record AreRows (size count : ℕ) (carried : Contents) (rows : List (ℕ × Piece)) : Type 0 where
+  pub stand : rows_stand size 112 rows ≡ true
+  pub fit : rows_fit carried.each (length carried.symbols) (length carried.low) (length carried.voice) rows ≡ true
+  pub counted : rows_counted 0 rows ≡ true
+  pub fill : count ≡ 112 + rows_length size rows
+
+-- the inner words are as many as the symbols need, and stand within the unit
+pub record AreWordPlaces (size count : ℕ) (carried : Contents) (places : List ℕ) : Type 0 where
+  pub cover : carried.each * length places ≡ length carried.symbols
+  pub inside : list_all (λ at. nat_le (at + size) count) places ≡ true
+
+module _ {IsWord : List Bool → Type 0} {size k : ℕ} {carried : Contents} (carries : IsCarried IsWord size k carried) {count : ℕ} {rows : List (ℕ × Piece)} (are : AreRows size count carried rows) where
+  -- the bits of a unit are as many as they should be
+  pub length-unit : (nac duid : ℕ) → length (unit_front nac duid ++ rows_bits carried rows) ≡ count
+  length-unit nac duid =
+      length-append (unit_front nac duid) (rows_bits carried rows) ∙ ap₂ ◌+◌ (length-unit_front nac duid) (length-rows_bits carries rows are.fit) ∙ sym are.fill
+
+  -- and have each piece at its place
+  pub unit_parts : (nac duid : ℕ) (plain : List Bool) → plain ≡ unit_front nac duid ++ rows_bits carried rows → All (λ row. part row.0 (piece_length size row.1) plain ≡ piece_bits carried row.1) rows
+  unit_parts nac duid plain is =
+      subst (λ (xs : List Bool). All (λ row. part row.0 (piece_length size row.1) xs ≡ piece_bits carried row.1) rows) (sym is)
+      (rows_parts carries rows 112 (unit_front nac duid) (length-unit_front nac duid) are.stand are.fit)
+
+  -- so they are laid out
+  pub laid_out : (nac duid : ℕ) (plain : List Bool) → plain ≡ unit_front nac duid ++ rows_bits carried rows → IsLaidOut nac duid count rows carried.low carried.voice plain
+  laid_out nac duid plain is = record {
+    long = ap length is ∙ length-unit nac duid;
+    front = subst (λ (xs : List Bool). IsFront nac duid xs) (sym (ap (take 112) is ∙ take_at (unit_front nac duid) (rows_bits carried rows) 112 (length-unit_front nac duid))) (IsFront-unit_front nac duid);
+    pieces = rows_have carried size rows plain (unit_parts nac duid plain is);
+  }
+
+  -- bits that are laid out and have their words are the unit's
+  pub laid_out-only : (nac duid : ℕ) (plain : List Bool) → IsLaidOut nac duid count rows carried.low carried.voice plain
+      → ((i : ℕ) → i < length (word_places size rows) → part (get_or (word_places size rows) i 0) size plain ≡ group_word carries (0 + i)) → plain ≡ unit_front nac duid ++ rows_bits carried rows
+  laid_out-only nac duid plain is words =
+      sym (take-append-drop 112 plain)
+      ∙ ap₂ (λ (xs ys : List Bool). xs ++ ys) (unit_front-only nac duid (take 112 plain) is.front)
+      (rows_only size carried rows 112 plain are.stand (is.long ∙ are.fill) (rows_from_words carries rows 0 plain are.counted words is.pieces))
+
+  module _ (places : AreWordPlaces size count carried (word_places size rows)) where
+    within : (plain : List Bool) → length plain ≡ count → All (λ at. at + size ≤ length plain) (word_places size rows)
+    within plain long i d inside =
+        subst (λ m. get_or (word_places size rows) i d + size ≤ m) (sym long) (leb-true _ count (AllPass-from_list_all (λ at. nat_le (at + size) count) (word_places size rows) places.inside i d inside))
+
+    -- the inner word of a group carries it
+    group_encoded : (i : ℕ) → i < length (word_places size rows) → IsEncoding IsWord k (symbol_bits (part (carried.each * i) carried.each carried.symbols)) (group_word carries (0 + i))
+    unfolding group_word
+    group_encoded i inside =
+        let none : 0 + i ≡ i = omega arith in
+        let group = part (carried.each * i) carried.each carried.symbols in
+        subst (λ m. IsEncoding IsWord k (symbol_bits group) (carried.encoding (symbol_bits (part (carried.each * m) carried.each carried.symbols)))) (sym none)
+        (field_word carries.long carried.encoding carries.encodes carried.each (length (word_places size rows)) carried.symbols carries.sixes places.cover i inside)
+
+    module _ (inner_reading : List Bool → Option (List Bool)) (outer_reading : List (Option Sym) → Option (List Sym)) (n : ℕ) {IsOuterWord : List Sym → Type 0} where
+      -- the unit carries its field
+      pub field_carried : (info : List Sym) → IsEncoding IsOuterWord n info carried.symbols → (nac duid : ℕ) (plain : List Bool) → plain ≡ unit_front nac duid ++ rows_bits carried rows
+          → HasField IsWord IsOuterWord (field_layout (word_places size rows) size carried.each inner_reading outer_reading n) info plain
+      field_carried info outer nac duid plain is =
+          let layout = field_layout (word_places size rows) size carried.each inner_reading outer_reading n in
+          let words = words_from_rows carries rows 0 plain are.counted are.fit (unit_parts nac duid plain is) in
+          subst (λ xs. HasField IsWord IsOuterWord layout xs plain) outer.begins
+          (field_there layout k carried.symbols plain carries.sixes carries.begins places.cover (within plain (ap length is ∙ length-unit nac duid)) outer.word_of_set
+          (λ i d inside.
+          subst (λ w. IsEncoding IsWord k (symbol_bits (part (carried.each * i) carried.each carried.symbols)) w)
+          (sym (ap (λ m. part m size plain) (get_or_default (word_places size rows) i d 0 inside) ∙ words i inside))
+          (group_encoded i inside)))
+
+      -- what carries the field has its words
+      pub words_carried : (info : List Sym) → ((word : List Sym) → IsEncoding IsOuterWord n info word → word ≡ carried.symbols) → (plain : List Bool) → length plain ≡ count
+          → HasField IsWord IsOuterWord (field_layout (word_places size rows) size carried.each inner_reading outer_reading n) info plain
+          → (i : ℕ) → i < length (word_places size rows) → part (get_or (word_places size rows) i 0) size plain ≡ group_word carries (0 + i)
+      words_carried info only plain long has i inside =
+          let layout = field_layout (word_places size rows) size carried.each inner_reading outer_reading n in
+          let sent = only (sent_in layout plain) (record { word_of_set = has.outer; begins = has.begins }) in
+          let there = field_word_there layout k info plain carries.sixes carries.begins (within plain long) has i inside in
+          let made = group_encoded i inside in
+          carries.one_word (part (get_or (word_places size rows) i 0) size plain) (group_word carries (0 + i)) there.word_of_set made.word_of_set
+          (there.begins ∙ ap (λ (xs : List Sym). symbol_bits (part (carried.each * i) carried.each xs)) sent ∙ sym made.begins)

@@ -1,0 +1,39 @@
+-- Where the parts of voice units stand behind their front, without status symbols, as the standard has it. A row is a place, counted
+-- from the first sync bit, and what stands there.
+use Rattle.std.specs.Prelude.{ℕ, List, [], ◌∷◌}
+use Rattle.p25_voice_units.specs.declared.layout.Piece.{Piece}
+use Rattle.p25_voice_units.specs.declared.layout.Piece.TheVariants.{Words, Frame, LowSpeed, Nulls}
+
+-- a header: 36 inner words of its coded field, and nulls
+abbrev pub header_rows : List (ℕ × Piece)
+header_rows = (112, Words 0 36) ∷ (760, Nulls 10) ∷ []
+
+-- voice with link control or encryption sync: nine frames, 24 inner words of the coded field, and two low speed words
+abbrev pub link_rows : List (ℕ × Piece)
+link_rows =
+    (112, Frame 0)
+    ∷ (256, Frame 1)
+    ∷ (400, Words 0 4)
+    ∷ (440, Frame 2)
+    ∷ (584, Words 4 4)
+    ∷ (624, Frame 3)
+    ∷ (768, Words 8 4)
+    ∷ (808, Frame 4)
+    ∷ (952, Words 12 4)
+    ∷ (992, Frame 5)
+    ∷ (1136, Words 16 4)
+    ∷ (1176, Frame 6)
+    ∷ (1320, Words 20 4)
+    ∷ (1360, Frame 7)
+    ∷ (1504, LowSpeed 0)
+    ∷ (1520, LowSpeed 1)
+    ∷ (1536, Frame 8)
+    ∷ []
+
+-- a terminator: nulls alone
+abbrev pub end_rows : List (ℕ × Piece)
+end_rows = (112, Nulls 28) ∷ []
+
+-- a terminator with link control: 12 inner words of its coded field, and nulls
+abbrev pub end_link_rows : List (ℕ × Piece)
+end_link_rows = (112, Words 0 12) ∷ (400, Nulls 20) ∷ []

@@ -1,0 +1,18 @@
+-- How many bits the pieces of a layout have, and which of them there is something for.
+use Rattle.std.specs.Prelude.{ℕ, ◌+◌, ◌*◌, Bool, nat_le, nat_lt}
+use Rattle.p25_voice_units.specs.declared.layout.Piece.{Piece}
+use Rattle.p25_voice_units.specs.declared.layout.Piece.TheVariants.{Words, Frame, LowSpeed, Nulls}
+
+-- how many bits a piece has, where an inner word has `size` bits
+abbrev pub piece_length : ℕ → Piece → ℕ
+piece_length size (Words first count) = size * count
+piece_length size (Frame i) = 144
+piece_length size (LowSpeed i) = 16
+piece_length size (Nulls count) = count
+
+-- there are enough symbols, `each` for an inner word, enough octets of low speed data and enough voice frames
+abbrev pub piece_fits : ℕ → ℕ → ℕ → ℕ → Piece → Bool
+piece_fits each symbols low frames (Words first count) = nat_le (each * first + each * count) symbols
+piece_fits each symbols low frames (Frame i) = nat_lt i frames
+piece_fits each symbols low frames (LowSpeed i) = nat_lt i low
+piece_fits each symbols low frames (Nulls count) = nat_le count 64

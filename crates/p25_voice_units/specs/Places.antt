@@ -1,0 +1,46 @@
+-- The bits of voice units by their places, as the standard has it.
+use Rattle.std.specs.Prelude.{◌≡◌, ℕ, Bool, false, List, [], length, take, replicate, slice_index, All}
+use Rattle.p25_bits.specs.Bits.{bits_of, octet_bits, part}
+use Rattle.p25_code.specs.Words.{IsEncoding}
+use Rattle.p25_hamming.specs.Hamming10.{IsHamming10}
+use Rattle.p25_hamming.specs.Lsd16.{IsLsd16}
+use Rattle.p25_golay.specs.Golay18.{IsGolay18}
+use Rattle.p25_golay.specs.Golay24.{IsGolay24}
+use Rattle.p25_reed_solomon.specs.Words.{IsWord}
+use Rattle.p25_link.specs.Words.{header_symbols, link_symbols, sync_symbols}
+use Rattle.p25_fields.specs.Within.{HasField}
+use Rattle.p25_front.specs.Front.{IsFront}
+use Rattle.p25_voice_units.specs.declared.layout.Piece.{Piece}
+use Rattle.p25_voice_units.specs.declared.layout.Piece.TheVariants.{Words, Frame, LowSpeed, Nulls}
+use Rattle.p25_voice_units.specs.declared.voice.VoiceFrame.{VoiceFrame}
+use Rattle.p25_voice_units.specs.declared.unit.VoiceUnit.{VoiceUnit}
+use Rattle.p25_voice_units.specs.declared.unit.VoiceUnit.TheVariants.{Header, Link1, Link2, End, EndLink}
+use Rattle.p25_voice_units.specs.Layouts.{header_rows, link_rows, end_rows, end_link_rows}
+use Rattle.p25_voice_units.specs.FieldLayouts.{header_layout, link_layout, sync_layout, end_link_layout}
+use Rattle.p25_voice_units.specs.Images.{frame_at}
+
+-- what stands at a place: the 144 bits of a voice frame, a low speed word with an octet of data, or nulls. Of the inner words of the
+-- coded field `HasField` speaks
+abbrev pub HasPiece : List ℕ → List VoiceFrame → List Bool → ℕ → Piece → Type 0
+HasPiece low voice plain at (Words first count) = Unit {0}
+HasPiece low voice plain at (Frame i) = part at 144 plain ≡ octet_bits (frame_at voice i).0
+HasPiece low voice plain at (LowSpeed i) = IsEncoding IsLsd16 8 (bits_of 8 (slice_index low i)) (part at 16 plain)
+HasPiece low voice plain at (Nulls count) = part at count plain ≡ replicate count false
+
+-- bits are a unit of a NAC and a DUID by a layout: so many, and what should stands at each place
+pub record IsLaidOut (nac duid count : ℕ) (rows : List (ℕ × Piece)) (low : List ℕ) (voice : List VoiceFrame) (plain : List Bool) : Type 0 where
+  pub long : length plain ≡ count
+  pub front : IsFront nac duid (take 112 plain)
+  pub pieces : All (λ row. HasPiece low voice plain row.0 row.1) rows
+
+-- bits are a voice unit: they are laid out as its kind is, and carry its coded field
+unfoldable pub IsVoiceImage : ℕ → VoiceUnit → List Bool → Type 0
+IsVoiceImage nac (Header word) plain =
+    IsLaidOut nac 0 770 header_rows [] [] plain × HasField IsGolay18 (IsWord 36 20) header_layout (header_symbols word) plain
+IsVoiceImage nac (Link1 link low voice) plain =
+    IsLaidOut nac 5 1680 link_rows low voice plain × HasField IsHamming10 (IsWord 24 12) link_layout (link_symbols link) plain
+IsVoiceImage nac (Link2 sync low voice) plain =
+    IsLaidOut nac 10 1680 link_rows low voice plain × HasField IsHamming10 (IsWord 24 16) sync_layout (sync_symbols sync) plain
+IsVoiceImage nac End plain = IsLaidOut nac 3 140 end_rows [] [] plain
+IsVoiceImage nac (EndLink link) plain =
+    IsLaidOut nac 15 420 end_link_rows [] [] plain × HasField IsGolay24 (IsWord 24 12) end_link_layout (link_symbols link) plain

@@ -1,0 +1,38 @@
+-- What voice units keep by their types.
+use Rattle.std.specs.Prelude.{◌≡◌, ℕ, ◌<◌, List, [], length, All}
+use Rattle.p25_link.specs.Words.{IsHeaderWord, IsLinkControl, IsEncryptionSync}
+use Rattle.p25_link.specs.declared.link_control.LinkControl.{LinkControl}
+use Rattle.p25_link.specs.declared.encryption_sync.EncryptionSync.{EncryptionSync}
+use Rattle.p25_voice_units.specs.declared.voice.VoiceFrame.{VoiceFrame}
+use Rattle.p25_voice_units.specs.declared.unit.VoiceUnit.{VoiceUnit}
+use Rattle.p25_voice_units.specs.declared.unit.VoiceUnit.TheVariants.{Header, Link1, Link2, End, EndLink}
+
+-- a voice frame: eighteen octets
+pub record IsVoiceFrame (frame : VoiceFrame) : Type 0 where
+  pub long : length frame.0 ≡ 18
+  pub small : All (λ octet. octet < 256) frame.0
+
+-- nine voice frames, and two octets of low speed data
+pub record IsSpeech (low : List ℕ) (voice : List VoiceFrame) : Type 0 where
+  pub two : length low ≡ 2
+  pub small : All (λ octet. octet < 256) low
+  pub nine : length voice ≡ 9
+  pub frames : All IsVoiceFrame voice
+
+-- what voice with link control keeps
+pub record IsSendableLink1 (link : LinkControl) (low : List ℕ) (voice : List VoiceFrame) : Type 0 where
+  pub word : IsLinkControl link
+  pub speech : IsSpeech low voice
+
+-- what voice with encryption sync keeps
+pub record IsSendableLink2 (sync : EncryptionSync) (low : List ℕ) (voice : List VoiceFrame) : Type 0 where
+  pub word : IsEncryptionSync sync
+  pub speech : IsSpeech low voice
+
+-- what every voice unit keeps
+unfoldable pub IsSendableVoice : VoiceUnit → Type 0
+IsSendableVoice (Header word) = IsHeaderWord word
+IsSendableVoice (Link1 link low voice) = IsSendableLink1 link low voice
+IsSendableVoice (Link2 sync low voice) = IsSendableLink2 sync low voice
+IsSendableVoice End = Unit {0}
+IsSendableVoice (EndLink link) = IsLinkControl link
