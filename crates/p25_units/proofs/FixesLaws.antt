@@ -14,26 +14,27 @@ use Rattle.p25_front.specs.Front.{unit_front, front_of, front_fixes_of}
 use Rattle.p25_front.proofs.FrontLaws.{front_of-plain_of}
 use Rattle.p25_voice_units.specs.declared.unit.VoiceUnit.{VoiceUnit}
 use Rattle.p25_voice_units.specs.declared.unit.VoiceUnit.TheVariants.{End}
-use Rattle.p25_voice_units.specs.Readings.{voice_looked}
+use Rattle.p25_voice_units.specs.Fixes.{voice_looked, bits_at, voice_fixes_of}
+use Rattle.p25_voice_units.specs.Images.{voice_image_of}
 use Rattle.p25_packet_blocks.specs.declared.packet.Packet.{Packet as packet_type}
 use Rattle.p25_packet_blocks.specs.Heads.{head_blocks}
 use Rattle.p25_packet_blocks.specs.Image.{packet_image_of}
 use Rattle.p25_packet_blocks.specs.Whole.{packet_head}
 use Rattle.p25_units.specs.UnitParts.{UnitParts}
 use Rattle.p25_units.specs.Units.{body_duid, unit_image_of, image_of, IsSoundFrame, IsSendableBody, IsSendableUnit}
-use Rattle.p25_units.specs.Fixes.{packet_looked, body_looked, looked_of, looked_at, body_fixes_of, fixes_of}
+use Rattle.p25_units.specs.Fixes.{packet_looked, body_looked, looked_of, body_fixes_of, fixes_of}
 use Rattle.p25_units.specs.declared.unit.Body.TheVariants.{Voice, Packet}
 use Rattle.p25_units.specs.declared.frame.Frame.{Frame}
 use Rattle.p25_units.proofs.UnitsLaws.{unit_image_of-front, plain_of-image_of, length-unit_image_of, IsSentLength-body}
 
 -- the bits at one place, and at none
-looked_at-cons : (place : ℕ × ℕ) (places : List (ℕ × ℕ)) (bits : List Bool) → looked_at (place ∷ places) bits ≡ part place.0 place.1 bits ++ looked_at places bits
-unfolding looked_at
-looked_at-cons place places bits = refl
+bits_at-cons : (place : ℕ × ℕ) (places : List (ℕ × ℕ)) (bits : List Bool) → bits_at (place ∷ places) bits ≡ part place.0 place.1 bits ++ bits_at places bits
+unfolding bits_at
+bits_at-cons place places bits = refl
 
-looked_at-nil : (bits : List Bool) → looked_at [] bits ≡ []
-unfolding looked_at
-looked_at-nil bits = refl
+bits_at-nil : (bits : List Bool) → bits_at [] bits ≡ []
+unfolding bits_at
+bits_at-nil bits = refl
 
 -- the first 111 bits of what begins with a front
 first_111 : (bits start : List Bool) → take 112 bits ≡ start → take 111 bits ≡ take 111 start
@@ -51,57 +52,56 @@ fixes_of-parts frame blocks sent sendable two long =
     let is = IsSentLength-body unit.body in
     let plain_long : 111 ≤ length plain = omega (arith, length-plain_of blocks sent long, two) in
     let image_long : 111 ≤ length image = omega (arith, length-unit_image_of unit sendable, is.fills, is.least) in
-    ap₂ (λ (xs ys : List Bool). distance_of xs ys) (looked_at-cons (0, 111) places plain) (looked_at-cons (0, 111) places image)
-    ∙ distance_by-append beq (take 111 plain) (looked_at places plain) (take 111 image) (looked_at places image) (length-take-le 111 plain plain_long ∙ sym (length-take-le 111 image image_long))
-    ∙ ap (λ n. n + distance_of (looked_at places plain) (looked_at places image))
+    ap₂ (λ (xs ys : List Bool). distance_of xs ys) (bits_at-cons (0, 111) places plain) (bits_at-cons (0, 111) places image)
+    ∙ distance_by-append beq (take 111 plain) (bits_at places plain) (take 111 image) (bits_at places image) (length-take-le 111 plain plain_long ∙ sym (length-take-le 111 image image_long))
+    ∙ ap (λ n. n + distance_of (bits_at places plain) (bits_at places image))
     (ap₂ (λ (xs ys : List Bool). distance_of xs ys)
     (first_111 plain (front_of sent) (front_of-plain_of blocks sent two long))
     (first_111 image (unit_front unit.nac (body_duid unit.body)) (unit_image_of-front unit sendable)))
 
--- behind the front of a terminator nothing is looked at
-looked-none : (voice : VoiceUnit) → voice_looked voice ≡ []
-unfolding voice_looked
-looked-none End = refl
+-- of a voice unit
+pub body_fixes_of-voice : (nac : ℕ) (voice : VoiceUnit) (plain : List Bool) → let unit : UnitParts = record { nac = nac; body = Voice voice } in body_fixes_of unit plain ≡ voice_fixes_of voice plain (voice_image_of nac voice)
+unfolding body_fixes_of unit_image_of voice_fixes_of
+body_fixes_of-voice nac voice plain = refl
 
-pub body_fixes_of-voice : (nac : ℕ) (voice : VoiceUnit) (plain : List Bool) → let unit : UnitParts = record { nac = nac; body = Voice voice } in body_fixes_of unit plain ≡ 0
-unfolding body_fixes_of
-body_fixes_of-voice nac voice plain =
-    let unit : UnitParts = record { nac = nac; body = Voice voice } in
-    ap (λ places. distance_of (looked_at places plain) (looked_at places (unit_image_of unit))) (looked-none voice)
-    ∙ ap₂ (λ (xs ys : List Bool). distance_of xs ys) (looked_at-nil plain) (looked_at-nil (unit_image_of unit))
-    ∙ distance_of-same []
+-- behind the front of a terminator nothing is looked at
+pub body_fixes_of-end : (nac : ℕ) (plain : List Bool) → let unit : UnitParts = record { nac = nac; body = Voice End } in body_fixes_of unit plain ≡ 0
+unfolding body_fixes_of voice_looked
+body_fixes_of-end nac plain =
+    let unit : UnitParts = record { nac = nac; body = Voice End } in
+    ap₂ (λ (xs ys : List Bool). distance_of xs ys) (bits_at-nil plain) (bits_at-nil (unit_image_of unit)) ∙ distance_of-same []
 
 -- the looked-at places of a packet touch
-looked_at-append : (xs ys : List (ℕ × ℕ)) (bits : List Bool) → looked_at (xs ++ ys) bits ≡ looked_at xs bits ++ looked_at ys bits
-looked_at-append [] ys bits = ap (λ (front : List Bool). front ++ looked_at ys bits) (sym (looked_at-nil bits))
-looked_at-append (x ∷ xs) ys bits =
-    looked_at-cons x (xs ++ ys) bits
-    ∙ ap (λ (rest : List Bool). part x.0 x.1 bits ++ rest) (looked_at-append xs ys bits)
-    ∙ sym (append_assoc (part x.0 x.1 bits) (looked_at xs bits) (looked_at ys bits))
-    ∙ ap (λ (front : List Bool). front ++ looked_at ys bits) (sym (looked_at-cons x xs bits))
+bits_at-append : (xs ys : List (ℕ × ℕ)) (bits : List Bool) → bits_at (xs ++ ys) bits ≡ bits_at xs bits ++ bits_at ys bits
+bits_at-append [] ys bits = ap (λ (front : List Bool). front ++ bits_at ys bits) (sym (bits_at-nil bits))
+bits_at-append (x ∷ xs) ys bits =
+    bits_at-cons x (xs ++ ys) bits
+    ∙ ap (λ (rest : List Bool). part x.0 x.1 bits ++ rest) (bits_at-append xs ys bits)
+    ∙ sym (append_assoc (part x.0 x.1 bits) (bits_at xs bits) (bits_at ys bits))
+    ∙ ap (λ (front : List Bool). front ++ bits_at ys bits) (sym (bits_at-cons x xs bits))
 
 block_places : ℕ → List (ℕ × ℕ)
 block_places n = each_below n (λ j. (308 + 196 * j, 196))
 
-looked_at-blocks : (n : ℕ) (bits : List Bool) → part 112 196 bits ++ looked_at (block_places n) bits ≡ part 112 (196 * (1 + n)) bits
+bits_at-blocks : (n : ℕ) (bits : List Bool) → part 112 196 bits ++ bits_at (block_places n) bits ≡ part 112 (196 * (1 + n)) bits
 unfolding block_places
-looked_at-blocks zero bits = ap (λ (rest : List Bool). part 112 196 bits ++ rest) (ap (λ places. looked_at places bits) (each_below-zero (λ j. (308 + 196 * j, 196))) ∙ looked_at-nil bits) ∙ append-nil (part 112 196 bits)
-looked_at-blocks (suc n) bits =
+bits_at-blocks zero bits = ap (λ (rest : List Bool). part 112 196 bits ++ rest) (ap (λ places. bits_at places bits) (each_below-zero (λ j. (308 + 196 * j, 196))) ∙ bits_at-nil bits) ∙ append-nil (part 112 196 bits)
+bits_at-blocks (suc n) bits =
     let place : ℕ × ℕ = (308 + 196 * n, 196) in
-    let one : looked_at (place ∷ []) bits ≡ part (308 + 196 * n) 196 bits
-    = looked_at-cons place [] bits ∙ ap (λ (rest : List Bool). part (308 + 196 * n) 196 bits ++ rest) (looked_at-nil bits) ∙ append-nil (part (308 + 196 * n) 196 bits) in
+    let one : bits_at (place ∷ []) bits ≡ part (308 + 196 * n) 196 bits
+    = bits_at-cons place [] bits ∙ ap (λ (rest : List Bool). part (308 + 196 * n) 196 bits ++ rest) (bits_at-nil bits) ∙ append-nil (part (308 + 196 * n) 196 bits) in
     let last : 112 + 196 * (1 + n) ≡ 308 + 196 * n = omega arith in
     let all : 196 * (1 + n) + 196 ≡ 196 * (1 + suc n) = omega arith in
     ap (λ (rest : List Bool). part 112 196 bits ++ rest)
-    (ap (λ places. looked_at places bits) (each_below-suc n (λ j. (308 + 196 * j, 196))) ∙ looked_at-append (block_places n) (place ∷ []) bits ∙ ap (λ (rest : List Bool). looked_at (block_places n) bits ++ rest) one)
-    ∙ sym (append_assoc (part 112 196 bits) (looked_at (block_places n) bits) (part (308 + 196 * n) 196 bits))
-    ∙ ap₂ (λ (xs ys : List Bool). xs ++ ys) (looked_at-blocks n bits) (ap (λ at. part at 196 bits) (sym last))
+    (ap (λ places. bits_at places bits) (each_below-suc n (λ j. (308 + 196 * j, 196))) ∙ bits_at-append (block_places n) (place ∷ []) bits ∙ ap (λ (rest : List Bool). bits_at (block_places n) bits ++ rest) one)
+    ∙ sym (append_assoc (part 112 196 bits) (bits_at (block_places n) bits) (part (308 + 196 * n) 196 bits))
+    ∙ ap₂ (λ (xs ys : List Bool). xs ++ ys) (bits_at-blocks n bits) (ap (λ at. part at 196 bits) (sym last))
     ∙ part_add 112 (196 * (1 + n)) 196 bits
     ∙ ap (λ count. part 112 count bits) all
 
-looked_at-packet : (n : ℕ) (bits : List Bool) → looked_at (packet_looked n) bits ≡ part 112 (196 * (1 + n)) bits
+bits_at-packet : (n : ℕ) (bits : List Bool) → bits_at (packet_looked n) bits ≡ part 112 (196 * (1 + n)) bits
 unfolding packet_looked block_places
-looked_at-packet n bits = looked_at-cons (112, 196) (block_places n) bits ∙ looked_at-blocks n bits
+bits_at-packet n bits = bits_at-cons (112, 196) (block_places n) bits ∙ bits_at-blocks n bits
 
 pub body_fixes_of-packet : (nac : ℕ) (packet : packet_type) (plain : List Bool)
     → let unit : UnitParts = record { nac = nac; body = Packet packet } in
@@ -110,12 +110,12 @@ pub body_fixes_of-packet : (nac : ℕ) (packet : packet_type) (plain : List Bool
 unfolding body_fixes_of unit_image_of
 body_fixes_of-packet nac packet plain =
     let n = head_blocks (packet_head packet) in
-    ap₂ (λ (xs ys : List Bool). distance_of xs ys) (looked_at-packet n plain) (looked_at-packet n (packet_image_of nac packet))
+    ap₂ (λ (xs ys : List Bool). distance_of xs ys) (bits_at-packet n plain) (bits_at-packet n (packet_image_of nac packet))
 
 -- an undamaged image has none
 pub fixes_of-image_of : (frame : Frame) → IsSoundFrame frame → IsSendableUnit frame.unit → fixes_of frame (image_of frame) ≡ 0
 unfolding fixes_of
 fixes_of-image_of frame sound sendable =
     let places = looked_of frame.unit in
-    ap (λ (xs : List Bool). distance_of (looked_at places xs) (looked_at places (unit_image_of frame.unit))) (plain_of-image_of frame sound sendable)
-    ∙ distance_of-same (looked_at places (unit_image_of frame.unit))
+    ap (λ (xs : List Bool). distance_of (bits_at places xs) (bits_at places (unit_image_of frame.unit))) (plain_of-image_of frame sound sendable)
+    ∙ distance_of-same (bits_at places (unit_image_of frame.unit))

@@ -5,16 +5,20 @@ use Rattle.std.specs.Option.{unwrap_or}
 use Rattle.std.proofs.lemmas.Bool.{cases_eq, cond-false, ne_eqb}
 use Rattle.p25_bits.proofs.NumbersLaws.{joined_below-zero, joined_below-suc}
 use Rattle.p25_status.specs.Woven.{plain_of, statuses_of}
-use Rattle.p25_status.proofs.WovenLaws.{length-statuses_of}
+use Rattle.p25_status.proofs.WovenLaws.{length-plain_of, length-statuses_of}
 use Rattle.p25_status.specs.declared.fields.Field.{Field}
 use Rattle.p25_status.specs.declared.fields.Field.TheVariants.{Nid}
 use Rattle.p25_status.specs.declared.symbols.Status.{Status}
 use Rattle.p25_front.specs.Front.{identifier_of}
 use Rattle.p25_voice_units.specs.declared.unit.VoiceUnit.{VoiceUnit}
-use Rattle.p25_voice_units.specs.declared.unit.VoiceUnit.TheVariants.{End}
-use Rattle.p25_voice_units.specs.Lengths.{voice_length_of}
+use Rattle.p25_voice_units.specs.Lengths.{voice_duid, voice_length_of}
 use Rattle.p25_voice_units.specs.Readings.{voice_reading_of}
-use Rattle.p25_voice_units.proofs.VoiceLaws.{voice_duid-reading, voice_reading_of-end}
+use Rattle.p25_voice_units.specs.Sendable.{IsSendableVoice}
+use Rattle.p25_voice_units.specs.Images.{voice_image_of}
+use Rattle.p25_voice_units.specs.Places.{IsVoiceImage}
+use Rattle.p25_voice_units.proofs.ImagesLaws.{length-voice_image_of, IsVoiceImage-iff}
+use Rattle.p25_voice_units.proofs.RadiusLaws.{voice_within}
+use Rattle.p25_voice_units.proofs.ReadingLaws.{unit_read}
 use Rattle.p25_packet_blocks.specs.declared.head.PacketHead.{PacketHead}
 use Rattle.p25_packet_blocks.specs.declared.block.Slot.{Slot}
 use Rattle.p25_packet_blocks.specs.declared.block.Slot.TheVariants.{Good, Bad}
@@ -29,14 +33,15 @@ use Rattle.p25_packet_blocks.proofs.NearLaws.{half_near, three_quarter_near}
 use Rattle.p25_packet_blocks.proofs.RadiusLaws.{packet_within}
 use Rattle.p25_packet_blocks.proofs.WholeLaws.{IsWholeRead-reading}
 use Rattle.p25_units.specs.UnitParts.{UnitParts}
-use Rattle.p25_units.specs.Units.{body_duid, body_length, body_image_of, sent_length, frame_length_of, IsWholeBody, IsSoundFrame, IsSendableBody}
+use Rattle.p25_units.specs.Units.{body_duid, body_length, body_image_of, unit_image_of, sent_length, frame_length_of, IsWholeBody, IsSoundFrame, IsSendableBody}
 use Rattle.p25_units.specs.Readings.{body_from, failing_slot, failing_slots_of, failing_blocks_of, whole_from, packet_body_from, body_reading_of, frame_from, reading_from, unit_reading_of}
 use Rattle.p25_units.specs.WholeLaws.{IsBodyRead}
-use Rattle.p25_units.specs.WithinRadius.{IsBodyWithin}
+use Rattle.p25_units.specs.WithinRadius.{IsBodyWithin, received_body}
 use Rattle.p25_units.specs.declared.unit.Body.{Body}
 use Rattle.p25_units.specs.declared.unit.Body.TheVariants.{Voice, Packet}
 use Rattle.p25_units.specs.declared.frame.Frame.{Frame}
-use Rattle.p25_units.proofs.UnitsLaws.{sent_length-packet}
+use Rattle.p25_units.proofs.UnitsLaws.{IsSentLength-body, body_length-voice, body_length-known, sent_length-packet}
+use Rattle.p25_units.proofs.NeedsLaws.{voice-other}
 use Rattle.p25_units.proofs.KindsLaws.{IsUnitOf}
 
 -- a frame
@@ -145,7 +150,7 @@ pub record IsBodyOf (duid : ℕ) (plain : List Bool) (body : Body) : Type 0 wher
   pub duid_is : body_duid body ≡ duid
   pub whole : IsWholeBody body
   pub sendable : IsSendableBody body
-  pub read : IsBodyRead body plain
+  pub read : (nac : ℕ) → length plain ≡ body_length body → IsBodyRead body (body_image_of nac body) plain
   pub head : HasHead body plain
 
 IsBodyOf-packet : (plain : List Bool) (packet : packet_type) → packet_reading_of plain ≡ Ok packet → failing_blocks_of packet ≡ [] → IsBodyOf 0xC plain (Packet packet)
@@ -153,7 +158,7 @@ unfolding IsWholeBody IsSendableBody IsBodyRead
 IsBodyOf-packet plain packet read none =
     let whole = IsWholePacket-none packet none in
     let is = IsWholeRead-reading plain packet read whole in
-    record { duid_is = refl; whole = whole; sendable = is.sendable; read = is.read; head = is.head }
+    record { duid_is = refl; whole = whole; sendable = is.sendable; read = λ nac long. is.read; head = is.head }
 
 packet_body-whole : (plain : List Bool) (packet : packet_type) (fields : List Field) (body : Body) → packet_reading_of plain ≡ Ok packet → failing_blocks_of packet ≡ fields → whole_from packet fields ≡ Ok body → IsBodyOf 0xC plain body
 packet_body-whole plain packet [] body read none e = let same : Packet packet ≡ body = cc in subst (IsBodyOf 0xC plain) same (IsBodyOf-packet plain packet read none)
@@ -168,7 +173,14 @@ voice_body-from : (duid : ℕ) (plain : List Bool) (reading : Result VoiceUnit (
 unfolding IsWholeBody IsSendableBody IsBodyRead
 voice_body-from duid plain (Ok voice) body is e =
     let same : Voice voice ≡ body = cc in
-    let read : IsBodyOf duid plain (Voice voice) = record { duid_is = voice_duid-reading duid plain voice is; whole = tt; sendable = tt; read = tt; head = tt } in
+    let unit = unit_read duid plain voice is in
+    let read : IsBodyOf duid plain (Voice voice) = record {
+      duid_is = unit.kind;
+      whole = tt;
+      sendable = unit.sendable;
+      read = λ nac long. voice_read nac duid plain voice is (long ∙ body_length-voice voice (length (voice_image_of nac voice)) (length-voice_image_of nac voice unit.sendable));
+      head = tt;
+    } in
     subst (IsBodyOf duid plain) same read
 voice_body-from duid plain (Err fields) body is e = absurd (cc)
 
@@ -189,7 +201,7 @@ length_of_body duid sent (Voice voice) unit is = elim unit.kind [
 ]
   where
     packet_is_no_voice : (voice : VoiceUnit) → body_duid (Voice voice) ≡ 0xC → ⊥
-    packet_is_no_voice End is = omega arith
+    packet_is_no_voice voice is = voice-other (voice_duid voice) (body_length (Voice voice)) (body_length-known voice) is
 length_of_body duid sent (Packet packet) unit is = elim unit.kind [
   | inl kind ↦ absurd (kind.other (sym is.duid_is))
   | inr kind ↦
@@ -207,14 +219,16 @@ pub record IsFrameOf (nid : ℕ × ℕ) (sent : List Bool) (frame : Frame) : Typ
   pub sound : IsSoundFrame frame
   pub sendable : IsSendableBody frame.unit.body
   pub long : frame_length_of frame.unit ≡ length sent
-  pub read : IsBodyRead frame.unit.body (plain_of sent)
+  pub read : IsBodyRead frame.unit.body (unit_image_of frame.unit) (plain_of sent)
 
 IsFrameOf-body : (nid : ℕ × ℕ) (sent : List Bool) (body : Body) → IsUnitOf nid.1 sent → body_reading_of nid.1 (plain_of sent) ≡ Ok body → IsFrameOf nid sent (frame_of nid.0 (statuses_of sent) body)
-unfolding frame_length_of frame_of
+unfolding frame_length_of frame_of unit_image_of
 IsFrameOf-body nid sent body unit read =
     let is = IsBodyOf-reading nid.1 (plain_of sent) body read in
     let whole = length_of_body nid.1 sent body unit is in
     let symbols : length (statuses_of sent) ≡ unit.blocks = length-statuses_of unit.blocks sent unit.long in
+    let counted = IsSentLength-body body in
+    let plain : length (plain_of sent) ≡ body_length body = omega (arith, length-plain_of unit.blocks sent unit.long, whole, unit.long, counted.fills, counted.sent) in
     record {
       nac = refl;
       duid = is.duid_is;
@@ -222,7 +236,7 @@ IsFrameOf-body nid sent body unit read =
       sound = record { whole = is.whole; symbols = ap (λ n. 72 * n) symbols ∙ sym unit.long ∙ sym whole };
       sendable = is.sendable;
       long = whole;
-      read = is.read;
+      read = is.read nid.0 plain;
     }
 
 frame_from-frame : (nid : ℕ × ℕ) (sent : List Bool) (reading : Result Body (List Field)) (frame : Frame) → IsUnitOf nid.1 sent → body_reading_of nid.1 (plain_of sent) ≡ reading → frame_from nid.0 (statuses_of sent) reading ≡ Ok frame → IsFrameOf nid sent frame
@@ -237,6 +251,10 @@ IsFrameOf-reading nid sent frame unit e = frame_from-frame nid sent (body_readin
 
 -- Bits within radius.
 
+-- the bits of a voice unit are laid out as its kind is
+pub IsVoiceImage-same : (nac : ℕ) (voice : VoiceUnit) → IsSendableVoice voice → IsVoiceImage nac voice (voice_image_of nac voice)
+IsVoiceImage-same nac voice sendable = (IsVoiceImage-iff nac voice (voice_image_of nac voice) sendable).1 refl
+
 -- a packet reads as itself
 pub packet_reading_of-near : (nac : ℕ) (packet : packet_type) (plain : List Bool) → IsSendable packet → IsBodyWithin (Packet packet) (body_image_of nac (Packet packet)) plain → packet_reading_of plain ≡ Ok packet
 unfolding IsBodyWithin
@@ -250,11 +268,13 @@ head_reading_of-near nac packet plain sendable within =
 packet_body_from-whole : (packet : packet_type) → IsWholePacket packet → packet_body_from (Ok packet) ≡ Ok (Packet packet)
 packet_body_from-whole packet whole = packet_body_from-read packet ∙ ap (whole_from packet) (failing_blocks_of-none packet whole)
 
--- a body is read from bits that are within radius of its own: of a terminator from any
-pub body_reading_of-near : (nac : ℕ) (body : Body) (plain : List Bool) → IsSendableBody body → IsBodyWithin body (body_image_of nac body) plain → body_reading_of (body_duid body) plain ≡ Ok body
-unfolding IsSendableBody
-body_reading_of-near nac (Voice End) plain sendable within = body_reading_of-voice 3 plain (λ is. omega arith) ∙ ap body_from (voice_reading_of-end plain)
-body_reading_of-near nac (Packet packet) plain sendable within =
+-- a body is read from bits that are within radius of its own, with the voice frames as received
+pub body_reading_of-near : (nac : ℕ) (body : Body) (plain : List Bool) → IsSendableBody body → length plain ≡ length (body_image_of nac body) → IsBodyWithin body (body_image_of nac body) plain → body_reading_of (body_duid body) plain ≡ Ok (received_body body plain)
+unfolding IsSendableBody IsBodyWithin
+body_reading_of-near nac (Voice voice) plain sendable long within =
+    body_reading_of-voice (voice_duid voice) plain (voice-other (voice_duid voice) (body_length (Voice voice)) (body_length-known voice))
+    ∙ ap body_from (voice_within nac voice (voice_image_of nac voice) plain sendable (IsVoiceImage-same nac voice sendable) long within)
+body_reading_of-near nac (Packet packet) plain sendable long within =
     body_reading_of-packet plain
     ∙ ap packet_body_from (packet_reading_of-near nac packet plain sendable within)
     ∙ packet_body_from-whole packet (IsWholePacket-sendable packet sendable)

@@ -12,6 +12,8 @@ use Rattle.p25_front.specs.Front.{unit_front, identifier_bits}
 use Rattle.p25_front.proofs.FrontLaws.{front_of-sync, front_of-identifier, front_fixes_of-parts, identifier_bits-take}
 use Rattle.p25_voice_units.specs.declared.unit.VoiceUnit.TheVariants.{End}
 use Rattle.p25_voice_units.specs.Lengths.{voice_length_of}
+use Rattle.p25_voice_units.specs.Sendable.{IsSendableVoice}
+use Rattle.p25_voice_units.specs.WithinRadius.{IsVoiceWithin}
 use Rattle.p25_voice_units.proofs.VoiceLaws.{voice_image_of-end}
 use Rattle.p25_units.specs.UnitParts.{UnitParts}
 use Rattle.p25_units.specs.declared.unit.Body.TheVariants.{Voice}
@@ -20,7 +22,7 @@ use Rattle.p25_units.specs.Terminators.{terminator, terminator_bits, sync_errors
 use Rattle.p25_units.specs.Units.{unit_image_of, frame_length_of, image_of, IsWholeBody, IsSoundFrame, IsSendableBody, IsSendableUnit}
 use Rattle.p25_units.specs.WithinRadius.{IsBodyWithin, IsFrontWithin, IsWithinRadius}
 use Rattle.p25_units.proofs.UnitsLaws.{front_of-image_of, length-image_of}
-use Rattle.p25_units.proofs.FixesLaws.{fixes_of-parts, body_fixes_of-voice}
+use Rattle.p25_units.proofs.FixesLaws.{fixes_of-parts, body_fixes_of-end}
 
 -- a terminator has 144 bits as it is sent
 pub length-terminator : (nac : ℕ) (statuses : List Status) → frame_length_of (terminator nac statuses).unit ≡ 144
@@ -34,7 +36,7 @@ IsSoundFrame-terminator nac statuses two = record { whole = tt; symbols = ap (λ
 
 -- and with a network access code of 12 bits it can be sent
 IsSendableBody-terminator : IsSendableBody (Voice End)
-unfolding IsSendableBody
+unfolding IsSendableBody IsSendableVoice
 IsSendableBody-terminator = tt
 
 pub IsSendableUnit-terminator : (nac : ℕ) (statuses : List Status) → nac < 4096 → IsSendableUnit (terminator nac statuses).unit
@@ -78,7 +80,7 @@ two-statuses bits there = length-statuses_of 2 (take 144 bits) (length-take-le 1
 
 -- bits that begin with a terminator lie within radius of its frame
 pub IsWithinRadius-terminator : (nac : ℕ) (statuses : List Status) (bits : List Bool) → length statuses ≡ 2 → HasTerminator nac bits → IsWithinRadius (terminator nac statuses) (take 144 bits)
-unfolding IsBodyWithin
+unfolding IsBodyWithin IsVoiceWithin
 IsWithinRadius-terminator nac statuses bits two has =
     let sound = IsSoundFrame-terminator nac statuses two in
     let sync = sym (sync-terminator nac statuses sound has.fits) in
@@ -108,9 +110,6 @@ HasTerminator-from nac statuses bits sound fits there near = record {
 }
 
 -- its fixes are these errors
-body_fixes_of-end : (nac : ℕ) (plain : List Bool) → let unit : UnitParts = record { nac = nac; body = Voice End } in body_fixes_of unit plain ≡ 0
-body_fixes_of-end nac plain = body_fixes_of-voice nac End plain
-
 pub fixes_of-terminator : (nac : ℕ) (statuses : List Status) (bits : List Bool) → 144 ≤ length bits → fixes_of (terminator nac statuses) (take 144 bits) ≡ sync_errors bits + identifier_errors nac bits
 fixes_of-terminator nac statuses bits there =
     let sent = take 144 bits in

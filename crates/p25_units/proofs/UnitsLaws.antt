@@ -7,10 +7,11 @@ use Rattle.p25_status.proofs.WovenLaws.{length-woven, plain_of-woven, statuses_o
 use Rattle.p25_front.specs.Front.{unit_front, front_of}
 use Rattle.p25_front.proofs.FrontLaws.{length-unit_front, front_of-plain_of}
 use Rattle.p25_voice_units.specs.declared.unit.VoiceUnit.{VoiceUnit}
-use Rattle.p25_voice_units.specs.declared.unit.VoiceUnit.TheVariants.{End}
+use Rattle.p25_voice_units.specs.declared.unit.VoiceUnit.TheVariants.{Header, Link1, Link2, End, EndLink}
 use Rattle.p25_voice_units.specs.Images.{voice_body, voice_image_of}
 use Rattle.p25_voice_units.specs.Lengths.{voice_duid, voice_length_of}
-use Rattle.p25_voice_units.proofs.VoiceLaws.{length-voice_image_of, voice_lengths}
+use Rattle.p25_voice_units.proofs.ImagesLaws.{length-voice_image_of}
+use Rattle.p25_voice_units.proofs.LengthsLaws.{length-header, length-link1, length-link2, length-end, length-end_link, voice_lengths}
 use Rattle.p25_packet_blocks.specs.Heads.{head_blocks}
 use Rattle.p25_packet_blocks.specs.Lengths.{packet_plain_length, packet_sent_length}
 use Rattle.p25_packet_blocks.specs.Whole.{packet_head}
@@ -44,9 +45,19 @@ IsSentLength-from plain least most whole = record {
 pub IsSentLength-voice : (duid plain : ℕ) → voice_length_of duid ≡ Some plain → IsSentLength plain
 IsSentLength-voice duid plain is = let bounds = voice_lengths duid plain is in IsSentLength-from plain bounds.0 (omega (arith, bounds.1)) bounds.2
 
--- the length of a voice unit
-pub body_length-voice : (nac : ℕ) (voice : VoiceUnit) → body_length (Voice voice) ≡ length (voice_image_of nac voice)
-body_length-voice nac voice = ap (λ found. unwrap_or found 0) (length-voice_image_of nac voice)
+-- the length of a voice unit, by its kind
+voice_some : (voice : VoiceUnit) → (plain : ℕ) × (voice_length_of (voice_duid voice) ≡ Some plain)
+voice_some (Header word) = (770, length-header)
+voice_some (Link1 link low voice) = (1680, length-link1)
+voice_some (Link2 sync low voice) = (1680, length-link2)
+voice_some End = (140, length-end)
+voice_some (EndLink link) = (420, length-end_link)
+
+pub body_length-voice : (voice : VoiceUnit) (plain : ℕ) → voice_length_of (voice_duid voice) ≡ Some plain → body_length (Voice voice) ≡ plain
+body_length-voice voice plain is = ap (λ found. unwrap_or found 0) is
+
+pub body_length-known : (voice : VoiceUnit) → voice_length_of (voice_duid voice) ≡ Some (body_length (Voice voice))
+body_length-known voice = let some = voice_some voice in some.1 ∙ ap Some (sym (body_length-voice voice some.0 some.1))
 
 -- the length of a packet as it is sent
 pub sent_length-packet : (n : ℕ) → sent_length (packet_plain_length n) ≡ packet_sent_length n
@@ -54,7 +65,7 @@ sent_length-packet n = omega arith
 
 -- the length of what a unit carries
 pub IsSentLength-body : (body : Body) → IsSentLength (body_length body)
-IsSentLength-body (Voice voice) = subst IsSentLength (sym (body_length-voice 0 voice)) (IsSentLength-voice (voice_duid voice) (length (voice_image_of 0 voice)) (length-voice_image_of 0 voice))
+IsSentLength-body (Voice voice) = IsSentLength-voice (voice_duid voice) (body_length (Voice voice)) (body_length-known voice)
 IsSentLength-body (Packet packet) =
     let n = head_blocks (packet_head packet) in
     let few = head_blocks-lt (packet_head packet) in
@@ -62,13 +73,17 @@ IsSentLength-body (Packet packet) =
 
 -- DUIDs have 4 bits
 pub body_duid-lt : (body : Body) → body_duid body < 16
+body_duid-lt (Voice (Header word)) = omega arith
+body_duid-lt (Voice (Link1 link low voice)) = omega arith
+body_duid-lt (Voice (Link2 sync low voice)) = omega arith
 body_duid-lt (Voice End) = omega arith
+body_duid-lt (Voice (EndLink link)) = omega arith
 body_duid-lt (Packet packet) = omega arith
 
 -- the bits of a unit have its length
 pub length-body_image_of : (nac : ℕ) (body : Body) → IsSendableBody body → length (body_image_of nac body) ≡ body_length body
 unfolding IsSendableBody
-length-body_image_of nac (Voice voice) sendable = sym (body_length-voice nac voice)
+length-body_image_of nac (Voice voice) sendable = sym (body_length-voice voice (length (voice_image_of nac voice)) (length-voice_image_of nac voice sendable))
 length-body_image_of nac (Packet packet) sendable = image_long nac packet sendable
 
 pub length-unit_image_of : (unit : UnitParts) → IsSendableBody unit.body → length (unit_image_of unit) ≡ body_length unit.body

@@ -5,6 +5,7 @@ use Rattle.p25_status.specs.Woven.{woven}
 use Rattle.p25_status.specs.declared.symbols.Status.{Status}
 use Rattle.p25_voice_units.specs.Images.{voice_image_of}
 use Rattle.p25_voice_units.specs.Lengths.{voice_duid, voice_length_of}
+use Rattle.p25_voice_units.specs.Sendable.{IsSendableVoice}
 use Rattle.p25_packet_blocks.specs.Heads.{head_blocks}
 use Rattle.p25_packet_blocks.specs.Whole.{packet_head, IsWholePacket}
 use Rattle.p25_packet_blocks.specs.Lengths.{packet_plain_length}
@@ -64,7 +65,7 @@ pub record IsSoundFrame (frame : Frame) : Type 0 where
 
 -- what a unit carries can be sent: nothing of it fails, and it has what its types keep
 unfoldable pub IsSendableBody : Body → Type 0
-IsSendableBody (Voice voice) = Unit {0}
+IsSendableBody (Voice voice) = IsSendableVoice voice
 IsSendableBody (Packet packet) = IsSendable packet
 
 -- a unit that can be sent: its network access code has 12 bits

@@ -45,9 +45,24 @@ fn body_fixes(bits: &BitBuf, at: usize, unit: &Unit) -> u32
 {
     let nac = unit.nac();
     match unit.body() {
-        Body::Voice(_) => 0,
+        Body::Voice(voice) => voice_unit_fixes(bits, at, nac, voice),
         Body::Packet(packet) => packet_fixes(bits, at, nac, packet),
     }
+}
+
+// The same of a voice unit.
+fn voice_unit_fixes(bits: &BitBuf, at: usize, nac: u16, voice: &VoiceUnit) -> u32
+    requires there { at + sent_length (body_length (voice_in voice.now)) ≤ length bits.now }
+    requires nac { nac ≤ 4095 }
+    ensures sendable { IsSendableVoice voice.now }
+    ensures value { result ≡ body_fixes_of (record { nac = nac; body = voice_in voice.now }) (plain_of (part at (sent_length (body_length (voice_in voice.now))) bits.now)) }
+    ensures most { result ≤ 25200 }
+{
+    let mut plain = BitBuf::new();
+    unweave(bits, at, voice.length() / 70 * 72, &mut plain, &mut Statuses::new());
+    let mut image = BitBuf::new();
+    voice_image(nac, voice, &mut image);
+    voice_fixes(voice, &plain, &image)
 }
 
 // The same of a packet.
