@@ -3,4 +3,5 @@ pub mod ReadSteps
 pub mod WrittenLaws
 pub mod WithinLaws
 pub mod FieldLaws
+pub mod CodesLaws
 pub mod FieldWordsLaws

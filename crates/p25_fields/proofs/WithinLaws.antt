@@ -50,6 +50,11 @@ pub field_reading_of-some : (layout : Layout) (bits : List Bool) (word : List Sy
 unfolding field_reading_of
 field_reading_of-some layout bits word is = ap (option_map (take layout.information)) is
 
+-- and of one whose outer word is not
+pub field_reading_of-none : (layout : Layout) (bits : List Bool) → outer_word_of layout bits ≡ None → field_reading_of layout bits ≡ None
+unfolding field_reading_of
+field_reading_of-none layout bits is = ap (option_map (take layout.information)) is
+
 module _ {IsInnerWord : List Bool → Type 0} {inner_radius : ℕ} {IsOuterWord : List Sym → Type 0} {checks : ℕ} {layout : Layout} (codes : HasCodes IsInnerWord inner_radius IsOuterWord checks layout) where
   -- a field is read as it was sent
   pub field_within : (info : List Sym) (sent received : List Bool) → HasField IsInnerWord IsOuterWord layout info sent → IsFieldNear checks layout sent received → field_reading_of layout received ≡ Some info

@@ -1,9 +1,11 @@
 pub mod CodesLaws
 pub mod LengthsLaws
 pub mod SendableLaws
-pub mod VoiceLaws
 pub mod ImageSteps
+pub mod KindsLaws
+pub mod ReadSteps
 pub mod RowsLaws
 pub mod FieldRowsLaws
 pub mod FormLaws
 pub mod ImagesLaws
+pub mod ReadNearLaws

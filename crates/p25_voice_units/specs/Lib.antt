@@ -6,3 +6,5 @@ pub mod Sendable
 pub mod Images
 pub mod Places
 pub mod Readings
+pub mod Fixes
+pub mod WithinRadius

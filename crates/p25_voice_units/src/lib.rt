@@ -18,6 +18,7 @@ mod image;
 mod image_tests;
 mod laws;
 mod layout;
+mod places;
 mod read;
 #[cfg(test)]
 mod tests;
@@ -26,6 +27,7 @@ mod voice;
 
 pub use image::voice_image;
 pub use laws::image_laws;
+pub use places::part_places;
 pub use layout::{END_LINK_ROWS, END_ROWS, HEADER_ROWS, LINK_ROWS, Piece, layouts};
 pub use read::read_voice;
 pub use unit::{VoiceUnit, voice_length};

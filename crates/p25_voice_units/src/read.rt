@@ -1,22 +1,255 @@
 //! Voice units read from bits.
 
-ghost use Rattle.std.specs.Prelude.{◌≡◌, Some, length};
+ghost use Rattle.std.specs.Prelude.{◌≡◌, ◌+◌, ◌*◌, ◌/◌, ◌<◌, ◌≤◌, [], ◌∷◌, ◌++◌, All, Some, length};
+ghost use Rattle.p25_reed_solomon.specs.Words.{IsCode};
+ghost use Rattle.p25_reed_solomon.specs.RsReadings.{rs_marked_reading_of};
+ghost use Rattle.p25_fields.specs.Layouts.{Layout, field_layout, field_reading_of};
+ghost use Rattle.p25_voice_units.specs.FieldLayouts.{header_layout, link_layout, sync_layout, end_link_layout};
+ghost use Rattle.p25_voice_units.specs.Layouts.{link_rows};
 ghost use Rattle.p25_voice_units.specs.Lengths.{voice_length_of};
-ghost use Rattle.p25_voice_units.specs.Readings.{voice_reading_of};
+ghost use Rattle.p25_voice_units.specs.Readings.{frame_in, voice_in, low_places, low_in, header_in, link_in, sync_in, missing, failing, header_from, link1_in, link2_in, end_link_from, voice_reading_of};
 
+use crate::places::{END_LINK_WORDS, FRAMES, HEADER_WORDS, LINK_WORDS, LOW_WORDS};
 use crate::unit::VoiceUnit;
-use p25_bits::BitBuf;
-use p25_status::FieldList;
+use crate::voice::{Voice, VoiceFrame};
+use p25_bits::{BitBuf, number_of, put_number};
+use p25_code::{BlockCode, Reading, read_received};
+use p25_fields::read_field;
+use p25_gf64::Sym;
+use p25_golay::{Golay18, Golay24};
+use p25_hamming::{Hamming10, Lsd16};
+use p25_link::{EncryptionSync, HeaderWord, LinkControl};
+use p25_reed_solomon::Rs;
+use p25_status::{Field, FieldList};
+
+// The information of a coded field, whose inner words stand at the places. None comes exactly where the field fails.
+fn read_symbols<I: BlockCode<Letter = bool>, const N: usize, const K: usize>(
+    plain: &BitBuf,
+    places: &[usize],
+) -> Option<[Sym; K]>
+    requires code { I.HasCode }
+    requires outer { IsCode N K }
+    requires small { I.N ≤ 24 }
+    requires sixes { 6 * (I.K / 6) ≡ I.K }
+    requires short { N ≤ 36 }
+    requires places { length places.now * (I.K / 6) ≡ N }
+    requires there { All (λ at. at + I.N ≤ length plain.now) places.now }
+    ensures { result ≡ field_reading_of (field_layout places.now I.N (I.K / 6) I.reading_is (rs_marked_reading_of N K) K) plain.now }
+{
+    let mut word = [Sym::ZERO; N];
+    match read_field::<I, Rs<N, K>>(plain, places, &mut word) {
+        Reading::Found { .. } => {
+            let mut symbols = [Sym::ZERO; K];
+            symbols.copy_from_slice(&word[..K]);
+            Some(symbols)
+        }
+        Reading::Beyond => None,
+    }
+}
+
+// The header word of a header.
+fn read_header_word(plain: &BitBuf) -> Option<HeaderWord>
+    requires { 770 ≤ length plain.now }
+    ensures { result ≡ header_in plain.now }
+{
+    match read_symbols::<Golay18, 36, 20>(plain, &HEADER_WORDS) {
+        Some(symbols) => Some(HeaderWord::from_symbols(&symbols)),
+        None => None,
+    }
+}
+
+// The link control of a unit with voice.
+fn read_link_control(plain: &BitBuf) -> Option<LinkControl>
+    requires { 1680 ≤ length plain.now }
+    ensures { result ≡ link_in link_layout plain.now }
+{
+    match read_symbols::<Hamming10, 24, 12>(plain, &LINK_WORDS) {
+        Some(symbols) => Some(LinkControl::from_symbols(&symbols)),
+        None => None,
+    }
+}
+
+// The encryption sync of a unit with voice.
+fn read_encryption_sync(plain: &BitBuf) -> Option<EncryptionSync>
+    requires { 1680 ≤ length plain.now }
+    ensures { result ≡ sync_in plain.now }
+{
+    match read_symbols::<Hamming10, 24, 16>(plain, &LINK_WORDS) {
+        Some(symbols) => Some(EncryptionSync::from_symbols(&symbols)),
+        None => None,
+    }
+}
+
+// The link control of a terminator.
+fn read_end_control(plain: &BitBuf) -> Option<LinkControl>
+    requires { 420 ≤ length plain.now }
+    ensures { result ≡ link_in end_link_layout plain.now }
+{
+    match read_symbols::<Golay24, 24, 12>(plain, &END_LINK_WORDS) {
+        Some(symbols) => Some(LinkControl::from_symbols(&symbols)),
+        None => None,
+    }
+}
+
+// The octet of a low speed word, by its number.
+fn read_low(plain: &BitBuf, i: usize) -> Option<u8>
+    requires i { i < 2 }
+    requires there { 1680 ≤ length plain.now }
+    ensures { result ≡ low_in i plain.now }
+{
+    let mut word = [false; 16];
+    put_number(plain.field(LOW_WORDS[i], 16), &mut word);
+    match read_received::<Lsd16>(&mut word) {
+        Reading::Found { .. } => Some(number_of(&word[..8]) as u8),
+        Reading::Beyond => None,
+    }
+}
+
+// The voice frame at a place.
+fn read_frame(plain: &BitBuf, at: usize) -> VoiceFrame
+    requires { at + 144 ≤ length plain.now }
+    ensures { result ≡ frame_in at plain.now }
+{
+    let mut octets = [0; 18];
+    plain.take_numbers(at, 8, &mut octets);
+    VoiceFrame(octets)
+}
+
+// The nine voice frames of a unit with voice.
+fn read_frames(plain: &BitBuf) -> Voice
+    requires { 1680 ≤ length plain.now }
+    ensures { result ≡ voice_in plain.now }
+{
+    let mut frames = [VoiceFrame([0; 18]); 9];
+    for i in 0..9 {
+        frames[i] = read_frame(plain, FRAMES[i]);
+    }
+    Voice::new(frames)
+}
+
+// Appends a field, if it was not read.
+fn note<T>(fields: &mut FieldList, field: Field, part: &Option<T>)
+    requires { length fields.old < 127 }
+    ensures list { fields.new ≡ fields.old ++ missing field part.now }
+    ensures len { length fields.new ≤ length fields.old + 1 }
+{
+    if part.is_none() {
+        fields.push(field);
+    }
+}
+
+// The failing fields of a unit with voice, in order.
+fn failing_of<T>(field: Field, word: &Option<T>, first: &Option<u8>, second: &Option<u8>) -> FieldList
+    ensures { result ≡ failing field word.now first.now second.now }
+{
+    let mut fields = FieldList::new();
+    note(&mut fields, field, word);
+    note(&mut fields, Field::LowSpeed1, first);
+    note(&mut fields, Field::LowSpeed2, second);
+    fields
+}
+
+// A list of one field.
+fn one_field(field: Field) -> FieldList
+    ensures { result ≡ field ∷ [] }
+{
+    let mut fields = FieldList::new();
+    fields.push(field);
+    fields
+}
+
+// A header.
+fn read_header(plain: &BitBuf) -> Result<VoiceUnit, FieldList>
+    requires { 770 ≤ length plain.now }
+    ensures { result ≡ header_from (header_in plain.now) }
+{
+    match read_header_word(plain) {
+        Some(word) => Ok(VoiceUnit::Header(word)),
+        None => Err(one_field(Field::HeaderWord)),
+    }
+}
+
+// Voice with link control.
+fn read_link1(plain: &BitBuf) -> Result<VoiceUnit, FieldList>
+    requires { 1680 ≤ length plain.now }
+    ensures { result ≡ link1_in plain.now }
+{
+    let link = read_link_control(plain);
+    let first = read_low(plain, 0);
+    let second = read_low(plain, 1);
+    let fields = failing_of(Field::LinkControl, &link, &first, &second);
+    let voice = read_frames(plain);
+    let Some(link) = link else {
+        return Err(fields);
+    };
+    let Some(first) = first else {
+        return Err(fields);
+    };
+    let Some(second) = second else {
+        return Err(fields);
+    };
+    Ok(VoiceUnit::Link1 {
+        link,
+        low: [first, second],
+        voice,
+    })
+}
+
+// Voice with encryption sync.
+fn read_link2(plain: &BitBuf) -> Result<VoiceUnit, FieldList>
+    requires { 1680 ≤ length plain.now }
+    ensures { result ≡ link2_in plain.now }
+{
+    let sync = read_encryption_sync(plain);
+    let first = read_low(plain, 0);
+    let second = read_low(plain, 1);
+    let fields = failing_of(Field::EncryptionSync, &sync, &first, &second);
+    let voice = read_frames(plain);
+    let Some(sync) = sync else {
+        return Err(fields);
+    };
+    let Some(first) = first else {
+        return Err(fields);
+    };
+    let Some(second) = second else {
+        return Err(fields);
+    };
+    Ok(VoiceUnit::Link2 {
+        sync,
+        low: [first, second],
+        voice,
+    })
+}
+
+// A terminator with link control.
+fn read_end_link(plain: &BitBuf) -> Result<VoiceUnit, FieldList>
+    requires { 420 ≤ length plain.now }
+    ensures { result ≡ end_link_from (link_in end_link_layout plain.now) }
+{
+    match read_end_control(plain) {
+        Some(link) => Ok(VoiceUnit::EndLink { link }),
+        None => Err(one_field(Field::LinkControl)),
+    }
+}
 
 /// Answers the voice unit of a data unit identifier that bits without status symbols read as. There are as many bits as
-/// a unit of that kind has. The refusal is the list of exactly the fields that fail, in order: of a terminator none
-/// does, and its bits behind the identifier are not looked at.
+/// a unit of that kind has. Each field is read by its own codes: the header word, the link control and the encryption sync
+/// as `read_field` does, each low speed word where one of its code lies within 2 bits. Voice frames are answered as received;
+/// the bits of the front and nulls are not looked at.
+///
+/// The refusal is the list of exactly the fields that fail, in order: of a header HeaderWord; of voice with link control
+/// LinkControl, LowSpeed1 and LowSpeed2; of voice with encryption sync EncryptionSync, LowSpeed1 and LowSpeed2; of a
+/// terminator with link control LinkControl. Of a terminator none fails. TIA-102.BAAA, Voice Data Units.
 pub fn read_voice(duid: u8, plain: &BitBuf) -> Result<VoiceUnit, FieldList>
     requires { voice_length_of duid ≡ Some (length plain.now) }
     ensures { result ≡ voice_reading_of duid plain.now }
 {
     match duid {
+        0 => read_header(plain),
         3 => Ok(VoiceUnit::End),
+        5 => read_link1(plain),
+        10 => read_link2(plain),
+        15 => read_end_link(plain),
         _ => Err(FieldList::new()),
     }
 }

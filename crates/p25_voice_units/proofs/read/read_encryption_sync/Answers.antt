@@ -1,0 +1,15 @@
+use Rattle.p25_link.specs.Words.{sync_of_symbols}
+use Rattle.p25_fields.specs.Layouts.{places_from, field_reading_of}
+use Rattle.p25_voice_units.specs.FieldLayouts.{word_places, sync_layout}
+use Rattle.p25_voice_units.specs.Readings.{sync_in}
+use Rattle.p25_voice_units.proofs.ReadSteps.{part_some, part_none}
+use Rattle.p25_voice_units.proofs.read.read_encryption_sync.Goals as goal
+
+pub returns-in-Some : goal.returns-in-Some
+unfolding sync_in word_places places_from
+returns-in-Some c =
+    part_some sync_of_symbols c.read_symbols.result (field_reading_of sync_layout c.args.plain.now) c.in-Some.symbols c.from_symbols.result c.in-Some.is c.read_symbols.ensures c.from_symbols.ensures.value
+
+pub returns-in-None : goal.returns-in-None
+unfolding sync_in word_places places_from
+returns-in-None c = part_none sync_of_symbols c.read_symbols.result (field_reading_of sync_layout c.args.plain.now) c.in-None.is c.read_symbols.ensures
