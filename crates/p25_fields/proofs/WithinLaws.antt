@@ -3,13 +3,13 @@
 -- counted as lost, costs no more: place by place, an inner word within the radius costs nothing, and a lost one two for each symbol.
 use Rattle.std.proofs.Common.{◌≡◌, ℕ, suc, ◌+◌, ◌*◌, ◌≤◌, inl, inr, Bool, true, false, cond, nat_le, List, [], ◌∷◌, ◌++◌, length, take, map, Option, Some, None, option_map, All, sum_by, refl, ap, sym, ◌∙◌, arith, length-append}
 use Rattle.std.specs.List.{flat_map}
-use Rattle.std.proofs.lemmas.Bool.{cases_lt, cond-false, lt-leb}
+use Rattle.std.proofs.lemmas.Bool.{cases_lt, cond-true, cond-false, le-leb, lt-leb}
 use Rattle.std.proofs.lemmas.List.{length-map, length-replicate}
 use Rattle.std.proofs.lemmas.List.Sums.{sum_by-cons}
 use Rattle.std.proofs.lemmas.Bool.{eq-eqb}
 use Rattle.p25_bits.specs.Bits.{part}
 use Rattle.p25_bits.specs.Distance.{distance_of}
-use Rattle.p25_bits.proofs.DistanceLaws.{distance_by-same}
+use Rattle.p25_bits.proofs.DistanceLaws.{distance_by-same, distance_of-same}
 use Rattle.p25_bits.proofs.PartLaws.{length-part}
 use Rattle.p25_code.specs.Marks.{marks_in, mark_weight, letter_distance, unmarked_distance, marked_cost}
 use Rattle.p25_code.proofs.MarkedLaws.{marked_cost-letters}
@@ -99,6 +99,23 @@ marked_cost-le : {L : Type 0} (same : L → L → Bool) (list : List (Option L))
 unfolding marked_cost
 marked_cost-le same list word long = omega (arith, places-le same list word long)
 
+-- undamaged bits have no lost symbols
+lost_symbols-itself : (radius : ℕ) (layout : Layout) (bits : List Bool) → lost_symbols radius layout bits bits ≡ 0
+unfolding lost_symbols
+lost_symbols-itself radius layout bits = none layout.places
+  where
+    lost : ℕ → ℕ
+    lost at = cond (nat_le (distance_of (part at layout.size bits) (part at layout.size bits)) radius) 0 layout.each
+
+    near : (at : ℕ) → lost at ≡ 0
+    near at =
+        let within : distance_of (part at layout.size bits) (part at layout.size bits) ≤ radius = omega (arith, distance_of-same (part at layout.size bits)) in
+        cond-true {A = ℕ} (nat_le (distance_of (part at layout.size bits) (part at layout.size bits)) radius) 0 layout.each (le-leb (distance_of (part at layout.size bits) (part at layout.size bits)) radius within)
+
+    none : (places : List ℕ) → sum_by lost places ≡ 0
+    none [] = refl
+    none (at ∷ places) = omega (arith, sum_by-cons lost at places, near at, none places)
+
 -- a word costs nothing for the letters that it has
 marked_cost-itself : (word : List Sym) → marked_cost same_symbols (map Some word) word ≡ 0
 marked_cost-itself word =
@@ -151,3 +168,7 @@ module _ {IsInnerWord : List Bool → Type 0} {inner_radius : ℕ} {IsOuterWord 
       → 2 * lost_symbols inner_radius layout sent received ≤ checks → IsFieldNear checks layout sent received
   unfolding received_in sent_in lost_symbols
   near_from_lost info sent received has there few = record { near = omega (arith, pieces_cost sent received layout.places has.inner there, few) }
+
+  -- what was received without damage costs nothing
+  pub near_itself : (info : List Sym) (sent : List Bool) → HasField IsInnerWord IsOuterWord layout info sent → All (λ at. at + layout.size ≤ length sent) layout.places → IsFieldNear checks layout sent sent
+  near_itself info sent has there = near_from_lost info sent sent has there (omega (arith, lost_symbols-itself inner_radius layout sent))

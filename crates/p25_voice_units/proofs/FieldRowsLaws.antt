@@ -28,7 +28,7 @@ use Rattle.p25_voice_units.specs.Sendable.{IsVoiceFrame}
 use Rattle.p25_voice_units.specs.Images.{Contents, lsd16_word, piece_bits}
 use Rattle.p25_voice_units.specs.Places.{HasPiece}
 use Rattle.p25_voice_units.proofs.CodesLaws.{lsd16_encodes, lsd16_only}
-use Rattle.p25_voice_units.proofs.RowsLaws.{IsCarried, rows_fit}
+use Rattle.p25_voice_units.proofs.RowsLaws.{IsCarried, rows_supplied}
 
 -- how many inner words a piece has
 abbrev pub word_count : Piece → ℕ
@@ -97,7 +97,7 @@ module _ {IsWord : List Bool → Type 0} {size k : ℕ} {carried : Contents} (ca
   row_words at (Nulls count) n plain begins fits is i inside = absurd (omega (arith, inside))
 
   -- the words of rows that are there
-  pub words_from_rows : (rows : List (ℕ × Piece)) (n : ℕ) (plain : List Bool) → rows_counted n rows ≡ true → rows_fit carried.each (length carried.symbols) (length carried.low) (length carried.voice) rows ≡ true
+  pub words_from_rows : (rows : List (ℕ × Piece)) (n : ℕ) (plain : List Bool) → rows_counted n rows ≡ true → rows_supplied carried.each (length carried.symbols) (length carried.low) (length carried.voice) rows ≡ true
       → All (λ row. part row.0 (piece_length size row.1) plain ≡ piece_bits carried row.1) rows
       → (i : ℕ) → i < length (word_places size rows) → part (get_or (word_places size rows) i 0) size plain ≡ group_word (n + i)
   words_from_rows [] n plain counted fit there i inside = absurd (omega (arith, inside, ap length (word_places-nil size)))

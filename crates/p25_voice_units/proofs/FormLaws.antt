@@ -23,13 +23,13 @@ use Rattle.p25_voice_units.specs.FieldLayouts.{word_places}
 use Rattle.p25_voice_units.specs.Pieces.{piece_length}
 use Rattle.p25_voice_units.specs.Images.{Contents, piece_bits, rows_bits}
 use Rattle.p25_voice_units.specs.Places.{HasPiece, IsLaidOut}
-use Rattle.p25_voice_units.proofs.RowsLaws.{IsCarried, rows_length, rows_stand, rows_fit, length-rows_bits, rows_parts, rows_only}
+use Rattle.p25_voice_units.proofs.RowsLaws.{IsCarried, rows_length, rows_stand, rows_supplied, length-rows_bits, rows_parts, rows_only}
 use Rattle.p25_voice_units.proofs.FieldRowsLaws.{rows_counted, group_word, words_from_rows, rows_from_words, rows_have}
 
 -- rows that suit what is carried: they follow the front end to end, and number its inner words in order
 pub record AreRows (size count : ℕ) (carried : Contents) (rows : List (ℕ × Piece)) : Type 0 where
   pub stand : rows_stand size 112 rows ≡ true
-  pub fit : rows_fit carried.each (length carried.symbols) (length carried.low) (length carried.voice) rows ≡ true
+  pub fit : rows_supplied carried.each (length carried.symbols) (length carried.low) (length carried.voice) rows ≡ true
   pub counted : rows_counted 0 rows ≡ true
   pub fill : count ≡ 112 + rows_length size rows
 

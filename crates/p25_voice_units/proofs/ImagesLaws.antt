@@ -37,7 +37,7 @@ use Rattle.p25_voice_units.specs.Images.{Contents, contents, golay18_word, golay
 use Rattle.p25_voice_units.specs.Places.{IsLaidOut, IsVoiceImage}
 use Rattle.p25_voice_units.proofs.CodesLaws.{golay18_encodes, golay24_encodes, hamming10_encodes, header_code, link_code, sync_code}
 use Rattle.p25_voice_units.proofs.LengthsLaws.{length-header, length-link1, length-link2, length-end, length-end_link}
-use Rattle.p25_voice_units.proofs.RowsLaws.{IsCarried, rows_fit}
+use Rattle.p25_voice_units.proofs.RowsLaws.{IsCarried, rows_supplied}
 use Rattle.p25_voice_units.proofs.FormLaws.{AreRows, AreWordPlaces, length-unit, laid_out, laid_out-only, field_carried, words_carried}
 
 -- the frames of a unit that has none
@@ -56,12 +56,12 @@ hamming10_carried symbols low voice frames = record { encodes = hamming10_encode
 
 -- the rows of the layouts suit what is carried: computed of each table
 header_are : (symbols : List Sym) → length symbols ≡ 36 → AreRows 18 770 (contents golay18_word 1 symbols [] []) header_rows
-header_are symbols long = record { stand = refl; fit = ap (λ n. rows_fit 1 n 0 0 header_rows) long; counted = refl; fill = refl }
+header_are symbols long = record { stand = refl; fit = ap (λ n. rows_supplied 1 n 0 0 header_rows) long; counted = refl; fill = refl }
 
 link_are : (symbols : List Sym) (low : List ℕ) (voice : List VoiceFrame) → length symbols ≡ 24 → IsSpeech low voice → AreRows 10 1680 (contents hamming10_word 1 symbols low voice) link_rows
 link_are symbols low voice long speech = record {
   stand = refl;
-  fit = ap (λ n. rows_fit 1 n (length low) (length voice) link_rows) long ∙ ap₂ (λ m n. rows_fit 1 24 m n link_rows) speech.two speech.nine;
+  fit = ap (λ n. rows_supplied 1 n (length low) (length voice) link_rows) long ∙ ap₂ (λ m n. rows_supplied 1 24 m n link_rows) speech.two speech.nine;
   counted = refl;
   fill = refl;
 }
@@ -70,7 +70,7 @@ end_are : AreRows 18 140 (contents golay18_word 1 [] [] []) end_rows
 end_are = record { stand = refl; fit = refl; counted = refl; fill = refl }
 
 end_link_are : (symbols : List Sym) → length symbols ≡ 24 → AreRows 24 420 (contents golay24_word 2 symbols [] []) end_link_rows
-end_link_are symbols long = record { stand = refl; fit = ap (λ n. rows_fit 2 n 0 0 end_link_rows) long; counted = refl; fill = refl }
+end_link_are symbols long = record { stand = refl; fit = ap (λ n. rows_supplied 2 n 0 0 end_link_rows) long; counted = refl; fill = refl }
 
 -- so do the places of their inner words
 header_places : (symbols : List Sym) → length symbols ≡ 36 → AreWordPlaces 18 770 (contents golay18_word 1 symbols [] []) (word_places 18 header_rows)

@@ -8,4 +8,8 @@ pub mod RowsLaws
 pub mod FieldRowsLaws
 pub mod FormLaws
 pub mod ImagesLaws
+pub mod FieldCodesLaws
+pub mod ReadingLaws
+pub mod RadiusLaws
+pub mod FixesLaws
 pub mod ReadNearLaws

@@ -32,9 +32,9 @@ rows_stand size at [] = true
 rows_stand size at (row ∷ rows) = eqb row.0 at && rows_stand size (at + piece_length size row.1) rows
 
 -- there is what the rows have
-abbrev pub rows_fit : ℕ → ℕ → ℕ → ℕ → List (ℕ × Piece) → Bool
-rows_fit each symbols low frames [] = true
-rows_fit each symbols low frames (row ∷ rows) = piece_fits each symbols low frames row.1 && rows_fit each symbols low frames rows
+abbrev pub rows_supplied : ℕ → ℕ → ℕ → ℕ → List (ℕ × Piece) → Bool
+rows_supplied each symbols low frames [] = true
+rows_supplied each symbols low frames (row ∷ rows) = piece_fits each symbols low frames row.1 && rows_supplied each symbols low frames rows
 
 -- what is carried suits the code of the inner words, and its frames are frames
 pub record IsCarried (IsWord : List Bool → Type 0) (size k : ℕ) (carried : Contents) : Type 0 where
@@ -71,7 +71,7 @@ module _ {IsWord : List Bool → Type 0} {size k : ℕ} {carried : Contents} (ca
       lsd16_is_code.long (lsd16_word (bits_of 8 octet)) (lsd16_encodes (bits_of 8 octet) (length-bits_of 8 octet)).word_of_set
   length-piece_bits (Nulls count) fits = length-replicate count false
 
-  pub length-rows_bits : (rows : List (ℕ × Piece)) → rows_fit carried.each (length carried.symbols) (length carried.low) (length carried.voice) rows ≡ true → length (rows_bits carried rows) ≡ rows_length size rows
+  pub length-rows_bits : (rows : List (ℕ × Piece)) → rows_supplied carried.each (length carried.symbols) (length carried.low) (length carried.voice) rows ≡ true → length (rows_bits carried rows) ≡ rows_length size rows
   length-rows_bits [] fit = ap length (rows_bits-nil carried)
   length-rows_bits (row ∷ rows) fit =
       let fits = and_parts (piece_fits carried.each (length carried.symbols) (length carried.low) (length carried.voice) row.1) _ fit in
@@ -81,7 +81,7 @@ module _ {IsWord : List Bool → Type 0} {size k : ℕ} {carried : Contents} (ca
 
   -- joined pieces have each at its place
   pub rows_parts : (rows : List (ℕ × Piece)) (at : ℕ) (before : List Bool) → length before ≡ at → rows_stand size at rows ≡ true
-      → rows_fit carried.each (length carried.symbols) (length carried.low) (length carried.voice) rows ≡ true
+      → rows_supplied carried.each (length carried.symbols) (length carried.low) (length carried.voice) rows ≡ true
       → All (λ row. part row.0 (piece_length size row.1) (before ++ rows_bits carried rows) ≡ piece_bits carried row.1) rows
   rows_parts [] at before long stand fit = All-nil _
   rows_parts (row ∷ rows) at before long stand fit =

@@ -13,22 +13,26 @@
 //! bits are the only ones that stand as `IsVoiceImage` says by places, and that they are read as their unit.
 #![tactic(auto)]
 
+mod fixes;
 mod image;
 #[cfg(test)]
 mod image_tests;
 mod laws;
 mod layout;
 mod places;
+mod radius;
 mod read;
 #[cfg(test)]
 mod tests;
 mod unit;
 mod voice;
 
+pub use fixes::voice_fixes;
 pub use image::voice_image;
 pub use laws::image_laws;
 pub use places::part_places;
 pub use layout::{END_LINK_ROWS, END_ROWS, HEADER_ROWS, LINK_ROWS, Piece, layouts};
+pub use radius::radius_laws;
 pub use read::read_voice;
 pub use unit::{VoiceUnit, voice_length};
 pub use voice::{Voice, VoiceFrame};

@@ -1,6 +1,8 @@
 use Rattle.std.proofs.Common.{◌≡◌, ◌+◌, ◌*◌, ◌/◌, ◌≤◌, length, get_or, refl, sym, subst, ap, ◌∙◌, arith}
 use Rattle.std.proofs.Math.Nat.{mul_comm}
 use Rattle.p25_bits.specs.Bits.{part}
+use Rattle.p25_code.specs.Marks.{marked}
+use Rattle.p25_code.specs.Readings.{word_read}
 use Rattle.p25_fields.specs.Layouts.{field_layout, marks_of}
 use Rattle.p25_fields.proofs.SymbolsSteps.{length_group, room_at}
 use Rattle.p25_fields.proofs.ReadSteps.{cut_long, outer_read, marked_before, marked_next, marked_whole}
@@ -39,4 +41,4 @@ returns g c =
     let same : length c.loop-i.erased ≡ length c.loop-i.word = cut ∙ sym c.loop-i.auto.word in
     let whole
     = marked_whole (λ at. marks_of (b.K / 6) (b.reading_is (part at b.N c.args.plain.now))) places each c.loop-i.i c.loop-i.word c.loop-i.erased (omega arith) covers same (omega arith) c.loop-i.invariant in
-    outer_read (field_layout places b.N (b.K / 6) b.reading_is g.O.ErasedCode.marked_reading_is g.O.BlockCode.K) c.args.plain.now _ _ c.read_marked.ensures.value whole
+    outer_read (field_layout places b.N (b.K / 6) b.reading_is g.O.ErasedCode.marked_reading_is g.O.BlockCode.K) c.args.plain.now (marked c.loop-i.word c.loop-i.erased) (word_read c.read_marked.result c.read_marked.new.word) c.read_marked.ensures.value whole

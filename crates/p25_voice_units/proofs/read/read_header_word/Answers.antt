@@ -19,4 +19,4 @@ returns-in-None c = part_none header_of_symbols c.read_symbols.result (field_rea
 
 pub read_symbols-requires : goal.read_symbols-requires
 read_symbols-requires c =
-    (search rules, (tt, (header_code, (search rules, (refl, (search rules, (refl, (all_end 18 770 (length c.args.plain.now) _ refl c.requires)))))))
+    (search rules, (tt, (header_code, (search rules, (refl, (search rules, (refl, all_end 18 770 (length c.args.plain.now) _ refl c.requires)))))))

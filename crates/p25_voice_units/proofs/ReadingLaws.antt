@@ -1,0 +1,161 @@
+-- What voice units are read as: a unit that was read is of the kind of its DUID, and keeps what its type keeps, since each part is made
+-- of so many bits.
+use Rattle.std.proofs.Common.{◌≡◌, ◌≢◌, ℕ, zero, suc, ◌+◌, ◌<◌, ◌^◌, Bool, cond, eqb, List, [], ◌∷◌, length, take, drop, map, slice_index, get_or, Option, Some, None, option_map, Ok, Err, Result, All, refl, ap, sym, ◌∙◌, subst, inl, inr, arith}
+use Rattle.std.proofs.lemmas.Bool.{cases_eq, cond-false, ne_eqb}
+use Rattle.std.proofs.lemmas.List.{length-map}
+use Rattle.std.proofs.lemmas.List.Elements.{All-nil, All-cons, All-map}
+use Rattle.p25_bits.specs.Bits.{field_of, part}
+use Rattle.p25_bits.specs.Numbers.{numbers_from}
+use Rattle.p25_bits.proofs.NumbersLaws.{All-numbers_from, field-lt, length-numbers_from}
+use Rattle.p25_gf64.specs.declared.symbol.Sym.{Sym}
+use Rattle.p25_hamming.specs.Lsd16Readings.{lsd16_reading_of}
+use Rattle.p25_link.specs.Symbols.{symbol_bits}
+use Rattle.p25_link.specs.Words.{header_of_bits, header_of_symbols, link_of_bits, link_of_symbols, sync_of_bits, sync_of_symbols, AreNineOctets, IsHeaderWord, IsLinkControl, IsEncryptionSync}
+use Rattle.p25_link.specs.declared.encryption_sync.EncryptionSync.{EncryptionSync}
+use Rattle.p25_link.specs.declared.header_word.HeaderWord.{HeaderWord}
+use Rattle.p25_link.specs.declared.link_control.LinkControl.{LinkControl}
+use Rattle.p25_status.specs.declared.fields.Field.{Field}
+use Rattle.p25_fields.specs.Layouts.{Layout, field_reading_of}
+use Rattle.p25_voice_units.specs.declared.unit.VoiceUnit.{VoiceUnit}
+use Rattle.p25_voice_units.specs.declared.unit.VoiceUnit.TheVariants.{Header, Link1, Link2, End, EndLink}
+use Rattle.p25_voice_units.specs.declared.voice.VoiceFrame.{VoiceFrame}
+use Rattle.p25_voice_units.specs.Layouts.{link_rows}
+use Rattle.p25_voice_units.specs.FieldLayouts.{link_layout, sync_layout, header_layout, end_link_layout}
+use Rattle.p25_voice_units.specs.Lengths.{voice_duid}
+use Rattle.p25_voice_units.specs.Readings.{frame_places, low_places, frame_in, voice_in, low_in, header_in, link_in, sync_in, header_from, link1_from, link1_in, link2_from, link2_in, end_link_from, voice_reading_of}
+use Rattle.p25_voice_units.specs.Sendable.{IsVoiceFrame, IsSpeech, IsSendableLink1, IsSendableLink2, IsSendableVoice}
+use Rattle.p25_voice_units.proofs.KindsLaws.{reading-header, reading-end, reading-link1, reading-link2, reading-end_link}
+use Rattle.p25_voice_units.proofs.ReadSteps.{nine_frames}
+
+-- words of symbols keep what their types keep
+nine_octets : (bits : List Bool) → AreNineOctets (numbers_from 8 9 bits)
+nine_octets bits = record { long = length-numbers_from 8 9 bits; small = All-numbers_from 8 9 bits }
+
+header_keeps : (symbols : List Sym) → IsHeaderWord (header_of_symbols symbols)
+unfolding header_of_symbols header_of_bits
+header_keeps symbols =
+    let bits = symbol_bits symbols in
+    record { mi = nine_octets bits; mfid = field-lt 8 72 bits; algid = field-lt 8 80 bits; kid = field-lt 16 88 bits; tgid = field-lt 16 104 bits }
+
+link_keeps : (symbols : List Sym) → IsLinkControl (link_of_symbols symbols)
+unfolding link_of_symbols link_of_bits
+link_keeps symbols = record { octets = nine_octets (symbol_bits symbols) }
+
+sync_keeps : (symbols : List Sym) → IsEncryptionSync (sync_of_symbols symbols)
+unfolding sync_of_symbols sync_of_bits
+sync_keeps symbols = let bits = symbol_bits symbols in record { mi = nine_octets bits; algid = field-lt 8 72 bits; kid = field-lt 16 80 bits }
+
+-- so does a word that was read
+read_keeps : {S W : Type 0} (P : W → Type 0) (f : S → W) (value : Option S) (word : W) → ((s : S) → P (f s)) → option_map f value ≡ Some word → P word
+read_keeps P f None word keeps is = absurd (cc)
+read_keeps P f (Some s) word keeps is = let same : f s ≡ word = cc in subst P same (keeps s)
+
+-- low speed data and voice
+low_keeps : (i octet : ℕ) (plain : List Bool) → low_in i plain ≡ Some octet → octet < 256
+unfolding low_in
+low_keeps i octet plain is =
+    read_keeps (λ n. n < 256) (λ (w : List Bool). field_of (take 8 w)) (lsd16_reading_of (part (slice_index (low_places link_rows) i) 16 plain)) octet (λ w. field-lt 8 0 w) is
+
+voice_keeps : (plain : List Bool) → (length (voice_in plain) ≡ 9) × All IsVoiceFrame (voice_in plain)
+unfolding voice_in frame_in
+voice_keeps plain = (
+  length-map (frame_places link_rows) (λ at. frame_in at plain) ∙ nine_frames,
+  All-map IsVoiceFrame (λ at. frame_in at plain) (frame_places link_rows) (λ i d inside. record { long = length-numbers_from 8 18 (drop (get_or (frame_places link_rows) i d) plain); small = All-numbers_from 8 18 (drop (get_or (frame_places link_rows) i d) plain) }),
+)
+
+speech_keeps : (first second : ℕ) (plain : List Bool) → low_in 0 plain ≡ Some first → low_in 1 plain ≡ Some second → IsSpeech (first ∷ second ∷ []) (voice_in plain)
+speech_keeps first second plain a b = record {
+  two = refl;
+  small = All-cons (λ n. n < 256) first (second ∷ []) (low_keeps 0 first plain a) (All-cons (λ n. n < 256) second [] (low_keeps 1 second plain b) (All-nil (λ n. n < 256)));
+  nine = (voice_keeps plain).0;
+  frames = (voice_keeps plain).1;
+}
+
+-- a unit of a DUID that keeps what its type keeps
+pub record IsUnitOf (duid : ℕ) (unit : VoiceUnit) : Type 0 where
+  pub kind : voice_duid unit ≡ duid
+  pub sendable : IsSendableVoice unit
+
+-- what was read is such a unit, by kinds
+header_read : (plain : List Bool) (answer : Option HeaderWord) (unit : VoiceUnit) → header_in plain ≡ answer → header_from answer ≡ Ok unit → IsUnitOf 0 unit
+unfolding header_in header_from IsSendableVoice
+header_read plain None unit is read = absurd (cc)
+header_read plain (Some word) unit is read =
+    let same : Header word ≡ unit = cc in
+    subst (IsUnitOf 0) same (record { kind = refl; sendable = read_keeps IsHeaderWord header_of_symbols (field_reading_of header_layout plain) word header_keeps is })
+
+end_link_read : (plain : List Bool) (answer : Option LinkControl) (unit : VoiceUnit) → link_in end_link_layout plain ≡ answer → end_link_from answer ≡ Ok unit → IsUnitOf 15 unit
+unfolding link_in end_link_from IsSendableVoice
+end_link_read plain None unit is read = absurd (cc)
+end_link_read plain (Some link) unit is read =
+    let same : EndLink link ≡ unit = cc in
+    subst (IsUnitOf 15) same (record { kind = refl; sendable = read_keeps IsLinkControl link_of_symbols (field_reading_of end_link_layout plain) link link_keeps is })
+
+link1_read : (plain : List Bool) (answer : Option LinkControl) (first second : Option ℕ) (unit : VoiceUnit) → link_in link_layout plain ≡ answer → low_in 0 plain ≡ first → low_in 1 plain ≡ second → link1_from (voice_in plain) answer first second ≡ Ok unit
+    → IsUnitOf 5 unit
+unfolding link_in link1_from IsSendableVoice
+link1_read plain None first second unit is a b read = absurd (cc)
+link1_read plain (Some link) None second unit is a b read = absurd (cc)
+link1_read plain (Some link) (Some first) None unit is a b read = absurd (cc)
+link1_read plain (Some link) (Some first) (Some second) unit is a b read =
+    let same : Link1 link (first ∷ second ∷ []) (voice_in plain) ≡ unit = cc in
+    subst (IsUnitOf 5) same (record {
+      kind = refl;
+      sendable = record { word = read_keeps IsLinkControl link_of_symbols (field_reading_of link_layout plain) link link_keeps is; speech = speech_keeps first second plain a b };
+    })
+
+link2_read : (plain : List Bool) (answer : Option EncryptionSync) (first second : Option ℕ) (unit : VoiceUnit) → sync_in plain ≡ answer → low_in 0 plain ≡ first → low_in 1 plain ≡ second → link2_from (voice_in plain) answer first second ≡ Ok unit
+    → IsUnitOf 10 unit
+unfolding sync_in link2_from IsSendableVoice
+link2_read plain None first second unit is a b read = absurd (cc)
+link2_read plain (Some sync) None second unit is a b read = absurd (cc)
+link2_read plain (Some sync) (Some first) None unit is a b read = absurd (cc)
+link2_read plain (Some sync) (Some first) (Some second) unit is a b read =
+    let same : Link2 sync (first ∷ second ∷ []) (voice_in plain) ≡ unit = cc in
+    subst (IsUnitOf 10) same (record {
+      kind = refl;
+      sendable = record { word = read_keeps IsEncryptionSync sync_of_symbols (field_reading_of sync_layout plain) sync sync_keeps is; speech = speech_keeps first second plain a b };
+    })
+
+end_read : (unit : VoiceUnit) → ◌≡◌ {A = Result VoiceUnit (List Field)} (Ok End) (Ok unit) → IsUnitOf 3 unit
+unfolding IsSendableVoice
+end_read unit read = let same : End ≡ unit = cc in subst (IsUnitOf 3) same (record { kind = refl; sendable = tt })
+
+-- DUIDs of no voice unit are not read
+pub reading-other : (duid : ℕ) (plain : List Bool) → duid ≢ 0 → duid ≢ 3 → duid ≢ 5 → duid ≢ 10 → duid ≢ 15 → voice_reading_of duid plain ≡ Err []
+unfolding voice_reading_of
+reading-other duid plain header end link1 link2 end_link =
+    cond-false (eqb duid 0) _ _ (ne_eqb duid 0 header)
+    ∙ cond-false (eqb duid 3) _ _ (ne_eqb duid 3 end)
+    ∙ cond-false (eqb duid 5) _ _ (ne_eqb duid 5 link1)
+    ∙ cond-false (eqb duid 10) _ _ (ne_eqb duid 10 link2)
+    ∙ cond-false (eqb duid 15) _ _ (ne_eqb duid 15 end_link)
+
+-- what is read for a DUID is a unit of it
+pub unit_read : (duid : ℕ) (plain : List Bool) (unit : VoiceUnit) → voice_reading_of duid plain ≡ Ok unit → IsUnitOf duid unit
+unfolding link1_in link2_in
+unit_read duid plain unit read =
+    elim (cases_eq duid 0) [
+      | inl same ↦ at 0 same (header_read plain (header_in plain) unit refl (sym (reading-header plain) ∙ there 0 same))
+      | inr not_header ↦ elim (cases_eq duid 3) [
+        | inl same ↦ at 3 same (end_read unit (sym (reading-end plain) ∙ there 3 same))
+        | inr not_end ↦ elim (cases_eq duid 5) [
+          | inl same ↦ at 5 same (link1_read plain (link_in link_layout plain) (low_in 0 plain) (low_in 1 plain) unit refl refl refl (sym (reading-link1 plain) ∙ there 5 same))
+          | inr not_link1 ↦ elim (cases_eq duid 10) [
+            | inl same ↦ at 10 same (link2_read plain (sync_in plain) (low_in 0 plain) (low_in 1 plain) unit refl refl refl (sym (reading-link2 plain) ∙ there 10 same))
+            | inr not_link2 ↦ elim (cases_eq duid 15) [
+              | inl same ↦ at 15 same (end_link_read plain (link_in end_link_layout plain) unit refl (sym (reading-end_link plain) ∙ there 15 same))
+              | inr not_end_link ↦
+                  let none : Err [] ≡ Ok unit = sym (reading-other duid plain not_header not_end not_link1 not_link2 not_end_link) ∙ read in
+                  absurd (cc)
+            ]
+          ]
+        ]
+      ]
+    ]
+  where
+    at : (kind : ℕ) → duid ≡ kind → IsUnitOf kind unit → IsUnitOf duid unit
+    at kind same is = subst (λ d. IsUnitOf d unit) (sym same) is
+
+    there : (kind : ℕ) → duid ≡ kind → voice_reading_of kind plain ≡ Ok unit
+    there kind same = ap (λ d. voice_reading_of d plain) (sym same) ∙ read

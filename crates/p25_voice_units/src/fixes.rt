@@ -1,0 +1,53 @@
+//! In how many places received voice units differ from what was sent.
+
+ghost use Rattle.std.specs.Prelude.{◌≡◌, ◌+◌, ◌*◌, ◌≤◌, All, Some, length};
+ghost use Rattle.p25_bits.specs.Distance.{distance_of};
+ghost use Rattle.p25_voice_units.specs.Fixes.{wide, link_looked, bits_at, voice_fixes_of};
+ghost use Rattle.p25_voice_units.specs.Lengths.{voice_duid, voice_length_of};
+
+use crate::places::{END_LINK_WORDS, HEADER_WORDS, LINK_WORDS, LOW_WORDS};
+use crate::unit::VoiceUnit;
+use p25_bits::BitBuf;
+
+/// Answers in how many of a unit's looked-at places behind its front received bits differ from the unit's image, both
+/// without status symbols: in its inner words and its low speed words. TIA-102.BAAA, Voice Data Units.
+pub fn voice_fixes(unit: &VoiceUnit, received: &BitBuf, image: &BitBuf) -> u32
+    requires received { voice_length_of (voice_duid unit.now) ≡ Some (length received.now) }
+    requires image { voice_length_of (voice_duid unit.now) ≡ Some (length image.now) }
+    ensures value { result ≡ voice_fixes_of unit.now received.now image.now }
+    ensures most { result ≤ 1680 }
+{
+    match unit {
+        VoiceUnit::Header(_) => differing(&HEADER_WORDS, 18, received, image),
+        VoiceUnit::Link1 { .. } => link_fixes(received, image),
+        VoiceUnit::Link2 { .. } => link_fixes(received, image),
+        VoiceUnit::End => 0,
+        VoiceUnit::EndLink { .. } => differing(&END_LINK_WORDS, 24, received, image),
+    }
+}
+
+// The same for a unit with voice.
+fn link_fixes(received: &BitBuf, image: &BitBuf) -> u32
+    requires received { 1680 ≤ length received.now }
+    requires image { 1680 ≤ length image.now }
+    ensures value { result ≡ distance_of (bits_at link_looked received.now) (bits_at link_looked image.now) }
+    ensures most { result ≤ 272 }
+{
+    differing(&LINK_WORDS, 10, received, image) + differing(&LOW_WORDS, 16, received, image)
+}
+
+// In how many places so many bits at each of some places differ.
+fn differing(places: &[usize], width: u32, received: &BitBuf, image: &BitBuf) -> u32
+    requires width { width ≤ 24 }
+    requires few { length places.now ≤ 36 }
+    requires received { All (λ at. at + width ≤ length received.now) places.now }
+    requires image { All (λ at. at + width ≤ length image.now) places.now }
+    ensures value { result ≡ distance_of (bits_at (wide width places.now) received.now) (bits_at (wide width places.now) image.now) }
+    ensures most { result ≤ width * length places.now }
+{
+    let mut wrong = 0;
+    for at in places {
+        wrong += (received.field(*at, width) ^ image.field(*at, width)).count_ones();
+    }
+    wrong
+}
