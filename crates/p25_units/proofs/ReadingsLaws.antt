@@ -5,7 +5,7 @@ use Rattle.std.specs.Option.{unwrap_or}
 use Rattle.std.proofs.lemmas.Bool.{cases_eq, cond-false, ne_eqb}
 use Rattle.p25_bits.proofs.NumbersLaws.{joined_below-zero, joined_below-suc}
 use Rattle.p25_status.specs.Woven.{plain_of, statuses_of}
-use Rattle.p25_status.proofs.WovenLaws.{length-plain_of, length-statuses_of}
+use Rattle.p25_status.proofs.WovenLaws.{length-statuses_of}
 use Rattle.p25_status.specs.declared.fields.Field.{Field}
 use Rattle.p25_status.specs.declared.fields.Field.TheVariants.{Nid}
 use Rattle.p25_status.specs.declared.symbols.Status.{Status}
@@ -18,7 +18,9 @@ use Rattle.p25_voice_units.specs.Images.{voice_image_of}
 use Rattle.p25_voice_units.specs.Places.{IsVoiceImage}
 use Rattle.p25_voice_units.proofs.ImagesLaws.{length-voice_image_of, IsVoiceImage-iff}
 use Rattle.p25_voice_units.proofs.RadiusLaws.{voice_within}
-use Rattle.p25_voice_units.proofs.ReadingLaws.{unit_read}
+use Rattle.p25_voice_units.proofs.ReadingLaws.{IsUnitOf as IsVoiceOf, unit_read}
+use Rattle.p25_voice_units.proofs.ReadNearLaws.{within_read}
+use Rattle.p25_voice_units.specs.WithinRadius.{IsVoiceWithin}
 use Rattle.p25_packet_blocks.specs.declared.head.PacketHead.{PacketHead}
 use Rattle.p25_packet_blocks.specs.declared.block.Slot.{Slot}
 use Rattle.p25_packet_blocks.specs.declared.block.Slot.TheVariants.{Good, Bad}
@@ -40,7 +42,7 @@ use Rattle.p25_units.specs.WithinRadius.{IsBodyWithin, received_body}
 use Rattle.p25_units.specs.declared.unit.Body.{Body}
 use Rattle.p25_units.specs.declared.unit.Body.TheVariants.{Voice, Packet}
 use Rattle.p25_units.specs.declared.frame.Frame.{Frame}
-use Rattle.p25_units.proofs.UnitsLaws.{IsSentLength-body, body_length-voice, body_length-known, sent_length-packet}
+use Rattle.p25_units.proofs.UnitsLaws.{body_length-known, sent_length-packet}
 use Rattle.p25_units.proofs.NeedsLaws.{voice-other}
 use Rattle.p25_units.proofs.KindsLaws.{IsUnitOf}
 
@@ -140,6 +142,10 @@ IsWholePacket-sendable (Plain packet) sendable = tt
 
 -- What was read.
 
+-- the bits of a voice unit are laid out as its kind is
+pub IsVoiceImage-same : (nac : ℕ) (voice : VoiceUnit) → IsSendableVoice voice → IsVoiceImage nac voice (voice_image_of nac voice)
+IsVoiceImage-same nac voice sendable = (IsVoiceImage-iff nac voice (voice_image_of nac voice) sendable).1 refl
+
 -- the header of a packet, of which the length of its unit hangs
 abbrev HasHead : Body → List Bool → Type 0
 HasHead (Voice voice) plain = Unit {0}
@@ -150,7 +156,7 @@ pub record IsBodyOf (duid : ℕ) (plain : List Bool) (body : Body) : Type 0 wher
   pub duid_is : body_duid body ≡ duid
   pub whole : IsWholeBody body
   pub sendable : IsSendableBody body
-  pub read : (nac : ℕ) → length plain ≡ body_length body → IsBodyRead body (body_image_of nac body) plain
+  pub read : (nac : ℕ) → IsBodyRead body (body_image_of nac body) plain
   pub head : HasHead body plain
 
 IsBodyOf-packet : (plain : List Bool) (packet : packet_type) → packet_reading_of plain ≡ Ok packet → failing_blocks_of packet ≡ [] → IsBodyOf 0xC plain (Packet packet)
@@ -158,7 +164,7 @@ unfolding IsWholeBody IsSendableBody IsBodyRead
 IsBodyOf-packet plain packet read none =
     let whole = IsWholePacket-none packet none in
     let is = IsWholeRead-reading plain packet read whole in
-    record { duid_is = refl; whole = whole; sendable = is.sendable; read = λ nac long. is.read; head = is.head }
+    record { duid_is = refl; whole = whole; sendable = is.sendable; read = λ nac. is.read; head = is.head }
 
 packet_body-whole : (plain : List Bool) (packet : packet_type) (fields : List Field) (body : Body) → packet_reading_of plain ≡ Ok packet → failing_blocks_of packet ≡ fields → whole_from packet fields ≡ Ok body → IsBodyOf 0xC plain body
 packet_body-whole plain packet [] body read none e = let same : Packet packet ≡ body = cc in subst (IsBodyOf 0xC plain) same (IsBodyOf-packet plain packet read none)
@@ -169,6 +175,11 @@ unfolding packet_body_from
 packet_body-from plain (Err field) body read e = absurd (cc)
 packet_body-from plain (Ok packet) body read e = packet_body-whole plain packet (failing_blocks_of packet) body read refl e
 
+-- a voice unit that was read lies within radius of its own bits
+voice_read : (nac duid : ℕ) (plain : List Bool) (voice : VoiceUnit) (unit : IsVoiceOf duid voice) → voice_reading_of duid plain ≡ Ok voice → IsVoiceWithin voice (voice_image_of nac voice) plain
+voice_read nac duid plain voice unit is =
+    within_read nac voice (voice_image_of nac voice) plain (IsVoiceImage-same nac voice unit.sendable) (ap (λ d. voice_reading_of d plain) unit.kind ∙ is)
+
 voice_body-from : (duid : ℕ) (plain : List Bool) (reading : Result VoiceUnit (List Field)) (body : Body) → voice_reading_of duid plain ≡ reading → body_from reading ≡ Ok body → IsBodyOf duid plain body
 unfolding IsWholeBody IsSendableBody IsBodyRead
 voice_body-from duid plain (Ok voice) body is e =
@@ -178,7 +189,7 @@ voice_body-from duid plain (Ok voice) body is e =
       duid_is = unit.kind;
       whole = tt;
       sendable = unit.sendable;
-      read = λ nac long. voice_read nac duid plain voice is (long ∙ body_length-voice voice (length (voice_image_of nac voice)) (length-voice_image_of nac voice unit.sendable));
+      read = λ nac. voice_read nac duid plain voice unit is;
       head = tt;
     } in
     subst (IsBodyOf duid plain) same read
@@ -227,8 +238,6 @@ IsFrameOf-body nid sent body unit read =
     let is = IsBodyOf-reading nid.1 (plain_of sent) body read in
     let whole = length_of_body nid.1 sent body unit is in
     let symbols : length (statuses_of sent) ≡ unit.blocks = length-statuses_of unit.blocks sent unit.long in
-    let counted = IsSentLength-body body in
-    let plain : length (plain_of sent) ≡ body_length body = omega (arith, length-plain_of unit.blocks sent unit.long, whole, unit.long, counted.fills, counted.sent) in
     record {
       nac = refl;
       duid = is.duid_is;
@@ -236,7 +245,7 @@ IsFrameOf-body nid sent body unit read =
       sound = record { whole = is.whole; symbols = ap (λ n. 72 * n) symbols ∙ sym unit.long ∙ sym whole };
       sendable = is.sendable;
       long = whole;
-      read = is.read nid.0 plain;
+      read = is.read nid.0;
     }
 
 frame_from-frame : (nid : ℕ × ℕ) (sent : List Bool) (reading : Result Body (List Field)) (frame : Frame) → IsUnitOf nid.1 sent → body_reading_of nid.1 (plain_of sent) ≡ reading → frame_from nid.0 (statuses_of sent) reading ≡ Ok frame → IsFrameOf nid sent frame
@@ -250,10 +259,6 @@ pub IsFrameOf-reading : (nid : ℕ × ℕ) (sent : List Bool) (frame : Frame) �
 IsFrameOf-reading nid sent frame unit e = frame_from-frame nid sent (body_reading_of nid.1 (plain_of sent)) frame unit refl (sym (reading_from-some nid sent) ∙ e)
 
 -- Bits within radius.
-
--- the bits of a voice unit are laid out as its kind is
-pub IsVoiceImage-same : (nac : ℕ) (voice : VoiceUnit) → IsSendableVoice voice → IsVoiceImage nac voice (voice_image_of nac voice)
-IsVoiceImage-same nac voice sendable = (IsVoiceImage-iff nac voice (voice_image_of nac voice) sendable).1 refl
 
 -- a packet reads as itself
 pub packet_reading_of-near : (nac : ℕ) (packet : packet_type) (plain : List Bool) → IsSendable packet → IsBodyWithin (Packet packet) (body_image_of nac (Packet packet)) plain → packet_reading_of plain ≡ Ok packet

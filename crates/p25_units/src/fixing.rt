@@ -9,8 +9,9 @@ ghost use Rattle.p25_packet_blocks.specs.Sendable.{IsSendable};
 ghost use Rattle.p25_packet_blocks.specs.Whole.{packet_head, IsWholePacket};
 ghost use Rattle.p25_status.specs.Woven.{plain_of};
 ghost use Rattle.p25_units.specs.Fixes.{body_fixes_of, fixes_of};
-ghost use Rattle.p25_units.specs.Units.{IsSendableUnit, IsSoundFrame, IsWholeBody, frame_length_of};
-ghost use Rattle.p25_units.specs.declared.unit.Body.TheVariants.{Packet as packet_in};
+ghost use Rattle.p25_units.specs.Units.{IsSendableUnit, IsSoundFrame, IsWholeBody, body_length, frame_length_of, sent_length};
+ghost use Rattle.p25_units.specs.declared.unit.Body.TheVariants.{Packet as packet_in, Voice as voice_in};
+ghost use Rattle.p25_voice_units.specs.Sendable.{IsSendableVoice};
 
 use crate::frame::Frame;
 use crate::unit::{Body, Unit};
@@ -18,6 +19,7 @@ use p25_bits::BitBuf;
 use p25_front::front_fixes;
 use p25_packet_blocks::{Packet, packet_image, packet_length};
 use p25_status::{Statuses, unweave};
+use p25_voice_units::{VoiceUnit, voice_fixes, voice_image};
 
 // Where the header block of a packet begins in a unit without status symbols. The blocks to follow touch it.
 const BLOCKS_AT: usize = 112;

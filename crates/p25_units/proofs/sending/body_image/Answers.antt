@@ -8,7 +8,7 @@ packet_image-requires-clause-whole c = subst IsWholeBody c.in-Packet.is c.requir
 
 pub returns-in-Voice-clause-sendable : goal.returns-in-Voice-clause-sendable
 unfolding IsSendableBody
-returns-in-Voice-clause-sendable c = subst IsSendableBody (sym c.in-Voice.is) tt
+returns-in-Voice-clause-sendable c = subst IsSendableBody (sym c.in-Voice.is) c.voice_image.ensures.sendable
 
 pub returns-in-Packet-clause-sendable : goal.returns-in-Packet-clause-sendable
 unfolding IsSendableBody

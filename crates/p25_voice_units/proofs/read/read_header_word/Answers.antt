@@ -2,6 +2,7 @@ use Rattle.std.proofs.Common.{length, refl, rules}
 use Rattle.p25_link.specs.Words.{header_of_symbols}
 use Rattle.p25_fields.specs.Layouts.{places_from, field_reading_of}
 use Rattle.p25_fields.proofs.CodesLaws.{all_end}
+use Rattle.p25_voice_units.specs.Layouts.{header_rows}
 use Rattle.p25_voice_units.specs.FieldLayouts.{word_places, header_layout}
 use Rattle.p25_voice_units.specs.Readings.{header_in}
 use Rattle.p25_voice_units.proofs.CodesLaws.{header_code}
@@ -18,5 +19,6 @@ unfolding header_in word_places places_from
 returns-in-None c = part_none header_of_symbols c.read_symbols.result (field_reading_of header_layout c.args.plain.now) c.in-None.is c.read_symbols.ensures
 
 pub read_symbols-requires : goal.read_symbols-requires
+unfolding word_places places_from
 read_symbols-requires c =
-    (search rules, (tt, (header_code, (search rules, (refl, (search rules, (refl, all_end 18 770 (length c.args.plain.now) _ refl c.requires)))))))
+    (search rules, (tt, (header_code, (search rules, (refl, (search rules, (refl, all_end 18 770 (length c.args.plain.now) (word_places 18 header_rows) refl c.requires)))))))
