@@ -1,10 +1,10 @@
 -- The words of the binary codes are the only ones that begin with their information: each code's own law of systematic words.
-use Rattle.std.proofs.Common.{◌≡◌, Bool, List, length, take, refl, sym, ◌∙◌, lit≤, lit<}
+use Rattle.std.proofs.Common.{◌≡◌, Bool, List, length, refl, sym, ◌∙◌, lit≤, lit<}
 use Rattle.p25_code.specs.Binary.{systematic}
 use Rattle.p25_code.specs.Words.{IsEncoding}
 use Rattle.p25_code.proofs.BinaryLaws.{encodes}
 use Rattle.p25_hamming.specs.Hamming10.{IsHamming10, check_rows as hamming10_rows}
-use Rattle.p25_hamming.specs.Hamming10Laws.{code as hamming10_code, from_checked as hamming10_from, hamming10_is_code}
+use Rattle.p25_hamming.specs.Hamming10Laws.{code as hamming10_code, from_checked as hamming10_from}
 use Rattle.p25_hamming.specs.Lsd16.{IsLsd16}
 use Rattle.p25_hamming.specs.Lsd16Laws.{check_rows as lsd16_rows, code as lsd16_code, from_checked as lsd16_from, lsd16_is_code}
 use Rattle.p25_golay.specs.Golay18.{IsGolay18}

@@ -1,6 +1,6 @@
 -- The layouts of the coded fields are read as their codes read: each by the laws of its inner and its outer code; and where the words
 -- of a field stand within a unit.
-use Rattle.std.proofs.Common.{◌≡◌, ℕ, ◌+◌, ◌≤◌, Bool, List, length, All, refl, arith}
+use Rattle.std.proofs.Common.{◌≡◌, ◌+◌, ◌≤◌, Bool, List, length, All, refl, arith}
 use Rattle.p25_golay.specs.Golay18.{IsGolay18}
 use Rattle.p25_golay.specs.Golay18Laws.{golay18_is_code}
 use Rattle.p25_golay.specs.Golay18Readings.{golay18_reading_of, golay18_reads_as}

@@ -1,6 +1,6 @@
 -- A unit's bits by its places: a unit is laid out and carries its coded field exactly where its bits are its front and the pieces of its
 -- rows. One way goes from the words of the field to the pieces and then to the whole, the other way back.
-use Rattle.std.proofs.Common.{◌≡◌, ◌↔◌, ℕ, zero, suc, ◌+◌, ◌*◌, ◌<◌, ◌≤◌, Bool, true, List, [], ◌∷◌, ◌++◌, length, take, drop, get_or, All, refl, ap, ap₂, sym, subst, ◌∙◌, arith, length-append, take-append-drop, Option}
+use Rattle.std.proofs.Common.{◌≡◌, ℕ, ◌+◌, ◌*◌, ◌<◌, ◌≤◌, Bool, true, List, ◌++◌, length, take, get_or, All, ap, ap₂, sym, subst, ◌∙◌, arith, length-append, take-append-drop, Option}
 use Rattle.std.specs.List.{list_all}
 use Rattle.std.specs.Prelude.{nat_le}
 use Rattle.std.proofs.lemmas.Bool.{leb-true}
@@ -13,16 +13,15 @@ use Rattle.p25_gf64.specs.declared.symbol.Sym.{Sym}
 use Rattle.p25_link.specs.Symbols.{symbol_bits}
 use Rattle.p25_front.specs.Front.{unit_front, IsFront}
 use Rattle.p25_front.proofs.FrontLaws.{length-unit_front, IsFront-unit_front, unit_front-only}
-use Rattle.p25_fields.specs.Layouts.{Layout, field_layout, sent_in}
+use Rattle.p25_fields.specs.Layouts.{field_layout, sent_in}
 use Rattle.p25_fields.specs.Within.{HasField}
 use Rattle.p25_fields.proofs.FieldLaws.{field_there, field_word}
 use Rattle.p25_fields.proofs.FieldWordsLaws.{field_word_there}
 use Rattle.p25_voice_units.specs.declared.layout.Piece.{Piece}
-use Rattle.p25_voice_units.specs.declared.voice.VoiceFrame.{VoiceFrame}
 use Rattle.p25_voice_units.specs.FieldLayouts.{word_places}
 use Rattle.p25_voice_units.specs.Pieces.{piece_length}
 use Rattle.p25_voice_units.specs.Images.{Contents, piece_bits, rows_bits}
-use Rattle.p25_voice_units.specs.Places.{HasPiece, IsLaidOut}
+use Rattle.p25_voice_units.specs.Places.{IsLaidOut}
 use Rattle.p25_voice_units.proofs.RowsLaws.{IsCarried, rows_length, rows_stand, rows_supplied, length-rows_bits, rows_parts, rows_only}
 use Rattle.p25_voice_units.proofs.FieldRowsLaws.{rows_counted, group_word, words_from_rows, rows_from_words, rows_have}
 

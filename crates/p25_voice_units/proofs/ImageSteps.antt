@@ -1,5 +1,5 @@
 -- The steps of the writer of voice units: a piece, by what it is, and one more piece behind the others.
-use Rattle.std.proofs.Common.{◌≡◌, ℕ, zero, suc, eqb, append-nil, ◌+◌, ◌*◌, ◌/◌, ◌<◌, ◌≤◌, Bool, true, false, nat_le, List, [], ◌∷◌, ◌++◌, length, take, drop, get_or, replicate, refl, ap, ap₂, sym, subst, ◌∙◌, arith}
+use Rattle.std.proofs.Common.{◌≡◌, ℕ, zero, suc, eqb, append-nil, ◌+◌, ◌*◌, ◌<◌, ◌≤◌, Bool, true, false, List, [], ◌∷◌, ◌++◌, length, take, get_or, replicate, refl, ap, ap₂, sym, ◌∙◌}
 use Rattle.std.specs.List.{flat_map}
 use Rattle.std.proofs.lemmas.Bool.{leb-true}
 use Rattle.std.proofs.lemmas.Nat.Bits.{bit_at-zero}
@@ -23,7 +23,7 @@ use Rattle.p25_voice_units.specs.declared.unit.VoiceUnit.{VoiceUnit}
 use Rattle.p25_voice_units.specs.declared.unit.VoiceUnit.TheVariants.{Header, Link1, Link2, End, EndLink}
 use Rattle.p25_voice_units.specs.Layouts.{header_rows, link_rows, end_rows, end_link_rows}
 use Rattle.p25_voice_units.specs.Lengths.{voice_duid}
-use Rattle.p25_voice_units.specs.Pieces.{piece_fits, piece_length}
+use Rattle.p25_voice_units.specs.Pieces.{piece_fits}
 use Rattle.p25_voice_units.specs.Images.{Contents, contents, frame_at, golay18_word, golay24_word, hamming10_word, lsd16_word, piece_bits, rows_bits, voice_body, voice_image_of}
 use Rattle.p25_voice_units.proofs.CodesLaws.{header_code, link_code, sync_code}
 

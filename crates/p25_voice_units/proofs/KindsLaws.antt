@@ -1,6 +1,6 @@
 -- The readings of voice units, kind by kind: at the DUID of a kind the definition computes to that kind's; and a unit with voice by which
 -- of its parts were read.
-use Rattle.std.proofs.Common.{◌≡◌, ℕ, ◌≤◌, Bool, List, [], length, Option, Some, None, ◌∷◌, ap₂, Ok, Err, Result, refl, ap, sym, ◌∙◌, arith}
+use Rattle.std.proofs.Common.{◌≡◌, ℕ, Bool, List, [], Option, Some, None, ◌∷◌, ap₂, Ok, Err, Result, refl, ap, sym, ◌∙◌}
 use Rattle.p25_status.specs.declared.fields.Field.{Field}
 use Rattle.p25_voice_units.specs.declared.unit.VoiceUnit.{VoiceUnit}
 use Rattle.p25_voice_units.specs.declared.unit.VoiceUnit.TheVariants.{End}
@@ -13,7 +13,6 @@ use Rattle.p25_link.specs.declared.link_control.LinkControl.{LinkControl}
 use Rattle.p25_status.specs.declared.fields.Field.TheVariants.{LinkControl as LinkField, EncryptionSync as SyncField}
 use Rattle.p25_voice_units.specs.FieldLayouts.{link_layout}
 use Rattle.p25_voice_units.specs.Readings.{voice_in, low_in, failing, header_in, header_from, link_in, sync_in, link1_from, link1_in, link2_from, link2_in, end_link_from, voice_reading_of}
-use Rattle.p25_voice_units.proofs.LengthsLaws.{length-cases}
 
 -- bits that have the length of their kind have so many
 pub long_by_kind : (duid kind count len : ℕ) → duid ≡ kind → voice_length_of kind ≡ Some count → voice_length_of duid ≡ Some len → len ≡ count

@@ -1,10 +1,10 @@
 -- Voice units within radius are read as sent: the coded field by the law of its layout, each low speed word by its code, and the words
 -- of symbols back from these. By whole inner words is within radius too; and a unit's own bits are within radius, and give its frames.
-use Rattle.std.proofs.Common.{◌≡◌, ℕ, zero, suc, ◌+◌, ◌*◌, ◌<◌, ◌≤◌, Bool, List, [], ◌∷◌, length, take, drop, map, slice_index, get_or, Option, Some, None, option_map, Ok, All, refl, ap, ap₂, sym, ◌∙◌, subst, arith, lit<, length-drop}
+use Rattle.std.proofs.Common.{◌≡◌, ℕ, zero, suc, ◌+◌, ◌*◌, ◌<◌, ◌≤◌, Bool, List, [], ◌∷◌, length, take, drop, map, slice_index, get_or, Some, option_map, Ok, All, refl, ap, ap₂, sym, ◌∙◌, arith, lit<, length-drop}
 use Rattle.std.proofs.Math.Nat.{mod-eq_of_lt}
 use Rattle.std.proofs.lemmas.List.{ext_get_or, get_or-map, length-map}
 use Rattle.p25_bits.specs.Bits.{bits_of, field_of, octet_bits, part}
-use Rattle.p25_bits.specs.Numbers.{octets_from, numbers_from, number_bits}
+use Rattle.p25_bits.specs.Numbers.{numbers_from}
 use Rattle.p25_bits.specs.Distance.{distance_of}
 use Rattle.p25_bits.proofs.BitsLaws.{field_of-bits_of}
 use Rattle.p25_bits.proofs.DistanceLaws.{distance_of-same}
@@ -17,21 +17,19 @@ use Rattle.p25_hamming.specs.Lsd16Laws.{lsd16_is_code}
 use Rattle.p25_hamming.specs.Lsd16Readings.{lsd16_reading_of, lsd16_reads_as}
 use Rattle.p25_link.specs.Words.{header_of_symbols, header_symbols, link_of_symbols, link_symbols, sync_of_symbols, sync_symbols}
 use Rattle.p25_link.proofs.WordsLaws.{header_back, link_back, sync_back}
-use Rattle.p25_fields.specs.Layouts.{field_reading_of}
 use Rattle.p25_fields.proofs.WithinLaws.{field_within, near_from_lost, near_itself}
-use Rattle.p25_voice_units.specs.declared.layout.Piece.{Piece}
-use Rattle.p25_voice_units.specs.declared.layout.Piece.TheVariants.{Frame, LowSpeed, Nulls}
+use Rattle.p25_voice_units.specs.declared.layout.Piece.TheVariants.{Nulls}
 use Rattle.p25_voice_units.specs.declared.unit.VoiceUnit.{VoiceUnit}
 use Rattle.p25_voice_units.specs.declared.unit.VoiceUnit.TheVariants.{Header, Link1, Link2, End, EndLink}
 use Rattle.p25_voice_units.specs.declared.voice.VoiceFrame.{VoiceFrame}
 use Rattle.p25_voice_units.specs.Layouts.{link_rows}
-use Rattle.p25_voice_units.specs.FieldLayouts.{header_layout, link_layout, sync_layout, end_link_layout}
+use Rattle.p25_voice_units.specs.FieldLayouts.{link_layout}
 use Rattle.p25_voice_units.specs.Images.{frame_at}
 use Rattle.p25_voice_units.specs.Lengths.{voice_duid}
 use Rattle.p25_voice_units.specs.Places.{HasPiece, IsLaidOut, IsVoiceImage}
-use Rattle.p25_voice_units.specs.Readings.{frame_places, low_places, frame_in, voice_in, low_in, header_in, link_in, sync_in, header_from, link1_in, link2_in, end_link_from, voice_reading_of}
+use Rattle.p25_voice_units.specs.Readings.{frame_places, low_places, frame_in, voice_in, low_in, header_in, link_in, sync_in, header_from, end_link_from, voice_reading_of}
 use Rattle.p25_voice_units.specs.Sendable.{IsVoiceFrame, IsSpeech, IsSendableVoice}
-use Rattle.p25_voice_units.specs.WithinRadius.{AreLowWithin, IsLinkWithin, IsVoiceWithin, received_voice, IsLinkWithinByWords, IsVoiceWithinByWords}
+use Rattle.p25_voice_units.specs.WithinRadius.{AreLowWithin, IsVoiceWithin, received_voice, IsVoiceWithinByWords}
 use Rattle.p25_voice_units.proofs.KindsLaws.{reading-header, reading-end, reading-link1, reading-link2, reading-end_link, link1_whole, link1_parts, link2_whole, link2_parts}
 use Rattle.p25_voice_units.proofs.ReadSteps.{nine_frames}
 use Rattle.p25_voice_units.proofs.FieldCodesLaws.{header_codes, link_codes, sync_codes, end_link_codes, header_there, link_there, end_link_there}

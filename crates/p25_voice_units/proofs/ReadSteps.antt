@@ -1,5 +1,5 @@
 -- The reader of voice units: each part that was read is the part that the definition names, by what the reader of the part answers.
-use Rattle.std.proofs.Common.{◌≡◌, ℕ, zero, suc, ◌+◌, ◌*◌, ◌<◌, ◌≤◌, Bool, true, false, List, [], ◌∷◌, ◌++◌, length, take, drop, map, get_or, set, slice_index, Option, Some, None, option_map, refl, ap, ap₂, sym, ◌∙◌, arith}
+use Rattle.std.proofs.Common.{◌≡◌, ℕ, zero, suc, ◌+◌, ◌<◌, ◌≤◌, Bool, true, false, List, [], ◌∷◌, ◌++◌, length, take, map, set, slice_index, Option, Some, None, option_map, refl, ap, ap₂, sym, ◌∙◌, arith}
 use Rattle.std.specs.Option.{is_some}
 use Rattle.std.proofs.lemmas.List.{append-nil, map_more, take_all, take_more_set}
 use Rattle.p25_bits.specs.Bits.{bits_of, field_of, part}

@@ -1,7 +1,6 @@
 -- Pieces that stand end to end, by recursion on the rows of a layout: joined they have each piece at its place, and what has each piece
 -- at its place is the pieces joined.
-use Rattle.std.proofs.Common.{◌≡◌, ℕ, zero, suc, ◌+◌, ◌*◌, ◌<◌, ◌≤◌, Bool, true, false, eqb, ◌&&◌, List, [], ◌∷◌, ◌++◌, length, take, drop, get_or, All, refl, ap, ap₂, sym, ◌∙◌, arith, append_assoc, append-nil, length-append, take-append-drop}
-use Rattle.std.specs.List.{flat_map}
+use Rattle.std.proofs.Common.{◌≡◌, ℕ, suc, ◌+◌, ◌*◌, ◌≤◌, Bool, true, false, eqb, ◌&&◌, List, [], ◌∷◌, ◌++◌, length, take, drop, get_or, All, refl, ap, ap₂, sym, ◌∙◌, arith, append_assoc, length-append, take-append-drop}
 use Rattle.std.proofs.lemmas.Bool.{and_parts, eqb-true, leb-true, ltb-true}
 use Rattle.std.proofs.lemmas.List.{drop_all, drop-drop, length-replicate}
 use Rattle.std.proofs.lemmas.List.Concat.{flat_map-cons}
@@ -11,7 +10,6 @@ use Rattle.p25_bits.proofs.BitsLaws.{length-bits_of}
 use Rattle.p25_bits.proofs.NumbersLaws.{number_bits-octets, length-number_bits}
 use Rattle.p25_bits.proofs.PartLaws.{length-part, part_joined}
 use Rattle.p25_hamming.specs.Lsd16Laws.{lsd16_is_code}
-use Rattle.p25_fields.specs.Layouts.{field_bits}
 use Rattle.p25_fields.specs.Written.{Encodes}
 use Rattle.p25_fields.proofs.FieldLaws.{length-field_bits}
 use Rattle.p25_voice_units.specs.declared.layout.Piece.{Piece}

@@ -1,5 +1,5 @@
 -- What voice units keep by their types.
-use Rattle.std.specs.Prelude.{◌≡◌, ℕ, ◌<◌, List, [], length, All}
+use Rattle.std.specs.Prelude.{◌≡◌, ℕ, ◌<◌, List, length, All}
 use Rattle.p25_link.specs.Words.{IsHeaderWord, IsLinkControl, IsEncryptionSync}
 use Rattle.p25_link.specs.declared.link_control.LinkControl.{LinkControl}
 use Rattle.p25_link.specs.declared.encryption_sync.EncryptionSync.{EncryptionSync}

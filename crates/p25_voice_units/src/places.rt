@@ -13,8 +13,8 @@ pub(crate) const HEADER_WORDS: [usize; 36] = [
 
 /// The places of the Hamming (10,6) words of a unit with voice.
 pub(crate) const LINK_WORDS: [usize; 24] = [
-    400, 410, 420, 430, 584, 594, 604, 614, 768, 778, 788, 798, 952, 962, 972, 982, 1136, 1146, 1156,
-    1166, 1320, 1330, 1340, 1350,
+    400, 410, 420, 430, 584, 594, 604, 614, 768, 778, 788, 798, 952, 962, 972, 982, 1136, 1146,
+    1156, 1166, 1320, 1330, 1340, 1350,
 ];
 
 /// The places of the Golay (24,12) words of a terminator with link control.

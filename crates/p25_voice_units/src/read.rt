@@ -139,7 +139,12 @@ fn note<T>(fields: &mut FieldList, field: Field, part: &Option<T>)
 }
 
 // The failing fields of a unit with voice, in order.
-fn failing_of<T>(field: Field, word: &Option<T>, first: &Option<u8>, second: &Option<u8>) -> FieldList
+fn failing_of<T>(
+    field: Field,
+    word: &Option<T>,
+    first: &Option<u8>,
+    second: &Option<u8>,
+) -> FieldList
     ensures { result ≡ failing field word.now first.now second.now }
 {
     let mut fields = FieldList::new();

@@ -1,4 +1,4 @@
-use Rattle.std.proofs.Common.{◌+◌, ◌*◌, ◌≤◌, length, arith}
+use Rattle.std.proofs.Common.{◌+◌, ◌≤◌, length, arith}
 use Rattle.std.proofs.Math.Nat.{mul-le-mul_left}
 use Rattle.p25_voice_units.proofs.FixesLaws.{counted_none, counted_next, counted-le, counted-small, counted_all}
 use Rattle.p25_voice_units.proofs.fixes.differing.Goals as goal

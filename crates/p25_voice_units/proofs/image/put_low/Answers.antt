@@ -1,4 +1,4 @@
-use Rattle.std.proofs.Common.{◌≡◌, ◌++◌, ap, ap₂, sym, ◌∙◌, length, arith}
+use Rattle.std.proofs.Common.{◌≡◌, ◌++◌, ap, sym, ◌∙◌, length, arith}
 use Rattle.p25_bits.specs.Bits.{bits_of, field_of}
 use Rattle.p25_bits.proofs.BitsLaws.{length-bits_of, bits_of-field_of}
 use Rattle.p25_voice_units.specs.Images.{lsd16_word}

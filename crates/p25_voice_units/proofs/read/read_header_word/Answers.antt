@@ -21,4 +21,5 @@ returns-in-None c = part_none header_of_symbols c.read_symbols.result (field_rea
 pub read_symbols-requires : goal.read_symbols-requires
 unfolding word_places places_from
 read_symbols-requires c =
-    (search rules, (tt, (header_code, (search rules, (refl, (search rules, (refl, all_end 18 770 (length c.args.plain.now) (word_places 18 header_rows) refl c.requires)))))))
+    let there = all_end 18 770 (length c.args.plain.now) (word_places 18 header_rows) refl c.requires in
+    (search rules, (tt, (header_code, (search rules, (refl, (search rules, (refl, there)))))))

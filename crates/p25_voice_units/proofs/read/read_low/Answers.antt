@@ -1,4 +1,3 @@
-use Rattle.std.proofs.Common.{◌∙◌}
 use Rattle.p25_voice_units.specs.Readings.{low_places}
 use Rattle.p25_voice_units.proofs.ReadSteps.{low_taken, low_found, low_beyond}
 use Rattle.p25_voice_units.proofs.read.read_low.Goals as goal

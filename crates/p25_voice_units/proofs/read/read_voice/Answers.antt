@@ -1,4 +1,4 @@
-use Rattle.std.proofs.Common.{◌≡◌, length, Some, None, Ok, refl, sym, ◌∙◌, arith}
+use Rattle.std.proofs.Common.{◌≡◌, length, Some, None, refl, sym, ◌∙◌, arith}
 use Rattle.p25_voice_units.specs.Lengths.{voice_length_of}
 use Rattle.p25_voice_units.proofs.LengthsLaws.{length-header, length-link1, length-link2, length-end_link, length-other}
 use Rattle.p25_voice_units.proofs.KindsLaws.{long_by_kind, reading-header, reading-end, reading-link1, reading-link2, reading-end_link, reading_by_kind}

@@ -1,0 +1,255 @@
+//! Units of each kind with damage: read with so many fixes, or refused with the fields that fail.
+
+use super::{Voice, VoiceFrame, VoiceUnit, read_voice, voice_fixes, voice_image, voice_length};
+use p25_bits::BitBuf;
+use p25_link::{EncryptionSync, HeaderWord, LinkControl};
+use p25_status::Field;
+use std::process::Abort;
+
+// Bits that are inverted: so many from each of so many places, the first of which is `at`, a step apart.
+#[derive(Clone, Copy)]
+struct Damage {
+    at: usize,
+    step: usize,
+    times: u32,
+    bits: usize,
+}
+
+// The first bits of words, a step apart.
+const fn each(at: usize, step: usize, times: u32, bits: usize) -> Damage {
+    Damage {
+        at,
+        step,
+        times,
+        bits,
+    }
+}
+
+// Bits from one place on.
+const fn run(at: usize, bits: usize) -> Damage {
+    each(at, 0, 1, bits)
+}
+
+// Three bits of a low speed word that bring no word within 2 bits.
+fn low_beyond(at: usize) -> [Damage; 2] {
+    [run(at.saturating_add(12), 1), run(at.saturating_add(14), 2)]
+}
+
+fn invert(bits: &mut BitBuf, at: usize, count: usize) {
+    for place in at..at.saturating_add(count) {
+        if place < bits.len() {
+            bits.flip(place);
+        }
+    }
+}
+
+fn spoil(bits: &mut BitBuf, all: &[Damage]) {
+    for one in all {
+        let mut at = one.at;
+        for _word in 0..one.times {
+            invert(bits, at, one.bits);
+            at = at.saturating_add(one.step);
+        }
+    }
+}
+
+// A unit is read in spite of damage, with so many fixes.
+fn assert_read(rt: &impl Abort, unit: &VoiceUnit, all: &[Damage], fixes: u32) {
+    let mut image = BitBuf::new();
+    voice_image(0x293, unit, &mut image);
+    let mut plain = BitBuf::new();
+    plain.append(&image, 0, image.len());
+    spoil(&mut plain, all);
+    assert!(rt; plain.len() == image.len());
+    match read_voice(unit.duid(), &plain) {
+        Ok(read) => assert!(rt; read == *unit, "another unit, for {fixes} fixes"),
+        Err(_) => assert!(rt; false, "not read, for {fixes} fixes"),
+    }
+    assert_eq!(rt; voice_fixes(unit, &plain, &image), fixes);
+}
+
+// A unit is refused after damage, with these fields.
+fn assert_failing(rt: &impl Abort, unit: &VoiceUnit, all: &[Damage], fields: &[Field]) {
+    let mut image = BitBuf::new();
+    voice_image(0x293, unit, &mut image);
+    let mut plain = BitBuf::new();
+    plain.append(&image, 0, image.len());
+    spoil(&mut plain, all);
+    assert!(rt; plain.len() == image.len());
+    match read_voice(unit.duid(), &plain) {
+        Ok(_) => assert!(rt; false, "it is read"),
+        Err(failing) => {
+            assert_eq!(rt; failing.len(), fields.len());
+            for (i, field) in fields.iter().enumerate() {
+                assert!(rt; i < failing.len());
+                assert_eq!(rt; failing.get(i), *field);
+            }
+        }
+    }
+}
+
+fn header(octet: u8) -> VoiceUnit {
+    VoiceUnit::Header(HeaderWord {
+        mi: [octet; 9],
+        mfid: octet,
+        algid: octet,
+        kid: u16::from(octet) * 257,
+        tgid: u16::from(octet),
+    })
+}
+
+// Its last voice frame begins with an octet.
+fn link1(octet: u8) -> VoiceUnit {
+    let mut frames = [VoiceFrame([0x35; 18]); 9];
+    frames[8].0[0] = octet;
+    VoiceUnit::Link1 {
+        link: LinkControl([0x00, 0x90, 0x80, 0x00, 0x12, 0x34, 0x56, 0x78, 0x9A]),
+        low: [0x5A, 0xC3],
+        voice: Voice::new(frames),
+    }
+}
+
+fn link2() -> VoiceUnit {
+    VoiceUnit::Link2 {
+        sync: EncryptionSync {
+            mi: [0x12, 0x34, 0x56, 0x78, 0x9A, 0xBC, 0xDE, 0xF0, 0x0F],
+            algid: 0x81,
+            kid: 0x1234,
+        },
+        low: [0, 0xFF],
+        voice: Voice::new([VoiceFrame([0xFF; 18]); 9]),
+    }
+}
+
+fn end_link() -> VoiceUnit {
+    VoiceUnit::EndLink {
+        link: LinkControl([0x03, 0x90, 0, 0x12, 0x34, 0x56, 0x78, 0x9A, 0xBC]),
+    }
+}
+
+#[test]
+fn headers(rt: HostRuntime) {
+    for octet in [0, 0xA7] {
+        let unit = header(octet);
+        // Undamaged; its nulls; three bits of each word; eight words inverted and three bits of the others.
+        assert_read(&rt, &unit, &[], 0);
+        assert_read(&rt, &unit, &[run(760, 10)], 0);
+        assert_read(&rt, &unit, &[each(112, 18, 36, 3)], 108);
+        assert_read(
+            &rt,
+            &unit,
+            &[each(112, 18, 8, 18), each(256, 18, 28, 3)],
+            228,
+        );
+        // Sixteen words that are not read; fourteen of them, and another word in one place.
+        assert_read(&rt, &unit, &[each(112, 18, 16, 4)], 64);
+        let word = [run(369, 2), run(374, 3), run(378, 1), run(380, 2)];
+        assert_read(
+            &rt,
+            &unit,
+            &[each(112, 18, 14, 4), word[0], word[1], word[2], word[3]],
+            64,
+        );
+        // Seventeen words that are not read; sixteen, and another word.
+        assert_failing(&rt, &unit, &[each(112, 18, 17, 4)], &[Field::HeaderWord]);
+        assert_failing(
+            &rt,
+            &unit,
+            &[
+                each(112, 18, 14, 4),
+                each(382, 18, 1, 4),
+                word[0],
+                word[1],
+                word[2],
+                word[3],
+            ],
+            &[Field::HeaderWord],
+        );
+    }
+}
+
+#[test]
+fn voice_with_link_control(rt: HostRuntime) {
+    let unit = link1(0x35);
+    // One bit of each Hamming word, two bits of each low speed word, and twelve words that are not read.
+    let one_each = [
+        each(400, 10, 4, 1),
+        each(584, 10, 4, 1),
+        each(768, 10, 4, 1),
+        each(952, 10, 4, 1),
+        each(1136, 10, 4, 1),
+        each(1320, 10, 4, 1),
+    ];
+    assert_read(&rt, &unit, &[], 0);
+    assert_read(&rt, &unit, &one_each, 24);
+    assert_read(&rt, &unit, &[each(1504, 16, 2, 2)], 4);
+    let twelve = [
+        each(400, 10, 4, 10),
+        each(584, 10, 4, 10),
+        each(768, 10, 4, 10),
+    ];
+    assert_read(&rt, &unit, &twelve, 120);
+    // Each field beyond by itself, and all together.
+    let field = [twelve[0], twelve[1], twelve[2], run(952, 10)];
+    let first = low_beyond(1504);
+    let second = low_beyond(1520);
+    assert_failing(&rt, &unit, &field, &[Field::LinkControl]);
+    assert_failing(&rt, &unit, &first, &[Field::LowSpeed1]);
+    assert_failing(&rt, &unit, &second, &[Field::LowSpeed2]);
+    assert_failing(
+        &rt,
+        &unit,
+        &[
+            field[0], field[1], field[2], field[3], first[0], first[1], second[0], second[1],
+        ],
+        &[Field::LinkControl, Field::LowSpeed1, Field::LowSpeed2],
+    );
+}
+
+#[test]
+fn voice_with_encryption_sync(rt: HostRuntime) {
+    let unit = link2();
+    // Eight words that are not read, and one more.
+    let eight = [each(1136, 10, 4, 10), each(1320, 10, 4, 10)];
+    let first = low_beyond(1504);
+    let second = low_beyond(1520);
+    assert_read(&rt, &unit, &[], 0);
+    assert_read(&rt, &unit, &[eight[0], eight[1], each(1504, 16, 2, 2)], 84);
+    let field = [eight[0], eight[1], run(430, 10)];
+    assert_failing(&rt, &unit, &field, &[Field::EncryptionSync]);
+    assert_failing(&rt, &unit, &first, &[Field::LowSpeed1]);
+    assert_failing(&rt, &unit, &second, &[Field::LowSpeed2]);
+    assert_failing(
+        &rt,
+        &unit,
+        &[
+            field[0], field[1], field[2], first[0], first[1], second[0], second[1],
+        ],
+        &[Field::EncryptionSync, Field::LowSpeed1, Field::LowSpeed2],
+    );
+}
+
+#[test]
+fn terminators(rt: HostRuntime) {
+    let unit = end_link();
+    // Three bits of each word; three words inverted to other ones; six words that are not read, and one more.
+    assert_read(&rt, &unit, &[], 0);
+    assert_read(&rt, &unit, &[each(112, 24, 12, 3), run(400, 20)], 36);
+    assert_read(&rt, &unit, &[each(112, 24, 3, 24)], 72);
+    assert_read(&rt, &unit, &[each(116, 24, 6, 4)], 24);
+    assert_failing(&rt, &unit, &[each(116, 24, 7, 4)], &[Field::LinkControl]);
+    assert_read(&rt, &VoiceUnit::End, &[run(0, 140)], 0);
+    assert_eq!(rt; voice_length(7), None);
+}
+
+#[test]
+fn voice_is_answered_as_received(rt: HostRuntime) {
+    let mut plain = BitBuf::new();
+    voice_image(0, &link1(0x35), &mut plain);
+    invert(&mut plain, 1536, 4);
+    assert!(rt; plain.len() == 1680);
+    match read_voice(5, &plain) {
+        Ok(read) => assert!(rt; read == link1(0xC5)),
+        Err(_) => assert!(rt; false, "not read"),
+    }
+}
