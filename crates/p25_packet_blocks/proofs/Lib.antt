@@ -11,3 +11,5 @@ pub mod PlacesLaws
 pub mod UnitLaws
 pub mod RadiusLaws
 pub mod SentLaws
+pub mod NearLaws
+pub mod WholeLaws

@@ -1,7 +1,9 @@
 -- The packet answer of a sent unit by its cases: each arm with the facts that choose it.
-use Rattle.std.proofs.Common.{◌≡◌, ◌≢◌, ℕ, ◌<◌, ◌≤◌, Bool, true, false, eqb, leb, List, ◌++◌, length, take, Ok, Err, Some, None, refl, ap, ◌∙◌, arith}
+use Rattle.std.proofs.Common.{◌≡◌, ◌≢◌, ℕ, ◌<◌, ◌≤◌, Bool, true, false, eqb, leb, List, ◌++◌, length, take, Ok, Err, Some, None, refl, ap, ap₂, sym, ◌∙◌, arith}
 use Rattle.std.proofs.lemmas.Bool.{cond-true, cond-false, eq-eqb, ne_eqb, le-leb, false_from_ne_true, leb-true}
+use Rattle.std.proofs.lemmas.List.{take-append-le}
 use Rattle.p25_bits.specs.Bits.{part}
+use Rattle.p25_bits.proofs.PartLaws.{part-take}
 use Rattle.p25_status.specs.declared.fields.Field.{Field}
 use Rattle.p25_status.specs.declared.fields.Field.TheVariants.{Sync, Nid, Duid, Length}
 use Rattle.p25_status.specs.Sync.{has_sync}
@@ -22,6 +24,23 @@ sent_header_bits-is sent = refl
 pub sent_head_of-is : (sent : List Bool) → sent_head_of sent ≡ head_from (half_octets (sent_header_bits sent))
 unfolding sent_head_of
 sent_head_of-is sent = refl
+
+-- the header hangs on the first 316 bits alone
+pub sent_header_bits-take : (count : ℕ) (sent : List Bool) → 316 ≤ count → sent_header_bits (take count sent) ≡ sent_header_bits sent
+unfolding sent_header_bits
+sent_header_bits-take count sent long =
+    let join : List Bool → List Bool → List Bool = λ xs ys. xs ++ ys in
+    ap₂ join
+    (ap₂ join (ap₂ join (part-take 114 28 count sent (omega arith)) (part-take 144 70 count sent (omega arith))) (part-take 216 70 count sent (omega arith)))
+    (part-take 288 28 count sent (omega arith))
+
+pub sent_head_of-take : (count : ℕ) (sent : List Bool) → 316 ≤ count → sent_head_of (take count sent) ≡ sent_head_of sent
+sent_head_of-take count sent long =
+    sent_head_of-is (take count sent) ∙ ap (λ bits. head_from (half_octets bits)) (sent_header_bits-take count sent long) ∙ sym (sent_head_of-is sent)
+
+pub sent_head_of-append : (sent more : List Bool) → 316 ≤ length sent → sent_head_of (sent ++ more) ≡ sent_head_of sent
+sent_head_of-append sent more long =
+    sym (sent_head_of-take 316 (sent ++ more) (omega arith)) ∙ ap sent_head_of (take-append-le 316 sent more long) ∙ sent_head_of-take 316 sent (omega arith)
 
 -- From the header on.
 

@@ -3,6 +3,7 @@ pub mod Parts
 pub mod ConfirmedParts
 pub mod Kinds
 pub mod Whole
+pub mod WholeReading
 pub mod FlagOctets
 pub mod Lengths
 pub mod Reading

@@ -96,19 +96,19 @@ gaps_full ended at bits before place count next_place next_count after is =
 
 -- a unit with few wrong bits is the first item of bits that begin with it
 pub near-whole : NearIsWhole
-near-whole at frame sent more sound fits near =
+near-whole at frame sent more sound sendable near =
     let all = sent ++ more in
-    let here = has_sync-near frame sent sound near in
+    let here = has_sync-near frame sound sendable sent near in
     let synced = has_sync-append sent more (has_sync-length sent here) ∙ here in
-    let need = need_of-near frame sent more sound fits near in
+    let need = need_of-near frame sent more sound sendable near in
     let front = take-append-le (length sent) sent more (omega arith) in
     let first = first_item-synced at all (Length (length sent)) synced need in (
-      first ∙ ap (unit_item_of at) (front ∙ take-length sent) ∙ unit_item_of-near at frame sent sound fits near,
+      first ∙ ap (unit_item_of at) (front ∙ take-length sent) ∙ unit_item_of-near at frame sent sound sendable near,
       is_decided-synced all (Length (length sent)) synced need,
       ap covered first ∙ covered-unit_item_of at all (length sent) need,
     )
 
--- a first item that is whole is the item of a unit, so its bits lie within radius of its frame
+-- a first item that is whole is the item of a unit, so its bits read as its frame
 pub whole-within : WholeIsWithin
 whole-within at bits place frame fixes first =
     first_item-cases (λ item. item ≡ Whole place frame fixes → IsWholeOf at (take (frame_length_of frame.unit) bits) place frame fixes) at bits
@@ -122,8 +122,8 @@ whole-within at bits place frame fixes first =
 
 -- an undamaged image is the frame itself, with no fixes
 pub image-whole : ImageIsWhole
-image-whole at frame more sound fits =
+image-whole at frame more sound sendable =
     let image = image_of frame in
-    (near-whole at frame image more sound fits (IsWithinRadius-image_of frame sound)).0
-    ∙ ap (λ (f : Frame). Whole at f (fixes_of f image)) (received-image_of frame sound)
-    ∙ ap (Whole at frame) (fixes_of-image_of frame sound)
+    (near-whole at frame image more sound sendable (IsWithinRadius-image_of frame sound sendable)).0
+    ∙ ap (λ (f : Frame). Whole at f (fixes_of f image)) (received-image_of frame sound sendable)
+    ∙ ap (Whole at frame) (fixes_of-image_of frame sound sendable)

@@ -5,7 +5,7 @@ use Rattle.p25_status.specs.Woven.{statuses_of}
 use Rattle.p25_units.specs.Terminators.{terminator}
 use Rattle.p25_units.specs.WholeLaws.{IsWholeOf}
 use Rattle.p25_units.specs.declared.item.Item.TheVariants.{Whole}
-use Rattle.p25_units.proofs.TerminatorsLaws.{length-terminator, IsSoundFrame-terminator, image_of-terminator, two-statuses, IsWithinRadius-terminator, HasTerminator-from, fixes_of-terminator}
+use Rattle.p25_units.proofs.TerminatorsLaws.{length-terminator, IsSoundFrame-terminator, IsSendableUnit-terminator, image_of-terminator, two-statuses, IsWithinRadius-terminator, HasTerminator-from, fixes_of-terminator}
 use Rattle.p25_units.proofs.UnitsLaws.{length-image_of}
 use Rattle.p25_stream.specs.Items.{first_item, is_decided}
 use Rattle.p25_stream.specs.ItemLaws.{TerminatorIsRead, TerminatorIsThere, SentTerminatorIsRead}
@@ -20,7 +20,7 @@ terminator-read at nac bits has =
     let two = two-statuses bits has.there in
     let whole : sent ++ drop 144 bits ≡ bits = take-append-drop 144 bits in
     let near =
-    near-whole at frame sent (drop 144 bits) (IsSoundFrame-terminator nac statuses two) (omega (arith, has.fits)) (IsWithinRadius-terminator nac statuses bits two has) in (
+    near-whole at frame sent (drop 144 bits) (IsSoundFrame-terminator nac statuses two) (IsSendableUnit-terminator nac statuses has.fits) (IsWithinRadius-terminator nac statuses bits two has) in (
       ap (first_item at) (sym whole) ∙ near.0 ∙ ap (Whole at frame) (fixes_of-terminator nac statuses bits has.there),
       ap is_decided (sym whole) ∙ near.1,
     )
@@ -30,9 +30,9 @@ pub terminator-there : TerminatorIsThere
 terminator-there at nac bits place statuses fixes first =
     let frame = terminator nac statuses in
     let is = subst (λ n. IsWholeOf at (take n bits) place frame fixes) (length-terminator nac statuses) (whole-within at bits place frame fixes first) in
-    let long : length (take 144 bits) ≡ 144 = is.near.long ∙ length-image_of frame is.sound ∙ length-terminator nac statuses in
+    let long : length (take 144 bits) ≡ 144 = is.front.long ∙ length-image_of frame is.sound is.sendable ∙ length-terminator nac statuses in
     let there : 144 ≤ length bits = omega (arith, long, length-take 144 bits) in (
-      HasTerminator-from nac statuses bits is.sound (omega (arith, is.nac)) there is.near,
+      HasTerminator-from nac statuses bits is.sound (omega (arith, is.sendable.nac_fits)) there is.front,
       is.place_is,
       is.statuses,
       is.fixes_is ∙ fixes_of-terminator nac statuses bits there,
@@ -42,4 +42,4 @@ terminator-there at nac bits place statuses fixes first =
 pub terminator-sent : SentTerminatorIsRead
 terminator-sent at nac statuses more fits two =
     ap (λ bits. first_item at (bits ++ more)) (sym (image_of-terminator nac statuses))
-    ∙ image-whole at (terminator nac statuses) more (IsSoundFrame-terminator nac statuses two) (omega (arith, fits))
+    ∙ image-whole at (terminator nac statuses) more (IsSoundFrame-terminator nac statuses two) (IsSendableUnit-terminator nac statuses fits)

@@ -7,7 +7,7 @@ use Rattle.p25_status.specs.declared.symbols.Status.{Status}
 use Rattle.p25_units.specs.Fixes.{fixes_of}
 use Rattle.p25_units.specs.Items.{IsSoundItem, covered, place_of}
 use Rattle.p25_units.specs.Terminators.{HasTerminator, identifier_errors, sync_errors, terminator, terminator_bits}
-use Rattle.p25_units.specs.Units.{IsSoundFrame, frame_length_of, image_of}
+use Rattle.p25_units.specs.Units.{IsSendableUnit, IsSoundFrame, frame_length_of, image_of}
 use Rattle.p25_units.specs.WholeLaws.{IsWholeOf}
 use Rattle.p25_units.specs.WithinRadius.{IsWithinRadius, received_frame}
 use Rattle.p25_units.specs.declared.frame.Frame.{Frame}
@@ -71,12 +71,12 @@ DecidedStay = (ended : Bool) (at : ℕ) (bits more : List Bool) → (rest : List
 -- decided, and it covers exactly these bits
 abbrev pub NearIsWhole : Type 0
 NearIsWhole =
-    (at : ℕ) (frame : Frame) (sent more : List Bool) → IsSoundFrame frame → frame.unit.nac ≤ 4095 → IsWithinRadius frame sent
+    (at : ℕ) (frame : Frame) (sent more : List Bool) → IsSoundFrame frame → IsSendableUnit frame.unit → IsWithinRadius frame sent
     → (first_item at (sent ++ more) ≡ Whole at (received_frame frame sent) (fixes_of (received_frame frame sent) sent))
     × (is_decided (sent ++ more) ≡ true)
     × (covered (first_item at (sent ++ more)) ≡ length sent)
 
--- the first item is a whole unit only where the bits that it covers lie within radius of its frame
+-- the first item is a whole unit only where the bits that it covers read as its frame, those of its front within radius
 abbrev pub WholeIsWithin : Type 0
 WholeIsWithin =
     (at : ℕ) (bits : List Bool) (place : ℕ) (frame : Frame) (fixes : ℕ) → first_item at bits ≡ Whole place frame fixes
@@ -85,7 +85,7 @@ WholeIsWithin =
 -- where bits begin with the image of a sound frame, the first item is that frame, whole and with no fixes
 abbrev pub ImageIsWhole : Type 0
 ImageIsWhole =
-    (at : ℕ) (frame : Frame) (more : List Bool) → IsSoundFrame frame → frame.unit.nac ≤ 4095
+    (at : ℕ) (frame : Frame) (more : List Bool) → IsSoundFrame frame → IsSendableUnit frame.unit
     → first_item at (image_of frame ++ more) ≡ Whole at frame 0
 
 -- a scanner that gave an item gave the first of the items of what it held and any bits that come later, and has the others

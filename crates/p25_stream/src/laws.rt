@@ -11,7 +11,8 @@ ghost use Rattle.p25_stream.specs.ItemLaws.{DecidedStay, FirstStays, GapsAreFull
 /// - `sound`: each item is sound.
 /// - `first_stays`, `decided_stay`: what some bits decide stays and begins the items, whatever bits come later.
 /// - `near`: a unit with few wrong bits at a place where an item begins is that item, whole and as received.
-/// - `whole`: an item is a whole unit only where the bits that it covers lie within radius of its frame, as received.
+/// - `whole`: an item is a whole unit only where the bits that it covers read as its frame, as received: those of its front lie
+///   within radius, and what it carries is what its code words and blocks read as.
 /// - `undamaged`: where bits begin with a sound frame's image, the first item is that frame, whole and with no fixes.
 /// - `terminator`, `terminator_is_there`: the first item is a terminator with a network access code exactly where 144 bits
 ///   are there, at most 4 of them are wrong in the sync, and at most 11 in the first 63 of the identifier.

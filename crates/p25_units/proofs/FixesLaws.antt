@@ -1,47 +1,121 @@
--- The fixes of a frame are those of its front and those of what it carries.
-use Rattle.std.proofs.Common.{◌≡◌, ℕ, ◌*◌, ◌≤◌, Bool, List, [], ◌∷◌, length, take, refl, ap, ap₂, sym, ◌∙◌, arith, append-nil}
-use Rattle.std.proofs.lemmas.List.{take-take}
+-- The fixes of a frame are those of its front and those behind it, by cutting the lists of looked-at bits.
+use Rattle.std.proofs.Common.{◌≡◌, ℕ, zero, suc, ◌+◌, ◌*◌, ◌≤◌, Bool, List, [], ◌∷◌, ◌++◌, length, take, refl, ap, ap₂, sym, ◌∙◌, arith, append-nil, append_assoc}
+use Rattle.std.specs.Bool.{beq}
+use Rattle.std.proofs.lemmas.List.{take-take, length-take-le}
+use Rattle.p25_bits.specs.Bits.{part}
+use Rattle.p25_bits.specs.Numbers.{each_below}
 use Rattle.p25_bits.specs.Distance.{distance_of}
-use Rattle.p25_bits.proofs.DistanceLaws.{distance_of-same}
+use Rattle.p25_bits.proofs.PartLaws.{part_add}
+use Rattle.p25_bits.proofs.NumbersLaws.{each_below-zero, each_below-suc}
+use Rattle.p25_bits.proofs.DistanceLaws.{distance_of-same, distance_by-append}
 use Rattle.p25_status.specs.Woven.{plain_of}
+use Rattle.p25_status.proofs.WovenLaws.{length-plain_of}
 use Rattle.p25_front.specs.Front.{unit_front, front_of, front_fixes_of}
 use Rattle.p25_front.proofs.FrontLaws.{front_of-plain_of}
+use Rattle.p25_voice_units.specs.declared.unit.VoiceUnit.{VoiceUnit}
 use Rattle.p25_voice_units.specs.declared.unit.VoiceUnit.TheVariants.{End}
-use Rattle.p25_voice_units.specs.Readings.{voice_looked}
+use Rattle.p25_voice_units.specs.Fixes.{voice_looked, bits_at, voice_fixes_of}
+use Rattle.p25_voice_units.specs.Images.{voice_image_of}
+use Rattle.p25_packet_blocks.specs.declared.packet.Packet.{Packet as packet_type}
+use Rattle.p25_packet_blocks.specs.Heads.{head_blocks}
+use Rattle.p25_packet_blocks.specs.Image.{packet_image_of}
+use Rattle.p25_packet_blocks.specs.Whole.{packet_head}
 use Rattle.p25_units.specs.UnitParts.{UnitParts}
-use Rattle.p25_units.specs.Units.{body_duid, unit_image_of, image_of, IsSoundFrame}
-use Rattle.p25_units.specs.Fixes.{body_looked, looked_of, looked_at, fixes_of}
-use Rattle.p25_units.specs.declared.unit.Body.{Body}
-use Rattle.p25_units.specs.declared.unit.Body.TheVariants.{Voice}
+use Rattle.p25_units.specs.Units.{body_duid, unit_image_of, image_of, IsSoundFrame, IsSendableBody, IsSendableUnit}
+use Rattle.p25_units.specs.Fixes.{packet_looked, body_looked, looked_of, body_fixes_of, fixes_of}
+use Rattle.p25_units.specs.declared.unit.Body.TheVariants.{Voice, Packet}
 use Rattle.p25_units.specs.declared.frame.Frame.{Frame}
-use Rattle.p25_units.proofs.UnitsLaws.{unit_image_of-front, plain_of-image_of}
+use Rattle.p25_units.proofs.UnitsLaws.{unit_image_of-front, plain_of-image_of, length-unit_image_of, IsSentLength-body}
 
--- behind the front of a terminator nothing is looked at
-pub body_looked-none : (body : Body) → body_looked body ≡ []
-unfolding voice_looked
-body_looked-none (Voice End) = refl
+-- the bits at one place, and at none
+bits_at-cons : (place : ℕ × ℕ) (places : List (ℕ × ℕ)) (bits : List Bool) → bits_at (place ∷ places) bits ≡ part place.0 place.1 bits ++ bits_at places bits
+unfolding bits_at
+bits_at-cons place places bits = refl
 
--- so the bits of its looked-at places are the first 111
-looked_at-front : (unit : UnitParts) (bits : List Bool) → looked_at (looked_of unit) bits ≡ take 111 bits
-unfolding looked_at
-looked_at-front unit bits = ap (λ places. looked_at ((0, 111) ∷ places) bits) (body_looked-none unit.body) ∙ append-nil (take 111 bits)
+bits_at-nil : (bits : List Bool) → bits_at [] bits ≡ []
+unfolding bits_at
+bits_at-nil bits = refl
 
 -- the first 111 bits of what begins with a front
 first_111 : (bits start : List Bool) → take 112 bits ≡ start → take 111 bits ≡ take 111 start
 first_111 bits start is = sym (take-take 111 112 bits (omega arith)) ∙ ap (take 111) is
 
--- the fixes of a frame are those of its front
-pub fixes_of-front : (frame : Frame) (blocks : ℕ) (sent : List Bool) → 2 ≤ blocks → length sent ≡ 72 * blocks → fixes_of frame sent ≡ front_fixes_of (frame.unit.nac, body_duid frame.unit.body) sent
-unfolding fixes_of front_fixes_of
-fixes_of-front frame blocks sent two long =
-    ap₂ (λ (xs ys : List Bool). distance_of xs ys)
-    (looked_at-front frame.unit (plain_of sent) ∙ first_111 (plain_of sent) (front_of sent) (front_of-plain_of blocks sent two long))
-    (looked_at-front frame.unit (unit_image_of frame.unit) ∙ first_111 (unit_image_of frame.unit) (unit_front frame.unit.nac (body_duid frame.unit.body)) (unit_image_of-front frame.unit))
+-- the fixes of a frame that can be sent are those of its front and those behind it
+pub fixes_of-parts : (frame : Frame) (blocks : ℕ) (sent : List Bool) → IsSendableBody frame.unit.body → 2 ≤ blocks → length sent ≡ 72 * blocks
+    → fixes_of frame sent ≡ front_fixes_of (frame.unit.nac, body_duid frame.unit.body) sent + body_fixes_of frame.unit (plain_of sent)
+unfolding fixes_of front_fixes_of body_fixes_of
+fixes_of-parts frame blocks sent sendable two long =
+    let unit = frame.unit in
+    let places = body_looked unit.body in
+    let plain = plain_of sent in
+    let image = unit_image_of unit in
+    let is = IsSentLength-body unit.body in
+    let plain_long : 111 ≤ length plain = omega (arith, length-plain_of blocks sent long, two) in
+    let image_long : 111 ≤ length image = omega (arith, length-unit_image_of unit sendable, is.fills, is.least) in
+    ap₂ (λ (xs ys : List Bool). distance_of xs ys) (bits_at-cons (0, 111) places plain) (bits_at-cons (0, 111) places image)
+    ∙ distance_by-append beq (take 111 plain) (bits_at places plain) (take 111 image) (bits_at places image) (length-take-le 111 plain plain_long ∙ sym (length-take-le 111 image image_long))
+    ∙ ap (λ n. n + distance_of (bits_at places plain) (bits_at places image))
+    (ap₂ (λ (xs ys : List Bool). distance_of xs ys)
+    (first_111 plain (front_of sent) (front_of-plain_of blocks sent two long))
+    (first_111 image (unit_front unit.nac (body_duid unit.body)) (unit_image_of-front unit sendable)))
+
+-- of a voice unit
+pub body_fixes_of-voice : (nac : ℕ) (voice : VoiceUnit) (plain : List Bool) → let unit : UnitParts = record { nac = nac; body = Voice voice } in body_fixes_of unit plain ≡ voice_fixes_of voice plain (voice_image_of nac voice)
+unfolding body_fixes_of unit_image_of voice_fixes_of
+body_fixes_of-voice nac voice plain = refl
+
+-- behind the front of a terminator nothing is looked at
+pub body_fixes_of-end : (nac : ℕ) (plain : List Bool) → let unit : UnitParts = record { nac = nac; body = Voice End } in body_fixes_of unit plain ≡ 0
+unfolding body_fixes_of voice_looked
+body_fixes_of-end nac plain =
+    let unit : UnitParts = record { nac = nac; body = Voice End } in
+    ap₂ (λ (xs ys : List Bool). distance_of xs ys) (bits_at-nil plain) (bits_at-nil (unit_image_of unit)) ∙ distance_of-same []
+
+-- the looked-at places of a packet touch
+bits_at-append : (xs ys : List (ℕ × ℕ)) (bits : List Bool) → bits_at (xs ++ ys) bits ≡ bits_at xs bits ++ bits_at ys bits
+bits_at-append [] ys bits = ap (λ (front : List Bool). front ++ bits_at ys bits) (sym (bits_at-nil bits))
+bits_at-append (x ∷ xs) ys bits =
+    bits_at-cons x (xs ++ ys) bits
+    ∙ ap (λ (rest : List Bool). part x.0 x.1 bits ++ rest) (bits_at-append xs ys bits)
+    ∙ sym (append_assoc (part x.0 x.1 bits) (bits_at xs bits) (bits_at ys bits))
+    ∙ ap (λ (front : List Bool). front ++ bits_at ys bits) (sym (bits_at-cons x xs bits))
+
+block_places : ℕ → List (ℕ × ℕ)
+block_places n = each_below n (λ j. (308 + 196 * j, 196))
+
+bits_at-blocks : (n : ℕ) (bits : List Bool) → part 112 196 bits ++ bits_at (block_places n) bits ≡ part 112 (196 * (1 + n)) bits
+unfolding block_places
+bits_at-blocks zero bits = ap (λ (rest : List Bool). part 112 196 bits ++ rest) (ap (λ places. bits_at places bits) (each_below-zero (λ j. (308 + 196 * j, 196))) ∙ bits_at-nil bits) ∙ append-nil (part 112 196 bits)
+bits_at-blocks (suc n) bits =
+    let place : ℕ × ℕ = (308 + 196 * n, 196) in
+    let one : bits_at (place ∷ []) bits ≡ part (308 + 196 * n) 196 bits
+    = bits_at-cons place [] bits ∙ ap (λ (rest : List Bool). part (308 + 196 * n) 196 bits ++ rest) (bits_at-nil bits) ∙ append-nil (part (308 + 196 * n) 196 bits) in
+    let last : 112 + 196 * (1 + n) ≡ 308 + 196 * n = omega arith in
+    let all : 196 * (1 + n) + 196 ≡ 196 * (1 + suc n) = omega arith in
+    ap (λ (rest : List Bool). part 112 196 bits ++ rest)
+    (ap (λ places. bits_at places bits) (each_below-suc n (λ j. (308 + 196 * j, 196))) ∙ bits_at-append (block_places n) (place ∷ []) bits ∙ ap (λ (rest : List Bool). bits_at (block_places n) bits ++ rest) one)
+    ∙ sym (append_assoc (part 112 196 bits) (bits_at (block_places n) bits) (part (308 + 196 * n) 196 bits))
+    ∙ ap₂ (λ (xs ys : List Bool). xs ++ ys) (bits_at-blocks n bits) (ap (λ at. part at 196 bits) (sym last))
+    ∙ part_add 112 (196 * (1 + n)) 196 bits
+    ∙ ap (λ count. part 112 count bits) all
+
+bits_at-packet : (n : ℕ) (bits : List Bool) → bits_at (packet_looked n) bits ≡ part 112 (196 * (1 + n)) bits
+unfolding packet_looked block_places
+bits_at-packet n bits = bits_at-cons (112, 196) (block_places n) bits ∙ bits_at-blocks n bits
+
+pub body_fixes_of-packet : (nac : ℕ) (packet : packet_type) (plain : List Bool)
+    → let unit : UnitParts = record { nac = nac; body = Packet packet } in
+    let count = 196 * (1 + head_blocks (packet_head packet)) in
+    body_fixes_of unit plain ≡ distance_of (part 112 count plain) (part 112 count (packet_image_of nac packet))
+unfolding body_fixes_of unit_image_of
+body_fixes_of-packet nac packet plain =
+    let n = head_blocks (packet_head packet) in
+    ap₂ (λ (xs ys : List Bool). distance_of xs ys) (bits_at-packet n plain) (bits_at-packet n (packet_image_of nac packet))
 
 -- an undamaged image has none
-pub fixes_of-image_of : (frame : Frame) → IsSoundFrame frame → fixes_of frame (image_of frame) ≡ 0
+pub fixes_of-image_of : (frame : Frame) → IsSoundFrame frame → IsSendableUnit frame.unit → fixes_of frame (image_of frame) ≡ 0
 unfolding fixes_of
-fixes_of-image_of frame sound =
+fixes_of-image_of frame sound sendable =
     let places = looked_of frame.unit in
-    ap (λ (xs : List Bool). distance_of (looked_at places xs) (looked_at places (unit_image_of frame.unit))) (plain_of-image_of frame sound)
-    ∙ distance_of-same (looked_at places (unit_image_of frame.unit))
+    ap (λ (xs : List Bool). distance_of (bits_at places xs) (bits_at places (unit_image_of frame.unit))) (plain_of-image_of frame sound sendable)
+    ∙ distance_of-same (bits_at places (unit_image_of frame.unit))

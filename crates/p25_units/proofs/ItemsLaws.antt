@@ -11,7 +11,8 @@ use Rattle.p25_units.specs.declared.frame.Frame.{Frame}
 use Rattle.p25_units.specs.declared.needs.Need.TheVariants.{Length}
 use Rattle.p25_units.specs.declared.item.Item.{Item}
 use Rattle.p25_units.specs.declared.item.Item.TheVariants.{Gap}
-use Rattle.p25_units.proofs.NeedsLaws.{IsIdentified-from, IsKind-from, IsHead-kind}
+use Rattle.p25_units.proofs.NeedsLaws.{IsIdentified-from, IsHead-kind, need_of-there}
+use Rattle.p25_units.proofs.KindsLaws.{IsUnitOf-need}
 use Rattle.p25_units.proofs.ReadingsLaws.{IsFrameOf, IsFrameOf-reading}
 
 -- by what was read
@@ -27,7 +28,7 @@ pub record IsItemOf (place : ℕ) (sent : List Bool) (item : Item) : Type 0 wher
   pub covers : covered item ≡ length sent
   pub sound : IsSoundItem item
 
-IsItemOf-from : (place : ℕ) (nid : ℕ × ℕ) (sent : List Bool) (reading : Result Frame (List Field)) → ((frame : Frame) → reading ≡ Ok frame → IsFrameOf sent frame) → nid.0 < 4096 → nid.1 < 16 → IsItemOf place sent (item_from place nid sent reading)
+IsItemOf-from : (place : ℕ) (nid : ℕ × ℕ) (sent : List Bool) (reading : Result Frame (List Field)) → ((frame : Frame) → reading ≡ Ok frame → IsFrameOf nid sent frame) → nid.0 < 4096 → nid.1 < 16 → IsItemOf place sent (item_from place nid sent reading)
 IsItemOf-from place nid sent (Ok frame) frames nac duid = let is = frames frame refl in record { covers = is.long; sound = is.sound }
 IsItemOf-from place nid sent (Err fields) frames nac duid = record { covers = refl; sound = record { nac_fits = nac; duid_fits = duid } }
 
@@ -35,23 +36,21 @@ pub IsItemOf-unit : (place : ℕ) (bits : List Bool) (count : ℕ) → need_of b
 IsItemOf-unit place bits count e =
     let sent = take count bits in
     let found = IsIdentified-from bits count e in
-    let kind = IsKind-from found.nid.1 count bits found.kind in
+    let unit = IsUnitOf-need count bits found.nid.1 found.kind in
     let bounds = (IsHead-kind found.nid.1).there bits count found.kind in
     let whole : count % 72 ≡ 0 = bounds.2 in
     let some : 72 < count = bounds.0 in
     let enough : 114 ≤ count = omega (arith, whole) in
     let read : identifier_of sent ≡ Some found.nid = identifier_of-take count bits enough ∙ found.read in
     let fits = identifier_of-fits sent found.nid read in
-    let long = length-take-le count bits kind.there ∙ kind.is in
     subst
     (λ (item : Item). IsItemOf place sent item)
     (sym (unit_item_of-read place sent (Some found.nid) read))
-    (IsItemOf-from place found.nid sent (reading_from (Some found.nid) sent) (λ frame is. IsFrameOf-reading found.nid.0 found.nid.1 kind.plain sent frame kind.kind long is) fits.0 fits.1)
+    (IsItemOf-from place found.nid sent (reading_from (Some found.nid) sent) (λ frame is. IsFrameOf-reading found.nid sent frame unit is) fits.0 fits.1)
 
 pub covered-unit_item_of : (place : ℕ) (bits : List Bool) (count : ℕ) → need_of bits ≡ Length count → covered (unit_item_of place (take count bits)) ≡ count
 covered-unit_item_of place bits count e =
-    let found = IsIdentified-from bits count e in
-    (IsItemOf-unit place bits count e).covers ∙ length-take-le count bits (IsKind-from found.nid.1 count bits found.kind).there
+    (IsItemOf-unit place bits count e).covers ∙ length-take-le count bits (need_of-there bits count e).3
 
 pub IsSoundItem-unit_item_of : (place : ℕ) (bits : List Bool) (count : ℕ) → need_of bits ≡ Length count → IsSoundItem (unit_item_of place (take count bits))
 IsSoundItem-unit_item_of place bits count e = (IsItemOf-unit place bits count e).sound

@@ -1,5 +1,6 @@
 pub mod UnitsLaws
 pub mod NeedsLaws
+pub mod KindsLaws
 pub mod ReadingsLaws
 pub mod FixesLaws
 pub mod ItemsLaws
@@ -8,3 +9,4 @@ pub mod WholeLaws
 pub mod TerminatorsLaws
 pub mod BegunSteps
 pub mod ReadSteps
+pub mod FixingSteps

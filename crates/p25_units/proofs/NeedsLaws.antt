@@ -1,7 +1,7 @@
 -- What the bits from a place on need: the laws of one kind of unit at a time, joined where the identifier was read. A kind
 -- that is added has to meet `IsHead` and nothing else.
-use Rattle.std.proofs.Common.{◌≡◌, ℕ, ◌%◌, ◌<◌, ◌≤◌, inl, inr, Bool, true, false, cond, ltb, List, ◌++◌, length, Option, Some, None, refl, ap, sym, ◌∙◌, subst, arith, length-append}
-use Rattle.std.proofs.lemmas.Bool.{cases_Bool, cases_lt, lt-ltb, le-ltb, cond-true, cond-false}
+use Rattle.std.proofs.Common.{◌≡◌, ◌≢◌, ℕ, ◌%◌, ◌<◌, ◌≤◌, inl, inr, Bool, true, false, cond, eqb, ltb, List, ◌++◌, length, Option, Some, None, Result, Ok, Err, refl, ap, sym, ◌∙◌, subst, arith, length-append}
+use Rattle.std.proofs.lemmas.Bool.{cases_Bool, cases_eq, cases_lt, lt-ltb, le-ltb, ne_eqb, cond-true, cond-false}
 use Rattle.p25_status.specs.Sync.{has_sync}
 use Rattle.p25_status.proofs.SyncLaws.{has_sync-length, has_sync-append}
 use Rattle.p25_status.specs.declared.fields.Field.{Field}
@@ -9,8 +9,14 @@ use Rattle.p25_status.specs.declared.fields.Field.TheVariants.{Nid, Duid}
 use Rattle.p25_front.specs.Front.{identifier_of}
 use Rattle.p25_front.proofs.FrontLaws.{identifier_of-append}
 use Rattle.p25_voice_units.specs.Lengths.{voice_length_of}
+use Rattle.p25_packet_blocks.specs.declared.head.PacketHead.{PacketHead}
+use Rattle.p25_packet_blocks.specs.Heads.{head_blocks}
+use Rattle.p25_packet_blocks.specs.Lengths.{packet_sent_length}
+use Rattle.p25_packet_blocks.specs.UnitReading.{sent_head_of}
+use Rattle.p25_packet_blocks.proofs.HeadLaws.{head_blocks-lt}
+use Rattle.p25_packet_blocks.proofs.UnitLaws.{sent_head_of-append}
 use Rattle.p25_units.specs.Units.{sent_length}
-use Rattle.p25_units.specs.Needs.{length_need, voice_need, kind_need, identified_need, synced_need, need_of, is_known}
+use Rattle.p25_units.specs.Needs.{length_need, voice_need, head_need, packet_need, kind_need, identified_need, synced_need, need_of, is_known}
 use Rattle.p25_units.specs.declared.needs.Need.{Need}
 use Rattle.p25_units.specs.declared.needs.Need.TheVariants.{NoSync, More, Length, NoLength}
 use Rattle.p25_units.proofs.UnitsLaws.{IsSentLength, IsSentLength-voice}
@@ -52,7 +58,7 @@ pub length_need-there : (count have : ℕ) → count ≤ have → length_need co
 unfolding length_need
 length_need-there count have enough = cond-false (ltb have count) (More count) (Length count) (le-ltb have count enough)
 
-length_need-cases : (P : Need → Type 0) (count have : ℕ) → (have < count → P (More count)) → (count ≤ have → P (Length count)) → P (length_need count have)
+pub length_need-cases : (P : Need → Type 0) (count have : ℕ) → (have < count → P (More count)) → (count ≤ have → P (Length count)) → P (length_need count have)
 length_need-cases P count have more there =
     elim (cases_lt have count) [
       | inl short ↦ subst P (sym (length_need-more count have short)) (more short)
@@ -83,7 +89,7 @@ IsHead-length count some most whole = record {
         (λ enough e few. absurd (cc))
 
 -- a voice unit
-voice_need-none : (have : ℕ) → voice_need None have ≡ NoLength Duid
+pub voice_need-none : (have : ℕ) → voice_need None have ≡ NoLength Duid
 unfolding voice_need
 voice_need-none have = refl
 
@@ -101,18 +107,103 @@ IsHead-voice (Some plain) lengths =
     (λ bits. voice_need-some plain (length bits))
     (IsHead-length (sent_length plain) (omega (arith, is.sent, is.least)) (omega (arith, is.sent, is.most)) (omega (arith, is.sent)))
 
+-- a packet whose header was read, or fails
+pub head_need-bad : (field : Field) (have : ℕ) → head_need (Err field) have ≡ NoLength field
+unfolding head_need
+head_need-bad field have = refl
+
+pub head_need-good : (head : PacketHead) (have : ℕ) → head_need (Ok head) have ≡ length_need (packet_sent_length (head_blocks head)) have
+unfolding head_need
+head_need-good head have = refl
+
+IsHead-head : (reading : Result PacketHead Field) → IsHead (λ bits. head_need reading (length bits))
+IsHead-head (Err field) = IsHead-same (λ bits. NoLength field) (λ bits. head_need (Err field) (length bits)) (λ bits. head_need-bad field (length bits)) (IsHead-none field)
+IsHead-head (Ok head) =
+    let count = packet_sent_length (head_blocks head) in
+    IsHead-same
+    (λ bits. length_need count (length bits))
+    (λ bits. head_need (Ok head) (length bits))
+    (λ bits. head_need-good head (length bits))
+    (IsHead-length count (omega arith) (omega (arith, head_blocks-lt head)) (omega arith))
+
+-- a packet
+pub packet_need-short : (bits : List Bool) → length bits < 316 → packet_need bits ≡ More 316
+unfolding packet_need
+packet_need-short bits short = cond-true (ltb (length bits) 316) (More 316) (head_need (sent_head_of bits) (length bits)) (lt-ltb (length bits) 316 short)
+
+pub packet_need-long : (bits : List Bool) → 316 ≤ length bits → packet_need bits ≡ head_need (sent_head_of bits) (length bits)
+unfolding packet_need
+packet_need-long bits long = cond-false (ltb (length bits) 316) (More 316) (head_need (sent_head_of bits) (length bits)) (le-ltb (length bits) 316 long)
+
+packet_need-cases : (P : Need → Type 0) (bits : List Bool) → (length bits < 316 → P (More 316)) → (316 ≤ length bits → P (head_need (sent_head_of bits) (length bits))) → P (packet_need bits)
+packet_need-cases P bits more read =
+    elim (cases_lt (length bits) 316) [
+      | inl short ↦ subst P (sym (packet_need-short bits short)) (more short)
+      | inr long ↦ subst P (sym (packet_need-long bits long)) (read long)
+    ]
+
+packet_need-append : (bits more : List Bool) → 316 ≤ length bits → packet_need (bits ++ more) ≡ head_need (sent_head_of bits) (length (bits ++ more))
+packet_need-append bits more long =
+    packet_need-long (bits ++ more) (omega (arith, length-append bits more)) ∙ ap (λ reading. head_need reading (length (bits ++ more))) (sent_head_of-append bits more long)
+
+IsHead-packet : IsHead packet_need
+IsHead-packet = record {
+  seen = λ bits. packet_need-cases (λ need. need ≡ NoSync → ⊥) bits (λ short e. cc) (λ long e. (IsHead-head (sent_head_of bits)).seen bits e);
+  few = λ bits count. packet_need-cases (λ need. need ≡ More count → (length bits < count) × (count ≤ 25920)) bits
+      (λ short e. let same : 316 ≡ count = cc in (omega arith, omega arith))
+      (λ long e. (IsHead-head (sent_head_of bits)).few bits count e);
+  there = λ bits count. packet_need-cases (λ need. need ≡ Length count → (72 < count) × (count ≤ 25920) × (count % 72 ≡ 0) × (count ≤ length bits)) bits
+      (λ short e. absurd (cc))
+      (λ long e. (IsHead-head (sent_head_of bits)).there bits count e);
+  stays = λ bits more long known. packet_stays bits more known;
+  waits = λ bits more count long e short. packet_waits bits more count e short;
+}
+  where
+    packet_stays : (bits more : List Bool) → is_known (packet_need bits) ≡ true → packet_need (bits ++ more) ≡ packet_need bits
+    packet_stays bits more known =
+        elim (cases_lt (length bits) 316) [
+          | inl few ↦ let two : false ≡ true = ap is_known (sym (packet_need-short bits few)) ∙ known in absurd (cc)
+          | inr long ↦
+              let now = packet_need-long bits long in
+              packet_need-append bits more long ∙ (IsHead-head (sent_head_of bits)).stays bits more (omega arith) (ap is_known (sym now) ∙ known) ∙ sym now
+        ]
+
+    packet_waits : (bits more : List Bool) (count : ℕ) → packet_need bits ≡ More count → length (bits ++ more) < count → packet_need (bits ++ more) ≡ More count
+    packet_waits bits more count e short =
+        elim (cases_lt (length bits) 316) [
+          | inl few ↦
+              let two : More 316 ≡ More count = sym (packet_need-short bits few) ∙ e in
+              let same : 316 ≡ count = cc in
+              packet_need-short (bits ++ more) (omega arith) ∙ two
+          | inr long ↦ packet_need-append bits more long ∙ (IsHead-head (sent_head_of bits)).waits bits more count (omega arith) (sym (packet_need-long bits long) ∙ e) short
+        ]
+
 -- the unit of a DUID
-pub IsHead-kind : (duid : ℕ) → IsHead (kind_need duid)
+pub kind_need-packet : (bits : List Bool) → kind_need 0xC bits ≡ packet_need bits
 unfolding kind_need
-IsHead-kind duid = IsHead-voice (voice_length_of duid) (IsSentLength-voice duid)
+kind_need-packet bits = refl
+
+pub kind_need-unpacked : (duid : ℕ) (bits : List Bool) → duid ≢ 0xC → kind_need duid bits ≡ voice_need (voice_length_of duid) (length bits)
+unfolding kind_need
+kind_need-unpacked duid bits other = cond-false (eqb duid 0xC) (packet_need bits) (voice_need (voice_length_of duid) (length bits)) (ne_eqb duid 0xC other)
+
+pub IsHead-kind : (duid : ℕ) → IsHead (kind_need duid)
+IsHead-kind duid =
+    elim (cases_eq duid 0xC) [
+      | inl is ↦ subst (λ d. IsHead (kind_need d)) (sym is) (IsHead-same packet_need (kind_need 0xC) kind_need-packet IsHead-packet)
+      | inr other ↦ IsHead-same (λ bits. voice_need (voice_length_of duid) (length bits)) (kind_need duid) (λ bits. kind_need-unpacked duid bits other) (IsHead-voice (voice_length_of duid) (IsSentLength-voice duid))
+    ]
+
+-- a voice unit has another DUID than a packet
+no_voice : voice_length_of 0xC ≡ None
+unfolding voice_length_of
+no_voice = refl
+
+pub voice-other : (duid plain : ℕ) → voice_length_of duid ≡ Some plain → duid ≢ 0xC
+voice-other duid plain is packet = let two : None ≡ Some plain = sym no_voice ∙ ap voice_length_of (sym packet) ∙ is in absurd (cc)
 
 pub kind_need-voice : (duid plain : ℕ) (bits : List Bool) → voice_length_of duid ≡ Some plain → kind_need duid bits ≡ length_need (sent_length plain) (length bits)
-unfolding kind_need
-kind_need-voice duid plain bits is = ap (λ found. voice_need found (length bits)) is ∙ voice_need-some plain (length bits)
-
-pub kind_need-other : (duid : ℕ) (bits : List Bool) → voice_length_of duid ≡ None → kind_need duid bits ≡ NoLength Duid
-unfolding kind_need
-kind_need-other duid bits is = ap (λ found. voice_need found (length bits)) is ∙ voice_need-none (length bits)
+kind_need-voice duid plain bits is = kind_need-unpacked duid bits (voice-other duid plain is) ∙ ap (λ found. voice_need found (length bits)) is ∙ voice_need-some plain (length bits)
 
 -- behind an identifier, or none
 pub identified_need-none : (bits : List Bool) → identified_need None bits ≡ NoLength Nid
@@ -245,25 +336,3 @@ IsIdentified-from bits count =
     (λ e. absurd (cc))
     (λ few e. absurd (cc))
     (λ yes' long e. identified_in bits count (identifier_of bits) long refl e)
-
--- the kind of a unit whose length is known
-pub record IsKind (duid count : ℕ) (bits : List Bool) : Type 0 where
-  pub plain : ℕ
-  pub kind : voice_length_of duid ≡ Some plain
-  pub is : count ≡ sent_length plain
-  pub there : count ≤ length bits
-
-kind_in : (duid count : ℕ) (bits : List Bool) (found : Option ℕ) → voice_length_of duid ≡ found → kind_need duid bits ≡ Length count → IsKind duid count bits
-kind_in duid count bits None is e = let two : NoLength Duid ≡ Length count = sym (kind_need-other duid bits is) ∙ e in absurd (cc)
-kind_in duid count bits (Some plain) is e =
-    let here : length_need (sent_length plain) (length bits) ≡ Length count = sym (kind_need-voice duid plain bits is) ∙ e in
-    let there = (IsHead-kind duid).there bits count e in
-    record {
-      plain = plain;
-      kind = is;
-      is = length_need-cases (λ need. need ≡ Length count → count ≡ sent_length plain) (sent_length plain) (length bits) (λ short two. absurd (cc)) (λ enough two. let same : sent_length plain ≡ count = cc in sym same) here;
-      there = there.3;
-    }
-
-pub IsKind-from : (duid count : ℕ) (bits : List Bool) → kind_need duid bits ≡ Length count → IsKind duid count bits
-IsKind-from duid count bits e = kind_in duid count bits (voice_length_of duid) refl e

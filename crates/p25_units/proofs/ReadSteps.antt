@@ -1,6 +1,6 @@
 -- What the readers of units answer: the bits of a unit among others, its kind by its length, and each answer as a case of
 -- the reading.
-use Rattle.std.proofs.Common.{◌≡◌, ℕ, ◌+◌, ◌-◌, ◌*◌, ◌/◌, ◌%◌, inl, inr, ◌<◌, ◌≤◌, Bool, List, length, take, drop, Some, None, option_map, Result, Ok, refl, ap, ap₂, sym, ◌∙◌, arith, length-drop}
+use Rattle.std.proofs.Common.{◌≡◌, ◌≢◌, ℕ, ◌+◌, ◌-◌, ◌*◌, ◌/◌, ◌%◌, inl, inr, ◌<◌, ◌≤◌, Bool, List, length, drop, Some, None, option_map, Result, Ok, refl, ap, ap₂, sym, ◌∙◌, arith, length-drop}
 use Rattle.std.proofs.lemmas.List.{length-take-le}
 use Rattle.std.proofs.lemmas.Bool.{cases_lt}
 use Rattle.p25_bits.specs.Bits.{part}
@@ -8,75 +8,71 @@ use Rattle.p25_bits.specs.Distance.{distance_of}
 use Rattle.p25_status.specs.Sync.{sync_bits, sync_slack}
 use Rattle.p25_status.proofs.SyncLaws.{has_sync-yes, has_sync-no}
 use Rattle.p25_status.specs.Woven.{plain_of, statuses_of}
+use Rattle.p25_status.proofs.WovenLaws.{length-plain_of}
 use Rattle.p25_status.specs.declared.fields.Field.{Field}
 use Rattle.p25_status.specs.declared.fields.Field.TheVariants.{Nid}
 use Rattle.p25_status.specs.declared.symbols.Status.{Status}
 use Rattle.p25_bch_nid.specs.declared.nid.Nid.{Nid as Identifier}
-use Rattle.p25_front.specs.Front.{identifier_of, front_fixes_of}
-use Rattle.p25_front.proofs.FrontLaws.{identifier_of-take, front_fixes_of-take}
+use Rattle.p25_front.specs.Front.{identifier_of}
+use Rattle.p25_front.proofs.FrontLaws.{identifier_of-take}
 use Rattle.p25_voice_units.specs.Lengths.{voice_length_of}
-use Rattle.p25_units.specs.Units.{body_duid, sent_length, frame_length_of, IsSoundFrame}
-use Rattle.p25_units.specs.Fixes.{fixes_of}
+use Rattle.p25_packet_blocks.specs.Heads.{head_blocks}
+use Rattle.p25_packet_blocks.specs.Reading.{head_reading_of, HasItsLength}
+use Rattle.p25_packet_blocks.specs.UnitReading.{sent_head_of}
+use Rattle.p25_packet_blocks.proofs.SentLaws.{sent_head_of-plain_of}
+use Rattle.p25_packet_blocks.proofs.UnitLaws.{sent_head_of-take}
+use Rattle.p25_units.specs.Units.{frame_length_of, IsSoundFrame}
 use Rattle.p25_units.specs.Items.{item_from, unit_item_of}
-use Rattle.p25_units.specs.Needs.{need_of, synced_need, kind_need, length_need}
+use Rattle.p25_units.specs.Needs.{need_of, synced_need, kind_need}
 use Rattle.p25_units.specs.Readings.{body_reading_of, frame_from, reading_from, unit_reading_of}
 use Rattle.p25_units.specs.declared.unit.Body.{Body}
 use Rattle.p25_units.specs.declared.frame.Frame.{Frame}
 use Rattle.p25_units.specs.declared.needs.Need.TheVariants.{NoSync, More, Length, NoLength}
-use Rattle.p25_units.proofs.UnitsLaws.{IsSentLength-voice, blocks-sound}
-use Rattle.p25_units.proofs.NeedsLaws.{IsIdentified-from, IsKind-from, need_of-there, need_of-short, need_of-unsynced, need_of-synced, synced_need-short, synced_need-read, identified_need-none, identified_need-some, kind_need-voice}
+use Rattle.p25_units.proofs.UnitsLaws.{IsSentLength-voice}
+use Rattle.p25_units.proofs.NeedsLaws.{IsIdentified-from, IsHead-kind, need_of-there, need_of-short, need_of-unsynced, need_of-synced, synced_need-short, synced_need-read, identified_need-none, identified_need-some}
+use Rattle.p25_units.proofs.KindsLaws.{IsUnitOf-need}
 use Rattle.p25_units.proofs.ReadingsLaws.{IsFrameOf-reading, reading_from-some, unit_reading_of-read}
 use Rattle.p25_units.proofs.ItemsLaws.{unit_item_of-some}
-use Rattle.p25_units.proofs.FixesLaws.{fixes_of-front}
-
--- the fixes of a sound frame where its bits stand among others
-pub fixes_in : (frame : Frame) (bits : List Bool) (at nac duid : ℕ) → IsSoundFrame frame → at + frame_length_of frame.unit ≤ length bits → nac ≡ frame.unit.nac → duid ≡ body_duid frame.unit.body → (n : ℕ) → n ≡ front_fixes_of (nac, duid) (drop at bits) → n ≡ fixes_of frame (part at (frame_length_of frame.unit) bits)
-fixes_in frame bits at nac duid sound there nac_is duid_is n is =
-    let count = frame_length_of frame.unit in
-    let rest = drop at bits in
-    let sent = take count rest in
-    let blocks = length frame.statuses in
-    let two = (blocks-sound frame sound).0 in
-    let enough : count ≤ length rest = omega (arith, length-drop at bits) in
-    let long : length sent ≡ 72 * blocks = length-take-le count rest enough ∙ sym sound.symbols in
-    let many : 114 ≤ count = omega (arith, sound.symbols, two) in
-    is
-    ∙ ap₂ (λ (a b : ℕ). front_fixes_of (a, b) rest) nac_is duid_is
-    ∙ sym (front_fixes_of-take (frame.unit.nac, body_duid frame.unit.body) count rest many)
-    ∙ sym (fixes_of-front frame blocks sent two long)
 
 -- what is known of a unit whose length is known
 pub record IsUnitAt (bits : List Bool) (at count : ℕ) : Type 0 where
   pub there : at + count ≤ length bits
-  pub whole : count % 72 ≡ 0
-  pub most : count ≤ 25920
   pub enough : 114 ≤ count
   pub nid : ℕ × ℕ
   pub read : identifier_of (drop at bits) ≡ Some nid
   pub sent : identifier_of (part at count bits) ≡ Some nid
-  pub kind : voice_length_of nid.1 ≡ Some (70 * (count / 72))
+  pub kind : kind_need nid.1 (drop at bits) ≡ Length count
 
 pub IsUnitAt-from : (bits : List Bool) (at count : ℕ) → at ≤ length bits → need_of (drop at bits) ≡ Length count → IsUnitAt bits at count
 IsUnitAt-from bits at count inside e =
     let rest = drop at bits in
     let bounds = need_of-there rest count e in
     let whole : count % 72 ≡ 0 = bounds.2 in
+    let some : 72 < count = bounds.0 in
     let found = IsIdentified-from rest count e in
-    let kind = IsKind-from found.nid.1 count rest found.kind in
-    let is = IsSentLength-voice found.nid.1 kind.plain kind.kind in
-    let blocks : count ≡ 72 * is.blocks = kind.is ∙ is.sent in
-    let plain : kind.plain ≡ 70 * (count / 72) = omega (arith, is.fills, blocks) in
-    let enough : 114 ≤ count = omega (arith, is.least, blocks) in
+    let enough : 114 ≤ count = omega (arith, some, whole) in
     record {
       there = omega (arith, bounds.3, length-drop at bits);
-      whole = whole;
-      most = bounds.1;
       enough = enough;
       nid = found.nid;
       read = found.read;
       sent = identifier_of-take count rest enough ∙ found.read;
-      kind = kind.kind ∙ ap Some plain;
+      kind = found.kind;
     }
+
+-- where its bits stand among others
+pub record IsCountAt (bits : List Bool) (at count : ℕ) : Type 0 where
+  pub there : at + count ≤ length bits
+  pub whole : count % 72 ≡ 0
+  pub most : count ≤ 25920
+  pub enough : 114 ≤ count
+
+pub IsCountAt-kind : (duid : ℕ) (bits : List Bool) (at count : ℕ) → at ≤ length bits → kind_need duid (drop at bits) ≡ Length count → IsCountAt bits at count
+IsCountAt-kind duid bits at count inside e =
+    let bounds = (IsHead-kind duid).there (drop at bits) count e in
+    let some : 72 < count = bounds.0 in
+    let whole : count % 72 ≡ 0 = bounds.2 in
+    record { there = omega (arith, bounds.3, length-drop at bits); whole = whole; most = bounds.1; enough = omega (arith, some, whole) }
 
 -- an identifier that was read is that one
 pub same_nid : (bits : List Bool) (at count : ℕ) (is : IsUnitAt bits at count) (nid : Identifier) → option_map (λ (n : Identifier). (n.nac, n.duid)) (Some nid) ≡ identifier_of (drop at bits) → (nid.nac, nid.duid) ≡ is.nid
@@ -93,19 +89,57 @@ pub item_of_unit : (bits : List Bool) (at count place : ℕ) (is : IsUnitAt bits
 item_of_unit bits at count place is = unit_item_of-some place (part at count bits) is.nid (reading_from (Some is.nid) (part at count bits)) is.sent refl
 
 -- the reading by what the unit carries
-pub reading-is : (nid : ℕ × ℕ) (sent plain : List Bool) (statuses : List Status) (reading : Result Body (List Field)) → plain ≡ plain_of sent → statuses ≡ statuses_of sent → reading ≡ body_reading_of nid.1 plain → frame_from nid.0 statuses reading ≡ reading_from (Some nid) sent
-reading-is nid sent plain statuses reading plain_is statuses_is read =
-    ap₂ (λ (s : List Status) (r : Result Body (List Field)). frame_from nid.0 s r) statuses_is (read ∙ ap (body_reading_of nid.1) plain_is)
-    ∙ sym (reading_from-some nid sent)
+pub reading-is : (nid : ℕ × ℕ) (sent : List Bool) (statuses : List Status) (reading : Result Body (List Field)) → statuses ≡ statuses_of sent → reading ≡ body_reading_of nid.1 (plain_of sent) → frame_from nid.0 statuses reading ≡ reading_from (Some nid) sent
+reading-is nid sent statuses reading statuses_is read = ap₂ (λ (s : List Status) (r : Result Body (List Field)). frame_from nid.0 s r) statuses_is read ∙ sym (reading_from-some nid sent)
 
 -- a frame that was read is sound and as long as its bits
-pub frame-is : (nac duid : ℕ) (bits : List Bool) (at count : ℕ) (frame : Frame) → at + count ≤ length bits → count % 72 ≡ 0 → voice_length_of duid ≡ Some (70 * (count / 72)) → reading_from (Some (nac, duid)) (part at count bits) ≡ Ok frame → IsSoundFrame frame × (frame_length_of frame.unit ≡ count)
-frame-is nac duid bits at count frame there whole kind read =
+pub frame-is : (nac duid : ℕ) (bits : List Bool) (at count : ℕ) (frame : Frame) → at ≤ length bits → kind_need duid (drop at bits) ≡ Length count → reading_from (Some (nac, duid)) (part at count bits) ≡ Ok frame → IsSoundFrame frame × (frame_length_of frame.unit ≡ count)
+frame-is nac duid bits at count frame inside kind read =
+    let is = IsFrameOf-reading (nac, duid) (part at count bits) frame (IsUnitOf-need count (drop at bits) duid kind) read in
+    let counted = IsCountAt-kind duid bits at count inside kind in
+    (is.sound, is.long ∙ length-take-le count (drop at bits) (omega (arith, counted.there, length-drop at bits)))
+
+-- the length of a voice unit without status symbols
+pub voice_long : (duid : ℕ) (bits : List Bool) (at count : ℕ) (plain : List Bool) → duid ≢ 0xC → kind_need duid (drop at bits) ≡ Length count → 72 * (count / 72) ≡ count → length plain ≡ 70 * (count / 72) → at + count ≤ length bits → voice_length_of duid ≡ Some (length plain)
+voice_long duid bits at count plain other kind whole long there =
+    elim (IsUnitOf-need count (drop at bits) duid kind).kind [
+      | inl voice ↦
+          let is = IsSentLength-voice duid voice.plain voice.kind in
+          let counted : length (part at count bits) ≡ count = length-take-le count (drop at bits) (omega (arith, there, length-drop at bits)) in
+          let same : voice.plain ≡ length plain = omega (arith, voice.is, counted, is.fills, is.sent, long, whole) in
+          voice.kind ∙ ap Some same
+      | inr packet ↦ absurd (other packet.packet)
+    ]
+
+-- a packet has a header that was read, and the length that it tells
+pub record IsPacketAt (bits : List Bool) (at count : ℕ) : Type 0 where
+  pub there : at + 316 ≤ length bits
+  pub head : sent_head_of (drop at bits) ≡ head_reading_of (plain_of (part at count bits))
+  pub has : HasItsLength (plain_of (part at count bits))
+
+pub IsPacketAt-kind : (bits : List Bool) (at count : ℕ) → at ≤ length bits → kind_need 0xC (drop at bits) ≡ Length count → IsPacketAt bits at count
+unfolding HasItsLength
+IsPacketAt-kind bits at count inside kind =
+    let rest = drop at bits in
     let sent = part at count bits in
-    let long : length sent ≡ count = length-take-le count (drop at bits) (omega (arith, length-drop at bits)) in
-    let filled : sent_length (70 * (count / 72)) ≡ count = omega arith in
-    let is = IsFrameOf-reading nac duid (70 * (count / 72)) sent frame kind (long ∙ sym filled) read in
-    (is.sound, is.long ∙ long)
+    let unit = IsUnitOf-need count rest 0xC kind in
+    let counted = IsCountAt-kind 0xC bits at count inside kind in
+    let long : length sent ≡ count = length-take-le count rest (omega (arith, counted.there, length-drop at bits)) in
+    elim unit.kind [
+      | inl voice ↦ absurd (voice.other refl)
+      | inr packet ↦
+          let n = head_blocks packet.head in
+          let five : 5 ≤ unit.blocks = omega (arith, packet.is, unit.long) in
+          let many : 316 ≤ count = omega (arith, packet.is, long) in
+          record {
+            there = omega (arith, counted.there, many);
+            head = sym (sent_head_of-take count rest many) ∙ sent_head_of-plain_of unit.blocks sent five unit.long;
+            has = λ head read.
+                let two : Ok head ≡ Ok packet.head = sym read ∙ packet.read in
+                let same : head_blocks head ≡ n = ap head_blocks (let h : head ≡ packet.head = cc in h) in
+                omega (arith, same, packet.is, unit.long, length-plain_of unit.blocks sent unit.long);
+          }
+    ]
 
 -- what is needed by what was read
 pub need-short : (bits : List Bool) (at : ℕ) → length bits - at < 48 → More 48 ≡ need_of (drop at bits)
@@ -121,10 +155,6 @@ need-none bits at inside long read =
 pub need-some : (bits : List Bool) (at : ℕ) (nid : Identifier) → at ≤ length bits → 114 ≤ length bits - at → option_map (λ (n : Identifier). (n.nac, n.duid)) (Some nid) ≡ identifier_of (drop at bits) → kind_need nid.duid (drop at bits) ≡ synced_need (drop at bits)
 need-some bits at nid inside long read =
     sym (synced_need-read (drop at bits) (Some (nid.nac, nid.duid)) (omega (arith, length-drop at bits)) (sym read) ∙ identified_need-some (nid.nac, nid.duid) (drop at bits))
-
--- what a known kind needs
-pub need-kind : (duid plain have : ℕ) (rest : List Bool) → voice_length_of duid ≡ Some plain → have ≡ length rest → length_need (sent_length plain) have ≡ kind_need duid rest
-need-kind duid plain have rest is long = ap (length_need (sent_length plain)) long ∙ sym (kind_need-voice duid plain rest is)
 
 -- a place has a sync or none
 pub need-unsynced : (bits : List Bool) (at : ℕ) → at ≤ length bits → 48 ≤ length bits - at → (distance_of (part at 48 bits) sync_bits ≤ sync_slack → ⊥) → NoSync ≡ need_of (drop at bits)

@@ -1,5 +1,9 @@
--- What units are read as: a frame that was read is sound, and as long as its bits. By cases of what it carries.
-use Rattle.std.proofs.Common.{◌≡◌, ℕ, ◌*◌, Bool, List, [], ◌∷◌, length, Option, Some, None, Result, Ok, Err, refl, ap, sym, ◌∙◌, subst}
+-- What units are read as: a frame that was read is sound, can be sent and is as long as its bits, and bits that have few wrong
+-- ones read as the frame. By cases of what it carries.
+use Rattle.std.proofs.Common.{◌≡◌, ◌≢◌, ℕ, zero, suc, ◌+◌, ◌*◌, ◌<◌, inl, inr, Bool, eqb, List, [], ◌∷◌, ◌++◌, length, get_or, Option, Some, None, Result, Ok, Err, refl, ap, ap₂, sym, ◌∙◌, subst, arith, add-one}
+use Rattle.std.specs.Option.{unwrap_or}
+use Rattle.std.proofs.lemmas.Bool.{cases_eq, cond-false, ne_eqb}
+use Rattle.p25_bits.proofs.NumbersLaws.{joined_below-zero, joined_below-suc}
 use Rattle.p25_status.specs.Woven.{plain_of, statuses_of}
 use Rattle.p25_status.proofs.WovenLaws.{length-statuses_of}
 use Rattle.p25_status.specs.declared.fields.Field.{Field}
@@ -7,17 +11,40 @@ use Rattle.p25_status.specs.declared.fields.Field.TheVariants.{Nid}
 use Rattle.p25_status.specs.declared.symbols.Status.{Status}
 use Rattle.p25_front.specs.Front.{identifier_of}
 use Rattle.p25_voice_units.specs.declared.unit.VoiceUnit.{VoiceUnit}
-use Rattle.p25_voice_units.specs.declared.unit.VoiceUnit.TheVariants.{End}
-use Rattle.p25_voice_units.specs.Lengths.{voice_length_of}
+use Rattle.p25_voice_units.specs.Lengths.{voice_duid, voice_length_of}
 use Rattle.p25_voice_units.specs.Readings.{voice_reading_of}
-use Rattle.p25_voice_units.proofs.VoiceLaws.{length-voice_image_of, voice_duid-reading, voice_reading_of-end}
+use Rattle.p25_voice_units.specs.Sendable.{IsSendableVoice}
+use Rattle.p25_voice_units.specs.Images.{voice_image_of}
+use Rattle.p25_voice_units.specs.Places.{IsVoiceImage}
+use Rattle.p25_voice_units.proofs.ImagesLaws.{length-voice_image_of, IsVoiceImage-iff}
+use Rattle.p25_voice_units.proofs.RadiusLaws.{voice_within}
+use Rattle.p25_voice_units.proofs.ReadingLaws.{IsUnitOf as IsVoiceOf, unit_read}
+use Rattle.p25_voice_units.proofs.ReadNearLaws.{within_read}
+use Rattle.p25_voice_units.specs.WithinRadius.{IsVoiceWithin}
+use Rattle.p25_packet_blocks.specs.declared.head.PacketHead.{PacketHead}
+use Rattle.p25_packet_blocks.specs.declared.block.Slot.{Slot}
+use Rattle.p25_packet_blocks.specs.declared.block.Slot.TheVariants.{Good, Bad}
+use Rattle.p25_packet_blocks.specs.declared.packet.Packet.{Packet as packet_type}
+use Rattle.p25_packet_blocks.specs.declared.packet.Packet.TheVariants.{Confirmed, Plain}
+use Rattle.p25_packet_blocks.specs.Heads.{head_blocks}
+use Rattle.p25_packet_blocks.specs.Lengths.{packet_sent_length}
+use Rattle.p25_packet_blocks.specs.Reading.{head_reading_of, packet_reading_of}
+use Rattle.p25_packet_blocks.specs.Sendable.{IsSendable}
+use Rattle.p25_packet_blocks.specs.Whole.{packet_head, IsWholePacket}
+use Rattle.p25_packet_blocks.proofs.NearLaws.{half_near, three_quarter_near}
+use Rattle.p25_packet_blocks.proofs.RadiusLaws.{packet_within}
+use Rattle.p25_packet_blocks.proofs.WholeLaws.{IsWholeRead-reading}
 use Rattle.p25_units.specs.UnitParts.{UnitParts}
-use Rattle.p25_units.specs.Units.{body_duid, body_image_of, unit_image_of, sent_length, frame_length_of, IsSoundFrame}
-use Rattle.p25_units.specs.Readings.{body_from, body_reading_of, frame_from, reading_from, unit_reading_of}
+use Rattle.p25_units.specs.Units.{body_duid, body_length, body_image_of, unit_image_of, sent_length, frame_length_of, IsWholeBody, IsSoundFrame, IsSendableBody}
+use Rattle.p25_units.specs.Readings.{body_from, failing_slot, failing_slots_of, failing_blocks_of, whole_from, packet_body_from, body_reading_of, frame_from, reading_from, unit_reading_of}
+use Rattle.p25_units.specs.WholeLaws.{IsBodyRead}
+use Rattle.p25_units.specs.WithinRadius.{IsBodyWithin, received_body}
 use Rattle.p25_units.specs.declared.unit.Body.{Body}
-use Rattle.p25_units.specs.declared.unit.Body.TheVariants.{Voice}
+use Rattle.p25_units.specs.declared.unit.Body.TheVariants.{Voice, Packet}
 use Rattle.p25_units.specs.declared.frame.Frame.{Frame}
-use Rattle.p25_units.proofs.UnitsLaws.{IsSentLength-voice}
+use Rattle.p25_units.proofs.UnitsLaws.{body_length-known, sent_length-packet}
+use Rattle.p25_units.proofs.NeedsLaws.{voice-other}
+use Rattle.p25_units.proofs.KindsLaws.{IsUnitOf}
 
 -- a frame
 pub frame_of : ℕ → List Status → Body → Frame
@@ -36,55 +63,223 @@ pub unit_reading_of-read : (sent : List Bool) (read : Option (ℕ × ℕ)) → i
 unfolding unit_reading_of
 unit_reading_of-read sent read is = ap (λ r. reading_from r sent) is
 
-pub body_reading_of-is : (duid : ℕ) (plain : List Bool) (reading : Result VoiceUnit (List Field)) → voice_reading_of duid plain ≡ reading → body_reading_of duid plain ≡ body_from reading
+pub body_reading_of-packet : (plain : List Bool) → body_reading_of 0xC plain ≡ packet_body_from (packet_reading_of plain)
 unfolding body_reading_of
-body_reading_of-is duid plain reading is = ap body_from is
+body_reading_of-packet plain = refl
 
--- a body that was read is of the DUID
-body_from-duid : (duid : ℕ) (plain : List Bool) (reading : Result VoiceUnit (List Field)) (body : Body) → voice_reading_of duid plain ≡ reading → body_from reading ≡ Ok body → body_duid body ≡ duid
-body_from-duid duid plain (Ok voice) body is e =
+pub packet_body_from-bad : (field : Field) → packet_body_from (Err field) ≡ Err (field ∷ [])
+unfolding packet_body_from
+packet_body_from-bad field = refl
+
+pub packet_body_from-read : (packet : packet_type) → packet_body_from (Ok packet) ≡ whole_from packet (failing_blocks_of packet)
+unfolding packet_body_from
+packet_body_from-read packet = refl
+
+pub body_reading_of-voice : (duid : ℕ) (plain : List Bool) → duid ≢ 0xC → body_reading_of duid plain ≡ body_from (voice_reading_of duid plain)
+unfolding body_reading_of
+body_reading_of-voice duid plain other = cond-false (eqb duid 0xC) (packet_body_from (packet_reading_of plain)) (body_from (voice_reading_of duid plain)) (ne_eqb duid 0xC other)
+
+-- The fields that fail of a packet.
+
+pub failing_slots_of-zero : (slots : List Slot) → failing_slots_of 0 slots ≡ []
+unfolding failing_slots_of
+failing_slots_of-zero slots = joined_below-zero (λ j. failing_slot j (get_or slots j Bad))
+
+pub failing_slots_of-suc : (n : ℕ) (slots : List Slot) → failing_slots_of (suc n) slots ≡ failing_slots_of n slots ++ failing_slot n (get_or slots n Bad)
+unfolding failing_slots_of
+failing_slots_of-suc n slots = joined_below-suc n (λ j. failing_slot j (get_or slots j Bad))
+
+pub failing_slots_of-more : (n : ℕ) (slots : List Slot) → failing_slots_of (n + 1) slots ≡ failing_slots_of n slots ++ failing_slot n (get_or slots n Bad)
+failing_slots_of-more n slots = ap (λ k. failing_slots_of k slots) (add-one n) ∙ failing_slots_of-suc n slots
+
+no_fields : (xs ys : List Field) → xs ++ ys ≡ [] → (xs ≡ []) × (ys ≡ [])
+no_fields [] ys none = (refl, none)
+no_fields (x ∷ xs) ys none = absurd (cc)
+
+bad_fails : (j : ℕ) (slot : Slot) → failing_slot j slot ≡ [] → slot ≢ Bad
+bad_fails j (Good block) none = λ bad. absurd (cc)
+bad_fails j Bad none = absurd (cc)
+
+good_fails_not : (j : ℕ) (slot : Slot) → slot ≢ Bad → failing_slot j slot ≡ []
+good_fails_not j (Good block) good = refl
+good_fails_not j Bad good = absurd (good refl)
+
+-- where none fails, no slot is Bad
+none_bad : (n : ℕ) (slots : List Slot) → failing_slots_of n slots ≡ [] → (j : ℕ) → j < n → get_or slots j Bad ≢ Bad
+none_bad zero slots none j inside = absurd (omega arith)
+none_bad (suc n) slots none j inside =
+    let two = no_fields (failing_slots_of n slots) (failing_slot n (get_or slots n Bad)) (sym (failing_slots_of-suc n slots) ∙ none) in
+    elim (cases_eq j n) [
+      | inl last ↦ subst (λ (i : ℕ). get_or slots i Bad ≢ Bad) (sym last) (bad_fails n (get_or slots n Bad) two.1)
+      | inr other ↦ none_bad n slots two.0 j (omega (arith, inside, other))
+    ]
+
+-- and the other way round
+none_fails : (n : ℕ) (slots : List Slot) → ((j : ℕ) → j < n → get_or slots j Bad ≢ Bad) → failing_slots_of n slots ≡ []
+none_fails zero slots good = failing_slots_of-zero slots
+none_fails (suc n) slots good =
+    failing_slots_of-suc n slots
+    ∙ ap₂ (λ (xs ys : List Field). xs ++ ys) (none_fails n slots (λ j inside. good j (omega arith))) (good_fails_not n (get_or slots n Bad) (good n (omega arith)))
+
+IsWholePacket-none : (packet : packet_type) → failing_blocks_of packet ≡ [] → IsWholePacket packet
+unfolding failing_blocks_of IsWholePacket
+IsWholePacket-none (Confirmed packet) none = record { at = none_bad (length packet.slots) packet.slots none }
+IsWholePacket-none (Plain packet) none = tt
+
+pub failing_blocks_of-none : (packet : packet_type) → IsWholePacket packet → failing_blocks_of packet ≡ []
+unfolding failing_blocks_of IsWholePacket
+failing_blocks_of-none (Confirmed packet) whole = none_fails (length packet.slots) packet.slots whole.at
+failing_blocks_of-none (Plain packet) whole = refl
+
+-- a packet that can be sent is whole
+some_good : (slot : Slot) (good : Slot) → slot ≡ good → good ≢ Bad → slot ≢ Bad
+some_good slot good is some bad = some (sym is ∙ bad)
+
+pub IsWholePacket-sendable : (packet : packet_type) → IsSendable packet → IsWholePacket packet
+unfolding IsSendable IsWholePacket
+IsWholePacket-sendable (Confirmed packet) sendable = record { at = λ j inside bad. let good = sendable.good.at j (omega (arith, inside, sendable.kind.count)) in let two : Good good.0 ≡ Bad = sym good.1 ∙ bad in cc }
+IsWholePacket-sendable (Plain packet) sendable = tt
+
+-- What was read.
+
+-- the bits of a voice unit are laid out as its kind is
+pub IsVoiceImage-same : (nac : ℕ) (voice : VoiceUnit) → IsSendableVoice voice → IsVoiceImage nac voice (voice_image_of nac voice)
+IsVoiceImage-same nac voice sendable = (IsVoiceImage-iff nac voice (voice_image_of nac voice) sendable).1 refl
+
+-- the header of a packet, of which the length of its unit hangs
+abbrev HasHead : Body → List Bool → Type 0
+HasHead (Voice voice) plain = Unit {0}
+HasHead (Packet packet) plain = head_reading_of plain ≡ Ok (packet_head packet)
+
+-- a body that was read is of the DUID, whole, can be sent, and is what the received bits read as
+pub record IsBodyOf (duid : ℕ) (plain : List Bool) (body : Body) : Type 0 where
+  pub duid_is : body_duid body ≡ duid
+  pub whole : IsWholeBody body
+  pub sendable : IsSendableBody body
+  pub read : (nac : ℕ) → IsBodyRead body (body_image_of nac body) plain
+  pub head : HasHead body plain
+
+IsBodyOf-packet : (plain : List Bool) (packet : packet_type) → packet_reading_of plain ≡ Ok packet → failing_blocks_of packet ≡ [] → IsBodyOf 0xC plain (Packet packet)
+unfolding IsWholeBody IsSendableBody IsBodyRead
+IsBodyOf-packet plain packet read none =
+    let whole = IsWholePacket-none packet none in
+    let is = IsWholeRead-reading plain packet read whole in
+    record { duid_is = refl; whole = whole; sendable = is.sendable; read = λ nac. is.read; head = is.head }
+
+packet_body-whole : (plain : List Bool) (packet : packet_type) (fields : List Field) (body : Body) → packet_reading_of plain ≡ Ok packet → failing_blocks_of packet ≡ fields → whole_from packet fields ≡ Ok body → IsBodyOf 0xC plain body
+packet_body-whole plain packet [] body read none e = let same : Packet packet ≡ body = cc in subst (IsBodyOf 0xC plain) same (IsBodyOf-packet plain packet read none)
+packet_body-whole plain packet (field ∷ fields) body read some e = absurd (cc)
+
+packet_body-from : (plain : List Bool) (reading : Result packet_type Field) (body : Body) → packet_reading_of plain ≡ reading → packet_body_from reading ≡ Ok body → IsBodyOf 0xC plain body
+unfolding packet_body_from
+packet_body-from plain (Err field) body read e = absurd (cc)
+packet_body-from plain (Ok packet) body read e = packet_body-whole plain packet (failing_blocks_of packet) body read refl e
+
+-- a voice unit that was read lies within radius of its own bits
+voice_read : (nac duid : ℕ) (plain : List Bool) (voice : VoiceUnit) (unit : IsVoiceOf duid voice) → voice_reading_of duid plain ≡ Ok voice → IsVoiceWithin voice (voice_image_of nac voice) plain
+voice_read nac duid plain voice unit is =
+    within_read nac voice (voice_image_of nac voice) plain (IsVoiceImage-same nac voice unit.sendable) (ap (λ d. voice_reading_of d plain) unit.kind ∙ is)
+
+voice_body-from : (duid : ℕ) (plain : List Bool) (reading : Result VoiceUnit (List Field)) (body : Body) → voice_reading_of duid plain ≡ reading → body_from reading ≡ Ok body → IsBodyOf duid plain body
+unfolding IsWholeBody IsSendableBody IsBodyRead
+voice_body-from duid plain (Ok voice) body is e =
     let same : Voice voice ≡ body = cc in
-    subst (λ (b : Body). body_duid b ≡ duid) same (voice_duid-reading duid plain voice is)
-body_from-duid duid plain (Err fields) body is e = absurd (cc)
+    let unit = unit_read duid plain voice is in
+    let read : IsBodyOf duid plain (Voice voice) = record {
+      duid_is = unit.kind;
+      whole = tt;
+      sendable = unit.sendable;
+      read = λ nac. voice_read nac duid plain voice unit is;
+      head = tt;
+    } in
+    subst (IsBodyOf duid plain) same read
+voice_body-from duid plain (Err fields) body is e = absurd (cc)
 
-pub body_duid-reading : (duid : ℕ) (plain : List Bool) (body : Body) → body_reading_of duid plain ≡ Ok body → body_duid body ≡ duid
-unfolding body_reading_of
-body_duid-reading duid plain body e = body_from-duid duid plain (voice_reading_of duid plain) body refl e
+pub IsBodyOf-reading : (duid : ℕ) (plain : List Bool) (body : Body) → body_reading_of duid plain ≡ Ok body → IsBodyOf duid plain body
+IsBodyOf-reading duid plain body e =
+    elim (cases_eq duid 0xC) [
+      | inl packet ↦
+          let here : packet_body_from (packet_reading_of plain) ≡ Ok body = sym (body_reading_of-packet plain) ∙ ap (λ d. body_reading_of d plain) (sym packet) ∙ e in
+          subst (λ (d : ℕ). IsBodyOf d plain body) (sym packet) (packet_body-from plain (packet_reading_of plain) body refl here)
+      | inr other ↦ voice_body-from duid plain (voice_reading_of duid plain) body refl (sym (body_reading_of-voice duid plain other) ∙ e)
+    ]
 
--- the length of a body by its DUID
-pub length-body : (nac : ℕ) (body : Body) → voice_length_of (body_duid body) ≡ Some (length (body_image_of nac body))
-length-body nac (Voice voice) = length-voice_image_of nac voice
+-- its length is that of the unit's bits
+length_of_body : (duid : ℕ) (sent : List Bool) (body : Body) → IsUnitOf duid sent → IsBodyOf duid (plain_of sent) body → sent_length (body_length body) ≡ length sent
+length_of_body duid sent (Voice voice) unit is = elim unit.kind [
+  | inl kind ↦ ap (λ d. sent_length (unwrap_or (voice_length_of d) 0)) is.duid_is ∙ ap (λ found. sent_length (unwrap_or found 0)) kind.kind ∙ sym kind.is
+  | inr kind ↦ absurd (packet_is_no_voice voice (is.duid_is ∙ kind.packet))
+]
+  where
+    packet_is_no_voice : (voice : VoiceUnit) → body_duid (Voice voice) ≡ 0xC → ⊥
+    packet_is_no_voice voice is = voice-other (voice_duid voice) (body_length (Voice voice)) (body_length-known voice) is
+length_of_body duid sent (Packet packet) unit is = elim unit.kind [
+  | inl kind ↦ absurd (kind.other (sym is.duid_is))
+  | inr kind ↦
+      let two : Ok (packet_head packet) ≡ Ok kind.head = sym is.head ∙ kind.read in
+      let same : packet_head packet ≡ kind.head = cc in
+      sent_length-packet (head_blocks (packet_head packet)) ∙ ap (λ (head : PacketHead). packet_sent_length (head_blocks head)) same ∙ sym kind.is
+]
 
--- a frame that was read is sound, and as long as its bits
-pub record IsFrameOf (sent : List Bool) (frame : Frame) : Type 0 where
+-- a frame that was read has the identifier and the status symbols that were sent, is sound, can be sent and is as long as its
+-- bits
+pub record IsFrameOf (nid : ℕ × ℕ) (sent : List Bool) (frame : Frame) : Type 0 where
+  pub nac : frame.unit.nac ≡ nid.0
+  pub duid : body_duid frame.unit.body ≡ nid.1
+  pub statuses : frame.statuses ≡ statuses_of sent
   pub sound : IsSoundFrame frame
+  pub sendable : IsSendableBody frame.unit.body
   pub long : frame_length_of frame.unit ≡ length sent
+  pub read : IsBodyRead frame.unit.body (unit_image_of frame.unit) (plain_of sent)
 
-pub IsFrameOf-body : (nac duid plain : ℕ) (sent : List Bool) (body : Body) → voice_length_of duid ≡ Some plain → length sent ≡ sent_length plain → body_reading_of duid (plain_of sent) ≡ Ok body → IsFrameOf sent (frame_of nac (statuses_of sent) body)
-unfolding frame_length_of unit_image_of frame_of
-IsFrameOf-body nac duid plain sent body kind long read =
-    let same = body_duid-reading duid (plain_of sent) body read in
-    let is = IsSentLength-voice duid plain kind in
-    let two : Some plain ≡ Some (length (body_image_of nac body)) = sym kind ∙ ap voice_length_of (sym same) ∙ length-body nac body in
-    let count : plain ≡ length (body_image_of nac body) = cc in
-    let whole : sent_length (length (body_image_of nac body)) ≡ length sent = ap sent_length (sym count) ∙ sym long in
-    let symbols : length (statuses_of sent) ≡ is.blocks = length-statuses_of is.blocks sent (long ∙ is.sent) in
+IsFrameOf-body : (nid : ℕ × ℕ) (sent : List Bool) (body : Body) → IsUnitOf nid.1 sent → body_reading_of nid.1 (plain_of sent) ≡ Ok body → IsFrameOf nid sent (frame_of nid.0 (statuses_of sent) body)
+unfolding frame_length_of frame_of unit_image_of
+IsFrameOf-body nid sent body unit read =
+    let is = IsBodyOf-reading nid.1 (plain_of sent) body read in
+    let whole = length_of_body nid.1 sent body unit is in
+    let symbols : length (statuses_of sent) ≡ unit.blocks = length-statuses_of unit.blocks sent unit.long in
     record {
-      sound = record { symbols = ap (λ n. 72 * n) symbols ∙ sym is.sent ∙ sym long ∙ sym whole };
+      nac = refl;
+      duid = is.duid_is;
+      statuses = refl;
+      sound = record { whole = is.whole; symbols = ap (λ n. 72 * n) symbols ∙ sym unit.long ∙ sym whole };
+      sendable = is.sendable;
       long = whole;
+      read = is.read nid.0;
     }
 
-frame_from-frame : (nac duid plain : ℕ) (sent : List Bool) (reading : Result Body (List Field)) (frame : Frame) → voice_length_of duid ≡ Some plain → length sent ≡ sent_length plain → body_reading_of duid (plain_of sent) ≡ reading → frame_from nac (statuses_of sent) reading ≡ Ok frame → IsFrameOf sent frame
+frame_from-frame : (nid : ℕ × ℕ) (sent : List Bool) (reading : Result Body (List Field)) (frame : Frame) → IsUnitOf nid.1 sent → body_reading_of nid.1 (plain_of sent) ≡ reading → frame_from nid.0 (statuses_of sent) reading ≡ Ok frame → IsFrameOf nid sent frame
 unfolding frame_of
-frame_from-frame nac duid plain sent (Ok body) frame kind long read e =
-    let same : frame_of nac (statuses_of sent) body ≡ frame = cc in
-    subst (λ (f : Frame). IsFrameOf sent f) same (IsFrameOf-body nac duid plain sent body kind long read)
-frame_from-frame nac duid plain sent (Err fields) frame kind long read e = absurd (cc)
+frame_from-frame nid sent (Ok body) frame unit read e =
+    let same : frame_of nid.0 (statuses_of sent) body ≡ frame = cc in
+    subst (λ (f : Frame). IsFrameOf nid sent f) same (IsFrameOf-body nid sent body unit read)
+frame_from-frame nid sent (Err fields) frame unit read e = absurd (cc)
 
-pub IsFrameOf-reading : (nac duid plain : ℕ) (sent : List Bool) (frame : Frame) → voice_length_of duid ≡ Some plain → length sent ≡ sent_length plain → reading_from (Some (nac, duid)) sent ≡ Ok frame → IsFrameOf sent frame
-IsFrameOf-reading nac duid plain sent frame kind long e =
-    frame_from-frame nac duid plain sent (body_reading_of duid (plain_of sent)) frame kind long refl (sym (reading_from-some (nac, duid) sent) ∙ e)
+pub IsFrameOf-reading : (nid : ℕ × ℕ) (sent : List Bool) (frame : Frame) → IsUnitOf nid.1 sent → reading_from (Some nid) sent ≡ Ok frame → IsFrameOf nid sent frame
+IsFrameOf-reading nid sent frame unit e = frame_from-frame nid sent (body_reading_of nid.1 (plain_of sent)) frame unit refl (sym (reading_from-some nid sent) ∙ e)
 
--- a body is read from bits that are within radius of its own: of a terminator from any
-pub body_reading_of-near : (body : Body) (plain : List Bool) → body_reading_of (body_duid body) plain ≡ Ok body
-body_reading_of-near (Voice End) plain = body_reading_of-is 3 plain (Ok End) (voice_reading_of-end plain)
+-- Bits within radius.
+
+-- a packet reads as itself
+pub packet_reading_of-near : (nac : ℕ) (packet : packet_type) (plain : List Bool) → IsSendable packet → IsBodyWithin (Packet packet) (body_image_of nac (Packet packet)) plain → packet_reading_of plain ≡ Ok packet
+unfolding IsBodyWithin
+packet_reading_of-near nac packet plain sendable within = packet_within half_near three_quarter_near nac packet plain sendable within
+
+-- and so its header does
+pub head_reading_of-near : (nac : ℕ) (packet : packet_type) (plain : List Bool) → IsSendable packet → IsBodyWithin (Packet packet) (body_image_of nac (Packet packet)) plain → head_reading_of plain ≡ Ok (packet_head packet)
+head_reading_of-near nac packet plain sendable within =
+    (IsWholeRead-reading plain packet (packet_reading_of-near nac packet plain sendable within) (IsWholePacket-sendable packet sendable)).head
+
+packet_body_from-whole : (packet : packet_type) → IsWholePacket packet → packet_body_from (Ok packet) ≡ Ok (Packet packet)
+packet_body_from-whole packet whole = packet_body_from-read packet ∙ ap (whole_from packet) (failing_blocks_of-none packet whole)
+
+-- a body is read from bits that are within radius of its own, with the voice frames as received
+pub body_reading_of-near : (nac : ℕ) (body : Body) (plain : List Bool) → IsSendableBody body → length plain ≡ length (body_image_of nac body) → IsBodyWithin body (body_image_of nac body) plain → body_reading_of (body_duid body) plain ≡ Ok (received_body body plain)
+unfolding IsSendableBody IsBodyWithin
+body_reading_of-near nac (Voice voice) plain sendable long within =
+    body_reading_of-voice (voice_duid voice) plain (voice-other (voice_duid voice) (body_length (Voice voice)) (body_length-known voice))
+    ∙ ap body_from (voice_within nac voice (voice_image_of nac voice) plain sendable (IsVoiceImage-same nac voice sendable) long within)
+body_reading_of-near nac (Packet packet) plain sendable long within =
+    body_reading_of-packet plain
+    ∙ ap packet_body_from (packet_reading_of-near nac packet plain sendable within)
+    ∙ packet_body_from-whole packet (IsWholePacket-sendable packet sendable)

@@ -1,19 +1,27 @@
 -- The bits of units: each kind has its length and begins with its front.
-use Rattle.std.proofs.Common.{◌≡◌, List, ℕ, ◌*◌, ◌/◌, ◌%◌, ◌<◌, ◌≤◌, length, take, Some, ap, sym, ◌∙◌, arith}
+use Rattle.std.proofs.Common.{◌≡◌, List, ℕ, ◌*◌, ◌/◌, ◌%◌, ◌<◌, ◌≤◌, length, take, Some, ap, sym, ◌∙◌, arith, subst}
+use Rattle.std.specs.Option.{unwrap_or}
 use Rattle.p25_status.specs.Woven.{plain_of, statuses_of}
 use Rattle.std.proofs.lemmas.List.{take_at}
 use Rattle.p25_status.proofs.WovenLaws.{length-woven, plain_of-woven, statuses_of-woven}
 use Rattle.p25_front.specs.Front.{unit_front, front_of}
 use Rattle.p25_front.proofs.FrontLaws.{length-unit_front, front_of-plain_of}
-use Rattle.p25_voice_units.specs.declared.unit.VoiceUnit.TheVariants.{End}
+use Rattle.p25_voice_units.specs.declared.unit.VoiceUnit.{VoiceUnit}
+use Rattle.p25_voice_units.specs.declared.unit.VoiceUnit.TheVariants.{Header, Link1, Link2, End, EndLink}
 use Rattle.p25_voice_units.specs.Images.{voice_body, voice_image_of}
 use Rattle.p25_voice_units.specs.Lengths.{voice_duid, voice_length_of}
-use Rattle.p25_voice_units.proofs.VoiceLaws.{length-voice_image_of, voice_lengths}
+use Rattle.p25_voice_units.proofs.ImagesLaws.{length-voice_image_of}
+use Rattle.p25_voice_units.proofs.LengthsLaws.{length-header, length-link1, length-link2, length-end, length-end_link, voice_lengths}
+use Rattle.p25_packet_blocks.specs.Heads.{head_blocks}
+use Rattle.p25_packet_blocks.specs.Lengths.{packet_plain_length, packet_sent_length}
+use Rattle.p25_packet_blocks.specs.Whole.{packet_head}
+use Rattle.p25_packet_blocks.proofs.HeadLaws.{head_blocks-lt}
+use Rattle.p25_packet_blocks.proofs.PlacesLaws.{image_long, image_front}
 use Rattle.p25_status.specs.declared.symbols.Status.{Status}
 use Rattle.p25_units.specs.UnitParts.{UnitParts}
-use Rattle.p25_units.specs.Units.{body_duid, body_image_of, unit_image_of, sent_length, frame_length_of, image_of, frame_as, IsSoundFrame}
+use Rattle.p25_units.specs.Units.{body_duid, body_length, body_image_of, unit_image_of, sent_length, frame_length_of, image_of, frame_as, IsSoundFrame, IsSendableBody, IsSendableUnit}
 use Rattle.p25_units.specs.declared.unit.Body.{Body}
-use Rattle.p25_units.specs.declared.unit.Body.TheVariants.{Voice}
+use Rattle.p25_units.specs.declared.unit.Body.TheVariants.{Voice, Packet}
 use Rattle.p25_units.specs.declared.frame.Frame.{Frame}
 
 -- what a length without status symbols is sent as
@@ -37,73 +45,104 @@ IsSentLength-from plain least most whole = record {
 pub IsSentLength-voice : (duid plain : ℕ) → voice_length_of duid ≡ Some plain → IsSentLength plain
 IsSentLength-voice duid plain is = let bounds = voice_lengths duid plain is in IsSentLength-from plain bounds.0 (omega (arith, bounds.1)) bounds.2
 
--- the length of what a unit carries
-pub IsSentLength-body : (nac : ℕ) (body : Body) → IsSentLength (length (body_image_of nac body))
-IsSentLength-body nac (Voice voice) = IsSentLength-voice (voice_duid voice) (length (voice_image_of nac voice)) (length-voice_image_of nac voice)
+-- the length of a voice unit, by its kind
+voice_some : (voice : VoiceUnit) → (plain : ℕ) × (voice_length_of (voice_duid voice) ≡ Some plain)
+voice_some (Header word) = (770, length-header)
+voice_some (Link1 link low voice) = (1680, length-link1)
+voice_some (Link2 sync low voice) = (1680, length-link2)
+voice_some End = (140, length-end)
+voice_some (EndLink link) = (420, length-end_link)
 
-pub IsSentLength-unit : (unit : UnitParts) → IsSentLength (length (unit_image_of unit))
-unfolding unit_image_of
-IsSentLength-unit unit = IsSentLength-body unit.nac unit.body
+pub body_length-voice : (voice : VoiceUnit) (plain : ℕ) → voice_length_of (voice_duid voice) ≡ Some plain → body_length (Voice voice) ≡ plain
+body_length-voice voice plain is = ap (λ found. unwrap_or found 0) is
+
+pub body_length-known : (voice : VoiceUnit) → voice_length_of (voice_duid voice) ≡ Some (body_length (Voice voice))
+body_length-known voice = let some = voice_some voice in some.1 ∙ ap Some (sym (body_length-voice voice some.0 some.1))
+
+-- the length of a packet as it is sent
+pub sent_length-packet : (n : ℕ) → sent_length (packet_plain_length n) ≡ packet_sent_length n
+sent_length-packet n = omega arith
+
+-- the length of what a unit carries
+pub IsSentLength-body : (body : Body) → IsSentLength (body_length body)
+IsSentLength-body (Voice voice) = IsSentLength-voice (voice_duid voice) (body_length (Voice voice)) (body_length-known voice)
+IsSentLength-body (Packet packet) =
+    let n = head_blocks (packet_head packet) in
+    let few = head_blocks-lt (packet_head packet) in
+    IsSentLength-from (packet_plain_length n) (omega arith) (omega (arith, few)) (omega arith)
 
 -- DUIDs have 4 bits
 pub body_duid-lt : (body : Body) → body_duid body < 16
+body_duid-lt (Voice (Header word)) = omega arith
+body_duid-lt (Voice (Link1 link low voice)) = omega arith
+body_duid-lt (Voice (Link2 sync low voice)) = omega arith
 body_duid-lt (Voice End) = omega arith
+body_duid-lt (Voice (EndLink link)) = omega arith
+body_duid-lt (Packet packet) = omega arith
+
+-- the bits of a unit have its length
+pub length-body_image_of : (nac : ℕ) (body : Body) → IsSendableBody body → length (body_image_of nac body) ≡ body_length body
+unfolding IsSendableBody
+length-body_image_of nac (Voice voice) sendable = sym (body_length-voice voice (length (voice_image_of nac voice)) (length-voice_image_of nac voice sendable))
+length-body_image_of nac (Packet packet) sendable = image_long nac packet sendable
+
+pub length-unit_image_of : (unit : UnitParts) → IsSendableBody unit.body → length (unit_image_of unit) ≡ body_length unit.body
+unfolding unit_image_of
+length-unit_image_of unit sendable = length-body_image_of unit.nac unit.body sendable
 
 -- a unit begins with its front
-pub body_image_of-front : (nac : ℕ) (body : Body) → take 112 (body_image_of nac body) ≡ unit_front nac (body_duid body)
-unfolding voice_image_of
-body_image_of-front nac (Voice voice) = take_at (unit_front nac (voice_duid voice)) (voice_body voice) 112 (length-unit_front nac (voice_duid voice))
+pub body_image_of-front : (nac : ℕ) (body : Body) → IsSendableBody body → take 112 (body_image_of nac body) ≡ unit_front nac (body_duid body)
+unfolding voice_image_of IsSendableBody
+body_image_of-front nac (Voice voice) sendable = take_at (unit_front nac (voice_duid voice)) (voice_body voice) 112 (length-unit_front nac (voice_duid voice))
+body_image_of-front nac (Packet packet) sendable = image_front nac packet sendable
 
-pub unit_image_of-front : (unit : UnitParts) → take 112 (unit_image_of unit) ≡ unit_front unit.nac (body_duid unit.body)
+pub unit_image_of-front : (unit : UnitParts) → IsSendableBody unit.body → take 112 (unit_image_of unit) ≡ unit_front unit.nac (body_duid unit.body)
 unfolding unit_image_of
-unit_image_of-front unit = body_image_of-front unit.nac unit.body
+unit_image_of-front unit sendable = body_image_of-front unit.nac unit.body sendable
 
 -- a sound frame has a status symbol for each 70 bits of its unit
-pub symbols-sound : (frame : Frame) → IsSoundFrame frame → length (unit_image_of frame.unit) ≡ 70 * length frame.statuses
+pub symbols-sound : (frame : Frame) → IsSoundFrame frame → body_length frame.unit.body ≡ 70 * length frame.statuses
 unfolding frame_length_of
 symbols-sound frame sound =
-    let is = IsSentLength-unit frame.unit in
+    let is = IsSentLength-body frame.unit.body in
     omega (arith, sound.symbols, is.fills, is.sent)
 
+pub symbols-image : (frame : Frame) → IsSoundFrame frame → IsSendableUnit frame.unit → length (unit_image_of frame.unit) ≡ 70 * length frame.statuses
+symbols-image frame sound sendable = length-unit_image_of frame.unit sendable.body ∙ symbols-sound frame sound
+
 -- the sent bits of a sound frame
-pub length-image_of : (frame : Frame) → IsSoundFrame frame → length (image_of frame) ≡ frame_length_of frame.unit
+pub length-image_of-blocks : (frame : Frame) → IsSoundFrame frame → IsSendableUnit frame.unit → length (image_of frame) ≡ 72 * length frame.statuses
 unfolding image_of
-length-image_of frame sound = length-woven (unit_image_of frame.unit) frame.statuses (symbols-sound frame sound) ∙ sound.symbols
+length-image_of-blocks frame sound sendable = length-woven (unit_image_of frame.unit) frame.statuses (symbols-image frame sound sendable)
 
-pub length-image_of-blocks : (frame : Frame) → IsSoundFrame frame → length (image_of frame) ≡ 72 * length frame.statuses
-length-image_of-blocks frame sound = length-image_of frame sound ∙ sym sound.symbols
+pub length-image_of : (frame : Frame) → IsSoundFrame frame → IsSendableUnit frame.unit → length (image_of frame) ≡ frame_length_of frame.unit
+length-image_of frame sound sendable = length-image_of-blocks frame sound sendable ∙ sound.symbols
 
-pub plain_of-image_of : (frame : Frame) → IsSoundFrame frame → plain_of (image_of frame) ≡ unit_image_of frame.unit
+pub plain_of-image_of : (frame : Frame) → IsSoundFrame frame → IsSendableUnit frame.unit → plain_of (image_of frame) ≡ unit_image_of frame.unit
 unfolding image_of
-plain_of-image_of frame sound = plain_of-woven (unit_image_of frame.unit) frame.statuses (symbols-sound frame sound)
+plain_of-image_of frame sound sendable = plain_of-woven (unit_image_of frame.unit) frame.statuses (symbols-image frame sound sendable)
 
-pub statuses_of-image_of : (frame : Frame) → IsSoundFrame frame → statuses_of (image_of frame) ≡ frame.statuses
+pub statuses_of-image_of : (frame : Frame) → IsSoundFrame frame → IsSendableUnit frame.unit → statuses_of (image_of frame) ≡ frame.statuses
 unfolding image_of
-statuses_of-image_of frame sound = statuses_of-woven (unit_image_of frame.unit) frame.statuses (symbols-sound frame sound)
+statuses_of-image_of frame sound sendable = statuses_of-woven (unit_image_of frame.unit) frame.statuses (symbols-image frame sound sendable)
 
 -- a sound frame has at least two blocks
 pub blocks-sound : (frame : Frame) → IsSoundFrame frame → (2 ≤ length frame.statuses) × (length frame.statuses ≤ 360)
 blocks-sound frame sound =
-    let is = IsSentLength-unit frame.unit in
+    let is = IsSentLength-body frame.unit.body in
     (omega (arith, symbols-sound frame sound, is.fills, is.least), omega (arith, symbols-sound frame sound, is.fills, is.most))
 
 -- the front of its sent bits
-pub front_of-image_of : (frame : Frame) → IsSoundFrame frame → front_of (image_of frame) ≡ unit_front frame.unit.nac (body_duid frame.unit.body)
-front_of-image_of frame sound =
-    sym (front_of-plain_of (length frame.statuses) (image_of frame) (blocks-sound frame sound).0 (length-image_of-blocks frame sound))
-    ∙ ap (take 112) (plain_of-image_of frame sound)
-    ∙ unit_image_of-front frame.unit
+pub front_of-image_of : (frame : Frame) → IsSoundFrame frame → IsSendableUnit frame.unit → front_of (image_of frame) ≡ unit_front frame.unit.nac (body_duid frame.unit.body)
+front_of-image_of frame sound sendable =
+    sym (front_of-plain_of (length frame.statuses) (image_of frame) (blocks-sound frame sound).0 (length-image_of-blocks frame sound sendable))
+    ∙ ap (take 112) (plain_of-image_of frame sound sendable)
+    ∙ unit_image_of-front frame.unit sendable.body
 
 -- a frame under another network access code
-length_as : (duid plain : ℕ) (other : ℕ) → voice_length_of duid ≡ Some plain → voice_length_of duid ≡ Some other → other ≡ plain
-length_as duid plain other a b = let two : Some other ≡ Some plain = sym b ∙ a in cc
-
-length-body_image_of : (nac other : ℕ) (body : Body) → length (body_image_of other body) ≡ length (body_image_of nac body)
-length-body_image_of nac other (Voice voice) =
-    length_as (voice_duid voice) (length (voice_image_of nac voice)) (length (voice_image_of other voice)) (length-voice_image_of nac voice) (length-voice_image_of other voice)
-
 pub IsSoundFrame-frame_as : (nac : ℕ) (statuses : List Status) (frame : Frame) → IsSoundFrame frame → length statuses ≡ length frame.statuses → IsSoundFrame (frame_as nac statuses frame)
-unfolding frame_length_of unit_image_of
+unfolding frame_length_of
 IsSoundFrame-frame_as nac statuses frame sound same = record {
-  symbols = ap (λ n. 72 * n) same ∙ sound.symbols ∙ ap sent_length (sym (length-body_image_of frame.unit.nac nac frame.unit.body));
+  whole = sound.whole;
+  symbols = ap (λ n. 72 * n) same ∙ sound.symbols;
 }

@@ -1,28 +1,26 @@
--- The item of a unit is whole only where its bits lie within radius of its frame: by what was read of its identifier.
+-- The item of a unit is whole only where its bits read as its frame, those of its front within radius: by what was read of its
+-- identifier.
 use Rattle.std.proofs.Common.{◌≡◌, ℕ, ◌%◌, ◌<◌, ◌≤◌, Bool, true, List, length, take, Some, Result, Ok, Err, refl, ap, ap₂, sym, ◌∙◌, subst, arith}
-use Rattle.std.proofs.lemmas.List.{length-take-le}
 use Rattle.p25_bits.specs.Distance.{distance_of}
 use Rattle.p25_status.specs.Sync.{sync_slack, has_sync}
-use Rattle.p25_status.specs.Woven.{plain_of, statuses_of}
 use Rattle.p25_status.specs.declared.fields.Field.{Field}
 use Rattle.p25_status.proofs.SyncLaws.{has_sync-distance, has_sync-take}
 use Rattle.p25_bch_nid.specs.NidWord.{nid_word}
 use Rattle.p25_bch_nid.proofs.NidWordLaws.{nid_reading_of-near}
 use Rattle.p25_front.specs.Front.{identifier_bits, identifier_of}
 use Rattle.p25_front.proofs.FrontLaws.{front_of-sync, front_of-identifier, identifier_of-take, identifier_of-fits}
-use Rattle.p25_units.specs.UnitParts.{UnitParts}
-use Rattle.p25_units.specs.Units.{body_duid, image_of}
+use Rattle.p25_units.specs.Units.{body_duid, image_of, IsSendableUnit}
 use Rattle.p25_units.specs.Fixes.{fixes_of}
 use Rattle.p25_units.specs.Items.{item_from}
-use Rattle.p25_units.specs.Readings.{body_reading_of, frame_from, reading_from}
+use Rattle.p25_units.specs.Readings.{reading_from}
 use Rattle.p25_units.specs.WholeLaws.{WholeIsNear}
-use Rattle.p25_units.specs.WithinRadius.{IsWithinRadius}
-use Rattle.p25_units.specs.declared.unit.Body.{Body}
+use Rattle.p25_units.specs.WithinRadius.{IsFrontWithin}
 use Rattle.p25_units.specs.declared.frame.Frame.{Frame}
 use Rattle.p25_units.specs.declared.item.Item.TheVariants.{Whole}
 use Rattle.p25_units.proofs.UnitsLaws.{front_of-image_of, length-image_of, length-image_of-blocks, blocks-sound}
-use Rattle.p25_units.proofs.NeedsLaws.{IsIdentified-from, IsKind-from, need_of-there}
-use Rattle.p25_units.proofs.ReadingsLaws.{reading_from-some, body_duid-reading, IsFrameOf, IsFrameOf-reading}
+use Rattle.p25_units.proofs.NeedsLaws.{IsIdentified-from, need_of-there}
+use Rattle.p25_units.proofs.KindsLaws.{IsUnitOf-need}
+use Rattle.p25_units.proofs.ReadingsLaws.{IsFrameOf, IsFrameOf-reading}
 use Rattle.p25_units.proofs.ItemsLaws.{unit_item_of-some}
 
 -- a whole item is that of the frame that was read
@@ -35,37 +33,22 @@ whole-from at nid sent (Ok other) place frame fixes e =
     (ap Ok same, sym here, sym count ∙ ap (λ (f : Frame). fixes_of f sent) same)
 whole-from at nid sent (Err fields) place frame fixes e = absurd (cc)
 
--- a frame that was read has the identifier and the status symbols that were sent
-record IsFrameRead (nid : ℕ × ℕ) (sent : List Bool) (frame : Frame) : Type 0 where
-  pub nac : frame.unit.nac ≡ nid.0
-  pub duid : body_duid frame.unit.body ≡ nid.1
-  pub statuses : frame.statuses ≡ statuses_of sent
-
-frame_read-from : (nid : ℕ × ℕ) (sent : List Bool) (reading : Result Body (List Field)) (frame : Frame) → body_reading_of nid.1 (plain_of sent) ≡ reading → frame_from nid.0 (statuses_of sent) reading ≡ Ok frame → IsFrameRead nid sent frame
-frame_read-from nid sent (Ok body) frame read e =
-    let unit : UnitParts = record { nac = nid.0; body = body } in
-    let made : Frame = record { unit = unit; statuses = statuses_of sent } in
-    let same : made ≡ frame = cc in
-    let is : IsFrameRead nid sent made = record { nac = refl; duid = body_duid-reading nid.1 (plain_of sent) body read; statuses = refl } in
-    subst (λ (f : Frame). IsFrameRead nid sent f) same is
-frame_read-from nid sent (Err fields) frame read e = absurd (cc)
-
 -- an identifier that was read lies within 11 bits of its word
 identifier_of-word : (sent : List Bool) (nid : ℕ × ℕ) → identifier_of sent ≡ Some nid → distance_of (take 63 (identifier_bits sent)) (take 63 (nid_word nid.0 nid.1)) ≤ 11
 unfolding identifier_of
 identifier_of-word sent nid read = nid_reading_of-near (identifier_bits sent) nid read
 
--- so the sent bits lie within radius of the frame
-near-from : (nid : ℕ × ℕ) (sent : List Bool) (frame : Frame) → has_sync sent ≡ true → identifier_of sent ≡ Some nid → IsFrameOf sent frame → IsFrameRead nid sent frame → IsWithinRadius frame sent
-near-from nid sent frame synced read is from =
+-- so the front of the sent bits lies within radius of the frame's
+near-from : (nid : ℕ × ℕ) (sent : List Bool) (frame : Frame) → has_sync sent ≡ true → identifier_of sent ≡ Some nid → IsFrameOf nid sent frame → IsSendableUnit frame.unit → IsFrontWithin frame sent
+near-from nid sent frame synced read is sendable =
     let image = image_of frame in
     let duid = body_duid frame.unit.body in
-    let long : 48 ≤ length image = omega (arith, length-image_of-blocks frame is.sound, (blocks-sound frame is.sound).0) in
-    let front = front_of-image_of frame is.sound in
+    let long : 48 ≤ length image = omega (arith, length-image_of-blocks frame is.sound sendable, (blocks-sound frame is.sound).0) in
+    let front = front_of-image_of frame is.sound sendable in
     let sync = front_of-sync frame.unit.nac duid image long front in
-    let word = front_of-identifier frame.unit.nac duid image long front ∙ ap₂ nid_word from.nac from.duid in
+    let word = front_of-identifier frame.unit.nac duid image long front ∙ ap₂ nid_word is.nac is.duid in
     record {
-      long = sym is.long ∙ sym (length-image_of frame is.sound);
+      long = sym is.long ∙ sym (length-image_of frame is.sound sendable);
       sync = subst (λ (xs : List Bool). distance_of (take 48 sent) xs ≤ sync_slack) (sym sync) (has_sync-distance sent synced);
       identifier =
           subst (λ (xs : List Bool). distance_of (take 63 (identifier_bits sent)) (take 63 xs) ≤ 11) (sym word) (identifier_of-word sent nid read);
@@ -75,22 +58,22 @@ pub whole-near : WholeIsNear
 whole-near at bits count place frame fixes synced need e =
     let sent = take count bits in
     let found = IsIdentified-from bits count need in
-    let kind = IsKind-from found.nid.1 count bits found.kind in
+    let unit = IsUnitOf-need count bits found.nid.1 found.kind in
     let bounds = need_of-there bits count need in
     let whole : count % 72 ≡ 0 = bounds.2 in
     let some : 72 < count = bounds.0 in
     let enough : 114 ≤ count = omega (arith, whole) in
-    let long = length-take-le count bits kind.there ∙ kind.is in
     let read : identifier_of sent ≡ Some found.nid = identifier_of-take count bits enough ∙ found.read in
     let reading = reading_from (Some found.nid) sent in
     let parts = whole-from at found.nid sent reading place frame fixes (sym (unit_item_of-some at sent found.nid reading read refl) ∙ e) in
-    let is = IsFrameOf-reading found.nid.0 found.nid.1 kind.plain sent frame kind.kind long parts.0 in
-    let from = frame_read-from found.nid sent (body_reading_of found.nid.1 (plain_of sent)) frame refl (sym (reading_from-some found.nid sent) ∙ parts.0) in
+    let is = IsFrameOf-reading found.nid sent frame unit parts.0 in
+    let sendable : IsSendableUnit frame.unit = record { nac_fits = omega (arith, is.nac, (identifier_of-fits sent found.nid read).0); body = is.sendable } in
     record {
-      near = near-from found.nid sent frame (has_sync-take bits count (omega arith) kind.there ∙ synced) read is from;
+      front = near-from found.nid sent frame (has_sync-take bits count (omega arith) bounds.3 ∙ synced) read is sendable;
+      body = is.read;
       sound = is.sound;
-      nac = omega (arith, from.nac, (identifier_of-fits sent found.nid read).0);
-      statuses = from.statuses;
+      sendable = sendable;
+      statuses = is.statuses;
       place_is = parts.1;
       fixes_is = parts.2;
     }

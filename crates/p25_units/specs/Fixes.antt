@@ -1,28 +1,36 @@
 -- The fixes of a frame: the looked-at places in which the received bits differ from its image.
-use Rattle.std.specs.Prelude.{ℕ, Bool, List, ◌∷◌}
-use Rattle.std.specs.List.{flat_map}
-use Rattle.p25_bits.specs.Bits.{part}
+use Rattle.std.specs.Prelude.{ℕ, ◌+◌, ◌*◌, Bool, List, ◌∷◌}
 use Rattle.p25_bits.specs.Distance.{distance_of}
+use Rattle.p25_bits.specs.Numbers.{each_below}
 use Rattle.p25_status.specs.Woven.{plain_of}
-use Rattle.p25_voice_units.specs.Readings.{voice_looked}
+use Rattle.p25_voice_units.specs.Fixes.{voice_looked, bits_at}
+use Rattle.p25_packet_blocks.specs.Heads.{head_blocks}
+use Rattle.p25_packet_blocks.specs.Whole.{packet_head}
 use Rattle.p25_units.specs.UnitParts.{UnitParts}
 use Rattle.p25_units.specs.Units.{unit_image_of}
 use Rattle.p25_units.specs.declared.unit.Body.{Body}
-use Rattle.p25_units.specs.declared.unit.Body.TheVariants.{Voice}
+use Rattle.p25_units.specs.declared.unit.Body.TheVariants.{Voice, Packet}
 use Rattle.p25_units.specs.declared.frame.Frame.{Frame}
+
+-- the looked-at places of a packet with n blocks to follow: its header block, and these
+unfoldable pub packet_looked : ℕ → List (ℕ × ℕ)
+packet_looked n = (112, 196) ∷ each_below n (λ j. (308 + 196 * j, 196))
 
 -- the looked-at places behind the front, as a place and a number of bits each
 abbrev pub body_looked : Body → List (ℕ × ℕ)
 body_looked (Voice voice) = voice_looked voice
+body_looked (Packet packet) = packet_looked (head_blocks (packet_head packet))
 
 -- the looked-at places of a unit without status symbols: its sync, the first 63 bits of its identifier, and its code words
+-- and blocks
 abbrev pub looked_of : UnitParts → List (ℕ × ℕ)
 looked_of unit = (0, 111) ∷ body_looked unit.body
 
--- the bits at some places
-unfoldable pub looked_at : List (ℕ × ℕ) → List Bool → List Bool
-looked_at places bits = flat_map (λ place. part place.0 place.1 bits) places
+-- in how many of the looked-at places behind the front the bits of a unit differ from those that were received, both
+-- without status symbols
+unfoldable pub body_fixes_of : UnitParts → List Bool → ℕ
+body_fixes_of unit plain = distance_of (bits_at (body_looked unit.body) plain) (bits_at (body_looked unit.body) (unit_image_of unit))
 
 -- the fixes of a frame that was read from sent bits
 unfoldable pub fixes_of : Frame → List Bool → ℕ
-fixes_of frame sent = distance_of (looked_at (looked_of frame.unit) (plain_of sent)) (looked_at (looked_of frame.unit) (unit_image_of frame.unit))
+fixes_of frame sent = distance_of (bits_at (looked_of frame.unit) (plain_of sent)) (bits_at (looked_of frame.unit) (unit_image_of frame.unit))

@@ -1,10 +1,15 @@
 -- What the bits from a place on say of a unit there. One rule stands for each kind of unit, joined where the identifier was
 -- read.
-use Rattle.std.specs.Prelude.{ℕ, Bool, true, false, cond, nat_lt, List, Option, Some, None, length}
+use Rattle.std.specs.Prelude.{ℕ, Bool, true, false, cond, nat_eq, nat_lt, List, Option, Some, None, Result, Ok, Err, length}
 use Rattle.p25_status.specs.Sync.{has_sync}
+use Rattle.p25_status.specs.declared.fields.Field.{Field}
 use Rattle.p25_status.specs.declared.fields.Field.TheVariants.{Nid, Duid}
 use Rattle.p25_front.specs.Front.{identifier_of}
 use Rattle.p25_voice_units.specs.Lengths.{voice_length_of}
+use Rattle.p25_packet_blocks.specs.declared.head.PacketHead.{PacketHead}
+use Rattle.p25_packet_blocks.specs.Heads.{head_blocks}
+use Rattle.p25_packet_blocks.specs.Lengths.{packet_sent_length}
+use Rattle.p25_packet_blocks.specs.UnitReading.{sent_head_of}
 use Rattle.p25_units.specs.Units.{sent_length}
 use Rattle.p25_units.specs.declared.needs.Need.{Need}
 use Rattle.p25_units.specs.declared.needs.Need.TheVariants.{NoSync, More, Length, NoLength}
@@ -18,9 +23,18 @@ unfoldable pub voice_need : Option ℕ → ℕ → Need
 voice_need None have = NoLength Duid
 voice_need (Some plain) have = length_need (sent_length plain) have
 
+-- what a packet needs whose header was read, or fails
+unfoldable pub head_need : Result PacketHead Field → ℕ → Need
+head_need (Err field) have = NoLength field
+head_need (Ok head) have = length_need (packet_sent_length (head_blocks head)) have
+
+-- what a packet needs: the 316 bits with its front and its header block, and then all that its header asks for
+unfoldable pub packet_need : List Bool → Need
+packet_need bits = cond (nat_lt (length bits) 316) (More 316) (head_need (sent_head_of bits) (length bits))
+
 -- what the unit of a DUID needs
 unfoldable pub kind_need : ℕ → List Bool → Need
-kind_need duid bits = voice_need (voice_length_of duid) (length bits)
+kind_need duid bits = cond (nat_eq duid 0xC) (packet_need bits) (voice_need (voice_length_of duid) (length bits))
 
 -- what is needed behind an identifier that was read, or none
 unfoldable pub identified_need : Option (ℕ × ℕ) → List Bool → Need

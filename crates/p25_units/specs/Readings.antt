@@ -1,15 +1,22 @@
 -- What the sent bits of a unit read as.
-use Rattle.std.specs.Prelude.{ℕ, Bool, List, [], ◌∷◌, Option, Some, None, Result, Ok, Err}
+use Rattle.std.specs.Prelude.{ℕ, Bool, cond, nat_eq, List, [], ◌∷◌, length, Option, Some, None, Result, Ok, Err}
+use Rattle.std.proofs.Common.{get_or}
+use Rattle.p25_bits.specs.Numbers.{joined_below}
 use Rattle.p25_status.specs.Woven.{plain_of, statuses_of}
 use Rattle.p25_status.specs.declared.fields.Field.{Field}
-use Rattle.p25_status.specs.declared.fields.Field.TheVariants.{Nid}
+use Rattle.p25_status.specs.declared.fields.Field.TheVariants.{Nid, Block}
 use Rattle.p25_status.specs.declared.symbols.Status.{Status}
 use Rattle.p25_front.specs.Front.{identifier_of}
 use Rattle.p25_voice_units.specs.declared.unit.VoiceUnit.{VoiceUnit}
 use Rattle.p25_voice_units.specs.Readings.{voice_reading_of}
+use Rattle.p25_packet_blocks.specs.declared.block.Slot.{Slot}
+use Rattle.p25_packet_blocks.specs.declared.block.Slot.TheVariants.{Good, Bad}
+use Rattle.p25_packet_blocks.specs.declared.packet.Packet.{Packet as packet_type}
+use Rattle.p25_packet_blocks.specs.declared.packet.Packet.TheVariants.{Confirmed, Plain}
+use Rattle.p25_packet_blocks.specs.Reading.{packet_reading_of}
 use Rattle.p25_units.specs.UnitParts.{UnitParts}
 use Rattle.p25_units.specs.declared.unit.Body.{Body}
-use Rattle.p25_units.specs.declared.unit.Body.TheVariants.{Voice}
+use Rattle.p25_units.specs.declared.unit.Body.TheVariants.{Voice, Packet}
 use Rattle.p25_units.specs.declared.frame.Frame.{Frame}
 
 -- a voice unit that was read, as what a unit carries
@@ -17,9 +24,33 @@ abbrev pub body_from : Result VoiceUnit (List Field) → Result Body (List Field
 body_from (Ok voice) = Ok (Voice voice)
 body_from (Err fields) = Err fields
 
+-- the field that fails where the slot at a place is Bad
+abbrev pub failing_slot : ℕ → Slot → List Field
+failing_slot j (Good block) = []
+failing_slot j Bad = Block j ∷ []
+
+-- the fields that fail of the first n slots, in order
+unfoldable pub failing_slots_of : ℕ → List Slot → List Field
+failing_slots_of n slots = joined_below n (λ j. failing_slot j (get_or slots j Bad))
+
+-- the fields that fail of a packet: a block for each slot that is Bad
+unfoldable pub failing_blocks_of : packet_type → List Field
+failing_blocks_of (Confirmed packet) = failing_slots_of (length packet.slots) packet.slots
+failing_blocks_of (Plain packet) = []
+
+-- a packet as what a unit carries, where no field of it fails
+abbrev pub whole_from : packet_type → List Field → Result Body (List Field)
+whole_from packet [] = Ok (Packet packet)
+whole_from packet (field ∷ fields) = Err (field ∷ fields)
+
+-- a packet that was read, as what a unit carries: the header, the format and the packet CRC fail alone
+unfoldable pub packet_body_from : Result packet_type Field → Result Body (List Field)
+packet_body_from (Err field) = Err (field ∷ [])
+packet_body_from (Ok packet) = whole_from packet (failing_blocks_of packet)
+
 -- what a unit of a DUID carries, or exactly the fields that fail
 unfoldable pub body_reading_of : ℕ → List Bool → Result Body (List Field)
-body_reading_of duid plain = body_from (voice_reading_of duid plain)
+body_reading_of duid plain = cond (nat_eq duid 0xC) (packet_body_from (packet_reading_of plain)) (body_from (voice_reading_of duid plain))
 
 -- a frame, where what it carries was read
 abbrev pub frame_from : ℕ → List Status → Result Body (List Field) → Result Frame (List Field)

@@ -1,21 +1,35 @@
 -- The bits of units, with and without status symbols.
-use Rattle.std.specs.Prelude.{◌≡◌, ℕ, ◌*◌, ◌/◌, Bool, List, length}
+use Rattle.std.specs.Prelude.{◌≡◌, ◌≤◌, ℕ, ◌*◌, ◌/◌, Bool, List, length}
+use Rattle.std.specs.Option.{unwrap_or}
 use Rattle.p25_status.specs.Woven.{woven}
 use Rattle.p25_status.specs.declared.symbols.Status.{Status}
 use Rattle.p25_voice_units.specs.Images.{voice_image_of}
-use Rattle.p25_voice_units.specs.Lengths.{voice_duid}
+use Rattle.p25_voice_units.specs.Lengths.{voice_duid, voice_length_of}
+use Rattle.p25_voice_units.specs.Sendable.{IsSendableVoice}
+use Rattle.p25_packet_blocks.specs.Heads.{head_blocks}
+use Rattle.p25_packet_blocks.specs.Whole.{packet_head, IsWholePacket}
+use Rattle.p25_packet_blocks.specs.Lengths.{packet_plain_length}
+use Rattle.p25_packet_blocks.specs.Image.{packet_image_of}
+use Rattle.p25_packet_blocks.specs.Sendable.{IsSendable}
 use Rattle.p25_units.specs.UnitParts.{UnitParts}
 use Rattle.p25_units.specs.declared.unit.Body.{Body}
-use Rattle.p25_units.specs.declared.unit.Body.TheVariants.{Voice}
+use Rattle.p25_units.specs.declared.unit.Body.TheVariants.{Voice, Packet}
 use Rattle.p25_units.specs.declared.frame.Frame.{Frame}
 
--- the data unit identifier of what a unit carries
+-- the data unit identifier of what a unit carries: C hex of a packet
 abbrev pub body_duid : Body → ℕ
 body_duid (Voice voice) = voice_duid voice
+body_duid (Packet packet) = 0xC
+
+-- how many bits a unit has without status symbols, by what it carries
+abbrev pub body_length : Body → ℕ
+body_length (Voice voice) = unwrap_or (voice_length_of (voice_duid voice)) 0
+body_length (Packet packet) = packet_plain_length (head_blocks (packet_head packet))
 
 -- the bits of a unit without status symbols, by what it carries
 abbrev pub body_image_of : ℕ → Body → List Bool
 body_image_of nac (Voice voice) = voice_image_of nac voice
+body_image_of nac (Packet packet) = packet_image_of nac packet
 
 -- the bits of a unit without status symbols
 unfoldable pub unit_image_of : UnitParts → List Bool
@@ -27,7 +41,7 @@ sent_length plain = plain / 70 * 72
 
 -- how many bits a unit has as it is sent
 unfoldable pub frame_length_of : UnitParts → ℕ
-frame_length_of unit = sent_length (length (unit_image_of unit))
+frame_length_of unit = sent_length (body_length unit.body)
 
 -- the bits of a frame as they are sent
 unfoldable pub image_of : Frame → List Bool
@@ -39,6 +53,22 @@ frame_as nac statuses frame =
     let unit : UnitParts = record { nac = nac; body = frame.unit.body } in
     record { unit = unit; statuses = statuses }
 
--- a frame is sound: there is a status symbol for each 72 of its bits
+-- nothing fails of what a unit carries: no slot of a packet is Bad
+unfoldable pub IsWholeBody : Body → Type 0
+IsWholeBody (Voice voice) = Unit {0}
+IsWholeBody (Packet packet) = IsWholePacket packet
+
+-- a frame is sound: a packet in it is whole, and there is a status symbol for each 72 of its bits
 pub record IsSoundFrame (frame : Frame) : Type 0 where
+  pub whole : IsWholeBody frame.unit.body
   pub symbols : 72 * length frame.statuses ≡ frame_length_of frame.unit
+
+-- what a unit carries can be sent: nothing of it fails, and it has what its types keep
+unfoldable pub IsSendableBody : Body → Type 0
+IsSendableBody (Voice voice) = IsSendableVoice voice
+IsSendableBody (Packet packet) = IsSendable packet
+
+-- a unit that can be sent: its network access code has 12 bits
+pub record IsSendableUnit (unit : UnitParts) : Type 0 where
+  pub nac_fits : unit.nac ≤ 4095
+  pub body : IsSendableBody unit.body

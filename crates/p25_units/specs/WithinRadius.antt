@@ -2,18 +2,41 @@
 use Rattle.std.specs.Prelude.{◌≡◌, ◌≤◌, Bool, List, length, take}
 use Rattle.p25_bits.specs.Distance.{distance_of}
 use Rattle.p25_status.specs.Sync.{sync_slack}
-use Rattle.p25_status.specs.Woven.{statuses_of}
+use Rattle.p25_status.specs.Woven.{plain_of, statuses_of}
 use Rattle.p25_front.specs.Front.{identifier_bits}
-use Rattle.p25_units.specs.Units.{image_of}
+use Rattle.p25_voice_units.specs.WithinRadius.{IsVoiceWithin, received_voice}
+use Rattle.p25_packet_blocks.specs.Within.{AreBlocksWithin}
+use Rattle.p25_units.specs.UnitParts.{UnitParts}
+use Rattle.p25_units.specs.Units.{image_of, unit_image_of}
+use Rattle.p25_units.specs.declared.unit.Body.{Body}
+use Rattle.p25_units.specs.declared.unit.Body.TheVariants.{Voice, Packet}
 use Rattle.p25_units.specs.declared.frame.Frame.{Frame}
 
--- bits are those of a frame, but for at most 4 wrong ones in the sync and 11 among the first 63 of the identifier; the last
--- bit of the identifier, the status symbols and the nulls are free
-pub record IsWithinRadius (frame : Frame) (sent : List Bool) : Type 0 where
+-- bits are as many as a frame's, and of them at most 4 of the sync are wrong and 11 of the first 63 of the identifier
+pub record IsFrontWithin (frame : Frame) (sent : List Bool) : Type 0 where
   pub long : length sent ≡ length (image_of frame)
   pub sync : distance_of (take 48 sent) (take 48 (image_of frame)) ≤ sync_slack
   pub identifier : distance_of (take 63 (identifier_bits sent)) (take 63 (identifier_bits (image_of frame))) ≤ 11
 
--- a frame with the status symbols as received
+-- the bits behind the front, without status symbols, have few wrong ones: of a voice unit so few as its codes correct, of a
+-- packet at most two in the header block and in each half-rate block, and one in each three-quarter-rate block
+unfoldable pub IsBodyWithin : Body → List Bool → List Bool → Type 0
+IsBodyWithin (Voice voice) image plain = IsVoiceWithin voice image plain
+IsBodyWithin (Packet packet) image plain = AreBlocksWithin packet image plain
+
+-- bits are those of a frame, but for so few wrong ones; the last bit of the identifier, voice frames, status symbols and nulls
+-- are free
+pub record IsWithinRadius (frame : Frame) (sent : List Bool) : Type 0 where
+  pub front : IsFrontWithin frame sent
+  pub body : IsBodyWithin frame.unit.body (unit_image_of frame.unit) (plain_of sent)
+
+-- what a unit carries, with the voice frames as received
+abbrev pub received_body : Body → List Bool → Body
+received_body (Voice voice) plain = Voice (received_voice voice plain)
+received_body (Packet packet) plain = Packet packet
+
+-- a frame with the voice frames and the status symbols as received
 abbrev pub received_frame : Frame → List Bool → Frame
-received_frame frame sent = record frame { statuses = statuses_of sent }
+received_frame frame sent =
+    let unit : UnitParts = record { nac = frame.unit.nac; body = received_body frame.unit.body (plain_of sent) } in
+    record { unit = unit; statuses = statuses_of sent }

@@ -2,17 +2,21 @@
 
 ghost use Rattle.std.specs.Prelude.{◌≡◌, ◌+◌, ◌≤◌, Bool, List, length, drop, option_map};
 ghost use Rattle.p25_front.specs.Front.{identifier_of};
+ghost use Rattle.p25_packet_blocks.specs.UnitReading.{sent_head_of};
 ghost use Rattle.p25_units.specs.Begins.{IsBegun};
 
 use p25_bch_nid::Nid;
 use p25_bits::BitBuf;
 use p25_front::read_identifier;
+use p25_packet_blocks::{PacketHead, read_sent_head};
+use p25_status::Field;
 
-/// What was read of the unit at a place with a sync, so that nothing is read twice while its bits come: its identifier,
-/// or nothing yet. Contracts see by `IsBegun` that it is true of the bits from that place on.
+/// What was read of the unit at a place with a sync, so that nothing is read twice while its bits come: its identifier and,
+/// of a packet, its header, or nothing yet. Contracts see by `IsBegun` that it is true of the bits from that place on.
 #[derive(Clone, Copy)]
 pub struct Begun {
     nid: Option<Nid>,
+    head: Option<PacketHead>,
 }
 
 impl Begun {
@@ -20,7 +24,10 @@ impl Begun {
     pub fn new() -> Begun
         ensures { (bits : List Bool) → IsBegun result bits }
     {
-        Begun { nid: None }
+        Begun {
+            nid: None,
+            head: None,
+        }
     }
 
     // The identifier of the unit at a place, which is read where it was not.
@@ -36,6 +43,23 @@ impl Begun {
                 let read = read_identifier(bits, at);
                 self.nid = read;
                 read
+            }
+        }
+    }
+
+    // The header of the packet at a place, which is read where it was not.
+    pub(crate) fn read_head(&mut self, bits: &BitBuf, at: usize) -> Result<PacketHead, Field>
+        requires there { at + 316 ≤ length bits.now }
+        requires begun { IsBegun self.old (drop at bits.now) }
+        ensures value { result ≡ sent_head_of (drop at bits.now) }
+        ensures begun { IsBegun self.new (drop at bits.now) }
+    {
+        match self.head {
+            Some(head) => Ok(head),
+            None => {
+                let head = read_sent_head(bits, at)?;
+                self.head = Some(head);
+                Ok(head)
             }
         }
     }

@@ -6,7 +6,8 @@ ghost use Rattle.p25_units.specs.Units.{frame_length_of};
 use crate::unit::Unit;
 use p25_status::Statuses;
 
-/// A unit and its status symbols. It is sound where there is one symbol for each 72 of its sent bits.
+/// A unit and its status symbols. It is sound where a packet in it is whole and there is one symbol for each 72 of
+/// its sent bits.
 #[derive(Drop)]
 pub struct Frame {
     /// The unit.
@@ -15,7 +16,8 @@ pub struct Frame {
     pub statuses: Statuses,
 }
 
-/// Answers how many bits a unit has as it is sent, with its status symbols: 144 for a terminator.
+/// Answers how many bits a unit has as it is sent, with its status symbols: 144 for a terminator, and 360 to 25,920
+/// for a packet.
 pub fn frame_length(unit: &Unit) -> usize
     ensures value { result ≡ frame_length_of unit.now }
     ensures most { result ≤ 25920 }

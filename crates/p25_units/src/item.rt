@@ -1,17 +1,17 @@
 //! What a stream is divided into.
 
-ghost use Rattle.std.specs.Prelude.{◌≡◌, ◌+◌, ◌*◌, ◌/◌, ◌%◌, ◌≤◌, Some, length, drop};
+ghost use Rattle.std.specs.Prelude.{◌≡◌, ◌≤◌, Some, length, drop};
 ghost use Rattle.p25_bits.specs.Bits.{part};
 ghost use Rattle.p25_units.specs.Begins.{IsBegun};
 ghost use Rattle.p25_units.specs.Items.{IsSoundItem, covered, item_from, place_of, unit_item_of};
-ghost use Rattle.p25_units.specs.Needs.{need_of};
+ghost use Rattle.p25_units.specs.Needs.{kind_need, need_of};
 ghost use Rattle.p25_units.specs.declared.needs.Need.TheVariants.{Length};
 ghost use Rattle.p25_units.specs.Readings.{reading_from};
-ghost use Rattle.p25_voice_units.specs.Lengths.{voice_length_of};
 
 use crate::begun::Begun;
+use crate::fixing::fixes;
 use crate::frame::{Frame, frame_length};
-use crate::read::{fixes, read_identified};
+use crate::read::read_identified;
 use p25_bch_nid::Nid;
 use p25_bits::BitBuf;
 use p25_status::{Field, FieldList};
@@ -25,7 +25,8 @@ pub enum Item {
         frame: Frame,
         fixes: u32,
     },
-    /// A unit of `length` bits, its identifier, and exactly the fields that fail, in order.
+    /// A unit of `length` bits, its identifier, and exactly the fields that fail, in order: a packet's format or its packet
+    /// CRC alone, or each of its blocks whose CRC-9 does not agree.
     Broken {
         place: u64,
         length: u32,
@@ -94,19 +95,25 @@ pub fn unit_item(bits: &BitBuf, at: usize, count: usize, begun: Begun, place: u6
             place,
             field: Field::Nid,
         },
-        Some(nid) => identified_item(bits, at, count, &nid, place),
+        Some(nid) => identified_item(bits, at, count, &nid, &mut begun, place),
     }
 }
 
 // The same, where the identifier was read.
-fn identified_item(bits: &BitBuf, at: usize, count: usize, nid: &Nid, place: u64) -> Item
-    requires there { at + count ≤ length bits.now }
-    requires whole { count % 72 ≡ 0 }
-    requires kind { voice_length_of nid.now.duid ≡ Some (70 * (count / 72)) }
-    requires most { count ≤ 25920 }
+fn identified_item(
+    bits: &BitBuf,
+    at: usize,
+    count: usize,
+    nid: &Nid,
+    begun: &mut Begun,
+    place: u64,
+) -> Item
+    requires there { at ≤ length bits.now }
+    requires kind { kind_need nid.now.duid (drop at bits.now) ≡ Length count }
+    requires begun { IsBegun begun.old (drop at bits.now) }
     ensures { result ≡ item_from place (nid.now.nac, nid.now.duid) (part at count bits.now) (reading_from (Some (nid.now.nac, nid.now.duid)) (part at count bits.now)) }
 {
-    match read_identified(bits, at, count, nid) {
+    match read_identified(bits, at, count, nid, begun) {
         Ok(frame) => {
             let fixes = fixes(bits, at, &frame);
             Item::Whole {

@@ -1,13 +1,12 @@
 //! The laws of units. The bodies are empty: each function states what is proved.
 
-ghost use Rattle.std.specs.Prelude.{◌≡◌, ℕ, ◌≤◌, Bool, true, List, ◌++◌, Ok, Some, length, take};
-ghost use Rattle.p25_status.specs.Sync.{has_sync};
+ghost use Rattle.std.specs.Prelude.{◌≡◌, ℕ, Bool, List, ◌++◌, Ok, length};
 ghost use Rattle.p25_units.specs.Fixes.{fixes_of};
 ghost use Rattle.p25_units.specs.Items.{unit_item_of};
 ghost use Rattle.p25_units.specs.NeedLaws.{BegunStays, ItemCovers, ItemHasPlace, ItemIsNoGap, ItemIsSound, KnownStays, LengthIsThere, MoreIsFew, MoreWaits, SyncIsSeen};
 ghost use Rattle.p25_units.specs.Needs.{need_of};
 ghost use Rattle.p25_units.specs.Readings.{unit_reading_of};
-ghost use Rattle.p25_units.specs.Units.{IsSoundFrame, image_of};
+ghost use Rattle.p25_units.specs.Units.{IsSendableUnit, IsSoundFrame, image_of};
 ghost use Rattle.p25_units.specs.WholeLaws.{WholeIsNear};
 ghost use Rattle.p25_units.specs.WithinRadius.{IsWithinRadius, received_frame};
 ghost use Rattle.p25_units.specs.declared.frame.Frame.{Frame};
@@ -41,11 +40,11 @@ pub fn need_laws()
 /// - `again`: an undamaged image reads as its frame, with no fixes.
 /// - `whole_is_near`: a unit at a sync is `Whole` only where its bits lie within radius of its frame.
 pub fn unit_laws()
-    ensures length { (frame : Frame) (sent more : List Bool) → IsSoundFrame frame → frame.unit.nac ≤ 4095 → IsWithinRadius frame sent → need_of (sent ++ more) ≡ Length (length sent) }
-    ensures near { (frame : Frame) (sent : List Bool) → IsSoundFrame frame → frame.unit.nac ≤ 4095 → IsWithinRadius frame sent → unit_reading_of sent ≡ Ok (received_frame frame sent) }
-    ensures item { (place : ℕ) (frame : Frame) (sent : List Bool) → IsSoundFrame frame → frame.unit.nac ≤ 4095 → IsWithinRadius frame sent → unit_item_of place sent ≡ Whole place (received_frame frame sent) (fixes_of (received_frame frame sent) sent) }
-    ensures undamaged { (frame : Frame) → IsSoundFrame frame → IsWithinRadius frame (image_of frame) }
-    ensures again { (frame : Frame) → IsSoundFrame frame → frame.unit.nac ≤ 4095 → unit_reading_of (image_of frame) ≡ Ok frame }
-    ensures none { (frame : Frame) → IsSoundFrame frame → fixes_of frame (image_of frame) ≡ 0 }
+    ensures length { (frame : Frame) (sent more : List Bool) → IsSoundFrame frame → IsSendableUnit frame.unit → IsWithinRadius frame sent → need_of (sent ++ more) ≡ Length (length sent) }
+    ensures near { (frame : Frame) (sent : List Bool) → IsSoundFrame frame → IsSendableUnit frame.unit → IsWithinRadius frame sent → unit_reading_of sent ≡ Ok (received_frame frame sent) }
+    ensures item { (place : ℕ) (frame : Frame) (sent : List Bool) → IsSoundFrame frame → IsSendableUnit frame.unit → IsWithinRadius frame sent → unit_item_of place sent ≡ Whole place (received_frame frame sent) (fixes_of (received_frame frame sent) sent) }
+    ensures undamaged { (frame : Frame) → IsSoundFrame frame → IsSendableUnit frame.unit → IsWithinRadius frame (image_of frame) }
+    ensures again { (frame : Frame) → IsSoundFrame frame → IsSendableUnit frame.unit → unit_reading_of (image_of frame) ≡ Ok frame }
+    ensures none { (frame : Frame) → IsSoundFrame frame → IsSendableUnit frame.unit → fixes_of frame (image_of frame) ≡ 0 }
     ensures whole_is_near { WholeIsNear }
 {}

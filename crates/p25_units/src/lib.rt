@@ -18,10 +18,14 @@
 #![tactic(auto)]
 
 mod begun;
+mod fixing;
 mod frame;
 mod item;
 mod laws;
 mod needs;
+#[cfg(test)]
+mod packet_tests;
+mod packets;
 mod read;
 mod scan;
 mod sending;
@@ -31,13 +35,15 @@ mod tests;
 mod unit;
 
 pub use begun::Begun;
+pub use fixing::fixes;
 pub use frame::{Frame, frame_length};
 pub use item::{Item, unit_item};
 pub use laws::{need_laws, unit_laws};
 pub use needs::Need;
+pub use p25_packet_blocks::Packet;
 pub use p25_status::{Field, FieldList, Status, Statuses};
 pub use p25_voice_units::VoiceUnit;
-pub use read::{fixes, read_unit};
+pub use read::read_unit;
 pub use scan::{need, need_begun};
 pub use sending::{image, image_as};
 pub use terminators::terminator_laws;

@@ -3,20 +3,27 @@
 ghost use Rattle.std.specs.Prelude.{◌≡◌, ◌+◌, ◌≤◌, true, length, drop};
 ghost use Rattle.p25_status.specs.Sync.{has_sync};
 ghost use Rattle.p25_units.specs.Begins.{IsBegun};
-ghost use Rattle.p25_units.specs.Needs.{kind_need, length_need, need_of, synced_need};
+ghost use Rattle.p25_units.specs.Needs.{kind_need, length_need, need_of, packet_need, synced_need, voice_need};
+ghost use Rattle.p25_voice_units.specs.Lengths.{voice_length_of};
 
 use crate::begun::Begun;
 use crate::needs::Need;
+use crate::unit::PACKET_DUID;
 use p25_bits::BitBuf;
+use p25_packet_blocks::packet_length;
 use p25_status::{Field, is_sync};
 use p25_voice_units::voice_length;
 
 // The bits from which an identifier can be read: those up to its last, with the status symbol within it.
 const IDENTIFIED: usize = 114;
 
+// The bits from which the header of a packet can be read: those up to the last of its block, with four status symbols.
+const HEADED: usize = 316;
+
 /// Answers what the bits from place `at` on need, the first that holds: 48 bits; a sync (`NoSync`); 114 bits; a network
-/// identifier that can be read (`NoLength` of `Nid`) and is that of a known unit (`NoLength` of `Duid`); all bits of
-/// that unit. `More` tells how many bits have to be there from the place on.
+/// identifier that can be read (`NoLength` of `Nid`) and is that of a known unit (`NoLength` of `Duid`); of a packet 316
+/// bits, and a header whose CRC agrees (`NoLength` of `PacketHeader`); all bits of that unit. `More` tells how many bits
+/// have to be there from the place on.
 pub fn need(bits: &BitBuf, at: usize) -> Need
     requires { at ≤ length bits.now }
     ensures { result ≡ need_of (drop at bits.now) }
@@ -52,18 +59,47 @@ fn need_at_sync(bits: &BitBuf, at: usize, begun: &mut Begun) -> Need
     }
     match begun.identify(bits, at) {
         None => Need::NoLength(Field::Nid),
-        Some(nid) => need_of_kind(nid.duid, bits, at),
+        Some(nid) => need_of_kind(nid.duid, bits, at, begun),
     }
 }
 
 // What the unit of a DUID needs.
-fn need_of_kind(duid: u8, bits: &BitBuf, at: usize) -> Need
-    requires { at ≤ length bits.now }
-    ensures { result ≡ kind_need duid (drop at bits.now) }
+fn need_of_kind(duid: u8, bits: &BitBuf, at: usize, begun: &mut Begun) -> Need
+    requires there { at ≤ length bits.now }
+    requires begun { IsBegun begun.old (drop at bits.now) }
+    ensures need { result ≡ kind_need duid (drop at bits.now) }
+    ensures begun { IsBegun begun.new (drop at bits.now) }
+{
+    if duid == PACKET_DUID {
+        return need_of_packet(bits, at, begun);
+    }
+    need_of_voice(duid, bits.len() - at)
+}
+
+// What the voice unit of a DUID needs where so many bits are there.
+fn need_of_voice(duid: u8, have: usize) -> Need
+    ensures { result ≡ voice_need (voice_length_of duid) have }
 {
     match voice_length(duid) {
         None => Need::NoLength(Field::Duid),
-        Some(plain) => need_of_length(plain / 70 * 72, bits.len() - at),
+        Some(plain) => need_of_length(plain / 70 * 72, have),
+    }
+}
+
+// What a packet needs.
+fn need_of_packet(bits: &BitBuf, at: usize, begun: &mut Begun) -> Need
+    requires there { at ≤ length bits.now }
+    requires begun { IsBegun begun.old (drop at bits.now) }
+    ensures need { result ≡ packet_need (drop at bits.now) }
+    ensures begun { IsBegun begun.new (drop at bits.now) }
+{
+    let have = bits.len() - at;
+    if have < HEADED {
+        return Need::More(HEADED);
+    }
+    match begun.read_head(bits, at) {
+        Err(field) => Need::NoLength(field),
+        Ok(head) => need_of_length(packet_length(&head), have),
     }
 }
 

@@ -2,20 +2,23 @@
 
 ghost use Rattle.std.specs.Prelude.{◌≡◌, ◌<◌, ◌≤◌, Ok, length};
 ghost use Rattle.p25_units.specs.Readings.{unit_reading_of};
-ghost use Rattle.p25_units.specs.Units.{IsSoundFrame, body_image_of, frame_as, frame_length_of, image_of, unit_image_of};
+ghost use Rattle.p25_units.specs.Units.{IsSendableBody, IsSendableUnit, IsSoundFrame, IsWholeBody, body_image_of, body_length, frame_as, frame_length_of, image_of, unit_image_of};
 
 use crate::frame::Frame;
 use crate::unit::{Body, Unit};
 use p25_bits::BitBuf;
+use p25_packet_blocks::packet_image;
 use p25_status::{Statuses, weave};
 use p25_voice_units::voice_image;
 
-/// Sets `out` to the sent bits of a frame, first to last: those of its unit with a status symbol after every 70.
+/// Sets `out` to the sent bits of a frame, first to last: those of its unit with a status symbol after every 70. No slot of a
+/// packet is Bad, and there is a status symbol for each 72 of the bits.
 /// TIA-102.BAAA, Status Symbols.
 pub fn image(frame: &Frame, out: &mut BitBuf)
     requires { IsSoundFrame frame.now }
     ensures list { out.new ≡ image_of frame.now }
     ensures len { length out.new ≡ frame_length_of frame.now.unit }
+    ensures sendable { IsSendableUnit frame.now.unit }
     ensures again { unit_reading_of out.new ≡ Ok frame.now }
 {
     let mut plain = BitBuf::new();
@@ -38,18 +41,24 @@ pub fn image_as(frame: &Frame, nac: u16, statuses: &Statuses, out: &mut BitBuf)
 
 // The bits of a unit without status symbols.
 fn unit_image(unit: &Unit, out: &mut BitBuf)
+    requires { IsWholeBody unit.now.body }
     ensures list { out.new ≡ unit_image_of unit.now }
-    ensures nac { unit.now.nac ≤ 4095 }
+    ensures len { length out.new ≡ body_length unit.now.body }
+    ensures sendable { IsSendableUnit unit.now }
 {
     body_image(unit.nac(), unit.body(), out)
 }
 
 // The same by what it carries.
 fn body_image(nac: u16, body: &Body, out: &mut BitBuf)
-    requires { nac < 4096 }
-    ensures { out.new ≡ body_image_of nac body.now }
+    requires nac { nac < 4096 }
+    requires whole { IsWholeBody body.now }
+    ensures list { out.new ≡ body_image_of nac body.now }
+    ensures len { length out.new ≡ body_length body.now }
+    ensures sendable { IsSendableBody body.now }
 {
     match body {
         Body::Voice(voice) => voice_image(nac, voice, out),
+        Body::Packet(packet) => packet_image(nac, packet, out),
     }
 }

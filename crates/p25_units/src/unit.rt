@@ -1,18 +1,23 @@
 //! A unit: whose it is, and what it carries.
 
-ghost use Rattle.std.specs.Prelude.{◌≡◌, ◌<◌, ◌≤◌, Some};
-ghost use Rattle.p25_units.specs.Units.{body_duid};
-ghost use Rattle.p25_voice_units.specs.Lengths.{voice_length_of};
+ghost use Rattle.std.specs.Prelude.{◌≡◌, ◌<◌, ◌≤◌};
+ghost use Rattle.p25_units.specs.Units.{body_duid, body_length};
 
 use p25_bch_nid::Nid;
+use p25_packet_blocks::{Packet, packet_length};
 use p25_voice_units::VoiceUnit;
 use std::marker::Model;
+
+// The data unit identifier of a packet.
+pub(crate) const PACKET_DUID: u8 = 0xC;
 
 /// What a unit carries, by its kind.
 #[derive(Drop)]
 pub enum Body {
     /// A voice unit.
     Voice(VoiceUnit),
+    /// A packet of data.
+    Packet(Packet),
 }
 
 impl Body {
@@ -23,16 +28,18 @@ impl Body {
     {
         match self {
             Body::Voice(voice) => voice.duid(),
+            Body::Packet(_) => PACKET_DUID,
         }
     }
 
     // How many bits the unit has without status symbols.
     pub(crate) fn length(&self) -> usize
-        ensures value { voice_length_of (body_duid self.now) ≡ Some result }
+        ensures value { result ≡ body_length self.now }
         ensures most { result ≤ 25200 }
     {
         match self {
             Body::Voice(voice) => voice.length(),
+            Body::Packet(packet) => packet_length(&packet.head()) / 72 * 70,
         }
     }
 }

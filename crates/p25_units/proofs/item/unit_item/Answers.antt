@@ -1,7 +1,7 @@
 use Rattle.std.proofs.Common.{Some, ap, sym, ◌∙◌, arith, subst, drop}
 use Rattle.p25_bits.specs.Bits.{part}
-use Rattle.p25_voice_units.specs.Lengths.{voice_length_of}
 use Rattle.p25_units.specs.Items.{IsSoundItem, item_from}
+use Rattle.p25_units.specs.Needs.{kind_need}
 use Rattle.p25_units.specs.Readings.{reading_from}
 use Rattle.p25_units.specs.declared.item.Item.{Item}
 use Rattle.p25_units.proofs.ItemsLaws.{IsSoundItem-unit_item_of}
@@ -13,12 +13,12 @@ identify-requires-clause-there c =
     let is = IsUnitAt-from c.args.bits.now c.args.at c.args.count c.requires.there c.requires.needed in
     omega (arith, is.there, is.enough)
 
-pub identified_item-requires : goal.identified_item-requires
-identified_item-requires c =
+pub identified_item-requires-clause-kind : goal.identified_item-requires-clause-kind
+identified_item-requires-clause-kind c =
     let bits = c.args.bits.now in
     let is = IsUnitAt-from bits c.args.at c.args.count c.requires.there c.requires.needed in
     let same = same_nid bits c.args.at c.args.count is c.in-Some.nid c.in-Some.ensures.value in
-    record { there = is.there; whole = is.whole; kind = ap (λ nid. voice_length_of nid.1) same ∙ is.kind; most = is.most }
+    ap (λ nid. kind_need nid.1 (drop c.args.at bits)) same ∙ is.kind
 
 pub returns-in-None-clause-item : goal.returns-in-None-clause-item
 returns-in-None-clause-item c =

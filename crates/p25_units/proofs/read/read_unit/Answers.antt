@@ -1,6 +1,6 @@
-use Rattle.std.proofs.Common.{Some, ap, sym, ◌∙◌, arith}
+use Rattle.std.proofs.Common.{Some, ap, sym, ◌∙◌, arith, drop}
 use Rattle.p25_bits.specs.Bits.{part}
-use Rattle.p25_voice_units.specs.Lengths.{voice_length_of}
+use Rattle.p25_units.specs.Needs.{kind_need}
 use Rattle.p25_units.specs.Readings.{reading_from}
 use Rattle.p25_units.proofs.ReadSteps.{IsUnitAt-from, same_nid, some_nid, reading_of_unit}
 use Rattle.p25_units.proofs.read.read_unit.Goals as goal
@@ -10,12 +10,12 @@ read_identifier-requires c =
     let is = IsUnitAt-from c.args.bits.now c.args.at c.args.count c.requires.there c.requires.needed in
     omega (arith, is.there, is.enough)
 
-pub read_identified-requires : goal.read_identified-requires
-read_identified-requires c =
+pub read_identified-requires-clause-kind : goal.read_identified-requires-clause-kind
+read_identified-requires-clause-kind c =
     let bits = c.args.bits.now in
     let is = IsUnitAt-from bits c.args.at c.args.count c.requires.there c.requires.needed in
     let same = same_nid bits c.args.at c.args.count is c.in-Some.nid c.in-Some.ensures in
-    record { there = is.there; whole = is.whole; kind = ap (λ nid. voice_length_of nid.1) same ∙ is.kind; most = is.most }
+    ap (λ nid. kind_need nid.1 (drop c.args.at bits)) same ∙ is.kind
 
 pub returns-in-None : goal.returns-in-None
 returns-in-None c =

@@ -1,18 +1,17 @@
-use Rattle.std.proofs.Common.{sym, ◌∙◌, arith, drop, length-drop}
-use Rattle.p25_units.proofs.UnitsLaws.{IsSentLength-voice}
-use Rattle.p25_units.proofs.NeedsLaws.{kind_need-other}
-use Rattle.p25_units.proofs.ReadSteps.{need-kind}
+use Rattle.std.proofs.Common.{ap, sym, ◌∙◌, arith, drop, length-drop}
+use Rattle.p25_voice_units.specs.Lengths.{voice_length_of}
+use Rattle.p25_units.specs.Needs.{kind_need, voice_need}
+use Rattle.p25_units.proofs.NeedsLaws.{kind_need-packet, kind_need-unpacked}
 use Rattle.p25_units.proofs.scan.need_of_kind.Goals as goal
 
-pub overflow_mul-plain : goal.overflow_mul-plain
-overflow_mul-plain c =
-    let is = IsSentLength-voice c.args.duid c.in-Some.plain (sym c.in-Some.ensures) in
-    omega (arith, is.sent, is.most)
+pub returns-then-duid-eq-PACKET_DUID-clause-need : goal.returns-then-duid-eq-PACKET_DUID-clause-need
+returns-then-duid-eq-PACKET_DUID-clause-need c =
+    let rest = drop c.args.at c.args.bits.now in
+    c.need_of_packet.ensures.need ∙ sym (kind_need-packet rest) ∙ ap (λ duid. kind_need duid rest) (sym c.if-duid-eq-PACKET_DUID.true)
 
-pub returns-in-None : goal.returns-in-None
-returns-in-None c = sym (kind_need-other c.args.duid (drop c.args.at c.args.bits.now) (sym c.in-None.ensures))
-
-pub returns-in-Some : goal.returns-in-Some
-returns-in-Some c =
-    c.need_of_length.ensures
-    ∙ need-kind c.args.duid c.in-Some.plain _ (drop c.args.at c.args.bits.now) (sym c.in-Some.ensures) (omega (arith, c.len.ensures.value, length-drop c.args.at c.args.bits.now))
+pub returns-clause-need : goal.returns-clause-need
+returns-clause-need c =
+    let rest = drop c.args.at c.args.bits.now in
+    c.need_of_voice.ensures
+    ∙ ap (voice_need (voice_length_of c.args.duid)) (omega (arith, c.len.ensures.value, length-drop c.args.at c.args.bits.now))
+    ∙ sym (kind_need-unpacked c.args.duid rest c.if-duid-eq-PACKET_DUID.false)

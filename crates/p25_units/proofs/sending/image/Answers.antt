@@ -1,14 +1,13 @@
-use Rattle.std.proofs.Common.{ap, ◌∙◌}
+use Rattle.std.proofs.Common.{ap, ◌∙◌, length}
 use Rattle.p25_status.specs.Woven.{woven}
 use Rattle.p25_units.specs.Readings.{unit_reading_of}
 use Rattle.p25_units.specs.Units.{image_of}
 use Rattle.p25_units.proofs.UnitsLaws.{symbols-sound, length-image_of}
 use Rattle.p25_units.proofs.WithinRadiusLaws.{unit_reading_of-image_of}
-use Rattle.std.proofs.Common.{length}
 use Rattle.p25_units.proofs.sending.image.Goals as goal
 
 pub weave-requires : goal.weave-requires
-weave-requires c = ap length c.unit_image.ensures.list ∙ symbols-sound c.args.frame.now c.requires
+weave-requires c = c.unit_image.ensures.len ∙ symbols-sound c.args.frame.now c.requires
 
 is_image : goal.returns-clause-list
 unfolding image_of
@@ -18,7 +17,7 @@ pub returns-clause-list : goal.returns-clause-list
 returns-clause-list c = is_image c
 
 pub returns-clause-len : goal.returns-clause-len
-returns-clause-len c = ap length (is_image c) ∙ length-image_of c.args.frame.now c.requires
+returns-clause-len c = ap length (is_image c) ∙ length-image_of c.args.frame.now c.requires c.unit_image.ensures.sendable
 
 pub returns-clause-again : goal.returns-clause-again
-returns-clause-again c = ap unit_reading_of (is_image c) ∙ unit_reading_of-image_of c.args.frame.now c.requires c.unit_image.ensures.nac
+returns-clause-again c = ap unit_reading_of (is_image c) ∙ unit_reading_of-image_of c.args.frame.now c.requires c.unit_image.ensures.sendable

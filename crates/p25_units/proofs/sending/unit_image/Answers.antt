@@ -4,4 +4,4 @@ use Rattle.p25_units.proofs.sending.unit_image.Goals as goal
 
 pub returns-clause-list : goal.returns-clause-list
 unfolding unit_image_of
-returns-clause-list c = c.body_image.ensures ∙ ap₂ body_image_of c.nac.ensures.value c.body.ensures
+returns-clause-list c = c.body_image.ensures.list ∙ ap₂ body_image_of c.nac.ensures.value c.body.ensures

@@ -3,4 +3,4 @@ use Rattle.p25_units.proofs.BegunSteps.{IsBegun-none}
 use Rattle.p25_units.proofs.begun.Begun.new.Goals as goal
 
 pub returns : goal.returns
-returns c = λ bits. IsBegun-none _ bits refl
+returns c = λ bits. IsBegun-none _ bits refl refl

@@ -1,0 +1,295 @@
+-- A packet that was read and in which no slot is Bad can be sent, and is what the first nearest paths carry. By cases of what
+-- was read: where the checks agree, the octets that were read are those that are written.
+use Rattle.std.proofs.Common.{◌≡◌, ◌≢◌, ℕ, ◌+◌, ◌-◌, ◌*◌, ◌/◌, ◌%◌, ◌<◌, ◌^◌, inl, inr, Bool, true, false, ◌||◌, eqb, List, [], ◌∷◌, ◌++◌, length, take, drop, get_or, Result, Ok, Err, refl, ap, ap₂, sym, subst, ◌∙◌, arith, length-drop, take-append-drop}
+use Rattle.std.proofs.lemmas.Bool.{cases_Bool, cases_eq, cond-false, cond-true, eqb-true, ne_eqb}
+use Rattle.std.proofs.lemmas.List.{length-take-le}
+use Rattle.std.proofs.lemmas.List.Elements.{All-head, All-tail, All-take, All-drop}
+use Rattle.p25_bits.specs.Bits.{part}
+use Rattle.p25_bits.specs.Numbers.{octets_number, number_after}
+use Rattle.p25_bits.proofs.NumbersLaws.{All-numbers_from, All-joined_below, get_or-each_below, part-joined_below}
+use Rattle.p25_status.specs.declared.fields.Field.{Field}
+use Rattle.p25_status.specs.declared.fields.Field.TheVariants.{PacketHeader, Format, PacketCrc}
+use Rattle.p25_trellis.specs.Nearest.{nearest_octets, half_octets, three_quarter_octets}
+use Rattle.p25_crc.specs.Values.{crc9_of, crc16_of, crc32_of}
+use Rattle.p25_packet_blocks.specs.declared.head.PacketHead.{PacketHead}
+use Rattle.p25_packet_blocks.specs.declared.block.Block.{Block}
+use Rattle.p25_packet_blocks.specs.declared.block.Slot.{Slot}
+use Rattle.p25_packet_blocks.specs.declared.block.Slot.TheVariants.{Good, Bad}
+use Rattle.p25_packet_blocks.specs.declared.packet.Packet.{Packet}
+use Rattle.p25_packet_blocks.specs.declared.packet.Packet.TheVariants.{Confirmed, Plain}
+use Rattle.p25_packet_blocks.specs.Heads.{head_format, head_blocks}
+use Rattle.p25_packet_blocks.specs.Kinds.{IsPlainFormat}
+use Rattle.p25_packet_blocks.specs.Whole.{packet_head, AreGood, IsWholePacket}
+use Rattle.p25_packet_blocks.specs.Reading.{header_bits, block_bits, head_from, head_reading_of, slot_from, slots_read, octets_read, plain_from, packet_of_head, packet_from, packet_reading_of}
+use Rattle.p25_packet_blocks.specs.Image.{two_octets, four_octets, header_octets, confirmed_octets, checked_octets}
+use Rattle.p25_packet_blocks.specs.Sendable.{AreOctets, IsHead, IsDataBlock, IsSendable}
+use Rattle.p25_packet_blocks.specs.WholeReading.{IsBlockRead, IsPacketRead}
+use Rattle.p25_packet_blocks.proofs.ReadingLaws.{head_reading_of-is, length-slots_read, length-half_octets, length-three_quarter_octets, length-octets_read, packet_of_head-confirmed, packet_of_head-plain, packet_of_head-other}
+use Rattle.p25_packet_blocks.proofs.ImageLaws.{header_octets-is, confirmed_octets-is, checked_octets-is}
+
+-- Octets are those of the number that they write.
+
+abbrev IsOctet : ℕ → Type 0
+IsOctet number = number < 256
+
+two_again : (octets : List ℕ) → length octets ≡ 2 → AreOctets octets → two_octets (octets_number octets) ≡ octets
+unfolding octets_number number_after
+two_again (a ∷ b ∷ []) long small =
+    let first = All-head IsOctet a (b ∷ []) small in
+    let second = All-head IsOctet b [] (All-tail IsOctet a (b ∷ []) small) in
+    let high : (256 * (256 * 0 + a) + b) / 256 ≡ a = omega (arith, first, second) in
+    let low : (256 * (256 * 0 + a) + b) % 256 ≡ b = omega (arith, first, second) in
+    ap₂ (λ (x y : ℕ). x ∷ y ∷ []) high low
+two_again [] long small = absurd (omega (arith, long))
+two_again (a ∷ []) long small = absurd (omega (arith, long))
+two_again (a ∷ b ∷ c ∷ rest) long small = absurd (omega (arith, long))
+
+four_again : (octets : List ℕ) → length octets ≡ 4 → AreOctets octets → four_octets (octets_number octets) ≡ octets
+unfolding octets_number number_after
+four_again (a ∷ b ∷ c ∷ d ∷ []) long small =
+    let second = All-tail IsOctet a (b ∷ c ∷ d ∷ []) small in
+    let third = All-tail IsOctet b (c ∷ d ∷ []) second in
+    let a_fits = All-head IsOctet a (b ∷ c ∷ d ∷ []) small in
+    let b_fits = All-head IsOctet b (c ∷ d ∷ []) second in
+    let c_fits = All-head IsOctet c (d ∷ []) third in
+    let d_fits = All-head IsOctet d [] (All-tail IsOctet c (d ∷ []) third) in
+    let n = 256 * (256 * (256 * (256 * 0 + a) + b) + c) + d in
+    let one : n / 2 ^ 24 ≡ a = omega (arith, a_fits, b_fits, c_fits, d_fits) in
+    let two : n / 2 ^ 16 % 256 ≡ b = omega (arith, a_fits, b_fits, c_fits, d_fits) in
+    let three : n / 2 ^ 8 % 256 ≡ c = omega (arith, a_fits, b_fits, c_fits, d_fits) in
+    let four : n % 256 ≡ d = omega (arith, a_fits, b_fits, c_fits, d_fits) in
+    ap₂ (λ (x : ℕ) (rest : List ℕ). x ∷ rest) one (ap₂ (λ (x : ℕ) (rest : List ℕ). x ∷ rest) two (ap₂ (λ (x y : ℕ). x ∷ y ∷ []) three four))
+four_again [] long small = absurd (omega (arith, long))
+four_again (a ∷ []) long small = absurd (omega (arith, long))
+four_again (a ∷ b ∷ []) long small = absurd (omega (arith, long))
+four_again (a ∷ b ∷ c ∷ []) long small = absurd (omega (arith, long))
+four_again (a ∷ b ∷ c ∷ d ∷ e ∷ rest) long small = absurd (omega (arith, long))
+
+-- The header.
+
+-- a header that was read has what every header keeps, and its octets are those that were read
+pub record IsHeadOf (octets : List ℕ) (head : PacketHead) : Type 0 where
+  pub is_head : IsHead head
+  pub octets_are : octets ≡ header_octets head
+
+IsHeadOf-octets : (octets : List ℕ) → length octets ≡ 12 → AreOctets octets → octets_number (drop 10 octets) ≡ crc16_of (take 10 octets) → IsHeadOf octets (record { 0 = take 10 octets })
+IsHeadOf-octets octets long small agrees =
+    let head : PacketHead = record { 0 = take 10 octets } in
+    let last : length (drop 10 octets) ≡ 2 = omega (arith, length-drop 10 octets) in
+    record {
+      is_head = record { long = length-take-le 10 octets (omega arith); small = All-take IsOctet 10 octets small };
+      octets_are =
+          sym (take-append-drop 10 octets)
+          ∙ ap (λ (xs : List ℕ). take 10 octets ++ xs) (sym (two_again (drop 10 octets) last (All-drop IsOctet 10 octets small)) ∙ ap two_octets agrees)
+          ∙ sym (header_octets-is head);
+    }
+
+IsHeadOf-from : (octets : List ℕ) (head : PacketHead) → length octets ≡ 12 → AreOctets octets → head_from octets ≡ Ok head → IsHeadOf octets head
+unfolding head_from
+IsHeadOf-from octets head long small is =
+    let test = eqb (octets_number (drop 10 octets)) (crc16_of (take 10 octets)) in
+    let made : PacketHead = record { 0 = take 10 octets } in
+    elim (cases_Bool test) [
+      | inl agrees ↦
+          let two : Ok made ≡ Ok head = sym (cond-true test (Ok made) (Err PacketHeader) agrees) ∙ is in
+          let same : made ≡ head = cc in
+          subst (IsHeadOf octets) same (IsHeadOf-octets octets long small (eqb-true _ _ agrees))
+      | inr differs ↦ let two : Err PacketHeader ≡ Ok head = sym (cond-false test (Ok made) (Err PacketHeader) differs) ∙ is in absurd (cc)
+    ]
+
+AreOctets-half : (bits : List Bool) → AreOctets (half_octets bits)
+unfolding nearest_octets
+AreOctets-half bits = All-numbers_from 8 12 _
+
+AreOctets-three_quarter : (bits : List Bool) → AreOctets (three_quarter_octets bits)
+unfolding nearest_octets
+AreOctets-three_quarter bits = All-numbers_from 8 18 _
+
+pub IsHeadOf-reading : (plain : List Bool) (head : PacketHead) → head_reading_of plain ≡ Ok head → IsHeadOf (half_octets (header_bits plain)) head
+IsHeadOf-reading plain head is = IsHeadOf-from (half_octets (header_bits plain)) head (length-half_octets (header_bits plain)) (AreOctets-half (header_bits plain)) (sym (head_reading_of-is plain) ∙ is)
+
+-- A confirmed block.
+
+record IsBlockOf (octets : List ℕ) (block : Block) : Type 0 where
+  pub is_block : IsDataBlock block
+  pub octets_are : octets ≡ confirmed_octets block
+
+IsBlockOf-octets : (a b : ℕ) (rest : List ℕ) → length rest ≡ 16 → AreOctets (a ∷ b ∷ rest) → 256 * (a % 2) + b ≡ crc9_of (a / 2) rest → IsBlockOf (a ∷ b ∷ rest) (record { serial = a / 2; octets = rest })
+IsBlockOf-octets a b rest long small agrees =
+    let block : Block = record { serial = a / 2; octets = rest } in
+    let first = All-head IsOctet a (b ∷ rest) small in
+    let behind = All-tail IsOctet a (b ∷ rest) small in
+    let second = All-head IsOctet b rest behind in
+    let high : (512 * (a / 2) + crc9_of (a / 2) rest) / 256 ≡ a = omega (arith, agrees, first, second) in
+    let low : (512 * (a / 2) + crc9_of (a / 2) rest) % 256 ≡ b = omega (arith, agrees, first, second) in
+    record {
+      is_block = record { serial_fits = omega (arith, first); long = long; small = All-tail IsOctet b rest behind };
+      octets_are = sym (confirmed_octets-is block ∙ ap₂ (λ (x y : ℕ). x ∷ y ∷ rest) high low);
+    }
+
+IsBlockOf-cons : (a b : ℕ) (rest : List ℕ) (block : Block) → length rest ≡ 16 → AreOctets (a ∷ b ∷ rest) → slot_from (a ∷ b ∷ rest) ≡ Good block → IsBlockOf (a ∷ b ∷ rest) block
+unfolding slot_from
+IsBlockOf-cons a b rest block long small is =
+    let test = eqb (256 * (a % 2) + b) (crc9_of (a / 2) rest) in
+    let made : Block = record { serial = a / 2; octets = rest } in
+    elim (cases_Bool test) [
+      | inl agrees ↦
+          let two : Good made ≡ Good block = sym (cond-true test (Good made) Bad agrees) ∙ is in
+          let same : made ≡ block = cc in
+          subst (IsBlockOf (a ∷ b ∷ rest)) same (IsBlockOf-octets a b rest long small (eqb-true _ _ agrees))
+      | inr differs ↦ let two : Bad ≡ Good block = sym (cond-false test (Good made) Bad differs) ∙ is in absurd (cc)
+    ]
+
+IsBlockOf-from : (octets : List ℕ) (block : Block) → length octets ≡ 18 → AreOctets octets → slot_from octets ≡ Good block → IsBlockOf octets block
+IsBlockOf-from [] block long small is = absurd (omega (arith, long))
+IsBlockOf-from (a ∷ []) block long small is = absurd (omega (arith, long))
+IsBlockOf-from (a ∷ b ∷ rest) block long small is = IsBlockOf-cons a b rest block (omega (arith, long)) small is
+
+-- a slot that is not Bad has a block
+good_block : (slot : Slot) → slot ≢ Bad → (block : Block) × (slot ≡ Good block)
+good_block (Good block) some = (block, refl)
+good_block Bad some = absurd (some refl)
+
+-- The blocks to follow.
+
+-- what was read of the blocks to follow can be sent, and is what the first nearest paths carry
+pub record IsReadOf (head : PacketHead) (plain : List Bool) (packet : Packet) : Type 0 where
+  pub head_is : packet_head packet ≡ head
+  pub sendable : IsSendable packet
+  pub blocks : (j : ℕ) → j < head_blocks head → IsBlockRead packet j (block_bits plain j)
+
+-- of a confirmed packet
+module _ (head : PacketHead) (plain : List Bool) where
+  abbrev slot_octets : ℕ → List ℕ
+  slot_octets j = three_quarter_octets (block_bits plain j)
+
+  slot_is : (j : ℕ) → j < head_blocks head → get_or (slots_read (head_blocks head) plain) j Bad ≡ slot_from (slot_octets j)
+  unfolding slots_read
+  slot_is j inside = get_or-each_below (head_blocks head) (λ i. slot_from (slot_octets i)) j Bad inside
+
+  block_is : AreGood (slots_read (head_blocks head) plain) → (j : ℕ) → j < head_blocks head
+      → (block : Block) × (get_or (slots_read (head_blocks head) plain) j Bad ≡ Good block) × IsBlockOf (slot_octets j) block
+  block_is good j inside =
+      let found = good_block (get_or (slots_read (head_blocks head) plain) j Bad) (good.at j (omega (arith, length-slots_read (head_blocks head) plain))) in
+      let octets = slot_octets j in
+      (found.0, found.1, IsBlockOf-from octets found.0 (length-three_quarter_octets (block_bits plain j)) (AreOctets-three_quarter (block_bits plain j)) (sym (slot_is j inside) ∙ found.1))
+
+  IsReadOf-confirmed : IsHead head → head_format head ≡ 0x16 → AreGood (slots_read (head_blocks head) plain) → IsReadOf head plain (Confirmed (record { head = head; slots = slots_read (head_blocks head) plain }))
+  unfolding IsSendable IsBlockRead
+  IsReadOf-confirmed is_head format good = record {
+    head_is = refl;
+    sendable = record {
+      kind = record { format = format; count = length-slots_read (head_blocks head) plain };
+      head = is_head;
+      good = record { at = λ j inside. let is = block_is good j inside in (is.0, is.1, is.2.is_block) };
+    };
+    blocks = λ j inside. let is = block_is good j inside in (is.0, is.1, is.2.octets_are);
+  }
+
+-- of another packet
+module _ (head : PacketHead) (plain : List Bool) where
+  abbrev all_octets : List ℕ
+  all_octets = octets_read (head_blocks head) plain
+
+  abbrev carried : List ℕ
+  carried = take (12 * head_blocks head - 4) all_octets
+
+  small_octets : AreOctets all_octets
+  unfolding octets_read
+  small_octets = All-joined_below IsOctet (head_blocks head) _ (λ j inside. AreOctets-half (block_bits plain j))
+
+  long_carried : length carried ≡ 12 * head_blocks head - 4
+  long_carried = length-take-le (12 * head_blocks head - 4) all_octets (omega (arith, length-octets_read (head_blocks head) plain))
+
+  -- where there are blocks to follow, their octets are those that are written
+  checked_again : 0 < head_blocks head → octets_number (drop (12 * head_blocks head - 4) all_octets) ≡ crc32_of carried → checked_octets carried ≡ all_octets
+  checked_again some agrees =
+      let count = 12 * head_blocks head - 4 in
+      let last : length (drop count all_octets) ≡ 4 = omega (arith, length-drop count all_octets, length-octets_read (head_blocks head) plain) in
+      checked_octets-is carried
+      ∙ ap (λ (xs : List ℕ). carried ++ xs) (ap four_octets (sym agrees) ∙ four_again (drop count all_octets) last (All-drop IsOctet count all_octets small_octets))
+      ∙ take-append-drop count all_octets
+
+  octets_of_block : (j : ℕ) → j < head_blocks head → part (12 * j) 12 all_octets ≡ half_octets (block_bits plain j)
+  unfolding octets_read
+  octets_of_block j inside = part-joined_below 12 (head_blocks head) (λ i. half_octets (block_bits plain i)) j (λ i below. length-half_octets (block_bits plain i)) inside
+
+  IsReadOf-plain : IsHead head → IsPlainFormat (head_format head) → (0 < head_blocks head → octets_number (drop (12 * head_blocks head - 4) all_octets) ≡ crc32_of carried)
+      → IsReadOf head plain (Plain (record { head = head; octets = carried }))
+  unfolding IsSendable IsBlockRead
+  IsReadOf-plain is_head format agrees = record {
+    head_is = refl;
+    sendable = record {
+      kind = record { format = format; count = long_carried };
+      head = is_head;
+      small = All-take IsOctet (12 * head_blocks head - 4) all_octets small_octets;
+    };
+    blocks = λ j inside. let some : 0 < head_blocks head = omega arith in
+        sym (octets_of_block j inside) ∙ ap (λ (xs : List ℕ). part (12 * j) 12 xs) (sym (checked_again some (agrees some)));
+  }
+
+  IsReadOf-plain_from : (packet : Packet) → IsHead head → IsPlainFormat (head_format head) → plain_from head all_octets ≡ Ok packet → IsReadOf head plain packet
+  unfolding plain_from
+  IsReadOf-plain_from packet is_head format is =
+      let made : Packet = Plain (record { head = head; octets = carried }) in
+      let agree = eqb (octets_number (drop (12 * head_blocks head - 4) all_octets)) (crc32_of carried) in
+      let test = eqb (head_blocks head) 0 || agree in
+      elim (cases_Bool test) [
+        | inr none ↦ let two : Err PacketCrc ≡ Ok packet = sym (cond-false test (Ok made) (Err PacketCrc) none) ∙ is in absurd (cc)
+        | inl some ↦
+            let two : Ok made ≡ Ok packet = sym (cond-true test (Ok made) (Err PacketCrc) some) ∙ is in
+            let same : made ≡ packet = cc in
+            subst (IsReadOf head plain) same (IsReadOf-plain is_head format (λ blocks. eqb-true _ _ (right_of (eqb (head_blocks head) 0) agree some (ne_eqb (head_blocks head) 0 (λ zero'. omega arith)))))
+      ]
+    where
+      right_of : (a b : Bool) → (a || b) ≡ true → a ≡ false → b ≡ true
+      right_of true b either none = absurd (cc)
+      right_of false b either none = either
+
+-- by the format
+IsReadOf-head : (head : PacketHead) (plain : List Bool) (packet : Packet) → IsHead head → packet_of_head head plain ≡ Ok packet → IsWholePacket packet → IsReadOf head plain packet
+unfolding IsWholePacket
+IsReadOf-head head plain packet is_head is whole =
+    let format = head_format head in
+    elim (cases_eq format 0x16) [
+      | inl confirmed ↦
+          let made : Packet = Confirmed (record { head = head; slots = slots_read (head_blocks head) plain }) in
+          let two : Ok made ≡ Ok packet = sym (packet_of_head-confirmed head plain confirmed) ∙ is in
+          let same : made ≡ packet = cc in
+          let good = subst IsWholePacket (sym same) whole in
+          subst (IsReadOf head plain) same (IsReadOf-confirmed head plain is_head confirmed good)
+      | inr not_16 ↦ elim (cases_eq format 0x15) [
+        | inl data' ↦ IsReadOf-plain_from head plain packet is_head (inl data') (sym (packet_of_head-plain head plain (inl data')) ∙ is)
+        | inr not_15 ↦ elim (cases_eq format 0x03) [
+          | inl response ↦ IsReadOf-plain_from head plain packet is_head (inr response) (sym (packet_of_head-plain head plain (inr response)) ∙ is)
+          | inr not_03 ↦ let two : Err Format ≡ Ok packet = sym (packet_of_head-other head plain not_16 not_15 not_03) ∙ is in absurd (cc)
+        ]
+      ]
+    ]
+
+-- The packet of a unit.
+
+-- a packet that was read and in which no slot is Bad
+pub record IsWholeRead (plain : List Bool) (packet : Packet) : Type 0 where
+  pub head : head_reading_of plain ≡ Ok (packet_head packet)
+  pub sendable : IsSendable packet
+  pub read : IsPacketRead packet plain
+
+whole-from : (plain : List Bool) (packet : Packet) (reading : Result PacketHead Field) → head_reading_of plain ≡ reading → packet_from reading plain ≡ Ok packet → IsWholePacket packet → IsWholeRead plain packet
+unfolding packet_from
+whole-from plain packet (Err field) read is whole = absurd (cc)
+whole-from plain packet (Ok head) read is whole =
+    let of = IsHeadOf-reading plain head read in
+    let body = IsReadOf-head head plain packet of.is_head is whole in
+    record {
+      head = read ∙ ap Ok (sym body.head_is);
+      sendable = body.sendable;
+      read = record {
+        header = of.octets_are ∙ ap header_octets (sym body.head_is);
+        blocks = λ j inside. body.blocks j (subst (λ (h : PacketHead). j < head_blocks h) body.head_is inside);
+      };
+    }
+
+pub IsWholeRead-reading : (plain : List Bool) (packet : Packet) → packet_reading_of plain ≡ Ok packet → IsWholePacket packet → IsWholeRead plain packet
+unfolding packet_reading_of
+IsWholeRead-reading plain packet is whole = whole-from plain packet (head_reading_of plain) refl is whole

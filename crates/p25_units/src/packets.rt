@@ -1,0 +1,91 @@
+//! Packets as what units carry.
+
+ghost use Rattle.std.specs.Prelude.{◌≡◌, ◌+◌, ◌<◌, ◌≤◌, [], ◌∷◌, ◌++◌, length};
+ghost use Rattle.p25_packet_blocks.specs.Reading.{head_reading_of, packet_reading_of, HasItsLength};
+ghost use Rattle.p25_units.specs.Readings.{failing_blocks_of, failing_slot, failing_slots_of, packet_body_from, whole_from};
+
+use crate::unit::Body;
+use p25_bits::BitBuf;
+use p25_packet_blocks::{Packet, PacketHead, Slot, Slots, read_packet_of_head};
+use p25_status::{Field, FieldList};
+
+// The packet of a unit without status symbols, by its header that was read or fails.
+pub(crate) fn read_packet_body(
+    head: Result<PacketHead, Field>,
+    plain: &BitBuf,
+) -> Result<Body, FieldList>
+    requires head { head ≡ head_reading_of plain.now }
+    requires there { HasItsLength plain.now }
+    ensures { result ≡ packet_body_from (packet_reading_of plain.now) }
+{
+    match head {
+        Err(field) => Err(one_field(field)),
+        Ok(head) => packet_body(read_packet_of_head(head, plain)),
+    }
+}
+
+// A packet that was read or a field of which fails.
+fn packet_body(reading: Result<Packet, Field>) -> Result<Body, FieldList>
+    ensures { result ≡ packet_body_from reading }
+{
+    match reading {
+        Err(field) => Err(one_field(field)),
+        Ok(packet) => {
+            let fields = failing_blocks(&packet);
+            whole_packet(packet, fields)
+        }
+    }
+}
+
+// A packet where no field fails.
+fn whole_packet(packet: Packet, fields: FieldList) -> Result<Body, FieldList>
+    ensures { result ≡ whole_from packet fields }
+{
+    if fields.len() == 0 {
+        Ok(Body::Packet(packet))
+    } else {
+        Err(fields)
+    }
+}
+
+// The fields that fail of a packet: a block for each slot that is Bad.
+fn failing_blocks(packet: &Packet) -> FieldList
+    ensures { result ≡ failing_blocks_of packet.now }
+{
+    match packet {
+        Packet::Confirmed(packet) => failing_slots(packet.slots()),
+        Packet::Plain(_) => FieldList::new(),
+    }
+}
+
+// A block for each slot that is Bad.
+fn failing_slots(slots: &Slots) -> FieldList
+    ensures { result ≡ failing_slots_of (length slots.now) slots.now }
+{
+    let mut fields = FieldList::new();
+    for j in 0..slots.len() {
+        push_failing(j as u8, &slots.get(j), &mut fields);
+    }
+    fields
+}
+
+// Appends the block at a place where its slot is Bad.
+fn push_failing(j: u8, slot: &Slot, fields: &mut FieldList)
+    requires { length fields.old < 127 }
+    ensures list { fields.new ≡ fields.old ++ failing_slot j slot.now }
+    ensures few { length fields.new ≤ length fields.old + 1 }
+{
+    match slot {
+        Slot::Good(_) => {}
+        Slot::Bad => fields.push(Field::Block(j)),
+    }
+}
+
+// One field.
+pub(crate) fn one_field(field: Field) -> FieldList
+    ensures { result ≡ field ∷ [] }
+{
+    let mut fields = FieldList::new();
+    fields.push(field);
+    fields
+}
