@@ -13,12 +13,17 @@
 //! ```
 #![tactic(auto)]
 
+mod comma_lists;
 mod items;
 mod names;
+mod packet_texts;
+mod packets;
 mod read;
 #[cfg(test)]
 mod tests;
 mod values;
+mod voice_texts;
+mod voices;
 mod write;
 
 pub use items::item_text;
