@@ -14,6 +14,8 @@
 #![tactic(auto)]
 
 mod comma_lists;
+#[cfg(test)]
+mod item_tests;
 mod items;
 mod names;
 mod packet_texts;

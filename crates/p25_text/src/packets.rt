@@ -58,11 +58,10 @@ fn octets_or_none_value(word: &[u8], count: usize) -> Option<Octets>
         let mut room = [0; 1520];
         return some_octets_value(word, count, &mut room[..count]);
     }
-    if is_dash(word) {
-        Some(Octets::new())
-    } else {
-        None
+    if !is_dash(word) {
+        return None;
     }
+    Some(Octets::new())
 }
 
 // The octets that a word is read as, with room for so many.
@@ -99,11 +98,11 @@ fn slots_value(word: &[u8], count: usize) -> Option<Slots>
         slots.push(Slot::Good(block_value(part)?));
         start += part.len() + 1;
     }
-    if start > word.len() {
-        Some(slots)
-    } else {
-        None
+    // Behind the last part stands the end, and no comma.
+    if start <= word.len() {
+        return None;
     }
+    Some(slots)
 }
 
 // The block that a text is read as.

@@ -17,15 +17,15 @@ returns-then-start-word-clause-value c =
     sym (ap (counted c.args.count) (list_in-parts slot_in word (sym c.is_dash.ensures ∙ c.if-is_dash.false))
     ∙ counted-other (items_in slot_in (comma_parts word)) c.loop-part.slots c.args.count items (λ same. omega (arith, c.loop-part.invariant.len, c.loop-part-test.true)))
 
-pub returns-then-start-word-2-clause-value : goal.returns-then-start-word-2-clause-value
-returns-then-start-word-2-clause-value c =
+pub returns-clause-value : goal.returns-clause-value
+returns-clause-value c =
     let word = c.args.word.now in
-    let items = ItemsSoFar-end slot_in word c.loop-part.start c.loop-part.slots c.loop-part.invariant.so_far c.if-start-word-2.true in
+    let items = ItemsSoFar-end slot_in word c.loop-part.start c.loop-part.slots c.loop-part.invariant.so_far (omega arith) in
     sym (ap (counted c.args.count) (list_in-parts slot_in word (sym c.is_dash.ensures ∙ c.if-is_dash.false))
     ∙ counted-same (items_in slot_in (comma_parts word)) c.loop-part.slots c.args.count items (omega (arith, c.loop-part.invariant.len, c.loop-part-test.false)))
 
-pub returns-else-start-word-2-clause-value : goal.returns-else-start-word-2-clause-value
-returns-else-start-word-2-clause-value c =
+pub returns-then-start-word-2-clause-value : goal.returns-then-start-word-2-clause-value
+returns-then-start-word-2-clause-value c =
     let word = c.args.word.now in
     sym (ap (counted c.args.count) (list_in-parts slot_in word (sym c.is_dash.ensures ∙ c.if-is_dash.false))
     ∙ ItemsSoFar-over slot_in word c.loop-part.start c.args.count c.loop-part.slots c.loop-part.invariant.so_far (omega arith) (omega (arith, c.loop-part.invariant.len, c.loop-part-test.false)))
