@@ -17,10 +17,12 @@ use p25_line::{LineFault, WordList, words_of};
 use p25_packet_blocks::Packet;
 use p25_units::{Body, Unit, VoiceUnit};
 
-/// Answers the unit whose text a line is. Each line that is accepted is the text of its unit, and the text of each unit is
-/// accepted. The first of these causes that applies is answered: Long, above 8,192 octets; Form, not one or more words of
-/// octets 21 to 7E hex with single spaces between them; Kind, the first word names no kind; Key, there are not as many
-/// further words as keys, or one does not begin with its key and `=`; Value, a value is not of its form.
+/// Answers the unit whose text a line is. Each line that is accepted is the text of its unit, and the text of each unit of
+/// which nothing fails is accepted. The first of these causes that applies is answered: Long, above 8,192 octets; Form, not
+/// one or more words of octets 21 to 7E hex with single spaces between them; Kind, the first word names no kind; Key, there
+/// are not as many further words as keys, or one does not begin with its key and `=`; Value, a value is not of its form, the
+/// format in a packet's header is not that of the kind (16 hex for `confirmed`, 15 hex for `plain`, 03 hex for `response`),
+/// or there are not as many blocks as the header has to follow, or not twelve octets for each of them less four.
 pub fn read_line(line: &[u8]) -> Result<Unit, LineFault>
     ensures unit { result ≡ read_line_of line.now }
     ensures text { IfOk result (λ unit. text_of unit ≡ line.now) }
