@@ -78,7 +78,7 @@ fn put_broken(place: u64, count: u32, identifier: (u16, u8), fields: &FieldList,
 }
 
 // Appends a label and a number in decimal.
-#[tactic(auto, using(crate::proofs::Decimals::decimal_short))]
+#[tactic(auto, using(p25_line::proofs::DecimalLaws::decimal_short))]
 fn put_labelled(label: &[u8], number: u64, out: &mut Line)
     requires { length out.old + length label.now + 20 ≤ 8192 }
     ensures text { out.new ≡ out.old ++ label.now ++ decimal number }
@@ -125,7 +125,7 @@ fn put_fields(fields: &FieldList, out: &mut Line)
 }
 
 // Appends the name of a field.
-#[tactic(auto, using(crate::proofs::Decimals::decimal_octet))]
+#[tactic(auto, using(p25_line::proofs::DecimalLaws::decimal_octet))]
 fn put_field(field: Field, out: &mut Line)
     requires { length out.old + 15 ≤ 8192 }
     ensures text { out.new ≡ out.old ++ field_name field }
