@@ -8,7 +8,7 @@ use Rattle.std.proofs.lemmas.List.Elements.{All-nil, All-cons}
 use Rattle.std.proofs.lemmas.List.Folds.{list_all-append}
 use Rattle.hex.specs.Hex.{encode_lower, encode_with, lower_digits}
 use Rattle.hex.proofs.HexLemmas.{length-encode_with}
-use Rattle.p25_line.specs.Values.{AllOctets, is_lower_digit}
+use Rattle.p25_line.specs.Values.{is_lower_digit}
 use Rattle.p25_line.specs.Words.{is_printed}
 use Rattle.p25_line.proofs.HexLaws.{list_all-encode_lower}
 use Rattle.p25_line.proofs.JoinLaws.{Lacks}
@@ -20,8 +20,8 @@ use Rattle.p25_text.specs.CommaLists.{comma_text, list_text}
 use Rattle.p25_text.specs.Packets.{block_from, block_in, block_text, slot_in, slot_text}
 use Rattle.p25_text.specs.Values.{octets_in}
 use Rattle.p25_text.proofs.CommaListLaws.{AllFit, ItemLaws}
-use Rattle.p25_text.proofs.ValueLaws.{octets_in-encode_lower, octets_in-text}
-use Rattle.p25_text.proofs.WordLaws.{length-join, size_of}
+use Rattle.p25_text.proofs.ValueLaws.{octets_in-encode_lower, octets_in-text, one_octet}
+use Rattle.p25_text.proofs.WordLaws.{all-also, length-join, size_of}
 
 -- ---- the texts of slots
 
@@ -36,10 +36,7 @@ mark-digit : (digit : ℕ) → is_lower_digit digit ≡ true → is_mark digit �
 mark-digit digit lower = grind arith
 
 marks-digits : (digits : List ℕ) → list_all is_lower_digit digits ≡ true → are_marks digits ≡ true
-marks-digits [] lower = refl
-marks-digits (digit ∷ digits) lower =
-    let parts = and_parts (is_lower_digit digit) (list_all is_lower_digit digits) lower in
-    ap₂ ◌&&◌ (mark-digit digit parts.0) (marks-digits digits parts.1)
+marks-digits digits lower = all-also is_lower_digit is_mark mark-digit digits lower
 
 -- none of them is a comma
 mark-comma : (octet : ℕ) → is_mark octet ≡ true → (octet == 44) ≡ false
@@ -54,9 +51,6 @@ marks-comma (octet ∷ octets) marks =
 -- a slot that is Good, with a block that keeps what every block keeps
 abbrev pub IsGoodSlot : Slot → Type 0
 IsGoodSlot slot = (block : Block) × (slot ≡ Good block) × IsDataBlock block
-
-one_octet : (octet : ℕ) → octet < 256 → AllOctets (octet ∷ [])
-one_octet octet fits = All-cons (λ o. o < 256) octet [] fits (All-nil (λ o. o < 256))
 
 block-marks : (block : Block) → IsDataBlock block → are_marks (block_text block) ≡ true
 block-marks block fits =
@@ -171,10 +165,7 @@ mark-printed : (octet : ℕ) → is_mark octet ≡ true → is_printed octet ≡
 mark-printed octet mark = grind arith
 
 marks-printed : (octets : List ℕ) → are_marks octets ≡ true → list_all is_printed octets ≡ true
-marks-printed [] marks = refl
-marks-printed (octet ∷ octets) marks =
-    let parts = and_parts (is_mark octet) (are_marks octets) marks in
-    ap₂ ◌&&◌ (mark-printed octet parts.0) (marks-printed octets parts.1)
+marks-printed octets marks = all-also is_mark is_printed mark-printed octets marks
 
 joined-printed : (slots : List Slot) → AllFit IsGoodSlot slots → list_all is_printed (join_with_byte 44 (map slot_text slots)) ≡ true
 joined-printed [] good = refl

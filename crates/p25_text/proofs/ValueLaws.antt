@@ -12,7 +12,10 @@ use Rattle.p25_line.specs.Values.{AllOctets, is_lower_digit, nibble_of, octets_o
 use Rattle.p25_line.proofs.HexLaws.{digit_facts, list_all-encode_lower, octets_of-encode_lower, octets_of-facts}
 use Rattle.p25_text.specs.Values.{dash, three_digits, octets_in, octets_or_none, octets_text, number_in, nac_in}
 
--- two numbers below 256
+-- one number below 256, and two
+pub one_octet : (octet : ℕ) → octet < 256 → AllOctets (octet ∷ [])
+one_octet octet fits = All-cons (λ o. o < 256) octet [] fits (All-nil (λ o. o < 256))
+
 pub two_octets : (high low : ℕ) → high < 256 → low < 256 → AllOctets (high ∷ low ∷ [])
 two_octets high low h l = All-cons (λ x. x < 256) high (low ∷ []) h (All-cons (λ x. x < 256) low [] l (All-nil (λ x. x < 256)))
 

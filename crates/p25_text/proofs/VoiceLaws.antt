@@ -1,9 +1,9 @@
 -- The values of a voice unit are read as the unit, and what is read as a voice unit has them. The octets of values are read in general, by induction on the keys; each kind then adds its fields.
-use Rattle.std.proofs.Common.{◌≡◌, ℕ, zero, suc, ◌+◌, ◌*◌, ◌/◌, ◌%◌, ◌^◌, ◌<◌, ◌≤◌, ◌&&◌, true, List, [], ◌∷◌, ◌++◌, length, take, drop, map, Option, Some, None, refl, sym, ap, ap₂, subst, ◌∙◌, arith, length-append, length-take, length-drop}
+use Rattle.std.proofs.Common.{◌≡◌, ℕ, zero, suc, ◌+◌, ◌*◌, ◌/◌, ◌%◌, ◌^◌, ◌<◌, ◌≤◌, ◌&&◌, true, List, [], ◌∷◌, ◌++◌, length, take, drop, map, Option, Some, None, refl, ap, ap₂, subst, ◌∙◌, arith, length-append, length-take, length-drop}
 use Rattle.std.specs.Prelude.{All}
 use Rattle.std.specs.List.{list_all}
 use Rattle.std.specs.Option.{option_and_then}
-use Rattle.std.proofs.lemmas.List.{drop-drop, take-append-drop}
+use Rattle.std.proofs.lemmas.List.{drop-drop, drop_at, take-append-drop, take_at}
 use Rattle.std.proofs.lemmas.List.Elements.{All-nil, All-cons, All-head, All-tail, All-append, All-take, All-drop}
 use Rattle.hex.specs.Hex.{encode_lower, lower_digits}
 use Rattle.hex.proofs.HexLemmas.{length-encode_with}
@@ -22,7 +22,7 @@ use Rattle.p25_text.specs.declared.names.UnitKey.{UnitKey}
 use Rattle.p25_text.specs.declared.names.UnitKind.{UnitKind}
 use Rattle.p25_text.specs.declared.names.UnitKind.TheVariants.{Hdu, Ldu1, Ldu2, Tdu, Tdulc, Confirmed, Plain, Response}
 use Rattle.p25_text.proofs.OptionLaws.{option_and_then-found}
-use Rattle.p25_text.proofs.ValueLaws.{octets_in-encode_lower, octets_in-text}
+use Rattle.p25_text.proofs.ValueLaws.{octets_in-encode_lower, octets_in-text, one_octet, two_octets}
 use Rattle.p25_text.proofs.WordLaws.{digits-printed, size_of}
 
 -- ---- octets of any keys
@@ -99,14 +99,11 @@ wide-size (key ∷ keys) (octets ∷ fields) wide = omega (arith, length-encode_
 
 -- ---- numbers of octets
 
-one_octet : (octet : ℕ) → octet < 2 ^ 8 → HasOctets 1 (octet ∷ [])
-one_octet octet fits = record { long = refl; small = All-cons (λ o. o < 256) octet [] (omega arith) (All-nil (λ o. o < 256)) }
+octet_wide : (octet : ℕ) → octet < 2 ^ 8 → HasOctets 1 (octet ∷ [])
+octet_wide octet fits = record { long = refl; small = one_octet octet (omega arith) }
 
-two_octets : (number : ℕ) → number < 2 ^ 16 → HasOctets 2 (pair_of number)
-two_octets number fits = record {
-  long = refl;
-  small = All-cons (λ o. o < 256) (number / 256) (number % 256 ∷ []) (omega arith) (All-cons (λ o. o < 256) (number % 256) [] (omega arith) (All-nil (λ o. o < 256)));
-}
+pair_wide : (number : ℕ) → number < 2 ^ 16 → HasOctets 2 (pair_of number)
+pair_wide number fits = record { long = refl; small = two_octets (number / 256) (number % 256) (omega arith) (omega arith) }
 
 nine_octets : (octets : List ℕ) → AreNineOctets octets → HasOctets 9 octets
 nine_octets octets fits = record { long = fits.long; small = fits.small }
@@ -135,15 +132,6 @@ pair_back (high ∷ low ∷ next ∷ octets) fits = let more : suc (suc (suc (le
 
 -- ---- voice frames
 
--- the octets of the first of two lists, and those behind them
-first_taken : (n : ℕ) (first rest : List ℕ) → length first ≡ n → take n (first ++ rest) ≡ first
-first_taken n [] rest same = ap (λ k. take k rest) (sym same)
-first_taken n (octet ∷ first) rest same = ap (λ k. take k ((octet ∷ first) ++ rest)) (sym same) ∙ ap (λ l. octet ∷ l) (first_taken (length first) first rest refl)
-
-first_dropped : (n : ℕ) (first rest : List ℕ) → length first ≡ n → drop n (first ++ rest) ≡ rest
-first_dropped n [] rest same = ap (λ k. drop k rest) (sym same)
-first_dropped n (octet ∷ first) rest same = ap (λ k. drop k ((octet ∷ first) ++ rest)) (sym same) ∙ first_dropped (length first) first rest refl
-
 -- how many octets frames have, and that they are octets
 frames-octets : (frames : List VoiceFrame) → All IsVoiceFrame frames → HasOctets (18 * length frames) (frame_octets frames)
 unfolding frame_octets
@@ -166,8 +154,8 @@ frames_of-octets (suc n) (frame ∷ frames) same each =
     let first : IsVoiceFrame frame = All-head IsVoiceFrame frame frames each in
     let make : List ℕ → VoiceFrame = λ octets. record { 0 = octets } in
     ap₂ ◌∷◌
-    (ap make (first_taken 18 frame.0 (frame_octets frames) first.long))
-    (ap (frames_of n) (first_dropped 18 frame.0 (frame_octets frames) first.long)
+    (ap make (take_at frame.0 (frame_octets frames) 18 first.long))
+    (ap (frames_of n) (drop_at frame.0 (frame_octets frames) 18 first.long)
     ∙ frames_of-octets n frames (omega arith) (All-tail IsVoiceFrame frame frames each))
 
 -- the octets of frames that were read
@@ -196,10 +184,10 @@ low_wide low frames fits = record { long = fits.two; small = fits.small }
 voice-wide : (unit : VoiceUnit) → IsSendableVoice unit → AllWide (other_keys (voice_kind unit)) (voice_octets unit)
 unfolding IsSendableVoice
 voice-wide (Header word) fits =
-    (nine_octets word.mi fits.mi, (one_octet word.mfid fits.mfid, (one_octet word.algid fits.algid, (two_octets word.kid fits.kid, (two_octets word.tgid fits.tgid, tt)))))
+    (nine_octets word.mi fits.mi, (octet_wide word.mfid fits.mfid, (octet_wide word.algid fits.algid, (pair_wide word.kid fits.kid, (pair_wide word.tgid fits.tgid, tt)))))
 voice-wide (Link1 link low voice) fits = (nine_octets link.0 fits.word.octets, (low_wide low voice fits.speech, (speech_wide low voice fits.speech, tt)))
 voice-wide (Link2 sync low voice) fits =
-    (nine_octets sync.mi fits.word.mi, (one_octet sync.algid fits.word.algid, (two_octets sync.kid fits.word.kid, (low_wide low voice fits.speech, (speech_wide low voice fits.speech, tt)))))
+    (nine_octets sync.mi fits.word.mi, (octet_wide sync.algid fits.word.algid, (pair_wide sync.kid fits.word.kid, (low_wide low voice fits.speech, (speech_wide low voice fits.speech, tt)))))
 voice-wide End fits = tt
 voice-wide (EndLink link) fits = (nine_octets link.0 fits.octets, tt)
 

@@ -89,11 +89,15 @@ find-passes test (y ∷ xs) x found =
 digit-printed : (digit : ℕ) → is_lower_digit digit ≡ true → is_printed digit ≡ true
 digit-printed digit lower = grind arith
 
+-- what passes one test, element by element, passes another that follows from it
+pub all-also : {X : Type 0} (first second : X → Bool) → ((x : X) → first x ≡ true → second x ≡ true) → (xs : List X) → list_all first xs ≡ true → list_all second xs ≡ true
+all-also first second also [] all = refl
+all-also first second also (x ∷ xs) all =
+    let parts = and_parts (first x) (list_all first xs) all in
+    ap₂ ◌&&◌ (also x parts.0) (all-also first second also xs parts.1)
+
 pub digits-printed : (digits : List ℕ) → list_all is_lower_digit digits ≡ true → list_all is_printed digits ≡ true
-digits-printed [] lower = refl
-digits-printed (digit ∷ digits) lower =
-    let parts = and_parts (is_lower_digit digit) (list_all is_lower_digit digits) lower in
-    ap₂ ◌&&◌ (digit-printed digit parts.0) (digits-printed digits parts.1)
+digits-printed digits lower = all-also is_lower_digit is_printed digit-printed digits lower
 
 -- a word stays a word with more printed octets behind it
 word-more : (word value : List ℕ) → is_word word ≡ true → list_all is_printed value ≡ true → is_word (word ++ value) ≡ true
