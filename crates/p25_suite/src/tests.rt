@@ -1,0 +1,68 @@
+//! Values from outside, through `run`, read in pieces of 1, of 7 and of all octets.
+
+mod calls;
+mod packets;
+mod voice;
+
+ghost use Rattle.std.specs.Prelude.{◌≡◌, ◌<◌, length};
+
+use p25_io::{SliceSink, SteadySource};
+use p25_tool::{Outcome, Words, run};
+use std::alloc::Global;
+
+// The words of a call.
+fn words_of(list: &[&[u8]]) -> Words {
+    let mut words = Words::new();
+    for word in list {
+        words.add(word);
+    }
+    words
+}
+
+// Writes the images of the units of some lines, with one status symbol for all, and answers how many octets there are: none
+// where a line is refused.
+fn build(alloc: Global, status: &[u8], lines: &[u8], room: &mut [u8]) -> usize
+    ensures { length room.new ≡ length room.old }
+{
+    let mut source = SteadySource::new(lines, 4_096);
+    let mut sink = SliceSink::new(room, &[]);
+    match run(
+        alloc,
+        &words_of(&[b"build", status]),
+        &mut source,
+        &mut sink,
+    ) {
+        Outcome::Done => sink.written().len(),
+        _ => 0,
+    }
+}
+
+// Whether a command is done and writes such octets, whatever the reads.
+fn writes(alloc: Global, words: &[&[u8]], input: &[u8], output: &[u8]) -> bool {
+    for piece in [1, 7, 8_192] {
+        let mut source = SteadySource::new(input, piece);
+        let mut room = [0; 16_384];
+        let mut sink = SliceSink::new(&mut room, &[]);
+        if run(alloc, &words_of(words), &mut source, &mut sink) != Outcome::Done
+            || sink.written() != output
+        {
+            return false;
+        }
+    }
+    true
+}
+
+// Makes the bit of a sent unit that stands at a place without status symbols the bit that is told, or the other one.
+fn change_bit(octets: &mut [u8], place: usize, told: Option<bool>)
+    requires { place < 100000 }
+{
+    let sent = place + 2 * (place / 70);
+    let mask = 128 >> (sent % 8);
+    if let Some(octet) = octets.get_mut(sent / 8) {
+        *octet = match told {
+            Some(true) => *octet | mask,
+            Some(false) => *octet & !mask,
+            None => *octet ^ mask,
+        };
+    }
+}

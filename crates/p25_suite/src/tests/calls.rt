@@ -1,0 +1,175 @@
+//! A call of four voice units: built, shown, counted, repaired and bridged; each read and each write fails in turn, and it is
+//! cut off behind each of its octets.
+
+ghost use Rattle.std.specs.Prelude.{◌≤◌, ◌<◌, length};
+
+use super::{build, words_of, writes};
+use p25_io::{MemorySource, SliceSink, SteadySource};
+use p25_line::Line;
+use p25_tool::{Outcome, run};
+
+// A unit of the call: its line, whether nine voice frames of zeros end it, and what `show` says before it.
+type Part = (&'static [u8], bool, &'static [u8]);
+
+const PARTS: [Part; 4] = [
+    (
+        b"hdu nac=293 mi=000000000000000000 mfid=00 algid=80 kid=0000 tgid=0001",
+        false,
+        b"unit at=0 bits=792 fix=0 status=11111111111 ",
+    ),
+    (
+        b"ldu1 nac=293 lc=000000000001000001 lsd=0000 voice=",
+        true,
+        b"unit at=792 bits=1728 fix=0 status=111111111111111111111111 ",
+    ),
+    (
+        b"ldu2 nac=293 mi=000000000000000000 algid=80 kid=0000 lsd=0000 voice=",
+        true,
+        b"unit at=2520 bits=1728 fix=0 status=111111111111111111111111 ",
+    ),
+    (
+        b"tdulc nac=293 lc=000000000001000001",
+        false,
+        b"unit at=4248 bits=432 fix=0 status=111111 ",
+    ),
+];
+
+// How many octets the first units of the call have, none of them and all.
+const ENDS: [u16; 5] = [0, 99, 315, 531, 585];
+
+// The lines of the first units, as they are built from or as they are shown.
+fn lines_of(count: usize, shown: bool) -> Line {
+    let mut text = Line::new();
+    for (line, voice, prefix) in PARTS.iter().take(count) {
+        if text.len() <= 4_000 && line.len() <= 200 && prefix.len() <= 200 {
+            if shown {
+                text.put(prefix);
+            }
+            text.put(line);
+            if *voice {
+                text.put(&[b'0'; 324]);
+            }
+            text.put(b"\n");
+        }
+    }
+    text
+}
+
+// How many units of the call are whole in its first octets.
+fn whole_in(octets: usize) -> usize {
+    match octets {
+        0..=98 => 0,
+        99..=314 => 1,
+        315..=530 => 2,
+        531..=584 => 3,
+        _ => 4,
+    }
+}
+
+#[test]
+fn a_call_is_built_and_reported(rt: HostRuntime) {
+    let mut room = [0; 585];
+    let built = build(rt.alloc(), b"1", lines_of(4, false).octets(), &mut room);
+    assert_eq!(rt; built, 585);
+    let call = &room;
+    let shown = lines_of(4, true);
+    assert!(rt; writes(rt.alloc(), &[b"show"], call, shown.octets()));
+    assert!(rt; writes(rt.alloc(), &[b"check"], call, b"check units=4 faults=0\n"));
+    assert!(rt; writes(rt.alloc(), &[b"repair"], call, call));
+    let mut other = [0; 585];
+    let rebuilt = build(rt.alloc(), b"2", lines_of(4, false).octets(), &mut other);
+    assert_eq!(rt; rebuilt, 585);
+    assert!(rt; writes(rt.alloc(), &[b"bridge", b"293", b"2"], call, &other));
+}
+
+#[test]
+fn each_read_fails_in_turn(rt: HostRuntime) {
+    let mut room = [0; 585];
+    build(rt.alloc(), b"1", lines_of(4, false).octets(), &mut room);
+    for call in 1..588_usize {
+        let fails = [call as u64];
+        let mut source = MemorySource::new(&room, 1, &fails);
+        let mut text = [0; 2_048];
+        let mut sink = SliceSink::new(&mut text, &[]);
+        let outcome = run(rt.alloc(), &words_of(&[b"show"]), &mut source, &mut sink);
+        let (want, whole) = if call <= 586 {
+            (Outcome::ReadFault, whole_in(call - 1))
+        } else {
+            (Outcome::Done, 4)
+        };
+        assert_eq!(rt; outcome, want, "failing at {call}");
+        assert_eq!(rt;
+            sink.written(),
+            lines_of(whole, true).octets(),
+            "failing at {call}"
+        );
+    }
+}
+
+#[test]
+fn each_write_fails_in_turn(rt: HostRuntime) {
+    let mut room = [0; 585];
+    build(rt.alloc(), b"1", lines_of(4, false).octets(), &mut room);
+    for call in 1..6_usize {
+        let fails = [call as u64];
+        let mut source = SteadySource::new(&room, 1);
+        let mut text = [0; 2_048];
+        let mut sink = SliceSink::new(&mut text, &fails);
+        let outcome = run(rt.alloc(), &words_of(&[b"show"]), &mut source, &mut sink);
+        let want = if call <= 4 {
+            Outcome::WriteFault
+        } else {
+            Outcome::Done
+        };
+        assert_eq!(rt; outcome, want, "failing at {call}");
+        assert_eq!(rt;
+            sink.written(),
+            lines_of(call - 1, true).octets(),
+            "failing at {call}"
+        );
+    }
+}
+
+// Puts a name and its number behind a text.
+fn put_named(text: &mut Line, name: &[u8], number: u64) {
+    if text.len() <= 4_000 && name.len() <= 20 {
+        text.put(name);
+        text.put_number(number);
+    }
+}
+
+// What is shown of the first octets of the call: the units that are whole, and then what is left of the next.
+fn cut_off(octets: u16) -> Line {
+    let whole = whole_in(usize::from(octets));
+    let mut text = lines_of(whole, true);
+    let end = ENDS.get(whole).copied().unwrap_or(0);
+    let left = 8 * u64::from(octets.saturating_sub(end));
+    if left > 0 {
+        let name: &[u8] = if left < 48 { b"gap at=" } else { b"cut at=" };
+        put_named(&mut text, name, 8 * u64::from(end));
+        put_named(&mut text, b" bits=", left);
+        if text.len() <= 4_000 {
+            text.put(b"\n");
+        }
+    }
+    text
+}
+
+#[test]
+fn the_call_is_cut_off_behind_each_octet(rt: HostRuntime) {
+    let mut room = [0; 585];
+    build(rt.alloc(), b"1", lines_of(4, false).octets(), &mut room);
+    for size in 0..586_u16 {
+        let front = room.get(..usize::from(size)).unwrap_or(&[]);
+        let mut source = SteadySource::new(front, 64);
+        let mut text = [0; 2_048];
+        let mut sink = SliceSink::new(&mut text, &[]);
+        let outcome = run(rt.alloc(), &words_of(&[b"show"]), &mut source, &mut sink);
+        assert_eq!(rt; outcome, Outcome::Done);
+        assert_eq!(rt;
+            sink.written(),
+            cut_off(size).octets(),
+            "cut off behind {size}"
+        );
+    }
+}

@@ -1,0 +1,237 @@
+//! Packets: built from a line, their blocks damaged or replaced, shown in pieces of 1, of 7 and of all octets, and repaired.
+
+ghost use Rattle.std.specs.Prelude.{◌<◌};
+
+use super::{build, change_bit, writes};
+use p25_line::Line;
+use std::alloc::Global;
+
+// What becomes of some bits of a sent unit. Places count its bits without status symbols.
+#[derive(Clone, Copy)]
+enum Change {
+    // So many bits from a place on are inverted.
+    Inverted(u16, u16),
+    // The 196 bits of the block at a place become those of a block of zeros: 49 times 0010.
+    Zeroed(u16),
+}
+
+use Change::{Inverted, Zeroed};
+
+// A packet: what its row shows, its line, what becomes of its bits, what `show` writes, and whether the line follows that,
+// since the packet is whole.
+type Row = (
+    &'static str,
+    &'static [u8],
+    &'static [Change],
+    &'static [u8],
+    bool,
+);
+
+const CONFIRMED: &[u8] =
+    b"confirmed nac=293 head=56c00000000181000800 blocks=00:00000000000000000000000000000000";
+
+const PLAIN: &[u8] = b"plain nac=293 head=35c00000000181000000 octets=0000000000000000";
+
+const RESPONSE: &[u8] = b"response nac=293 head=23080000000180000000 octets=-";
+
+const ROWS: [Row; 12] = [
+    (
+        "a response without blocks",
+        RESPONSE,
+        &[],
+        b"unit at=0 bits=360 fix=0 status=00000 ",
+        true,
+    ),
+    (
+        "a confirmed packet without blocks, whose free bits are ones",
+        b"confirmed nac=293 head=f6ffffffffff80ffffff blocks=-",
+        &[],
+        b"unit at=0 bits=360 fix=0 status=00000 ",
+        true,
+    ),
+    (
+        "a confirmed packet of a block with the highest serial",
+        b"confirmed nac=293 head=56c00000000181000800 blocks=7f:ffffffffffffffffffffffffffffffff",
+        &[],
+        b"unit at=0 bits=576 fix=0 status=00000000 ",
+        true,
+    ),
+    (
+        "a plain packet of two blocks",
+        b"plain nac=fff head=35c00000000102000000 octets=000102030405060708090a0b0c0d0e0f10111213",
+        &[],
+        b"unit at=0 bits=720 fix=0 status=0000000000 ",
+        true,
+    ),
+    (
+        "a plain packet with two wrong bits in its header and in its block",
+        PLAIN,
+        &[Inverted(112, 2), Inverted(308, 2)],
+        b"unit at=0 bits=576 fix=4 status=00000000 ",
+        true,
+    ),
+    (
+        "a confirmed packet with a wrong bit in its block, and its nulls inverted",
+        CONFIRMED,
+        &[Inverted(308, 1), Inverted(504, 56)],
+        b"unit at=0 bits=576 fix=1 status=00000000 ",
+        true,
+    ),
+    (
+        "a confirmed packet whose block is replaced",
+        CONFIRMED,
+        &[Zeroed(308)],
+        b"broken at=0 bits=576 nac=293 duid=c fields=block.0",
+        false,
+    ),
+    (
+        "a confirmed packet of two blocks, both of which are replaced",
+        b"confirmed nac=293 head=56c00000000182000800 blocks=00:00000000000000000000000000000000,01:00000000000000000000000000000001",
+        &[Zeroed(308), Zeroed(504)],
+        b"broken at=0 bits=720 nac=293 duid=c fields=block.0,block.1",
+        false,
+    ),
+    (
+        "a confirmed packet of two blocks, the second of which is replaced",
+        b"confirmed nac=293 head=56c00000000182000800 blocks=05:00000000000000000000000000000000,01:00000000000000000000000000000001",
+        &[Zeroed(504)],
+        b"broken at=0 bits=720 nac=293 duid=c fields=block.1",
+        false,
+    ),
+    (
+        "a plain packet whose block is replaced",
+        PLAIN,
+        &[Zeroed(308)],
+        b"broken at=0 bits=576 nac=293 duid=c fields=packet_crc",
+        false,
+    ),
+    (
+        "a response whose block is replaced",
+        b"response nac=293 head=23800000000181000000 octets=f000000000000000",
+        &[Zeroed(308)],
+        b"broken at=0 bits=576 nac=293 duid=c fields=packet_crc",
+        false,
+    ),
+    (
+        "a response whose header is replaced",
+        RESPONSE,
+        &[Zeroed(112)],
+        b"nounit at=0 field=packet_header\ngap at=1 bits=359",
+        false,
+    ),
+];
+
+// A packet of the format 17 hex, with no blocks to follow.
+const UNKNOWN_FORMAT: [u8; 45] = [
+    0x55, 0x75, 0xF5, 0xFF, 0x77, 0xFF, 0x29, 0x3C, 0xD4, 0x82, 0xF8, 0x0A, 0xEC, 0xDC, 0x8A, 0x08,
+    0x88, 0xB4, 0x22, 0x2F, 0x1E, 0xC5, 0x22, 0x22, 0x92, 0x22, 0x64, 0xC0, 0x88, 0x88, 0x88, 0x88,
+    0xA7, 0x8C, 0x88, 0x88, 0xC2, 0x22, 0x22, 0xC0, 0x00, 0x00, 0x00, 0x00, 0x00,
+];
+
+// Changes a bit as a change says.
+fn change_at(octets: &mut [u8], change: Change, i: u16)
+    requires { i < 10000 }
+{
+    match change {
+        Inverted(first, count) => {
+            if i < count {
+                change_bit(octets, usize::from(first) + usize::from(i), None);
+            }
+        }
+        Zeroed(first) => {
+            if i < 196 {
+                change_bit(
+                    octets,
+                    usize::from(first) + usize::from(i),
+                    Some(i % 4 == 2),
+                );
+            }
+        }
+    }
+}
+
+fn changed(octets: &mut [u8], change: Change) {
+    for i in 0..196 {
+        change_at(octets, change, i);
+    }
+}
+
+// What `show` writes of a row.
+fn text_of(row: &Row) -> Line {
+    let mut text = Line::new();
+    if row.3.len() <= 200 {
+        text.put(row.3);
+        if row.4 && row.1.len() <= 1_000 {
+            text.put(row.1);
+        }
+        text.put(b"\n");
+    }
+    text
+}
+
+// Whether a row holds: its packet is shown as it says, and repaired where it is whole.
+fn holds(alloc: Global, row: &Row) -> bool {
+    let mut room = [0; 128];
+    let size = build(alloc, b"0", row.1, &mut room);
+    let sent = room;
+    for change in row.2 {
+        changed(&mut room, *change);
+    }
+    if size > 128 || size == 0 {
+        return false;
+    }
+    let repaired = if row.4 { &sent } else { &room };
+    writes(alloc, &[b"show"], &room[..size], text_of(row).octets())
+        && writes(alloc, &[b"repair"], &room[..size], &repaired[..size])
+}
+
+#[test]
+fn packets(rt: HostRuntime) {
+    for row in ROWS {
+        assert!(rt; holds(rt.alloc(), &row), "{}", row.0);
+    }
+    assert!(rt;
+        writes(
+            rt.alloc(),
+            &[b"show"],
+            &UNKNOWN_FORMAT,
+            b"broken at=0 bits=360 nac=293 duid=c fields=format\n"
+        )
+    );
+}
+
+// The line of the largest packet: 127 blocks of zeros, in order.
+fn largest_line() -> Line {
+    let mut line = Line::new();
+    line.put(b"confirmed nac=293 head=56c000000001ff000800 blocks=");
+    for serial in 0..127_u8 {
+        if line.len() <= 8_000 {
+            if serial > 0 {
+                line.put(b",");
+            }
+            line.put_hex(&[serial]);
+            line.put(b":");
+            line.put_hex(&[0; 16]);
+        }
+    }
+    line
+}
+
+#[test]
+fn the_largest_packet(rt: HostRuntime) {
+    let line = largest_line();
+    let mut room = [0; 4_096];
+    assert_eq!(rt; build(rt.alloc(), b"0", line.octets(), &mut room), 3_240);
+    let mut text = Line::new();
+    text.put(b"unit at=0 bits=25920 fix=0 status=");
+    text.put(&[b'0'; 360]);
+    text.put(b" ");
+    if line.len() <= 7_000 {
+        text.put(line.octets());
+    }
+    text.put(b"\n");
+    assert!(rt; writes(rt.alloc(), &[b"show"], &room[..3_240], text.octets()));
+    assert!(rt; writes(rt.alloc(), &[b"repair"], &room[..3_240], &room[..3_240]));
+    // A header whose blocks are not there.
+    assert!(rt; writes(rt.alloc(), &[b"show"], &room[..45], b"cut at=0 bits=360\n"));
+}

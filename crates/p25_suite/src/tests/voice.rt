@@ -1,0 +1,325 @@
+//! Units of every voice kind: built from a line, damaged, shown in pieces of 1, of 7 and of all octets, and repaired.
+
+ghost use Rattle.std.specs.Prelude.{◌<◌};
+
+use super::{build, change_bit, writes};
+use p25_line::Line;
+use std::alloc::Global;
+
+// Bits that are inverted: the first place, how far the next is, how many places there are, and how many bits at each.
+// Places count the bits of a unit without its status symbols; that of the first bit of its sync is 0.
+type Inverted = (u16, u16, u16, u16);
+
+// A unit: what its row shows, its status symbols, its line, the nine voice frames' digit where it has them, the bits that
+// are inverted, what `show` writes, and whether the line follows that, since the unit is whole.
+type Row = (
+    &'static str,
+    &'static [u8],
+    &'static [u8],
+    Option<u8>,
+    &'static [Inverted],
+    &'static [u8],
+    bool,
+);
+
+const ZERO_HEADER: &[u8] = b"hdu nac=000 mi=000000000000000000 mfid=00 algid=00 kid=0000 tgid=0000";
+
+const ZERO_LINK_1: &[u8] = b"ldu1 nac=000 lc=000000000000000000 lsd=0000 voice=";
+
+const ZERO_LINK_2: &[u8] = b"ldu2 nac=000 mi=000000000000000000 algid=00 kid=0000 lsd=0000 voice=";
+
+const ZERO_END_LINK: &[u8] = b"tdulc nac=000 lc=000000000000000000";
+
+const HEADERS: [Row; 6] = [
+    (
+        "a header of zeros",
+        b"0",
+        ZERO_HEADER,
+        None,
+        &[],
+        b"unit at=0 bits=792 fix=0 status=00000000000 ",
+        true,
+    ),
+    (
+        "a header with eight words inverted whole, and three wrong bits in each other",
+        b"0",
+        ZERO_HEADER,
+        None,
+        &[(112, 18, 8, 18), (256, 18, 28, 3)],
+        b"unit at=0 bits=792 fix=228 status=00000000000 ",
+        true,
+    ),
+    (
+        "a header with sixteen words that are marks",
+        b"0",
+        ZERO_HEADER,
+        None,
+        &[(112, 18, 16, 4)],
+        b"unit at=0 bits=792 fix=64 status=00000000000 ",
+        true,
+    ),
+    (
+        "a header with seventeen",
+        b"0",
+        ZERO_HEADER,
+        None,
+        &[(112, 18, 17, 4)],
+        b"broken at=0 bits=792 nac=000 duid=0 fields=header_word",
+        false,
+    ),
+    (
+        "a header with fourteen words that are marks, and another word of the Golay code",
+        b"0",
+        ZERO_HEADER,
+        None,
+        &[
+            (112, 18, 14, 4),
+            (369, 0, 1, 2),
+            (374, 0, 1, 3),
+            (378, 0, 1, 1),
+            (380, 0, 1, 2),
+        ],
+        b"unit at=0 bits=792 fix=64 status=00000000000 ",
+        true,
+    ),
+    (
+        "a header of ones",
+        b"3",
+        b"hdu nac=fff mi=ffffffffffffffffff mfid=ff algid=ff kid=ffff tgid=ffff",
+        None,
+        &[],
+        b"unit at=0 bits=792 fix=0 status=33333333333 ",
+        true,
+    ),
+];
+
+const LINK_UNITS: [Row; 9] = [
+    (
+        "a link unit 1 with a wrong bit in each Hamming word",
+        b"3",
+        ZERO_LINK_1,
+        Some(b'f'),
+        &[
+            (400, 10, 4, 1),
+            (584, 10, 4, 1),
+            (768, 10, 4, 1),
+            (952, 10, 4, 1),
+            (1136, 10, 4, 1),
+            (1320, 10, 4, 1),
+        ],
+        b"unit at=0 bits=1728 fix=24 status=333333333333333333333333 ",
+        true,
+    ),
+    (
+        "a link unit 1 with two wrong bits in each low speed word",
+        b"0",
+        ZERO_LINK_1,
+        Some(b'0'),
+        &[(1504, 16, 2, 2)],
+        b"unit at=0 bits=1728 fix=4 status=000000000000000000000000 ",
+        true,
+    ),
+    (
+        "a link unit 1 with seven Hamming words inverted",
+        b"0",
+        ZERO_LINK_1,
+        Some(b'0'),
+        &[(400, 10, 4, 10), (584, 10, 3, 10)],
+        b"broken at=0 bits=1728 nac=000 duid=5 fields=link_control",
+        false,
+    ),
+    (
+        "a link unit 1 each of whose fields fails",
+        b"0",
+        ZERO_LINK_1,
+        Some(b'0'),
+        &[
+            (400, 10, 4, 10),
+            (584, 10, 3, 10),
+            (1516, 16, 2, 1),
+            (1518, 16, 2, 2),
+        ],
+        b"broken at=0 bits=1728 nac=000 duid=5 fields=link_control,low_speed_1,low_speed_2",
+        false,
+    ),
+    (
+        "a link unit 1 of ones",
+        b"1",
+        b"ldu1 nac=fff lc=ffffffffffffffffff lsd=ffff voice=",
+        Some(b'f'),
+        &[],
+        b"unit at=0 bits=1728 fix=0 status=111111111111111111111111 ",
+        true,
+    ),
+    (
+        "a link unit 2 whose first low speed word is far from each word of its code",
+        b"0",
+        ZERO_LINK_2,
+        Some(b'0'),
+        &[(1516, 0, 1, 1), (1518, 0, 1, 2)],
+        b"broken at=0 bits=1728 nac=000 duid=a fields=low_speed_1",
+        false,
+    ),
+    (
+        "a link unit 2 whose second is",
+        b"0",
+        ZERO_LINK_2,
+        Some(b'0'),
+        &[(1532, 0, 1, 1), (1534, 0, 1, 2)],
+        b"broken at=0 bits=1728 nac=000 duid=a fields=low_speed_2",
+        false,
+    ),
+    (
+        "a link unit 2 with five Hamming words inverted, and the second low speed word",
+        b"0",
+        ZERO_LINK_2,
+        Some(b'0'),
+        &[
+            (400, 10, 4, 10),
+            (584, 0, 1, 10),
+            (1532, 0, 1, 1),
+            (1534, 0, 1, 2),
+        ],
+        b"broken at=0 bits=1728 nac=000 duid=a fields=encryption_sync,low_speed_2",
+        false,
+    ),
+    (
+        "a link unit 2 of ones",
+        b"2",
+        b"ldu2 nac=fff mi=ffffffffffffffffff algid=ff kid=ffff lsd=ffff voice=",
+        Some(b'f'),
+        &[],
+        b"unit at=0 bits=1728 fix=0 status=222222222222222222222222 ",
+        true,
+    ),
+];
+
+const TERMINATORS: [Row; 5] = [
+    (
+        "a terminator with three Golay words inverted",
+        b"0",
+        ZERO_END_LINK,
+        None,
+        &[(112, 24, 3, 24)],
+        b"unit at=0 bits=432 fix=72 status=000000 ",
+        true,
+    ),
+    (
+        "a terminator with six words that are marks",
+        b"0",
+        ZERO_END_LINK,
+        None,
+        &[(116, 24, 6, 4)],
+        b"unit at=0 bits=432 fix=24 status=000000 ",
+        true,
+    ),
+    (
+        "a terminator with seven",
+        b"0",
+        ZERO_END_LINK,
+        None,
+        &[(116, 24, 7, 4)],
+        b"broken at=0 bits=432 nac=000 duid=f fields=link_control",
+        false,
+    ),
+    (
+        "a terminator of ones with its nulls inverted",
+        b"3",
+        b"tdulc nac=fff lc=ffffffffffffffffff",
+        None,
+        &[(400, 0, 1, 20)],
+        b"unit at=0 bits=432 fix=0 status=333333 ",
+        true,
+    ),
+    (
+        "a terminator with 4 wrong sync bits, 11 wrong identifier bits and the bit P inverted",
+        b"2",
+        ZERO_END_LINK,
+        None,
+        &[(0, 0, 1, 4), (48, 0, 1, 11), (111, 0, 1, 1)],
+        b"unit at=0 bits=432 fix=15 status=222222 ",
+        true,
+    ),
+];
+
+fn invert_run(octets: &mut [u8], first: usize, width: u16)
+    requires { first < 30000 }
+{
+    for i in 0..usize::from(width) {
+        change_bit(octets, first + i, None);
+    }
+}
+
+fn invert(octets: &mut [u8], inverted: &Inverted) {
+    let (first, step, places, width) = *inverted;
+    for i in 0..usize::from(places) {
+        let place = usize::from(first) + i * usize::from(step);
+        if place < 30_000 {
+            invert_run(octets, place, width);
+        }
+    }
+}
+
+// The line of a row, with its voice frames.
+fn line_of(row: &Row) -> Line {
+    let mut line = Line::new();
+    if row.2.len() <= 200 {
+        line.put(row.2);
+        if let Some(digit) = row.3 {
+            line.put(&[digit; 324]);
+        }
+    }
+    line
+}
+
+// What `show` writes of a row.
+fn text_of(row: &Row, line: &Line) -> Line {
+    let mut text = Line::new();
+    if row.5.len() <= 200 {
+        text.put(row.5);
+        if row.6 && line.octets().len() <= 1_000 {
+            text.put(line.octets());
+        }
+        text.put(b"\n");
+    }
+    text
+}
+
+// Whether a row holds: its unit is shown as it says, and repaired where it is whole.
+fn holds(alloc: Global, row: &Row) -> bool {
+    let line = line_of(row);
+    let mut room = [0; 256];
+    let size = build(alloc, row.1, line.octets(), &mut room);
+    let sent = room;
+    for inverted in row.4 {
+        invert(&mut room, inverted);
+    }
+    let text = text_of(row, &line);
+    if size > 256 || size == 0 {
+        return false;
+    }
+    let repaired = if row.6 { &sent } else { &room };
+    writes(alloc, &[b"show"], &room[..size], text.octets())
+        && writes(alloc, &[b"repair"], &room[..size], &repaired[..size])
+}
+
+#[test]
+fn headers(rt: HostRuntime) {
+    for row in HEADERS {
+        assert!(rt; holds(rt.alloc(), &row), "{}", row.0);
+    }
+}
+
+#[test]
+fn link_units(rt: HostRuntime) {
+    for row in LINK_UNITS {
+        assert!(rt; holds(rt.alloc(), &row), "{}", row.0);
+    }
+}
+
+#[test]
+fn terminators_with_link_control(rt: HostRuntime) {
+    for row in TERMINATORS {
+        assert!(rt; holds(rt.alloc(), &row), "{}", row.0);
+    }
+}
