@@ -1,0 +1,3 @@
+pub mod CommaListLaws
+pub mod CommaSteps
+pub mod TextSteps

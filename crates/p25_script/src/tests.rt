@@ -1,0 +1,1 @@
+//! Lines and texts known from outside.
