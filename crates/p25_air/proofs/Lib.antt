@@ -4,3 +4,5 @@ pub mod ReceivingLaws
 pub mod SoundLaws
 pub mod WorldOfLaws
 pub mod SimulationLaws
+pub mod AirSteps
+pub mod AirLaws

@@ -46,7 +46,7 @@ number-small : (head : PacketHead) → head_number head < 8
 unfolding head_number
 number-small head = omega arith
 
-blocks-few : (head : PacketHead) → head_blocks head < 128
+pub blocks-few : (head : PacketHead) → head_blocks head < 128
 unfolding head_blocks
 blocks-few head = omega arith
 

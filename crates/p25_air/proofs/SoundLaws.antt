@@ -50,7 +50,7 @@ sound-counts w sound = counts-fit w w.sender.outstanding sound.counted
 
 -- a call of a station gives a state and an answer, which the code takes apart
 pub sound-apart : {S A : Type 0} (after : S × A → WorldState) (x : S × A) (s : S) (a b : A) → s ≡ x.0 → a ≡ x.1 → a ≡ b → IsSound (after x) → IsSound (after (s, b))
-sound-apart after x s a b e f g h =
+sound-apart {S = S} {A = A} after x s a b e f g h =
     let same : x ≡ (s, b) = ap₂ (λ (t : S) (c : A). (t, c)) (sym e) (sym f ∙ g) in
     subst (λ (y : S × A). IsSound (after y)) same h
 
@@ -334,9 +334,12 @@ answer-sound w packet sound = answer-by w packet w.sender.outstanding refl sound
 
 -- Every event, and every run.
 
+pub recounted-sound : (w : WorldState) (count : ℕ) → IsSound w → IsSound (record w { false_passes = count })
+recounted-sound w count sound = record { sender = sound.sender; message = sound.message; counted = counted-false w count w.sender.outstanding sound.counted; last = sound.last; kept = sound.kept; packet_sent = sound.packet_sent; answer = sound.answer }
+
 pub counted-sound : (b : Bool) (w : WorldState) → IsSound w → IsSound (counted_when b w)
 unfolding counted_when
-counted-sound true w sound = record { sender = sound.sender; message = sound.message; counted = counted-false w (min (w.false_passes + 1) (2 ^ 64 - 1)) w.sender.outstanding sound.counted; last = sound.last; kept = sound.kept; packet_sent = sound.packet_sent; answer = sound.answer }
+counted-sound true w sound = recounted-sound w (min (w.false_passes + 1) (2 ^ 64 - 1)) sound
 counted-sound false w sound = sound
 
 data-carried : (w : WorldState) (carried : Carried) → IsSound w → IsSound (data_carried w carried).0

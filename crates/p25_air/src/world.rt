@@ -1,4 +1,5 @@
 ghost use Rattle.std.specs.Prelude.{◌≡◌, ◌+◌, ◌<◌, ◌≤◌, false, length, OnOk, OnErr, IfOk};
+ghost use Rattle.p25_packet_blocks.specs.Sendable.{AreOctets};
 ghost use Rattle.p25_air.specs.Sound.{IsMessage};
 ghost use Rattle.p25_air.specs.Steps.{world_step};
 
@@ -139,11 +140,18 @@ impl World {
     }
 }
 
+// Does nothing: its contract says that octets fit.
+fn octets_fit(octets: &[u8])
+    ensures { AreOctets octets.now }
+{
+    let _ = octets.len();
+}
+
 // Does nothing: its contract says what every message keeps.
 fn fit(message: &Message)
     ensures { IsMessage message.now }
 {
-    let _ = message.octets().len();
+    octets_fit(message.octets());
 }
 
 // A step that is no delivery, or in which nothing is heard.
