@@ -113,6 +113,7 @@ part-comma word part start i order inside comma none same =
   where
     length-take_within : (n : ℕ) (l : List ℕ) → n < length l → length (take n l) ≡ n
     length-take_within n l short = omega (arith, length-take n l)
+
     shifted : (start n count : ℕ) → count ≡ n → start + (n + 1) ≡ start + count + 1
     shifted start n count same = omega arith
 
