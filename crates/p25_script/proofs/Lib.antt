@@ -1,3 +1,6 @@
 pub mod CommaListLaws
 pub mod CommaSteps
-pub mod TextSteps
+pub mod PlacesLaws
+pub mod ValueLaws
+pub mod ScriptLaws
+pub mod ReadSteps

@@ -30,18 +30,26 @@ word_count TimeoutLine = 1
 word_count ReopenLine = 1
 word_count DeliverLine = 3
 
+-- all kinds
+abbrev pub event_kinds : List EventKind
+event_kinds = SendLine ∷ TimeoutLine ∷ ReopenLine ∷ DeliverLine ∷ []
+
 -- the kind that a word names
 abbrev pub event_named : List ℕ → Option EventKind
-event_named word = find (λ kind. bytes_eq word (event_word kind)) (SendLine ∷ TimeoutLine ∷ ReopenLine ∷ DeliverLine ∷ [])
+event_named word = find (λ kind. bytes_eq word (event_word kind)) event_kinds
 
 -- what is delivered one way
 abbrev pub way_word : Way → List ℕ
 way_word Packets = codes "data"
 way_word Answers = codes "answer"
 
+-- both ways
+abbrev pub ways : List Way
+ways = Packets ∷ Answers ∷ []
+
 -- the way that a word names
 abbrev pub way_named : List ℕ → Option Way
-way_named word = find (λ way. bytes_eq word (way_word way)) (Packets ∷ Answers ∷ [])
+way_named word = find (λ way. bytes_eq word (way_word way)) ways
 
 -- ---- the line of an event
 

@@ -1,7 +1,7 @@
 //! The words of script lines.
 
 ghost use Rattle.std.specs.Prelude.{◌≡◌, ◌≤◌, length};
-ghost use Rattle.p25_script.specs.Script.{event_named, way_named, way_word, word_count};
+ghost use Rattle.p25_script.specs.Script.{event_named, event_word, way_named, way_word, word_count};
 
 use p25_air::Way;
 
@@ -18,17 +18,31 @@ pub enum EventKind {
     Deliver,
 }
 
+// All kinds.
+const KINDS: [EventKind; 4] = [
+    EventKind::Send,
+    EventKind::Timeout,
+    EventKind::Reopen,
+    EventKind::Deliver,
+];
+
 impl EventKind {
     /// Answers the kind that a word names. `None` comes exactly where it names none.
     pub fn named(word: &[u8]) -> Option<EventKind>
         ensures { result ≡ event_named word.now }
     {
-        match word {
-            b"send" => Some(EventKind::Send),
-            b"timeout" => Some(EventKind::Timeout),
-            b"reopen" => Some(EventKind::Reopen),
-            b"deliver" => Some(EventKind::Deliver),
-            _ => None,
+        KINDS.iter().copied().find(|kind| word == kind.word())
+    }
+
+    /// Answers the word that begins a line of this kind.
+    pub fn word(self) -> &'static [u8]
+        ensures { result.now ≡ event_word self }
+    {
+        match self {
+            EventKind::Send => b"send",
+            EventKind::Timeout => b"timeout",
+            EventKind::Reopen => b"reopen",
+            EventKind::Deliver => b"deliver",
         }
     }
 
@@ -49,11 +63,8 @@ impl EventKind {
 pub fn named_way(word: &[u8]) -> Option<Way>
     ensures { result ≡ way_named word.now }
 {
-    match word {
-        b"data" => Some(Way::Packets),
-        b"answer" => Some(Way::Answers),
-        _ => None,
-    }
+    let ways = [Way::Packets, Way::Answers];
+    ways.iter().copied().find(|way| word == word_of_way(*way))
 }
 
 /// Answers the word that names a way.
