@@ -1,12 +1,12 @@
 -- A list with commas that is written item by item, and one that is read part by part, as the loops take them.
-use Rattle.std.proofs.Common.{◌≡◌, ◌≢◌, ℕ, ◌+◌, ◌-◌, ◌<◌, ◌≤◌, ◌==◌, true, false, List, [], ◌∷◌, ◌++◌, length, take, drop, map, slice_get, get_or, Option, Some, None, refl, sym, ap, ap₂, subst, ◌∙◌, arith, append-nil, append_assoc, length-append, length-take, length-drop}
+use Rattle.std.proofs.Common.{◌≡◌, ◌≢◌, ℕ, ◌+◌, ◌-◌, ◌<◌, ◌≤◌, ◌==◌, true, false, List, [], ◌∷◌, ◌++◌, length, take, drop, map, slice_get, get_or, Option, Some, None, refl, sym, ap, ap₂, subst, ◌∙◌, arith, append-nil, append_assoc, length-take, length-drop}
 use Rattle.std.specs.Prelude.{nat_le}
 use Rattle.std.specs.List.{join_with_byte}
 use Rattle.std.specs.Option.{option_map}
 use Rattle.std.specs.Str.{bytes_eq}
-use Rattle.std.proofs.lemmas.Bool.{cond-true, cond-false, eq-eqb, ne_eqb, le-leb, lt-leb}
+use Rattle.std.proofs.lemmas.Bool.{cond-true, cond-false, ne_eqb, le-leb, lt-leb}
 use Rattle.std.proofs.lemmas.List.{length-map, take_more, map_push, take_all, drop_more, drop-drop, take-append-drop, get_or-take, get_or-drop, get_or_default}
-use Rattle.std.proofs.lemmas.List.Splits.{length-slice_split, slice_split_none, slice_split_at}
+use Rattle.std.proofs.lemmas.List.Splits.{slice_split_none, slice_split_at}
 use Rattle.std.proofs.lemmas.Option.{slice_get_within, get_or_from_slice_get}
 use Rattle.p25_line.proofs.JoinLaws.{Lacks}
 use Rattle.p25_script.specs.CommaLists.{dash, comma_parts, comma_text, items_in, list_in, parts_from, with_item}
@@ -24,7 +24,7 @@ join-push separator first [] part = refl
 join-push separator first (next ∷ parts) part =
     ap (λ l. first ++ separator ∷ l) (join-push separator next parts part) ∙ sym (append_assoc first (separator ∷ join_with_byte separator (next ∷ parts)) (separator ∷ part))
 
-join-more : (separator : ℕ) (parts : List (List ℕ)) (part : List ℕ) → 0 < length parts
+pub join-more : (separator : ℕ) (parts : List (List ℕ)) (part : List ℕ) → 0 < length parts
     → join_with_byte separator (parts ++ part ∷ []) ≡ join_with_byte separator parts ++ separator ∷ part
 join-more separator [] part some = absurd (omega arith)
 join-more separator (first ∷ parts) part some = join-push separator first parts part

@@ -4,3 +4,5 @@ pub mod PlacesLaws
 pub mod ValueLaws
 pub mod ScriptLaws
 pub mod ReadSteps
+pub mod TextSteps
+pub mod PlacesSteps

@@ -12,8 +12,8 @@ is_ascending-increasing [] increasing = refl
 is_ascending-increasing (place ∷ []) increasing = refl
 is_ascending-increasing (place ∷ next ∷ places) increasing =
     ap₂ ◌&&◌ (lt-ltb place next (increasing 0 (omega arith))) (is_ascending-increasing (next ∷ places) (λ k below.
-      let same : suc k + 1 ≡ suc (k + 1) = omega arith in
-      subst (λ (i : ℕ). slice_index (next ∷ places) k < slice_index (place ∷ next ∷ places) i) same (increasing (suc k) (omega arith))))
+    let same : suc k + 1 ≡ suc (k + 1) = omega arith in
+    subst (λ (i : ℕ). slice_index (next ∷ places) k < slice_index (place ∷ next ∷ places) i) same (increasing (suc k) (omega arith))))
 
 pub increasing-is_ascending : (places : List ℕ) → is_ascending places ≡ true → IsStrictlyIncreasing places
 increasing-is_ascending [] ascending k below = absurd (omega arith)

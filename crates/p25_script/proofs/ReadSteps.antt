@@ -1,9 +1,9 @@
 -- What each answer of the reader of script lines shows of the reading by the definition.
-use Rattle.std.proofs.Common.{◌≡◌, ℕ, zero, suc, ◌+◌, ◌-◌, ◌<◌, ◌≤◌, List, [], ◌∷◌, length, take, drop, slice_get, Option, Some, None, Err, Ok, refl, sym, ap, ap₂, subst, ◌∙◌, arith, length-take, length-drop}
+use Rattle.std.proofs.Common.{◌≡◌, ℕ, zero, suc, ◌<◌, ◌≤◌, List, [], ◌∷◌, length, take, drop, slice_get, Some, None, Result, Err, Ok, refl, sym, ap, ap₂, subst, ◌∙◌, arith, length-take, length-drop}
 use Rattle.std.specs.Prelude.{All}
 use Rattle.std.proofs.lemmas.List.{length-map, take_all}
 use Rattle.p25_line.specs.Marks.{Marks}
-use Rattle.p25_line.specs.Words.{LiesIn, WordsAnswer, marked, word_at, words_or_fault}
+use Rattle.p25_line.specs.Words.{LiesIn, WordsAnswer, WordsFound, marked, word_at, words_or_fault}
 use Rattle.p25_line.specs.declared.fault.LineFault.{LineFault}
 use Rattle.p25_line.specs.declared.fault.LineFault.TheVariants.{Key, Kind as WrongKind}
 use Rattle.p25_line.specs.declared.word_list.Place.{Place}
@@ -13,7 +13,7 @@ use Rattle.p25_script.specs.declared.names.EventKind.{EventKind}
 use Rattle.p25_script.specs.declared.names.EventKind.TheVariants.{Send as SendLine, Timeout as TimeoutLine, Reopen as ReopenLine, Deliver as DeliverLine}
 
 -- a line that was refused before its words
-pub refused : (line : List ℕ) (fault : LineFault) → words_or_fault line ≡ Err fault → event_of line ≡ Err fault
+refused : (line : List ℕ) (fault : LineFault) → words_or_fault line ≡ Err fault → event_of line ≡ Err fault
 unfolding event_of
 refused line fault same = ap event_by_words same
 
@@ -137,3 +137,12 @@ short_word line (place ∷ places) zero word at =
     let same : word_at line place ≡ word = cc at in
     omega (arith, ap length same, length-take place.len (drop place.start line), length-drop place.start line)
 short_word line (place ∷ places) (suc i) word at = short_word line places i word at
+
+-- a line without words is refused with the fault that is answered
+refused_answer : (line : List ℕ) (list : Marks) (fault : LineFault) (answer : Result (List (List ℕ)) LineFault) → words_or_fault line ≡ answer
+    → WordsFound line list (Err fault) answer → Err fault ≡ event_of line
+refused_answer line list fault (Ok words) same facts = cc facts.0
+refused_answer line list fault (Err other) same facts = let known : fault ≡ other = cc facts.0 in ap Err known ∙ sym (refused line other same)
+
+pub refused-answer : (line : List ℕ) (list : Marks) (fault : LineFault) → WordsAnswer line list (Err fault) → Err fault ≡ event_of line
+refused-answer line list fault answer = refused_answer line list fault (words_or_fault line) refl answer

@@ -1,6 +1,6 @@
 -- The line of an event is read as that event, and a line that is read is the line of its event. By cases on what each step of the reading found.
-use Rattle.std.proofs.Common.{◌≡◌, ℕ, suc, ◌+◌, ◌*◌, ◌<◌, ◌≤◌, ◌&&◌, true, List, [], ◌∷◌, length, Option, Some, None, Result, Ok, Err, refl, sym, ap, ap₂, subst, ◌∙◌, arith, length-append}
-use Rattle.std.specs.Prelude.{IfOk, codes}
+use Rattle.std.proofs.Common.{◌≡◌, ℕ, ◌+◌, ◌*◌, ◌<◌, ◌≤◌, ◌&&◌, true, List, [], ◌∷◌, length, Option, Some, None, Result, Ok, Err, refl, sym, ap, ap₂, subst, ◌∙◌, arith}
+use Rattle.std.specs.Prelude.{IfOk}
 use Rattle.std.specs.List.{join_with_byte, list_all}
 use Rattle.std.specs.Str.{bytes_eq}
 use Rattle.std.proofs.lemmas.Slice.Eq.{bytes_eq-Decides}
@@ -13,8 +13,8 @@ use Rattle.p25_air.specs.declared.step.Event.{Event}
 use Rattle.p25_air.specs.declared.step.Event.TheVariants.{Send, Timeout, Reopen, ToReceiver, ToSender}
 use Rattle.p25_air.specs.declared.step.Way.{Way}
 use Rattle.p25_air.specs.declared.step.Way.TheVariants.{Packets, Answers}
-use Rattle.p25_script.specs.Script.{IsScripted, delivery, delivery_or_fault, event_by_kind, event_by_words, event_in, event_kinds, event_named, event_of, event_text, event_word, event_words, send_or_fault, way_named, way_word, ways, word_count}
-use Rattle.p25_script.specs.Values.{ArePlaces, message_in, message_text, places_in, places_text}
+use Rattle.p25_script.specs.Script.{IsScripted, delivery, delivery_or_fault, event_by_kind, event_by_words, event_in, event_kinds, event_named, event_of, event_text, event_word, event_words, send_or_fault, way_named, way_word, ways}
+use Rattle.p25_script.specs.Values.{ArePlaces, message_in, places_in, places_text}
 use Rattle.p25_script.specs.declared.names.EventKind.{EventKind}
 use Rattle.p25_script.specs.declared.names.EventKind.TheVariants.{Send as SendLine, Timeout as TimeoutLine, Reopen as ReopenLine, Deliver as DeliverLine}
 use Rattle.p25_script.proofs.ValueLaws.{length-message_text, length-places_text, message-message_in, message-word, message_in-text, places-places_in, places-word, places_in-text}

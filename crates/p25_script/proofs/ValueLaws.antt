@@ -1,6 +1,6 @@
 -- Messages and places are read from their texts, and a word that is read as one is its text. By cases on what each test found.
-use Rattle.std.proofs.Common.{◌≡◌, ℕ, zero, suc, ◌+◌, ◌*◌, ◌/◌, ◌%◌, ◌^◌, ◌<◌, ◌≤◌, ◌==◌, ◌&&◌, ◌||◌, Bool, true, false, cond, List, [], ◌∷◌, ◌++◌, length, map, decimal, Option, Some, None, inl, inr, refl, sym, ap, ap₂, subst, ◌∙◌, arith, length-append}
-use Rattle.std.specs.Prelude.{nat_le, nat_lt, All, IsSome, IfSome, ◌↔◌}
+use Rattle.std.proofs.Common.{◌≡◌, ℕ, zero, suc, ◌+◌, ◌*◌, ◌/◌, ◌%◌, ◌^◌, ◌<◌, ◌≤◌, ◌==◌, ◌&&◌, ◌||◌, Bool, true, false, cond, List, [], ◌∷◌, length, map, decimal, Option, Some, None, inl, inr, refl, sym, ap, ap₂, subst, ◌∙◌, arith, length-append}
+use Rattle.std.specs.Prelude.{nat_le, All, IsSome, IfSome, ◌↔◌}
 use Rattle.std.specs.Char.{is_ascii_digit}
 use Rattle.std.specs.List.{join_with_byte, list_all}
 use Rattle.std.specs.Str.{all_ascii_digits, bytes_eq}
@@ -18,7 +18,7 @@ use Rattle.p25_line.proofs.HexLaws.{list_all-encode_lower, octets_of-encode_lowe
 use Rattle.p25_line.proofs.JoinLaws.{Lacks}
 use Rattle.p25_text.proofs.WordLaws.{digits-printed}
 use Rattle.p25_air.specs.Sound.{IsMessage}
-use Rattle.p25_script.specs.CommaLists.{comma_text, dash, list_in, list_text}
+use Rattle.p25_script.specs.CommaLists.{comma_text, dash, list_in}
 use Rattle.p25_script.specs.Values.{ArePlaces, has_message_digits, is_ascending, message_in, message_text, number_below, place_in, places_in, places_text, where_ascending}
 use Rattle.p25_script.proofs.CommaListLaws.{AllFit, ItemLaws, list_in-text, text-list_in}
 use Rattle.p25_script.proofs.PlacesLaws.{increasing-is_ascending, is_ascending-increasing}
@@ -121,15 +121,12 @@ pub made-message : (octets : List ℕ) (result : Option (List ℕ)) → IsSome r
 made-message octets None fits same few = absurd (true≢false (sym (fits.1 few)))
 made-message octets (Some message) fits same few = ap Some same
 
-message-printed : (message : List ℕ) → IsMessage message → is_word (message_text message) ≡ true
-message-printed [] fits = refl
-message-printed (octet ∷ octets) fits =
+pub message-word : (message : List ℕ) → IsMessage message → is_word (message_text message) ≡ true
+message-word [] fits = refl
+message-word (octet ∷ octets) fits =
     let count = length-encode_with lower_digits (octet ∷ octets) in
     ap₂ ◌&&◌ (lt-ltb 0 (length (encode_lower (octet ∷ octets))) (omega (arith, count)))
     (digits-printed (encode_lower (octet ∷ octets)) (list_all-encode_lower (octet ∷ octets) fits.octets))
-
-pub message-word : (message : List ℕ) → IsMessage message → is_word (message_text message) ≡ true
-message-word message fits = message-printed message fits
 
 pub length-message_text : (message : List ℕ) → IsMessage message → length (message_text message) ≤ 4056
 length-message_text [] fits = omega arith
@@ -200,7 +197,7 @@ digits-comma (octet ∷ octets) digits =
     let parts = and_parts (is_ascii_digit octet) (all_ascii_digits octets) digits in
     All-cons (λ o. (o == 44) ≡ false) octet octets (digit-comma octet parts.0) (digits-comma octets parts.1)
 
-place_in-decimal : (place : ℕ) → place < 25920 → place_in (decimal place) ≡ Some place
+pub place_in-decimal : (place : ℕ) → place < 25920 → place_in (decimal place) ≡ Some place
 place_in-decimal place below = number_below-decimal 25920 place below (omega arith)
 
 -- what each place keeps

@@ -1,6 +1,8 @@
 //! The values of script lines.
 
-ghost use Rattle.std.specs.Prelude.{◌≡◌, ◌<◌, ◌≤◌, length, IfSome};
+ghost use Rattle.std.specs.Prelude.{◌≡◌, ◌/◌, ◌<◌, ◌≤◌, false, length, IfSome};
+ghost use Rattle.std.specs.Str.{bytes_eq};
+ghost use Rattle.p25_script.specs.CommaLists.{dash};
 ghost use Rattle.p25_script.specs.Values.{message_in, place_in, places_in};
 
 use super::comma_lists::{comma_part, is_dash};
@@ -23,11 +25,21 @@ pub fn message_value(word: &[u8]) -> Option<Message>
         return None;
     }
     let mut room = [0; MESSAGE_MOST];
-    let octets = &mut room[..count];
-    if !hex_value(word, octets) {
+    message_of_digits(word, &mut room[..count])
+}
+
+// The message that a word of digits is, which has half as many octets.
+fn message_of_digits(word: &[u8], room: &mut [u8]) -> Option<Message>
+    requires digits { bytes_eq word.now dash ≡ false }
+    requires half { length room.old ≡ length word.now / 2 }
+    requires some { 0 < length room.old }
+    requires few { length room.old ≤ 2028 }
+    ensures { result ≡ message_in word.now }
+{
+    if !hex_value(word, room) {
         return None;
     }
-    Message::new(octets)
+    Message::new(room)
 }
 
 // The place that a text is: a number below 25,920.

@@ -1,4 +1,4 @@
-use Rattle.std.proofs.Common.{length, take, drop, refl, arith}
+use Rattle.std.proofs.Common.{refl, arith}
 use Rattle.p25_script.proofs.CommaSteps.{part-comma, part-last}
 use Rattle.p25_script.proofs.comma_lists.comma_part.Goals as goal
 
