@@ -1,9 +1,9 @@
 -- What the air keeps: a packet that is heard in no false pass is true to the one sent, and one that arrives within radius is
 -- heard as it was sent. By the tests of a false pass, and the law of packets within radius.
-use Rattle.std.proofs.Common.{◌≡◌, ℕ, ◌*◌, ◌<◌, ◌≤◌, inl, inr, Bool, true, false, cond, eqb, ◌&&◌, not, List, [], ◌∷◌, length, replicate, Option, Result, Ok, Err, refl, ap, ap₂, sym, subst, ◌∙◌, arith}
+use Rattle.std.proofs.Common.{◌≡◌, ℕ, ◌*◌, ◌<◌, inl, inr, Bool, true, false, cond, eqb, ◌&&◌, not, List, [], ◌∷◌, length, get_or, replicate, Result, Ok, Err, refl, ap, ap₂, sym, ◌∙◌, arith}
 use Rattle.std.specs.Str.{bytes_eq}
 use Rattle.std.specs.Cmp.Lexicographic.{same_text}
-use Rattle.std.proofs.lemmas.Bool.{and_parts, and_from, eq-eqb, cond-true}
+use Rattle.std.proofs.lemmas.Bool.{and_parts, and_from, eq-eqb, ne_eqb, cond-true, cond-false}
 use Rattle.std.proofs.lemmas.Bool.Decides.{nat_tests}
 use Rattle.std.proofs.lemmas.List.{length-replicate}
 use Rattle.std.proofs.lemmas.Slice.Eq.{bytes_eq-Decides}
@@ -15,14 +15,13 @@ use Rattle.p25_packet_blocks.specs.declared.block.Slot.TheVariants.{Good, Bad}
 use Rattle.p25_packet_blocks.specs.declared.packet.Packet.{Packet}
 use Rattle.p25_packet_blocks.specs.declared.packet.Packet.TheVariants.{Confirmed, Plain}
 use Rattle.p25_packet_blocks.specs.Heads.{head_blocks}
-use Rattle.p25_packet_blocks.specs.Whole.{packet_head}
+use Rattle.p25_packet_blocks.specs.Whole.{packet_head, IsWholePacket}
 use Rattle.p25_packet_blocks.specs.Lengths.{packet_parts}
-use Rattle.p25_packet_blocks.specs.Parts.{BlockParts, PlainParts}
+use Rattle.p25_packet_blocks.specs.Parts.{BlockParts}
 use Rattle.p25_packet_blocks.specs.Sendable.{IsSendable}
 use Rattle.p25_packet_blocks.specs.UnitReading.{packet_unit_of}
 use Rattle.p25_packet_blocks.specs.Within.{IsPacketWithin, IsSending, sent_unit}
 use Rattle.p25_world.specs.Clean.{AreTrueSlots, IsTrueTo}
-use Rattle.p25_air.specs.declared.air.Carried.{Carried}
 use Rattle.p25_air.specs.declared.air.Carried.TheVariants.{Lost, Foreign, Heard}
 use Rattle.p25_air.specs.Air.{station_nac, station_status, transmission_of, received_bits, is_true_slot, are_true_slots, is_true_to, carried_from, carried_of, ArrivesWithin}
 
@@ -44,7 +43,7 @@ unfolding are_true_slots is_true_slot AreTrueSlots
 true-slots [] [] e = tt
 true-slots [] (slot ∷ heard) e = cc
 true-slots (was ∷ sent) [] e = cc
-true-slots (was ∷ sent) (Bad ∷ heard) e = (inl refl, true-slots sent heard (and_parts _ _ e).1)
+true-slots (was ∷ sent) (Bad ∷ heard) e = (inl refl, true-slots sent heard (and_parts (is_true_slot was Bad) _ e).1)
 true-slots (Bad ∷ sent) (Good block ∷ heard) e = cc
 true-slots (Good was ∷ sent) (Good block ∷ heard) e =
     let parts = and_parts _ _ e in
@@ -125,3 +124,27 @@ pub air-within : ReadsWithin → (sent : Packet) (flips : List ℕ) → IsSendab
 unfolding carried_of ArrivesWithin transmission_of
 air-within reads sent flips sendable within =
     ap (carried_from sent) (reads station_nac sent (replicate (packet_parts (head_blocks (packet_head sent))) station_status) (received_bits sent flips) (is-sending sent sendable) within) ∙ own-heard sent
+
+-- What the code reads.
+
+pub carried-lost : (sent : Packet) (flips : List ℕ) (field : Field) → packet_unit_of (received_bits sent flips) ≡ Err field → carried_of sent flips ≡ Lost field
+unfolding carried_of carried_from
+carried-lost sent flips field e = ap (carried_from sent) e
+
+pub carried-foreign : (sent : Packet) (flips : List ℕ) (nac : ℕ) (packet : Packet) → packet_unit_of (received_bits sent flips) ≡ Ok (nac, packet) → (nac ≡ station_nac → ⊥) → carried_of sent flips ≡ Foreign
+unfolding carried_of carried_from
+carried-foreign sent flips nac packet e other = ap (carried_from sent) e ∙ cond-false (eqb nac station_nac) _ _ (ne_eqb _ _ other)
+
+pub carried-heard : (sent : Packet) (flips : List ℕ) (nac : ℕ) (packet : Packet) → packet_unit_of (received_bits sent flips) ≡ Ok (nac, packet) → nac ≡ station_nac → carried_of sent flips ≡ Heard packet (not (is_true_to sent packet))
+unfolding carried_of carried_from
+carried-heard sent flips nac packet e own = ap (carried_from sent) e ∙ cond-true (eqb nac station_nac) _ _ (eq-eqb _ _ own)
+
+-- A packet that can be sent has no Bad slot.
+pub sendable-whole : (packet : Packet) → IsSendable packet → IsWholePacket packet
+unfolding IsSendable IsWholePacket
+sendable-whole (Confirmed packet) sendable = record {
+  at = λ (j : ℕ) (h : j < length packet.slots) (e : get_or packet.slots j Bad ≡ Bad).
+      let good = sendable.good.at j (omega (arith, sendable.kind.count)) in
+      cc (good.1);
+}
+sendable-whole (Plain packet) sendable = tt

@@ -1,12 +1,12 @@
 -- The loops of the air: one more place inverted, one more status symbol, one more slot. By the laws of lists by their places.
-use Rattle.std.proofs.Common.{◌≡◌, ℕ, zero, suc, ◌+◌, ◌<◌, ◌≤◌, Bool, true, false, ◌&&◌, not, List, [], ◌∷◌, ◌++◌, length, take, drop, get_or, replicate, Some, refl, ap, ap₂, sym, ◌∙◌, arith}
+use Rattle.std.proofs.Common.{◌≡◌, ℕ, zero, suc, ◌+◌, ◌<◌, ◌≤◌, Bool, true, false, ◌&&◌, List, [], ◌∷◌, ◌++◌, length, take, drop, get_or, Some, refl, ap, ap₂, sym, ◌∙◌, arith}
 use Rattle.std.specs.Prelude.{slice_get}
 use Rattle.std.proofs.lemmas.List.{take_more, drop_more}
 use Rattle.std.proofs.Math.Bool.{and-false}
 use Rattle.std.proofs.lemmas.Option.{get_or_from_slice_get}
 use Rattle.p25_bits.specs.Bits.{flipped}
 use Rattle.p25_packet_blocks.specs.declared.block.Slot.{Slot}
-use Rattle.p25_packet_blocks.specs.declared.block.Slot.TheVariants.{Good, Bad}
+use Rattle.p25_packet_blocks.specs.declared.block.Slot.TheVariants.{Bad}
 use Rattle.p25_air.specs.Air.{with_flips, is_true_slot, are_true_slots}
 
 -- Flips.
@@ -38,9 +38,17 @@ with_flips-more bits now flips i place is h e =
 
 -- Slots.
 
-pub are_true_slots-is : (sent heard : List Slot) (i : ℕ) → i < length sent → i < length heard → are_true_slots (drop i sent) (drop i heard) ≡ (is_true_slot (get_or sent i Bad) (get_or heard i Bad) && are_true_slots (drop (i + 1) sent) (drop (i + 1) heard))
+are_true_slots-is : (sent heard : List Slot) (i : ℕ) → i < length sent → i < length heard → are_true_slots (drop i sent) (drop i heard) ≡ (is_true_slot (get_or sent i Bad) (get_or heard i Bad) && are_true_slots (drop (i + 1) sent)
+    (drop (i + 1) heard))
 unfolding are_true_slots
 are_true_slots-is sent heard i s h = ap₂ are_true_slots (drop_more sent i Bad s) (drop_more heard i Bad h)
+
+-- one more slot
+pub are_true_slots-step : (sent heard : List Slot) (i : ℕ) (was slot : Slot) (same : Bool) → length sent ≡ length heard → i < length sent → slice_get sent i ≡ Some was → slice_get heard i ≡ Some slot → same ≡ is_true_slot was slot →
+    are_true_slots (drop i sent) (drop i heard) ≡ (same && are_true_slots (drop (i + 1) sent) (drop (i + 1) heard))
+are_true_slots-step sent heard i was slot same long h s t e =
+    are_true_slots-is sent heard i h (omega arith)
+    ∙ ap (λ (b : Bool). b && are_true_slots (drop (i + 1) sent) (drop (i + 1) heard)) (ap₂ is_true_slot (get_or_from_slice_get sent i was Bad s) (get_or_from_slice_get heard i slot Bad t) ∙ sym e)
 
 pub are_true_slots-none : (sent heard : List Slot) → sent ≡ [] → heard ≡ [] → are_true_slots sent heard ≡ true
 unfolding are_true_slots

@@ -6,3 +6,8 @@ pub mod WorldOfLaws
 pub mod SimulationLaws
 pub mod AirSteps
 pub mod AirLaws
+pub mod CleanLaws
+pub mod TriesLaws
+pub mod FewFlipsLaws
+pub mod FalsePassLaws
+pub mod AtOnceLaws

@@ -1,7 +1,7 @@
 -- What a receiver keeps and answers, whatever it hears: V(R) has three bits, at most 127 blocks are kept, and its answer can be
 -- sent. By the rules, each test taken both ways.
-use Rattle.std.proofs.Common.{◌≡◌, ℕ, ◌+◌, ◌-◌, ◌*◌, ◌/◌, ◌%◌, ◌<◌, ◌≤◌, ◌⊎◌, inl, inr, Bool, true, false, cond, eqb, ◌&&◌, List, ◌++◌, length, map, replicate, Option, Some, None, ap₂, ◌∙◌, arith, length-append}
-use Rattle.std.specs.Prelude.{nat_le, is_some, IfSome, slice_index}
+use Rattle.std.proofs.Common.{◌≡◌, ℕ, ◌+◌, ◌-◌, ◌%◌, ◌<◌, ◌≤◌, ◌⊎◌, inl, inr, Bool, true, false, cond, eqb, ◌&&◌, List, ◌++◌, length, map, replicate, Option, Some, None, ap₂, ◌∙◌, arith, length-append}
+use Rattle.std.specs.Prelude.{nat_le, is_some, IfSome}
 use Rattle.std.proofs.lemmas.List.{length-map, length-replicate}
 use Rattle.std.proofs.lemmas.Bool.{cases_lt, cond-true, cond-false, le-leb, leb-true, false_from_ne_true}
 use Rattle.p25_packet_blocks.specs.declared.head.PacketHead.{PacketHead}
@@ -13,7 +13,7 @@ use Rattle.p25_packet_blocks.specs.ConfirmedParts.{ConfirmedParts}
 use Rattle.p25_packet_blocks.specs.Sendable.{IsSendable}
 use Rattle.p25_stations.specs.MessageBlocks.{unpadded}
 use Rattle.p25_stations.specs.Places.{put_slots, all_octets, flag_count, held_flags}
-use Rattle.p25_stations.specs.SentPackets.{station_llid, ack_packet, crc_nack_packet, order_nack_packet, retry_packet}
+use Rattle.p25_stations.specs.SentPackets.{station_llid, ack_packet, order_nack_packet}
 use Rattle.p25_stations.specs.ReceiverState.{Keeping, Receiving}
 use Rattle.p25_stations.specs.ReceiverRules.{empty_places, keeping_full, keeping_for, finished, completed, filled, opening_heard, data_heard, receiver_heard}
 use Rattle.p25_stations.specs.declared.receiver.Heard.{Heard}

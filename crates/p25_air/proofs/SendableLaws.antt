@@ -1,15 +1,13 @@
 -- The packets that stations send can be sent: their headers have ten octets, and each slot holds a block. By the laws of lists
 -- by their places.
-use Rattle.std.proofs.Common.{◌≡◌, ℕ, zero, suc, ◌+◌, ◌-◌, ◌*◌, ◌/◌, ◌%◌, ◌<◌, ◌≤◌, ◌⊎◌, inl, inr, Bool, true, false, cond, eqb, List, [], ◌∷◌, ◌++◌, length, map, get_or, drop, replicate, refl, ap, sym, ◌∙◌, subst, arith, length-append}
+use Rattle.std.proofs.Common.{◌≡◌, ℕ, zero, suc, ◌+◌, ◌-◌, ◌*◌, ◌/◌, ◌%◌, ◌<◌, ◌≤◌, ◌⊎◌, inl, inr, Bool, true, false, cond, eqb, List, [], ◌∷◌, ◌++◌, length, map, get_or, drop, replicate, refl, ap, sym, ◌∙◌, arith, length-append}
 use Rattle.std.specs.Prelude.{All, nat_le, slice_index_or}
 use Rattle.std.proofs.lemmas.List.{length-map}
 use Rattle.std.proofs.lemmas.Bool.{cond-true, cond-false, le-leb, leb-true, false_from_ne_true}
 use Rattle.std.proofs.lemmas.List.Elements.{All-nil, All-cons, All-append, All-replicate, All-get_or, All-map, All-take, All-drop}
-use Rattle.p25_bits.specs.Bits.{part}
 use Rattle.p25_bits.specs.Numbers.{each_below, joined_below, octets_from}
 use Rattle.p25_bits.proofs.PartLaws.{length-part}
 use Rattle.p25_bits.proofs.NumbersLaws.{length-each_below, All-each_below, joined_below-zero, joined_below-suc, All-joined_below, All-numbers_from}
-use Rattle.p25_packet_blocks.specs.declared.head.PacketHead.{PacketHead}
 use Rattle.p25_packet_blocks.specs.declared.block.Slot.{Slot}
 use Rattle.p25_packet_blocks.specs.declared.block.Slot.TheVariants.{Good, Bad}
 use Rattle.p25_packet_blocks.specs.declared.packet.Packet.TheVariants.{Confirmed, Plain}
@@ -19,7 +17,7 @@ use Rattle.p25_packet_blocks.specs.FlagOctets.{flag_octets}
 use Rattle.p25_packet_blocks.specs.Sendable.{AreOctets, IsHead, IsDataBlock, AreDataBlocks, IsSendable}
 use Rattle.p25_packet_blocks.proofs.ImageLaws.{AreOctets-checked_octets}
 use Rattle.p25_stations.specs.MessageBlocks.{block_count, pad_count, padded_octets, message_octets, message_block, message_blocks}
-use Rattle.p25_stations.specs.SentPackets.{good_slot, message_packet, wanted_slots, blocks_packet, opening_packet, short_response, ack_packet, retry_packet}
+use Rattle.p25_stations.specs.SentPackets.{good_slot, message_packet, wanted_slots, blocks_packet, opening_packet, short_response, retry_packet}
 use Rattle.p25_stations.proofs.MessageBlocksLaws.{length-message_octets}
 use Rattle.p25_stations.proofs.SentSteps.{wanted_slot, length-flag_octets}
 use Rattle.p25_world.proofs.HeadLaws.{confirmed_head-blocks, opening_head-blocks, response_head-format}

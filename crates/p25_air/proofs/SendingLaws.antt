@@ -1,7 +1,5 @@
 -- A sender keeps what every sender keeps, whatever it hears. By the rules, each test taken both ways.
-use Rattle.std.proofs.Common.{◌≡◌, ℕ, ◌+◌, ◌<◌, ◌≤◌, Bool, true, false, cond, ◌&&◌, List, length, take, Option, Some, None, refl, arith}
-use Rattle.std.specs.Prelude.{nat_lt, nat_le, not}
-use Rattle.std.specs.List.{list_any}
+use Rattle.std.proofs.Common.{◌≡◌, ℕ, ◌+◌, ◌<◌, Bool, true, false, cond, List, length, refl, arith}
 use Rattle.std.proofs.lemmas.Bool.Decides.{nat_tests}
 use Rattle.p25_packet_blocks.specs.Parts.{PlainParts}
 use Rattle.p25_packet_blocks.specs.declared.packet.Packet.{Packet}
@@ -16,9 +14,9 @@ use Rattle.p25_stations.specs.declared.asked.Asked.TheVariants.{Nothing as Nothi
 use Rattle.p25_stations.specs.declared.sender_state.Outstanding.{Outstanding}
 use Rattle.p25_stations.specs.declared.sender_state.Outstanding.TheVariants.{Nothing, Message, Opening}
 use Rattle.p25_stations.specs.declared.sender.Resend.{Resend}
-use Rattle.p25_stations.specs.declared.sender.Resend.TheVariants.{Sent, Idle, Down as ResendDown}
+use Rattle.p25_stations.specs.declared.sender.Resend.TheVariants.{Sent, Down as ResendDown}
 use Rattle.p25_stations.specs.declared.sender.SenderHeard.{SenderHeard}
-use Rattle.p25_stations.specs.declared.sender.SenderHeard.TheVariants.{Acknowledged, Opened, Retry, Repeat, Ignored, Down as HeardDown}
+use Rattle.p25_stations.specs.declared.sender.SenderHeard.TheVariants.{Opened, Retry, Repeat, Ignored, Down as HeardDown}
 
 -- after the number of what was outstanding
 pub after-sending : (number : ℕ) → IsSending (sending_after number)

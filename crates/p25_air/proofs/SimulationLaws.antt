@@ -1,5 +1,5 @@
 -- Each step of the world of a link is what happens at the link. By the answers of the stations, one after the other.
-use Rattle.std.proofs.Common.{◌≡◌, ℕ, ◌+◌, ◌-◌, ◌^◌, min, Bool, true, false, List, [], ◌∷◌, ◌++◌, length, Option, Some, None, refl, ap, ap₂, sym, subst, ◌∙◌, arith, append_assoc}
+use Rattle.std.proofs.Common.{◌≡◌, ℕ, ◌+◌, ◌-◌, ◌^◌, min, Bool, true, false, List, [], ◌∷◌, ◌++◌, Option, Some, None, refl, ap, sym, subst, arith, append_assoc}
 use Rattle.p25_packet_blocks.specs.declared.packet.Packet.{Packet}
 use Rattle.p25_stations.specs.SenderState.{Sending}
 use Rattle.p25_stations.specs.ReceiverState.{Receiving}
@@ -28,7 +28,7 @@ use Rattle.p25_air.specs.WorldState.{WorldState, first_world}
 use Rattle.p25_air.specs.Steps.{after_offer, after_timeout, after_reopening, after_data, after_answer, counted_when, data_carried, data_delivered, answer_carried, answer_delivered, world_step}
 use Rattle.p25_air.specs.Runs.{world_run}
 use Rattle.p25_air.specs.Links.{hearing_from, hearing_of, happenings_at, happenings_in, link_of, IsWorldOf}
-use Rattle.p25_air.proofs.WorldOfLaws.{sent_in, delivered_in, acknowledged_in, first_mark, marks_after, world_of, first-world_of, session-ends, sessions-world_of}
+use Rattle.p25_air.proofs.WorldOfLaws.{sent_in, delivered_in, acknowledged_in, world_of, first-world_of, session-ends, sessions-world_of}
 
 -- The calls of the stations.
 

@@ -1,9 +1,8 @@
 -- Every step keeps a world sound. By what is outstanding, each answer of a station in turn.
-use Rattle.std.proofs.Common.{◌≡◌, ℕ, ◌+◌, ◌-◌, ◌^◌, ◌%◌, ◌<◌, ◌≤◌, min, inl, inr, Bool, true, false, List, [], ◌∷◌, ◌++◌, length, Option, Some, None, refl, ap, ap₂, sym, subst, ◌∙◌, arith, length-append}
+use Rattle.std.proofs.Common.{◌≡◌, ℕ, ◌+◌, ◌-◌, ◌^◌, ◌<◌, ◌≤◌, min, inl, inr, Bool, true, false, List, [], ◌∷◌, ◌++◌, length, Option, Some, None, refl, ap, ap₂, sym, subst, ◌∙◌, arith, length-append}
 use Rattle.std.specs.Prelude.{IfSome}
 use Rattle.p25_packet_blocks.specs.declared.packet.Packet.{Packet}
 use Rattle.p25_packet_blocks.specs.Sendable.{IsSendable}
-use Rattle.p25_stations.specs.MessageBlocks.{block_count}
 use Rattle.p25_stations.specs.SentPackets.{message_packet, opening_packet}
 use Rattle.p25_stations.specs.SenderState.{Sending, IsNumbered, IsSending}
 use Rattle.p25_stations.specs.ReceiverState.{Receiving}
@@ -12,17 +11,15 @@ use Rattle.p25_stations.specs.ReceiverRules.{receiver_heard}
 use Rattle.p25_stations.specs.declared.sender_state.Outstanding.{Outstanding}
 use Rattle.p25_stations.specs.declared.sender_state.Outstanding.TheVariants.{Nothing, Message, Opening}
 use Rattle.p25_stations.specs.declared.sender.Offer.{Offer}
-use Rattle.p25_stations.specs.declared.sender.Offer.TheVariants.{Taken as OfferTaken, Busy as OfferBusy, Down as DownAtOffer}
 use Rattle.p25_stations.specs.declared.sender.Resend.{Resend}
 use Rattle.p25_stations.specs.declared.sender.Resend.TheVariants.{Sent, Idle as ResendIdle, Down as DownAtTimeout}
 use Rattle.p25_stations.specs.declared.sender.SenderHeard.{SenderHeard}
 use Rattle.p25_stations.specs.declared.sender.SenderHeard.TheVariants.{Acknowledged as HeardAck, Opened as SenderOpened, Retry as HeardRetry, Repeat as HeardRepeat, Ignored as SenderIgnored, Down as DownAtAnswer}
 use Rattle.p25_stations.specs.declared.sender.Reopen.{Reopen as ReopenAnswer}
-use Rattle.p25_stations.specs.declared.sender.Reopen.TheVariants.{Sent as ReopenSent, Up as ReopenUp}
 use Rattle.p25_stations.specs.declared.receiver.Heard.{Heard as HeardAnswer}
 use Rattle.p25_stations.specs.declared.receiver.Heard.TheVariants.{Delivered as HeardDelivered, Opened as ReceiverOpened, Again as HeardAgain, Kept as HeardKept, RefusedCrc as HeardCrc, RefusedOrder as HeardOrder, Ignored as ReceiverIgnored}
 use Rattle.p25_world.specs.Facts.{IsDataOf}
-use Rattle.p25_world.proofs.SenderLaws.{IsSame, ResendsOf, Resends, RetriesOf, Stays, HearsAnswer, goes_on, stays, HearsOpening, opens, waits, offer-quiet, offer-message, offer-opening, timeout-message, timeout-opening, timeout-quiet, reopen-cases, reopen-up, message-answer, opening-answer, quiet-answer}
+use Rattle.p25_world.proofs.SenderLaws.{IsSame, Resends, Stays, HearsAnswer, goes_on, stays, HearsOpening, opens, waits, offer-quiet, offer-message, offer-opening, timeout-message, timeout-opening, timeout-quiet, reopen-cases, reopen-up, message-answer, opening-answer, quiet-answer}
 use Rattle.p25_air.specs.declared.mark.Mark.{Mark}
 use Rattle.p25_air.specs.declared.air.Carried.{Carried}
 use Rattle.p25_air.specs.declared.air.Carried.TheVariants.{Lost as CarriedLost, Foreign, Heard}
@@ -30,7 +27,7 @@ use Rattle.p25_air.specs.declared.step.Event.{Event}
 use Rattle.p25_air.specs.declared.step.Event.TheVariants.{Send, Timeout, Reopen, ToReceiver, ToSender}
 use Rattle.p25_air.specs.Air.{carried_of}
 use Rattle.p25_air.specs.WorldState.{WorldState, first_world}
-use Rattle.p25_air.specs.Sound.{IsMessage, IsMessageIn, IsCountedWith, IsFew, IsSound}
+use Rattle.p25_air.specs.Sound.{IsMessage, IsMessageIn, IsCountedWith, IsSound}
 use Rattle.p25_air.specs.Steps.{present_mark, after_offer, after_timeout, after_reopening, after_data, after_answer, counted_when, data_carried, data_delivered, answer_carried, answer_delivered, world_step}
 use Rattle.p25_air.specs.Runs.{IsEvent, AreEvents, world_run}
 use Rattle.p25_air.proofs.SendableLaws.{message_packet-sendable, blocks_packet-sendable, opening_packet-sendable}
@@ -54,7 +51,7 @@ sound-apart {S = S} {A = A} after x s a b e f g h =
     let same : x ≡ (s, b) = ap₂ (λ (t : S) (c : A). (t, c)) (sym e) (sym f ∙ g) in
     subst (λ (y : S × A). IsSound (after y)) same h
 
-counted-at : (w : WorldState) (out : Outstanding) → w.sender.outstanding ≡ out → IsSound w → IsCountedWith out w
+pub counted-at : (w : WorldState) (out : Outstanding) → w.sender.outstanding ≡ out → IsSound w → IsCountedWith out w
 counted-at w out o sound = subst (λ (x : Outstanding). IsCountedWith x w) o sound.counted
 
 message-in : (out : Outstanding) (message : List ℕ) → out ≡ Message message → IsMessageIn out → IsMessage message
@@ -65,7 +62,7 @@ number-in : (out : Outstanding) (number : ℕ) → out ≡ Opening number → Is
 unfolding IsNumbered
 number-in out number o is = subst IsNumbered o is
 
-quiet-is : (w : WorldState) → IsCountedWith Nothing w → (w.sender.down ≡ false) × (w.sender.tries ≡ 0) × (w.acknowledged + length w.marks ≤ length w.sent)
+pub quiet-is : (w : WorldState) → IsCountedWith Nothing w → (w.sender.down ≡ false) × (w.sender.tries ≡ 0) × (w.acknowledged + length w.marks ≤ length w.sent)
 unfolding IsCountedWith
 quiet-is w c = c
 
@@ -89,7 +86,8 @@ counted-again w s newest Nothing up c = absurd up
 counted-again w s newest (Message message) up c = c
 counted-again w s newest (Opening number) up c = c
 
-same-sound : (w : WorldState) (s : Sending) (newest : Option Packet) (out : Outstanding) → IsHeldUp out → w.sender.outstanding ≡ out → IsSame w.sender s → IsSending s → IfSome newest IsSendable → IsSound w → IsSound (record w { sender = s; packet_sent = newest })
+same-sound : (w : WorldState) (s : Sending) (newest : Option Packet) (out : Outstanding) → IsHeldUp out → w.sender.outstanding ≡ out → IsSame w.sender s → IsSending s → IfSome newest IsSendable → IsSound w →
+    IsSound (record w { sender = s; packet_sent = newest })
 same-sound w s newest out up o same sending can sound =
     let now : s.outstanding ≡ out = same.outstanding ∙ o in
     record {
@@ -174,7 +172,8 @@ offer-sound w message is sound = offer-by w message w.sender.outstanding refl is
 
 -- A timeout.
 
-resends-sound : (P : Packet → Type 0) (w : WorldState) (out : Outstanding) (x : Sending × Resend) → IsHeldUp out → w.sender.outstanding ≡ out → ((packet : Packet) → P packet → IsSendable packet) → Resends P w.sender x → IsSending x.0 → IsSound w →
+resends-sound : (P : Packet → Type 0) (w : WorldState) (out : Outstanding) (x : Sending × Resend) → IsHeldUp out → w.sender.outstanding ≡ out → ((packet : Packet) → P packet → IsSendable packet) → Resends P w.sender x → IsSending x.0 →
+    IsSound w →
     IsSound (after_timeout w x).0
 unfolding after_timeout
 resends-sound P w out (s, Sent number tries packet) up o can again sending sound = same-sound w s (Some packet) out up o again.0 sending (can packet again.1) sound
@@ -188,11 +187,13 @@ timeout-by w Nothing o sound =
     subst (λ (x : Sending × Resend). IsSound (after_timeout w x).0) (sym (timeout-quiet w.sender (quiet-is w c).0 o)) sound
 timeout-by w (Message message) o sound =
     let is = message-in w.sender.outstanding message o sound.message in
-    resends-sound (IsDataOf w.sender.next message) w (Message message) (timed_out w.sender) (up-message message) o (λ (packet : Packet) (of : IsDataOf w.sender.next message packet). data-sendable w.sender.next message packet sound.sender.next is of) (timeout-message w.sender message o)
+    resends-sound (IsDataOf w.sender.next message) w (Message message) (timed_out w.sender) (up-message message) o (λ (packet : Packet)
+    (of : IsDataOf w.sender.next message packet). data-sendable w.sender.next message packet sound.sender.next is of) (timeout-message w.sender message o)
     (timeout-sending w.sender sound.sender) sound
 timeout-by w (Opening number) o sound =
     let n = number-in w.sender.outstanding number o sound.sender.outstanding in
-    resends-sound (λ packet. packet ≡ opening_packet number) w (Opening number) (timed_out w.sender) (up-opening number) o (λ (packet : Packet) (e : packet ≡ opening_packet number). subst IsSendable (sym e) (opening_packet-sendable number n))
+    resends-sound (λ packet. packet ≡ opening_packet number) w (Opening number) (timed_out w.sender) (up-opening number) o (λ (packet : Packet) (e : packet ≡ opening_packet number). subst IsSendable (sym e)
+    (opening_packet-sendable number n))
     (timeout-opening w.sender number o) (timeout-sending w.sender sound.sender) sound
 
 pub timeout-sound : (w : WorldState) → IsSound w → IsSound (after_timeout w (timed_out w.sender)).0
@@ -244,7 +245,12 @@ reopen-by w (Message message) o sound =
     let number = opening_number (Message message) w.sender.next in
     elim (reopen-cases w.sender number (ap (λ (x : Outstanding). opening_number x w.sender.next) o)) [
       | inl e ↦ subst (λ (x : Sending × ReopenAnswer). IsSound (after_reopening w false x).0) (sym e) sound
-      | inr e ↦ subst (λ (x : Sending × ReopenAnswer). IsSound (after_reopening w false x).0) (sym e) (opened-again w number (w.marks ++ present_mark w ∷ []) (four-more message w.sender.next) (omega (arith, c, length-append w.marks (present_mark w ∷ []))) sound)
+      | inr e ↦ subst (λ (x : Sending × ReopenAnswer). IsSound (after_reopening w false x).0) (sym e) (opened-again w number (w.marks ++ present_mark w ∷ []) (four-more message w.sender.next) (omega (
+        arith,
+        c,
+        length-append w.marks
+            (present_mark w ∷ []),
+      )) sound)
     ]
 reopen-by w (Opening number) o sound =
     let c = opening-counted w number (counted-at w (Opening number) o sound) in
@@ -261,13 +267,30 @@ reopen-sound w sound = reopen-by w w.sender.outstanding refl sound
 
 heard-sound : (w : WorldState) (x : Receiving × HeardAnswer) → IsReceiving x.0 → AnswersSendable x.1 → IsSound w → IsSound (after_data w x).0
 unfolding after_data
-heard-sound w (r, HeardDelivered number message answer) h a sound = record { sender = sound.sender; message = sound.message; counted = counted-receiver w r (Some answer) (w.delivered ++ message ∷ []) w.sender.outstanding sound.counted; last = h.last; kept = h.kept; packet_sent = sound.packet_sent; answer = a }
+heard-sound w (r, HeardDelivered number message answer) h a sound = record {
+  sender = sound.sender;
+  message = sound.message;
+  counted = counted-receiver w r (Some answer)
+      (w.delivered ++ message ∷ []) w.sender.outstanding sound.counted;
+  last = h.last;
+  kept = h.kept;
+  packet_sent = sound.packet_sent;
+  answer = a;
+}
 heard-sound w (r, ReceiverOpened number answer) h a sound = answered-sound w r answer h a sound
 heard-sound w (r, HeardAgain number answer) h a sound = answered-sound w r answer h a sound
 heard-sound w (r, HeardKept number flags answer) h a sound = answered-sound w r answer h a sound
 heard-sound w (r, HeardCrc number answer) h a sound = answered-sound w r answer h a sound
 heard-sound w (r, HeardOrder last answer) h a sound = answered-sound w r answer h a sound
-heard-sound w (r, ReceiverIgnored) h a sound = record { sender = sound.sender; message = sound.message; counted = counted-receiver w r w.answer w.delivered w.sender.outstanding sound.counted; last = h.last; kept = h.kept; packet_sent = sound.packet_sent; answer = sound.answer }
+heard-sound w (r, ReceiverIgnored) h a sound = record {
+  sender = sound.sender;
+  message = sound.message;
+  counted = counted-receiver w r w.answer w.delivered w.sender.outstanding sound.counted;
+  last = h.last;
+  kept = h.kept;
+  packet_sent = sound.packet_sent;
+  answer = sound.answer;
+}
 
 pub data-sound : (w : WorldState) (packet : Packet) → IsSound w → IsSound (after_data w (receiver_heard w.receiver packet)).0
 data-sound w packet sound =
@@ -335,7 +358,15 @@ answer-sound w packet sound = answer-by w packet w.sender.outstanding refl sound
 -- Every event, and every run.
 
 pub recounted-sound : (w : WorldState) (count : ℕ) → IsSound w → IsSound (record w { false_passes = count })
-recounted-sound w count sound = record { sender = sound.sender; message = sound.message; counted = counted-false w count w.sender.outstanding sound.counted; last = sound.last; kept = sound.kept; packet_sent = sound.packet_sent; answer = sound.answer }
+recounted-sound w count sound = record {
+  sender = sound.sender;
+  message = sound.message;
+  counted = counted-false w count w.sender.outstanding sound.counted;
+  last = sound.last;
+  kept = sound.kept;
+  packet_sent = sound.packet_sent;
+  answer = sound.answer;
+}
 
 pub counted-sound : (b : Bool) (w : WorldState) → IsSound w → IsSound (counted_when b w)
 unfolding counted_when

@@ -7,11 +7,11 @@ use Rattle.std.proofs.lemmas.Grind.{flat_map-append}
 use Rattle.std.proofs.lemmas.List.Sums.{sum_by-append, sum_by-cons}
 use Rattle.p25_bits.specs.Bits.{part}
 use Rattle.p25_bits.proofs.PartLaws.{part_joined, part_last}
-use Rattle.p25_world.specs.Link.{Session, Link, empty_session, first_link}
+use Rattle.p25_world.specs.Link.{Session, Link, first_link}
 use Rattle.p25_air.specs.declared.mark.Mark.{Mark}
 use Rattle.p25_air.specs.WorldState.{WorldState, first_world}
 use Rattle.p25_air.specs.Steps.{present_mark}
-use Rattle.p25_air.specs.Runs.{session_between, sessions_from, sessions_of}
+use Rattle.p25_air.specs.Runs.{sessions_from, sessions_of}
 
 -- all that was sent, delivered and acknowledged in some sessions
 

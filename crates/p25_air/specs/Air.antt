@@ -1,6 +1,6 @@
 -- The air between the two stations: a transmission is the unit of a packet, of which the listed bits come inverted. And what
 -- a delivery reads as.
-use Rattle.std.specs.Prelude.{◌≡◌, ℕ, ◌&&◌, Bool, true, false, not, eqb, List, [], ◌∷◌, replicate, Result, Ok, Err, if◌then◌else◌}
+use Rattle.std.specs.Prelude.{ℕ, ◌&&◌, Bool, true, false, not, eqb, List, [], ◌∷◌, replicate, Result, Ok, Err, if◌then◌else◌}
 use Rattle.std.specs.Str.{bytes_eq}
 use Rattle.std.proofs.Common.{lit<}
 use Rattle.p25_bits.specs.Bits.{flipped}

@@ -1,5 +1,5 @@
 -- Runs of the world: its state and its steps after a list of events, its sessions, and what makes a run clean.
-use Rattle.std.specs.Prelude.{◌≡◌, ℕ, ◌+◌, ◌-◌, ◌≤◌, Bool, true, false, List, [], ◌∷◌, length, All}
+use Rattle.std.specs.Prelude.{◌≡◌, ◌-◌, false, List, [], ◌∷◌}
 use Rattle.p25_bits.specs.Bits.{part}
 use Rattle.p25_world.specs.Link.{Session}
 use Rattle.p25_air.specs.declared.mark.Mark.{Mark}

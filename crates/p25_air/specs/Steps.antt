@@ -1,6 +1,5 @@
 -- What each event makes of the world, and the step that it is.
-use Rattle.std.specs.Prelude.{ℕ, ◌+◌, ◌-◌, ◌^◌, Bool, true, false, min, List, [], ◌∷◌, ◌++◌, length, Option, Some, None, if◌then◌else◌}
-use Rattle.p25_status.specs.declared.fields.Field.{Field}
+use Rattle.std.specs.Prelude.{ℕ, ◌+◌, ◌-◌, ◌^◌, Bool, true, false, min, List, [], ◌∷◌, ◌++◌, length, Option, Some, None}
 use Rattle.p25_packet_blocks.specs.declared.packet.Packet.{Packet}
 use Rattle.p25_stations.specs.SenderState.{Sending}
 use Rattle.p25_stations.specs.ReceiverState.{Receiving}

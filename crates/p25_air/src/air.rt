@@ -27,7 +27,7 @@ pub enum Carried {
 }
 
 // Sets `out` to the unit of a packet as a station sends it, with the status symbol 00 throughout.
-fn transmit(packet: &Packet, out: &mut BitBuf)
+pub(crate) fn transmit(packet: &Packet, out: &mut BitBuf)
     requires { IsWholePacket packet.now }
     ensures bits { out.new ≡ transmission_of packet.now }
     ensures len { length out.new ≡ packet_sent_length (head_blocks (packet_head packet.now)) }

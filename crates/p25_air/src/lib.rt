@@ -19,7 +19,11 @@
 mod air;
 mod laws;
 mod mark;
+#[cfg(test)]
+mod script;
 mod step;
+#[cfg(test)]
+mod tests;
 mod truth;
 mod world;
 

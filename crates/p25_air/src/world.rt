@@ -167,7 +167,8 @@ fn quiet(kind: StepKind) -> Step
 impl World {
     ghost use Rattle.p25_stations.specs.SenderRules.{offered, timed_out, sender_heard, reopened, is_opening};
     ghost use Rattle.p25_stations.specs.ReceiverRules.{receiver_heard};
-    ghost use Rattle.p25_air.specs.Steps.{after_offer, after_timeout, after_reopening, after_data, after_answer, counted_when, data_delivered, answer_delivered};
+    ghost use Rattle.p25_air.specs.Steps.{after_offer, after_timeout, after_reopening, after_data, after_answer, counted_when};
+    ghost use Rattle.p25_air.specs.Steps.{data_delivered, answer_delivered};
 
     // Offers a message to the sender.
     #[tactic(auto, unfolding(crate::specs::Steps::after_offer))]

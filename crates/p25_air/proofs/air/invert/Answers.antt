@@ -1,4 +1,4 @@
-use Rattle.std.proofs.Common.{ℕ, Bool, List, length, Some, refl, ap, sym, ◌∙◌, arith}
+use Rattle.std.proofs.Common.{length, Some, refl, ap, sym, ◌∙◌, arith}
 use Rattle.p25_air.proofs.AirSteps.{with_flips-none, with_flips-more, flipped-past}
 use Rattle.p25_air.proofs.air.invert.Goals as goal
 use Rattle.p25_air.proofs.air.invert.Goals.{then-place-len, else-place-len}

@@ -1,4 +1,4 @@
-use Rattle.std.proofs.Common.{◌≡◌, drop, length}
+use Rattle.std.proofs.Common.{◌≡◌, drop}
 use Rattle.p25_air.specs.Air.{are_true_slots}
 use Rattle.p25_air.proofs.truth.are_true_slots.Given as goal
 

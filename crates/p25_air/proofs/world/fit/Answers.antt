@@ -1,4 +1,4 @@
-use Rattle.std.proofs.Common.{List, ℕ, subst}
+use Rattle.std.proofs.Common.{subst}
 use Rattle.p25_packet_blocks.specs.Sendable.{AreOctets}
 use Rattle.p25_air.proofs.world.fit.Goals as goal
 

@@ -1,6 +1,4 @@
-use Rattle.std.proofs.Common.{ℕ, true, sym, subst}
 use Rattle.p25_air.specs.Inside.{state_of}
-use Rattle.p25_air.specs.Sound.{IsSound}
 use Rattle.p25_air.proofs.SoundLaws.{recounted-sound}
 use Rattle.p25_air.proofs.world.World.count.Goals as goal
 

@@ -1,4 +1,4 @@
-use Rattle.std.proofs.Common.{◌≡◌, List, ℕ, Some, refl, sym, subst}
+use Rattle.std.proofs.Common.{◌≡◌, List, ℕ, Some, sym, subst}
 use Rattle.p25_packet_blocks.specs.declared.packet.Packet.{Packet}
 use Rattle.p25_stations.specs.ReceiverState.{Receiving}
 use Rattle.p25_stations.specs.ReceiverRules.{receiver_heard}
@@ -15,7 +15,8 @@ use Rattle.p25_air.proofs.world.World.hear_data.Goals as goal
 use Rattle.p25_air.proofs.world.World.hear_data.Goals.{in-Delivered, in-Opened, in-Again, in-Kept, in-RefusedCrc, in-RefusedOrder}
 
 -- the world after an answer of the receiver
-sound-after : (w : WorldState) (packet : Packet) (r : Receiving) (heard answer : Heard) → r ≡ (receiver_heard w.receiver packet).0 → heard ≡ (receiver_heard w.receiver packet).1 → heard ≡ answer → IsSound w → IsSound (after_data w (r, answer)).0
+sound-after : (w : WorldState) (packet : Packet) (r : Receiving) (heard answer : Heard) → r ≡ (receiver_heard w.receiver packet).0 → heard ≡ (receiver_heard w.receiver packet).1 → heard ≡ answer → IsSound w →
+    IsSound (after_data w (r, answer)).0
 sound-after w packet r heard answer state is same sound =
     sound-apart (λ (x : Receiving × Heard). (after_data w x).0) (receiver_heard w.receiver packet) r heard answer state is same (data-sound w packet sound)
 

@@ -15,7 +15,8 @@ use Rattle.p25_air.proofs.world.World.reopen.Goals as goal
 use Rattle.p25_air.proofs.world.World.reopen.Goals.{then-not-is_opening, else-not-is_opening}
 
 -- the world after an answer of the sender
-sound-after : (w : WorldState) (again : Bool) (s : Sending) (given answer : Reopen) → again ≡ is_opening w.sender.outstanding → s ≡ (reopened w.sender).0 → given ≡ (reopened w.sender).1 → given ≡ answer → IsSound w → IsSound (after_reopening w again (s, answer)).0
+sound-after : (w : WorldState) (again : Bool) (s : Sending) (given answer : Reopen) → again ≡ is_opening w.sender.outstanding → s ≡ (reopened w.sender).0 → given ≡ (reopened w.sender).1 → given ≡ answer → IsSound w →
+    IsSound (after_reopening w again (s, answer)).0
 sound-after w again s given answer a state is same sound =
     sound-apart (λ (x : Sending × Reopen). (after_reopening w again x).0) (reopened w.sender) s given answer state is same
     (subst (λ (b : Bool). IsSound (after_reopening w b (reopened w.sender)).0) (sym a) (reopen-sound w sound))

@@ -1,4 +1,4 @@
-use Rattle.std.proofs.Common.{List, ℕ, ◌++◌, ◌∷◌, [], sym, subst}
+use Rattle.std.proofs.Common.{List, ℕ, sym, subst}
 use Rattle.p25_stations.specs.SenderState.{Sending}
 use Rattle.p25_stations.specs.SenderRules.{offered}
 use Rattle.p25_stations.specs.declared.sender.Offer.{Offer}
@@ -25,11 +25,13 @@ unfolding after_offer
 invariant_of-self-in-Busy c =
     let w = state_of c.self.inside in
     let message = c.args.message.now in
-    sound-apart (λ (x : Sending × Offer). (after_offer w message x).0) (offered w.sender message) c.offer.new.self c.offer.result Busy c.offer.ensures.state c.offer.ensures.answer c.in-Busy.is (offer-sound w message c.fit.ensures c.self.invariant)
+    sound-apart (λ (x : Sending × Offer). (after_offer w message x).0) (offered w.sender message) c.offer.new.self c.offer.result Busy c.offer.ensures.state c.offer.ensures.answer c.in-Busy.is
+    (offer-sound w message c.fit.ensures c.self.invariant)
 
 pub invariant_of-self-in-Down : goal.invariant_of-self-in-Down
 unfolding after_offer
 invariant_of-self-in-Down c =
     let w = state_of c.self.inside in
     let message = c.args.message.now in
-    sound-apart (λ (x : Sending × Offer). (after_offer w message x).0) (offered w.sender message) c.offer.new.self c.offer.result Down c.offer.ensures.state c.offer.ensures.answer c.in-Down.is (offer-sound w message c.fit.ensures c.self.invariant)
+    sound-apart (λ (x : Sending × Offer). (after_offer w message x).0) (offered w.sender message) c.offer.new.self c.offer.result Down c.offer.ensures.state c.offer.ensures.answer c.in-Down.is
+    (offer-sound w message c.fit.ensures c.self.invariant)
