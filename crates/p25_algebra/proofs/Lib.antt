@@ -1,8 +1,8 @@
-pub mod SumFacts
-pub mod Vanishing
-pub mod Values
-pub mod Products
-pub mod Locators
-pub mod ProductValues
-pub mod Quotients
+pub mod SumLaws
+pub mod VanishingLaws
+pub mod ValueLaws
+pub mod ProductLaws
+pub mod LocatorLaws
+pub mod ProductValueLaws
+pub mod QuotientLaws
 pub mod ForneyLaws

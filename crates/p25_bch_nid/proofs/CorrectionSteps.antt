@@ -7,14 +7,14 @@ use Rattle.std.proofs.lemmas.List.{ext_get_or, length-map}
 use Rattle.p25_bits.specs.Bits.{field_of}
 use Rattle.p25_bits.specs.Distance.{distance_of}
 use Rattle.p25_bits.specs.Divisible.{IsDivisible, IsRemainder}
-use Rattle.p25_bits.proofs.Divisions.{divisible_from_remainder}
+use Rattle.p25_bits.proofs.DivisibleLaws.{divisible_from_remainder}
 use Rattle.p25_gf64.specs.declared.symbol.Sym.{Sym}
 use Rattle.p25_gf64.specs.Gf64.{gf64}
-use Rattle.p25_gf64.proofs.FieldFacts.{add_self, add_zero, zero_add}
+use Rattle.p25_gf64.proofs.FieldLaws.{add_self, add_zero, zero_add}
 use Rattle.p25_algebra.specs.Series.{coefficient}
 use Rattle.p25_reed_solomon.specs.Words.{value_of}
 use Rattle.p25_reed_solomon.specs.Errors.{AreErrors}
-use Rattle.p25_reed_solomon.proofs.WrongSteps.{difference_errors}
+use Rattle.p25_reed_solomon.proofs.WrongLaws.{difference_errors}
 use Rattle.p25_bch_nid.specs.Nid.{generator}
 use Rattle.p25_bch_nid.specs.BitValues.{bit_coefficient}
 use Rattle.p25_bch_nid.specs.Bch63.{IsBch63, symbols_of}

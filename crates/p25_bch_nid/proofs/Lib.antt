@@ -1,7 +1,7 @@
-pub mod NidLaws
+pub mod NidSteps
 pub mod NidReadingLaws
 pub mod NidWordLaws
 pub mod SymbolsSteps
 pub mod CorrectionSteps
-pub mod ReadingSteps
+pub mod ReadingLaws
 pub mod SentSteps

@@ -15,7 +15,7 @@ use Rattle.p25_bch_nid.specs.Bch63Forms.{from_divisible}
 use Rattle.p25_bch_nid.specs.NidReading.{nid_reading_of}
 use Rattle.p25_bch_nid.proofs.NidReadingLaws.{nid_reading_of-word}
 use Rattle.p25_bch_nid.proofs.NidWordLaws.{identifier_of_word-encoding}
-use Rattle.p25_bch_nid.proofs.ReadingSteps.{first_bits}
+use Rattle.p25_bch_nid.proofs.ReadingLaws.{first_bits}
 
 -- the bits of a NAC and a DUID in one number
 nid_digits : (nac duid : ℕ) → duid < 16 → bits_of 16 (16 * nac + duid) ≡ bits_of 12 nac ++ bits_of 4 duid

@@ -14,12 +14,12 @@ use Rattle.p25_gf64.specs.ProductLaws.{all_below, all_below_at, all_pairs_below,
 use Rattle.p25_gf64.specs.Symbol.{number, alpha}
 use Rattle.p25_gf64.specs.Gf64.{gf64}
 use Rattle.p25_gf64.specs.declared.symbol.Sym.{Sym}
-use Rattle.p25_gf64.proofs.FieldFacts.{add_zero, zero_add, add_assoc, mul_assoc, mul_left_comm, add_mul, mul_one, zero_mul}
-use Rattle.p25_gf64.proofs.Powers.{power-zero, power-suc, power-add, power-mul, power-mod}
-use Rattle.p25_gf64.proofs.Symbols.{number_zero, number_one, number_alpha, number-add, number-mul, number-power, zero_from_number, alpha_to_63, alpha_exponents}
+use Rattle.p25_gf64.proofs.FieldLaws.{add_zero, zero_add, add_assoc, mul_assoc, mul_left_comm, add_mul, mul_one, zero_mul}
+use Rattle.p25_gf64.proofs.PowerLaws.{power-zero, power-suc, power-add, power-mul, power-mod}
+use Rattle.p25_gf64.proofs.SymbolLaws.{number_zero, number_one, number_alpha, number-add, number-mul, number-power, zero_from_number, alpha_to_63, alpha_exponents}
 use Rattle.p25_algebra.specs.Sums.{AreApart}
 use Rattle.p25_algebra.specs.Series.{coefficient}
-use Rattle.p25_algebra.proofs.SumFacts.{sum_same}
+use Rattle.p25_algebra.proofs.SumLaws.{sum_same}
 use Rattle.p25_bch_nid.specs.Nid.{generator}
 use Rattle.p25_bch_nid.specs.BitValues.{bit_coefficient, bit_value, bit_value-nil, bit_value-cons, bit_value-square, bit_value-places, no_coefficient}
 use Rattle.p25_bch_nid.specs.RemainderValues.{number_value, number_value-zero, word_value}

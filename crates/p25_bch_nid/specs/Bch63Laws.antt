@@ -9,7 +9,7 @@ use Rattle.p25_bits.specs.Bits.{bits_of, field_of}
 use Rattle.p25_bits.specs.Distance.{distance_of}
 use Rattle.p25_bits.specs.Divisible.{IsDivisible, IsRemainder}
 use Rattle.p25_bits.proofs.BitsLaws.{length-bits_of, field_of-append, field_of-bits_of, field_of-lt, same_from_field_of}
-use Rattle.p25_bits.proofs.Divisions.{xor_apart, same_from_xor, some_remainder, IsDivisible-lower, IsDivisible-sum}
+use Rattle.p25_bits.proofs.DivisibleLaws.{xor_apart, same_from_xor, some_remainder, IsDivisible-lower, IsDivisible-sum}
 use Rattle.std.specs.Bool.{beq}
 use Rattle.std.specs.Cmp.{bool_eq_equiv}
 use Rattle.p25_code.specs.Words.{IsEncoding}

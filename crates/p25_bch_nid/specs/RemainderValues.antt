@@ -12,8 +12,8 @@ use Rattle.p25_code.specs.Binary.{syndrome_of}
 use Rattle.p25_code.proofs.ParityLaws.{bits_of-xor}
 use Rattle.p25_code.proofs.RemainderLaws.{power_remainder, remainders, IsRemainder-power}
 use Rattle.p25_gf64.specs.Field.{Field, power}
-use Rattle.p25_gf64.proofs.FieldFacts.{add_zero, zero_add, mul_comm, mul_one, one_mul, mul_zero, zero_mul}
-use Rattle.p25_gf64.proofs.Powers.{power-zero, power-one, power-suc}
+use Rattle.p25_gf64.proofs.FieldLaws.{add_zero, zero_add, mul_comm, mul_one, one_mul, mul_zero, zero_mul}
+use Rattle.p25_gf64.proofs.PowerLaws.{power-zero, power-one, power-suc}
 use Rattle.p25_bch_nid.specs.BitValues.{bit_coefficient, bit_value, bit_value-append, bit_value-sum, bit_value-nil, bit_value-cons}
 
 module _ {F : Type 0} (K : Field F) (x : F) where

@@ -21,6 +21,15 @@ use Rattle.p25_bits.proofs.NumbersLaws.{bits_of-field, number_bits-append, numbe
 pub length-held : (words : List ℕ) (len : ℕ) → len ≤ 64 * length words → length (take len (number_bits 64 words)) ≡ len
 length-held words len fits = let there : len ≤ length (number_bits 64 words) = omega (arith, length-number_bits 64 words) in length-take-le len (number_bits 64 words) there
 
+-- where there is room for more bits than those held, the length stays in its bound
+pub length-room : (words : List ℕ) (len more : ℕ) (held : List Bool) → len ≤ 64 * length words → take len (number_bits 64 words) ≡ held → length held + more ≤ 25928 → len + more ≤ 25928
+length-room words len more held fits is room = omega (arith, length-held words len fits, ap length is, room)
+
+-- so many more bits are held
+pub length-longer : (words changed : List ℕ) (len more : ℕ) (held : List Bool) → len ≤ 64 * length words → len + more ≤ 64 * length changed → take len (number_bits 64 words) ≡ held
+    → length (take (len + more) (number_bits 64 changed)) ≡ length held + more
+length-longer words changed len more held fits fit is = omega (arith, length-held changed (len + more) fit, length-held words len fits, ap length is)
+
 -- more bits behind those held, of which only the first count
 pub take_appended : (now : List Bool) (bits extra : List Bool) (len more most : ℕ) → length now ≡ len → take (len + most) bits ≡ now ++ extra → more ≤ most → take (len + more) bits ≡ now ++ take more extra
 take_appended now bits extra len more most long appended fits =

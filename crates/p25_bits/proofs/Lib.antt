@@ -2,8 +2,8 @@ pub mod PartLaws
 pub mod BitsLaws
 pub mod NumbersLaws
 pub mod OctetNumbersLaws
-pub mod NumbersSteps
+pub mod LoopLaws
 pub mod DistanceLaws
-pub mod Divisions
-pub mod WordsSteps
+pub mod DivisibleLaws
+pub mod WordsLaws
 pub mod BitBufSteps

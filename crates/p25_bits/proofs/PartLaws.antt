@@ -1,8 +1,24 @@
 -- Parts of lists: of joined lists, parts of parts, and parts that touch. Each follows from the laws of `take` and `drop` in std.
-use Rattle.std.proofs.Common.{◌≡◌, ℕ, ◌+◌, ◌-◌, ◌<◌, ◌≤◌, List, [], ◌∷◌, ◌++◌, length, take, drop, get_or, ap, sym, ◌∙◌, arith, length-drop}
+use Rattle.std.proofs.Common.{◌≡◌, ℕ, zero, suc, ◌+◌, ◌-◌, ◌<◌, ◌≤◌, List, [], ◌∷◌, ◌++◌, length, take, drop, get_or, slice_get, refl, ap, sym, ◌∙◌, arith, length-drop}
 use Rattle.std.proofs.Math.Seq.{take-add, drop-append-add, get_or-take}
 use Rattle.std.proofs.lemmas.List.{take-take, drop-take, drop-drop, take-append-le, drop-append-le, length-take-le, take_at, get_or-drop, take_all, take_more}
 use Rattle.p25_bits.specs.Bits.{part}
+
+-- what the second of two lists has from a place on
+pub drop_behind : {X : Type 0} (at more : ℕ) (xs ys : List X) → length xs ≡ at → drop (at + more) (xs ++ ys) ≡ drop more ys
+drop_behind at more xs ys before = ap (λ n. drop (n + more) (xs ++ ys)) (sym before) ∙ drop-append-add xs ys more
+
+-- an element of the first of two lists
+pub slice_get-front : {X : Type 0} (xs ys : List X) (i : ℕ) → i < length xs → slice_get (xs ++ ys) i ≡ slice_get xs i
+slice_get-front [] ys i h = absurd (omega arith)
+slice_get-front (x ∷ xs) ys zero h = refl
+slice_get-front (x ∷ xs) ys (suc i) h = slice_get-front xs ys i (omega arith)
+
+-- an element behind some others
+pub slice_get-drop : {X : Type 0} (n : ℕ) (xs : List X) (i : ℕ) → slice_get (drop n xs) i ≡ slice_get xs (n + i)
+slice_get-drop zero xs i = let e : 0 + i ≡ i = omega arith in ap (slice_get xs) (sym e)
+slice_get-drop (suc n) [] i = refl
+slice_get-drop (suc n) (x ∷ xs) i = slice_get-drop n xs i ∙ (let e : suc (n + i) ≡ suc n + i = omega arith in ap (slice_get (x ∷ xs)) e)
 
 -- a part that is there has its length
 pub length-part : {X : Type 0} (at count : ℕ) (xs : List X) → at + count ≤ length xs → length (part at count xs) ≡ count

@@ -12,7 +12,7 @@ use Rattle.std.proofs.lemmas.Nat.{xor_lt, pow_pos}
 use Rattle.p25_bits.specs.Bits.{bits_of, field_of}
 use Rattle.p25_bits.specs.Distance.{distance_of}
 use Rattle.p25_bits.proofs.BitsLaws.{length-bits_of, field_of-bits_of, bits_of-field_of}
-use Rattle.p25_bits.proofs.Divisions.{same_from_xor}
+use Rattle.p25_bits.proofs.DivisibleLaws.{same_from_xor}
 use Rattle.p25_bits.proofs.DistanceLaws.{same_from_distance_of}
 use Rattle.p25_code.specs.declared.code.Reading.{Reading}
 use Rattle.p25_code.specs.Words.{IsEncoding, IsReading}

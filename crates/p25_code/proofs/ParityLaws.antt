@@ -5,7 +5,7 @@ use Rattle.std.specs.Int.Bits.{xor_zero_l}
 use Rattle.std.proofs.lemmas.Nat.Bits.{bit_at_xor, bit_at-lt}
 use Rattle.p25_bits.specs.Bits.{digit_of, bits_of}
 use Rattle.p25_bits.proofs.BitsLaws.{bits_of-suc, bits_of-zero, length-bits_of, digit_of-le}
-use Rattle.p25_bits.proofs.Divisions.{xor_doubled}
+use Rattle.p25_bits.proofs.DivisibleLaws.{xor_doubled}
 use Rattle.p25_code.specs.Binary.{syndrome_of, weight_of}
 use Rattle.p25_code.proofs.SyndromeLaws.{change_of-is}
 use Rattle.p25_code.proofs.WeightLaws.{sum_of_words, syndrome_of-sum_of_words, syndrome_of-zeros, weight_of-bits_of}

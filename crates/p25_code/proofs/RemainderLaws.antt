@@ -6,7 +6,7 @@ use Rattle.std.proofs.lemmas.Nat.{xor_lt, pow_pos}
 use Rattle.p25_bits.specs.Bits.{field_of}
 use Rattle.p25_bits.specs.Divisible.{IsDivisible, HasDegree, IsRemainder}
 use Rattle.p25_bits.proofs.BitsLaws.{field_of-nil, field_of-cons, field_of-lt}
-use Rattle.p25_bits.proofs.Divisions.{IsDivisible-sum, IsRemainder-unique, IsRemainder-lower, divisible_from_remainder, remainder_from_divisible, remainder_kept, remainder_reduced}
+use Rattle.p25_bits.proofs.DivisibleLaws.{IsDivisible-sum, IsRemainder-unique, IsRemainder-lower, divisible_from_remainder, remainder_from_divisible, remainder_kept, remainder_reduced}
 use Rattle.p25_code.specs.Binary.{syndrome_of}
 use Rattle.p25_code.proofs.SyndromeLaws.{xor_middle, above}
 

@@ -1,9 +1,7 @@
 -- Readings of lists with marks as functions: the word of the set within the cost, or none where no word costs so little.
 use Rattle.std.specs.Prelude.{◌≡◌, ℕ, ◌≤◌, Bool, List, length, Option, Some, None}
-use Rattle.std.proofs.Common.{inl, inr}
-use Rattle.std.proofs.lemmas.Bool.{cases_lt}
 use Rattle.p25_code.specs.Marks.{marked_cost, NoneWithinCost}
-use Rattle.p25_code.specs.Readings.{Tested, Searched, both_tested, le_tested, IsListWhere, list_where, IsListWhere-list_where}
+use Rattle.p25_code.specs.Readings.{Tested, Searched, IsWordWithin, word_within, IsWordWithin-word_within}
 
 -- a word of the set is within the cost
 pub record IsWithinCost {L : Type 0} (same : L → L → Bool) (IsWord : List L → Type 0) (most : ℕ) (list : List (Option L)) (word : List L) : Type 0 where
@@ -18,23 +16,16 @@ IsMarkedReadAs same IsWord most list None = NoneWithinCost same IsWord most list
 -- the reading of a list with marks, for a set of words of n letters
 pub marked_reading_of : {L : Type 0} → Searched L → (L → L → Bool) → (IsWord : List L → Type 0) → Tested IsWord → (n most : ℕ) → List (Option L)
     → Option (List L)
-marked_reading_of letters same IsWord test n most list =
-    list_where letters n (λ word. IsWord word × (marked_cost same list word ≤ most))
-    (both_tested IsWord (λ word. marked_cost same list word ≤ most) test (le_tested (marked_cost same list) most))
+marked_reading_of letters same IsWord test n most list = word_within letters IsWord test n (marked_cost same list) most
 
 pub IsMarkedReadAs-marked_reading_of : {L : Type 0} (letters : Searched L) (same : L → L → Bool) (IsWord : List L → Type 0) (test : Tested IsWord) (n most : ℕ)
     → ((word : List L) → IsWord word → length word ≡ n) → (list : List (Option L))
     → IsMarkedReadAs same IsWord most list (marked_reading_of letters same IsWord test n most list)
-unfolding IsMarkedReadAs IsListWhere marked_reading_of
+unfolding IsMarkedReadAs IsWordWithin marked_reading_of
 IsMarkedReadAs-marked_reading_of {L} letters same IsWord test n most long list =
     read (marked_reading_of letters same IsWord test n most list)
-    (
-    IsListWhere-list_where letters n (λ word. IsWord word × (marked_cost same list word ≤ most))
-    (both_tested IsWord (λ word. marked_cost same list word ≤ most) test (le_tested (marked_cost same list) most))
-    )
+    (IsWordWithin-word_within letters IsWord test n (marked_cost same list) most long)
   where
-    read : (answer : Option (List L)) → IsListWhere n (λ word. IsWord word × (marked_cost same list word ≤ most)) answer
-        → IsMarkedReadAs same IsWord most list answer
-    read (Some word) is = record { word_of_set = is.1.0; within = is.1.1 }
-    read None is =
-        record { dearer = λ word w. elim (cases_lt most (marked_cost same list word)) [ inl far ↦ far | inr near ↦ absurd (is word (long word w) (w, near)) ] }
+    read : (answer : Option (List L)) → IsWordWithin IsWord (marked_cost same list) most answer → IsMarkedReadAs same IsWord most list answer
+    read (Some word) is = record { word_of_set = is.0; within = is.1 }
+    read None is = record { dearer = is }

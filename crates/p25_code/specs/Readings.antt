@@ -1,5 +1,5 @@
 -- Readings as functions: of what was received, the word of the set within the radius, or none where no word is that near.
-use Rattle.std.specs.Prelude.{◌≡◌, ◌⊎◌, ℕ, zero, suc, ◌≤◌, Bool, true, false, List, [], ◌∷◌, length, Option, Some, None, refl}
+use Rattle.std.specs.Prelude.{◌≡◌, ◌⊎◌, ℕ, zero, suc, ◌<◌, ◌≤◌, Bool, true, false, List, [], ◌∷◌, length, Option, Some, None, refl}
 use Rattle.std.proofs.Common.{ap, subst, inl, inr, arith}
 use Rattle.std.proofs.lemmas.Bool.{cases_lt}
 use Rattle.p25_bits.specs.Distance.{distance_by}
@@ -90,6 +90,30 @@ IsListWhere-list_where letters n P test =
       | inr without ↦ without
     ]
 
+-- the word of a set, of n letters, that costs at most so much, or none where every word costs more
+pub word_within : {L : Type 0} → Searched L → (IsWord : List L → Type 0) → Tested IsWord → (n : ℕ) (cost : List L → ℕ) (most : ℕ) → Option (List L)
+word_within letters IsWord test n cost most =
+    list_where letters n (λ word. IsWord word × (cost word ≤ most)) (both_tested IsWord (λ word. cost word ≤ most) test (le_tested cost most))
+
+-- that word as a value
+unfoldable pub IsWordWithin : {L : Type 0} → (List L → Type 0) → (List L → ℕ) → ℕ → Option (List L) → Type 0
+IsWordWithin IsWord cost most (Some word) = IsWord word × (cost word ≤ most)
+IsWordWithin {L} IsWord cost most None = (word : List L) → IsWord word → most < cost word
+
+pub IsWordWithin-word_within : {L : Type 0} (letters : Searched L) (IsWord : List L → Type 0) (test : Tested IsWord) (n : ℕ) (cost : List L → ℕ) (most : ℕ)
+    → ((word : List L) → IsWord word → length word ≡ n) → IsWordWithin IsWord cost most (word_within letters IsWord test n cost most)
+unfolding IsWordWithin IsListWhere word_within
+IsWordWithin-word_within {L} letters IsWord test n cost most long =
+    read (word_within letters IsWord test n cost most)
+    (
+    IsListWhere-list_where letters n (λ word. IsWord word × (cost word ≤ most))
+    (both_tested IsWord (λ word. cost word ≤ most) test (le_tested cost most))
+    )
+  where
+    read : (answer : Option (List L)) → IsListWhere n (λ word. IsWord word × (cost word ≤ most)) answer → IsWordWithin IsWord cost most answer
+    read (Some word) is = is.1
+    read None is = λ word w. elim (cases_lt most (cost word)) [ inl dear ↦ dear | inr cheap ↦ absurd (is word (long word w) (w, cheap)) ]
+
 -- a word of the set lies within the radius of what was received
 pub record IsNear {L : Type 0} (same : L → L → Bool) (IsWord : List L → Type 0) (radius : ℕ) (received word : List L) : Type 0 where
   pub word_of_set : IsWord word
@@ -107,26 +131,16 @@ word_read Beyond word = None
 
 -- the reading of what was received, for a set of words of n letters
 pub reading_of : {L : Type 0} → Searched L → (L → L → Bool) → (IsWord : List L → Type 0) → Tested IsWord → (n radius : ℕ) → List L → Option (List L)
-reading_of letters same IsWord test n radius received =
-    list_where letters n (λ word. IsWord word × (distance_by same received word ≤ radius))
-    (both_tested IsWord (λ word. distance_by same received word ≤ radius) test (le_tested (distance_by same received) radius))
+reading_of letters same IsWord test n radius received = word_within letters IsWord test n (distance_by same received) radius
 
 pub IsReadAs-reading_of : {L : Type 0} (letters : Searched L) (same : L → L → Bool) (IsWord : List L → Type 0) (test : Tested IsWord) (n radius : ℕ)
     → ((word : List L) → IsWord word → length word ≡ n) → (received : List L)
     → IsReadAs same IsWord radius received (reading_of letters same IsWord test n radius received)
-unfolding IsReadAs IsListWhere reading_of
+unfolding IsReadAs IsWordWithin reading_of
 IsReadAs-reading_of {L} letters same IsWord test n radius long received =
     read (reading_of letters same IsWord test n radius received)
-    (
-    IsListWhere-list_where letters n (λ word. IsWord word × (distance_by same received word ≤ radius))
-    (both_tested IsWord (λ word. distance_by same received word ≤ radius) test (le_tested (distance_by same received) radius))
-    )
+    (IsWordWithin-word_within letters IsWord test n (distance_by same received) radius long)
   where
-    read : (answer : Option (List L)) → IsListWhere n (λ word. IsWord word × (distance_by same received word ≤ radius)) answer
-        → IsReadAs same IsWord radius received answer
-    read (Some word) is = record { word_of_set = is.1.0; within = is.1.1 }
-    read None is =
-        record {
-          farther = λ word w.
-              elim (cases_lt radius (distance_by same received word)) [ inl far ↦ far | inr near ↦ absurd (is word (long word w) (w, near)) ];
-        }
+    read : (answer : Option (List L)) → IsWordWithin IsWord (distance_by same received) radius answer → IsReadAs same IsWord radius received answer
+    read (Some word) is = record { word_of_set = is.0; within = is.1 }
+    read None is = record { farther = is }

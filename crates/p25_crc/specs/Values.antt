@@ -4,14 +4,15 @@ use Rattle.std.specs.Prelude.{ℕ, ◌*◌, ◌^◌, Bool, List, refl}
 use Rattle.std.proofs.Common.{lit<, lit≤}
 use Rattle.p25_bits.specs.Bits.{field_of, octet_bits}
 use Rattle.p25_bits.specs.Divisible.{HasDegree}
-use Rattle.p25_bits.proofs.Divisions.{some_remainder}
+use Rattle.p25_bits.proofs.DivisibleLaws.{some_remainder}
 use Rattle.p25_crc.specs.Checks.{inverted, block_divisor, header_divisor, packet_divisor, block_message, IsCheck, IsCrc9, IsCrc16, IsCrc32}
 
 -- the check of a message by a divisor of degree `width`
 pub check_value : (divisor width : ℕ) → HasDegree divisor width → List Bool → ℕ
 check_value divisor width degree message = inverted width (some_remainder divisor width (field_of message * 2 ^ width) degree).0
 
-IsCheck-check_value : (divisor width : ℕ) (degree : HasDegree divisor width) (message : List Bool) → IsCheck divisor width message (check_value divisor width degree message)
+IsCheck-check_value : (divisor width : ℕ) (degree : HasDegree divisor width) (message : List Bool)
+    → IsCheck divisor width message (check_value divisor width degree message)
 unfolding check_value
 IsCheck-check_value divisor width degree message =
     let some = some_remainder divisor width (field_of message * 2 ^ width) degree in

@@ -22,7 +22,8 @@ pub(crate) fn take_number(register: u64, number: u64, width: u32, divisor: Divis
     requires fits { number < 2 ^ width }
     requires lower { register < 2 ^ divisor.degree }
     ensures lower { result < 2 ^ divisor.degree }
-    ensures next { (before : ℕ) → IsRemainder divisor.polynomial divisor.degree before register → IsRemainder divisor.polynomial divisor.degree (before * 2 ^ width + number) result }
+    ensures next { (before : ℕ) → IsRemainder divisor.polynomial divisor.degree before register
+        → IsRemainder divisor.polynomial divisor.degree (before * 2 ^ width + number) result }
 {
     let mut remainder = register;
     for k in 0..width {
@@ -36,7 +37,8 @@ pub(crate) fn take_number(register: u64, number: u64, width: u32, divisor: Divis
 pub(crate) fn take_octets(register: u64, octets: &[u8], divisor: Divisor) -> u64
     requires lower { register < 2 ^ divisor.degree }
     ensures lower { result < 2 ^ divisor.degree }
-    ensures next { (before : List Bool) → IsRemainder divisor.polynomial divisor.degree (field_of before) register → IsRemainder divisor.polynomial divisor.degree (field_of (before ++ octet_bits octets.now)) result }
+    ensures next { (before : List Bool) → IsRemainder divisor.polynomial divisor.degree (field_of before) register
+        → IsRemainder divisor.polynomial divisor.degree (field_of (before ++ octet_bits octets.now)) result }
 {
     let mut remainder = register;
     for octet in octets {
@@ -49,7 +51,8 @@ pub(crate) fn take_octets(register: u64, octets: &[u8], divisor: Divisor) -> u64
 pub(crate) fn check_of(register: u64, divisor: Divisor) -> u64
     requires lower { register < 2 ^ divisor.degree }
     ensures lower { result < 2 ^ divisor.degree }
-    ensures check { (message : List Bool) → IsRemainder divisor.polynomial divisor.degree (field_of message) register → IsCheck divisor.polynomial divisor.degree message result }
+    ensures check { (message : List Bool) → IsRemainder divisor.polynomial divisor.degree (field_of message) register
+        → IsCheck divisor.polynomial divisor.degree message result }
 {
     let remainder = take_number(register, 0, divisor.degree, divisor);
     remainder ^ ((1 << divisor.degree) - 1)

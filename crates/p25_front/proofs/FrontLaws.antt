@@ -1,38 +1,35 @@
 -- The laws of a unit's front: its two parts, its form by places, and where it stands in a sent unit. Each goes by cutting
 -- lists at known lengths.
-use Rattle.std.proofs.Common.{◌≡◌, ◌↔◌, ◌<◌, Option, Some, ℕ, ◌+◌, ◌*◌, ◌≤◌, Bool, eqb, List, [], ◌∷◌, ◌++◌, length, take, drop, ap, ap₂, sym, ◌∙◌, subst, arith, length-append, length-drop}
+use Rattle.std.proofs.Common.{◌≡◌, ◌↔◌, ◌<◌, Option, Some, ℕ, ◌+◌, ◌*◌, ◌≤◌, Bool, List, ◌++◌, length, take, drop, ap, ap₂, sym, ◌∙◌, subst, arith, length-append, length-drop}
 use Rattle.std.proofs.Math.Seq.{take-add, take-append-add, take-length}
-use Rattle.std.proofs.lemmas.List.{length-take-le, take-append-drop, drop-drop, take-append-le, take-take}
+use Rattle.std.proofs.lemmas.List.{length-take-le, take-append-drop, drop-drop, take-append-le, take-take, take_at, drop_at}
 use Rattle.p25_bits.specs.Bits.{bits_of, field_of, part}
 use Rattle.p25_bits.proofs.NumbersLaws.{field-lt}
 use Rattle.p25_bits.specs.Distance.{distance_of}
-use Rattle.p25_bits.proofs.BitsLaws.{length-bits_of}
 use Rattle.p25_bits.proofs.PartLaws.{part-take}
 use Rattle.p25_bits.proofs.DistanceLaws.{distance_of-same, distance_by-append}
 use Rattle.std.specs.Bool.{beq}
 use Rattle.p25_code.specs.Words.{IsEncoding}
 use Rattle.p25_status.specs.Sync.{sync_bits}
 use Rattle.p25_status.specs.Woven.{plain_of}
-use Rattle.p25_status.proofs.Parts.{front, back}
 use Rattle.p25_status.proofs.SyncLaws.{length-sync_bits}
 use Rattle.p25_status.proofs.WovenLaws.{part-plain_of}
 use Rattle.p25_bch_nid.specs.Bch63.{IsBch63}
-use Rattle.p25_bch_nid.specs.Bch63Laws.{encoded, IsEncoding-encoded, one_word}
-use Rattle.p25_bch_nid.specs.Nid.{parity_of}
+use Rattle.p25_bch_nid.specs.Bch63Laws.{one_word}
 use Rattle.p25_bch_nid.specs.NidReading.{IsNidFound, IsNidReading, nid_reading_of}
 use Rattle.p25_bch_nid.proofs.NidReadingLaws.{IsNidReading-nid_reading_of, nid_reading_of-word}
-use Rattle.p25_bch_nid.proofs.NidWordLaws.{take-nid_word, drop-nid_word, IsEncoding-nid_word, length-nid_word, identifier_of_word-encoding}
+use Rattle.p25_bch_nid.proofs.NidWordLaws.{drop-nid_word, IsEncoding-nid_word, length-nid_word, identifier_of_word-encoding}
 use Rattle.p25_bch_nid.specs.NidWord.{nid_word}
 use Rattle.p25_front.specs.Front.{unit_front, IsFront, identifier_bits, identifier_of, front_of, front_fixes_of}
 
 -- the parts of a front
 pub take-unit_front : (nac duid : ℕ) → take 48 (unit_front nac duid) ≡ sync_bits
 unfolding unit_front
-take-unit_front nac duid = front 48 sync_bits (nid_word nac duid) length-sync_bits
+take-unit_front nac duid = take_at sync_bits (nid_word nac duid) 48 length-sync_bits
 
 pub drop-unit_front : (nac duid : ℕ) → drop 48 (unit_front nac duid) ≡ nid_word nac duid
 unfolding unit_front
-drop-unit_front nac duid = back 48 sync_bits (nid_word nac duid) length-sync_bits
+drop-unit_front nac duid = drop_at sync_bits (nid_word nac duid) 48 length-sync_bits
 
 pub length-unit_front : (nac duid : ℕ) → length (unit_front nac duid) ≡ 112
 unfolding unit_front
@@ -131,12 +128,12 @@ front_of-plain_of blocks sent two long =
 pub front_of-sync : (nac duid : ℕ) (sent : List Bool) → 48 ≤ length sent → front_of sent ≡ unit_front nac duid → take 48 sent ≡ sync_bits
 unfolding front_of
 front_of-sync nac duid sent long same =
-    sym (front 48 (take 48 sent) (identifier_bits sent) (length-take-le 48 sent long)) ∙ ap (take 48) same ∙ take-unit_front nac duid
+    sym (take_at (take 48 sent) (identifier_bits sent) 48 (length-take-le 48 sent long)) ∙ ap (take 48) same ∙ take-unit_front nac duid
 
 pub front_of-identifier : (nac duid : ℕ) (sent : List Bool) → 48 ≤ length sent → front_of sent ≡ unit_front nac duid → identifier_bits sent ≡ nid_word nac duid
 unfolding front_of
 front_of-identifier nac duid sent long same =
-    sym (back 48 (take 48 sent) (identifier_bits sent) (length-take-le 48 sent long)) ∙ ap (drop 48) same ∙ drop-unit_front nac duid
+    sym (drop_at (take 48 sent) (identifier_bits sent) 48 (length-take-le 48 sent long)) ∙ ap (drop 48) same ∙ drop-unit_front nac duid
 
 -- an identifier that was read has 12 and 4 bits
 pub identifier_of-fits : (sent : List Bool) (nid : ℕ × ℕ) → identifier_of sent ≡ Some nid → (nid.0 < 4096) × (nid.1 < 16)

@@ -1,17 +1,18 @@
 -- What fronts as numbers are as bits: a number of two fields, and the weight of an exclusive or as a distance.
-use Rattle.std.proofs.Common.{◌≡◌, ℕ, ◌+◌, ◌*◌, ◌/◌, ◌^◌, ◌<◌, ◌≤◌, Bool, List, length, take, drop, bit_xor, ap, ap₂, sym, ◌∙◌, subst, arith, length-drop, mod-eq_of_lt}
+use Rattle.std.proofs.Common.{◌≡◌, ℕ, ◌+◌, ◌*◌, ◌/◌, ◌^◌, ◌<◌, ◌≤◌, Bool, List, length, take, drop, bit_xor, ap, ap₂, sym, ◌∙◌, arith, length-drop, mod-eq_of_lt}
 use Rattle.std.specs.Int.RustNames.{count_ones}
 use Rattle.std.proofs.lemmas.List.{length-take-le, take_at, drop-drop}
 use Rattle.std.proofs.lemmas.Nat.{xor_shr}
 use Rattle.p25_bits.proofs.DistanceLaws.{ones-xor}
 use Rattle.p25_bits.specs.Bits.{bits_of, field_of, part}
 use Rattle.p25_bits.specs.Distance.{distance_of}
-use Rattle.p25_bits.proofs.BitsLaws.{bits_of-add, length-bits_of, field_of-bits_of, bits_of-field_of, field_of-append, field_of-lt}
+use Rattle.p25_bits.proofs.BitsLaws.{bits_of-add, length-bits_of, field_of-bits_of, bits_of-field_of, field_of-append}
 use Rattle.p25_front.specs.Front.{identifier_bits}
 use Rattle.p25_front.proofs.FrontLaws.{length-identifier_bits}
 
 -- the number of an identifier is that of the bits before the status symbol, and then of those behind it
-pub identifier_number : (bits : List Bool) (at before behind : ℕ) → at + 114 ≤ length bits → before ≡ field_of (part (at + 48) 22 bits) → behind ≡ field_of (part (at + 72) 42 bits) → before * 2 ^ 42 + behind ≡ field_of (identifier_bits (drop at bits))
+pub identifier_number : (bits : List Bool) (at before behind : ℕ) → at + 114 ≤ length bits
+    → before ≡ field_of (part (at + 48) 22 bits) → behind ≡ field_of (part (at + 72) 42 bits) → before * 2 ^ 42 + behind ≡ field_of (identifier_bits (drop at bits))
 unfolding identifier_bits
 identifier_number bits at before behind there first second =
     let rest = drop at bits in

@@ -1,5 +1,5 @@
-pub mod FieldFacts
-pub mod Powers
-pub mod Symbols
-pub mod TableFacts
+pub mod FieldLaws
+pub mod PowerLaws
+pub mod SymbolLaws
+pub mod TableLaws
 pub mod ProductSteps

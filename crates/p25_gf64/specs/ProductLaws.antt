@@ -79,14 +79,17 @@ product_inverse_computed = refl
 -- the 62nd power is the inverse
 pub product_inverse : (a : ℕ) → a < 64 → a ≢ 0 → product a (product_power a 62) ≡ 1
 product_inverse a ha apart =
-    elim (or_cases (a == 0) (product a (product_power a 62) == 1) (all_below_at 64 (λ a. a == 0 || product a (product_power a 62) == 1) product_inverse_computed a ha)) [
+    let either = all_below_at 64 (λ a. a == 0 || product a (product_power a 62) == 1) product_inverse_computed a ha in
+    elim (or_cases (a == 0) (product a (product_power a 62) == 1) either) [
       | inl same ↦ absurd (apart (eqb-true _ _ same))
       | inr one ↦ eqb-true _ _ one
     ]
 
 xor_regroup : (p q r s : ℕ) → bit_xor (bit_xor p q) (bit_xor r s) ≡ bit_xor (bit_xor p r) (bit_xor q s)
 xor_regroup p q r s =
-    xor_assoc p q (bit_xor r s) ∙ ap (bit_xor p) (sym (xor_assoc q r s) ∙ ap (λ z. bit_xor z s) (xor_comm q r) ∙ xor_assoc r q s) ∙ sym (xor_assoc p r (bit_xor q s))
+    xor_assoc p q (bit_xor r s)
+    ∙ ap (bit_xor p) (sym (xor_assoc q r s) ∙ ap (λ z. bit_xor z s) (xor_comm q r) ∙ xor_assoc r q s)
+    ∙ sym (xor_assoc p r (bit_xor q s))
 
 cond_xor : (t : Bool) (a c : ℕ) → cond t (bit_xor a c) 0 ≡ bit_xor (cond t a 0) (cond t c 0)
 cond_xor true a c = refl
@@ -117,7 +120,9 @@ product_by-xor : (n a c b : ℕ) → a < 64 → c < 64 → product_by n (bit_xor
 unfolding product_by
 product_by-xor zero a c b ha hc = refl
 product_by-xor (suc n) a c b ha hc =
-    ap₂ bit_xor (cond_xor (b % 2 == 1) a c) (ap (λ z. product_by n z (b / 2)) (times_x-xor a c ha hc) ∙ product_by-xor n (times_x a) (times_x c) (b / 2) (times_x-lt a ha) (times_x-lt c hc))
+    let rest =
+    ap (λ z. product_by n z (b / 2)) (times_x-xor a c ha hc) ∙ product_by-xor n (times_x a) (times_x c) (b / 2) (times_x-lt a ha) (times_x-lt c hc) in
+    ap₂ bit_xor (cond_xor (b % 2 == 1) a c) rest
     ∙ xor_regroup (cond (b % 2 == 1) a 0) (cond (b % 2 == 1) c 0) (product_by n (times_x a) (b / 2)) (product_by n (times_x c) (b / 2))
 
 product-xor_left : (a c b : ℕ) → a < 64 → c < 64 → product (bit_xor a c) b ≡ bit_xor (product a b) (product c b)
@@ -160,7 +165,8 @@ unfolding product_by
 product_by-product zero a b c ha hb = sym (product-zero a ha)
 product_by-product (suc n) a b c ha hb =
     let t = c % 2 == 1 in
-    ap₂ bit_xor (product_cond t a b ha) (ap (λ z. product_by n z (c / 2)) (product-times_x a b ha hb) ∙ product_by-product n a (times_x b) (c / 2) ha (times_x-lt b hb))
+    let rest = ap (λ z. product_by n z (c / 2)) (product-times_x a b ha hb) ∙ product_by-product n a (times_x b) (c / 2) ha (times_x-lt b hb) in
+    ap₂ bit_xor (product_cond t a b ha) rest
     ∙ sym (product-xor a (cond t b 0) (product_by n (times_x b) (c / 2)) ha (cond_lt t b hb) (product_by-lt n (times_x b) (c / 2) (times_x-lt b hb)))
 
 -- the product associates

@@ -1,1 +1,1 @@
-pub mod OctetsLemmas
+pub mod OctetsLaws

@@ -70,7 +70,13 @@ impl Sink for SliceSink<'_> {
         ensures numbered { Contains self.old.fails (counted self.old.calls) → self.new.written ≡ self.old.written }
         ensures others { ¬ Contains self.old.fails (counted self.old.calls) → self.new.written ≡ self.old.written ++ take self.old.room piece.now }
         ensures room { self.new.room + length self.new.written ≡ self.old.room + length self.old.written }
-        ensures after { self.new ≡ record self.old { written = self.new.written; room = self.new.room; calls = counted self.old.calls; faults = faults_after result self.old.faults } }
+        ensures after { self.new
+            ≡ record self.old {
+              written = self.new.written;
+              room = self.new.room;
+              calls = counted self.old.calls;
+              faults = faults_after result self.old.faults;
+            } }
     {
         let number = self.calls.saturating_add(1);
         self.calls = number;

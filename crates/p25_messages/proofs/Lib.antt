@@ -1,1 +1,1 @@
-pub mod MessageListLaws
+pub mod MessageListSteps

@@ -12,7 +12,7 @@ use Rattle.p25_front.proofs.FrontLaws.{length-unit_front, IsFront-unit_front, un
 use Rattle.p25_trellis.specs.Trellis.{IsBlock}
 use Rattle.p25_trellis.specs.Tables.{half_point, three_quarter_point}
 use Rattle.p25_trellis.specs.Nearest.{half_block, three_quarter_block}
-use Rattle.p25_trellis.proofs.Apart.{length-block}
+use Rattle.p25_trellis.proofs.ApartLaws.{length-block}
 use Rattle.p25_trellis.proofs.NearestLaws.{IsBlock-block_from, same_block_from}
 use Rattle.p25_packet_blocks.specs.declared.packet.Packet.{Packet}
 use Rattle.p25_packet_blocks.specs.declared.packet.Packet.TheVariants.{Confirmed, Plain}

@@ -1,5 +1,8 @@
 //! Units made by a program apart from this code, and each call once.
 
+mod rows;
+
+use self::rows::{DAMAGED, UNITS};
 use super::{
     Block, Confirmed, Flags, Octets, Packet, PacketHead, Plain, Slot, Slots, flags_make,
     flags_read, is_whole, packet_image, packet_length, read_head, read_packet, read_packet_unit,
@@ -54,82 +57,7 @@ fn read_whole(plain: &BitBuf) -> Result<Packet, Field> {
 
 #[test]
 fn units_are_read_and_written(rt: HostRuntime) -> Result<(), Fail> {
-    let rows: [(u16, usize, &[u64]); 5] = [
-        (
-            0x293,
-            560,
-            &[
-                0x5575_F5FF_77FF_293C,
-                0xD60B_E02B_B372_C422,
-                0x22DE_2224_5052_2229,
-                0x2222_B022_2222_2122,
-                0xED22_22CC_2921_F282,
-                0x2222_2222_222E_2222,
-                0x2222_221F_2222_2222,
-                0x2252_2222_2222_2200,
-            ],
-        ),
-        (
-            0x293,
-            560,
-            &[
-                0x5575_F5FF_77FF_293C,
-                0xD60B_E02B_B372_2322,
-                0x22DE_22CD_9F52_2229,
-                0x2223_AB22_2222_2225,
-                0x9022_22CC_222C_1222,
-                0x2222_2F88_8522_2222,
-                0x2288_8822_2222_2288,
-                0x8822_2222_2288_8800,
-            ],
-        ),
-        (
-            0x293,
-            350,
-            &[
-                0x5575_F5FF_77FF_293C,
-                0xD60B_E02B_B372_2522,
-                0x22D2_222D_5122_2229,
-                0x2221_A912_2222_222A,
-                0xAF92_22C2_2227_4000,
-            ],
-        ),
-        (
-            0x123,
-            700,
-            &[
-                0x5575_F5FF_77FF_123C,
-                0x9B8F_E05E_7D3E_2322,
-                0x9CA9_22F5_2C52_CF09,
-                0x222B_1022_EB02_2223,
-                0x9022_1ED1_2228_2259,
-                0xE259_E2B7_0222_CCC1,
-                0x1FFE_E021_ED37_4B62,
-                0x1EFA_C98D_BE41_72CB,
-                0x70CB_ADFD_7320_0DD3,
-                0x3998_9D50_3745_6215,
-                0xFA13_605F_AC9C_6790,
-            ],
-        ),
-        (
-            0xABC,
-            700,
-            &[
-                0x5575_F5FF_77FF_ABCC,
-                0xC425_E74B_DC0A_C42F,
-                0x4199_52CC_2052_8B42,
-                0x2F2D_3022_8362_262A,
-                0xBD22_65A1_F929_E222,
-                0xD6E7_7E8F_4BE7_2EDF,
-                0xDFE6_1B32_E2EF_2DF0,
-                0xFD82_A12B_71FB_AD4C,
-                0x4452_1ED1_98B8_DE81,
-                0xC1C7_08DE_7CAC_705D,
-                0x8D55_754D_E840_E580,
-            ],
-        ),
-    ];
-    for (nac, len, words) in rows {
+    for (nac, len, words) in UNITS {
         let plain = unit(words, len);
         let packet = read_whole(&plain)?;
         assert!(rt; is_whole(&packet));
@@ -153,112 +81,7 @@ fn units_are_read_and_written(rt: HostRuntime) -> Result<(), Fail> {
 
 #[test]
 fn damaged_units(rt: HostRuntime) {
-    let rows: [(Option<Field>, usize, &[u64]); 8] = [
-        // a confirmed block zeroed
-        (
-            None,
-            560,
-            &[
-                0x5575_F5FF_77FF_293C,
-                0xD60B_E02B_B372_C422,
-                0x22DE_2224_5052_2229,
-                0x2222_B022_2222_2122,
-                0xED22_22CC_2921_F222,
-                0x2222_2222_2222_2222,
-                0x2222_2222_2222_2222,
-                0x2222_2222_2222_2200,
-            ],
-        ),
-        // a plain block zeroed
-        (
-            Some(Field::PacketCrc),
-            560,
-            &[
-                0x5575_F5FF_77FF_293C,
-                0xD60B_E02B_B372_2322,
-                0x22DE_22CD_9F52_2229,
-                0x2223_AB22_2222_2225,
-                0x9022_22CC_222C_1222,
-                0x2222_2222_2222_2222,
-                0x2222_2222_2222_2222,
-                0x2222_2222_2222_2200,
-            ],
-        ),
-        // the header block zeroed
-        (
-            Some(Field::PacketHeader),
-            350,
-            &[
-                0x5575_F5FF_77FF_293C,
-                0xD60B_E02B_B372_2222,
-                0x2222_2222_2222_2222,
-                0x2222_2222_2222_2222,
-                0x2222_2222_2222_2000,
-            ],
-        ),
-        // format 17 hex
-        (
-            Some(Field::Format),
-            350,
-            &[
-                0x5575_F5FF_77FF_293C,
-                0xD60B_E02B_B372_2822,
-                0x22D2_22F1_EC52_2229,
-                0x2226_7022_2222_2229,
-                0xE322_22C2_2222_C000,
-            ],
-        ),
-        // the beginning of a packet of 127 blocks
-        (
-            Some(Field::Length),
-            350,
-            &[
-                0x5575_F5FF_77FF_293C,
-                0xD60B_E02B_B372_C422,
-                0x2235_22F4_2052_2228,
-                0x2226_8022_2228_2129,
-                0x8D22_22C8_2921_5282,
-                0x2222_2220_0000_0000,
-            ],
-        ),
-        // five wrong bits of the sync
-        (
-            Some(Field::Sync),
-            350,
-            &[
-                0xAD75_F5FF_77FF_293C,
-                0xD60B_E02B_B372_2522,
-                0x22D2_222D_5122_2229,
-                0x2221_A912_2222_222A,
-                0xAF92_22C2_2227_4000,
-            ],
-        ),
-        // twelve wrong bits of the identifier
-        (
-            Some(Field::Nid),
-            350,
-            &[
-                0x5575_F5FF_77FF_D6CC,
-                0xD60B_E02B_B372_2522,
-                0x22D2_222D_5122_2229,
-                0x2221_A912_2222_222A,
-                0xAF92_22C2_2227_4000,
-            ],
-        ),
-        // DUID 3
-        (
-            Some(Field::Duid),
-            350,
-            &[
-                0x5575_F5FF_77FF_2933,
-                0x3977_728C_ED6E_2522,
-                0x22D2_222D_5122_2229,
-                0x2221_A912_2222_222A,
-                0xAF92_22C2_2227_4000,
-            ],
-        ),
-    ];
-    for (fails, len, words) in rows {
+    for (fails, len, words) in DAMAGED {
         let bits = sent(&unit(words, len));
         assert!(rt; bits.len() >= 360);
         match read_packet_unit(&bits) {

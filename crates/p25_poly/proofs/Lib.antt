@@ -1,7 +1,7 @@
-pub mod Coefficients
-pub mod Division
-pub mod PolyFacts
-pub mod DotFacts
-pub mod RowFacts
-pub mod SystemFacts
-pub mod EuclidLaws
+pub mod CoefficientLaws
+pub mod DivisionLaws
+pub mod PolyLaws
+pub mod DotLaws
+pub mod RowLaws
+pub mod SystemSteps
+pub mod EuclidSteps

@@ -4,11 +4,11 @@ use Rattle.p25_gf64.specs.declared.symbol.Sym.{Sym}
 use Rattle.p25_gf64.specs.Gf64.{gf64}
 use Rattle.p25_algebra.specs.Sums.{nonzeros, weight_by}
 use Rattle.p25_algebra.specs.Series.{coefficient}
-use Rattle.p25_algebra.proofs.Vanishing.{weight_zero}
+use Rattle.p25_algebra.proofs.VanishingLaws.{weight_zero}
 use Rattle.p25_code.specs.Marks.{marked, marks_in, letter_distance, unmarked_distance, marked_cost}
 use Rattle.p25_reed_solomon.specs.Words.{same_symbols}
 use Rattle.p25_reed_solomon.specs.Errors.{marks_below, unmarked}
-use Rattle.p25_reed_solomon.specs.DistanceFacts.{nonzeros_first, weight_of_sum}
+use Rattle.p25_reed_solomon.specs.DistanceLaws.{nonzeros_first, weight_of_sum}
 
 -- the first place apart
 marks_below-first : (gone : Bool) (erased : List Bool) (n : ℕ) → marks_below (gone ∷ erased) (suc n) ≡ cond gone 1 0 + marks_below erased n

@@ -5,11 +5,11 @@ use Rattle.std.proofs.lemmas.List.{length-set, get_or-set_same, get_or-set_other
 use Rattle.p25_gf64.specs.declared.symbol.Sym.{Sym}
 use Rattle.p25_gf64.specs.Field.{power}
 use Rattle.p25_gf64.specs.Gf64.{gf64}
-use Rattle.p25_gf64.proofs.FieldFacts.{add_zero, mul_comm, zero_mul}
+use Rattle.p25_gf64.proofs.FieldLaws.{add_zero, mul_comm, zero_mul}
 use Rattle.p25_algebra.specs.Sums.{sum_below, power_sum, nonzeros, weight_by}
 use Rattle.p25_algebra.specs.Series.{coefficient}
-use Rattle.p25_algebra.proofs.SumFacts.{sum-none, sum-suc, sum_same, sum_of_zeros, sum_of_one, sum_exchange, sum-mul}
-use Rattle.p25_algebra.proofs.Vanishing.{nonzeros-suc, nonzeros_mono, weight-le}
+use Rattle.p25_algebra.proofs.SumLaws.{sum-none, sum-suc, sum_same, sum_of_zeros, sum_of_one, sum_exchange, sum-mul}
+use Rattle.p25_algebra.proofs.VanishingLaws.{nonzeros-suc, nonzeros_mono, weight-le}
 use Rattle.p25_reed_solomon.specs.Errors.{element_of, IsListed, placed}
 
 -- one value at its place

@@ -6,13 +6,13 @@ use Rattle.std.proofs.lemmas.List.{get_or-take, length-take}
 use Rattle.p25_gf64.specs.declared.symbol.Sym.{Sym}
 use Rattle.p25_gf64.specs.Field.{power}
 use Rattle.p25_gf64.specs.Gf64.{gf64}
-use Rattle.p25_gf64.proofs.FieldFacts.{add_zero, mul_comm, mul_cancel}
+use Rattle.p25_gf64.proofs.FieldLaws.{add_zero, mul_comm, mul_cancel}
 use Rattle.p25_algebra.specs.Sums.{sum_below, power_sum, nonzeros, weight_by}
 use Rattle.p25_algebra.specs.Series.{coefficient, value_at, slope_at}
-use Rattle.p25_algebra.proofs.SumFacts.{sum-none, sum-suc, sum_same}
-use Rattle.p25_algebra.proofs.Vanishing.{nonzeros-suc, weight_zero, weight_one}
-use Rattle.p25_algebra.proofs.Values.{value_same}
-use Rattle.p25_poly.proofs.Coefficients.{coefficient_past}
+use Rattle.p25_algebra.proofs.SumLaws.{sum-none, sum-suc, sum_same}
+use Rattle.p25_algebra.proofs.VanishingLaws.{nonzeros-suc, weight_zero, weight_one}
+use Rattle.p25_algebra.proofs.ValueLaws.{value_same}
+use Rattle.p25_poly.proofs.CoefficientLaws.{coefficient_past}
 use Rattle.p25_reed_solomon.specs.Errors.{element_of, point_of, is_marked, marks_below, unmarked, Explains, IsListed, AreZeros, placed}
 use Rattle.p25_reed_solomon.specs.Locator.{IsLocator}
 use Rattle.p25_reed_solomon.proofs.MarksLaws.{marks_below-none, marks_below-marked, marks_below-plain}

@@ -1,11 +1,11 @@
 pub mod ZerosSteps
 pub mod ErrorsLaws
-pub mod ReaderSteps
+pub mod ReaderLaws
 pub mod MultiplesLaws
 pub mod EncoderSteps
 pub mod MarksLaws
 pub mod LocatorLaws
-pub mod ListSteps
+pub mod ListLaws
 pub mod ErrorsSteps
 pub mod CostLaws
-pub mod WrongSteps
+pub mod WrongLaws

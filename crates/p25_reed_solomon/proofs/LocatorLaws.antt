@@ -7,22 +7,22 @@ use Rattle.std.proofs.lemmas.List.{get_or-take, get_or-drop, length-take, length
 use Rattle.p25_gf64.specs.declared.symbol.Sym.{Sym}
 use Rattle.p25_gf64.specs.Field.{power}
 use Rattle.p25_gf64.specs.Gf64.{gf64}
-use Rattle.p25_gf64.proofs.Powers.{power-zero}
-use Rattle.p25_gf64.proofs.FieldFacts.{add_comm, zero_add, mul_comm, mul_one, mul_zero, zero_mul, mul_ne_zero, other_zero, inverse_ne_zero}
+use Rattle.p25_gf64.proofs.PowerLaws.{power-zero}
+use Rattle.p25_gf64.proofs.FieldLaws.{add_comm, zero_add, mul_comm, mul_one, mul_zero, zero_mul, mul_ne_zero, other_zero, inverse_ne_zero}
 use Rattle.p25_algebra.specs.Sums.{power_sum, nonzeros}
 use Rattle.p25_algebra.specs.Series.{coefficient, value_at, product_at, shifted, slope_at, IsZero, IsShort}
-use Rattle.p25_algebra.proofs.SumFacts.{sum_of_one}
-use Rattle.p25_algebra.proofs.Values.{value-none, value_same}
-use Rattle.p25_algebra.proofs.Products.{product_agree, product_same, product_same_left, product_comm, product_first, product_at_zero}
-use Rattle.p25_algebra.proofs.ProductValues.{value_longer}
-use Rattle.p25_algebra.proofs.Quotients.{shifted-first, shifted-next, slope_longer, slope-kept, slope-new}
-use Rattle.p25_algebra.proofs.Locators.{locator_vanishes}
+use Rattle.p25_algebra.proofs.SumLaws.{sum_of_one}
+use Rattle.p25_algebra.proofs.ValueLaws.{value-none, value_same}
+use Rattle.p25_algebra.proofs.ProductLaws.{product_agree, product_same, product_same_left, product_comm, product_first, product_at_zero}
+use Rattle.p25_algebra.proofs.ProductValueLaws.{value_longer}
+use Rattle.p25_algebra.proofs.QuotientLaws.{shifted-first, shifted-next, slope_longer, slope-kept, slope-new}
+use Rattle.p25_algebra.proofs.LocatorLaws.{locator_vanishes}
 use Rattle.p25_algebra.proofs.ForneyLaws.{forney}
 use Rattle.p25_poly.specs.declared.polynomial.Poly.{Poly}
 use Rattle.p25_poly.specs.Polynomial.{coefficient_of}
 use Rattle.p25_poly.specs.Key.{IsKey}
-use Rattle.p25_poly.proofs.Coefficients.{coefficient_past}
-use Rattle.p25_reed_solomon.specs.ElementFacts.{elements_apart, element_ne_zero}
+use Rattle.p25_poly.proofs.CoefficientLaws.{coefficient_past}
+use Rattle.p25_reed_solomon.specs.ElementLaws.{elements_apart, element_ne_zero}
 use Rattle.p25_reed_solomon.specs.Errors.{element_of, point_of, is_marked, marks_below, Explains}
 use Rattle.p25_reed_solomon.specs.Locator.{times_marks, IsLocator}
 use Rattle.p25_reed_solomon.proofs.MarksLaws.{marks_below-none, marks_below-marked, marks_below-plain, times_marks-none, times_marks-marked, times_marks-plain, short_times_marks, zero_from_times_marks, product-times_marks, point_inverse, factor_ne_zero, value-times_marks, value-times_plain, zero_stays, mark_vanishes, lowered_by, lowered_sums, lowered_zero, lowered_gone, lowered_kept, nonzeros-lowered}

@@ -6,9 +6,9 @@ use Rattle.p25_gf64.specs.declared.symbol.Sym.{Sym}
 use Rattle.p25_gf64.specs.Gf64.{gf64}
 use Rattle.p25_algebra.specs.Sums.{AreApart}
 use Rattle.p25_algebra.specs.Series.{coefficient, value_at, IsZero}
-use Rattle.p25_algebra.proofs.Values.{few_zeros}
-use Rattle.p25_poly.proofs.Coefficients.{coefficient_past}
-use Rattle.p25_reed_solomon.specs.ElementFacts.{same_point}
+use Rattle.p25_algebra.proofs.ValueLaws.{few_zeros}
+use Rattle.p25_poly.proofs.CoefficientLaws.{coefficient_past}
+use Rattle.p25_reed_solomon.specs.ElementLaws.{same_point}
 use Rattle.p25_reed_solomon.specs.Errors.{point_of, AreZeros}
 
 -- a polynomial with as many zeros as coefficients has no coefficient

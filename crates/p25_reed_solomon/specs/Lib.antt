@@ -2,8 +2,8 @@ pub mod Words
 pub mod Errors
 pub mod Locator
 pub mod Generator
-pub mod ValueFacts
-pub mod ElementFacts
-pub mod DistanceFacts
+pub mod ValueLaws
+pub mod ElementLaws
+pub mod DistanceLaws
 pub mod WordLaws
 pub mod RsReadings

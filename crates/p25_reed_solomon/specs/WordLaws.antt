@@ -7,15 +7,15 @@ use Rattle.p25_bits.specs.Distance.{distance_by}
 use Rattle.p25_bits.proofs.DistanceLaws.{distance_by-append, distance_by-same, distance_by-le}
 use Rattle.p25_gf64.specs.declared.symbol.Sym.{Sym}
 use Rattle.p25_gf64.specs.Gf64.{gf64}
-use Rattle.p25_gf64.proofs.FieldFacts.{add_zero, same_from_sum}
+use Rattle.p25_gf64.proofs.FieldLaws.{add_zero, same_from_sum}
 use Rattle.p25_algebra.specs.Sums.{nonzeros, power_sum}
 use Rattle.p25_algebra.specs.Series.{coefficient}
-use Rattle.p25_algebra.proofs.Vanishing.{vanishing}
+use Rattle.p25_algebra.proofs.VanishingLaws.{vanishing}
 use Rattle.p25_reed_solomon.specs.Words.{IsCode, IsWord, same_symbols}
 use Rattle.p25_reed_solomon.specs.Errors.{element_of}
-use Rattle.p25_reed_solomon.specs.ValueFacts.{value-power_sum, front_value-add}
-use Rattle.p25_reed_solomon.specs.ElementFacts.{elements_apart, element_ne_zero}
-use Rattle.p25_reed_solomon.specs.DistanceFacts.{distance-nonzeros, same_symbols-same}
+use Rattle.p25_reed_solomon.specs.ValueLaws.{value-power_sum, front_value-add}
+use Rattle.p25_reed_solomon.specs.ElementLaws.{elements_apart, element_ne_zero}
+use Rattle.p25_reed_solomon.specs.DistanceLaws.{distance-nonzeros, same_symbols-same}
 
 -- two words that differ in no more symbols than there are check symbols are one word
 pub same_word : (n k : ℕ) → IsCode n k → (v w : List Sym) → IsWord n k v → IsWord n k w → distance_by same_symbols v w ≤ n - k → v ≡ w
@@ -30,7 +30,8 @@ same_word n k code v w first second near =
     ∙ ap₂ gf64.add (first.vanishes i low (omega arith)) (second.vanishes i low (omega arith))
     ∙ add_zero gf64 gf64.zero in
     let none = vanishing gf64 n (n - k) 1 (element_of n) sum (elements_apart n code.places) (λ j h. element_ne_zero n j) few sums in
-    ext_get_or gf64.zero v w (first.long ∙ sym second.long) (λ j below. same_from_sum gf64 (coefficient gf64 v j) (coefficient gf64 w j) (none j (omega (arith, first.long))))
+    ext_get_or gf64.zero v w (first.long ∙ sym second.long)
+    (λ j below. same_from_sum gf64 (coefficient gf64 v j) (coefficient gf64 w j) (none j (omega (arith, first.long))))
 
 -- two different words differ in more symbols than there are check symbols
 pub words_apart : (n k : ℕ) → IsCode n k → (v w : List Sym) → IsWord n k v → IsWord n k w → v ≢ w → n - k + 1 ≤ distance_by same_symbols v w
@@ -44,7 +45,9 @@ words_apart n k code v w first second other =
 pub one_word_of : (n k : ℕ) → IsCode n k → (v w : List Sym) → IsWord n k v → IsWord n k w → take k v ≡ take k w → v ≡ w
 one_word_of n k code v w first second same =
     let long = length-take-le k v (omega (arith, code.shorter, first.long)) ∙ sym (length-take-le k w (omega (arith, code.shorter, second.long))) in
-    let split = ap₂ (distance_by same_symbols) (sym (take-append-drop k v)) (sym (take-append-drop k w)) ∙ distance_by-append same_symbols (take k v) (drop k v) (take k w) (drop k w) long in
+    let split =
+    ap₂ (distance_by same_symbols) (sym (take-append-drop k v)) (sym (take-append-drop k w))
+    ∙ distance_by-append same_symbols (take k v) (drop k v) (take k w) (drop k w) long in
     let front = ap (λ xs. distance_by same_symbols xs (take k w)) same ∙ distance_by-same same_symbols same_symbols-same (take k w) in
     same_word n k code v w first second (omega (arith, split, front, distance_by-le same_symbols (drop k v) (drop k w), length-drop k v, first.long))
 

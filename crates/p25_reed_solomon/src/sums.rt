@@ -17,7 +17,8 @@ pub(crate) fn are_sums(syndromes: &[Sym], n: usize, places: &[usize], values: &[
     requires values { length values.now ≡ 32 }
     requires rest { (c : ℕ) → length places.now ≤ c → coefficient gf64 values.now c ≡ gf64.zero }
     ensures { IsTrue result ↔ ((r : ℕ) → r < length syndromes.now
-        → power_sum gf64 (length places.now) (λ c. element_of n (slice_index_or places.now c 0)) (coefficient gf64 values.now) (r + 1) ≡ coefficient gf64 syndromes.now r) }
+        → power_sum gf64 (length places.now) (λ c. element_of n (slice_index_or places.now c 0)) (coefficient gf64 values.now) (r + 1)
+        ≡ coefficient gf64 syndromes.now r) }
 {
     let elements = elements_of(n, places);
     let mut terms = [Sym::default(); 32];

@@ -69,7 +69,8 @@ fn quotient(a: Sym, b: Sym) -> Sym
 // The slopes of a polynomial at each of 32 points.
 fn slopes_of(polynomial: &[Sym], points: &[Sym]) -> [Sym; 32]
     requires { length points.now ≡ 32 }
-    ensures slopes { (r : ℕ) → r < 32 → coefficient gf64 result r ≡ slope_at gf64 (length polynomial.now) (coefficient gf64 polynomial.now) (coefficient gf64 points.now r) }
+    ensures slopes { (r : ℕ) → r < 32
+        → coefficient gf64 result r ≡ slope_at gf64 (length polynomial.now) (coefficient gf64 polynomial.now) (coefficient gf64 points.now r) }
     ensures full { length result ≡ 32 }
 {
     let mut slopes = [Sym::default(); 32];

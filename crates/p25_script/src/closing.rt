@@ -22,7 +22,7 @@ pub fn closing_text(world: &World, out: &mut Line)
 }
 
 // Appends a label and a number in decimal.
-#[tactic(auto, using(p25_text::proofs::Decimals::decimal_short))]
+#[tactic(auto, using(p25_line::proofs::DecimalLaws::decimal_short))]
 fn put_count(label: &[u8], number: u64, out: &mut Line)
     requires { length out.old + length label.now + 20 ≤ 8192 }
     ensures text { out.new ≡ out.old ++ label.now ++ decimal number }

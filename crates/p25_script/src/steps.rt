@@ -69,7 +69,7 @@ fn put_kind(kind: &StepKind, out: &mut Line)
 }
 
 // Appends a label and a number in decimal.
-#[tactic(auto, using(p25_text::proofs::Decimals::decimal_octet))]
+#[tactic(auto, using(p25_line::proofs::DecimalLaws::decimal_octet))]
 fn put_labelled(label: &[u8], number: u8, out: &mut Line)
     requires { length out.old + length label.now + 3 ≤ 8192 }
     ensures text { out.new ≡ out.old ++ label.now ++ decimal number }
@@ -183,7 +183,7 @@ fn put_serials(wanted: &Flags, out: &mut Line)
 }
 
 // Appends a serial number, with a comma before it where it stands behind another.
-#[tactic(auto, using(p25_text::proofs::Decimals::decimal_octet))]
+#[tactic(auto, using(p25_line::proofs::DecimalLaws::decimal_octet))]
 fn put_serial(behind: bool, serial: usize, out: &mut Line)
     requires below { serial < 128 }
     requires room { length out.old + 4 ≤ 8192 }

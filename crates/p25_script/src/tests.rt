@@ -245,7 +245,9 @@ fn steps_to(world: &mut World, line: &[u8], text: &[u8]) -> Result<bool, Fail> {
 fn script_of_a_selective_retry(rt: HostRuntime) -> Result<(), Fail> {
     let rows: [(&[u8], &[u8]); 8] = [
         (
-            b"send 000000000000000000000000000000000000000000000000000000000000000000000000000000000000000000000000000000000000000000000000",
+            b"send \
+              000000000000000000000000000000000000000000000000000000000000\
+              000000000000000000000000000000000000000000000000000000000000",
             b"send taken ns=0 blocks=4",
         ),
         (
@@ -255,7 +257,9 @@ fn script_of_a_selective_retry(rt: HostRuntime) -> Result<(), Fail> {
         (b"deliver answer -", b"answer retry ns=0 blocks=0,2 try=2"),
         (
             b"deliver data -",
-            b"data delivered ns=0 message=000000000000000000000000000000000000000000000000000000000000000000000000000000000000000000000000000000000000000000000000",
+            b"data delivered ns=0 message=\
+              000000000000000000000000000000000000000000000000000000000000\
+              000000000000000000000000000000000000000000000000000000000000",
         ),
         (b"timeout", b"timeout sent ns=0 try=3"),
         (b"deliver data -", b"data again ack=0"),

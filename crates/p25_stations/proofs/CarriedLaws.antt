@@ -14,7 +14,7 @@ use Rattle.p25_packet_blocks.specs.Image.{four_octets, checked_octets}
 use Rattle.p25_packet_blocks.specs.Parts.{BlockParts}
 use Rattle.p25_packet_blocks.specs.declared.block.Slot.{Slot}
 use Rattle.p25_packet_blocks.specs.declared.block.Slot.TheVariants.{Good, Bad}
-use Rattle.p25_stations.specs.MessageBlocks.{block_count, pad_count, padded_octets, message_octets, message_block, unpadded}
+use Rattle.p25_stations.specs.MessageBlocks.{block_count, pad_count, message_octets, message_block, unpadded}
 use Rattle.p25_stations.specs.Places.{put_block, put_slots, before_octets, all_octets}
 use Rattle.p25_stations.specs.Carried.{AreBlocksOf, HoldsSerial, CarriesMessage, unpadded_option, read_back}
 use Rattle.p25_stations.proofs.PlacesLaws.{length-put_block, length-put_slots, both_octets, all_octets-append}
@@ -48,7 +48,7 @@ unpadded-is front check pad four agrees small =
 
 -- the octets of a message's blocks
 pub message-read_back : (message : List ℕ) → unpadded (message_octets message) (pad_count (length message)) ≡ Some message
-unfolding message_octets padded_octets checked_octets
+unfolding message_octets checked_octets
 message-read_back message =
     let pad = pad_count (length message) in
     let zeros = replicate pad 0 in
@@ -71,7 +71,10 @@ put_block-here places block j h e =
 pub put_block-other : (places : List (Option BlockParts)) (block : BlockParts) (j : ℕ) → (block.serial ≡ j → ⊥) → get_or (put_block places block) j None ≡ get_or places j None
 unfolding put_block
 put_block-other places block j n =
-    elim (nat_lt block.serial (length places)) as (λ (b : Bool). get_or (cond b (set places block.serial (Some block)) places) j None ≡ get_or places j None) [ true ↦ get_or-set_other places block.serial j (Some block) None (λ e. n (sym e)) | false ↦ refl ]
+    elim (nat_lt block.serial (length places)) as (λ (b : Bool). get_or (cond b (set places block.serial (Some block)) places) j None ≡ get_or places j None) [
+      | true ↦ get_or-set_other places block.serial j (Some block) None (λ e. n (sym e))
+      | false ↦ refl
+    ]
 
 -- a block that is held stays
 pub put_slots-stays : (message : List ℕ) (slots : List Slot) (places : List (Option BlockParts)) (j : ℕ) → AreBlocksOf message slots → j < length places → get_or places j None ≡ Some (message_block message j) →

@@ -1,7 +1,7 @@
-pub mod ListSteps
+pub mod ListLaws
 pub mod PlacesLaws
 pub mod MessageBlocksLaws
-pub mod AskedLaws
+pub mod AskedSteps
 pub mod SentSteps
 pub mod ReceiverSteps
 pub mod CarriedLaws

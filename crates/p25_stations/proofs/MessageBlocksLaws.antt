@@ -21,7 +21,6 @@ pub length-padded : (count : ℕ) → count + pad_count count + 4 ≡ 16 * block
 length-padded count = omega arith
 
 pub length-padded_octets : (message : List ℕ) → length (padded_octets message) + 4 ≡ 16 * block_count (length message)
-unfolding padded_octets
 length-padded_octets message = omega (arith, length-append message (replicate (pad_count (length message)) 0), length-replicate {A = ℕ} (pad_count (length message)) 0, length-padded (length message))
 
 pub length-message_octets : (message : List ℕ) → length (message_octets message) ≡ 16 * block_count (length message)

@@ -8,7 +8,7 @@ use Rattle.p25_packet_blocks.specs.Parts.{BlockParts}
 use Rattle.p25_packet_blocks.specs.declared.block.Slot.{Slot}
 use Rattle.p25_packet_blocks.specs.declared.block.Slot.TheVariants.{Good, Bad}
 use Rattle.p25_stations.specs.Places.{put_block, put_slots, before_octets, all_octets}
-use Rattle.p25_stations.proofs.ListSteps.{take_get}
+use Rattle.p25_stations.proofs.ListLaws.{take_get}
 
 pub length-put_block : (places : List (Option BlockParts)) (block : BlockParts) → length (put_block places block) ≡ length places
 unfolding put_block

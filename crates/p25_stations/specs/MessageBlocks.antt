@@ -15,7 +15,7 @@ abbrev pub pad_count : ℕ → ℕ
 pad_count octets = 16 * block_count octets - 4 - octets
 
 -- a message and its pad octets
-unfoldable pub padded_octets : List ℕ → List ℕ
+abbrev pub padded_octets : List ℕ → List ℕ
 padded_octets message = message ++ replicate (pad_count (length message)) 0
 
 -- all octets that the blocks of a message carry: the message, its pad octets, and the packet CRC over both

@@ -49,7 +49,7 @@ impl MessageOctets {
     ghost use Rattle.p25_packet_blocks.specs.Parts.{BlockParts};
 
     // The octets for a message.
-    #[tactic(auto, unfolding(crate::specs::MessageBlocks::message_octets, crate::specs::MessageBlocks::padded_octets, p25_packet_blocks::specs::Image::checked_octets))]
+    #[tactic(auto, unfolding(crate::specs::MessageBlocks::message_octets, p25_packet_blocks::specs::Image::checked_octets))]
     pub(crate) fn of(message: &Message) -> MessageOctets
         ensures list { result ≡ message_octets message.now }
         ensures len { length result ≡ 16 * block_count (length message.now) }

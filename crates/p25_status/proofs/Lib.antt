@@ -1,6 +1,5 @@
-pub mod Parts
 pub mod SyncLaws
 pub mod WovenLaws
-pub mod PlacesLaws
+pub mod PlacesSteps
 pub mod WeavingSteps
 pub mod StatusLaws

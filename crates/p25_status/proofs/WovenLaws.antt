@@ -1,16 +1,15 @@
--- To weave and to take apart undo each other.
+-- To weave and to take apart undo each other. By recursion on the blocks, each of 70 bits and a status symbol.
 use Rattle.std.proofs.Common.{◌≡◌, ℕ, zero, suc, ◌+◌, ◌*◌, ◌/◌, ◌<◌, ◌≤◌, Bool, true, false, eqb, List, [], ◌∷◌, ◌++◌, length, take, drop, get_or, refl, ap, ap₂, sym, ◌∙◌, arith, length-append, length-drop}
 use Rattle.std.specs.Int.{bit_at}
 use Rattle.std.proofs.Math.Nat.{mod-eq_of_lt}
 use Rattle.std.proofs.Math.Seq.{drop-cons}
-use Rattle.std.proofs.lemmas.List.{take-append-drop, length-take-le, nil_from_length, get_or-drop, drop-drop}
+use Rattle.std.proofs.lemmas.List.{take-append-drop, length-take-le, nil_from_length, get_or-drop, drop-drop, take_at, drop_at}
 use Rattle.p25_bits.specs.Bits.{digit_of, bits_of, field_of, field_after, part}
-use Rattle.p25_bits.proofs.PartLaws.{part-take}
+use Rattle.p25_bits.proofs.PartLaws.{part-take, drop_behind}
 use Rattle.p25_bits.proofs.BitsLaws.{length-bits_of, field_of-bits_of}
 use Rattle.p25_status.specs.Status.{status_number, status_from_bits, same_status}
 use Rattle.p25_status.specs.Woven.{woven, plain_in, plain_of, statuses_in, statuses_of}
 use Rattle.p25_status.specs.declared.symbols.Status.{Status}
-use Rattle.p25_status.proofs.Parts.{front, back, back_from}
 
 -- two bits of a number below 4 write it
 two_digits : (n : ℕ) → n < 4 → 2 * digit_of (eqb (bit_at n 1) 1) + digit_of (eqb (bit_at n 0) 1) ≡ n
@@ -39,7 +38,7 @@ rest_of_blocks bits s ss e = omega (arith, length-drop 70 bits)
 
 -- a block's 72 bits, and those after it
 pub after_block : (front symbol rest : List Bool) → length front ≡ 70 → length symbol ≡ 2 → drop 72 (front ++ (symbol ++ rest)) ≡ rest
-after_block front symbol rest long short = back_from 70 2 front (symbol ++ rest) long ∙ back 2 symbol rest short
+after_block front symbol rest long short = drop_behind 70 2 front (symbol ++ rest) long ∙ drop_at symbol rest 2 short
 
 pub length-woven : (bits : List Bool) (statuses : List Status) → length bits ≡ 70 * length statuses → length (woven bits statuses) ≡ 72 * length statuses
 unfolding woven
@@ -62,7 +61,7 @@ plain_in-woven bits (s ∷ ss) e =
     let rest = woven (drop 70 bits) ss in
     let whole = whole_block bits s ss e in
     ap₂ ◌++◌
-    (front 70 block (bits_of 2 (status_number s) ++ rest) whole)
+    (take_at block (bits_of 2 (status_number s) ++ rest) 70 whole)
     (ap (plain_in (length ss)) (after_block block (bits_of 2 (status_number s)) rest whole (length-bits_of 2 (status_number s))) ∙ plain_in-woven (drop 70 bits) ss (rest_of_blocks bits s ss e))
     ∙ take-append-drop 70 bits
 
@@ -74,7 +73,7 @@ statuses_in-woven bits (s ∷ ss) e =
     let rest = woven (drop 70 bits) ss in
     let whole = whole_block bits s ss e in
     let sent = block ++ (bits_of 2 (status_number s) ++ rest) in
-    let after = back 70 block (bits_of 2 (status_number s) ++ rest) whole in
+    let after = drop_at block (bits_of 2 (status_number s) ++ rest) 70 whole in
     let high : get_or sent 70 false ≡ eqb (bit_at (status_number s) 1) 1 = sym (get_or-drop 70 sent 0 false) ∙ ap (λ l. get_or l 0 false) after in
     let low : get_or sent 71 false ≡ eqb (bit_at (status_number s) 0) 1 = sym (get_or-drop 70 sent 1 false) ∙ ap (λ l. get_or l 1 false) after in
     ap₂ ◌∷◌
@@ -117,11 +116,11 @@ woven-in (suc blocks) sent e =
     let low = get_or sent 71 false in
     let plain = plain_in blocks (drop 72 sent) in
     ap₂ ◌++◌
-    (front 70 (take 70 sent) plain whole)
+    (take_at (take 70 sent) plain 70 whole)
     (
     ap₂ ◌++◌
     (bits_again high low)
-    (ap (λ l. woven l (statuses_in blocks (drop 72 sent))) (back 70 (take 70 sent) plain whole) ∙ woven-in blocks (drop 72 sent) left)
+    (ap (λ l. woven l (statuses_in blocks (drop 72 sent))) (drop_at (take 70 sent) plain 70 whole) ∙ woven-in blocks (drop 72 sent) left)
     )
     ∙ block_whole sent enough
 
@@ -158,7 +157,7 @@ length-statuses_of blocks sent e =
 
 -- a part of a front is that part of the list
 part_of_front : (xs ys : List Bool) (from count n : ℕ) → length xs ≡ n → from + count ≤ n → part from count (xs ++ ys) ≡ part from count xs
-part_of_front xs ys from count n e h = sym (part-take from count n (xs ++ ys) h) ∙ ap (part from count) (front n xs ys e)
+part_of_front xs ys from count n e h = sym (part-take from count n (xs ++ ys) h) ∙ ap (part from count) (take_at xs ys n e)
 
 part_in : (blocks i from count : ℕ) (sent : List Bool) → length sent ≡ 72 * blocks → i < blocks → from + count ≤ 70 → part (70 * i + from) count (plain_in blocks sent) ≡ part (72 * i + from) count sent
 unfolding plain_in
@@ -177,7 +176,7 @@ part_in (suc blocks) (suc i) from count sent e h few =
     let sent_place : 72 + (72 * i + from) ≡ 72 * suc i + from = omega arith in
     let inside : i < blocks = omega arith in
     ap (λ n. part n count (take 70 sent ++ plain_in blocks (drop 72 sent))) place
-    ∙ ap (take count) (back_from 70 (70 * i + from) (take 70 sent) (plain_in blocks (drop 72 sent)) whole)
+    ∙ ap (take count) (drop_behind 70 (70 * i + from) (take 70 sent) (plain_in blocks (drop 72 sent)) whole)
     ∙ part_in blocks i from count (drop 72 sent) left inside few
     ∙ ap (take count) (drop-drop (72 * i + from) 72 sent)
     ∙ ap (λ n. part n count sent) sent_place

@@ -2,8 +2,11 @@
 use Rattle.std.specs.Prelude.{◌≡◌, ℕ, ◌+◌, ◌<◌, ◌≤◌, Bool, true, false, ◌||◌, List, [], ◌∷◌, ◌++◌, length, take, drop}
 use Rattle.std.specs.List.{sum_by}
 use Rattle.p25_status.specs.Sync.{has_sync}
+use Rattle.p25_status.specs.Woven.{statuses_of}
+use Rattle.p25_status.specs.declared.symbols.Status.{Status}
 use Rattle.p25_units.specs.Fixes.{fixes_of}
 use Rattle.p25_units.specs.Items.{IsSoundItem, covered, place_of}
+use Rattle.p25_units.specs.Terminators.{HasTerminator, identifier_errors, sync_errors, terminator, terminator_bits}
 use Rattle.p25_units.specs.Units.{IsSoundFrame, frame_length_of, image_of}
 use Rattle.p25_units.specs.WholeLaws.{IsWholeOf}
 use Rattle.p25_units.specs.WithinRadius.{IsWithinRadius, received_frame}
@@ -56,7 +59,9 @@ ItemsAreSound =
 
 -- a first item that is decided stays the first whatever bits come later
 abbrev pub FirstStays : Type 0
-FirstStays = (at : ℕ) (bits more : List Bool) → is_decided bits ≡ true → (first_item at (bits ++ more) ≡ first_item at bits) × (is_decided (bits ++ more) ≡ true)
+FirstStays =
+    (at : ℕ) (bits more : List Bool)
+    → is_decided bits ≡ true → (first_item at (bits ++ more) ≡ first_item at bits) × (is_decided (bits ++ more) ≡ true)
 
 -- what some bits decide begins the items of these bits and any that come later, and what all of them decide
 abbrev pub DecidedStay : Type 0
@@ -90,3 +95,24 @@ GaveItems =
     (before now : Scan) (item : Item) (raw : List Bool) (ended : Bool) (more : List Bool)
     → Gave before item raw now → (before.finished ≡ true → (ended ≡ true) × (more ≡ []))
     → items_by ended before.place (before.held ++ more) ≡ item ∷ items_by ended now.place (now.held ++ more)
+
+-- where 144 bits are there, at most 4 of the first 48 differ from the sync, and the first 63 bits of the identifier differ in at
+-- most 11 from those that are sent for a network access code of 12 bits and the data unit identifier 3, the first item is the
+-- terminator with that code, whole, with the two status symbols that are there, and the wrong bits as its fixes; it is decided
+abbrev pub TerminatorIsRead : Type 0
+TerminatorIsRead =
+    (at nac : ℕ) (bits : List Bool) → HasTerminator nac bits
+    → (first_item at bits ≡ Whole at (terminator nac (statuses_of (take 144 bits))) (sync_errors bits + identifier_errors nac bits))
+    × (is_decided bits ≡ true)
+
+-- and the first item is a terminator with some code only there
+abbrev pub TerminatorIsThere : Type 0
+TerminatorIsThere =
+    (at nac : ℕ) (bits : List Bool) (place : ℕ) (statuses : List Status) (fixes : ℕ) → first_item at bits ≡ Whole place (terminator nac statuses) fixes
+    → HasTerminator nac bits × (place ≡ at) × (statuses ≡ statuses_of (take 144 bits)) × (fixes ≡ sync_errors bits + identifier_errors nac bits)
+
+-- the bits that are sent for a terminator are read as it, with no fixes, whatever bits follow
+abbrev pub SentTerminatorIsRead : Type 0
+SentTerminatorIsRead =
+    (at nac : ℕ) (statuses : List Status) (more : List Bool) → nac < 4096 → length statuses ≡ 2
+    → first_item at (terminator_bits nac statuses ++ more) ≡ Whole at (terminator nac statuses) 0

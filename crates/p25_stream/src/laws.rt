@@ -1,6 +1,6 @@
 //! The laws of a stream's items.
 
-ghost use Rattle.p25_stream.specs.ItemLaws.{DecidedStay, FirstStays, GapsAreFull, GaveItems, ImageIsWhole, ItemsAreSound, ItemsCoverAll, ItemsLieEndToEnd, ItemsUnfold, NearIsWhole, SyncPlaceIsLeast, WholeIsWithin};
+ghost use Rattle.p25_stream.specs.ItemLaws.{DecidedStay, FirstStays, GapsAreFull, GaveItems, ImageIsWhole, ItemsAreSound, ItemsCoverAll, ItemsLieEndToEnd, ItemsUnfold, NearIsWhole, SentTerminatorIsRead, SyncPlaceIsLeast, TerminatorIsRead, TerminatorIsThere, WholeIsWithin};
 
 /// Does nothing: its contract is the laws of the items of a stream, over all bits.
 ///
@@ -13,6 +13,9 @@ ghost use Rattle.p25_stream.specs.ItemLaws.{DecidedStay, FirstStays, GapsAreFull
 /// - `near`: a unit with few wrong bits at a place where an item begins is that item, whole and as received.
 /// - `whole`: an item is a whole unit only where the bits that it covers lie within radius of its frame, as received.
 /// - `undamaged`: where bits begin with a sound frame's image, the first item is that frame, whole and with no fixes.
+/// - `terminator`, `terminator_is_there`: the first item is a terminator with a network access code exactly where 144 bits
+///   are there, at most 4 of them are wrong in the sync, and at most 11 in the first 63 of the identifier.
+/// - `sent_terminator`: the bits that are sent for a terminator are read as it, with no fixes.
 /// - `gave`: what a scanner gave is the first of the items of what it held and any bits that come later.
 pub fn item_laws()
     ensures sync { SyncPlaceIsLeast }
@@ -26,5 +29,8 @@ pub fn item_laws()
     ensures near { NearIsWhole }
     ensures whole { WholeIsWithin }
     ensures undamaged { ImageIsWhole }
+    ensures terminator { TerminatorIsRead }
+    ensures terminator_is_there { TerminatorIsThere }
+    ensures sent_terminator { SentTerminatorIsRead }
     ensures gave { GaveItems }
 {}

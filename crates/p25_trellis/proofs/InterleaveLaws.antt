@@ -1,4 +1,5 @@
--- Laws of the interleaver.
+-- Laws of the interleaver: what is summed over the places of lists is summed over their fourth elements, and its order is a table, which
+-- computed tests compare.
 use Rattle.std.proofs.Common.{◌≡◌, ◌≢◌, ℕ, zero, suc, ◌+◌, ◌<◌, ◌≤◌, ◌||◌, Bool, true, false, not, cond, eqb, ltb, List, [], ◌∷◌, ◌++◌, map, length, get_or, set, take, drop, refl, ap, sym, ◌∙◌, arith, length-append, below_more, get_or-set_same, get_or-set_other, All}
 use Rattle.std.proofs.lemmas.List.Elements.{All-cons, All-head, All-tail, All-append, All-same, All-take, All-drop}
 use Rattle.std.specs.List.{range_with_len}
@@ -47,7 +48,12 @@ weighed weight [] ys = 0
 weighed weight (x ∷ xs) [] = 0
 weighed weight (x ∷ xs) (y ∷ ys) = weight x y + weighed weight xs ys
 
-weighed-fourths : {X Y : Type 0} (weight : X → Y → ℕ) (xs : List X) (ys : List Y) → length xs ≡ length ys → weighed weight (each_fourth 0 xs) (each_fourth 0 ys) + weighed weight (each_fourth 1 xs) (each_fourth 1 ys) + weighed weight (each_fourth 2 xs) (each_fourth 2 ys) + weighed weight (each_fourth 3 xs) (each_fourth 3 ys) ≡ weighed weight xs ys
+weighed-fourths : {X Y : Type 0} (weight : X → Y → ℕ) (xs : List X) (ys : List Y) → length xs ≡ length ys
+    → weighed weight (each_fourth 0 xs) (each_fourth 0 ys)
+    + weighed weight (each_fourth 1 xs) (each_fourth 1 ys)
+    + weighed weight (each_fourth 2 xs) (each_fourth 2 ys)
+    + weighed weight (each_fourth 3 xs) (each_fourth 3 ys)
+    ≡ weighed weight xs ys
 unfolding each_fourth weighed
 weighed-fourths weight [] [] long = refl
 weighed-fourths weight [] (y ∷ ys) long = absurd (omega arith)
@@ -145,7 +151,9 @@ pub same_from_take : {X : Type 0} (n : ℕ) (xs ys : List X) → length xs ≤ n
 same_from_take n xs ys short brief same = sym (take_all n xs short) ∙ same ∙ take_all n ys brief
 
 -- one more nibble is written to its place
-pub written_more : (plain nibbles : List ℕ) (place : ℕ) → length plain ≡ 49 → place < 49 → ((k : ℕ) → k < place → get_or plain (get_or SENT_ORDER k 0) 0 ≡ get_or nibbles k 0) → (k : ℕ) → k < place + 1 → get_or (set plain (get_or SENT_ORDER place 0) (get_or nibbles place 0)) (get_or SENT_ORDER k 0) 0 ≡ get_or nibbles k 0
+pub written_more : (plain nibbles : List ℕ) (place : ℕ) → length plain ≡ 49 → place < 49
+    → ((k : ℕ) → k < place → get_or plain (get_or SENT_ORDER k 0) 0 ≡ get_or nibbles k 0) → (k : ℕ) → k < place + 1
+    → get_or (set plain (get_or SENT_ORDER place 0) (get_or nibbles place 0)) (get_or SENT_ORDER k 0) 0 ≡ get_or nibbles k 0
 written_more plain nibbles place long inside so_far =
     below_more (λ k. get_or (set plain (get_or SENT_ORDER place 0) (get_or nibbles place 0)) (get_or SENT_ORDER k 0) 0 ≡ get_or nibbles k 0) place before here
   where

@@ -2,10 +2,10 @@ pub mod RateSteps
 pub mod InterleaveLaws
 pub mod QueueSteps
 pub mod PathSteps
-pub mod Paths
-pub mod Costs
-pub mod FirstPath
+pub mod PathLaws
+pub mod CostLaws
+pub mod FirstPathLaws
 pub mod NearestLaws
-pub mod Distances
+pub mod DistanceLaws
 pub mod ReceivedCostsSteps
-pub mod Apart
+pub mod ApartLaws

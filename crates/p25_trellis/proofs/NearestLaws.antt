@@ -11,9 +11,9 @@ use Rattle.p25_bits.proofs.NumbersLaws.{number_bits-octets, length-number_bits, 
 use Rattle.p25_trellis.specs.Trellis.{IsPath, Carries, IsBlock, IsNotAfter, IsFirstLeast, IsFirstLeastReading, distance_from}
 use Rattle.p25_trellis.specs.Least.{IsEnd, IsLowestLeast}
 use Rattle.p25_trellis.specs.Nearest.{lowest_least, first_least_end, nearest_path, nearest_octets, nearest_distance, path_from, block_from}
-use Rattle.p25_trellis.proofs.Costs.{IsLowestLeast-one, IsLowestLeast-less, IsLowestLeast-kept}
-use Rattle.p25_trellis.proofs.FirstPath.{IsFirstLeastEnd, IsFirstLeastEnd-last, IsFirstLeast-from_end, same_reading}
-use Rattle.p25_trellis.proofs.Paths.{power-pos, same_block}
+use Rattle.p25_trellis.proofs.CostLaws.{IsLowestLeast-one, IsLowestLeast-less, IsLowestLeast-kept}
+use Rattle.p25_trellis.proofs.FirstPathLaws.{IsFirstLeastEnd, IsFirstLeastEnd-last, IsFirstLeast-from_end, same_reading}
+use Rattle.p25_trellis.proofs.PathLaws.{power-pos, same_block}
 
 -- one number more is the lowest least where it has less
 IsLowestLeast-more : (states : ℕ) (value : ℕ → ℕ) (symbol : ℕ) → IsLowestLeast states value symbol (value symbol) → let next = cond (ltb (value states) (value symbol)) states symbol in IsLowestLeast (suc states) value next (value next)
@@ -38,7 +38,9 @@ IsLowestLeast-lowest_least (suc zero) value some =
 IsLowestLeast-lowest_least (suc (suc n)) value some = IsLowestLeast-more (suc n) value (lowest_least (suc n) value) (IsLowestLeast-lowest_least (suc n) value (omega arith))
 
 -- the lowest symbol with the cheapest best end goes before that end
-IsFirstLeastEnd-lowest : (states before : ℕ) (cost : List ℕ → ℕ) (best : ℕ → List ℕ) (symbol : ℕ) → ((s : ℕ) → s < states → IsFirstLeastEnd states before (λ end. cost (s ∷ end)) (best s)) → IsLowestLeast states (λ s. cost (s ∷ best s)) symbol (cost (symbol ∷ best symbol)) → IsFirstLeastEnd states (suc before) cost (symbol ∷ best symbol)
+IsFirstLeastEnd-lowest : (states before : ℕ) (cost : List ℕ → ℕ) (best : ℕ → List ℕ) (symbol : ℕ)
+    → ((s : ℕ) → s < states → IsFirstLeastEnd states before (λ end. cost (s ∷ end)) (best s))
+    → IsLowestLeast states (λ s. cost (s ∷ best s)) symbol (cost (symbol ∷ best symbol)) → IsFirstLeastEnd states (suc before) cost (symbol ∷ best symbol)
 IsFirstLeastEnd-lowest states before cost best symbol ends choice =
     record { is_end = (choice.below, (ends symbol choice.below).is_end); least = no_less; first = first_of_all }
   where
@@ -89,7 +91,8 @@ Carries-octets_from states width path is =
     }
 
 -- the octets and the distance that the functions give are those of the first nearest path
-pub nearest_reading : (states width : ℕ) (point : ℕ → ℕ → ℕ) (received : List Bool) → 0 < states → IsFirstLeastReading states width (distance_from point received) (nearest_octets states width point received) (nearest_distance states point received)
+pub nearest_reading : (states width : ℕ) (point : ℕ → ℕ → ℕ) (received : List Bool) → 0 < states
+    → IsFirstLeastReading states width (distance_from point received) (nearest_octets states width point received) (nearest_distance states point received)
 unfolding nearest_octets nearest_distance
 nearest_reading states width point received some =
     let first = IsFirstLeast-nearest_path states point received some in record {
@@ -100,7 +103,9 @@ nearest_reading states width point received some =
     }
 
 -- and no others are
-pub same_nearest : (states width : ℕ) (point : ℕ → ℕ → ℕ) (received : List Bool) (octets : List ℕ) (distance : ℕ) → 0 < states → IsFirstLeastReading states width (distance_from point received) octets distance → (octets ≡ nearest_octets states width point received) × (distance ≡ nearest_distance states point received)
+pub same_nearest : (states width : ℕ) (point : ℕ → ℕ → ℕ) (received : List Bool) (octets : List ℕ) (distance : ℕ) → 0 < states
+    → IsFirstLeastReading states width (distance_from point received) octets distance
+    → (octets ≡ nearest_octets states width point received) × (distance ≡ nearest_distance states point received)
 same_nearest states width point received octets distance some reading =
     same_reading states width (distance_from point received) octets (nearest_octets states width point received) distance (nearest_distance states point received) reading (nearest_reading states width point received some)
 

@@ -8,7 +8,9 @@ use Rattle.p25_bits.proofs.BitsLaws.{bits_of-field_of}
 use Rattle.p25_bits.proofs.NumbersLaws.{number_bits-append, number_bits-one}
 
 -- one more number goes in
-pub goes_in : (written queue pushed : List Bool) (width : ℕ) (numbers : List ℕ) (taken number : ℕ) → taken < length numbers → number ≡ get_or numbers taken 0 → pushed ≡ queue ++ bits_of width number → written ++ queue ≡ number_bits width (take taken numbers) → written ++ pushed ≡ number_bits width (take (taken + 1) numbers)
+pub goes_in : (written queue pushed : List Bool) (width : ℕ) (numbers : List ℕ) (taken number : ℕ) → taken < length numbers → number ≡ get_or numbers taken 0
+    → pushed ≡ queue ++ bits_of width number → written ++ queue ≡ number_bits width (take taken numbers)
+    → written ++ pushed ≡ number_bits width (take (taken + 1) numbers)
 goes_in written queue pushed width numbers taken number inside is grown so_far =
     ap (λ (bits : List Bool). written ++ bits) grown
     ∙ sym (append_assoc written queue (bits_of width number))
@@ -17,12 +19,16 @@ goes_in written queue pushed width numbers taken number inside is grown so_far =
     ∙ ap (number_bits width) (sym (take_more numbers taken 0 inside))
 
 -- one more number comes out
-pub comes_out : (queue left : List Bool) (width : ℕ) (numbers : List ℕ) (written number : ℕ) → written < length numbers → width ≤ length queue → number ≡ field_of (take width queue) → left ≡ drop width queue → number_bits width (take (written + 1) (set numbers written number)) ++ left ≡ number_bits width (take written numbers) ++ queue
+pub comes_out : (queue left : List Bool) (width : ℕ) (numbers : List ℕ) (written number : ℕ) → written < length numbers → width ≤ length queue
+    → number ≡ field_of (take width queue) → left ≡ drop width queue
+    → number_bits width (take (written + 1) (set numbers written number)) ++ left ≡ number_bits width (take written numbers) ++ queue
 comes_out queue left width numbers written number inside there is rest =
     let front : bits_of width number ≡ take width queue
     = ap (bits_of width) is ∙ ap (λ n. bits_of n (field_of (take width queue))) (sym (length-take-le width queue there)) ∙ bits_of-field_of (take width queue) in
     ap₂ (λ (xs ys : List Bool). xs ++ ys)
-    (ap (number_bits width) (take_more_set numbers written number inside) ∙ number_bits-append width (take written numbers) (number ∷ []) ∙ ap (λ (xs : List Bool). number_bits width (take written numbers) ++ xs) (number_bits-one width number ∙ front))
+    (ap (number_bits width) (take_more_set numbers written number inside)
+    ∙ number_bits-append width (take written numbers) (number ∷ [])
+    ∙ ap (λ (xs : List Bool). number_bits width (take written numbers) ++ xs) (number_bits-one width number ∙ front))
     rest
     ∙ append_assoc (number_bits width (take written numbers)) (take width queue) (drop width queue)
     ∙ ap (λ (xs : List Bool). number_bits width (take written numbers) ++ xs) (take-append-drop width queue)

@@ -13,7 +13,7 @@ use Rattle.p25_trellis.specs.Tables.{nibble_distance}
 use Rattle.p25_trellis.specs.TableLaws.{passed_below, passed_below-at}
 use Rattle.p25_trellis.specs.Costs.{cost_in}
 use Rattle.p25_trellis.specs.Least.{IsDistanceTable}
-use Rattle.p25_trellis.proofs.Distances.{nibble_distance-le}
+use Rattle.p25_trellis.proofs.DistanceLaws.{nibble_distance-le}
 
 -- the row of a nibble
 abbrev pub row_of : ℕ → List ℕ

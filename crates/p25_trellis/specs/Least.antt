@@ -22,7 +22,8 @@ pub record IsLeastEnd (states before : ℕ) (cost : List ℕ → ℕ) (least : �
 
 -- a table has the least cost of an end for each state, from a step on
 pub record HasLeastFrom (states : ℕ) (point cost : ℕ → ℕ → ℕ) (table : List ℕ) (from : ℕ) : Type 0 where
-  pub at : (step before state : ℕ) → from ≤ step → step + before ≡ 48 → state < states → IsLeastEnd states before (symbols_cost point cost step state) (rest_in table step state)
+  pub at : (step before state : ℕ) → from ≤ step → step + before ≡ 48 → state < states
+      → IsLeastEnd states before (symbols_cost point cost step state) (rest_in table step state)
 
 -- the lowest symbol of those with the least value
 pub record IsLowestLeast (states : ℕ) (value : ℕ → ℕ) (symbol least : ℕ) : Type 0 where

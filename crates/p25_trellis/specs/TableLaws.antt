@@ -45,40 +45,56 @@ nibbles_test states point = passed_below states (λ state. passed_below states (
 
 -- from two states on, a step and what must follow it differ in as many bits as the two states ask for
 unfoldable pub parted_test : ℕ → (ℕ → ℕ → ℕ) → (ℕ → ℕ → ℕ) → Bool
-parted_test states point parted = passed_below states (λ a. passed_below states (λ b. passed_below states (λ x. passed_below states (λ y. leb (parted a b) (nibble_distance (point a x) (point b y) + parted x y)))))
+parted_test states point parted =
+    passed_below states (
+    λ a. passed_below states (
+    λ b. passed_below states (λ x. passed_below states (λ y. leb (parted a b) (nibble_distance (point a x) (point b y) + parted x y)))))
 
 -- two symbols from one state, and what must follow them, differ in so many bits
 unfoldable pub parts_test : ℕ → ℕ → (ℕ → ℕ → ℕ) → (ℕ → ℕ → ℕ) → Bool
-parts_test states apart point parted = passed_below states (λ state. passed_below states (λ x. passed_below states (λ y. eqb x y || leb apart (nibble_distance (point state x) (point state y) + parted x y))))
+parts_test states apart point parted =
+    passed_below states (
+    λ state. passed_below states (λ x. passed_below states (λ y. eqb x y || leb apart (nibble_distance (point state x) (point state y) + parted x y))))
 
-pub nibbles-from_test : (states : ℕ) (point : ℕ → ℕ → ℕ) → nibbles_test states point ≡ true → (state symbol : ℕ) → state < states → symbol < states → point state symbol < 16
+pub nibbles-from_test : (states : ℕ) (point : ℕ → ℕ → ℕ) → nibbles_test states point ≡ true → (state symbol : ℕ) → state < states → symbol < states
+    → point state symbol < 16
 unfolding nibbles_test
 nibbles-from_test states point passed state symbol row column =
     ltb-true (point state symbol) 16 (passed_below-at states _ (passed_below-at states _ passed state row) symbol column)
 
-pub parted-from_test : (states : ℕ) (point parted : ℕ → ℕ → ℕ) → parted_test states point parted ≡ true → (a b x y : ℕ) → a < states → b < states → x < states → y < states → parted a b ≤ nibble_distance (point a x) (point b y) + parted x y
+pub parted-from_test : (states : ℕ) (point parted : ℕ → ℕ → ℕ) → parted_test states point parted ≡ true → (a b x y : ℕ) → a < states → b < states → x < states
+    → y < states → parted a b ≤ nibble_distance (point a x) (point b y) + parted x y
 unfolding parted_test
 parted-from_test states point parted passed a b x y ha hb hx hy =
     leb-true (parted a b) (nibble_distance (point a x) (point b y) + parted x y)
     (passed_below-at states _ (passed_below-at states _ (passed_below-at states _ (passed_below-at states _ passed a ha) b hb) x hx) y hy)
 
-pub parts-from_test : (states apart : ℕ) (point parted : ℕ → ℕ → ℕ) → parts_test states apart point parted ≡ true → (state x y : ℕ) → state < states → x < states → y < states → x ≢ y → apart ≤ nibble_distance (point state x) (point state y) + parted x y
+pub parts-from_test : (states apart : ℕ) (point parted : ℕ → ℕ → ℕ) → parts_test states apart point parted ≡ true → (state x y : ℕ) → state < states
+    → x < states → y < states → x ≢ y → apart ≤ nibble_distance (point state x) (point state y) + parted x y
 unfolding parts_test
 parts-from_test states apart point parted passed state x y hs hx hy other =
     leb-true apart (nibble_distance (point state x) (point state y) + parted x y)
-    (second (eqb x y) _ (passed_below-at states _ (passed_below-at states _ (passed_below-at states _ passed state hs) x hx) y hy) (λ same. other (eqb-true x y same)))
+    (second (eqb x y) _ (passed_below-at states _ (passed_below-at states _ (passed_below-at states _ passed state hs) x hx) y hy)
+    (λ same. other (eqb-true x y same)))
   where
     second : (a b : Bool) → (a || b) ≡ true → (a ≡ true → ⊥) → b ≡ true
     second true b h not_a = absurd (not_a refl)
     second false b h not_a = h
 
 -- the path of zeros, and that whose first symbol is another
-apart-first : (states first apart : ℕ) (point : ℕ → ℕ → ℕ) → 0 < states → first < states → first ≢ 0 → distance_of (sent_bits point (replicate 49 0)) (sent_bits point (first ∷ replicate 48 0)) ≡ apart → SomeApart states point apart
+apart-first : (states first apart : ℕ) (point : ℕ → ℕ → ℕ) → 0 < states → first < states → first ≢ 0
+    → distance_of (sent_bits point (replicate 49 0)) (sent_bits point (first ∷ replicate 48 0)) ≡ apart → SomeApart states point apart
 apart-first states first apart point some below other distance = record {
   path = replicate 49 0;
   other = first ∷ replicate 48 0;
   is_path = record { long = refl; below = All-replicate (λ (symbol : ℕ). symbol < states) 49 0 some; last = refl };
-  other_is_path = record { long = refl; below = All-cons (λ (symbol : ℕ). symbol < states) first (replicate 48 0) below (All-replicate (λ (symbol : ℕ). symbol < states) 48 0 some); last = refl };
+  other_is_path =
+      record {
+        long = refl;
+        below =
+            All-cons (λ (symbol : ℕ). symbol < states) first (replicate 48 0) below (All-replicate (λ (symbol : ℕ). symbol < states) 48 0 some);
+        last = refl;
+      };
   differ = λ same. other (cc);
   places_is = distance;
 }

@@ -57,11 +57,17 @@ pub record IsFirstLeastReading (states width : ℕ) (cost : List ℕ → ℕ) (o
 -- `apart`
 pub record IsNearReading (states width : ℕ) (point : ℕ → ℕ → ℕ) (apart : ℕ) (received : List Bool) (octets : List ℕ) (distance : ℕ) : Type 0 where
   pub near_octets : (sent : List ℕ) (block : List Bool) → IsBlock states width point sent block → 2 * distance_of block received < apart → octets ≡ sent
-  pub near_distance : (sent : List ℕ) (block : List Bool) → IsBlock states width point sent block → 2 * distance_of block received < apart → distance ≡ distance_of block received
+  pub near_distance : (sent : List ℕ) (block : List Bool) → IsBlock states width point sent block → 2 * distance_of block received < apart
+      → distance ≡ distance_of block received
 
 -- the distance of a path's sent bits from received bits
 abbrev pub distance_from : (ℕ → ℕ → ℕ) → List Bool → List ℕ → ℕ
 distance_from point received path = distance_of (sent_bits point path) received
+
+-- the sent bits of any two different paths differ in at least so many places
+abbrev pub ArePathsApart : ℕ → (ℕ → ℕ → ℕ) → ℕ → Type 0
+ArePathsApart states point places =
+    (path other : List ℕ) → IsPath states path → IsPath states other → distance_of (sent_bits point path) (sent_bits point other) < places → path ≡ other
 
 -- two different paths whose sent bits differ in exactly so many places
 pub record SomeApart (states : ℕ) (point : ℕ → ℕ → ℕ) (places : ℕ) : Type 0 where

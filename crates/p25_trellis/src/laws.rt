@@ -5,19 +5,19 @@ ghost use Rattle.std.specs.Prelude.{◌≡◌, ℕ, ◌*◌, ◌<◌, ◌≤◌,
 ghost use Rattle.p25_bits.specs.Distance.{distance_of};
 ghost use Rattle.p25_trellis.specs.Nearest.{nearest_octets, nearest_distance, block_from, half_octets, three_quarter_octets, half_block, three_quarter_block};
 ghost use Rattle.p25_trellis.specs.Tables.{half_point, three_quarter_point};
-ghost use Rattle.p25_trellis.specs.Trellis.{IsPath, IsBlock, IsFirstLeastReading, SomeApart, distance_from, sent_bits};
+ghost use Rattle.p25_trellis.specs.Trellis.{IsBlock, IsFirstLeastReading, SomeApart, ArePathsApart, distance_from};
 
 use super::rate::{Half, Rate, ThreeQuarter};
 
 /// The sent bits of two different paths of a rate differ in at least `APART` places, and those of some two in no more.
 pub fn paths_apart<R: Rate>()
-    ensures apart { (path other : List ℕ) → IsPath R.STATES path → IsPath R.STATES other → distance_of (sent_bits R.point_of path) (sent_bits R.point_of other) < R.APART → path ≡ other }
+    ensures apart { ArePathsApart R.STATES R.point_of R.APART }
     ensures reached { SomeApart R.STATES R.point_of R.APART }
 {}
 
 /// The sent bits of two different half-rate paths differ in at least 5 places.
 pub fn half_rate_apart()
-    ensures apart { (path other : List ℕ) → IsPath 4 path → IsPath 4 other → distance_of (sent_bits half_point path) (sent_bits half_point other) < 5 → path ≡ other }
+    ensures apart { ArePathsApart 4 half_point 5 }
     ensures reached { SomeApart 4 half_point 5 }
 {
     paths_apart::<Half>()
@@ -25,7 +25,7 @@ pub fn half_rate_apart()
 
 /// The sent bits of two different three-quarter-rate paths differ in at least 3 places.
 pub fn three_quarter_rate_apart()
-    ensures apart { (path other : List ℕ) → IsPath 8 path → IsPath 8 other → distance_of (sent_bits three_quarter_point path) (sent_bits three_quarter_point other) < 3 → path ≡ other }
+    ensures apart { ArePathsApart 8 three_quarter_point 3 }
     ensures reached { SomeApart 8 three_quarter_point 3 }
 {
     paths_apart::<ThreeQuarter>()
@@ -34,22 +34,33 @@ pub fn three_quarter_rate_apart()
 /// The octets and the distance that `nearest_octets` and `nearest_distance` give are those of the first nearest path, and
 /// no others are. The block that `block_from` gives is the block of octets.
 pub fn nearest_laws<R: Rate>()
-    ensures reading { (received : List Bool) → IsFirstLeastReading R.STATES R.BITS_PER_SYMBOL (distance_from R.point_of received) (nearest_octets R.STATES R.BITS_PER_SYMBOL R.point_of received) (nearest_distance R.STATES R.point_of received) }
-    ensures only { (received : List Bool) (octets : List ℕ) (distance : ℕ) → IsFirstLeastReading R.STATES R.BITS_PER_SYMBOL (distance_from R.point_of received) octets distance → (octets ≡ nearest_octets R.STATES R.BITS_PER_SYMBOL R.point_of received) × (distance ≡ nearest_distance R.STATES R.point_of received) }
-    ensures block { (octets : List ℕ) → length octets ≡ R.OCTETS → All (λ octet. octet < 256) octets → IsBlock R.STATES R.BITS_PER_SYMBOL R.point_of octets (block_from R.BITS_PER_SYMBOL R.point_of octets) }
-    ensures near { (octets : List ℕ) (received : List Bool) → length octets ≡ R.OCTETS → All (λ octet. octet < 256) octets → length received ≡ 196 → 2 * distance_of (block_from R.BITS_PER_SYMBOL R.point_of octets) received < R.APART → (nearest_octets R.STATES R.BITS_PER_SYMBOL R.point_of received ≡ octets) × (nearest_distance R.STATES R.point_of received ≡ distance_of (block_from R.BITS_PER_SYMBOL R.point_of octets) received) }
+    ensures reading { (received : List Bool)
+        → IsFirstLeastReading R.STATES R.BITS_PER_SYMBOL (distance_from R.point_of received) (nearest_octets R.STATES R.BITS_PER_SYMBOL R.point_of received)
+        (nearest_distance R.STATES R.point_of received) }
+    ensures only { (received : List Bool) (octets : List ℕ) (distance : ℕ)
+        → IsFirstLeastReading R.STATES R.BITS_PER_SYMBOL (distance_from R.point_of received) octets distance
+        → (octets ≡ nearest_octets R.STATES R.BITS_PER_SYMBOL R.point_of received)
+        × (distance ≡ nearest_distance R.STATES R.point_of received) }
+    ensures block { (octets : List ℕ) → length octets ≡ R.OCTETS → All (λ octet. octet < 256) octets
+        → IsBlock R.STATES R.BITS_PER_SYMBOL R.point_of octets (block_from R.BITS_PER_SYMBOL R.point_of octets) }
+    ensures near { (octets : List ℕ) (received : List Bool) → length octets ≡ R.OCTETS → All (λ octet. octet < 256) octets → length received ≡ 196
+        → 2 * distance_of (block_from R.BITS_PER_SYMBOL R.point_of octets) received < R.APART
+        → (nearest_octets R.STATES R.BITS_PER_SYMBOL R.point_of received ≡ octets)
+        × (nearest_distance R.STATES R.point_of received ≡ distance_of (block_from R.BITS_PER_SYMBOL R.point_of octets) received) }
 {}
 
 /// A half-rate block with at most two wrong bits reads as the octets that were sent.
 pub fn half_rate_near()
-    ensures { (octets : List ℕ) (received : List Bool) → length octets ≡ 12 → All (λ octet. octet < 256) octets → length received ≡ 196 → distance_of (half_block octets) received ≤ 2 → half_octets received ≡ octets }
+    ensures { (octets : List ℕ) (received : List Bool) → length octets ≡ 12 → All (λ octet. octet < 256) octets → length received ≡ 196
+        → distance_of (half_block octets) received ≤ 2 → half_octets received ≡ octets }
 {
     nearest_laws::<Half>()
 }
 
 /// A three-quarter-rate block with at most one wrong bit reads as the octets that were sent.
 pub fn three_quarter_rate_near()
-    ensures { (octets : List ℕ) (received : List Bool) → length octets ≡ 18 → All (λ octet. octet < 256) octets → length received ≡ 196 → distance_of (three_quarter_block octets) received ≤ 1 → three_quarter_octets received ≡ octets }
+    ensures { (octets : List ℕ) (received : List Bool) → length octets ≡ 18 → All (λ octet. octet < 256) octets → length received ≡ 196
+        → distance_of (three_quarter_block octets) received ≤ 1 → three_quarter_octets received ≡ octets }
 {
     nearest_laws::<ThreeQuarter>()
 }

@@ -60,13 +60,15 @@ pub trait Rate {
     ghost together: { parted 0 0 ≡ 0 };
 
     // Of two paths in two states, a step and what must follow it differ in as many bits as the states ask for.
-    ghost stays_parted: { (a b x y : ℕ) → a < STATES → b < STATES → x < STATES → y < STATES → parted a b ≤ nibble_distance (point_of a x) (point_of b y) + parted x y };
+    ghost stays_parted: { (a b x y : ℕ) → a < STATES → b < STATES → x < STATES → y < STATES
+        → parted a b ≤ nibble_distance (point_of a x) (point_of b y) + parted x y };
 
     // Some two different paths differ in no more bits than `APART`.
     ghost reached: { SomeApart STATES point_of APART };
 
     // Of two paths that leave one state by two symbols, the step and what must follow it differ in `APART` bits.
-    ghost parts: { (state x y : ℕ) → state < STATES → x < STATES → y < STATES → x ≢ y → APART ≤ nibble_distance (point_of state x) (point_of state y) + parted x y };
+    ghost parts: { (state x y : ℕ) → state < STATES → x < STATES → y < STATES → x ≢ y
+        → APART ≤ nibble_distance (point_of state x) (point_of state y) + parted x y };
 }
 
 // The four bits of each point.

@@ -5,5 +5,6 @@ pub mod FixesLaws
 pub mod ItemsLaws
 pub mod WithinRadiusLaws
 pub mod WholeLaws
+pub mod TerminatorsLaws
 pub mod BegunSteps
 pub mod ReadSteps

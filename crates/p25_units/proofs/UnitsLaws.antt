@@ -1,7 +1,7 @@
 -- The bits of units: each kind has its length and begins with its front.
 use Rattle.std.proofs.Common.{◌≡◌, List, ℕ, ◌*◌, ◌/◌, ◌%◌, ◌<◌, ◌≤◌, length, take, Some, ap, sym, ◌∙◌, arith}
 use Rattle.p25_status.specs.Woven.{plain_of, statuses_of}
-use Rattle.p25_status.proofs.Parts.{front}
+use Rattle.std.proofs.lemmas.List.{take_at}
 use Rattle.p25_status.proofs.WovenLaws.{length-woven, plain_of-woven, statuses_of-woven}
 use Rattle.p25_front.specs.Front.{unit_front, front_of}
 use Rattle.p25_front.proofs.FrontLaws.{length-unit_front, front_of-plain_of}
@@ -52,7 +52,7 @@ body_duid-lt (Voice End) = omega arith
 -- a unit begins with its front
 pub body_image_of-front : (nac : ℕ) (body : Body) → take 112 (body_image_of nac body) ≡ unit_front nac (body_duid body)
 unfolding voice_image_of
-body_image_of-front nac (Voice voice) = front 112 (unit_front nac (voice_duid voice)) (voice_body voice) (length-unit_front nac (voice_duid voice))
+body_image_of-front nac (Voice voice) = take_at (unit_front nac (voice_duid voice)) (voice_body voice) 112 (length-unit_front nac (voice_duid voice))
 
 pub unit_image_of-front : (unit : UnitParts) → take 112 (unit_image_of unit) ≡ unit_front unit.nac (body_duid unit.body)
 unfolding unit_image_of

@@ -8,3 +8,4 @@ pub mod Items
 pub mod WithinRadius
 pub mod NeedLaws
 pub mod WholeLaws
+pub mod Terminators

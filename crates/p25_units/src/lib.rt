@@ -25,6 +25,7 @@ mod needs;
 mod read;
 mod scan;
 mod sending;
+mod terminators;
 #[cfg(test)]
 mod tests;
 mod unit;
@@ -39,4 +40,5 @@ pub use p25_voice_units::VoiceUnit;
 pub use read::{fixes, read_unit};
 pub use scan::{need, need_begun};
 pub use sending::{image, image_as};
+pub use terminators::terminator_laws;
 pub use unit::{Body, Unit};

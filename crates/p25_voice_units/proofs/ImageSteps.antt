@@ -14,6 +14,7 @@ unfolding bits_of
 nulls_28 = refl
 
 -- a front of the unit's NAC and DUID, and 28 nulls
-pub end_made : (nac : ℕ) (unit : VoiceUnit) (front_nac front_duid : ℕ) (start out : List Bool) → front_nac ≡ nac → front_duid ≡ voice_duid unit → start ≡ unit_front front_nac front_duid → out ≡ start ++ bits_of 28 0 → out ≡ voice_image_of nac unit
+pub end_made : (nac : ℕ) (unit : VoiceUnit) (front_nac front_duid : ℕ) (start out : List Bool) → front_nac ≡ nac → front_duid ≡ voice_duid unit
+    → start ≡ unit_front front_nac front_duid → out ≡ start ++ bits_of 28 0 → out ≡ voice_image_of nac unit
 end_made nac End front_nac front_duid start out same_nac same_duid begins is =
     is ∙ ap₂ (λ (xs ys : List Bool). xs ++ ys) (begins ∙ ap₂ unit_front same_nac same_duid) nulls_28 ∙ sym (voice_image_of-end nac)

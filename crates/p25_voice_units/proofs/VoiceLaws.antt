@@ -2,9 +2,8 @@
 use Rattle.std.proofs.Common.{◌≡◌, ◌↔◌, ℕ, ◌+◌, ◌%◌, ◌≤◌, Bool, false, eqb, List, [], ◌++◌, length, take, drop, Some, None, Ok, Err, replicate, refl, ap, ap₂, sym, ◌∙◌, subst, arith, length-append, length-drop, inl, inr}
 use Rattle.std.proofs.Math.Seq.{take-length}
 use Rattle.std.proofs.lemmas.Bool.{cond-false, ne_eqb, cases_eq}
-use Rattle.std.proofs.lemmas.List.{take-append-drop, length-replicate}
+use Rattle.std.proofs.lemmas.List.{take-append-drop, length-replicate, take_at, drop_at}
 use Rattle.p25_bits.specs.Bits.{part}
-use Rattle.p25_status.proofs.Parts.{front, back}
 use Rattle.p25_front.specs.Front.{unit_front, IsFront}
 use Rattle.p25_front.proofs.FrontLaws.{length-unit_front, IsFront-unit_front, unit_front-only}
 use Rattle.p25_voice_units.specs.declared.unit.VoiceUnit.{VoiceUnit}
@@ -53,8 +52,8 @@ end_form nac =
     let is = voice_image_of-end nac in
     record {
       long = ap length is ∙ length-append (unit_front nac 3) (replicate 28 false) ∙ ap₂ (λ a b. a + b) (length-unit_front nac 3) (length-replicate 28 false);
-      begins = subst (λ (xs : List Bool). IsFront nac 3 xs) (sym (ap (take 112) is ∙ front 112 (unit_front nac 3) (replicate 28 false) (length-unit_front nac 3))) (IsFront-unit_front nac 3);
-      nulls = ap (λ (xs : List Bool). take 28 (drop 112 xs)) is ∙ ap (take 28) (back 112 (unit_front nac 3) (replicate 28 false) (length-unit_front nac 3));
+      begins = subst (λ (xs : List Bool). IsFront nac 3 xs) (sym (ap (take 112) is ∙ take_at (unit_front nac 3) (replicate 28 false) 112 (length-unit_front nac 3))) (IsFront-unit_front nac 3);
+      nulls = ap (λ (xs : List Bool). take 28 (drop 112 xs)) is ∙ ap (take 28) (drop_at (unit_front nac 3) (replicate 28 false) 112 (length-unit_front nac 3));
     }
 
 end_only : (nac : ℕ) (plain : List Bool) → IsEndImage nac plain → plain ≡ voice_image_of nac End

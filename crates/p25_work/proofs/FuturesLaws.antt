@@ -1,9 +1,9 @@
 -- How a command's work goes on: moves follow one another, a piece is gathered, a page is written. Each law joins the two
 -- equations of what is written, and adds up the texts.
-use Rattle.std.proofs.Common.{◌≡◌, ℕ, ◌+◌, ◌<◌, Bool, true, false, List, [], ◌∷◌, ◌++◌, length, Option, ◌⊎◌, inl, inr, refl, ap, sym, subst, ◌∙◌, append_assoc, append-nil, length-append, arith}
+use Rattle.std.proofs.Common.{◌≡◌, ℕ, ◌<◌, Bool, List, [], ◌++◌, length, Option, ◌⊎◌, inl, inr, refl, ap, sym, subst, ◌∙◌, append_assoc, append-nil, length-append, arith}
 use Rattle.p25_io.specs.Octets.{Appended, AppendedFront}
-use Rattle.p25_io.proofs.OctetsLemmas.{Appended-none, Appended-same, Appended-trans, Appended-front, AppendedFront-same, AppendedFront-next, AppendedFront-longer}
-use Rattle.p25_work.specs.Futures.{Future, Progress, IsClosed, IsRefused, IsIdle, Moved, IsCutOff, IsEnded}
+use Rattle.p25_io.proofs.OctetsLaws.{Appended-none, Appended-same, Appended-trans, AppendedFront-same, AppendedFront-next, AppendedFront-longer}
+use Rattle.p25_work.specs.Futures.{Future, Progress, IsRefused, Moved, IsCutOff, IsEnded}
 use Rattle.p25_work.specs.Pages.{Gathered}
 
 module _ {K : Type 0} (written : K → Option (List ℕ)) where

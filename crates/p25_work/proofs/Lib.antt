@@ -1,3 +1,3 @@
 pub mod FuturesLaws
-pub mod InputSteps
+pub mod InputLaws
 pub mod RunsLaws

@@ -1,22 +1,21 @@
 -- What stands when the work ends, from how far it has come: what was written begins all that is to be written, and each end
 -- is one case of the octets that come.
-use Rattle.std.proofs.Common.{◌≡◌, ℕ, ◌+◌, ◌-◌, ◌<◌, ◌≤◌, Bool, true, false, cond, nat_lt, zero, suc, List, [], ◌∷◌, ◌++◌, length, take, drop, Option, Some, None, ◌⊎◌, inl, inr, refl, ap, sym, subst, ◌∙◌, arith, append_assoc, append-nil, length-append, length-take, length-drop, ◌↔◌}
+use Rattle.std.proofs.Common.{◌≡◌, ℕ, ◌+◌, ◌-◌, ◌<◌, ◌≤◌, Bool, true, false, cond, nat_lt, zero, suc, List, [], ◌∷◌, ◌++◌, length, take, drop, Option, Some, None, inl, inr, refl, ap, sym, subst, ◌∙◌, arith, append_assoc, append-nil, length-append, length-take, length-drop, ◌↔◌}
 use Rattle.std.specs.Prelude.{IfSome}
 use Rattle.std.proofs.lemmas.List.{take-append-drop, take_all}
 use Rattle.std.proofs.lemmas.Bool.Decides.{nat_tests}
 use Rattle.std.proofs.Math.Seq.{take-add, take-append-add}
 use Rattle.p25_io.specs.Octets.{Taken, Gives, Appended, AppendedFront}
-use Rattle.p25_io.proofs.OctetsLemmas.{Taken-trans, Taken-told, Taken-ended, Appended-same, Appended-trans, AppendedFront-same, AppendedFront-next}
-use Rattle.p25_work.specs.declared.ending.Ending.{Ending}
+use Rattle.p25_io.proofs.OctetsLaws.{Taken-trans, Taken-told, Taken-ended, Appended-same, Appended-trans, AppendedFront-same, AppendedFront-next}
 use Rattle.p25_work.specs.declared.ending.Stop.{Stop}
 use Rattle.p25_work.specs.declared.ending.Stop.TheVariants.{Fault, Ended}
 use Rattle.p25_work.specs.declared.ending.WorkEnd.{WorkEnd}
 use Rattle.p25_work.specs.declared.ending.WorkEnd.TheVariants.{Ended as WorkEnded, ReadFault, WriteFault, TooLong}
 use Rattle.p25_work.specs.Endings.{end_of}
-use Rattle.p25_work.specs.Futures.{Future, IsIdle, Moved, IsCutOff, IsEnded, IsStopped, EndsBy}
+use Rattle.p25_work.specs.Futures.{Future, IsIdle, Moved, IsStopped, EndsBy}
 use Rattle.p25_work.proofs.FuturesLaws.{Moved-trans}
-use Rattle.p25_work.proofs.InputSteps.{stopped-after, on-blank_page}
-use Rattle.p25_work.specs.Runs.{input_most, read_most, all_written, IsFinal, IsReadFault, IsTooLong, IsWriteFault, Worked}
+use Rattle.p25_work.proofs.InputLaws.{stopped-after, on-blank_page}
+use Rattle.p25_work.specs.Runs.{input_most, read_most, all_written, Worked}
 
 -- the first octets of an input and so many more
 pub first-take : (octets more : List ℕ) → length octets ≤ input_most → take input_most (octets ++ more) ≡ octets ++ take (input_most - length octets) more

@@ -38,7 +38,8 @@ IsIdle true now = (ended : Bool) (more : List ℕ) → now.writes ended more ≡
 IsIdle false now = (now.writes false [] ≡ []) × (now.ends false [] ≡ None)
 
 -- some octets came; of what was gathered before and what was given out for them, a part was written and the rest is gathered
-pub record Moved {K : Type 0} (written : K → Option (List ℕ)) (first : K) (gathered : List ℕ) (before : Future) (octets : List ℕ) (last : K) (kept : List ℕ) (now : Future) : Type 0 where
+pub record Moved {K : Type 0} (written : K → Option (List ℕ)) (first : K) (gathered : List ℕ) (before : Future) (octets : List ℕ) (last : K) (kept : List ℕ)
+    (now : Future) : Type 0 where
   pub text : List ℕ
   pub appended : Appended (written first) text (written last)
   pub writes : (ended : Bool) (more : List ℕ) → gathered ++ before.writes ended (octets ++ more) ≡ text ++ (kept ++ now.writes ended more)
@@ -51,7 +52,8 @@ pub record IsCutOff {K : Type 0} (written : K → Option (List ℕ)) (first : K)
   pub some : (ended : Bool) (more : List ℕ) → 0 < length (gathered ++ before.writes ended (octets ++ more))
 
 -- the input ended or was refused: all before that is written
-pub record IsEnded {K : Type 0} (written : K → Option (List ℕ)) (first : K) (gathered : List ℕ) (before : Future) (octets : List ℕ) (ending : Ending) (last : K) : Type 0 where
+pub record IsEnded {K : Type 0} (written : K → Option (List ℕ)) (first : K) (gathered : List ℕ) (before : Future) (octets : List ℕ) (ending : Ending) (last : K)
+    : Type 0 where
   pub wrote : (ended : Bool) (more : List ℕ) → Appended (written first) (gathered ++ before.writes ended (octets ++ more)) (written last)
   pub ends : (ended : Bool) (more : List ℕ) → before.ends ended (octets ++ more) ≡ Some ending
   pub touched : (last ≡ first) ⊎ ((ended : Bool) (more : List ℕ) → 0 < length (gathered ++ before.writes ended (octets ++ more)))
@@ -64,4 +66,7 @@ IsStopped written first gathered before octets (Ended ending) last = IsEnded wri
 -- the input ended, and so the work
 unfoldable pub EndsBy : {K : Type 0} → (K → Option (List ℕ)) → K → Future → Stop → K → Type 0
 EndsBy written first before Fault last = AppendedFront (written first) (before.writes true []) (written last) × (0 < length (before.writes true []))
-EndsBy written first before (Ended ending) last = Appended (written first) (before.writes true []) (written last) × (before.ends true [] ≡ Some ending) × ((last ≡ first) ⊎ (0 < length (before.writes true [])))
+EndsBy written first before (Ended ending) last =
+    Appended (written first) (before.writes true []) (written last)
+    × (before.ends true [] ≡ Some ending)
+    × ((last ≡ first) ⊎ (0 < length (before.writes true [])))

@@ -19,7 +19,8 @@ const INPUT_MOST: usize = 16_777_216;
 // Writes the page, behind which the input is refused.
 fn refused<K: Sink>(ending: Ending, page: &mut Line, sink: &mut K) -> Stop
     ensures refused { result ≡ Stop.Ended ending → Appended (K.written sink.old) page.old (K.written sink.new) }
-    ensures fault { result ≡ Stop.Fault → AppendedFront (K.written sink.old) page.old (K.written sink.new) × (0 < length page.old) × Rose (K.faults sink.old) (K.faults sink.new) }
+    ensures fault { result ≡ Stop.Fault
+        → AppendedFront (K.written sink.old) page.old (K.written sink.new) × (0 < length page.old) × Rose (K.faults sink.old) (K.faults sink.new) }
     ensures one { (result ≡ Stop.Ended ending) ⊎ (result ≡ Stop.Fault) }
     ensures touched { (sink.new ≡ sink.old) ⊎ (0 < length page.old) }
     ensures later { K.faults sink.old ≤ K.faults sink.new }

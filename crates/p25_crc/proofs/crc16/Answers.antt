@@ -1,6 +1,6 @@
 use Rattle.std.proofs.Common.{[]}
 use Rattle.p25_crc.specs.Checks.{IsCrc16}
-use Rattle.p25_crc.proofs.Registers.{empty_register}
+use Rattle.p25_crc.proofs.RegisterLaws.{empty_register}
 use Rattle.p25_crc.proofs.ChecksLaws.{IsCrc16-unique}
 use Rattle.p25_crc.specs.Values.{crc16_of, IsCrc16-crc16_of}
 use Rattle.p25_crc.proofs.crc16.Goals as goal

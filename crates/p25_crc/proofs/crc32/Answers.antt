@@ -1,6 +1,6 @@
 use Rattle.std.proofs.Common.{[]}
 use Rattle.p25_crc.specs.Checks.{IsCrc32}
-use Rattle.p25_crc.proofs.Registers.{empty_register}
+use Rattle.p25_crc.proofs.RegisterLaws.{empty_register}
 use Rattle.p25_crc.proofs.ChecksLaws.{IsCrc32-unique}
 use Rattle.p25_crc.specs.Values.{crc32_of, IsCrc32-crc32_of}
 use Rattle.p25_crc.proofs.crc32.Goals as goal

@@ -2,7 +2,7 @@ use Rattle.std.proofs.Common.{◌≡◌, ℕ, ◌+◌, ◌*◌, ◌^◌, [], sym
 use Rattle.p25_bits.specs.Bits.{bits_of, field_of}
 use Rattle.p25_bits.specs.Divisible.{IsRemainder}
 use Rattle.p25_crc.specs.Checks.{IsCrc9}
-use Rattle.p25_crc.proofs.Registers.{empty_register, field_of-bits}
+use Rattle.p25_crc.proofs.RegisterLaws.{empty_register, field_of-bits}
 use Rattle.p25_crc.proofs.ChecksLaws.{IsCrc9-unique}
 use Rattle.p25_crc.specs.Values.{crc9_of, IsCrc9-crc9_of}
 use Rattle.p25_crc.proofs.crc9.Goals as goal

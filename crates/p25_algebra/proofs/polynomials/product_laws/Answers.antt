@@ -1,5 +1,5 @@
 use Rattle.p25_gf64.specs.Gf64.{gf64}
-use Rattle.p25_algebra.proofs.Products.{product_comm, product_assoc, product-add, product_degree}
+use Rattle.p25_algebra.proofs.ProductLaws.{product_comm, product_assoc, product-add, product_degree}
 use Rattle.p25_algebra.proofs.polynomials.product_laws.Goals as goal
 
 pub returns-clause-commutes : goal.returns-clause-commutes

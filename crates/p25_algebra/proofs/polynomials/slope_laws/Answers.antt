@@ -1,5 +1,5 @@
 use Rattle.p25_gf64.specs.Gf64.{gf64}
-use Rattle.p25_algebra.proofs.Quotients.{slope-kept, slope-new}
+use Rattle.p25_algebra.proofs.QuotientLaws.{slope-kept, slope-new}
 use Rattle.p25_algebra.proofs.polynomials.slope_laws.Goals as goal
 
 pub returns-clause-kept : goal.returns-clause-kept

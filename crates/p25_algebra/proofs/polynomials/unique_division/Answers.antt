@@ -1,5 +1,5 @@
 use Rattle.p25_gf64.specs.Gf64.{gf64}
-use Rattle.p25_algebra.proofs.Products.{same_quotient, same_remainder}
+use Rattle.p25_algebra.proofs.ProductLaws.{same_quotient, same_remainder}
 use Rattle.p25_algebra.proofs.polynomials.unique_division.Goals as goal
 
 pub returns : goal.returns

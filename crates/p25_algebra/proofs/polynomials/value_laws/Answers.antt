@@ -1,5 +1,5 @@
 use Rattle.p25_gf64.specs.Gf64.{gf64}
-use Rattle.p25_algebra.proofs.ProductValues.{value-add, value-product}
+use Rattle.p25_algebra.proofs.ProductValueLaws.{value-add, value-product}
 use Rattle.p25_algebra.proofs.polynomials.value_laws.Goals as goal
 
 pub returns-clause-sums : goal.returns-clause-sums

@@ -1,7 +1,7 @@
 use Rattle.p25_gf64.specs.Symbol.{alpha}
 use Rattle.p25_gf64.specs.Gf64.{gf64}
-use Rattle.p25_gf64.proofs.Powers.{power_ne_zero}
-use Rattle.p25_gf64.proofs.Symbols.{alpha_exponents, alpha_ne_zero}
+use Rattle.p25_gf64.proofs.PowerLaws.{power_ne_zero}
+use Rattle.p25_gf64.proofs.SymbolLaws.{alpha_exponents, alpha_ne_zero}
 use Rattle.p25_algebra.proofs.power_sums.alpha_powers.Goals as goal
 
 pub returns-clause-apart : goal.returns-clause-apart

@@ -8,6 +8,11 @@ use Rattle.p25_bch_nid.proofs.correction.is_word.Goals as goal
 
 pub returns : goal.returns
 returns c = (
-  (λ test. word_from_remainder c.args.word.now c.requires (subst (IsRemainder generator 47 (field_of c.args.word.now)) (eqb-true c.number_remainder.result 0 test) (subst (λ n. IsRemainder generator 47 n c.number_remainder.result) c.number_of.ensures.value c.number_remainder.ensures.is))),
+  (
+      λ test.
+      let is = subst (λ n. IsRemainder generator 47 n c.number_remainder.result) c.number_of.ensures.value c.number_remainder.ensures.is in
+      word_from_remainder c.args.word.now c.requires
+      (subst (IsRemainder generator 47 (field_of c.args.word.now)) (eqb-true c.number_remainder.result 0 test) is)
+      ),
   (λ is. eq-eqb c.number_remainder.result 0 (sym (c.number_remainder.ensures.only 0 (subst (λ n. IsRemainder generator 47 n 0) (sym c.number_of.ensures.value) (remainder_from_word c.args.word.now is))))),
 )

@@ -1,5 +1,5 @@
 use Rattle.std.proofs.Common.{◌≤◌, ◌/◌, ◌%◌, ◌^◌, refl, arith}
-use Rattle.p25_bch_nid.proofs.ReadingSteps.{identifier_made}
+use Rattle.p25_bch_nid.proofs.ReadingLaws.{identifier_made}
 use Rattle.p25_bch_nid.proofs.reading.identifier_in.Goals as goal
 
 pub returns : goal.returns

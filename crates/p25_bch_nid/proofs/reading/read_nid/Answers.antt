@@ -6,7 +6,7 @@ use Rattle.p25_code.specs.Readings.{word_read}
 use Rattle.p25_bch_nid.specs.Nid.{generator}
 use Rattle.p25_bch_nid.specs.Bch63Readings.{bch63_reading_of}
 use Rattle.p25_bch_nid.specs.NidReading.{identifier_of_word}
-use Rattle.p25_bch_nid.proofs.ReadingSteps.{clean_reading, code_reading, is_reading, is_sent}
+use Rattle.p25_bch_nid.proofs.ReadingLaws.{clean_reading, code_reading, is_reading, is_sent}
 use Rattle.p25_bch_nid.proofs.reading.read_nid.Goals as goal
 
 clean : goal.returns-then-number_remainder-eq0-clause-value

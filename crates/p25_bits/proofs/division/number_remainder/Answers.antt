@@ -1,6 +1,6 @@
 use Rattle.std.proofs.Common.{ℕ, ◌-◌, ◌/◌, ◌^◌, ◌<◌, ◌≡◌, ap, ◌∙◌, subst, sym, arith}
 use Rattle.p25_bits.specs.Divisible.{IsRemainder}
-use Rattle.p25_bits.proofs.Divisions.{high_more, IsRemainder-highest, IsRemainder-unique}
+use Rattle.p25_bits.proofs.DivisibleLaws.{high_more, IsRemainder-highest, IsRemainder-unique}
 use Rattle.p25_bits.proofs.division.number_remainder.Goals as goal
 
 pub loop-k-init : goal.loop-k-init

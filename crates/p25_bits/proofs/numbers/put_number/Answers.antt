@@ -1,5 +1,5 @@
 use Rattle.std.proofs.Common.{◌≡◌, ◌<◌, ◌≤◌, ◌-◌, length, arith}
-use Rattle.p25_bits.proofs.NumbersSteps.{put_more, put_all}
+use Rattle.p25_bits.proofs.LoopLaws.{put_more, put_all}
 use Rattle.p25_bits.proofs.numbers.put_number.Goals as goal
 
 pub loop-i-preserved : goal.loop-i-preserved

@@ -1,4 +1,4 @@
-use Rattle.p25_bits.proofs.WordsSteps.{across_is}
+use Rattle.p25_bits.proofs.WordsLaws.{across_is}
 use Rattle.p25_bits.proofs.words.across.Goals as goal
 
 pub returns : goal.returns

@@ -1,4 +1,4 @@
-use Rattle.p25_bits.proofs.WordsSteps.{beginning_is}
+use Rattle.p25_bits.proofs.WordsLaws.{beginning_is}
 use Rattle.p25_bits.proofs.words.beginning.Goals as goal
 
 pub returns : goal.returns

@@ -1,4 +1,4 @@
-use Rattle.p25_bits.proofs.WordsSteps.{ending_is}
+use Rattle.p25_bits.proofs.WordsLaws.{ending_is}
 use Rattle.p25_bits.proofs.words.ending.Goals as goal
 
 pub returns : goal.returns

@@ -1,5 +1,5 @@
 use Rattle.std.proofs.Common.{◌≡◌, ◌<◌, length, arith}
-use Rattle.p25_bits.proofs.WordsSteps.{moved_more}
+use Rattle.p25_bits.proofs.WordsLaws.{moved_more}
 use Rattle.p25_bits.proofs.words.shift_down.Goals as goal
 
 pub loop-k-preserved : goal.loop-k-preserved

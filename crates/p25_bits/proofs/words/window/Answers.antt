@@ -1,5 +1,5 @@
 use Rattle.std.proofs.Common.{sym, ◌∙◌}
-use Rattle.p25_bits.proofs.WordsSteps.{part_window}
+use Rattle.p25_bits.proofs.WordsLaws.{part_window}
 use Rattle.p25_bits.proofs.words.window.Goals as goal
 
 pub returns : goal.returns

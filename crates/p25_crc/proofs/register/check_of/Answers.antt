@@ -15,6 +15,10 @@ pub returns-clause-check : goal.returns-clause-check
 returns-clause-check c =
     λ message is. record {
       remainder = c.take_number-remainder.result;
-      divided = subst (λ (n : ℕ). IsRemainder c.args.divisor.polynomial c.args.divisor.degree n c.take_number-remainder.result) (add-zero (field_of message * 2 ^ c.args.divisor.degree)) (c.take_number-remainder.ensures.next (field_of message) is);
+      divided =
+          subst
+          (λ (n : ℕ). IsRemainder c.args.divisor.polynomial c.args.divisor.degree n c.take_number-remainder.result)
+          (add-zero (field_of message * 2 ^ c.args.divisor.degree))
+          (c.take_number-remainder.ensures.next (field_of message) is);
       inverts = ap (bit_xor c.take_number-remainder.result) (ones c.args.divisor.degree c.args.divisor.degree_fits);
     }

@@ -1,6 +1,6 @@
 use Rattle.std.proofs.Common.{◌≡◌, ℕ, ◌<◌, sym, subst, arith}
 use Rattle.p25_bits.specs.Divisible.{IsRemainder}
-use Rattle.p25_crc.proofs.Registers.{shifted_none, shifted_more, shifted_all}
+use Rattle.p25_crc.proofs.RegisterLaws.{shifted_none, shifted_more, shifted_all}
 use Rattle.p25_crc.proofs.register.take_number.Goals as goal
 
 pub loop-k-init : goal.loop-k-init

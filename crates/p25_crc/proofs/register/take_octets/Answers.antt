@@ -2,7 +2,7 @@ use Rattle.std.proofs.Common.{◌≡◌, ℕ, ◌+◌, ◌*◌, ◌^◌, ◌<◌
 use Rattle.std.proofs.lemmas.List.{take_all}
 use Rattle.p25_bits.specs.Bits.{field_of, octet_bits}
 use Rattle.p25_bits.specs.Divisible.{IsRemainder}
-use Rattle.p25_crc.proofs.Registers.{octets_none, octets_more}
+use Rattle.p25_crc.proofs.RegisterLaws.{octets_none, octets_more}
 use Rattle.p25_crc.proofs.register.take_octets.Goals as goal
 
 pub loop-octet-init : goal.loop-octet-init

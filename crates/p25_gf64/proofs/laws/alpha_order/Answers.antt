@@ -1,5 +1,5 @@
-use Rattle.p25_gf64.proofs.Symbols.{alpha_to_63, alpha_exponents}
-use Rattle.p25_gf64.proofs.TableFacts.{alpha_exponent_of}
+use Rattle.p25_gf64.proofs.SymbolLaws.{alpha_to_63, alpha_exponents}
+use Rattle.p25_gf64.proofs.TableLaws.{alpha_exponent_of}
 use Rattle.p25_gf64.proofs.laws.alpha_order.Goals as goal
 
 pub returns-clause-one : goal.returns-clause-one

@@ -1,5 +1,5 @@
 use Rattle.p25_gf64.specs.Gf64.{gf64}
-use Rattle.p25_gf64.proofs.FieldFacts.{zero_factor}
+use Rattle.p25_gf64.proofs.FieldLaws.{zero_factor}
 use Rattle.p25_gf64.proofs.laws.field_laws.Goals as goal
 
 pub returns-clause-laws : goal.returns-clause-laws

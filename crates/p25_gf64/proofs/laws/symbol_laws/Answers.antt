@@ -1,6 +1,6 @@
 use Rattle.std.proofs.lemmas.Bool.{eqb-true}
 use Rattle.p25_gf64.specs.Symbol.{number, same_symbol}
-use Rattle.p25_gf64.proofs.Symbols.{number_zero, number_one, number_alpha}
+use Rattle.p25_gf64.proofs.SymbolLaws.{number_zero, number_one, number_alpha}
 use Rattle.p25_gf64.proofs.laws.symbol_laws.Goals as goal
 
 pub returns-clause-same : goal.returns-clause-same

@@ -2,7 +2,7 @@ use Rattle.std.proofs.Common.{◌≡◌, ℕ, ◌+◌, ◌-◌, ◌≤◌, List,
 use Rattle.std.proofs.lemmas.List.{take-append-le}
 use Rattle.std.proofs.Math.Seq.{take-append-add}
 use borrow.Rule.Slice.PartMut.{put_mid, post_of}
-use Rattle.p25_io.proofs.OctetsLemmas.{Taken-same, Taken-trans}
+use Rattle.p25_io.proofs.OctetsLaws.{Taken-same, Taken-trans}
 use Rattle.p25_io.proofs.tests.gather.Goals as goal
 
 -- what is held after a read into the rest of the room

@@ -3,7 +3,7 @@ use Rattle.std.specs.Prelude.{flat_map, OnErr}
 use Rattle.std.proofs.lemmas.Grind.{flat_map-append}
 use Rattle.std.proofs.lemmas.List.Concat.{flat_map-cons}
 use Rattle.std.proofs.Math.Seq.{drop-cons}
-use Rattle.p25_io.proofs.OctetsLemmas.{AppendedFront-same, AppendedFront-next, AppendedFront-longer}
+use Rattle.p25_io.proofs.OctetsLaws.{AppendedFront-same, AppendedFront-next, AppendedFront-longer}
 use Rattle.p25_io.proofs.tests.put_all.Goals as goal
 
 -- the pieces before one, that piece, and those after it

@@ -3,7 +3,7 @@ use Rattle.std.proofs.lemmas.List.{get_or_read, take_rest, length-set}
 use Rattle.p25_gf64.specs.Gf64.{gf64}
 use Rattle.p25_algebra.specs.Series.{coefficient}
 use Rattle.p25_poly.specs.LinearSystem.{blank_row}
-use Rattle.p25_poly.proofs.RowFacts.{met_with_front, met_rest, blank_met, blank_right, corrected_solution, solution_cleared, not_empty}
+use Rattle.p25_poly.proofs.RowLaws.{met_with_front, met_rest, blank_met, blank_right, corrected_solution, solution_cleared, not_empty}
 use Rattle.p25_poly.proofs.elimination.+solve_rows.Goals as goal
 
 pub returns-then-is_zero-clause-solved : goal.returns-then-is_zero-clause-solved

@@ -1,6 +1,6 @@
 use Rattle.std.proofs.Common.{◌∙◌, arith}
 use Rattle.std.proofs.lemmas.Bool.{iff_false}
-use Rattle.p25_poly.proofs.EuclidLaws.{pair_reduced, pair_swapped}
+use Rattle.p25_poly.proofs.EuclidSteps.{pair_reduced, pair_swapped}
 use Rattle.p25_poly.proofs.key.step.Goals as goal
 
 pub returns-else-front-back-clause-pair : goal.returns-else-front-back-clause-pair

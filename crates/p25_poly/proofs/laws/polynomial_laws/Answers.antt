@@ -1,4 +1,4 @@
-use Rattle.p25_poly.proofs.PolyFacts.{same_polynomial, short_polynomial}
+use Rattle.p25_poly.proofs.PolyLaws.{same_polynomial, short_polynomial}
 use Rattle.p25_poly.proofs.laws.polynomial_laws.Goals as goal
 
 pub returns-clause-same : goal.returns-clause-same

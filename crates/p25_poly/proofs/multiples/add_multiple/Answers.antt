@@ -1,7 +1,7 @@
 use Rattle.std.proofs.Common.{◌∙◌, refl, ap₂, ap, arith}
 use Rattle.p25_gf64.specs.Gf64.{gf64}
 use Rattle.p25_algebra.specs.Series.{coefficient}
-use Rattle.p25_poly.proofs.Coefficients.{nothing_added, added_step, coefficient_read}
+use Rattle.p25_poly.proofs.CoefficientLaws.{nothing_added, added_step, coefficient_read}
 use Rattle.p25_poly.proofs.multiples.add_multiple.Goals as goal
 
 pub loop-i-init : goal.loop-i-init

@@ -1,7 +1,7 @@
 use Rattle.std.proofs.Common.{length, arith}
 use Rattle.p25_gf64.specs.Gf64.{gf64}
 use Rattle.p25_algebra.specs.Series.{coefficient}
-use Rattle.p25_poly.proofs.SystemFacts.{solution_met}
+use Rattle.p25_poly.proofs.SystemSteps.{solution_met}
 use Rattle.p25_poly.proofs.systems.solve.Goals as goal
 
 pub returns-clause-complete : goal.returns-clause-complete

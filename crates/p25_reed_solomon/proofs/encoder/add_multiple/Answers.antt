@@ -1,7 +1,7 @@
 use Rattle.std.proofs.Common.{◌∙◌, ◌+◌, ap, ap₂, arith}
 use Rattle.p25_gf64.specs.Gf64.{gf64}
 use Rattle.p25_algebra.specs.Series.{coefficient}
-use Rattle.p25_poly.proofs.Coefficients.{coefficient_read}
+use Rattle.p25_poly.proofs.CoefficientLaws.{coefficient_read}
 use Rattle.p25_reed_solomon.proofs.MultiplesLaws.{added_none, added_more, added_all}
 use Rattle.p25_reed_solomon.proofs.encoder.add_multiple.Goals as goal
 

@@ -1,6 +1,6 @@
 use Rattle.std.proofs.Common.{length, arith}
 use Rattle.p25_gf64.specs.Gf64.{gf64}
-use Rattle.p25_poly.proofs.Coefficients.{coefficient_read}
+use Rattle.p25_poly.proofs.CoefficientLaws.{coefficient_read}
 use Rattle.p25_reed_solomon.proofs.EncoderSteps.{divided_more}
 use Rattle.p25_reed_solomon.proofs.encoder.divide.Goals as goal
 

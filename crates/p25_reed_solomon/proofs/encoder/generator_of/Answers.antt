@@ -1,5 +1,5 @@
 use Rattle.std.proofs.Common.{refl, arith}
-use Rattle.p25_gf64.proofs.Symbols.{one_made}
+use Rattle.p25_gf64.proofs.SymbolLaws.{one_made}
 use Rattle.p25_reed_solomon.proofs.EncoderSteps.{generator_none, generator_more}
 use Rattle.p25_reed_solomon.proofs.encoder.generator_of.Goals as goal
 

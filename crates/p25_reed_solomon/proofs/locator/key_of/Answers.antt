@@ -2,9 +2,9 @@ use Rattle.std.proofs.Common.{◌≡◌, ℕ, ◌≤◌, [], ◌∷◌, length, 
 use Rattle.std.proofs.lemmas.Bool.{eqb-true}
 use Rattle.p25_gf64.specs.declared.symbol.Sym.{Sym}
 use Rattle.p25_gf64.specs.Gf64.{gf64}
-use Rattle.p25_gf64.proofs.Symbols.{one_made}
+use Rattle.p25_gf64.proofs.SymbolLaws.{one_made}
 use Rattle.p25_algebra.specs.Series.{coefficient}
-use Rattle.p25_poly.proofs.Coefficients.{coefficient_past}
+use Rattle.p25_poly.proofs.CoefficientLaws.{coefficient_past}
 use Rattle.p25_reed_solomon.proofs.LocatorLaws.{key_of_none}
 use Rattle.p25_reed_solomon.proofs.locator.key_of.Goals as goal
 

@@ -1,5 +1,5 @@
 use Rattle.std.proofs.Common.{arith}
-use Rattle.p25_reed_solomon.proofs.ListSteps.{moved_everywhere}
+use Rattle.p25_reed_solomon.proofs.ListLaws.{moved_everywhere}
 use Rattle.p25_reed_solomon.proofs.marks.moved_up.Goals as goal
 
 pub returns-clause-moved : goal.returns-clause-moved

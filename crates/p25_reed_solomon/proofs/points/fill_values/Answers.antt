@@ -1,9 +1,9 @@
 use Rattle.std.proofs.Common.{◌≡◌, ◌-◌, ◌+◌, length, ap, ap₂, sym, ◌∙◌, arith}
 use Rattle.p25_gf64.specs.Gf64.{gf64}
 use Rattle.p25_algebra.specs.Series.{coefficient, value_at}
-use Rattle.p25_algebra.proofs.Values.{value-none}
-use Rattle.p25_poly.proofs.Coefficients.{coefficient_read, horner_step}
-use Rattle.p25_reed_solomon.proofs.ListSteps.{value_whole}
+use Rattle.p25_algebra.proofs.ValueLaws.{value-none}
+use Rattle.p25_poly.proofs.CoefficientLaws.{coefficient_read, horner_step}
+use Rattle.p25_reed_solomon.proofs.ListLaws.{value_whole}
 use Rattle.p25_reed_solomon.proofs.points.fill_values.Goals as goal
 
 pub loop-i-init : goal.loop-i-init

@@ -1,7 +1,7 @@
 use Rattle.std.proofs.Common.{◌-◌, length, sym}
 use Rattle.p25_code.proofs.MarkedLaws.{plain_reading}
 use Rattle.p25_reed_solomon.specs.Words.{IsWord, radius_of, same_symbols}
-use Rattle.p25_reed_solomon.proofs.ReaderSteps.{no_marks}
+use Rattle.p25_reed_solomon.proofs.ReaderLaws.{no_marks}
 use Rattle.p25_reed_solomon.proofs.reader.read.Goals as goal
 
 pub returns : goal.returns

@@ -9,8 +9,8 @@ use Rattle.p25_algebra.specs.Series.{coefficient}
 use Rattle.p25_code.specs.Marks.{marked, marked_cost, IsMarkedReading}
 use Rattle.p25_reed_solomon.specs.Words.{same_symbols}
 use Rattle.p25_reed_solomon.specs.Errors.{marks_below, Explains}
-use Rattle.p25_reed_solomon.specs.DistanceFacts.{same_symbols-same}
-use Rattle.p25_reed_solomon.proofs.ReaderSteps.{difference_explains, cost_of_errors, cost_of_received, cost_of_marks, corrected, changed_letters, without_errors}
+use Rattle.p25_reed_solomon.specs.DistanceLaws.{same_symbols-same}
+use Rattle.p25_reed_solomon.proofs.ReaderLaws.{difference_explains, cost_of_errors, cost_of_received, cost_of_marks, corrected, changed_letters, without_errors}
 use Rattle.p25_reed_solomon.proofs.reader.read_erased.Goals as goal
 
 pub returns-then-count_marks-checks : goal.returns-then-count_marks-checks

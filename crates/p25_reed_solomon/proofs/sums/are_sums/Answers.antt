@@ -3,12 +3,12 @@ use Rattle.std.proofs.lemmas.Bool.{cases_eq, iff_false}
 use Rattle.std.proofs.lemmas.List.{get_or_default}
 use Rattle.p25_gf64.specs.declared.symbol.Sym.{Sym}
 use Rattle.p25_gf64.specs.Gf64.{gf64}
-use Rattle.p25_gf64.proofs.FieldFacts.{add_self, mul_one, same_from_sum}
-use Rattle.p25_gf64.proofs.Powers.{power-zero}
+use Rattle.p25_gf64.proofs.FieldLaws.{add_self, mul_one, same_from_sum}
+use Rattle.p25_gf64.proofs.PowerLaws.{power-zero}
 use Rattle.p25_algebra.specs.Sums.{power_sum}
 use Rattle.p25_algebra.specs.Series.{coefficient}
 use Rattle.p25_reed_solomon.specs.Errors.{element_of}
-use Rattle.p25_reed_solomon.proofs.ListSteps.{sum_of_terms, term_next}
+use Rattle.p25_reed_solomon.proofs.ListLaws.{sum_of_terms, term_next}
 use Rattle.p25_reed_solomon.proofs.sums.are_sums.Goals as goal
 
 pub loop-syndrome-init : goal.loop-syndrome-init

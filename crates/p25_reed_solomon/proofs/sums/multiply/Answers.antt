@@ -1,8 +1,8 @@
 use Rattle.std.proofs.Common.{ap₂, sym, ◌∙◌, inl, inr, arith}
 use Rattle.std.proofs.lemmas.Bool.{cases_lt}
 use Rattle.p25_gf64.specs.Gf64.{gf64}
-use Rattle.p25_gf64.proofs.FieldFacts.{mul_zero}
-use Rattle.p25_poly.proofs.Coefficients.{coefficient_past}
+use Rattle.p25_gf64.proofs.FieldLaws.{mul_zero}
+use Rattle.p25_poly.proofs.CoefficientLaws.{coefficient_past}
 use Rattle.p25_reed_solomon.proofs.sums.multiply.Goals as goal
 
 pub returns : goal.returns

@@ -2,8 +2,8 @@ use Rattle.std.proofs.Common.{suc, ◌≡◌, ◌+◌, ap, ap₂, sym, ◌∙◌
 use Rattle.p25_gf64.specs.Gf64.{gf64}
 use Rattle.p25_algebra.specs.Sums.{sum_below}
 use Rattle.p25_algebra.specs.Series.{coefficient}
-use Rattle.p25_algebra.proofs.SumFacts.{sum-none, sum-suc}
-use Rattle.p25_poly.proofs.Coefficients.{coefficient_read}
+use Rattle.p25_algebra.proofs.SumLaws.{sum-none, sum-suc}
+use Rattle.p25_poly.proofs.CoefficientLaws.{coefficient_read}
 use Rattle.p25_reed_solomon.proofs.sums.sum.Goals as goal
 
 pub loop-r-init : goal.loop-r-init

@@ -3,9 +3,9 @@ use Rattle.p25_gf64.specs.Field.{power}
 use Rattle.p25_gf64.specs.Symbol.{alpha}
 use Rattle.p25_gf64.specs.Gf64.{gf64}
 use Rattle.p25_algebra.specs.Series.{coefficient}
-use Rattle.p25_algebra.proofs.SumFacts.{sum-none}
-use Rattle.p25_poly.proofs.Coefficients.{coefficient_read}
-use Rattle.p25_reed_solomon.specs.ValueFacts.{front_value, front_value-suc}
+use Rattle.p25_algebra.proofs.SumLaws.{sum-none}
+use Rattle.p25_poly.proofs.CoefficientLaws.{coefficient_read}
+use Rattle.p25_reed_solomon.specs.ValueLaws.{front_value, front_value-suc}
 use Rattle.p25_reed_solomon.proofs.syndromes.fill_syndromes.Goals as goal
 
 pub loop-symbol-init : goal.loop-symbol-init

@@ -1,7 +1,7 @@
 use Rattle.std.proofs.Common.{◌≡◌, ℕ, ◌+◌, ◌<◌}
 use Rattle.p25_gf64.specs.Gf64.{gf64}
 use Rattle.p25_algebra.specs.Series.{coefficient}
-use Rattle.p25_reed_solomon.specs.ValueFacts.{front_value}
+use Rattle.p25_reed_solomon.specs.ValueLaws.{front_value}
 use Rattle.p25_reed_solomon.proofs.syndromes.fill_syndromes.Given as goal
 
 abbrev pub invariant-loop-value : goal.invariant-loop-value

@@ -1,6 +1,6 @@
 use Rattle.std.proofs.Common.{ap, ◌∙◌}
 use Rattle.p25_gf64.specs.Gf64.{gf64}
-use Rattle.p25_gf64.proofs.FieldFacts.{mul_assoc, mul_comm, mul_one}
+use Rattle.p25_gf64.proofs.FieldLaws.{mul_assoc, mul_comm, mul_one}
 use Rattle.p25_reed_solomon.proofs.values.quotient.Goals as goal
 
 pub returns : goal.returns

@@ -2,8 +2,8 @@ use Rattle.std.proofs.Common.{◌-◌, length, ap₂, sym, ◌∙◌, arith}
 use Rattle.std.proofs.lemmas.List.{length-replicate}
 use Rattle.p25_gf64.specs.Gf64.{gf64}
 use Rattle.p25_algebra.specs.Series.{coefficient, rest_at}
-use Rattle.p25_poly.proofs.Coefficients.{coefficient_blank, coefficient_read, horner_step}
-use Rattle.p25_reed_solomon.proofs.ListSteps.{value_begun, value_whole, rest_here}
+use Rattle.p25_poly.proofs.CoefficientLaws.{coefficient_blank, coefficient_read, horner_step}
+use Rattle.p25_reed_solomon.proofs.ListLaws.{value_begun, value_whole, rest_here}
 use Rattle.p25_reed_solomon.proofs.values.slopes_of.Goals as goal
 
 pub loop-i-init : goal.loop-i-init

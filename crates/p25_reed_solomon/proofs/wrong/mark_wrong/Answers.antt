@@ -3,7 +3,7 @@ use Rattle.std.proofs.lemmas.List.{length-take, length-replicate}
 use Rattle.p25_gf64.specs.Gf64.{gf64}
 use Rattle.p25_algebra.specs.Series.{coefficient, value_at}
 use Rattle.p25_reed_solomon.specs.Locator.{IsLocator}
-use Rattle.p25_reed_solomon.proofs.WrongSteps.{wrong_exactly, none_marked}
+use Rattle.p25_reed_solomon.proofs.WrongLaws.{wrong_exactly, none_marked}
 use Rattle.p25_reed_solomon.proofs.wrong.mark_wrong.Goals as goal
 
 pub locate-most-requires-clause-marks : goal.locate-most-requires-clause-marks

@@ -1,5 +1,5 @@
 use Rattle.std.proofs.Common.{◌∙◌}
-use Rattle.p25_reed_solomon.specs.ElementFacts.{point-power}
+use Rattle.p25_reed_solomon.specs.ElementLaws.{point-power}
 use Rattle.p25_reed_solomon.proofs.zeros.point.Goals as goal
 
 pub returns : goal.returns

@@ -1,5 +1,5 @@
 use Rattle.std.proofs.Common.{arith}
-use Rattle.p25_stations.proofs.AskedLaws.{misses_here, misses_none_yet}
+use Rattle.p25_stations.proofs.AskedSteps.{misses_here, misses_none_yet}
 use Rattle.p25_stations.proofs.asked.misses_a_block.Goals as goal
 
 pub returns-then-not-get : goal.returns-then-not-get

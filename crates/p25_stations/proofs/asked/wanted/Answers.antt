@@ -1,6 +1,6 @@
 use Rattle.std.proofs.Common.{length, ◌∙◌, arith}
 use Rattle.std.specs.Prelude.{not}
-use Rattle.p25_stations.proofs.ListSteps.{flags_set, flags_length}
+use Rattle.p25_stations.proofs.ListLaws.{flags_set, flags_length}
 use Rattle.p25_stations.proofs.asked.wanted.Goals as goal
 
 pub loop-block-preserved : goal.loop-block-preserved

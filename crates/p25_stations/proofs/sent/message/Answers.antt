@@ -13,7 +13,10 @@ loop-serial-init c = record { list = c.new-slots.ensures; len = ap length c.new-
 
 pub loop-serial-preserved : goal.loop-serial-preserved
 loop-serial-preserved c = record {
-  list = slots_more c.args.message.now c.loop-serial.slots c.push.new.self c.loop-serial.serial c.block.result c.loop-serial.invariant.list (block_of_octets c.args.message.now c.of-octets.result c.loop-serial.serial c.block.result c.of-octets.ensures.list c.block.ensures) c.push.ensures.list;
+  list =
+      slots_more c.args.message.now c.loop-serial.slots c.push.new.self c.loop-serial.serial c.block.result c.loop-serial.invariant.list
+      (block_of_octets c.args.message.now c.of-octets.result c.loop-serial.serial c.block.result c.of-octets.ensures.list c.block.ensures)
+      c.push.ensures.list;
   len = omega arith;
 }
 

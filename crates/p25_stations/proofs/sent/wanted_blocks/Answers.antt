@@ -16,7 +16,10 @@ loop-serial-preserved c =
     elim c.if-get.branch [
       | then-get w ↦
           (let here : slice_get c.args.wanted.now c.loop-serial.serial ≡ Some true = c.get.ensures ∙ ap Some w.if-get.true in
-          let more = wanted_more message c.args.wanted.now c.loop-serial.slots w.push.new.self c.loop-serial.serial w.block.result c.loop-serial.invariant.list here (block_of_octets message c.of-octets.result c.loop-serial.serial w.block.result c.of-octets.ensures.list w.block.ensures) w.push.ensures.list in
+          let more =
+          wanted_more message c.args.wanted.now c.loop-serial.slots w.push.new.self c.loop-serial.serial w.block.result c.loop-serial.invariant.list
+          here (block_of_octets message c.of-octets.result c.loop-serial.serial w.block.result c.of-octets.ensures.list w.block.ensures)
+          w.push.ensures.list in
           record { list = w.slots-is ∙ more; len = omega (arith, ap length w.slots-is, w.push.ensures.len) })
       | else-get w ↦
           (let here : slice_get c.args.wanted.now c.loop-serial.serial ≡ Some false = c.get.ensures ∙ ap Some w.if-get.false in

@@ -5,7 +5,7 @@ use Rattle.p25_bits.proofs.PartLaws.{part-part}
 use Rattle.p25_status.specs.Status.{status_from_bits}
 use Rattle.p25_status.specs.declared.symbols.Status.{Status}
 use Rattle.p25_status.specs.Woven.{woven, plain_in, plain_of, statuses_in, statuses_of, StandsByPlaces}
-use Rattle.p25_status.proofs.PlacesLaws.{woven-places}
+use Rattle.p25_status.proofs.PlacesSteps.{woven-places}
 use Rattle.p25_status.proofs.WovenLaws.{woven-of}
 use Rattle.p25_status.proofs.WeavingSteps.{plain_more, statuses_more, plain_none, statuses_none, status_read}
 use Rattle.p25_status.proofs.weaving.unweave.Goals as goal

@@ -4,7 +4,7 @@ use Rattle.p25_bits.specs.Bits.{bits_of}
 use Rattle.p25_status.specs.Status.{status_number}
 use Rattle.p25_status.specs.Woven.{plain_of, statuses_of, StandsByPlaces}
 use Rattle.p25_status.proofs.WovenLaws.{plain_of-woven, statuses_of-woven}
-use Rattle.p25_status.proofs.PlacesLaws.{woven-places, StandsByPlaces-unique}
+use Rattle.p25_status.proofs.PlacesSteps.{woven-places, StandsByPlaces-unique}
 use Rattle.p25_status.proofs.WeavingSteps.{woven_none, woven_more}
 use Rattle.p25_status.proofs.weaving.weave.Goals as goal
 

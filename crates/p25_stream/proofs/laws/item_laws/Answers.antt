@@ -2,6 +2,7 @@ use Rattle.p25_stream.proofs.SyncPlaces.{sync_place-le, has_sync-before, has_syn
 use Rattle.p25_stream.proofs.ItemsLaws.{items_by-nil, items_by-more, items_by-none, items_by-stay, first_item-append}
 use Rattle.p25_stream.proofs.ItemLaws.{covered-items_of, gaps_short, gaps_full, item-covers, item-sound, near-whole, whole-within, image-whole}
 use Rattle.p25_stream.proofs.ScanLaws.{gave-items}
+use Rattle.p25_stream.proofs.TerminatorLaws.{terminator-read, terminator-there, terminator-sent}
 use Rattle.p25_stream.proofs.laws.item_laws.Goals as goal
 
 pub returns : goal.returns
@@ -17,5 +18,8 @@ returns c = record {
   near = near-whole;
   whole = whole-within;
   undamaged = image-whole;
+  terminator = terminator-read;
+  terminator_is_there = terminator-there;
+  sent_terminator = terminator-sent;
   gave = gave-items;
 }

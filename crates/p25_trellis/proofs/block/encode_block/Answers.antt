@@ -1,5 +1,5 @@
 use Rattle.std.proofs.Common.{◌≡◌, ℕ, ◌*◌, ◌<◌, ◌++◌, List, Bool, length, ap, ◌∙◌, arith}
-use Rattle.p25_trellis.proofs.Paths.{same_block}
+use Rattle.p25_trellis.proofs.PathLaws.{same_block}
 use Rattle.p25_trellis.proofs.NearestLaws.{same_block_from}
 use Rattle.std.proofs.lemmas.List.Elements.{All-same}
 use Rattle.p25_trellis.specs.Interleave.{interleaved}

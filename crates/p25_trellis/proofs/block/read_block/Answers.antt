@@ -7,11 +7,11 @@ use Rattle.p25_bits.specs.Numbers.{number_bits, numbers_from}
 use Rattle.p25_bits.proofs.NumbersLaws.{All-numbers_from, number_bits-numbers_from}
 use Rattle.p25_trellis.specs.Trellis.{distance_from}
 use Rattle.p25_trellis.proofs.InterleaveLaws.{All-from_interleaved}
-use Rattle.p25_trellis.proofs.Paths.{power-pos}
+use Rattle.p25_trellis.proofs.PathLaws.{power-pos}
 use Rattle.p25_trellis.proofs.NearestLaws.{same_nearest}
-use Rattle.p25_trellis.proofs.Distances.{path_cost-distance, IsFirstLeastReading-same}
+use Rattle.p25_trellis.proofs.DistanceLaws.{path_cost-distance, IsFirstLeastReading-same}
 use Rattle.p25_bits.proofs.PartLaws.{length-part}
-use Rattle.p25_trellis.proofs.Apart.{same_from_sent_bits, IsNearReading-from}
+use Rattle.p25_trellis.proofs.ApartLaws.{same_from_sent_bits, IsNearReading-from}
 use Rattle.p25_trellis.proofs.block.read_block.Goals as goal
 
 pub distance_costs-requires : goal.distance_costs-requires
@@ -34,11 +34,15 @@ returns-clause-nearest g c =
 
 pub returns-clause-octets : goal.returns-clause-octets
 returns-clause-octets g c =
-    (same_nearest g.R.Rate.STATES g.R.Rate.BITS_PER_SYMBOL g.R.Rate.point_of (part c.args.at 196 c.args.bits.now) c.read_costs.new.octets c.read_costs.result (power-pos g.R.Rate.BITS_PER_SYMBOL g.R.Rate.STATES g.met.R.Rate.states_of_bits) (returns-clause-nearest g c)).0
+    let received = part c.args.at 196 c.args.bits.now in
+    let some = power-pos g.R.Rate.BITS_PER_SYMBOL g.R.Rate.STATES g.met.R.Rate.states_of_bits in
+    (same_nearest g.R.Rate.STATES g.R.Rate.BITS_PER_SYMBOL g.R.Rate.point_of received c.read_costs.new.octets c.read_costs.result some (returns-clause-nearest g c)).0
 
 pub returns-clause-distance : goal.returns-clause-distance
 returns-clause-distance g c =
-    (same_nearest g.R.Rate.STATES g.R.Rate.BITS_PER_SYMBOL g.R.Rate.point_of (part c.args.at 196 c.args.bits.now) c.read_costs.new.octets c.read_costs.result (power-pos g.R.Rate.BITS_PER_SYMBOL g.R.Rate.STATES g.met.R.Rate.states_of_bits) (returns-clause-nearest g c)).1
+    let received = part c.args.at 196 c.args.bits.now in
+    let some = power-pos g.R.Rate.BITS_PER_SYMBOL g.R.Rate.STATES g.met.R.Rate.states_of_bits in
+    (same_nearest g.R.Rate.STATES g.R.Rate.BITS_PER_SYMBOL g.R.Rate.point_of received c.read_costs.new.octets c.read_costs.result some (returns-clause-nearest g c)).1
 
 pub returns-clause-near : goal.returns-clause-near
 returns-clause-near g c =

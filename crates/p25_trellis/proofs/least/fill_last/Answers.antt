@@ -1,5 +1,5 @@
 use Rattle.std.proofs.Common.{◌≡◌, ◌<◌, length, ◌∙◌, arith}
-use Rattle.p25_trellis.proofs.Costs.{last_more, HasLeastFrom-last}
+use Rattle.p25_trellis.proofs.CostLaws.{last_more, HasLeastFrom-last}
 use Rattle.p25_trellis.proofs.least.fill_last.Goals as goal
 
 pub loop-state-preserved : goal.loop-state-preserved

@@ -1,6 +1,6 @@
 use Rattle.std.proofs.Common.{◌≡◌, ◌<◌, length, arith}
 use Rattle.p25_trellis.specs.Costs.{cost_in}
-use Rattle.p25_trellis.proofs.Costs.{step_cost-lt, IsLeastEnd-at, HasLeastFrom-write, HasLeastFrom-more, here_more}
+use Rattle.p25_trellis.proofs.CostLaws.{step_cost-lt, IsLeastEnd-at, HasLeastFrom-write, HasLeastFrom-more, here_more}
 use Rattle.p25_trellis.proofs.least.fill_step.Goals as goal
 
 pub best_symbol-requires-clause-fits : goal.best_symbol-requires-clause-fits
@@ -20,7 +20,10 @@ loop-state-preserved g c =
     let column : c.from.result < 8 = omega (arith, below, c.from.ensures, g.met.R.Rate.few_states) in
     let long : length rests ≡ 392 = omega (arith, c.loop-state.auto.rests, c.requires.rests) in record {
       after = HasLeastFrom-write states point (cost_in costs) rests step c.from.result least g.met.R.Rate.few_states column c.loop-state.invariant.after;
-      here = here_more states point (cost_in costs) rests step state c.from.result least g.met.R.Rate.few_states below c.requires.step long c.from.ensures c.loop-state.invariant.here (IsLeastEnd-at states point costs rests step state c.best_symbol.result.symbol least c.requires.step c.loop-state.invariant.after c.best_symbol.ensures);
+      here =
+          here_more states point (cost_in costs) rests step state c.from.result least g.met.R.Rate.few_states below c.requires.step long c.from.ensures
+          c.loop-state.invariant.here
+          (IsLeastEnd-at states point costs rests step state c.best_symbol.result.symbol least c.requires.step c.loop-state.invariant.after c.best_symbol.ensures);
     }
 
 pub returns : goal.returns

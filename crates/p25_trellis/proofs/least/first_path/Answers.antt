@@ -1,9 +1,9 @@
 use Rattle.std.proofs.Common.{◌≡◌, ℕ, suc, ◌+◌, List, [], ◌∷◌, ◌++◌, take, sym, ap, subst, ◌∙◌, arith, length-set}
 use Rattle.std.proofs.lemmas.List.{take-append-drop, drop-set-lt}
 use Rattle.p25_trellis.specs.Costs.{cost_in, path_cost, symbols_cost}
-use Rattle.p25_trellis.proofs.Costs.{step_cost-lt, HasLeastFrom-later}
-use Rattle.p25_trellis.proofs.Paths.{power-pos}
-use Rattle.p25_trellis.proofs.FirstPath.{IsFirstLeastEnd, IsFirstLeastEnd-last, IsFirstLeast-from_end, completes_more}
+use Rattle.p25_trellis.proofs.CostLaws.{step_cost-lt, HasLeastFrom-later}
+use Rattle.p25_trellis.proofs.PathLaws.{power-pos}
+use Rattle.p25_trellis.proofs.FirstPathLaws.{IsFirstLeastEnd, IsFirstLeastEnd-last, IsFirstLeast-from_end, completes_more}
 use Rattle.p25_trellis.proofs.least.first_path.Goals as goal
 
 pub best_symbol-state-requires-clause-fits : goal.best_symbol-state-requires-clause-fits
@@ -18,7 +18,9 @@ loop-step-preserved g c =
     let path = c.loop-step.path in
     let symbol = c.best_symbol-state.result.symbol in record {
       completes
-          = completes_more g.R.Rate.STATES g.R.Rate.point_of c.args.costs.now c.args.rests.now path step c.loop-step.state symbol c.best_symbol-state.result.cost c.requires.least c.loop-step-test.true c.loop-step.invariant.long c.best_symbol-state.ensures c.loop-step.invariant.completes;
+          = completes_more g.R.Rate.STATES g.R.Rate.point_of c.args.costs.now c.args.rests.now path step c.loop-step.state symbol
+          c.best_symbol-state.result.cost
+          c.requires.least c.loop-step-test.true c.loop-step.invariant.long c.best_symbol-state.ensures c.loop-step.invariant.completes;
       row = c.best_symbol-state.ensures.below;
       last = drop-set-lt 48 path step symbol c.loop-step-test.true ∙ c.loop-step.invariant.last;
       long = length-set path step symbol ∙ c.loop-step.invariant.long;

@@ -1,11 +1,13 @@
 use Rattle.std.proofs.Common.{◌≡◌, ℕ, ◌+◌, ◌<◌, List, [], ◌∷◌, ◌++◌, take, drop, length}
 use Rattle.p25_trellis.specs.Costs.{cost_in, symbols_cost}
-use Rattle.p25_trellis.proofs.FirstPath.{IsFirstLeastEnd}
+use Rattle.p25_trellis.proofs.FirstPathLaws.{IsFirstLeastEnd}
 use Rattle.p25_trellis.proofs.least.first_path.Given as goal
 
 abbrev pub invariant-loop-step : goal.invariant-loop-step
 invariant-loop-step g l = record {
-  completes : (before : ℕ) (end : List ℕ) → l.step + before ≡ 48 → IsFirstLeastEnd g.R.Rate.STATES before (symbols_cost g.R.Rate.point_of (cost_in l.costs) l.step l.state) end → IsFirstLeastEnd g.R.Rate.STATES 48 (symbols_cost g.R.Rate.point_of (cost_in l.costs) 0 0) (take l.step l.path ++ end);
+  completes : (before : ℕ) (end : List ℕ) → l.step + before ≡ 48
+      → IsFirstLeastEnd g.R.Rate.STATES before (symbols_cost g.R.Rate.point_of (cost_in l.costs) l.step l.state) end
+      → IsFirstLeastEnd g.R.Rate.STATES 48 (symbols_cost g.R.Rate.point_of (cost_in l.costs) 0 0) (take l.step l.path ++ end);
   row : l.state < g.R.Rate.STATES;
   last : drop 48 l.path ≡ 0 ∷ [];
   long : length l.path ≡ 49;

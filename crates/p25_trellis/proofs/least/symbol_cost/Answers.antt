@@ -1,5 +1,5 @@
 use Rattle.std.proofs.Common.{◌∙◌, arith}
-use Rattle.p25_trellis.proofs.Costs.{step_cost-sum}
+use Rattle.p25_trellis.proofs.CostLaws.{step_cost-sum}
 use Rattle.p25_trellis.proofs.least.symbol_cost.Goals as goal
 
 pub returns : goal.returns

@@ -2,7 +2,7 @@ use Rattle.std.proofs.Common.{ℕ, ◌<◌, ◌≤◌, ◌++◌, List, length, r
 use Rattle.std.proofs.lemmas.List.{take_all, drop_all}
 use Rattle.std.proofs.lemmas.List.Elements.{All-replicate, All-set}
 use Rattle.p25_trellis.specs.Trellis.{nibbles_from}
-use Rattle.p25_trellis.proofs.Paths.{nibbles_more, nibbles_from-nil, power-pos}
+use Rattle.p25_trellis.proofs.PathLaws.{nibbles_more, nibbles_from-nil, power-pos}
 use Rattle.p25_trellis.proofs.path.nibbles_of.Goals as goal
 
 pub loop-step-init : goal.loop-step-init

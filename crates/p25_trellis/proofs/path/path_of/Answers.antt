@@ -5,7 +5,7 @@ use Rattle.std.proofs.lemmas.List.Elements.{All-nil, All-push, All-same, All-fro
 use Rattle.p25_bits.specs.Bits.{field_of}
 use Rattle.p25_bits.specs.Numbers.{number_bits}
 use Rattle.p25_bits.proofs.NumbersLaws.{number_bits-nil, number_bits-octets}
-use Rattle.p25_trellis.proofs.Paths.{IsPath-from_front, power-pos}
+use Rattle.p25_trellis.proofs.PathLaws.{IsPath-from_front, power-pos}
 use Rattle.p25_trellis.proofs.PathSteps.{IsRefilled, goes_in, comes_out, count_more, octet_left, none_wait}
 use Rattle.p25_trellis.proofs.path.path_of.Goals as goal
 use Rattle.p25_trellis.proofs.path.path_of.Goals.{then-len-BITS_PER_SYMBOL, else-len-BITS_PER_SYMBOL}
@@ -20,7 +20,8 @@ loop-i-init g c = record {
   long = refl;
 }
 
-refilled : (g : _) (c : goal.After-pop g) → IsRefilled g.R.Rate.BITS_PER_SYMBOL (number_bits g.R.Rate.BITS_PER_SYMBOL (take c.loop-i.i c.loop-i.path)) c.if-len-BITS_PER_SYMBOL.queue c.args.octets.now c.loop-i.i c.if-len-BITS_PER_SYMBOL.taken
+refilled : (g : _) (c : goal.After-pop g)
+    → IsRefilled g.R.Rate.BITS_PER_SYMBOL (number_bits g.R.Rate.BITS_PER_SYMBOL (take c.loop-i.i c.loop-i.path)) c.if-len-BITS_PER_SYMBOL.queue c.args.octets.now c.loop-i.i c.if-len-BITS_PER_SYMBOL.taken
 refilled g c =
     let width = g.R.Rate.BITS_PER_SYMBOL in
     let i = c.loop-i.i in
@@ -66,7 +67,9 @@ loop-i-preserved g c =
           ∙ full.bits;
       count = omega (arith, count_more width i, full.count, c.pop.ensures.len, is);
       short = omega (arith, full.short, c.pop.ensures.len, is);
-      small = All-same (λ (s : ℕ). s < g.R.Rate.STATES) (take (i + 1) (set path i symbol)) (take i path ++ symbol ∷ []) (take_more_set path i symbol inside) (All-push (λ (s : ℕ). s < g.R.Rate.STATES) (take i path) symbol c.loop-i.invariant.small small);
+      small =
+          All-same (λ (s : ℕ). s < g.R.Rate.STATES) (take (i + 1) (set path i symbol)) (take i path ++ symbol ∷ []) (take_more_set path i symbol inside)
+          (All-push (λ (s : ℕ). s < g.R.Rate.STATES) (take i path) symbol c.loop-i.invariant.small small);
       last = drop-set-lt 48 path i symbol c.loop-i-test.true ∙ c.loop-i.invariant.last;
       long = length-set path i symbol ∙ c.loop-i.invariant.long;
     }

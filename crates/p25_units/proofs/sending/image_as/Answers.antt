@@ -1,4 +1,4 @@
-use Rattle.std.proofs.Common.{◌*◌, ap, ◌∙◌, length, sym}
+use Rattle.std.proofs.Common.{ap, ◌∙◌, length}
 use Rattle.p25_status.specs.Woven.{woven}
 use Rattle.p25_units.specs.Units.{body_image_of, frame_as, image_of, unit_image_of}
 use Rattle.p25_units.proofs.UnitsLaws.{IsSoundFrame-frame_as, symbols-sound}

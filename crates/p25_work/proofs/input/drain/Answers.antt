@@ -1,7 +1,7 @@
-use Rattle.std.proofs.Common.{◌≡◌, ℕ, List, [], sym, subst, arith, ◌∙◌}
-use Rattle.p25_work.specs.Futures.{Future, Moved, IsStopped}
+use Rattle.std.proofs.Common.{[], sym, subst, arith, ◌∙◌}
+use Rattle.p25_work.specs.Futures.{Future, Moved}
 use Rattle.p25_work.proofs.FuturesLaws.{Moved-trans, Moved-piece, IsCutOff-page}
-use Rattle.p25_work.proofs.InputSteps.{piece-given, piece-none, piece-refused, stopped-fault, stopped-page}
+use Rattle.p25_work.proofs.InputLaws.{piece-given, piece-none, piece-refused, stopped-fault, stopped-page}
 use Rattle.p25_work.proofs.input.drain.Goals as goal
 
 pub loop-page-preserved : goal.loop-page-preserved

@@ -1,4 +1,4 @@
-use Rattle.p25_work.proofs.InputSteps.{ends-page, ends-stopped, on-blank_page, idle-finished}
+use Rattle.p25_work.proofs.InputLaws.{ends-page, ends-stopped, on-blank_page, idle-finished}
 use Rattle.p25_work.proofs.input.end.Goals as goal
 
 pub returns-in-Err-clause-ended : goal.returns-in-Err-clause-ended

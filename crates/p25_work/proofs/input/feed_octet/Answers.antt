@@ -1,6 +1,6 @@
-use Rattle.std.proofs.Common.{◌∷◌, [], append-nil}
+use Rattle.std.proofs.Common.{◌∷◌, []}
 use Rattle.p25_work.proofs.FuturesLaws.{Moved-push}
-use Rattle.p25_work.proofs.InputSteps.{all_stopped-after}
+use Rattle.p25_work.proofs.InputLaws.{all_stopped-after}
 use Rattle.p25_work.proofs.input.feed_octet.Goals as goal
 
 pub returns-clause-stopped : goal.returns-clause-stopped

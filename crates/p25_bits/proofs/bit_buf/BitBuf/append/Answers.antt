@@ -2,7 +2,7 @@ use Rattle.std.proofs.Common.{◌+◌, ◌*◌, ◌≤◌, ◌++◌, List, Bool,
 use Rattle.p25_bits.specs.Bits.{part}
 use Rattle.p25_bits.specs.Numbers.{number_bits}
 use Rattle.p25_bits.proofs.PartLaws.{part-take, take-part}
-use Rattle.p25_bits.proofs.BitBufSteps.{length-held, take_appended}
+use Rattle.p25_bits.proofs.BitBufSteps.{length-held, length-room, length-longer, take_appended}
 use Rattle.p25_bits.proofs.bit_buf.BitBuf.append.Goals as goal
 
 pub append_windows-requires-clause-room : goal.append_windows-requires-clause-room
@@ -11,14 +11,8 @@ append_windows-requires-clause-room c =
     let fits : inside.len ≤ 64 * length inside.words = omega (arith, c.self.invariant) in
     omega (arith, length-held inside.words inside.len fits, ap length c.self.view_is, c.requires.room, c.div_ceil-words.ensures)
 
-long : goal.invariant_of-self
-long c =
-    let inside = c.self.inside in
-    let fits : inside.len ≤ 64 * length inside.words = omega (arith, c.self.invariant) in
-    omega (arith, length-held inside.words inside.len fits, ap length c.self.view_is, c.requires.room)
-
 pub invariant_of-self : goal.invariant_of-self
-invariant_of-self c = long c
+invariant_of-self c = length-room c.self.inside.words c.self.inside.len c.args.count c.args.self.now (omega (arith, c.self.invariant)) c.self.view_is c.requires.room
 
 pub returns-clause-list : goal.returns-clause-list
 returns-clause-list c =
@@ -42,6 +36,5 @@ pub returns-clause-len : goal.returns-clause-len
 returns-clause-len c =
     let inside = c.self.inside in
     let changed = c.append_windows.new.words in
-    let fits : inside.len ≤ 64 * length inside.words = omega (arith, c.self.invariant) in
-    let fits_more : inside.len + c.args.count ≤ 64 * length changed = omega (arith, long c) in
-    omega (arith, length-held changed (inside.len + c.args.count) fits_more, length-held inside.words inside.len fits, ap length c.self.view_is)
+    let longest = length-room inside.words inside.len c.args.count c.args.self.now (omega (arith, c.self.invariant)) c.self.view_is c.requires.room in
+    length-longer inside.words changed inside.len c.args.count c.args.self.now (omega (arith, c.self.invariant)) (omega (arith, longest)) c.self.view_is

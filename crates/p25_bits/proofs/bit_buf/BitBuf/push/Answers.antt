@@ -2,7 +2,7 @@ use Rattle.std.proofs.Common.{◌+◌, ◌-◌, ◌*◌, ◌/◌, ◌%◌, ◌^�
 use Rattle.p25_bits.specs.Bits.{bits_of}
 use Rattle.std.proofs.lemmas.List.{take_all}
 use Rattle.p25_bits.proofs.BitsLaws.{digit_of-byte, length-bits_of}
-use Rattle.p25_bits.proofs.WordsSteps.{take_written}
+use Rattle.p25_bits.proofs.WordsLaws.{take_written}
 use Rattle.p25_bits.proofs.BitBufSteps.{length-held, take_appended, first_bit}
 use Rattle.p25_bits.proofs.bit_buf.BitBuf.push.Goals as goal
 

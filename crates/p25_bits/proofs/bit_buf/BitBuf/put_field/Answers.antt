@@ -1,22 +1,16 @@
-use Rattle.std.proofs.Common.{◌+◌, ◌-◌, ◌*◌, ◌^◌, ◌%◌, ◌≤◌, ◌++◌, List, Bool, length, ap, sym, ◌∙◌, arith, append-nil}
+use Rattle.std.proofs.Common.{◌-◌, ◌*◌, ◌^◌, ◌%◌, ◌≤◌, ◌++◌, List, Bool, length, ap, sym, ◌∙◌, arith, append-nil}
 use Rattle.p25_bits.specs.Bits.{bits_of}
 use Rattle.p25_bits.specs.Numbers.{number_bits}
 use Rattle.p25_bits.proofs.BitsLaws.{bits_of-zero}
-use Rattle.p25_bits.proofs.BitBufSteps.{length-held, take_appended, first_bits}
+use Rattle.p25_bits.proofs.BitBufSteps.{length-held, length-room, length-longer, take_appended, first_bits}
 use Rattle.p25_bits.proofs.bit_buf.BitBuf.put_field.Goals as goal
 
 pub returns-then-width-eq0-clause-list : goal.returns-then-width-eq0-clause-list
 returns-then-width-eq0-clause-list c =
     sym (append-nil c.args.self.now) ∙ ap (λ (bits : List Bool). c.args.self.now ++ bits) (sym (bits_of-zero c.args.value) ∙ ap (λ n. bits_of n c.args.value) (sym c.if-width-eq0.true))
 
-long : goal.invariant_of-self
-long c =
-    let inside = c.self.inside in
-    let fits : inside.len ≤ 64 * length inside.words = omega (arith, c.self.invariant) in
-    omega (arith, length-held inside.words inside.len fits, ap length c.self.view_is, c.requires.room)
-
 pub invariant_of-self : goal.invariant_of-self
-invariant_of-self c = long c
+invariant_of-self c = length-room c.self.inside.words c.self.inside.len c.args.width c.args.self.now (omega (arith, c.self.invariant)) c.self.view_is c.requires.room
 
 pub returns-clause-list : goal.returns-clause-list
 returns-clause-list c =
@@ -32,6 +26,5 @@ pub returns-clause-len : goal.returns-clause-len
 returns-clause-len c =
     let inside = c.self.inside in
     let changed = c.put_window.new.words in
-    let fits : inside.len ≤ 64 * length inside.words = omega (arith, c.self.invariant) in
-    let fits_more : inside.len + c.args.width ≤ 64 * length changed = omega (arith, long c) in
-    omega (arith, length-held changed (inside.len + c.args.width) fits_more, length-held inside.words inside.len fits, ap length c.self.view_is)
+    let longest = length-room inside.words inside.len c.args.width c.args.self.now (omega (arith, c.self.invariant)) c.self.view_is c.requires.room in
+    length-longer inside.words changed inside.len c.args.width c.args.self.now (omega (arith, c.self.invariant)) (omega (arith, longest)) c.self.view_is

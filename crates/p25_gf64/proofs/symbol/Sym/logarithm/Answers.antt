@@ -1,4 +1,4 @@
-use Rattle.p25_gf64.proofs.TableFacts.{logarithm_entry-lt, logarithm_entry_is}
+use Rattle.p25_gf64.proofs.TableLaws.{logarithm_entry-lt, logarithm_entry_is}
 use Rattle.p25_gf64.proofs.symbol.Sym.logarithm.Goals as goal
 
 pub returns-clause-below : goal.returns-clause-below

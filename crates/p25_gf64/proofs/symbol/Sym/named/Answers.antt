@@ -1,4 +1,4 @@
-use Rattle.p25_gf64.proofs.Symbols.{zero_made, one_made}
+use Rattle.p25_gf64.proofs.SymbolLaws.{zero_made, one_made}
 use Rattle.p25_gf64.proofs.symbol.Sym.named.Goals as goal
 
 pub returns-clause-zero : goal.returns-clause-zero

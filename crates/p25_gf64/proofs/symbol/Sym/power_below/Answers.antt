@@ -1,4 +1,4 @@
-use Rattle.p25_gf64.proofs.TableFacts.{power_entry-lt, power_entry_is}
+use Rattle.p25_gf64.proofs.TableLaws.{power_entry-lt, power_entry_is}
 use Rattle.p25_gf64.proofs.symbol.Sym.power_below.Goals as goal
 
 pub invariant_of-result : goal.invariant_of-result

@@ -1,4 +1,4 @@
-use Rattle.p25_gf64.proofs.Symbols.{zero_made}
+use Rattle.p25_gf64.proofs.SymbolLaws.{zero_made}
 use Rattle.p25_gf64.proofs.symbol.SymDefault.default.Goals as goal
 
 pub returns : goal.returns

@@ -1,6 +1,6 @@
 use Rattle.std.proofs.Common.{ap, arith}
 use Rattle.p25_messages.specs.MessageList.{ListParts}
-use Rattle.p25_messages.proofs.MessageListLaws.{length-list, IsPiece, IsPiece-at}
+use Rattle.p25_messages.proofs.MessageListSteps.{length-list, IsPiece, IsPiece-at}
 use Rattle.p25_messages.proofs.message_list.MessageList.get.Goals as goal
 
 pub start-requires : goal.start-requires
@@ -17,7 +17,9 @@ start-requires-2 c =
 
 piece : (c : goal.After-start-2) → IsPiece c.as_slice.result.now c.args.self.now.list c.args.i c.start.result c.start-2.result
 piece c =
-    IsPiece-at c.self.inside.octets c.as_slice.result.now c.self.inside.ends.items c.as_slice-ends.result.now c.args.self.now.list c.args.i c.start.result c.start-2.result c.self.invariant (ap (λ (s : ListParts). s.list) c.self.view_is) c.as_slice.ensures.value c.as_slice-ends.ensures.value c.requires c.start.ensures c.start-2.ensures
+    IsPiece-at c.self.inside.octets c.as_slice.result.now c.self.inside.ends.items c.as_slice-ends.result.now c.args.self.now.list c.args.i c.start.result
+    c.start-2.result c.self.invariant (ap (λ (s : ListParts). s.list) c.self.view_is) c.as_slice.ensures.value c.as_slice-ends.ensures.value c.requires
+    c.start.ensures c.start-2.ensures
 
 pub slice_bounds-result-count : goal.slice_bounds-result-count
 slice_bounds-result-count c = (piece c).ordered
@@ -30,4 +32,6 @@ slice_bounds-result-end c = omega (arith, (piece c).ordered, (piece c).within)
 
 pub returns : goal.returns
 returns c =
-    (IsPiece-at c.self.inside.octets c.as_slice.result.now c.self.inside.ends.items c.as_slice-ends.result.now c.args.self.now.list c.args.i c.start.result c.start-2.result c.self.invariant (ap (λ (s : ListParts). s.list) c.self.view_is) c.as_slice.ensures.value c.as_slice-ends.ensures.value c.requires c.start.ensures c.start-2.ensures).piece
+    (IsPiece-at c.self.inside.octets c.as_slice.result.now c.self.inside.ends.items c.as_slice-ends.result.now c.args.self.now.list c.args.i c.start.result
+    c.start-2.result c.self.invariant (ap (λ (s : ListParts). s.list) c.self.view_is) c.as_slice.ensures.value c.as_slice-ends.ensures.value c.requires
+    c.start.ensures c.start-2.ensures).piece

@@ -1,7 +1,7 @@
 use Rattle.std.proofs.Common.{arith}
 use Rattle.p25_gf64.specs.Gf64.{gf64}
-use Rattle.p25_gf64.proofs.Symbols.{one_made}
-use Rattle.p25_poly.proofs.Coefficients.{one_added}
+use Rattle.p25_gf64.proofs.SymbolLaws.{one_made}
+use Rattle.p25_poly.proofs.CoefficientLaws.{one_added}
 use Rattle.p25_poly.proofs.polynomial.Poly.add.Goals as goal
 
 pub returns : goal.returns

@@ -1,9 +1,9 @@
 use Rattle.std.proofs.Common.{◌∙◌, sym, ap, ap₂, arith}
 use Rattle.std.proofs.lemmas.List.{get_or_default}
 use Rattle.p25_gf64.specs.Gf64.{gf64}
-use Rattle.p25_algebra.proofs.Values.{value-none}
+use Rattle.p25_algebra.proofs.ValueLaws.{value-none}
 use Rattle.p25_poly.specs.Polynomial.{coefficient_of}
-use Rattle.p25_poly.proofs.Coefficients.{horner_step}
+use Rattle.p25_poly.proofs.CoefficientLaws.{horner_step}
 use Rattle.p25_poly.proofs.polynomial.Poly.eval.Goals as goal
 
 pub loop-i-init : goal.loop-i-init

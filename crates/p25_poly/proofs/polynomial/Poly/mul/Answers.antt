@@ -1,9 +1,9 @@
 use Rattle.std.proofs.Common.{◌∙◌, refl, sym, arith}
 use Rattle.std.proofs.lemmas.List.{get_or_default}
 use Rattle.p25_gf64.specs.Gf64.{gf64}
-use Rattle.p25_algebra.proofs.SumFacts.{sum-none}
+use Rattle.p25_algebra.proofs.SumLaws.{sum-none}
 use Rattle.p25_poly.specs.Polynomial.{coefficient_of}
-use Rattle.p25_poly.proofs.Coefficients.{coefficient_blank, rows_are_product, rows_step, short_list}
+use Rattle.p25_poly.proofs.CoefficientLaws.{coefficient_blank, rows_are_product, rows_step, short_list}
 use Rattle.p25_poly.proofs.polynomial.Poly.mul.Goals as goal
 
 pub loop-i-init : goal.loop-i-init

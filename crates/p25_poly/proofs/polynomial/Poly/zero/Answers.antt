@@ -1,5 +1,5 @@
 use Rattle.p25_gf64.specs.Gf64.{gf64}
-use Rattle.p25_poly.proofs.Coefficients.{coefficient_blank}
+use Rattle.p25_poly.proofs.CoefficientLaws.{coefficient_blank}
 use Rattle.p25_poly.proofs.polynomial.Poly.zero.Goals as goal
 
 pub returns : goal.returns

@@ -1,8 +1,8 @@
 use Rattle.std.proofs.Common.{◌+◌, ◌∙◌, replicate, arith}
 use Rattle.std.proofs.lemmas.List.{length-replicate}
 use Rattle.p25_gf64.specs.Gf64.{gf64}
-use Rattle.p25_gf64.proofs.Symbols.{one_made}
-use Rattle.p25_poly.proofs.Coefficients.{coefficient_blank, written_at, written_elsewhere}
+use Rattle.p25_gf64.proofs.SymbolLaws.{one_made}
+use Rattle.p25_poly.proofs.CoefficientLaws.{coefficient_blank, written_at, written_elsewhere}
 use Rattle.p25_poly.proofs.side.Side.power.Goals as goal
 
 pub returns-clause-at : goal.returns-clause-at

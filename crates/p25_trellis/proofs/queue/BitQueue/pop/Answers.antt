@@ -34,5 +34,9 @@ returns-clause-list c =
 
 pub returns-clause-len : goal.returns-clause-len
 returns-clause-len c =
-    let left = c.self.inside.len - c.args.width in
-    omega (arith, waiting c.self.inside.number c.args.width c.self.inside.len c.args.self.now c.self.view_is c.requires.there, ap length c.self.view_is, length-bits_of c.self.inside.len c.self.inside.number, length-bits_of left (c.self.inside.number - c.self.inside.number / 2 ^ left * 2 ^ left % 2 ^ 32))
+    let number = c.self.inside.number in
+    let len = c.self.inside.len in
+    let left = len - c.args.width in
+    let now = length-bits_of left (number - number / 2 ^ left * 2 ^ left % 2 ^ 32) in
+    let whole = waiting number c.args.width len c.args.self.now c.self.view_is c.requires.there in
+    omega (arith, whole, ap length c.self.view_is, length-bits_of len number, now)

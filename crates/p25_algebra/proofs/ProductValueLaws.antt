@@ -1,0 +1,77 @@
+-- Values of sums and products of polynomials.
+use Rattle.std.proofs.Common.{◌≡◌, ℕ, zero, suc, ◌+◌, ◌-◌, ◌≤◌, sym, ap, ap₂, ◌∙◌, inl, inr, arith}
+use Rattle.std.proofs.lemmas.Bool.{cases_lt}
+use Rattle.p25_gf64.specs.Field.{Field, power}
+use Rattle.p25_gf64.proofs.FieldLaws.{zero_add, mul_comm, mul_assoc, one_mul, add_mul, zero_mul}
+use Rattle.p25_gf64.proofs.PowerLaws.{power-zero, power-suc}
+use Rattle.p25_algebra.specs.Sums.{sum_below}
+use Rattle.p25_algebra.specs.Series.{value_at, product_at, shifted, IsShort}
+use Rattle.p25_algebra.proofs.SumLaws.{sum_same, sum-add, sum-mul, sum_longer, sum_exchange}
+use Rattle.p25_algebra.proofs.ValueLaws.{value_first, value_same}
+use Rattle.p25_algebra.proofs.ProductLaws.{shifted_below, shifted_from, product_by_rows}
+
+module _ {F : Type 0} (K : Field F) where
+  open K use {zero as 𝟘, one as 𝟙, add as ◌⊕◌, mul as ◌⊗◌}
+
+  infixl 65 ◌⊕◌
+  infixl 70 ◌⊗◌
+  pub value-add : (n : ℕ) (f g : ℕ → F) (x : F) → value_at K n (λ i. f i ⊕ g i) x ≡ value_at K n f x ⊕ value_at K n g x
+  value-add n f g x =
+      sum_same K n (λ i. (f i ⊕ g i) ⊗ power K x i) (λ i. f i ⊗ power K x i ⊕ g i ⊗ power K x i) (λ i h. add_mul K (f i) (g i) (power K x i))
+      ∙ sum-add K n (λ i. f i ⊗ power K x i) (λ i. g i ⊗ power K x i)
+
+  pub value-mul : (n : ℕ) (c : F) (f : ℕ → F) (x : F) → value_at K n (λ i. c ⊗ f i) x ≡ c ⊗ value_at K n f x
+  value-mul n c f x =
+      sum_same K n (λ i. c ⊗ f i ⊗ power K x i) (λ i. c ⊗ (f i ⊗ power K x i)) (λ i h. mul_assoc K c (f i) (power K x i))
+      ∙ sum-mul K n c (λ i. f i ⊗ power K x i)
+
+  -- coefficients that are zero change no value
+  pub value_longer : (n m : ℕ) (f : ℕ → F) (x : F) → n ≤ m → IsShort K n f → value_at K m f x ≡ value_at K n f x
+  value_longer n m f x h short =
+      sum_longer K n m (λ i. f i ⊗ power K x i) h (λ i low high. ap (λ w. w ⊗ power K x i) (short.above i low) ∙ zero_mul K (power K x i))
+
+  shifted-suc : (s : ℕ) (f : ℕ → F) (n : ℕ) → shifted K (suc s) f (suc n) ≡ shifted K s f n
+  shifted-suc s f n =
+      elim (cases_lt n s) [
+        | inl below ↦ shifted_below K (suc s) f (suc n) (omega arith) ∙ sym (shifted_below K s f n below)
+        | inr from ↦ shifted_from K (suc s) f (suc n) (omega arith) ∙ ap f same ∙ sym (shifted_from K s f n from)
+      ]
+    where
+      same : suc n - suc s ≡ n - s
+      same = omega arith
+
+  shifted-none : (f : ℕ → F) (n : ℕ) → shifted K 0 f n ≡ f n
+  shifted-none f n = shifted_from K 0 f n (omega arith) ∙ ap f same
+    where
+      same : n - 0 ≡ n
+      same = omega arith
+
+  -- the value of a polynomial times x^s
+  pub value-shifted : (s k n : ℕ) (f : ℕ → F) (x : F) → IsShort K k f → s + k ≤ n → value_at K n (shifted K s f) x ≡ power K x s ⊗ value_at K k f x
+  value-shifted zero k n f x short fits =
+      value_same K n (shifted K 0 f) f x (λ i h. shifted-none f i)
+      ∙ value_longer k n f x (omega arith) short
+      ∙ sym (ap (λ w. w ⊗ value_at K k f x) (power-zero K x) ∙ one_mul K (value_at K k f x))
+  value-shifted (suc s) k zero f x short fits = absurd (omega arith)
+  value-shifted (suc s) k (suc n) f x short fits =
+      value_first K n (shifted K (suc s) f) x
+      ∙ ap₂ (λ a b. a ⊕ x ⊗ b) (shifted_below K (suc s) f 0 (omega arith)) (value_same K n (λ i. shifted K (suc s) f (suc i)) (shifted K s f) x (λ i h. shifted-suc s f i) ∙ value-shifted s k n f x short (omega arith))
+      ∙ zero_add K (x ⊗ (power K x s ⊗ value_at K k f x))
+      ∙ sym (ap (λ w. w ⊗ value_at K k f x) (power-suc K x s) ∙ mul_assoc K x (power K x s) (value_at K k f x))
+
+  sum-mul_right : (n : ℕ) (t : ℕ → F) (c : F) → sum_below K n t ⊗ c ≡ sum_below K n (λ i. t i ⊗ c)
+  sum-mul_right n t c =
+      mul_comm K (sum_below K n t) c ∙ sym (sum-mul K n c t) ∙ sum_same K n (λ i. c ⊗ t i) (λ i. t i ⊗ c) (λ i h. mul_comm K c (t i))
+
+  -- the value of a product is the product of the values
+  pub value-product : (m k n : ℕ) (f g : ℕ → F) (x : F) → IsShort K m f → IsShort K k g → m + k ≤ n → value_at K n (product_at K f g) x ≡ value_at K m f x ⊗ value_at K k g x
+  value-product m k n f g x short_f short_g fits =
+      sum_same K n (λ j. product_at K f g j ⊗ power K x j) (λ j. sum_below K m (λ i. f i ⊗ shifted K i g j ⊗ power K x j))
+      (λ j h. ap (λ w. w ⊗ power K x j) (product_by_rows K m f g short_f j) ∙ sum-mul_right m (λ i. f i ⊗ shifted K i g j) (power K x j))
+      ∙ sum_exchange K n m (λ j i. f i ⊗ shifted K i g j ⊗ power K x j)
+      ∙ sum_same K m (λ i. sum_below K n (λ j. f i ⊗ shifted K i g j ⊗ power K x j)) (λ i. f i ⊗ power K x i ⊗ value_at K k g x)
+      (λ i h.
+      value-mul n (f i) (shifted K i g) x
+      ∙ ap (λ w. f i ⊗ w) (value-shifted i k n g x short_g (omega arith))
+      ∙ sym (mul_assoc K (f i) (power K x i) (value_at K k g x)))
+      ∙ sym (sum-mul_right m (λ i. f i ⊗ power K x i) (value_at K k g x))

@@ -1,0 +1,118 @@
+-- Values of polynomials by their coefficients, by Horner's rule, and how few zeros there are: the quotient at one zero has the others.
+use Rattle.std.proofs.Common.{◌≡◌, ◌≢◌, ℕ, zero, suc, ◌<◌, ◌≤◌, sym, ap, ap₂, ◌∙◌, arith}
+use Rattle.p25_gf64.specs.Field.{Field, power}
+use Rattle.p25_gf64.proofs.FieldLaws.{add_comm, add_assoc, add_left_comm, add_zero, zero_add, add_twice, same_from_sum, mul_comm, mul_assoc, mul_left_comm, mul_one, mul_add, add_mul, mul_zero, zero_mul, other_zero}
+use Rattle.p25_gf64.proofs.PowerLaws.{power-zero, power-suc}
+use Rattle.p25_algebra.specs.Sums.{AreApart}
+use Rattle.p25_algebra.specs.Series.{value_at}
+use Rattle.p25_algebra.proofs.SumLaws.{sum-none, sum_same, sum_of_zeros, sum-mul, sum_first}
+
+module _ {F : Type 0} (K : Field F) where
+  open K use {zero as 𝟘, one as 𝟙, add as ◌⊕◌, mul as ◌⊗◌}
+
+  infixl 65 ◌⊕◌
+  infixl 70 ◌⊗◌
+  -- the value of no coefficients
+  pub value-none : (f : ℕ → F) (x : F) → value_at K 0 f x ≡ 𝟘
+  value-none f x = sum-none K (λ i. f i ⊗ power K x i)
+
+  -- the value by the value of the other coefficients, as Horner's rule has it
+  pub value_first : (n : ℕ) (f : ℕ → F) (x : F) → value_at K (suc n) f x ≡ f 0 ⊕ x ⊗ value_at K n (λ i. f (suc i)) x
+  value_first n f x =
+      sum_first K n (λ i. f i ⊗ power K x i)
+      ∙ ap₂ ◌⊕◌ (ap (λ w. f 0 ⊗ w) (power-zero K x) ∙ mul_one K (f 0))
+      (sum_same K n (λ i. f (suc i) ⊗ power K x (suc i)) (λ i. x ⊗ (f (suc i) ⊗ power K x i)) (λ i h. ap (λ w. f (suc i) ⊗ w) (power-suc K x i) ∙ mul_left_comm K (f (suc i)) x (power K x i))
+      ∙ sum-mul K n x (λ i. f (suc i) ⊗ power K x i))
+
+  -- values of equal coefficients are equal
+  pub value_same : (n : ℕ) (f g : ℕ → F) (x : F) → ((i : ℕ) → i < n → f i ≡ g i) → value_at K n f x ≡ value_at K n g x
+  value_same n f g x e = sum_same K n (λ i. f i ⊗ power K x i) (λ i. g i ⊗ power K x i) (λ i h. ap (λ w. w ⊗ power K x i) (e i h))
+
+  -- the value of coefficients that are zero
+  pub value_of_zeros : (n : ℕ) (f : ℕ → F) (x : F) → ((i : ℕ) → i < n → f i ≡ 𝟘) → value_at K n f x ≡ 𝟘
+  value_of_zeros n f x e = sum_of_zeros K n (λ i. f i ⊗ power K x i) (λ i h. ap (λ w. w ⊗ power K x i) (e i h) ∙ zero_mul K (power K x i))
+
+  -- ---- few zeros
+
+  -- g is the quotient of f, which has n coefficients after the first, by x - z
+  record IsQuotientAt (n : ℕ) (f g : ℕ → F) (z : F) : Type 0 where
+    value : (x : F) → value_at K (suc n) f x ≡ value_at K n g x ⊗ (x ⊕ z) ⊕ value_at K (suc n) f z
+    zeros : ((i : ℕ) → i < n → g i ≡ 𝟘) → (i : ℕ) → i < n → f (suc i) ≡ 𝟘
+
+  led_by : F → (ℕ → F) → ℕ → F
+  led_by first rest zero = first
+  led_by first rest (suc i) = rest i
+
+  quotient_step : (x z f₀ g₀ v : F) → (g₀ ⊕ x ⊗ v) ⊗ (x ⊕ z) ⊕ (f₀ ⊕ z ⊗ g₀) ≡ f₀ ⊕ x ⊗ (v ⊗ (x ⊕ z) ⊕ g₀)
+  quotient_step x z f₀ g₀ v =
+      simp (add_mul K, mul_add K, mul_assoc K, mul_comm K, add_twice K, add_assoc K, add_comm K, add_left_comm K)
+
+  quotient_none : (f : ℕ → F) (z x : F) → value_at K 1 f x ≡ value_at K 0 f x ⊗ (x ⊕ z) ⊕ value_at K 1 f z
+  quotient_none f z x =
+      constant x
+      ∙ sym (zero_add K (f 0))
+      ∙ ap₂ ◌⊕◌ (sym (ap (λ w. w ⊗ (x ⊕ z)) (value-none f x) ∙ zero_mul K (x ⊕ z))) (sym (constant z))
+    where
+      constant : (y : F) → value_at K 1 f y ≡ f 0
+      constant y =
+          value_first 0 f y
+          ∙ ap (λ w. f 0 ⊕ y ⊗ w) (value-none (λ i. f (suc i)) y)
+          ∙ ap (λ w. f 0 ⊕ w) (mul_zero K y)
+          ∙ add_zero K (f 0)
+
+  quotient_more : (n : ℕ) (f h : ℕ → F) (z : F) → IsQuotientAt n (λ i. f (suc i)) h z → IsQuotientAt (suc n) f (led_by (value_at K (suc n) (λ i. f (suc i)) z) h) z
+  unfolding led_by
+  quotient_more n f h z q = record {
+    value = λ x.
+        value_first (suc n) f x
+        ∙ ap (λ w. f 0 ⊕ x ⊗ w) (q.value x)
+        ∙ sym (quotient_step x z (f 0) (value_at K (suc n) (λ i. f (suc i)) z) (value_at K n h x))
+        ∙ ap₂ (λ a b. a ⊗ (x ⊕ z) ⊕ b) (sym (value_first n (led_by (value_at K (suc n) (λ i. f (suc i)) z) h) x)) (sym (value_first (suc n) f z));
+    zeros = zeros;
+  }
+    where
+      first : value_at K (suc n) (λ i. f (suc i)) z ≡ 𝟘 → ((i : ℕ) → i < n → h i ≡ 𝟘) → f 1 ≡ 𝟘
+      first none rest =
+          sym (add_zero K (f 1))
+          ∙ ap (λ w. f 1 ⊕ w) (sym (ap (λ w. z ⊗ w) (value_of_zeros n (λ i. f (suc (suc i))) z (q.zeros rest)) ∙ mul_zero K z))
+          ∙ sym (value_first n (λ i. f (suc i)) z)
+          ∙ none
+
+      zeros : ((i : ℕ) → i < suc n → led_by (value_at K (suc n) (λ i. f (suc i)) z) h i ≡ 𝟘) → (i : ℕ) → i < suc n → f (suc i) ≡ 𝟘
+      zeros e zero low = first (e 0 (omega arith)) (λ i h. e (suc i) (omega arith))
+      zeros e (suc i) low = q.zeros (λ i h. e (suc i) (omega arith)) i (omega arith)
+
+  quotient_at : (n : ℕ) (f : ℕ → F) (z : F) → (g : ℕ → F) × IsQuotientAt n f g z
+  quotient_at zero f z = (f, record { value = quotient_none f z; zeros = λ e i h. absurd (omega arith) })
+  quotient_at (suc n) f z =
+      let (h, q) = quotient_at n (λ i. f (suc i)) z in
+      (led_by (value_at K (suc n) (λ i. f (suc i)) z) h, quotient_more n f h z q)
+
+  -- n coefficients are all zero where the polynomial has n different zeros
+  pub few_zeros : (n m : ℕ) (f z : ℕ → F) → n ≤ m → AreApart m z → ((j : ℕ) → j < m → value_at K n f (z j) ≡ 𝟘) → (i : ℕ) → i < n → f i ≡ 𝟘
+  few_zeros zero m f z le apart zeros i h = absurd (omega arith)
+  few_zeros (suc n) zero f z le apart zeros i h = absurd (omega arith)
+  few_zeros (suc n) (suc m) f z le apart zeros i h =
+      let (g, q) = quotient_at n f (z m) in
+      let others = few_zeros n m g z (omega arith) (record { apart = λ i k hi hk e. apart.apart i k (omega arith) (omega arith) e }) (zeros_left g q) in
+      all_zero (q.zeros others) i h
+    where
+      zeros_left : (g : ℕ → F) → IsQuotientAt n f g (z m) → (j : ℕ) → j < m → value_at K n g (z j) ≡ 𝟘
+      zeros_left g q j low =
+          other_zero K (z j ⊕ z m) (value_at K n g (z j)) different
+          (mul_comm K (z j ⊕ z m) (value_at K n g (z j))
+          ∙ sym (add_zero K (value_at K n g (z j) ⊗ (z j ⊕ z m)))
+          ∙ ap (λ w. value_at K n g (z j) ⊗ (z j ⊕ z m) ⊕ w) (sym (zeros m (omega arith)))
+          ∙ sym (q.value (z j))
+          ∙ zeros j (omega arith))
+        where
+          different : z j ⊕ z m ≢ 𝟘
+          different e = let same : j ≡ m = apart.apart j m (omega arith) (omega arith) (same_from_sum K (z j) (z m) e) in omega arith
+
+      all_zero : ((i : ℕ) → i < n → f (suc i) ≡ 𝟘) → (i : ℕ) → i < suc n → f i ≡ 𝟘
+      all_zero rest zero low =
+          sym (add_zero K (f 0))
+          ∙ ap (λ w. f 0 ⊕ w) (sym (ap (λ w. z m ⊗ w) (value_of_zeros n (λ i. f (suc i)) (z m) rest) ∙ mul_zero K (z m)))
+          ∙ sym (value_first n f (z m))
+          ∙ zeros m (omega arith)
+      all_zero rest (suc i) low = rest i (omega arith)

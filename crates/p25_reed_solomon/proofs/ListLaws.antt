@@ -1,0 +1,77 @@
+-- The steps of the loops over lists of 32 and 64 symbols: what holds of each place holds of the coefficients.
+use Rattle.std.proofs.Common.{◌≡◌, ℕ, zero, suc, ◌+◌, ◌-◌, ◌<◌, ◌≤◌, List, length, ap, sym, ◌∙◌, inl, inr, arith}
+use Rattle.std.proofs.lemmas.Bool.{cases_lt}
+use Rattle.p25_gf64.specs.declared.symbol.Sym.{Sym}
+use Rattle.p25_gf64.specs.Field.{power}
+use Rattle.p25_gf64.specs.Gf64.{gf64}
+use Rattle.p25_gf64.proofs.FieldLaws.{mul_comm, mul_assoc, zero_mul}
+use Rattle.p25_gf64.proofs.PowerLaws.{power-suc}
+use Rattle.p25_algebra.specs.Sums.{sum_below, power_sum}
+use Rattle.p25_algebra.specs.Series.{coefficient, value_at, shifted, rest_at}
+use Rattle.p25_algebra.proofs.SumLaws.{sum_same, sum_longer}
+use Rattle.p25_algebra.proofs.ValueLaws.{value-none, value_same}
+use Rattle.p25_algebra.proofs.QuotientLaws.{shifted-first, shifted-next}
+use Rattle.p25_poly.proofs.CoefficientLaws.{coefficient_past}
+
+-- a list moved up by one place
+pub moved_everywhere : (symbols moved : List Sym) → length symbols ≡ 32 → length moved ≡ 33 → coefficient gf64 moved 0 ≡ gf64.zero → ((k : ℕ) → k < 32 → coefficient gf64 moved (1 + k) ≡ coefficient gf64 symbols k) → (k : ℕ)
+    → coefficient gf64 moved k ≡ shifted gf64 1 (coefficient gf64 symbols) k
+moved_everywhere symbols moved short full first others zero = first ∙ sym (shifted-first gf64 (coefficient gf64 symbols))
+moved_everywhere symbols moved short full first others (suc k) =
+    elim (cases_lt k 32) [
+      | inl low ↦ let e : suc k ≡ 1 + k = omega arith in ap (coefficient gf64 moved) e ∙ others k low ∙ sym (shifted-next gf64 (coefficient gf64 symbols) k)
+      | inr high ↦ coefficient_past gf64 moved (suc k) (omega arith) ∙ sym (shifted-next gf64 (coefficient gf64 symbols) k ∙ coefficient_past gf64 symbols k (omega arith))
+    ]
+
+-- the value once Horner's rule has come to the first coefficient
+pub value_whole : (n i : ℕ) (f : ℕ → Sym) (x : Sym) → i ≡ 0 → value_at gf64 (n - i) (λ k. f (i + k)) x ≡ value_at gf64 n f x
+value_whole n i f x none =
+    ap (λ m. value_at gf64 m (λ k. f (i + k)) x) all ∙ value_same gf64 n (λ k. f (i + k)) f x (λ k low. ap f (same k))
+  where
+    all : n - i ≡ n
+    all = omega arith
+
+    same : (k : ℕ) → i + k ≡ k
+    same k = omega arith
+
+-- the value before Horner's rule begins
+pub value_begun : (n : ℕ) (f : ℕ → Sym) (x : Sym) → value_at gf64 (n - n) (λ k. f (n + k)) x ≡ gf64.zero
+value_begun n f x = ap (λ m. value_at gf64 m (λ k. f (n + k)) x) none ∙ value-none gf64 (λ k. f (n + k)) x
+  where
+    none : n - n ≡ 0
+    none = omega arith
+
+-- what Horner's rule has is the quotient's next coefficient
+pub rest_here : (n i : ℕ) (f : ℕ → Sym) (x : Sym) → 0 < i → value_at gf64 (n - i) (λ k. f (i + k)) x ≡ rest_at gf64 n f x (i - 1)
+rest_here n i f x positive = ap (λ m. value_at gf64 (n - m) (λ k. f (m + k)) x) next
+  where
+    next : i ≡ suc (i - 1)
+    next = omega arith
+
+-- a power sum over 32 terms, of which those behind the listed places are zero
+pub sum_of_listed : (count : ℕ) (elements values : List Sym) (element : ℕ → Sym) (i : ℕ) → count ≤ 32 → ((c : ℕ) → c < count → coefficient gf64 elements c ≡ element c) → ((c : ℕ) → count ≤ c → coefficient gf64 values c ≡ gf64.zero)
+    → sum_below gf64 32 (λ c. gf64.mul (coefficient gf64 values c) (power gf64 (coefficient gf64 elements c) i)) ≡ power_sum gf64 count element (coefficient gf64 values) i
+sum_of_listed count elements values element i few are rest =
+    sum_longer gf64 count 32 (λ c. gf64.mul (coefficient gf64 values c) (power gf64 (coefficient gf64 elements c) i)) few (λ c low high. ap (λ v. gf64.mul v (power gf64 (coefficient gf64 elements c) i)) (rest c low)
+    ∙ zero_mul gf64 (power gf64 (coefficient gf64 elements c) i))
+    ∙ sum_same gf64 count _ _ (λ c low. ap (λ x. gf64.mul (coefficient gf64 values c) (power gf64 x i)) (are c low))
+
+-- a term times its element once more
+pub term_next : (v x p q : Sym) (i : ℕ) → p ≡ gf64.mul v (power gf64 x i) → q ≡ gf64.mul p x → q ≡ gf64.mul v (power gf64 x (i + 1))
+term_next v x p q i is next =
+    next
+    ∙ ap (λ w. gf64.mul w x) is
+    ∙ mul_assoc gf64 v (power gf64 x i) x
+    ∙ ap (gf64.mul v) (mul_comm gf64 (power gf64 x i) x ∙ sym (power-suc gf64 x i) ∙ ap (power gf64 x) more)
+  where
+    more : suc i ≡ i + 1
+    more = omega arith
+
+-- the sum of the terms after one more multiplication
+pub sum_of_terms : (count : ℕ) (elements values old new : List Sym) (element : ℕ → Sym) (i : ℕ) → count ≤ 32 → ((c : ℕ) → c < count → coefficient gf64 elements c ≡ element c) → ((c : ℕ) → count ≤ c → coefficient gf64 values c ≡ gf64.zero)
+    → ((c : ℕ) → c < 32 → coefficient gf64 old c ≡ gf64.mul (coefficient gf64 values c) (power gf64 (coefficient gf64 elements c) i)) → ((c : ℕ) → coefficient gf64 new c ≡ gf64.mul (coefficient gf64 old c) (coefficient gf64 elements c))
+    → sum_below gf64 32 (coefficient gf64 new) ≡ power_sum gf64 count element (coefficient gf64 values) (i + 1)
+sum_of_terms count elements values old new element i few are rest terms next =
+    sum_same gf64 32 (coefficient gf64 new) (λ c. gf64.mul (coefficient gf64 values c) (power gf64 (coefficient gf64 elements c) (i + 1)))
+    (λ c low. term_next (coefficient gf64 values c) (coefficient gf64 elements c) (coefficient gf64 old c) (coefficient gf64 new c) i (terms c low) (next c))
+    ∙ sum_of_listed count elements values element (i + 1) few are rest

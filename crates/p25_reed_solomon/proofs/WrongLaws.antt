@@ -1,0 +1,77 @@
+-- The wrong places of a word without a mark are the zeros of its locator.
+use Rattle.std.proofs.Common.{◌≡◌, ◌≢◌, ◌↔◌, ℕ, zero, suc, ◌+◌, ◌-◌, ◌*◌, ◌<◌, ◌≤◌, Bool, false, List, length, take, replicate, inl, inr, ap, sym, ◌∙◌, arith}
+use Rattle.std.proofs.lemmas.Bool.{cases_lt, cond-false}
+use Rattle.std.proofs.lemmas.List.{get_or-take, get_or_past, length-take}
+use Rattle.p25_bits.specs.Distance.{distance_by}
+use Rattle.p25_gf64.specs.declared.symbol.Sym.{Sym}
+use Rattle.p25_gf64.specs.Gf64.{gf64}
+use Rattle.p25_gf64.proofs.FieldLaws.{add_zero}
+use Rattle.p25_algebra.specs.Sums.{nonzeros}
+use Rattle.p25_algebra.specs.Series.{coefficient, value_at}
+use Rattle.p25_algebra.proofs.ValueLaws.{value_same}
+use Rattle.p25_reed_solomon.specs.Words.{IsCode, IsWord, value_of, same_symbols}
+use Rattle.p25_reed_solomon.specs.DistanceLaws.{distance-nonzeros}
+use Rattle.p25_reed_solomon.specs.ValueLaws.{value-power_sum, front_value-add}
+use Rattle.p25_reed_solomon.specs.Errors.{point_of, is_marked, marks_below, unmarked, Explains, AreErrors}
+use Rattle.p25_reed_solomon.specs.Locator.{IsLocator}
+use Rattle.p25_reed_solomon.proofs.MarksLaws.{marks_below-none, marks_below-plain}
+use Rattle.p25_reed_solomon.proofs.ErrorsLaws.{nonzeros_same}
+use Rattle.p25_reed_solomon.proofs.ReaderLaws.{no_marks}
+
+no_mark : (n j : ℕ) → is_marked (take n (replicate 63 false)) j ≡ false
+no_mark n j =
+    elim (cases_lt j (length (take n (replicate 63 false)))) [
+      | inl low ↦ no_marks n j false low
+      | inr high ↦ get_or_past (take n (replicate 63 false)) j false high
+    ]
+
+no_marks_below : (erased : List Bool) → ((j : ℕ) → is_marked erased j ≡ false) → (n : ℕ) → marks_below erased n ≡ 0
+no_marks_below erased none zero = marks_below-none erased
+no_marks_below erased none (suc n) = marks_below-plain erased n (none n) ∙ no_marks_below erased none n
+
+-- no place of a list without a mark is marked
+pub none_marked : (n m : ℕ) → marks_below (take n (replicate 63 false)) m ≡ 0
+none_marked n m = no_marks_below (take n (replicate 63 false)) (no_mark n) m
+
+-- without a mark
+plain_explains : (n checks : ℕ) (syndromes : List Sym) (erased : List Bool) (errors : ℕ → Sym) → ((j : ℕ) → is_marked erased j ≡ false) → AreErrors n checks syndromes errors → Explains n checks syndromes erased errors
+plain_explains n checks syndromes erased errors none are = record {
+  few = omega (arith, are.few, nonzeros_same n (unmarked erased errors) errors (λ j low. cond-false (is_marked erased j) gf64.zero (errors j) (none j)), no_marks_below erased none n);
+  sums = are.sums;
+}
+
+-- a place is wrong exactly where the value of the locator is zero
+pub wrong_exactly : (n checks most : ℕ) (syndromes locator : List Sym) (evaluator errors : ℕ → Sym) → IsLocator n checks syndromes (take n (replicate 63 false)) most (coefficient gf64 locator) evaluator
+    → AreErrors n checks syndromes errors → (value : Sym) (j : ℕ) → j < n → most + 1 ≤ length locator
+    → value ≡ value_at gf64 (length (take (most + 1) locator)) (coefficient gf64 (take (most + 1) locator)) (point_of n j) → (value ≡ gf64.zero) ↔ (errors j ≢ gf64.zero)
+wrong_exactly n checks most syndromes locator evaluator errors is are value j inside fits is_value = (
+  (λ none. is.found errors explains j inside (no_mark n j) (sym same ∙ sym is_value ∙ none)),
+  (λ other. is_value ∙ same ∙ is.wrong errors explains j inside other),
+)
+  where
+    explains : Explains n checks syndromes (take n (replicate 63 false)) errors
+    explains = plain_explains n checks syndromes (take n (replicate 63 false)) errors (no_mark n) are
+
+    long : length (take (most + 1) locator) ≡ most + 1
+    long = omega (arith, length-take (most + 1) locator)
+
+    same : value_at gf64 (length (take (most + 1) locator)) (coefficient gf64 (take (most + 1) locator)) (point_of n j) ≡ value_at gf64 (most + 1) (coefficient gf64 locator) (point_of n j)
+    same =
+        ap (λ m. value_at gf64 m (coefficient gf64 (take (most + 1) locator)) (point_of n j)) long
+        ∙ value_same gf64 (most + 1) (coefficient gf64 (take (most + 1) locator)) (coefficient gf64 locator) (point_of n j) (λ k low. get_or-take (most + 1) locator k gf64.zero low)
+
+-- the errors between a received word and a word of the code within the radius
+pub difference_errors : (n k : ℕ) (received word syndromes : List Sym) → IsCode n k → length received ≡ n → IsWord n k word → ((r : ℕ) → r < n - k → coefficient gf64 syndromes r ≡ value_of n received (r + 1))
+    → 2 * distance_by same_symbols received word ≤ n - k
+    → AreErrors n (n - k) syndromes (λ j. gf64.add (coefficient gf64 received j) (coefficient gf64 word j))
+difference_errors n k received word syndromes code long of_code are near =
+    let errors : ℕ → Sym = λ j. gf64.add (coefficient gf64 received j) (coefficient gf64 word j) in
+    record {
+      few = omega (arith, near, distance-nonzeros received word (long ∙ sym of_code.long), ap (λ m. nonzeros gf64 m errors) long);
+      sums = λ r below.
+          sym (value-power_sum n errors (r + 1))
+          ∙ front_value-add n (coefficient gf64 received) (coefficient gf64 word) (r + 1)
+          ∙ ap (gf64.add (value_of n received (r + 1))) (of_code.vanishes (r + 1) (omega arith) (omega arith))
+          ∙ add_zero gf64 (value_of n received (r + 1))
+          ∙ sym (are r below);
+    }

@@ -1,0 +1,144 @@
+-- How far paths differ, and what lies so near to one that no other is as near. By induction on the symbols: two states ask for no more bits than a step
+-- differs in and the states after it ask for.
+use Rattle.std.proofs.Common.{◌≡◌, ◌≢◌, ℕ, zero, suc, ◌+◌, ◌*◌, ◌<◌, ◌≤◌, inl, inr, Bool, false, eqb, List, [], ◌∷◌, ◌++◌, length, take, refl, ap, ap₂, sym, subst, ◌∙◌, arith}
+use Rattle.std.proofs.lemmas.Bool.{cases_Bool, eqb-true, eq-eqb}
+use Rattle.p25_bits.specs.Distance.{distance_of}
+use Rattle.p25_bits.proofs.DistanceLaws.{distance_of-same, distance_of-sym, distance_of-triangle}
+use Rattle.std.proofs.lemmas.List.{take_all}
+use Rattle.p25_bits.specs.Bits.{part}
+use Rattle.p25_trellis.specs.Interleave.{interleaved}
+use Rattle.p25_trellis.specs.Tables.{nibble_distance}
+use Rattle.p25_trellis.specs.Trellis.{IsPath, IsBlock, Carries, IsFirstLeastReading, IsNearReading, nibbles_from, sent_bits, distance_from}
+use Rattle.p25_trellis.specs.Least.{IsEnd}
+use Rattle.p25_trellis.proofs.InterleaveLaws.{weighed, length-interleaved}
+use Rattle.p25_bits.proofs.NumbersLaws.{length-number_bits}
+use Rattle.p25_trellis.proofs.PathLaws.{length-nibbles_from, same_octets}
+use Rattle.p25_trellis.proofs.FirstPathLaws.{IsEnd-from_path}
+use Rattle.p25_trellis.proofs.DistanceLaws.{distance_of-interleaved}
+
+-- what the nibbles of symbols weigh against those of others, step by step
+weighed-nibbles : (point : ℕ → ℕ → ℕ) (a b x y : ℕ) (xs ys : List ℕ)
+    → weighed nibble_distance (nibbles_from point a (x ∷ xs)) (nibbles_from point b (y ∷ ys)) ≡ nibble_distance (point a x) (point b y) + weighed nibble_distance (nibbles_from point x xs) (nibbles_from point y ys)
+unfolding weighed nibbles_from
+weighed-nibbles point a b x y xs ys = refl
+
+weighed-last : (point : ℕ → ℕ → ℕ) (a b : ℕ) → weighed nibble_distance (nibbles_from point a (0 ∷ [])) (nibbles_from point b (0 ∷ [])) ≡ nibble_distance (point a 0) (point b 0)
+unfolding weighed nibbles_from
+weighed-last point a b = omega arith
+
+-- ends from two states differ in as many bits as the two states ask for
+parted-le : (states : ℕ) (point parted : ℕ → ℕ → ℕ) → 0 < states → parted 0 0 ≡ 0
+    → ((a b x y : ℕ) → a < states → b < states → x < states → y < states → parted a b ≤ nibble_distance (point a x) (point b y) + parted x y)
+    → (before a b : ℕ) (xs ys : List ℕ) → a < states → b < states → IsEnd states before xs → IsEnd states before ys
+    → parted a b ≤ weighed nibble_distance (nibbles_from point a xs) (nibbles_from point b ys)
+parted-le states point parted some together stays zero a b xs ys ha hb ends_x ends_y =
+    let whole = ap₂ (λ (us vs : List ℕ). weighed nibble_distance (nibbles_from point a us) (nibbles_from point b vs)) ends_x ends_y in
+    omega (arith, whole, weighed-last point a b, stays a b 0 0 ha hb some some, together)
+parted-le states point parted some together stays (suc before) a b [] ys ha hb ends_x ends_y = absurd ends_x
+parted-le states point parted some together stays (suc before) a b (x ∷ xs) [] ha hb ends_x ends_y = absurd ends_y
+parted-le states point parted some together stays (suc before) a b (x ∷ xs) (y ∷ ys) ha hb ends_x ends_y =
+    omega (
+      arith,
+      weighed-nibbles point a b x y xs ys,
+      stays a b x y ha hb ends_x.0 ends_y.0,
+      parted-le states point parted some together stays before x y xs ys ends_x.0 ends_y.0 ends_x.1 ends_y.1,
+    )
+
+-- ends from one state that differ in few bits are one
+same_from_near : (states apart : ℕ) (point parted : ℕ → ℕ → ℕ) → 0 < states → parted 0 0 ≡ 0
+    → ((a b x y : ℕ) → a < states → b < states → x < states → y < states → parted a b ≤ nibble_distance (point a x) (point b y) + parted x y)
+    → ((state x y : ℕ) → state < states → x < states → y < states → x ≢ y → apart ≤ nibble_distance (point state x) (point state y) + parted x y)
+    → (before state : ℕ) (xs ys : List ℕ) → state < states → IsEnd states before xs → IsEnd states before ys
+    → weighed nibble_distance (nibbles_from point state xs) (nibbles_from point state ys) < apart → xs ≡ ys
+same_from_near states apart point parted some together stays parts zero state xs ys row ends_x ends_y near = ends_x ∙ sym ends_y
+same_from_near states apart point parted some together stays parts (suc before) state [] ys row ends_x ends_y near = absurd ends_x
+same_from_near states apart point parted some together stays parts (suc before) state (x ∷ xs) [] row ends_x ends_y near = absurd ends_y
+same_from_near states apart point parted some together stays parts (suc before) state (x ∷ xs) (y ∷ ys) row ends_x ends_y near =
+    elim (cases_Bool (eqb x y)) [
+      | inl one ↦
+          let same : x ≡ y = eqb-true x y one in
+          let rest : weighed nibble_distance (nibbles_from point x xs) (nibbles_from point x ys) < apart
+          = omega (arith, near, weighed-nibbles point state state x y xs ys, ap (λ s. weighed nibble_distance (nibbles_from point x xs) (nibbles_from point s ys)) same) in
+          ap₂ ◌∷◌ same (same_from_near states apart point parted some together stays parts before x xs ys ends_x.0 ends_x.1 ends_y.1 rest)
+      | inr two ↦
+          let differ : x ≢ y = λ same. differs same two in
+          absurd (
+          omega (
+            arith,
+            near,
+            weighed-nibbles point state state x y xs ys,
+            parts state x y row ends_x.0 ends_y.0 differ,
+            parted-le states point parted some together stays before x y xs ys ends_x.0 ends_y.0 ends_x.1 ends_y.1,
+          )
+          )
+    ]
+  where
+    differs : x ≡ y → eqb x y ≡ false → ⊥
+    differs same two = let one = eq-eqb x y same in cc
+
+-- a path has 196 sent bits
+pub length-sent_bits : (states : ℕ) (point : ℕ → ℕ → ℕ) (path : List ℕ) → IsPath states path → length (sent_bits point path) ≡ 196
+unfolding sent_bits
+length-sent_bits states point path is =
+    let nibbles = nibbles_from point 0 path in
+    let count : length (interleaved nibbles) ≡ 49 = length-interleaved nibbles ∙ length-nibbles_from point 0 path ∙ is.long in
+    length-number_bits 4 (interleaved nibbles) ∙ ap (λ n. 4 * n) count
+
+-- paths whose sent bits differ in few places are one
+pub same_from_sent_bits : (states apart : ℕ) (point parted : ℕ → ℕ → ℕ) → 0 < states → parted 0 0 ≡ 0
+    → ((a b x y : ℕ) → a < states → b < states → x < states → y < states → parted a b ≤ nibble_distance (point a x) (point b y) + parted x y)
+    → ((state x y : ℕ) → state < states → x < states → y < states → x ≢ y → apart ≤ nibble_distance (point state x) (point state y) + parted x y)
+    → (path other : List ℕ) → IsPath states path → IsPath states other → distance_of (sent_bits point path) (sent_bits point other) < apart → path ≡ other
+unfolding sent_bits
+same_from_sent_bits states apart point parted some together stays parts path other is other_is near =
+    let count : length (nibbles_from point 0 path) ≡ length (nibbles_from point 0 other)
+    = length-nibbles_from point 0 path ∙ is.long ∙ sym other_is.long ∙ sym (length-nibbles_from point 0 other) in
+    same_from_near states apart point parted some together stays parts 48 0 path other some (IsEnd-from_path states path is) (IsEnd-from_path states other other_is)
+    (omega (arith, near, distance_of-interleaved (nibbles_from point 0 path) (nibbles_from point 0 other) count))
+
+-- a block so near to received bits is that of the first nearest path
+pub IsNearReading-from : (states width apart : ℕ) (point : ℕ → ℕ → ℕ) (received : List Bool) (octets : List ℕ) (distance : ℕ)
+    → ((path other : List ℕ) → IsPath states path → IsPath states other → distance_of (sent_bits point path) (sent_bits point other) < apart → path ≡ other)
+    → length received ≡ 196 → IsFirstLeastReading states width (distance_from point received) octets distance
+    → IsNearReading states width point apart received octets distance
+IsNearReading-from states width apart point received octets distance far long reading =
+    record { near_octets = octets_of_near; near_distance = distance_of_near }
+  where
+    one_path : (sent : List ℕ) (block : List Bool) (is : IsBlock states width point sent block) → 2 * distance_of block received < apart → is.path ≡ reading.path
+    one_path sent block is near =
+        let first = reading.first_least in
+        let here : distance_of (sent_bits point is.path) received ≡ distance_of block received = ap (λ (bits : List Bool). distance_of bits received) (sym is.sent) in
+        let count : length (sent_bits point is.path) ≡ length received = length-sent_bits states point is.path is.is_path ∙ sym long in
+        far is.path reading.path is.is_path first.is_path
+        (
+        omega (
+          arith,
+          near,
+          here,
+          first.least is.path is.is_path,
+          distance_of-triangle (sent_bits point is.path) received (sent_bits point reading.path) count,
+          distance_of-sym received (sent_bits point reading.path),
+        )
+        )
+
+    octets_of_near : (sent : List ℕ) (block : List Bool) → IsBlock states width point sent block → 2 * distance_of block received < apart → octets ≡ sent
+    octets_of_near sent block is near =
+        same_octets width reading.path octets sent reading.carries (subst (λ (path : List ℕ). Carries width path sent) (one_path sent block is near) is.carries)
+
+    distance_of_near : (sent : List ℕ) (block : List Bool) → IsBlock states width point sent block → 2 * distance_of block received < apart → distance ≡ distance_of block received
+    distance_of_near sent block is near =
+        reading.total_is ∙ ap (distance_from point received) (sym (one_path sent block is near)) ∙ ap (λ (bits : List Bool). distance_of bits received) (sym is.sent)
+
+-- a block has 196 bits
+pub length-block : (states width : ℕ) (point : ℕ → ℕ → ℕ) (octets : List ℕ) (block : List Bool) → IsBlock states width point octets block → length block ≡ 196
+length-block states width point octets block is = ap length is.sent ∙ length-sent_bits states point is.path is.is_path
+
+-- a block that is all that was received is at no distance
+pub distance_of-block : (states width : ℕ) (point : ℕ → ℕ → ℕ) (octets : List ℕ) (before received block : List Bool) → before ≡ [] → received ≡ before ++ block
+    → IsBlock states width point octets block → distance_of block (part 0 196 received) ≡ 0
+distance_of-block states width point octets before received block none all is =
+    let long : length block ≡ 196 = length-block states width point octets block is in
+    let short : length block ≤ 196 = omega arith in
+    let same : part 0 196 received ≡ block
+    = ap (λ (bits : List Bool). take 196 bits) (all ∙ ap (λ (bits : List Bool). bits ++ block) none) ∙ take_all 196 block short in
+    ap (distance_of block) same ∙ distance_of-same block

@@ -1,0 +1,231 @@
+-- The least cost of what follows a state, from the last step to the first: the least over its symbols of what the step and the rest cost.
+use Rattle.std.proofs.Common.{◌≡◌, ◌≢◌, ℕ, zero, suc, ◌+◌, ◌*◌, ◌<◌, ◌≤◌, inl, inr, List, [], ◌∷◌, length, get_or, set, refl, ap, ap₂, sym, subst, ◌∙◌, arith, All, below_more, get_or-set_same, get_or-set_other, ◌-◌, ◌^◌, add-one}
+use Rattle.std.proofs.Math.Nat.{mul-suc, mul-le-mul_left}
+use Rattle.std.proofs.lemmas.Bool.{cases_lt}
+use Rattle.std.proofs.lemmas.List.{get_or_past}
+use Rattle.p25_trellis.proofs.PathLaws.{length-nibbles_from}
+use Rattle.p25_trellis.specs.Trellis.{nibbles_from}
+use Rattle.p25_trellis.specs.Costs.{total_cost, symbols_cost, cost_in}
+use Rattle.p25_trellis.specs.Least.{rest_in, step_cost, IsEnd, IsLeastEnd, HasLeastFrom, IsLowestLeast}
+
+-- the first symbol is the lowest least of one
+pub IsLowestLeast-one : (value : ℕ → ℕ) (least : ℕ) → least ≡ value 0 → IsLowestLeast 1 value 0 least
+IsLowestLeast-one value least is = record {
+  below = omega arith;
+  is = sym is;
+  none_less = λ other below. first other below;
+  lowest = λ other below. absurd (omega arith);
+}
+  where
+    first : (other : ℕ) → other < 1 → least ≤ value other
+    first zero below = omega arith
+    first (suc other) below = absurd (omega arith)
+
+-- a symbol that costs less than all before it is the lowest least with it
+pub IsLowestLeast-less : (states : ℕ) (value : ℕ → ℕ) (symbol least new : ℕ) → IsLowestLeast states value symbol least → new ≡ value states → new < least → IsLowestLeast (states + 1) value states new
+IsLowestLeast-less states value symbol least new was is less = record {
+  below = omega arith;
+  is = sym is;
+  none_less = below_more (λ k. new ≤ value k) states (λ k below. omega (arith, was.none_less k below)) (omega arith);
+  lowest = λ other below. omega (arith, was.none_less other below);
+}
+
+-- and else the lowest least stays
+pub IsLowestLeast-kept : (states : ℕ) (value : ℕ → ℕ) (symbol least new : ℕ) → IsLowestLeast states value symbol least → new ≡ value states → least ≤ new → IsLowestLeast (states + 1) value symbol least
+IsLowestLeast-kept states value symbol least new was is more = record {
+  below = omega (arith, was.below);
+  is = was.is;
+  none_less = below_more (λ k. least ≤ value k) states was.none_less (omega arith);
+  lowest = was.lowest;
+}
+
+-- costs of nibbles are at most so many times the limit
+pub total_cost-le : (cost : ℕ → ℕ → ℕ) (limit step : ℕ) (nibbles : List ℕ) → ((i n : ℕ) → cost i n ≤ limit) → total_cost cost step nibbles ≤ limit * length nibbles
+unfolding total_cost
+total_cost-le cost limit step [] low = omega arith
+total_cost-le cost limit step (nibble ∷ nibbles) low = omega (arith, low step nibble, total_cost-le cost limit (suc step) nibbles low, mul-suc limit (length nibbles))
+
+-- a cost in a table is at most the limit of its numbers
+pub cost_in-le : (table : List ℕ) (limit step nibble : ℕ) → All (λ cost. cost ≤ limit) table → cost_in table step nibble ≤ limit
+unfolding cost_in
+cost_in-le table limit step nibble low = elim (cases_lt (16 * step + nibble) (length table)) [
+  | inl inside ↦ low (16 * step + nibble) 0 inside
+  | inr past ↦ omega (arith, get_or_past table (16 * step + nibble) 0 past)
+]
+
+-- the cost of a symbol and what follows it
+pub symbols_cost-cons : (point cost : ℕ → ℕ → ℕ) (step state symbol : ℕ) (symbols : List ℕ) → symbols_cost point cost step state (symbol ∷ symbols) ≡ cost step (point state symbol) + symbols_cost point cost (suc step) symbol symbols
+unfolding symbols_cost total_cost nibbles_from
+symbols_cost-cons point cost step state symbol symbols = refl
+
+pub symbols_cost-last : (point cost : ℕ → ℕ → ℕ) (step state : ℕ) → symbols_cost point cost step state (0 ∷ []) ≡ cost step (point state 0)
+unfolding symbols_cost total_cost nibbles_from
+symbols_cost-last point cost step state = omega arith
+
+-- the end of a path has one symbol more than stand before its 0
+pub length-end : (states before : ℕ) (symbols : List ℕ) → IsEnd states before symbols → length symbols ≡ suc before
+length-end states zero symbols is = ap length is
+length-end states (suc before) [] is = absurd is
+length-end states (suc before) (symbol ∷ symbols) is = ap suc (length-end states before symbols is.1)
+
+-- what a table has for a state after a write for another
+pub rest_in-other : (table : List ℕ) (step state other_step other value : ℕ) → state < 8 → other < 8 → 8 * other_step + other ≢ 8 * step + state
+    → rest_in (set table (8 * step + state) value) other_step other ≡ rest_in table other_step other
+unfolding rest_in
+rest_in-other table step state other_step other value row column differ =
+    get_or-set_other table (8 * step + state) (8 * other_step + other) value 0 differ
+
+pub rest_in-same : (table : List ℕ) (step state value : ℕ) → 8 * step + state < length table → rest_in (set table (8 * step + state) value) step state ≡ value
+unfolding rest_in
+rest_in-same table step state value inside = get_or-set_same table (8 * step + state) value 0 inside
+
+-- what the lowest least symbol of a step costs is the least that can follow the state
+pub IsLeastEnd-step : (states : ℕ) (point : ℕ → ℕ → ℕ) (costs rests : List ℕ) (step before state symbol least : ℕ)
+    → HasLeastFrom states point (cost_in costs) rests (suc step) → step + suc before ≡ 48
+    → IsLowestLeast states (step_cost point costs rests step state) symbol least
+    → IsLeastEnd states (suc before) (symbols_cost point (cost_in costs) step state) least
+unfolding step_cost
+IsLeastEnd-step states point costs rests step before state symbol least after place choice =
+    let next : suc step + before ≡ 48 = omega arith in
+    let rest = after.at (suc step) before symbol (omega arith) next choice.below in record {
+      end = symbol ∷ rest.end;
+      is_end = (choice.below, rest.is_end);
+      costs = symbols_cost-cons point (cost_in costs) step state symbol rest.end ∙ ap (λ n. cost_in costs step (point state symbol) + n) rest.costs ∙ choice.is;
+      none_less = no_end;
+    }
+  where
+    no_end : (other : List ℕ) → IsEnd states (suc before) other → least ≤ symbols_cost point (cost_in costs) step state other
+    no_end [] is = absurd is
+    no_end (y ∷ ys) is =
+        let next : suc step + before ≡ 48 = omega arith in
+        let rest = after.at (suc step) before y (omega arith) next is.0 in
+        omega (arith, choice.none_less y is.0, rest.none_less ys is.1, symbols_cost-cons point (cost_in costs) step state y ys)
+
+-- the costs of a table with small costs have small sums
+pub least-le : (states before step state least : ℕ) (point cost : ℕ → ℕ → ℕ) (limit : ℕ) → ((i n : ℕ) → cost i n ≤ limit) → IsLeastEnd states before (symbols_cost point cost step state) least → least ≤ limit * suc before
+unfolding symbols_cost
+least-le states before step state least point cost limit low is =
+    let long : length (nibbles_from point state is.end) ≡ suc before = length-nibbles_from point state is.end ∙ length-end states before is.end is.is_end in
+    omega (arith, is.costs, total_cost-le cost limit step (nibbles_from point state is.end) low, ap (λ n. limit * n) long)
+
+pub step_cost-lt : (states : ℕ) (point : ℕ → ℕ → ℕ) (costs rests : List ℕ) (step state symbol : ℕ) → All (λ cost. cost ≤ 2 ^ 24) costs
+    → HasLeastFrom states point (cost_in costs) rests (suc step) → step < 48 → symbol < states → step_cost point costs rests step state symbol < 2 ^ 32
+unfolding step_cost
+step_cost-lt states point costs rests step state symbol low after early below =
+    let before = 47 - step in
+    let place : suc step + before ≡ 48 = omega arith in
+    let here = cost_in-le costs (2 ^ 24) step (point state symbol) low in
+    let rest = least-le states before (suc step) symbol (rest_in rests (suc step) symbol) point (cost_in costs) (2 ^ 24) (λ i n. cost_in-le costs (2 ^ 24) i n low) (after.at (suc step) before symbol (omega arith) place below) in
+    let short : suc before ≤ 48 = omega arith in
+    omega (arith, here, rest, mul-le-mul_left (2 ^ 24) short)
+
+-- the sum of what two tables have is the cost of the step
+pub step_cost-sum : (point : ℕ → ℕ → ℕ) (costs rests : List ℕ) (step state symbol nibble column : ℕ) → nibble ≡ point state symbol → column ≡ symbol
+    → get_or costs (16 * step + nibble) 0 + get_or rests (8 * (step + 1) + column) 0 ≡ step_cost point costs rests step state symbol
+unfolding step_cost cost_in rest_in
+step_cost-sum point costs rests step state symbol nibble column is same =
+    ap₂ ◌+◌ (ap (λ n. get_or costs (16 * step + n) 0) is) (rw add-one (ap (λ n. get_or rests (8 * suc step + n) 0) same))
+
+-- one more state of the last step is filled in
+pub last_more : (point : ℕ → ℕ → ℕ) (costs rests : List ℕ) (state column nibble : ℕ) → state < 8 → length rests ≡ 392 → column ≡ state → nibble ≡ point state 0
+    → ((s : ℕ) → s < state → rest_in rests 48 s ≡ cost_in costs 48 (point s 0)) → (s : ℕ) → s < state + 1
+    → rest_in (set rests (384 + column) (get_or costs (768 + nibble) 0)) 48 s ≡ cost_in costs 48 (point s 0)
+unfolding rest_in cost_in
+last_more point costs rests state column nibble row long same is so_far =
+    let value = get_or costs (768 + nibble) 0 in
+    let inside : 384 + column < length rests = omega arith in
+    below_more (λ s. get_or (set rests (384 + column) value) (384 + s) 0 ≡ get_or costs (768 + point s 0) 0) state
+    (λ s below. let other : 384 + s ≢ 384 + column = omega arith in get_or-set_other rests (384 + column) (384 + s) value 0 other ∙ so_far s below)
+    (
+    ap (λ n. get_or (set rests (384 + column) value) (384 + n) 0) (sym same)
+    ∙ get_or-set_same rests (384 + column) value 0 inside
+    ∙ ap (λ n. get_or costs (768 + n) 0) is
+    )
+
+-- the least that can follow the last step is the cost of its symbol 0
+pub HasLeastFrom-last : (states : ℕ) (point : ℕ → ℕ → ℕ) (costs rests : List ℕ) → ((s : ℕ) → s < states → rest_in rests 48 s ≡ cost_in costs 48 (point s 0)) → HasLeastFrom states point (cost_in costs) rests 48
+HasLeastFrom-last states point costs rests last = record { at = at_last }
+  where
+    at_last : (step before state : ℕ) → 48 ≤ step → step + before ≡ 48 → state < states → IsLeastEnd states before (symbols_cost point (cost_in costs) step state) (rest_in rests step state)
+    at_last step (suc before) state late place row = absurd (omega arith)
+    at_last step zero state late place row =
+        let at_end : 48 ≡ step = omega arith in
+        let value : rest_in rests step state ≡ cost_in costs step (point state 0)
+        = subst (λ (i : ℕ). rest_in rests i state ≡ cost_in costs i (point state 0)) at_end (last state row) in
+        let cost : symbols_cost point (cost_in costs) step state (0 ∷ []) ≡ rest_in rests step state
+        = symbols_cost-last point (cost_in costs) step state ∙ sym value in record {
+          end = 0 ∷ [];
+          is_end = refl;
+          costs = cost;
+          none_less = λ other is. omega (arith, ap (symbols_cost point (cost_in costs) step state) is, cost);
+        }
+
+-- a write for a state of a step changes nothing of the steps after it
+pub HasLeastFrom-write : (states : ℕ) (point cost : ℕ → ℕ → ℕ) (rests : List ℕ) (step column value : ℕ) → states ≤ 8 → column < 8
+    → HasLeastFrom states point cost rests (suc step) → HasLeastFrom states point cost (set rests (8 * step + column) value) (suc step)
+HasLeastFrom-write states point cost rests step column value few row after = record {
+  at = λ later before state late place below.
+      let other : 8 * later + state ≢ 8 * step + column = omega arith in
+      subst
+      (λ (least : ℕ). IsLeastEnd states before (symbols_cost point cost later state) least)
+      (sym (rest_in-other rests step column later state value row (omega arith) other))
+      (after.at later before state late place below);
+}
+
+-- one more state of a step is filled in
+pub here_more : (states : ℕ) (point cost : ℕ → ℕ → ℕ) (rests : List ℕ) (step state column value : ℕ) → states ≤ 8 → state < states → step < 48
+    → length rests ≡ 392 → column ≡ state
+    → ((before s : ℕ) → step + before ≡ 48 → s < state → IsLeastEnd states before (symbols_cost point cost step s) (rest_in rests step s))
+    → ((before : ℕ) → step + before ≡ 48 → IsLeastEnd states before (symbols_cost point cost step state) value) → (before s : ℕ) → step + before ≡ 48
+    → s < state + 1 → IsLeastEnd states before (symbols_cost point cost step s) (rest_in (set rests (8 * step + column) value) step s)
+here_more states point cost rests step state column value few below early long same so_far now before s place more =
+    below_more (λ t. IsLeastEnd states before (symbols_cost point cost step t) (rest_in (set rests (8 * step + column) value) step t)) state earlier here s more
+  where
+    earlier : (t : ℕ) → t < state → IsLeastEnd states before (symbols_cost point cost step t) (rest_in (set rests (8 * step + column) value) step t)
+    earlier t lower =
+        let other : 8 * step + t ≢ 8 * step + column = omega arith in
+        subst
+        (λ (least : ℕ). IsLeastEnd states before (symbols_cost point cost step t) least)
+        (sym (rest_in-other rests step column step t value (omega arith) (omega arith) other))
+        (so_far before t place lower)
+
+    here : IsLeastEnd states before (symbols_cost point cost step state) (rest_in (set rests (8 * step + column) value) step state)
+    here =
+        let inside : 8 * step + column < length rests = omega arith in
+        subst
+        (λ (least : ℕ). IsLeastEnd states before (symbols_cost point cost step state) least)
+        (sym (ap (λ n. rest_in (set rests (8 * step + column) value) step n) (sym same) ∙ rest_in-same rests step column value inside))
+        (now before place)
+
+-- all states of a step are filled in
+pub HasLeastFrom-more : (states : ℕ) (point cost : ℕ → ℕ → ℕ) (rests : List ℕ) (step : ℕ) → HasLeastFrom states point cost rests (suc step)
+    → ((before s : ℕ) → step + before ≡ 48 → s < states → IsLeastEnd states before (symbols_cost point cost step s) (rest_in rests step s))
+    → HasLeastFrom states point cost rests step
+HasLeastFrom-more states point cost rests step after here = record { at = at_step }
+  where
+    at_step : (other before state : ℕ) → step ≤ other → other + before ≡ 48 → state < states → IsLeastEnd states before (symbols_cost point cost other state) (rest_in rests other state)
+    at_step other before state late place row = elim (cases_lt step other) [
+      | inl later ↦ after.at other before state later place row
+      | inr not_later ↦
+          let same : step ≡ other = omega arith in
+          let there : step + before ≡ 48 = omega arith in
+          subst (λ (i : ℕ). IsLeastEnd states before (symbols_cost point cost i state) (rest_in rests i state)) same (here before state there row)
+    ]
+
+-- the same with the number of symbols before the end told by the step
+pub IsLeastEnd-at : (states : ℕ) (point : ℕ → ℕ → ℕ) (costs rests : List ℕ) (step state symbol least : ℕ) → step < 48
+    → HasLeastFrom states point (cost_in costs) rests (suc step) → IsLowestLeast states (step_cost point costs rests step state) symbol least → (before : ℕ)
+    → step + before ≡ 48 → IsLeastEnd states before (symbols_cost point (cost_in costs) step state) least
+IsLeastEnd-at states point costs rests step state symbol least early after choice zero place = absurd (omega arith)
+IsLeastEnd-at states point costs rests step state symbol least early after choice (suc before) place =
+    IsLeastEnd-step states point costs rests step before state symbol least after place choice
+
+-- what a table has from a step on it has from a later one on
+pub HasLeastFrom-later : (states : ℕ) (point cost : ℕ → ℕ → ℕ) (rests : List ℕ) (from later : ℕ) → from ≤ later → HasLeastFrom states point cost rests from → HasLeastFrom states point cost rests later
+HasLeastFrom-later states point cost rests from later order has = record {
+  at = λ step before state late place row. has.at step before state (omega arith) place row;
+}
+
+pub rest_in-first : (table : List ℕ) → rest_in table 0 0 ≡ get_or table 0 0
+unfolding rest_in
+rest_in-first table = refl

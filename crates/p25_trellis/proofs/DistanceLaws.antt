@@ -1,0 +1,98 @@
+-- The distance of sent bits as a sum over nibbles.
+use Rattle.std.proofs.Common.{◌≡◌, ℕ, suc, ◌+◌, ◌<◌, ◌≤◌, Bool, List, [], ◌∷◌, length, drop, get_or, refl, ap, ap₂, sym, ◌∙◌, arith, All}
+use Rattle.std.specs.Bool.{beq}
+use Rattle.std.proofs.lemmas.List.{drop_more}
+use Rattle.std.proofs.lemmas.List.Elements.{All-cons, All-nil, All-head, All-tail}
+use Rattle.p25_bits.specs.Bits.{bits_of}
+use Rattle.p25_bits.specs.Distance.{distance_of}
+use Rattle.p25_bits.proofs.BitsLaws.{length-bits_of}
+use Rattle.p25_bits.proofs.DistanceLaws.{distance_by-append, distance_by-nil, distance_by-le}
+use Rattle.p25_trellis.specs.Interleave.{interleaved}
+use Rattle.p25_trellis.specs.Tables.{nibble_distance}
+use Rattle.p25_bits.specs.Numbers.{number_bits}
+use Rattle.p25_trellis.specs.Trellis.{nibbles_from, sent_bits, distance_from, IsPath, IsFirstLeastReading}
+use Rattle.p25_trellis.specs.Costs.{total_cost, symbols_cost, path_cost, cost_in}
+use Rattle.p25_trellis.specs.Least.{IsDistanceTable}
+use Rattle.p25_trellis.proofs.InterleaveLaws.{weighed, weighed-interleaved, length-interleaved}
+use Rattle.p25_trellis.proofs.PathLaws.{length-nibbles_from}
+
+-- two nibbles differ in at most four bits
+pub nibble_distance-le : (a b : ℕ) → nibble_distance a b ≤ 4
+unfolding nibble_distance
+nibble_distance-le a b = omega (arith, distance_by-le beq (bits_of 4 a) (bits_of 4 b), length-bits_of 4 a)
+
+-- bits of nibbles differ as the nibbles do
+distance_of-nibbles : (xs ys : List ℕ) → length xs ≡ length ys → distance_of (number_bits 4 xs) (number_bits 4 ys) ≡ weighed nibble_distance xs ys
+unfolding number_bits weighed nibble_distance
+distance_of-nibbles [] [] long = distance_by-nil beq []
+distance_of-nibbles [] (y ∷ ys) long = absurd (omega arith)
+distance_of-nibbles (x ∷ xs) [] long = absurd (omega arith)
+distance_of-nibbles (x ∷ xs) (y ∷ ys) long =
+    distance_by-append beq (bits_of 4 x) (number_bits 4 xs) (bits_of 4 y) (number_bits 4 ys) (length-bits_of 4 x ∙ sym (length-bits_of 4 y))
+    ∙ ap (λ n. distance_of (bits_of 4 x) (bits_of 4 y) + n) (distance_of-nibbles xs ys (omega arith))
+
+-- and so do interleaved ones
+pub distance_of-interleaved : (xs ys : List ℕ) → length xs ≡ length ys → distance_of (number_bits 4 (interleaved xs)) (number_bits 4 (interleaved ys)) ≡ weighed nibble_distance xs ys
+distance_of-interleaved xs ys long =
+    distance_of-nibbles (interleaved xs) (interleaved ys) (length-interleaved xs ∙ long ∙ sym (length-interleaved ys)) ∙ weighed-interleaved nibble_distance xs ys long
+
+-- the nibbles of small symbols are small
+pub All-nibbles_from : (states : ℕ) (point : ℕ → ℕ → ℕ) → ((state symbol : ℕ) → state < states → symbol < states → point state symbol < 16)
+    → (state : ℕ) (path : List ℕ) → state < states → All (λ n. n < states) path → All (λ n. n < 16) (nibbles_from point state path)
+unfolding nibbles_from
+All-nibbles_from states point small state [] row all = All-nil (λ (n : ℕ). n < 16)
+All-nibbles_from states point small state (symbol ∷ path) row all =
+    let P : ℕ → Type 0 = λ n. n < states in
+    let here : symbol < states = All-head P symbol path all in
+    All-cons (λ (n : ℕ). n < 16) (point state symbol) (nibbles_from point symbol path) (small state symbol row here) (All-nibbles_from states point small symbol path here (All-tail P symbol path all))
+
+weighed-drop : {Y : Type 0} (weight : ℕ → Y → ℕ) (nibble : ℕ) (nibbles : List ℕ) (received : List Y) (step : ℕ) (d : Y) → step < length received
+    → weighed weight (nibble ∷ nibbles) (drop step received) ≡ weight nibble (get_or received step d) + weighed weight nibbles (drop (suc step) received)
+unfolding weighed
+weighed-drop weight nibble nibbles received step d inside =
+    let more : step + 1 ≡ suc step = omega arith in
+    ap (weighed weight (nibble ∷ nibbles)) (drop_more received step d inside)
+    ∙ ap (λ i. weight nibble (get_or received step d) + weighed weight nibbles (drop i received)) more
+
+-- what nibbles cost in a table is what they weigh against what was received, where each cost in the table is a weight
+pub total_cost-weighed : {Y : Type 0} (weight : ℕ → Y → ℕ) (received : List Y) (d : Y) (costs : List ℕ)
+    → ((step nibble : ℕ) → step < 49 → nibble < 16 → cost_in costs step nibble ≡ weight nibble (get_or received step d)) → length received ≡ 49
+    → (step : ℕ) (nibbles : List ℕ) → step + length nibbles ≡ 49 → All (λ n. n < 16) nibbles
+    → total_cost (cost_in costs) step nibbles ≡ weighed weight nibbles (drop step received)
+unfolding total_cost weighed
+total_cost-weighed weight received d costs table long step [] place small = refl
+total_cost-weighed weight received d costs table long step (nibble ∷ nibbles) place small =
+    let P : ℕ → Type 0 = λ n. n < 16 in
+    let inside : step < length received = omega arith in
+    let next : suc step + length nibbles ≡ 49 = omega arith in
+    ap₂ ◌+◌ (table step nibble (omega arith) (All-head P nibble nibbles small)) (total_cost-weighed weight received d costs table long (suc step) nibbles next (All-tail P nibble nibbles small))
+    ∙ sym (weighed-drop weight nibble nibbles received step d inside)
+
+-- what a path costs in the table is its distance from what was received
+pub path_cost-distance : (states : ℕ) (point : ℕ → ℕ → ℕ) (received costs : List ℕ) (bits : List Bool) → 0 < states
+    → ((state symbol : ℕ) → state < states → symbol < states → point state symbol < 16) → IsDistanceTable received costs → length received ≡ 49
+    → bits ≡ number_bits 4 (interleaved received) → (path : List ℕ) → IsPath states path → path_cost point (cost_in costs) path ≡ distance_from point bits path
+unfolding symbols_cost sent_bits
+path_cost-distance states point received costs bits some small table long are path is =
+    let nibbles = nibbles_from point 0 path in
+    let count : length nibbles ≡ 49 = length-nibbles_from point 0 path ∙ is.long in
+    let whole : 0 + length nibbles ≡ 49 = omega arith in
+    total_cost-weighed nibble_distance received 0 costs table.at long 0 nibbles whole (All-nibbles_from states point small 0 path some is.below)
+    ∙ sym (distance_of-interleaved nibbles received (count ∙ sym long))
+    ∙ ap (distance_of (number_bits 4 (interleaved nibbles))) (sym are)
+
+-- costs that are the same for every path have the same first least path
+pub IsFirstLeastReading-same : (states width : ℕ) (f g : List ℕ → ℕ) (octets : List ℕ) (total : ℕ) → ((path : List ℕ) → IsPath states path → f path ≡ g path)
+    → IsFirstLeastReading states width f octets total → IsFirstLeastReading states width g octets total
+IsFirstLeastReading-same states width f g octets total same reading =
+    let first = reading.first_least in
+    let here = same reading.path first.is_path in record {
+      path = reading.path;
+      first_least = record {
+        is_path = first.is_path;
+        least = λ other is. omega (arith, first.least other is, same other is, here);
+        first = λ other is equal. first.first other is (same other is ∙ equal ∙ sym here);
+      };
+      carries = reading.carries;
+      total_is = reading.total_is ∙ here;
+    }

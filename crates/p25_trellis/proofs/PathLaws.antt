@@ -1,0 +1,94 @@
+-- Paths, their nibbles and what they carry.
+use Rattle.std.proofs.Common.{◌≡◌, ℕ, suc, ◌+◌, ◌*◌, ◌^◌, ◌<◌, ◌≤◌, Bool, List, [], ◌∷◌, ◌++◌, length, take, drop, get_or, set, refl, ap, ap₂, sym, subst, ◌∙◌, arith, append_assoc, All}
+use Rattle.std.proofs.lemmas.List.{take-append-drop, take_more_set, drop_more, take_all, length-take-le}
+use Rattle.std.proofs.lemmas.List.Elements.{All-cons, All-nil, All-append, All-same, All-take}
+use Rattle.std.proofs.lemmas.Nat.{pow_pos}
+use Rattle.p25_bits.specs.Bits.{part}
+use Rattle.p25_bits.specs.Numbers.{number_bits}
+use Rattle.p25_trellis.specs.Trellis.{IsPath, IsBlock, Carries, nibbles_from, sent_bits}
+use Rattle.p25_bits.proofs.NumbersLaws.{length-number_bits, number_bits-octets, same_from_number_bits}
+
+-- few symbols and then 0 are a path
+pub IsPath-from_front : (states : ℕ) (path : List ℕ) → 0 < states → length path ≡ 49 → All (λ n. n < states) (take 48 path) → drop 48 path ≡ 0 ∷ [] → IsPath states path
+IsPath-from_front states path some long front last =
+    let P : ℕ → Type 0 = λ n. n < states in record {
+      long = long;
+      below
+          = All-same P path (take 48 path ++ 0 ∷ []) (sym (take-append-drop 48 path) ∙ ap (λ (zs : List ℕ). take 48 path ++ zs) last) (All-append P (take 48 path) (0 ∷ []) front (All-cons P 0 [] some (All-nil P)));
+      last = last;
+    }
+
+-- a power of two is not 0
+pub power-pos : (width states : ℕ) → states ≡ 2 ^ width → 0 < states
+power-pos width states is = rw is (pow_pos width)
+
+-- the symbols whose bits are those of octets carry them
+pub Carries-from_bits : (width octets_most : ℕ) (path octets : List ℕ) (bits : List Bool) → 48 * width ≡ 8 * octets_most → length octets ≡ octets_most
+    → All (λ octet. octet < 256) octets → bits ≡ [] ++ number_bits 8 octets → number_bits width (take 48 path) ≡ part 0 (width * 48) bits
+    → Carries width path octets
+Carries-from_bits width most path octets bits same long small is read =
+    let short : length bits ≤ width * 48 = omega (arith, ap length is, length-number_bits 8 octets) in record {
+      are_octets = small;
+      information = read ∙ take_all (width * 48) bits short ∙ is ∙ number_bits-octets octets;
+    }
+
+-- nibbles of one more symbol
+pub nibbles_from-cons : (point : ℕ → ℕ → ℕ) (state symbol : ℕ) (symbols : List ℕ) → nibbles_from point state (symbol ∷ symbols) ≡ point state symbol ∷ nibbles_from point symbol symbols
+unfolding nibbles_from
+nibbles_from-cons point state symbol symbols = refl
+
+pub nibbles_from-nil : (point : ℕ → ℕ → ℕ) (state : ℕ) → nibbles_from point state [] ≡ []
+unfolding nibbles_from
+nibbles_from-nil point state = refl
+
+-- a nibble for each symbol
+pub length-nibbles_from : (point : ℕ → ℕ → ℕ) (state : ℕ) (symbols : List ℕ) → length (nibbles_from point state symbols) ≡ length symbols
+unfolding nibbles_from
+length-nibbles_from point state [] = refl
+length-nibbles_from point state (symbol ∷ symbols) = ap suc (length-nibbles_from point symbol symbols)
+
+-- one more nibble is written, and one fewer is left
+pub nibbles_more : (point : ℕ → ℕ → ℕ) (state : ℕ) (nibbles path : List ℕ) (step nibble : ℕ) → step < length nibbles → step < length path
+    → nibble ≡ point state (get_or path step 0)
+    → take (step + 1) (set nibbles step nibble) ++ nibbles_from point (get_or path step 0) (drop (step + 1) path) ≡ take step nibbles ++ nibbles_from point state (drop step path)
+nibbles_more point state nibbles path step nibble here there is =
+    let symbol = get_or path step 0 in
+    let left = nibbles_from point symbol (drop (step + 1) path) in
+    ap (λ (ns : List ℕ). ns ++ left) (take_more_set nibbles step nibble here)
+    ∙ append_assoc (take step nibbles) (nibble ∷ []) left
+    ∙ ap (λ (zs : List ℕ). take step nibbles ++ zs) (ap (λ n. n ∷ left) is ∙ sym (nibbles_from-cons point state symbol (drop (step + 1) path)) ∙ ap (nibbles_from point state) (sym (drop_more path step 0 there)))
+
+-- the octets whose bits are those of symbols are what they carry
+pub Carries-from_octets : (width most : ℕ) (path octets : List ℕ) (bits : List Bool) → length octets ≡ most → All (λ octet. octet < 256) octets
+    → length bits ≤ 8 * most → bits ≡ [] ++ number_bits width (take 48 path) → number_bits 8 (take most octets) ≡ part 0 (8 * most) bits
+    → Carries width path octets
+Carries-from_octets width most path octets bits long small short is read =
+    let all : length octets ≤ most = omega arith in record {
+      are_octets = small;
+      information = sym is ∙ sym (take_all (8 * most) bits short) ∙ sym read ∙ ap (number_bits 8) (take_all most octets all) ∙ number_bits-octets octets;
+    }
+
+-- a path carries no other octets
+pub same_octets : (width : ℕ) (path octets others : List ℕ) → Carries width path octets → Carries width path others → octets ≡ others
+same_octets width path octets others one two =
+    let same : number_bits 8 octets ≡ number_bits 8 others
+    = number_bits-octets octets ∙ sym one.information ∙ two.information ∙ sym (number_bits-octets others) in
+    let long : length octets ≡ length others = omega (arith, length-number_bits 8 octets, length-number_bits 8 others, ap length same) in
+    same_from_number_bits 8 octets others one.are_octets two.are_octets long same
+
+-- octets are carried by no other path
+pub same_path : (states width : ℕ) (path other octets : List ℕ) → states ≡ 2 ^ width → IsPath states path → IsPath states other → Carries width path octets → Carries width other octets → path ≡ other
+same_path states width path other octets states_is is other_is one two =
+    let small = λ (p : List ℕ) (is_p : IsPath states p). subst (λ (n : ℕ). All (λ (s : ℕ). s < n) (take 48 p)) states_is (All-take (λ (s : ℕ). s < states) 48 p is_p.below) in
+    let fits : 48 ≤ length path = omega (arith, is.long) in
+    let other_fits : 48 ≤ length other = omega (arith, other_is.long) in
+    sym (take-append-drop 48 path)
+    ∙ ap₂ (λ (xs ys : List ℕ). xs ++ ys)
+    (same_from_number_bits width (take 48 path) (take 48 other) (small path is) (small other other_is) (length-take-le 48 path fits ∙ sym (length-take-le 48 other other_fits)) (one.information ∙ sym two.information))
+    (is.last ∙ sym other_is.last)
+    ∙ take-append-drop 48 other
+
+-- octets have no other block
+pub same_block : (states width : ℕ) (point : ℕ → ℕ → ℕ) (octets : List ℕ) (block other : List Bool) → states ≡ 2 ^ width → IsBlock states width point octets block → IsBlock states width point octets other → block ≡ other
+same_block states width point octets block other states_is one two =
+    one.sent ∙ ap (sent_bits point) (same_path states width one.path two.path octets states_is one.is_path two.is_path one.carries two.carries) ∙ sym two.sent
