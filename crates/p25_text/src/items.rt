@@ -124,9 +124,9 @@ fn put_fields(fields: &FieldList, out: &mut Line)
     }
 }
 
-// Appends the name of a field.
+/// Appends the name of a field.
 #[tactic(auto, using(p25_line::proofs::DecimalLaws::decimal_octet))]
-fn put_field(field: Field, out: &mut Line)
+pub fn put_field(field: Field, out: &mut Line)
     requires { length out.old + 15 ≤ 8192 }
     ensures text { out.new ≡ out.old ++ field_name field }
     ensures short { length out.new ≤ length out.old + 15 }

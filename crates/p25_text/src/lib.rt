@@ -42,7 +42,7 @@ mod voice_texts;
 mod voices;
 mod write;
 
-pub use items::item_text;
+pub use items::{item_text, put_field};
 pub use names::{UnitKey, UnitKind};
 pub use p25_line::{Line, LineFault};
 pub use read::read_line;

@@ -1,0 +1,145 @@
+-- The line of an event is read as that event, and a line that is read is the line of its event. By cases on what each step of the reading found.
+use Rattle.std.proofs.Common.{◌≡◌, ℕ, ◌+◌, ◌*◌, ◌<◌, ◌≤◌, ◌&&◌, true, List, [], ◌∷◌, length, Option, Some, None, Result, Ok, Err, refl, sym, ap, ap₂, subst, ◌∙◌, arith}
+use Rattle.std.specs.Prelude.{IfOk}
+use Rattle.std.specs.List.{join_with_byte, list_all}
+use Rattle.std.specs.Str.{bytes_eq}
+use Rattle.std.proofs.lemmas.Slice.Eq.{bytes_eq-Decides}
+use Rattle.p25_line.specs.Words.{is_word, words_or_fault}
+use Rattle.p25_line.specs.declared.fault.LineFault.{LineFault}
+use Rattle.p25_line.proofs.JoinLaws.{words_or_fault-join, Accepted-words}
+use Rattle.p25_text.proofs.WordLaws.{find-passes}
+use Rattle.p25_air.specs.Sound.{IsMessage}
+use Rattle.p25_air.specs.declared.step.Event.{Event}
+use Rattle.p25_air.specs.declared.step.Event.TheVariants.{Send, Timeout, Reopen, ToReceiver, ToSender}
+use Rattle.p25_air.specs.declared.step.Way.{Way}
+use Rattle.p25_air.specs.declared.step.Way.TheVariants.{Packets, Answers}
+use Rattle.p25_script.specs.Script.{IsScripted, delivery, delivery_or_fault, event_by_kind, event_by_words, event_in, event_kinds, event_named, event_of, event_text, event_word, event_words, send_or_fault, way_named, way_word, ways}
+use Rattle.p25_script.specs.Values.{ArePlaces, message_in, places_in, places_text}
+use Rattle.p25_script.specs.declared.names.EventKind.{EventKind}
+use Rattle.p25_script.specs.declared.names.EventKind.TheVariants.{Send as SendLine, Timeout as TimeoutLine, Reopen as ReopenLine, Deliver as DeliverLine}
+use Rattle.p25_script.proofs.ValueLaws.{length-message_text, length-places_text, message-message_in, message-word, message_in-text, places-places_in, places-word, places_in-text}
+
+-- ---- the line of an event is read as it
+
+-- the words of an event are words
+event_words-words : (event : Event) → IsScripted event → list_all is_word (event_words event) ≡ true
+event_words-words (Send message) fits = ap₂ ◌&&◌ (message-word message fits) refl
+event_words-words Timeout fits = refl
+event_words-words Reopen fits = refl
+event_words-words (ToReceiver places) fits = ap₂ ◌&&◌ (places-word places fits) refl
+event_words-words (ToSender places) fits = ap₂ ◌&&◌ (places-word places fits) refl
+
+event_words-some : (event : Event) → 0 < length (event_words event)
+event_words-some (Send message) = omega arith
+event_words-some Timeout = omega arith
+event_words-some Reopen = omega arith
+event_words-some (ToReceiver places) = omega arith
+event_words-some (ToSender places) = omega arith
+
+-- and they are read as it
+event_by_words-words : (event : Event) → IsScripted event → event_by_words (Ok (event_words event)) ≡ Ok event
+event_by_words-words (Send message) fits = ap send_or_fault (message_in-text message fits)
+event_by_words-words Timeout fits = refl
+event_by_words-words Reopen fits = refl
+event_by_words-words (ToReceiver places) fits = ap (delivery_or_fault (Some Packets)) (places_in-text places fits)
+event_by_words-words (ToSender places) fits = ap (delivery_or_fault (Some Answers)) (places_in-text places fits)
+
+pub event_of-event_text : (event : Event) → IsScripted event → length (event_text event) ≤ 8192 → event_of (event_text event) ≡ Ok event
+unfolding event_of event_text
+event_of-event_text event fits short =
+    ap event_by_words (words_or_fault-join (event_words event) (event_words-some event) (event_words-words event fits) short) ∙ event_by_words-words event fits
+
+-- ---- a line that is read is the line of its event
+
+-- what was read from the words behind the first
+abbrev ReadFrom : List (List ℕ) → Event → Type 0
+ReadFrom words event = (event_words event ≡ words) × IsScripted event
+
+from_send : (word : List ℕ) (made : Option (List ℕ)) (event : Event) → message_in word ≡ made → send_or_fault made ≡ Ok event → ReadFrom (event_word SendLine ∷ word ∷ []) event
+from_send word None event read found = cc found
+from_send word (Some message) event read found =
+    let facts = message-message_in word message read in
+    let same : Send message ≡ event = cc found in
+    subst (λ (e : Event). ReadFrom (event_word SendLine ∷ word ∷ []) e) same (ap (λ w. event_word SendLine ∷ w ∷ []) facts.0, facts.1)
+
+delivered_words : (way : Way) (places word : List ℕ) → places_text places ≡ word → event_words (delivery way places) ≡ event_word DeliverLine ∷ way_word way ∷ word ∷ []
+delivered_words Packets places word same = ap (λ w. event_word DeliverLine ∷ way_word Packets ∷ w ∷ []) same
+delivered_words Answers places word same = ap (λ w. event_word DeliverLine ∷ way_word Answers ∷ w ∷ []) same
+
+delivered_fits : (way : Way) (places : List ℕ) → ArePlaces places → IsScripted (delivery way places)
+delivered_fits Packets places are = are
+delivered_fits Answers places are = are
+
+way-way_named : (word : List ℕ) (way : Way) → way_named word ≡ Some way → way_word way ≡ word
+way-way_named word way found = sym ((bytes_eq-Decides word (way_word way)).0 (find-passes (λ w. bytes_eq word (way_word w)) ways way found))
+
+from_delivery : (first word : List ℕ) (way : Option Way) (made : Option (List ℕ)) (event : Event) → way_named first ≡ way → places_in word ≡ made
+    → delivery_or_fault way made ≡ Ok event → ReadFrom (event_word DeliverLine ∷ first ∷ word ∷ []) event
+from_delivery first word None made event named read found = cc found
+from_delivery first word (Some way) None event named read found = cc found
+from_delivery first word (Some way) (Some places) event named read found =
+    let facts = places-places_in word places read in
+    let words = delivered_words way places word facts.0 ∙ ap (λ w. event_word DeliverLine ∷ w ∷ word ∷ []) (way-way_named first way named) in
+    let same : delivery way places ≡ event = cc found in
+    subst (λ (e : Event). ReadFrom (event_word DeliverLine ∷ first ∷ word ∷ []) e) same (words, delivered_fits way places facts.1)
+
+from_others : (kind : EventKind) (others : List (List ℕ)) (event : Event) → event_in kind others ≡ Ok event → ReadFrom (event_word kind ∷ others) event
+from_others SendLine [] event found = cc found
+from_others SendLine (word ∷ []) event found = from_send word (message_in word) event refl found
+from_others SendLine (word ∷ next ∷ others) event found = cc found
+from_others TimeoutLine [] event found =
+    let same : Timeout ≡ event = cc found in subst (λ (e : Event). ReadFrom (event_word TimeoutLine ∷ []) e) same (refl, tt)
+from_others TimeoutLine (word ∷ others) event found = cc found
+from_others ReopenLine [] event found =
+    let same : Reopen ≡ event = cc found in subst (λ (e : Event). ReadFrom (event_word ReopenLine ∷ []) e) same (refl, tt)
+from_others ReopenLine (word ∷ others) event found = cc found
+from_others DeliverLine [] event found = cc found
+from_others DeliverLine (first ∷ []) event found = cc found
+from_others DeliverLine (first ∷ word ∷ []) event found = from_delivery first word (way_named first) (places_in word) event refl refl found
+from_others DeliverLine (first ∷ word ∷ next ∷ others) event found = cc found
+
+from_kind : (first : List ℕ) (others : List (List ℕ)) (kind : Option EventKind) (event : Event) → event_named first ≡ kind → event_by_kind others kind ≡ Ok event
+    → ReadFrom (first ∷ others) event
+from_kind first others None event named found = cc found
+from_kind first others (Some kind) event named found =
+    let word = sym ((bytes_eq-Decides first (event_word kind)).0 (find-passes (λ k. bytes_eq first (event_word k)) event_kinds kind named)) in
+    let read = from_others kind others event found in
+    (read.0 ∙ ap (λ w. w ∷ others) word, read.1)
+
+-- what a line that is read shows
+pub record IsLineOf (line : List ℕ) (event : Event) : Type 0 where
+  pub text : event_text event ≡ line
+  pub fits : IsScripted event
+  pub short : length line ≤ 8192
+
+from_words : (line : List ℕ) (words : Result (List (List ℕ)) LineFault) (event : Event) → words_or_fault line ≡ words → event_by_words words ≡ Ok event → IsLineOf line event
+unfolding event_text
+from_words line (Err fault) event same found = cc found
+from_words line (Ok []) event same found = cc found
+from_words line (Ok (first ∷ others)) event same found =
+    let read = from_kind first others (event_named first) event refl found in
+    let accepted = Accepted-words line (first ∷ others) same in
+    record { text = ap (join_with_byte 32) read.0 ∙ accepted.join; fits = read.1; short = accepted.short }
+
+pub IsLineOf-event_of : (line : List ℕ) (event : Event) → event_of line ≡ Ok event → IsLineOf line event
+unfolding event_of
+IsLineOf-event_of line event found = from_words line (words_or_fault line) event refl found
+
+-- the two, as the reader tells them
+pub read-facts : (line : List ℕ) (result : Result Event LineFault) → result ≡ event_of line → (IfOk result (λ event. event_text event ≡ line)) × (IfOk result (λ event. IsScripted event))
+read-facts line (Err fault) same = (tt, tt)
+read-facts line (Ok event) same = let facts = IsLineOf-event_of line event (sym same) in (facts.text, facts.fits)
+
+-- ---- how long lines are
+
+pub length-send : (message : List ℕ) → IsMessage message → length (event_text (Send message)) ≤ 4061
+unfolding event_text
+length-send message fits = omega (arith, length-message_text message fits)
+
+pub length-data : (places : List ℕ) → ArePlaces places → length (event_text (ToReceiver places)) ≤ 6 * length places + 14
+unfolding event_text
+length-data places are = omega (arith, length-places_text places are)
+
+pub length-answer : (places : List ℕ) → ArePlaces places → length (event_text (ToSender places)) ≤ 6 * length places + 16
+unfolding event_text
+length-answer places are = omega (arith, length-places_text places are)

@@ -1,0 +1,4 @@
+pub mod CommaLists
+pub mod Values
+pub mod Script
+pub mod StepTexts

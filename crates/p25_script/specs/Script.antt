@@ -1,0 +1,115 @@
+-- Script lines: the line of an event, and the event of a line.
+use Rattle.std.specs.Prelude.{ℕ, List, [], ◌∷◌, codes, Option, Some, None, Result, Ok, Err}
+use Rattle.std.specs.List.{find, join_with_byte}
+use Rattle.std.specs.Str.{bytes_eq}
+use Rattle.p25_line.specs.Words.{words_or_fault}
+use Rattle.p25_line.specs.declared.fault.LineFault.{LineFault}
+use Rattle.p25_line.specs.declared.fault.LineFault.TheVariants.{Form, Key, Value, Kind as WrongKind}
+use Rattle.p25_air.specs.Sound.{IsMessage}
+use Rattle.p25_air.specs.declared.step.Event.{Event}
+use Rattle.p25_air.specs.declared.step.Event.TheVariants.{Send, Timeout, Reopen, ToReceiver, ToSender}
+use Rattle.p25_air.specs.declared.step.Way.{Way}
+use Rattle.p25_air.specs.declared.step.Way.TheVariants.{Packets, Answers}
+use Rattle.p25_script.specs.Values.{ArePlaces, message_in, message_text, places_in, places_text}
+use Rattle.p25_script.specs.declared.names.EventKind.{EventKind}
+use Rattle.p25_script.specs.declared.names.EventKind.TheVariants.{Send as SendLine, Timeout as TimeoutLine, Reopen as ReopenLine, Deliver as DeliverLine}
+
+-- ---- the words of script lines
+
+-- the word that begins a line of a kind
+abbrev pub event_word : EventKind → List ℕ
+event_word SendLine = codes "send"
+event_word TimeoutLine = codes "timeout"
+event_word ReopenLine = codes "reopen"
+event_word DeliverLine = codes "deliver"
+
+-- the number of words of a line of a kind
+abbrev pub word_count : EventKind → ℕ
+word_count SendLine = 2
+word_count TimeoutLine = 1
+word_count ReopenLine = 1
+word_count DeliverLine = 3
+
+-- all kinds
+abbrev pub event_kinds : List EventKind
+event_kinds = SendLine ∷ TimeoutLine ∷ ReopenLine ∷ DeliverLine ∷ []
+
+-- the kind that a word names
+abbrev pub event_named : List ℕ → Option EventKind
+event_named word = find (λ kind. bytes_eq word (event_word kind)) event_kinds
+
+-- what is delivered one way
+abbrev pub way_word : Way → List ℕ
+way_word Packets = codes "data"
+way_word Answers = codes "answer"
+
+-- both ways
+abbrev pub ways : List Way
+ways = Packets ∷ Answers ∷ []
+
+-- the way that a word names
+abbrev pub way_named : List ℕ → Option Way
+way_named word = find (λ way. bytes_eq word (way_word way)) ways
+
+-- ---- the line of an event
+
+-- what a script can tell of: messages of at most 2,028 octets, and ascending places below 25,920
+abbrev pub IsScripted : Event → Type 0
+IsScripted (Send message) = IsMessage message
+IsScripted Timeout = Unit {0}
+IsScripted Reopen = Unit {0}
+IsScripted (ToReceiver places) = ArePlaces places
+IsScripted (ToSender places) = ArePlaces places
+
+-- the words of an event
+abbrev pub event_words : Event → List (List ℕ)
+event_words (Send message) = event_word SendLine ∷ message_text message ∷ []
+event_words Timeout = event_word TimeoutLine ∷ []
+event_words Reopen = event_word ReopenLine ∷ []
+event_words (ToReceiver places) = event_word DeliverLine ∷ way_word Packets ∷ places_text places ∷ []
+event_words (ToSender places) = event_word DeliverLine ∷ way_word Answers ∷ places_text places ∷ []
+
+-- the line of an event, without the end of the line
+unfoldable pub event_text : Event → List ℕ
+event_text event = join_with_byte 32 (event_words event)
+
+-- ---- the event of a line
+
+-- the event of a message, or that the value is wrong
+abbrev pub send_or_fault : Option (List ℕ) → Result Event LineFault
+send_or_fault (Some message) = Ok (Send message)
+send_or_fault None = Err Value
+
+-- a delivery one way
+abbrev pub delivery : Way → List ℕ → Event
+delivery Packets places = ToReceiver places
+delivery Answers places = ToSender places
+
+-- the event of a way and of places, or which of them is wrong; the way is a key, and is judged first
+abbrev pub delivery_or_fault : Option Way → Option (List ℕ) → Result Event LineFault
+delivery_or_fault None places = Err Key
+delivery_or_fault (Some way) None = Err Value
+delivery_or_fault (Some way) (Some places) = Ok (delivery way places)
+
+-- the event of the words behind the first, or the first cause for which they are refused
+abbrev pub event_in : EventKind → List (List ℕ) → Result Event LineFault
+event_in SendLine (message ∷ []) = send_or_fault (message_in message)
+event_in TimeoutLine [] = Ok Timeout
+event_in ReopenLine [] = Ok Reopen
+event_in DeliverLine (way ∷ places ∷ []) = delivery_or_fault (way_named way) (places_in places)
+event_in kind others = Err Key
+
+-- and where the first word names a kind
+abbrev pub event_by_kind : List (List ℕ) → Option EventKind → Result Event LineFault
+event_by_kind others (Some kind) = event_in kind others
+event_by_kind others None = Err WrongKind
+
+-- the event of the words of a line
+abbrev pub event_by_words : Result (List (List ℕ)) LineFault → Result Event LineFault
+event_by_words (Ok (first ∷ others)) = event_by_kind others (event_named first)
+event_by_words (Ok []) = Err Form
+event_by_words (Err fault) = Err fault
+
+-- the event of a line, or the first cause for which the line is refused: Long, Form, Kind, Key, Value
+unfoldable pub event_of : List ℕ → Result Event LineFault
+event_of line = event_by_words (words_or_fault line)

@@ -1,0 +1,44 @@
+//! The text that closes a run.
+
+ghost use Rattle.std.specs.Prelude.{◌≡◌, ◌+◌, ◌<◌, ◌≤◌, ◌++◌, length, decimal};
+ghost use Rattle.p25_script.specs.StepTexts.{closing_text_of, sessions_text};
+
+use p25_air::World;
+use p25_line::Line;
+
+/// Sets `out` to the text that closes a run, without the end of its line: how many messages were sent, delivered and
+/// acknowledged, how many deliveries were false passes, and how many sessions there were, where there was more than one.
+#[tactic(auto, unfolding(crate::specs::StepTexts::closing_text_of))]
+pub fn closing_text(world: &World, out: &mut Line)
+    ensures text { out.new ≡ closing_text_of world.now.state }
+    ensures short { length out.new ≤ 200 }
+{
+    out.clear();
+    put_count(b"sent=", world.sent().len() as u64, out);
+    put_count(b" delivered=", world.delivered().len() as u64, out);
+    put_count(b" acknowledged=", world.acknowledged(), out);
+    put_count(b" false=", world.false_passes(), out);
+    put_sessions(world.sessions(), out);
+}
+
+// Appends a label and a number in decimal.
+#[tactic(auto, using(p25_line::proofs::DecimalLaws::decimal_short))]
+fn put_count(label: &[u8], number: u64, out: &mut Line)
+    requires { length out.old + length label.now + 20 ≤ 8192 }
+    ensures text { out.new ≡ out.old ++ label.now ++ decimal number }
+    ensures short { length out.new ≤ length out.old + length label.now + 20 }
+{
+    out.put(label);
+    out.put_number(number);
+}
+
+// Appends the number of sessions, where there was more than one.
+fn put_sessions(sessions: u64, out: &mut Line)
+    requires { length out.old + 30 ≤ 8192 }
+    ensures text { out.new ≡ out.old ++ sessions_text sessions }
+    ensures short { length out.new ≤ length out.old + 30 }
+{
+    if sessions > 1 {
+        put_count(b" sessions=", sessions, out);
+    }
+}

@@ -1,0 +1,79 @@
+//! The words of script lines.
+
+ghost use Rattle.std.specs.Prelude.{◌≡◌, ◌≤◌, length};
+ghost use Rattle.p25_script.specs.Script.{event_named, event_word, way_named, way_word, word_count};
+
+use p25_air::Way;
+
+/// A kind of script line.
+#[derive(Clone, Copy)]
+pub enum EventKind {
+    /// A message is offered.
+    Send,
+    /// Time is up.
+    Timeout,
+    /// The link is to be opened again.
+    Reopen,
+    /// The newest transmission of one direction is delivered.
+    Deliver,
+}
+
+// All kinds.
+const KINDS: [EventKind; 4] = [
+    EventKind::Send,
+    EventKind::Timeout,
+    EventKind::Reopen,
+    EventKind::Deliver,
+];
+
+impl EventKind {
+    /// Answers the kind that a word names. `None` comes exactly where it names none.
+    pub fn named(word: &[u8]) -> Option<EventKind>
+        ensures { result ≡ event_named word.now }
+    {
+        KINDS.iter().copied().find(|kind| word == kind.word())
+    }
+
+    /// Answers the word that begins a line of this kind.
+    pub fn word(self) -> &'static [u8]
+        ensures { result.now ≡ event_word self }
+    {
+        match self {
+            EventKind::Send => b"send",
+            EventKind::Timeout => b"timeout",
+            EventKind::Reopen => b"reopen",
+            EventKind::Deliver => b"deliver",
+        }
+    }
+
+    /// Answers the number of words of a line of this kind.
+    pub fn words(self) -> usize
+        ensures count { result ≡ word_count self }
+        ensures few { result ≤ 3 }
+    {
+        match self {
+            EventKind::Send => 2,
+            EventKind::Timeout | EventKind::Reopen => 1,
+            EventKind::Deliver => 3,
+        }
+    }
+}
+
+/// Answers the way that a word of a line names. `None` comes exactly where it names none.
+pub fn named_way(word: &[u8]) -> Option<Way>
+    ensures { result ≡ way_named word.now }
+{
+    let ways = [Way::Packets, Way::Answers];
+    ways.iter().copied().find(|way| word == word_of_way(*way))
+}
+
+/// Answers the word that names a way.
+pub fn word_of_way(way: Way) -> &'static [u8]
+    ensures word { result.now ≡ way_word way }
+    ensures short { length result.now ≤ 6 }
+{
+    match way {
+        Way::Packets => b"data",
+        Way::Answers => b"answer",
+    }
+}

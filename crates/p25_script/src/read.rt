@@ -1,0 +1,86 @@
+//! Events read from lines.
+
+ghost use Rattle.std.specs.Prelude.{◌≡◌, ◌≤◌, Ok, IfOk, length, drop, All};
+ghost use Rattle.p25_line.specs.Words.{LiesIn, WordsAnswer, marked};
+ghost use Rattle.p25_air.specs.declared.step.Event.{Event as event_type};
+ghost use Rattle.p25_script.specs.Script.{IsScripted, delivery_or_fault, event_in, event_of, event_text, way_named, word_count};
+ghost use Rattle.p25_script.specs.Values.{places_in};
+
+use super::names::{EventKind, named_way};
+use super::values::{message_value, places_value};
+use p25_air::{Event, Way};
+use p25_line::{LineFault, WordList, words_of};
+
+/// Answers the event whose line this is. Each line that is accepted is the line of its event, and the line of each event,
+/// where it is not too long, is accepted. The first of these causes that applies is answered: Long, above 8,192 octets; Form,
+/// not one or more words of octets 21 to 7E hex with single spaces between them; Kind, the first word is none of `send`,
+/// `timeout`, `reopen` and `deliver`; Key, the number of words is not that of the kind, or the second word of `deliver` is
+/// neither `data` nor `answer`; Value, the message or the places are not of their form.
+pub fn read_event(line: &[u8]) -> Result<Event, LineFault>
+    ensures event { result ≡ event_of line.now }
+    ensures text { IfOk result (λ event. event_text event ≡ line.now) }
+    ensures fits { IfOk result (λ event. IsScripted event) }
+    ensures each { (event : event_type) → IsScripted event → length line.now ≤ 8192 → event_text event ≡ line.now → result ≡ Ok event }
+{
+    read_whole(line)
+}
+
+// The same, by the definition.
+fn read_whole(line: &[u8]) -> Result<Event, LineFault>
+    ensures { result ≡ event_of line.now }
+{
+    let mut words = WordList::new();
+    match words_of(line, &mut words) {
+        Ok(()) => read_words(line, &words),
+        Err(fault) => Err(fault),
+    }
+}
+
+// The event of a line whose words were found.
+fn read_words(line: &[u8], words: &WordList) -> Result<Event, LineFault>
+    requires { WordsAnswer line.now words.now (Ok tt) }
+    ensures { result ≡ event_of line.now }
+{
+    let Some(kind) = EventKind::named(words.word(line, 0)) else {
+        return Err(LineFault::Kind);
+    };
+    if words.count() != kind.words() {
+        return Err(LineFault::Key);
+    }
+    read_kind(kind, line, words)
+}
+
+// The event of a line of a kind, which has as many words as that kind.
+fn read_kind(kind: EventKind, line: &[u8], words: &WordList) -> Result<Event, LineFault>
+    requires count { length words.now.places ≡ word_count kind }
+    requires lies { All (LiesIn line.now) words.now.places }
+    requires short { length line.now ≤ 8192 }
+    ensures { result ≡ event_in kind (drop 1 (marked line.now words.now.places)) }
+{
+    match kind {
+        EventKind::Send => match message_value(words.word(line, 1)) {
+            Some(message) => Ok(Event::Send(message)),
+            None => Err(LineFault::Value),
+        },
+        EventKind::Timeout => Ok(Event::Timeout),
+        EventKind::Reopen => Ok(Event::Reopen),
+        EventKind::Deliver => read_delivery(words.word(line, 1), words.word(line, 2)),
+    }
+}
+
+// The delivery of a way and of places.
+fn read_delivery(way: &[u8], places: &[u8]) -> Result<Event, LineFault>
+    requires { length places.now ≤ 8192 }
+    ensures { result ≡ delivery_or_fault (way_named way.now) (places_in places.now) }
+{
+    let Some(way) = named_way(way) else {
+        return Err(LineFault::Key);
+    };
+    let Some(flips) = places_value(places) else {
+        return Err(LineFault::Value);
+    };
+    match way {
+        Way::Packets => Ok(Event::ToReceiver(flips)),
+        Way::Answers => Ok(Event::ToSender(flips)),
+    }
+}
