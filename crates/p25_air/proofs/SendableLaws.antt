@@ -75,7 +75,7 @@ response_head-blocks class kind status blocks b = omega arith
 -- The blocks of a message.
 
 message_octets-small : (message : List ℕ) → AreOctets message → AreOctets (message_octets message)
-unfolding message_octets padded_octets
+unfolding message_octets
 message_octets-small message small =
     AreOctets-checked_octets (message ++ replicate (pad_count (length message)) 0)
     (All-append IsOctet message (replicate (pad_count (length message)) 0) small (All-replicate IsOctet (pad_count (length message)) 0 (omega arith)))

@@ -16,7 +16,8 @@ use Rattle.p25_packet_blocks.specs.Sendable.{IsSendable}
 use Rattle.p25_units.specs.UnitParts.{UnitParts}
 use Rattle.p25_units.specs.declared.unit.Body.{Body}
 use Rattle.p25_units.specs.declared.unit.Body.TheVariants.{Voice, Packet}
-use Rattle.p25_text.specs.Grammar.{IsBody, IsUnit, body_in, body_values, keyed, kind_of, or_value, read_kind, read_line_of, read_values, read_words, text_of, unit_from, unit_in, unit_words, values_behind, values_of}
+use Rattle.p25_units.specs.Units.{IsSendableBody, IsSendableUnit}
+use Rattle.p25_text.specs.Grammar.{body_in, body_values, keyed, kind_of, or_value, read_kind, read_line_of, read_values, read_words, text_of, unit_from, unit_in, unit_words, values_behind, values_of}
 use Rattle.p25_text.specs.Names.{kind_named, kind_word, kinds, keys_of}
 use Rattle.p25_text.specs.Packets.{confirmed_in, packet_kind, packet_values, plain_in}
 use Rattle.p25_text.specs.Values.{nac_in, three_digits}
@@ -77,16 +78,19 @@ keys-few Plain = omega arith
 keys-few Response = omega arith
 
 -- there is a value for each key
-body-count : (body : Body) → IsBody body → length (keys_of (kind_of body)) ≡ suc (length (body_values body))
+body-count : (body : Body) → IsSendableBody body → length (keys_of (kind_of body)) ≡ suc (length (body_values body))
+unfolding IsSendableBody
 body-count (Voice unit) fits = ap suc (voice-count unit fits)
 body-count (Packet packet) fits = ap suc (packet-count packet)
 
 -- values are printed, and not too long for a line
-body-printed : (body : Body) → IsBody body → list_all (list_all is_printed) (body_values body) ≡ true
+body-printed : (body : Body) → IsSendableBody body → list_all (list_all is_printed) (body_values body) ≡ true
+unfolding IsSendableBody
 body-printed (Voice unit) fits = voice-printed unit fits
 body-printed (Packet packet) fits = packet-printed packet fits
 
-body-short : (body : Body) → IsBody body → size_of (body_values body) ≤ 4620
+body-short : (body : Body) → IsSendableBody body → size_of (body_values body) ≤ 4620
+unfolding IsSendableBody
 body-short (Voice unit) fits = voice-short unit fits
 body-short (Packet packet) fits = packet-short packet fits
 
@@ -112,7 +116,8 @@ packet_in-values (PlainPacket packet) fits =
           ∙ ap (option_map Packet) (plain_in-values 0x03 packet format fits)
     ]
 
-body_in-values : (body : Body) → IsBody body → body_in (kind_of body) (body_values body) ≡ Some body
+body_in-values : (body : Body) → IsSendableBody body → body_in (kind_of body) (body_values body) ≡ Some body
+unfolding IsSendableBody
 body_in-values (Voice unit) fits = body_in-voice unit (voice_values unit) ∙ ap (option_map Voice) (voice_in-values unit fits)
 body_in-values (Packet packet) fits = packet_in-values packet fits
 
@@ -120,11 +125,12 @@ body_in-values (Packet packet) fits = packet_in-values packet fits
 record IsReadAs (kind : UnitKind) (values : List (List ℕ)) (body : Body) : Type 0 where
   same_kind : kind_of body ≡ kind
   same_values : body_values body ≡ values
-  fits : IsBody body
+  fits : IsSendableBody body
 
 -- a packet, as what a unit carries
 packet-read : (kind : UnitKind) (values : List (List ℕ)) (found : Option BlockPacket) (body : Body)
     → ((packet : BlockPacket) → found ≡ Some packet → IsPacketRead kind values packet) → option_map Packet found ≡ Some body → IsReadAs kind values body
+unfolding IsSendableBody
 packet-read kind values found body read same =
     let taken = option_map-found Packet found body same in
     let facts = read taken.0 taken.1 in
@@ -132,6 +138,7 @@ packet-read kind values found body read same =
 
 -- a voice unit, as what a unit carries
 voice-read : (kind : UnitKind) (values : List (List ℕ)) (body : Body) → option_map Voice (voice_in kind values) ≡ Some body → IsReadAs kind values body
+unfolding IsSendableBody
 voice-read kind values body same =
     let taken = option_map-found Voice (voice_in kind values) body same in
     let facts = values-voice_in kind values taken.0 taken.1 in
@@ -162,45 +169,45 @@ values-body_in Response (a ∷ b ∷ c ∷ others) body found = cc found
 -- ---- what holds of all kinds
 
 -- the words of a unit are words
-unit_words-words : (unit : UnitParts) → IsUnit unit → list_all is_word (unit_words unit) ≡ true
+unit_words-words : (unit : UnitParts) → IsSendableUnit unit → list_all is_word (unit_words unit) ≡ true
 unit_words-words unit fits =
-    let digits = digits-printed (three_digits unit.nac) (printed-three_digits unit.nac fits.nac_fits) in
-    ap₂ ◌&&◌ (kind-word (kind_of unit.body)) (keyed-words (keys_of (kind_of unit.body)) (values_of unit) (ap₂ ◌&&◌ digits (body-printed unit.body fits.body_fits)))
+    let digits = digits-printed (three_digits unit.nac) (printed-three_digits unit.nac (omega (arith, fits.nac_fits))) in
+    ap₂ ◌&&◌ (kind-word (kind_of unit.body)) (keyed-words (keys_of (kind_of unit.body)) (values_of unit) (ap₂ ◌&&◌ digits (body-printed unit.body fits.body)))
 
 -- the line of a unit is not too long
-pub length-text_of : (unit : UnitParts) → IsUnit unit → length (text_of unit) ≤ 4700
+pub length-text_of : (unit : UnitParts) → IsSendableUnit unit → length (text_of unit) ≤ 4700
 unfolding text_of
 length-text_of unit fits =
     let kind = kind_of unit.body in
-    omega (arith, length-join 32 (unit_words unit), size_of-keyed (keys_of kind) (values_of unit), kind-short kind, keys-few kind, length-three_digits unit.nac, body-short unit.body fits.body_fits)
+    omega (arith, length-join 32 (unit_words unit), size_of-keyed (keys_of kind) (values_of unit), kind-short kind, keys-few kind, length-three_digits unit.nac, body-short unit.body fits.body)
 
 -- the line of a unit is read as the unit
-pub read_line-text_of : (unit : UnitParts) → IsUnit unit → read_line_of (text_of unit) ≡ Ok unit
+pub read_line-text_of : (unit : UnitParts) → IsSendableUnit unit → read_line_of (text_of unit) ≡ Ok unit
 unfolding read_line_of text_of
 read_line-text_of unit fits =
     let kind = kind_of unit.body in
     let short : length (text_of unit) ≤ 8192 = omega (arith, length-text_of unit fits) in
-    let count : length (keys_of kind) ≡ length (values_of unit) = body-count unit.body fits.body_fits in
+    let count : length (keys_of kind) ≡ length (values_of unit) = body-count unit.body fits.body in
     ap read_words (words_or_fault-join (unit_words unit) (omega arith) (unit_words-words unit fits) short)
     ∙ ap (read_kind (keyed (keys_of kind) (values_of unit))) (kind_named-word kind)
     ∙ ap (read_values kind) (values_behind-keyed (keys_of kind) (values_of unit) count)
-    ∙ ap or_value (ap₂ unit_from (nac_in-three_digits unit.nac fits.nac_fits) (body_in-values unit.body fits.body_fits))
+    ∙ ap or_value (ap₂ unit_from (nac_in-three_digits unit.nac (omega (arith, fits.nac_fits))) (body_in-values unit.body fits.body))
 
 -- the values that a unit was read from
 from-parts : (kind : UnitKind) (nac_word : List ℕ) (values : List (List ℕ)) (nac : Option ℕ) (body : Option Body) (unit : UnitParts)
     → nac_in nac_word ≡ nac → body_in kind values ≡ body → unit_from nac body ≡ Some unit
-    → (kind_of unit.body ≡ kind) × (values_of unit ≡ nac_word ∷ values) × IsUnit unit
+    → (kind_of unit.body ≡ kind) × (values_of unit ≡ nac_word ∷ values) × IsSendableUnit unit
 from-parts kind nac_word values None body unit nac_found body_found made = cc made
 from-parts kind nac_word values (Some nac) None unit nac_found body_found made = cc made
 from-parts kind nac_word values (Some nac) (Some body) unit nac_found body_found made =
     let parts = nac_in-text nac_word nac nac_found in
     let read = values-body_in kind values body body_found in
     let same : record { nac = nac; body = body } ≡ unit = cc made in
-    subst (λ (u : UnitParts). (kind_of u.body ≡ kind) × (values_of u ≡ nac_word ∷ values) × IsUnit u) same
-    (read.same_kind, ap₂ ◌∷◌ parts.0 read.same_values, record { nac_fits = parts.1; body_fits = read.fits })
+    subst (λ (u : UnitParts). (kind_of u.body ≡ kind) × (values_of u ≡ nac_word ∷ values) × IsSendableUnit u) same
+    (read.same_kind, ap₂ ◌∷◌ parts.0 read.same_values, record { nac_fits = omega (arith, parts.1); body = read.fits })
 
 from-values : (kind : UnitKind) (values : List (List ℕ)) (unit : UnitParts) → or_value (unit_in kind values) ≡ Ok unit
-    → (kind_of unit.body ≡ kind) × (values_of unit ≡ values) × IsUnit unit
+    → (kind_of unit.body ≡ kind) × (values_of unit ≡ values) × IsSendableUnit unit
 from-values kind [] unit found = cc found
 from-values kind (nac_word ∷ values) unit found = from-parts kind nac_word values (nac_in nac_word) (body_in kind values) unit refl refl (some-unit (unit_in kind (nac_word ∷ values)) found)
   where
@@ -209,21 +216,21 @@ from-values kind (nac_word ∷ values) unit found = from-parts kind nac_word val
     some-unit None e = cc e
 
 from-keys : (kind : UnitKind) (words : List (List ℕ)) (values : Option (List (List ℕ))) (unit : UnitParts) → values_behind (keys_of kind) words ≡ values
-    → read_values kind values ≡ Ok unit → (kind_of unit.body ≡ kind) × (keyed (keys_of kind) (values_of unit) ≡ words) × IsUnit unit
+    → read_values kind values ≡ Ok unit → (kind_of unit.body ≡ kind) × (keyed (keys_of kind) (values_of unit) ≡ words) × IsSendableUnit unit
 from-keys kind words None unit same found = cc found
 from-keys kind words (Some values) unit same found =
     let read = from-values kind values unit found in
     (read.0, ap (keyed (keys_of kind)) read.1 ∙ (keyed-values_behind (keys_of kind) words values same).0, read.2)
 
 from-kind : (first : List ℕ) (words : List (List ℕ)) (kind : Option UnitKind) (unit : UnitParts) → kind_named first ≡ kind
-    → read_kind words kind ≡ Ok unit → (unit_words unit ≡ first ∷ words) × IsUnit unit
+    → read_kind words kind ≡ Ok unit → (unit_words unit ≡ first ∷ words) × IsSendableUnit unit
 from-kind first words None unit same found = cc found
 from-kind first words (Some kind) unit same found =
     let read = from-keys kind words (values_behind (keys_of kind) words) unit refl found in
     (ap₂ ◌∷◌ (ap kind_word read.0 ∙ word-kind_named first kind same) (ap (λ k. keyed (keys_of k) (values_of unit)) read.0 ∙ read.1), read.2)
 
 from-words : (line : List ℕ) (words : Result (List (List ℕ)) LineFault) (unit : UnitParts) → words_or_fault line ≡ words → read_words words ≡ Ok unit
-    → (text_of unit ≡ line) × IsUnit unit
+    → (text_of unit ≡ line) × IsSendableUnit unit
 unfolding text_of
 from-words line (Err fault) unit same found = cc found
 from-words line (Ok []) unit same found = cc found
@@ -233,12 +240,12 @@ from-words line (Ok (first ∷ words)) unit same found =
     (ap (join_with_byte 32) read.0 ∙ accepted.join, read.1)
 
 -- a line that is read is the line of its unit
-pub text_of-read_line : (line : List ℕ) (unit : UnitParts) → read_line_of line ≡ Ok unit → (text_of unit ≡ line) × IsUnit unit
+pub text_of-read_line : (line : List ℕ) (unit : UnitParts) → read_line_of line ≡ Ok unit → (text_of unit ≡ line) × IsSendableUnit unit
 unfolding read_line_of
 text_of-read_line line unit found = from-words line (words_or_fault line) unit refl found
 
 -- the two laws, as the reader tells them
 pub read-facts : (line : List ℕ) (result : Result UnitParts LineFault) → result ≡ read_line_of line
-    → (IfOk result (λ unit. text_of unit ≡ line)) × (IfOk result (λ unit. IsUnit unit))
+    → (IfOk result (λ unit. text_of unit ≡ line)) × (IfOk result (λ unit. IsSendableUnit unit))
 read-facts line (Err fault) same = (tt, tt)
 read-facts line (Ok unit) same = text_of-read_line line unit (sym same)

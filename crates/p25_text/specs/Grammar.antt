@@ -8,8 +8,6 @@ use Rattle.p25_line.specs.declared.fault.LineFault.TheVariants.{Form, Key, Value
 use Rattle.p25_units.specs.UnitParts.{UnitParts}
 use Rattle.p25_units.specs.declared.unit.Body.{Body}
 use Rattle.p25_units.specs.declared.unit.Body.TheVariants.{Voice, Packet}
-use Rattle.p25_packet_blocks.specs.Sendable.{IsSendable}
-use Rattle.p25_voice_units.specs.Sendable.{IsSendableVoice}
 use Rattle.p25_text.specs.Names.{kind_word, kind_named, keys_of, key_text}
 use Rattle.p25_text.specs.Packets.{confirmed_in, packet_kind, packet_values, plain_in}
 use Rattle.p25_text.specs.Values.{nac_in, three_digits, with_value}
@@ -39,15 +37,6 @@ body_in Plain values = None
 body_in Response (head ∷ octets ∷ []) = option_map Packet (plain_in 0x03 head octets)
 body_in Response values = None
 body_in kind values = option_map Voice (voice_in kind values)
-
--- what a line can tell of: voice units with what their types keep, and packets that can be sent
-abbrev pub IsBody : Body → Type 0
-IsBody (Voice voice) = IsSendableVoice voice
-IsBody (Packet packet) = IsSendable packet
-
-pub record IsUnit (unit : UnitParts) : Type 0 where
-  pub nac_fits : unit.nac < 4096
-  pub body_fits : IsBody unit.body
 
 -- ---- the line of a unit
 

@@ -4,7 +4,8 @@ ghost use Rattle.std.specs.Prelude.{◌≡◌, ℕ, ◌<◌, Ok, IfOk, length, d
 ghost use Rattle.std.specs.Option.{option_map};
 ghost use Rattle.p25_line.specs.Words.{WordsAnswer};
 ghost use Rattle.p25_units.specs.UnitParts.{UnitParts};
-ghost use Rattle.p25_text.specs.Grammar.{IsUnit, body_in, read_line_of, text_of, unit_in};
+ghost use Rattle.p25_units.specs.Units.{IsSendableUnit};
+ghost use Rattle.p25_text.specs.Grammar.{body_in, read_line_of, text_of, unit_in};
 ghost use Rattle.p25_text.specs.Names.{keys_of};
 ghost use Rattle.p25_text.specs.Voices.{voice_in};
 ghost use Rattle.p25_text.specs.declared.names.UnitKind.TheVariants.{Hdu, Ldu2};
@@ -26,8 +27,8 @@ use p25_units::{Body, Unit, VoiceUnit};
 pub fn read_line(line: &[u8]) -> Result<Unit, LineFault>
     ensures unit { result ≡ read_line_of line.now }
     ensures text { IfOk result (λ unit. text_of unit ≡ line.now) }
-    ensures fits { IfOk result (λ unit. IsUnit unit) }
-    ensures each { (unit : UnitParts) → IsUnit unit → text_of unit ≡ line.now → result ≡ Ok unit }
+    ensures fits { IfOk result (λ unit. IsSendableUnit unit) }
+    ensures each { (unit : UnitParts) → IsSendableUnit unit → text_of unit ≡ line.now → result ≡ Ok unit }
 {
     read_whole(line)
 }

@@ -1,6 +1,7 @@
 //! The work of `build`: each line of the input as the unit that it describes.
 
 ghost use Rattle.std.specs.Prelude.{◌≡◌};
+ghost use Rattle.p25_units.specs.Units.{IsSendableBody};
 ghost use Rattle.p25_tool.specs.Buildings.{first_line, lines_ready, IsLineTaken};
 ghost use Rattle.p25_tool.specs.Outputs.{image_octets};
 
@@ -132,6 +133,7 @@ impl Worker for Build {
 
 // Sets `out` to the octets of a unit's image with one status symbol everywhere.
 fn put_image(unit: Unit, status: Status, out: &mut Line)
+    requires { IsSendableBody unit.body }
     ensures { out.new ≡ image_octets status unit }
 {
     let statuses = Statuses::filled(status, frame_length(&unit) / 72);
