@@ -25,7 +25,8 @@ use Rattle.p25_stream.proofs.SyncPlaces.{sync_place-left, sync_place-unsynced}
 use Rattle.p25_stream.proofs.ItemsLaws.{covered-first_item, place_of-first_item, IsSoundItem-first_item, first_item-cases, gap-first, items_by-nil, items_by-more, items_by-first, first_item-synced, is_decided-synced}
 
 -- an item among others is the first of the bits that those before it leave
-pub items_by-among : (before : List Item) (item : Item) (after : List Item) (ended : Bool) (at : ℕ) (bits : List Bool) → items_by ended at bits ≡ before ++ item ∷ after → items_by ended (at + sum_by covered before) (drop (sum_by covered before) bits) ≡ item ∷ after
+pub items_by-among : (before : List Item) (item : Item) (after : List Item) (ended : Bool) (at : ℕ) (bits : List Bool) → items_by ended at bits ≡ before ++ item ∷ after
+    → items_by ended (at + sum_by covered before) (drop (sum_by covered before) bits) ≡ item ∷ after
 items_by-among [] item after ended at bits is = let none : at + 0 ≡ at = omega arith in ap (λ n. items_by ended n bits) none ∙ is
 items_by-among (first ∷ before) item after ended at bits is =
     let sum = sum_by covered before in
@@ -74,7 +75,8 @@ gaps_short ended at bits before place count after is =
     let there = item-among ended at bits before (Gap place count) after is in
     omega (arith, (gap-first (at + sum_by covered before) (drop (sum_by covered before) bits) place count there.1).1)
 
-pub gaps_full : (ended : Bool) (at : ℕ) (bits : List Bool) (before : List Item) (place count next_place next_count : ℕ) (after : List Item) → items_by ended at bits ≡ before ++ Gap place count ∷ Gap next_place next_count ∷ after → count ≡ 4096
+pub gaps_full : (ended : Bool) (at : ℕ) (bits : List Bool) (before : List Item) (place count next_place next_count : ℕ) (after : List Item)
+    → items_by ended at bits ≡ before ++ Gap place count ∷ Gap next_place next_count ∷ after → count ≡ 4096
 gaps_full ended at bits before place count next_place next_count after is =
     let from = at + sum_by covered before in
     let rest = drop (sum_by covered before) bits in

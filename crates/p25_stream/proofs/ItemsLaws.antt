@@ -111,7 +111,8 @@ unfolding items_by items_in
 items_by-nil ended at = refl
 
 -- a step of the walk
-items_by-cons : (ended : Bool) (at : ℕ) (bit : Bool) (bits : List Bool) → items_by ended at (bit ∷ bits) ≡ cond (ended || is_decided (bit ∷ bits)) (first_item at (bit ∷ bits) ∷ items_by ended (at + covered (first_item at (bit ∷ bits))) (drop (covered (first_item at (bit ∷ bits))) (bit ∷ bits))) []
+items_by-cons : (ended : Bool) (at : ℕ) (bit : Bool) (bits : List Bool)
+    → items_by ended at (bit ∷ bits) ≡ cond (ended || is_decided (bit ∷ bits)) (first_item at (bit ∷ bits) ∷ items_by ended (at + covered (first_item at (bit ∷ bits))) (drop (covered (first_item at (bit ∷ bits))) (bit ∷ bits))) []
 unfolding items_by items_in
 items_by-cons ended at bit bits =
     let item = first_item at (bit ∷ bits) in
@@ -120,7 +121,8 @@ items_by-cons ended at bit bits =
     let less : length rest ≤ length bits = omega (arith, length-drop (covered item) (bit ∷ bits)) in
     ap (λ items. cond (ended || is_decided (bit ∷ bits)) (item ∷ items) []) (items_in-enough (length bits) (length rest) ended (at + covered item) rest less (omega arith))
 
-pub items_by-more : (ended : Bool) (at : ℕ) (bits : List Bool) → 0 < length bits → (ended || is_decided bits) ≡ true → items_by ended at bits ≡ first_item at bits ∷ items_by ended (at + covered (first_item at bits)) (drop (covered (first_item at bits)) bits)
+pub items_by-more : (ended : Bool) (at : ℕ) (bits : List Bool) → 0 < length bits → (ended || is_decided bits) ≡ true
+    → items_by ended at bits ≡ first_item at bits ∷ items_by ended (at + covered (first_item at bits)) (drop (covered (first_item at bits)) bits)
 items_by-more ended at [] some goes = absurd (omega arith)
 items_by-more ended at (bit ∷ bits) some goes = items_by-cons ended at bit bits ∙ cond-true (ended || is_decided (bit ∷ bits)) _ [] goes
 
@@ -202,7 +204,8 @@ or_true true decided is = refl
 or_true false decided is = is
 
 -- the items of more bits, where the first is decided
-pub items_by-decided : (ended : Bool) (at : ℕ) (bits more : List Bool) → is_decided bits ≡ true → items_by ended at (bits ++ more) ≡ first_item at bits ∷ items_by ended (at + covered (first_item at bits)) (drop (covered (first_item at bits)) bits ++ more)
+pub items_by-decided : (ended : Bool) (at : ℕ) (bits more : List Bool) → is_decided bits ≡ true
+    → items_by ended at (bits ++ more) ≡ first_item at bits ∷ items_by ended (at + covered (first_item at bits)) (drop (covered (first_item at bits)) bits ++ more)
 items_by-decided ended at bits more decided =
     let some = decided-some bits decided in
     let stays = first_item-append at bits more decided in

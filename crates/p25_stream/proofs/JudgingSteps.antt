@@ -52,7 +52,8 @@ window-unsynced bits window is far =
     ]
 
 -- the windows of a field are those of the bits that it stands in
-pub window_in : (bits : List Bool) (k count place number : ℕ) → k + 47 + count ≤ length bits → place < count → number ≡ field_of (part k (47 + count) bits) → has_sync (part place 48 (bits_of (47 + count) number)) ≡ has_sync (drop (k + place) bits)
+pub window_in : (bits : List Bool) (k count place number : ℕ) → k + 47 + count ≤ length bits → place < count → number ≡ field_of (part k (47 + count) bits)
+    → has_sync (part place 48 (bits_of (47 + count) number)) ≡ has_sync (drop (k + place) bits)
 window_in bits k count place number there inside is =
     let fits : k + (47 + count) ≤ length bits = omega arith in
     let within : place + 48 ≤ 47 + count = omega arith in

@@ -46,7 +46,8 @@ pub drained-few : (beginning : Beginning) (scan : Scan) → given scan ≡ [] �
 drained-few beginning scan none going is = IsBeginning-few beginning scan.held is (drained-open beginning scan none going is)
 
 -- the first item given, with the bits that it covers
-pub gave-first : (scan now : Scan) (item : Item) (raw : List Bool) → (given scan ≡ [] → ⊥) → item ≡ first_item scan.place scan.held → raw ≡ take (covered item) scan.held → now.held ≡ drop (covered item) scan.held → now.place ≡ scan.place + covered item → now.finished ≡ scan.finished → Gave scan item raw now
+pub gave-first : (scan now : Scan) (item : Item) (raw : List Bool) → (given scan ≡ [] → ⊥) → item ≡ first_item scan.place scan.held → raw ≡ take (covered item) scan.held
+    → now.held ≡ drop (covered item) scan.held → now.place ≡ scan.place + covered item → now.finished ≡ scan.finished → Gave scan item raw now
 gave-first scan now item raw some is raw_bits left place same =
     let goes = items_by-some scan.finished scan.place scan.held some in
     let fits = covered-first_item scan.place scan.held goes.0 in
@@ -65,7 +66,8 @@ gave-first scan now item raw some is raw_bits left place same =
     }
 
 -- it is the first whatever bits come later
-gave-ended : (ended finished : Bool) (at : ℕ) (held more : List Bool) (item : Item) (items : List Item) → items_by finished at held ≡ item ∷ items → (finished ≡ true → (ended ≡ true) × (more ≡ [])) → items_by ended at (held ++ more) ≡ item ∷ items_by ended (at + covered item) (drop (covered item) held ++ more)
+gave-ended : (ended finished : Bool) (at : ℕ) (held more : List Bool) (item : Item) (items : List Item) → items_by finished at held ≡ item ∷ items → (finished ≡ true → (ended ≡ true) × (more ≡ []))
+    → items_by ended at (held ++ more) ≡ item ∷ items_by ended (at + covered item) (drop (covered item) held ++ more)
 gave-ended ended true at held more item items is goes =
     let none = goes refl in
     let parts = items_by-first true at held item items is in
