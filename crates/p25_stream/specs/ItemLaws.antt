@@ -108,7 +108,8 @@ TerminatorIsRead =
 -- and the first item is a terminator with some code only there
 abbrev pub TerminatorIsThere : Type 0
 TerminatorIsThere =
-    (at nac : ℕ) (bits : List Bool) (place : ℕ) (statuses : List Status) (fixes : ℕ) → first_item at bits ≡ Whole place (terminator nac statuses) fixes
+    (at nac : ℕ) (bits : List Bool) (place : ℕ) (statuses : List Status) (fixes : ℕ)
+    → first_item at bits ≡ Whole place (terminator nac statuses) fixes
     → HasTerminator nac bits × (place ≡ at) × (statuses ≡ statuses_of (take 144 bits)) × (fixes ≡ sync_errors bits + identifier_errors nac bits)
 
 -- the bits that are sent for a terminator are read as it, with no fixes, whatever bits follow

@@ -5,6 +5,9 @@ ghost use Rattle.p25_stream.specs.Beginnings.{is_settled, waits};
 
 use p25_units::{Begun, Field};
 
+// How many bits behind a place are needed to judge it.
+pub(crate) const BEHIND: usize = 47;
+
 /// What a scanner remembers of the item that the bits it holds begin with.
 #[derive(Clone, Copy)]
 pub enum Beginning {
@@ -27,7 +30,7 @@ impl Beginning {
         ensures { result ≡ waits self.now have }
     {
         match self {
-            Beginning::Searching(clear) => have.saturating_sub(47) <= *clear,
+            Beginning::Searching(clear) => have.saturating_sub(BEHIND) <= *clear,
             Beginning::Waiting(count, _) => have < *count,
             Beginning::Gap(_) => false,
             Beginning::Ready(_, _) => false,

@@ -8,16 +8,13 @@ ghost use Rattle.p25_units.specs.Items.{IsSoundItem};
 ghost use Rattle.p25_stream.specs.Beginnings.{IsBeginning, WasBeginning, is_settled};
 ghost use Rattle.p25_stream.specs.Items.{first_item, sync_place};
 
-use crate::beginning::Beginning;
+use crate::beginning::{BEHIND, Beginning};
 use p25_bits::BitBuf;
 use p25_status::is_sync_window;
 use p25_units::{Begun, Field, Item, Need, need_begun, unit_item};
 
 // The most bits of a gap.
 const GAP_MOST: usize = 4_096;
-
-// How many bits behind a place are needed to judge it.
-const BEHIND: usize = 47;
 
 // How many places the bits of one number judge.
 const AT_ONCE: usize = 8;
@@ -126,6 +123,27 @@ fn beginning_at_sync(held: &BitBuf, begun: Begun) -> Beginning
     }
 }
 
+// Notes, where two counts tell it, that the next eight places have no sync: mostly they have none where an octet has come.
+// Answers whether it did.
+#[inline]
+pub(crate) fn passes_eight(beginning: &mut Beginning, held: &BitBuf) -> bool
+    requires { WasBeginning beginning.old held.now }
+    ensures passed { result ≡ true → IsBeginning beginning.new held.now }
+    ensures same { result ≡ false → beginning.new ≡ beginning.old }
+{
+    let Beginning::Searching(clear) = *beginning else {
+        return false;
+    };
+    if clear + AT_ONCE < GAP_MOST
+        && held.len() == clear + AT_ONCE + BEHIND
+        && none_of_eight(held.field(clear, (AT_ONCE + BEHIND) as u32))
+    {
+        *beginning = Beginning::Searching(clear + AT_ONCE);
+        return true;
+    }
+    false
+}
+
 // Sets what is known once more bits have come, where the first item was not known before.
 #[inline(never)]
 pub(crate) fn judge_more(beginning: &mut Beginning, held: &BitBuf)
@@ -151,27 +169,6 @@ fn beginning_after(beginning: Beginning, held: &BitBuf) -> Beginning
     }
 }
 
-// Notes, where two counts tell it, that the next eight places have no sync: mostly they have none where an octet has come.
-// Answers whether it did.
-#[inline]
-pub(crate) fn passes_eight(beginning: &mut Beginning, held: &BitBuf) -> bool
-    requires { WasBeginning beginning.old held.now }
-    ensures passed { result ≡ true → IsBeginning beginning.new held.now }
-    ensures same { result ≡ false → beginning.new ≡ beginning.old }
-{
-    let Beginning::Searching(clear) = *beginning else {
-        return false;
-    };
-    if clear + AT_ONCE < GAP_MOST
-        && held.len() == clear + AT_ONCE + BEHIND
-        && none_of_eight(held.field(clear, (AT_ONCE + BEHIND) as u32))
-    {
-        *beginning = Beginning::Searching(clear + AT_ONCE);
-        return true;
-    }
-    false
-}
-
 // The same at a sync behind which so many bits were waited for.
 fn beginning_waiting(held: &BitBuf, count: usize, begun: Begun) -> Beginning
     requires { WasBeginning (Beginning.Waiting count begun) held.now }
@@ -184,7 +181,8 @@ fn beginning_waiting(held: &BitBuf, count: usize, begun: Begun) -> Beginning
     }
 }
 
-// The first item of some bits, made apart from its caller, which copies it once; where it is not known, they are all there are.
+// The first item of some bits; where it is not known, they are all there are. It is large, so it is made apart from its
+// caller.
 #[inline(never)]
 pub(crate) fn item_of_beginning(beginning: Beginning, held: &BitBuf, place: u64) -> Item
     requires { IsBeginning beginning held.now }

@@ -1,5 +1,5 @@
 -- Terminators (TIA-102.BAAA, Simple Terminator Data Unit) as they are sent and as they are received.
-use Rattle.std.specs.Prelude.{ℕ, ◌<◌, ◌≤◌, Bool, false, List, ◌++◌, length, take, replicate}
+use Rattle.std.specs.Prelude.{◌≡◌, ◌↔◌, ℕ, ◌+◌, ◌<◌, ◌≤◌, Bool, false, List, ◌++◌, length, take, replicate}
 use Rattle.p25_bits.specs.Distance.{distance_of}
 use Rattle.p25_status.specs.Sync.{sync_bits}
 use Rattle.p25_status.specs.Woven.{woven}
@@ -7,7 +7,9 @@ use Rattle.p25_status.specs.declared.symbols.Status.{Status}
 use Rattle.p25_bch_nid.specs.NidWord.{nid_word}
 use Rattle.p25_front.specs.Front.{identifier_bits}
 use Rattle.p25_voice_units.specs.declared.unit.VoiceUnit.TheVariants.{End}
+use Rattle.p25_units.specs.Fixes.{fixes_of}
 use Rattle.p25_units.specs.UnitParts.{UnitParts}
+use Rattle.p25_units.specs.WithinRadius.{IsWithinRadius}
 use Rattle.p25_units.specs.declared.unit.Body.TheVariants.{Voice}
 use Rattle.p25_units.specs.declared.frame.Frame.{Frame}
 
@@ -36,3 +38,15 @@ pub record HasTerminator (nac : ℕ) (bits : List Bool) : Type 0 where
   pub fits : nac < 4096
   pub sync : sync_errors bits ≤ 4
   pub identifier : identifier_errors nac bits ≤ 11
+
+-- they do exactly where the first 144 lie within radius of its frame
+abbrev pub TerminatorIsNear : Type 0
+TerminatorIsNear =
+    (nac : ℕ) (statuses : List Status) (bits : List Bool) → length statuses ≡ 2 → nac < 4096 → 144 ≤ length bits
+    → HasTerminator nac bits ↔ IsWithinRadius (terminator nac statuses) (take 144 bits)
+
+-- its fixes are the wrong bits of both
+abbrev pub ErrorsAreFixes : Type 0
+ErrorsAreFixes =
+    (nac : ℕ) (statuses : List Status) (bits : List Bool)
+    → 144 ≤ length bits → fixes_of (terminator nac statuses) (take 144 bits) ≡ sync_errors bits + identifier_errors nac bits
