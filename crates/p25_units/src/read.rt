@@ -34,7 +34,8 @@ pub fn read_unit(bits: &BitBuf, at: usize, count: usize) -> Result<Frame, FieldL
     }
 }
 
-// The same, where the identifier was read.
+// The same, where the identifier was read. A frame is large: made apart from its caller, it is copied at once.
+#[inline(never)]
 pub(crate) fn read_identified(
     bits: &BitBuf,
     at: usize,

@@ -12,3 +12,4 @@ pub mod FieldCodesLaws
 pub mod ReadingLaws
 pub mod RadiusLaws
 pub mod FixesLaws
+pub mod ImageReadingLaws
