@@ -32,7 +32,7 @@ use Rattle.p25_voice_units.specs.Layouts.{header_rows, link_rows, end_rows, end_
 use Rattle.p25_voice_units.specs.FieldLayouts.{word_places, header_layout, link_layout, sync_layout, end_link_layout}
 use Rattle.p25_voice_units.specs.Lengths.{voice_duid, voice_length_of}
 use Rattle.p25_voice_units.specs.Sendable.{IsVoiceFrame, IsSpeech, IsSendableVoice}
-use Rattle.p25_voice_units.specs.Images.{contents, golay18_word, golay24_word, hamming10_word, rows_bits, voice_body, voice_image_of}
+use Rattle.p25_voice_units.specs.Images.{Contents, contents, golay18_word, golay24_word, hamming10_word, rows_bits, voice_body, voice_image_of}
 use Rattle.p25_voice_units.specs.Places.{IsLaidOut, IsVoiceImage}
 use Rattle.p25_voice_units.proofs.CodesLaws.{golay18_encodes, golay24_encodes, hamming10_encodes, header_code, link_code, sync_code}
 use Rattle.p25_voice_units.proofs.LengthsLaws.{length-header, length-link1, length-link2, length-end, length-end_link}
