@@ -244,11 +244,14 @@ fn terminators(rt: HostRuntime) {
 
 #[test]
 fn voice_is_answered_as_received(rt: HostRuntime) {
+    let unit = link1(0x35);
+    let mut image = BitBuf::new();
+    voice_image(0, &unit, &mut image);
     let mut plain = BitBuf::new();
-    voice_image(0, &link1(0x35), &mut plain);
+    plain.append(&image, 0, image.len());
     invert(&mut plain, 1536, 4);
-    assert!(rt; plain.len() == 1680);
-    match read_voice(5, &plain) {
+    assert!(rt; plain.len() == image.len());
+    match read_voice(unit.duid(), &plain) {
         Ok(read) => assert!(rt; read == link1(0xC5)),
         Err(_) => assert!(rt; false, "not read"),
     }
