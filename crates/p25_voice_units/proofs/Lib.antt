@@ -13,5 +13,4 @@ pub mod ReadingLaws
 pub mod RadiusLaws
 pub mod FixesLaws
 pub mod ImageReadingLaws
-pub mod ReadNearLaws
 pub mod WholeLaws

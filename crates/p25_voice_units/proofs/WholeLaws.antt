@@ -1,19 +1,16 @@
 -- What a voice unit was read as lies within radius of its bits: each part that was read is the word of its code near to what was
 -- received, and the unit's own bits have the only word with this information.
-use Rattle.std.proofs.Common.{◌≡◌, ℕ, zero, suc, ◌+◌, ◌<◌, ◌≤◌, Bool, List, [], ◌∷◌, length, take, slice_index, Option, Some, None, option_map, Ok, Err, Result, All, refl, ap, sym, ◌∙◌, subst, arith, lit<, lit≤}
+use Rattle.std.proofs.Common.{◌≡◌, ℕ, zero, suc, ◌≤◌, Bool, List, [], ◌∷◌, length, take, slice_index, Option, Some, None, option_map, Ok, All, refl, ap, sym, ◌∙◌, subst, arith, lit<}
 use Rattle.std.specs.Bool.{beq}
 use Rattle.std.proofs.lemmas.List.{length-take-le}
 use Rattle.p25_bits.specs.Bits.{bits_of, field_of, part}
 use Rattle.p25_bits.specs.Distance.{distance_of}
 use Rattle.p25_bits.proofs.BitsLaws.{bits_of-field_of}
-use Rattle.p25_code.specs.Readings.{IsNear, IsReadAs}
+use Rattle.p25_code.specs.Readings.{IsReadAs}
 use Rattle.p25_code.specs.Words.{IsEncoding}
 use Rattle.p25_gf64.specs.declared.symbol.Sym.{Sym}
-use Rattle.p25_golay.specs.Golay18.{IsGolay18}
 use Rattle.p25_golay.specs.Golay18Readings.{golay18_reading_of}
-use Rattle.p25_golay.specs.Golay24.{IsGolay24}
 use Rattle.p25_golay.specs.Golay24Readings.{golay24_reading_of}
-use Rattle.p25_hamming.specs.Hamming10.{IsHamming10}
 use Rattle.p25_hamming.specs.Hamming10Readings.{hamming10_reading_of}
 use Rattle.p25_hamming.specs.Lsd16.{IsLsd16}
 use Rattle.p25_hamming.specs.Lsd16Laws.{lsd16_is_code}
@@ -23,11 +20,7 @@ use Rattle.p25_link.specs.declared.encryption_sync.EncryptionSync.{EncryptionSyn
 use Rattle.p25_link.specs.declared.header_word.HeaderWord.{HeaderWord}
 use Rattle.p25_link.specs.declared.link_control.LinkControl.{LinkControl}
 use Rattle.p25_link.proofs.WordsLaws.{header_symbols_back, link_symbols_back, sync_symbols_back}
-use Rattle.p25_reed_solomon.specs.Words.{IsWord, IsCode}
-use Rattle.p25_reed_solomon.specs.RsReadings.{rs_marked_reading_of}
-use Rattle.p25_status.specs.declared.fields.Field.{Field}
-use Rattle.p25_fields.specs.Layouts.{Layout, field_layout, field_reading_of}
-use Rattle.p25_fields.specs.Within.{HasField, IsFieldNear}
+use Rattle.p25_fields.specs.Layouts.{field_reading_of}
 use Rattle.p25_fields.proofs.CodesLaws.{near_from_reading, field_information}
 use Rattle.p25_voice_units.specs.declared.layout.Piece.TheVariants.{Nulls}
 use Rattle.p25_voice_units.specs.declared.unit.VoiceUnit.{VoiceUnit}
@@ -38,7 +31,7 @@ use Rattle.p25_voice_units.specs.FieldLayouts.{word_places, header_layout, link_
 use Rattle.p25_voice_units.specs.Lengths.{voice_duid}
 use Rattle.p25_voice_units.specs.Places.{HasPiece, IsVoiceImage}
 use Rattle.p25_voice_units.specs.Readings.{low_places, voice_in, low_in, header_in, link_in, sync_in, header_from, link1_from, link1_in, link2_from, link2_in, end_link_from, voice_reading_of}
-use Rattle.p25_voice_units.specs.WithinRadius.{AreLowWithin, IsLinkWithin, IsVoiceWithin}
+use Rattle.p25_voice_units.specs.WithinRadius.{AreLowWithin, IsVoiceWithin}
 use Rattle.p25_voice_units.proofs.CodesLaws.{header_code, link_code, sync_code}
 use Rattle.p25_voice_units.proofs.KindsLaws.{reading-header, reading-link1, reading-link2, reading-end_link}
 
@@ -102,7 +95,8 @@ low_whole at octet sent received (Some found) is read word =
     let same = lsd16_is_code.one_word found (part at 16 sent) is.word_of_set word.word_of_set (begins ∙ sym word.begins) in
     subst (λ (w : List Bool). distance_of (part at 16 received) w ≤ 2) same is.within
 
-low_words_whole : (low : List ℕ) (voice : List VoiceFrame) (sent received : List Bool) → All (λ row. HasPiece low voice sent row.0 row.1) link_rows → low_in 0 received ≡ Some (slice_index low 0) → low_in 1 received ≡ Some (slice_index low 1)
+low_words_whole : (low : List ℕ) (voice : List VoiceFrame) (sent received : List Bool) → All (λ row. HasPiece low voice sent row.0 row.1) link_rows → low_in 0 received ≡ Some (slice_index low 0)
+    → low_in 1 received ≡ Some (slice_index low 1)
     → AreLowWithin sent received
 unfolding low_in low_places
 low_words_whole low voice sent received pieces first second zero d inside =

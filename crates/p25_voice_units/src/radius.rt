@@ -27,5 +27,6 @@ pub fn radius_laws()
         → IsVoiceWithinByWords unit (voice_image_of nac unit) received → IsVoiceWithin unit (voice_image_of nac unit) received }
     ensures undamaged { (nac : ℕ) (unit : VoiceUnit) → IsSendableVoice unit → IsVoiceWithin unit (voice_image_of nac unit) (voice_image_of nac unit) }
     ensures again { (nac : ℕ) (unit : VoiceUnit) → IsSendableVoice unit → voice_reading_of (voice_duid unit) (voice_image_of nac unit) ≡ Ok unit }
-    ensures whole { (nac duid : ℕ) (received : List Bool) (unit : VoiceUnit) → voice_reading_of duid received ≡ Ok unit → IsVoiceWithin unit (voice_image_of nac unit) received }
+    ensures whole { (nac duid : ℕ) (received : List Bool) (unit : VoiceUnit) → voice_reading_of duid received ≡ Ok unit
+        → IsVoiceWithin unit (voice_image_of nac unit) received }
 {}
