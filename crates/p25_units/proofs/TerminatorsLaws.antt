@@ -15,9 +15,8 @@ use Rattle.p25_voice_units.specs.Lengths.{voice_length_of}
 use Rattle.p25_voice_units.specs.Sendable.{IsSendableVoice}
 use Rattle.p25_voice_units.specs.WithinRadius.{IsVoiceWithin}
 use Rattle.p25_voice_units.specs.Images.{voice_image_of, voice_body, rows_bits, piece_bits}
-use Rattle.p25_units.specs.UnitParts.{UnitParts}
 use Rattle.p25_units.specs.declared.unit.Body.TheVariants.{Voice}
-use Rattle.p25_units.specs.Fixes.{body_fixes_of, fixes_of}
+use Rattle.p25_units.specs.Fixes.{fixes_of}
 use Rattle.p25_units.specs.Terminators.{terminator, terminator_bits, sync_errors, identifier_errors, HasTerminator}
 use Rattle.p25_units.specs.Units.{unit_image_of, frame_length_of, image_of, IsWholeBody, IsSoundFrame, IsSendableBody, IsSendableUnit}
 use Rattle.p25_units.specs.WithinRadius.{IsBodyWithin, IsFrontWithin, IsWithinRadius}

@@ -1,6 +1,6 @@
 -- A voice unit that was read has its own bits within radius of those that were received: the outer word of its coded field is the one
 -- that was read, and each of its low speed words too, since a word is told by its information.
-use Rattle.std.proofs.Common.{◌≡◌, ℕ, ◌+◌, ◌-◌, ◌*◌, ◌<◌, ◌≤◌, Bool, List, [], ◌∷◌, length, take, slice_index, Option, Some, None, option_map, Result, Ok, Err, All, refl, ap, sym, ◌∙◌, subst, arith, lit<}
+use Rattle.std.proofs.Common.{◌≡◌, ℕ, ◌-◌, ◌≤◌, Bool, List, [], ◌∷◌, length, take, slice_index, Option, Some, None, option_map, Ok, All, refl, ap, sym, ◌∙◌, subst, arith, lit<}
 use Rattle.std.specs.Bool.{beq}
 use Rattle.std.proofs.lemmas.List.{length-take-le}
 use Rattle.std.proofs.lemmas.List.Elements.{All-cons, All-nil}
@@ -9,7 +9,7 @@ use Rattle.p25_bits.specs.Distance.{distance_of}
 use Rattle.p25_bits.proofs.BitsLaws.{bits_of-field_of}
 use Rattle.p25_code.specs.Marks.{marked_cost}
 use Rattle.p25_code.specs.MarkedReadings.{IsWithinCost, IsMarkedReadAs}
-use Rattle.p25_code.specs.Readings.{IsNear, IsReadAs}
+use Rattle.p25_code.specs.Readings.{IsReadAs}
 use Rattle.p25_code.specs.Words.{IsEncoding}
 use Rattle.p25_gf64.specs.declared.symbol.Sym.{Sym}
 use Rattle.p25_golay.specs.Golay18.{IsGolay18}
@@ -29,7 +29,6 @@ use Rattle.p25_link.specs.declared.encryption_sync.EncryptionSync.{EncryptionSyn
 use Rattle.p25_link.specs.declared.header_word.HeaderWord.{HeaderWord}
 use Rattle.p25_link.specs.Words.{header_of_symbols, header_symbols, link_of_symbols, link_symbols, sync_of_symbols, sync_symbols}
 use Rattle.p25_link.proofs.WordsLaws.{header_symbols_back, link_symbols_back, sync_symbols_back}
-use Rattle.p25_status.specs.declared.fields.Field.{Field}
 use Rattle.p25_fields.specs.Layouts.{Layout, field_layout, received_in, sent_in, outer_word_of, field_reading_of}
 use Rattle.p25_fields.specs.Within.{HasField, IsFieldNear}
 use Rattle.p25_voice_units.specs.declared.layout.Piece.TheVariants.{Nulls}
@@ -39,9 +38,9 @@ use Rattle.p25_voice_units.specs.declared.voice.VoiceFrame.{VoiceFrame}
 use Rattle.p25_voice_units.specs.Layouts.{header_rows, link_rows, end_link_rows}
 use Rattle.p25_voice_units.specs.FieldLayouts.{word_places, header_layout, link_layout, sync_layout, end_link_layout}
 use Rattle.p25_voice_units.specs.Lengths.{voice_duid}
-use Rattle.p25_voice_units.specs.Places.{HasPiece, IsLaidOut, IsVoiceImage}
+use Rattle.p25_voice_units.specs.Places.{HasPiece, IsVoiceImage}
 use Rattle.p25_voice_units.specs.Readings.{low_places, voice_in, low_in, header_in, link_in, sync_in, header_from, link1_from, link2_from, end_link_from, link1_in, link2_in, voice_reading_of}
-use Rattle.p25_voice_units.specs.WithinRadius.{AreLowWithin, IsLinkWithin, IsVoiceWithin}
+use Rattle.p25_voice_units.specs.WithinRadius.{AreLowWithin, IsVoiceWithin}
 use Rattle.p25_voice_units.proofs.CodesLaws.{header_code, link_code, sync_code}
 use Rattle.p25_voice_units.proofs.KindsLaws.{reading-header, reading-link1, reading-link2, reading-end_link}
 
