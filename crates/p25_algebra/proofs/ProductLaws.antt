@@ -1,4 +1,5 @@
--- Products of polynomials by their coefficients.
+-- Products of polynomials by their coefficients: a product is the sum of the second factor's multiples by the first factor's terms, and degrees add, since
+-- the leading coefficient is a product of two that are not zero.
 use Rattle.std.proofs.Common.{◌≡◌, ◌≢◌, ◌⊎◌, ℕ, zero, suc, ◌+◌, ◌-◌, ◌<◌, ◌≤◌, cond, eqb, refl, sym, ap, ap₂, ◌∙◌, inl, inr, arith}
 use Rattle.std.proofs.lemmas.Bool.{cases_eq, cases_lt, lt-ltb, le-ltb, eq-eqb, ne_eqb}
 use Rattle.p25_gf64.specs.Field.{Field}

@@ -1,4 +1,4 @@
--- Finite sums in a field.
+-- Finite sums in a field. By induction on the number of terms.
 use Rattle.std.proofs.Common.{◌≡◌, ◌≢◌, ℕ, zero, suc, ◌-◌, ◌<◌, ◌≤◌, refl, sym, ap, ap₂, ◌∙◌, inl, inr, arith}
 use Rattle.std.proofs.lemmas.Bool.{cases_eq}
 use Rattle.p25_gf64.specs.Field.{Field}

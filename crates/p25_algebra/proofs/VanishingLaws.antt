@@ -1,5 +1,6 @@
 -- Power sums over different elements: where at most m factors are not zero and the sums vanish for m
--- successive exponents, every factor is zero.
+-- successive exponents, every factor is zero. By induction on the elements: times the sum of its element and the last one, each factor keeps
+-- its zeros, the last drops out, and the sums vanish for one exponent less.
 use Rattle.std.proofs.Common.{◌≡◌, ◌≢◌, ◌⊎◌, ℕ, zero, suc, ◌+◌, ◌<◌, ◌≤◌, refl, sym, ap, ap₂, ◌∙◌, inl, inr, arith}
 use Rattle.std.proofs.lemmas.Bool.{cases_eq}
 use Rattle.p25_gf64.specs.Field.{Field, power}

@@ -1,4 +1,4 @@
--- Numbers and the bits that write them.
+-- Numbers and the bits that write them. By induction on the bits or on the width: the first bit is the highest.
 use Rattle.std.proofs.Common.{◌≡◌, ℕ, zero, suc, ◌+◌, ◌-◌, ◌*◌, ◌/◌, ◌%◌, ◌^◌, ◌<◌, ◌≤◌, inl, inr, Bool, true, false, eqb, List, [], ◌∷◌, ◌++◌, length, take, drop, refl, ap, ap₂, sym, ◌∙◌, arith, length-append, get_or, add-one, bit_and}
 use Rattle.std.specs.Int.{bit_at}
 use Rattle.std.proofs.Math.Nat.{pow-suc, add-mul, mul_comm, mul_assoc, mod-one}

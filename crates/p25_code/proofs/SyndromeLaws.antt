@@ -1,4 +1,4 @@
--- Laws of syndromes: sums of columns at the places where a word is 1.
+-- Laws of syndromes: sums of columns at the places where a word is 1. By induction on the columns and the bits.
 use Rattle.std.proofs.Common.{◌≡◌, ℕ, zero, suc, ◌+◌, ◌*◌, ◌^◌, ◌<◌, ◌≤◌, Bool, true, false, cond, List, [], ◌∷◌, ◌++◌, length, drop, get_or, bit_xor, refl, ap, ap₂, sym, ◌∙◌, arith}
 use Rattle.std.specs.Bool.{beq}
 use Rattle.std.specs.Int.Bits.{xor_assoc, xor_self, xor_zero_l, xor_zero_r}

@@ -1,4 +1,4 @@
--- What follows from the laws of a field of characteristic 2.
+-- What follows from the laws of a field of characteristic 2, by chains of equations.
 use Rattle.std.proofs.Common.{◌≡◌, ◌≢◌, ◌⊎◌, sym, ap, ap₂, ◌∙◌, inl, inr}
 use Rattle.p25_gf64.specs.Field.{Field}
 

@@ -3,4 +3,4 @@ pub mod WordsSteps
 pub mod HexLaws
 pub mod ValuesSteps
 pub mod JoinLaws
-pub mod Decimals
+pub mod DecimalLaws

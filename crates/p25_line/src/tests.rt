@@ -4,7 +4,7 @@ use super::{Line, LineFault, WordList, hex_value, number_value, words_of};
 use std::test::Fail;
 
 #[test]
-#[tactic(auto, using(crate::proofs::Decimals::decimal_short))]
+#[tactic(auto, using(crate::proofs::DecimalLaws::decimal_short))]
 fn line_of_pieces(rt: HostRuntime) {
     let mut line = Line::new();
     line.put(b"left over");

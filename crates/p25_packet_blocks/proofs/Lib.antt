@@ -1,6 +1,7 @@
 pub mod FlagLaws
 pub mod FlagSteps
 pub mod HeadLaws
+pub mod HeadSteps
 pub mod ReadingLaws
 pub mod ReadingSteps
 pub mod ImageLaws

@@ -6,9 +6,9 @@ ghost use Rattle.p25_packet_blocks.specs.Heads.{head_format, head_is_full, head_
 #[derive(Clone, Copy, Debug, PartialEq, Eq)]
 pub struct PacketHead(pub [u8; 10]);
 
-#[tactic(auto, unfolding(crate::specs::Heads::head_format, crate::specs::Heads::head_is_full, crate::specs::Heads::head_blocks, crate::specs::Heads::head_pad, crate::specs::Heads::head_llid, crate::specs::Heads::head_syn, crate::specs::Heads::head_number, crate::specs::Heads::response_class, crate::specs::Heads::response_kind, crate::specs::Heads::response_status))]
 impl PacketHead {
     /// Answers the format, five bits: 16 hex of a confirmed packet, 15 hex of an unconfirmed one and 03 hex of a response.
+    #[tactic(auto, unfolding(crate::specs::Heads::head_format))]
     pub fn format(&self) -> u8
         ensures value { result ≡ head_format self.now }
         ensures below { result < 32 }
@@ -17,6 +17,7 @@ impl PacketHead {
     }
 
     /// Answers the full message flag.
+    #[tactic(auto, unfolding(crate::specs::Heads::head_is_full))]
     pub fn is_full(&self) -> bool
         ensures { result ≡ head_is_full self.now }
     {
@@ -24,6 +25,7 @@ impl PacketHead {
     }
 
     /// Answers the number of blocks to follow, seven bits.
+    #[tactic(auto, unfolding(crate::specs::Heads::head_blocks))]
     pub fn blocks(&self) -> u8
         ensures value { result ≡ head_blocks self.now }
         ensures below { result < 128 }
@@ -32,6 +34,7 @@ impl PacketHead {
     }
 
     /// Answers the number of pad octets, five bits.
+    #[tactic(auto, unfolding(crate::specs::Heads::head_pad))]
     pub fn pad(&self) -> u8
         ensures value { result ≡ head_pad self.now }
         ensures below { result < 32 }
@@ -40,6 +43,7 @@ impl PacketHead {
     }
 
     /// Answers the number N(S) of a confirmed packet, three bits.
+    #[tactic(auto, unfolding(crate::specs::Heads::head_number))]
     pub fn number(&self) -> u8
         ensures value { result ≡ head_number self.now }
         ensures below { result < 8 }
@@ -48,6 +52,7 @@ impl PacketHead {
     }
 
     /// Answers Syn, the flag of a confirmed packet that opens a link.
+    #[tactic(auto, unfolding(crate::specs::Heads::head_syn))]
     pub fn syn(&self) -> bool
         ensures { result ≡ head_syn self.now }
     {
@@ -55,6 +60,7 @@ impl PacketHead {
     }
 
     /// Answers the logical link identifier, LLID, 24 bits.
+    #[tactic(auto, unfolding(crate::specs::Heads::head_llid))]
     pub fn llid(&self) -> u32
         ensures value { result ≡ head_llid self.now }
         ensures below { result < 2 ^ 24 }
@@ -63,6 +69,7 @@ impl PacketHead {
     }
 
     /// Answers the class of a response, two bits.
+    #[tactic(auto, unfolding(crate::specs::Heads::response_class))]
     pub fn class(&self) -> u8
         ensures value { result ≡ response_class self.now }
         ensures below { result < 4 }
@@ -71,6 +78,7 @@ impl PacketHead {
     }
 
     /// Answers the type of a response, three bits.
+    #[tactic(auto, unfolding(crate::specs::Heads::response_kind))]
     pub fn kind(&self) -> u8
         ensures value { result ≡ response_kind self.now }
         ensures below { result < 8 }
@@ -79,6 +87,7 @@ impl PacketHead {
     }
 
     /// Answers the status of a response, three bits.
+    #[tactic(auto, unfolding(crate::specs::Heads::response_status))]
     pub fn status(&self) -> u8
         ensures value { result ≡ response_status self.now }
         ensures below { result < 8 }
@@ -87,7 +96,6 @@ impl PacketHead {
     }
 }
 
-#[tactic(auto, unfolding(crate::specs::Heads::head_format, crate::specs::Heads::head_is_full, crate::specs::Heads::head_blocks, crate::specs::Heads::head_pad, crate::specs::Heads::head_llid, crate::specs::Heads::head_syn, crate::specs::Heads::head_number, crate::specs::Heads::response_class, crate::specs::Heads::response_kind, crate::specs::Heads::response_status, crate::specs::Heads::confirmed_head, crate::specs::Heads::response_head, crate::specs::Heads::opening_head))]
 impl PacketHead {
     /// Answers the header of a confirmed packet of data: format 16 hex, and Syn 0.
     pub fn confirmed(llid: u32, full: bool, blocks: u8, pad: u8, number: u8) -> PacketHead

@@ -1,4 +1,4 @@
--- Division of polynomials, a coefficient of the quotient at a time.
+-- Division of polynomials, a coefficient of the quotient at a time, by which the remainder loses its leading coefficient.
 use Rattle.std.proofs.Common.{◌≡◌, ◌≢◌, ℕ, ◌+◌, ◌-◌, ◌<◌, ◌≤◌, List, length, set, sym, ap, ap₂, ◌∙◌, inl, inr, arith}
 use Rattle.std.proofs.lemmas.Bool.{cases_eq, cases_lt}
 use Rattle.std.proofs.lemmas.List.{length-set}

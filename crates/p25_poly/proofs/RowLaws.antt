@@ -1,4 +1,5 @@
--- Rows of a linear system: clearing a column, correcting an unknown, and the steps of elimination.
+-- Rows of a linear system: clearing a column, correcting an unknown, and the steps of elimination. With the front row, cleared rows have the
+-- solutions of the rows; the unknown of the cleared column is free in them, and the front row corrects it.
 use Rattle.std.proofs.Common.{◌≡◌, ◌≢◌, ℕ, zero, suc, ◌+◌, ◌<◌, List, length, drop, Bool, false, ◌==◌, sym, ap, ap₂, ◌∙◌, arith}
 use Rattle.std.proofs.lemmas.Bool.{eqb-false}
 use Rattle.std.proofs.lemmas.List.{get_or-drop, length-drop}

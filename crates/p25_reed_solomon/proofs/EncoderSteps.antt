@@ -1,4 +1,5 @@
--- The steps of the encoder of Reed-Solomon words.
+-- The steps of the encoder of Reed-Solomon words: the generator a factor at a time, the division a symbol at a time; the word is the sum of two
+-- lists that have one value at each power of α.
 use Rattle.std.proofs.Common.{◌≡◌, ◌≢◌, ℕ, ◌+◌, ◌-◌, ◌*◌, ◌<◌, ◌≤◌, List, replicate, set, sym, ap, ap₂, ◌∙◌, inl, inr, arith}
 use Rattle.std.proofs.lemmas.Bool.{cases_eq, cases_lt}
 use Rattle.std.proofs.lemmas.List.{length-replicate}

@@ -1,4 +1,4 @@
--- Multiples that are added to the symbols of a list, and values in 1/x.
+-- Multiples that are added to the symbols of a list, and values in 1/x: where a polynomial vanishes, a multiple of it changes no value.
 use Rattle.std.proofs.Common.{◌≡◌, ◌≢◌, ℕ, ◌+◌, ◌-◌, ◌<◌, ◌≤◌, List, length, set, take, length-take, refl, sym, ap, ap₂, ◌∙◌, inl, inr, arith}
 use Rattle.std.proofs.lemmas.Bool.{cases_eq, cases_lt}
 use Rattle.std.proofs.lemmas.List.{get_or-take, ext_get_or}

@@ -106,3 +106,9 @@ unfoldable pub reopened : Sending → Sending × Reopen
 reopened s =
     let number = opening_number s.outstanding s.next in
     if s.down then (record { next = s.next; outstanding = Opening number; tries = 1; down = false }, ReopenSent number (opening_packet number)) else (s, Up)
+
+-- the opening packet is outstanding
+abbrev pub is_opening : Outstanding → Bool
+is_opening Nothing = false
+is_opening (Message message) = false
+is_opening (Opening number) = true

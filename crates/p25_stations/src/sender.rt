@@ -102,7 +102,7 @@ impl Model for Sender {
 }
 
 impl Sender {
-    ghost use Rattle.p25_stations.specs.SenderRules.{first_sending, sending_after, tried, fallen, may_send, offered_beside, offered, resent, timed_out, acknowledged, repeated, retried, response_heard, sender_heard, reopened};
+    ghost use Rattle.p25_stations.specs.SenderRules.{first_sending, sending_after, tried, fallen, may_send, offered_beside, offered, resent, timed_out, acknowledged, repeated, retried, response_heard, sender_heard, reopened, is_opening};
 
     /// Answers a sender before its first message, whose number is 0.
     #[tactic(auto, unfolding(crate::specs::SenderState::IsNumbered))]
@@ -193,6 +193,13 @@ impl Sender {
             number,
             packet: sent::opening(number),
         }
+    }
+
+    /// Answers whether the opening packet is outstanding.
+    pub fn is_opening(&self) -> bool
+        ensures { result ≡ is_opening self.now.outstanding }
+    {
+        matches!(&self.outstanding, Outstanding::Opening(_))
     }
 
     // Makes a message outstanding.

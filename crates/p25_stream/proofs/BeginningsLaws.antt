@@ -1,6 +1,6 @@
 -- What a scanner remembers says what the first item is and whether it is decided, and stays true as bits come.
 use Rattle.std.proofs.Common.{◌≡◌, ℕ, ◌+◌, ◌-◌, ◌<◌, ◌≤◌, inl, inr, Bool, true, false, min, List, ◌++◌, length, drop, ap, sym, ◌∙◌, subst, arith, length-append}
-use Rattle.std.proofs.lemmas.Bool.{cases_Bool, cases_lt, le-leb, lt-leb}
+use Rattle.std.proofs.lemmas.Bool.{cases_Bool, cases_lt, le-leb, lt-leb, leb-true, ltb-true}
 use Rattle.p25_status.specs.Sync.{has_sync}
 use Rattle.p25_status.proofs.SyncLaws.{has_sync-length, has_sync-append}
 use Rattle.p25_status.specs.declared.fields.Field.{Field}
@@ -10,7 +10,7 @@ use Rattle.p25_units.specs.declared.needs.Need.TheVariants.{More, Length, NoLeng
 use Rattle.p25_units.proofs.NeedsLaws.{need_of-few, need_of-waits}
 use Rattle.p25_units.proofs.BegunSteps.{IsBegun-append}
 use Rattle.p25_stream.specs.Items.{sync_place, gap_of, gap_known, is_decided}
-use Rattle.p25_stream.specs.Beginnings.{Needs, HasNoUnit, IsSearched, IsKnownGap, is_settled, IsBeginning}
+use Rattle.p25_stream.specs.Beginnings.{Needs, HasNoUnit, IsSearched, IsKnownGap, is_settled, waits, IsBeginning}
 use Rattle.p25_stream.specs.declared.beginning.Beginning.{Beginning}
 use Rattle.p25_stream.specs.declared.beginning.Beginning.TheVariants.{Searching, Waiting, Gap, Ready, NoUnit}
 use Rattle.p25_stream.proofs.SyncPlaces.{sync_place-synced, sync_place-all, sync_place-from, sync_place-append_far}
@@ -110,6 +110,22 @@ waits-more bits more count begun is short = record {
   needs = need_of-waits bits more count is.synced is.needs short;
   read = IsBegun-append begun bits more is.read;
 }
+
+-- where the bits are too few for more to be known, what is known stays
+searching-stays : (bits more : List Bool) (clear : ℕ) → IsSearched bits clear → length (bits ++ more) - 47 ≤ clear → IsSearched (bits ++ more) clear
+searching-stays bits more clear is few = record {
+  few = is.few;
+  all = omega (arith, is.all, length-append bits more);
+  none = (searched-more bits more clear is).0;
+}
+
+pub waits-stays : (beginning : Beginning) (bits more : List Bool) → IsBeginning beginning bits → waits beginning (length (bits ++ more)) ≡ true → IsBeginning beginning (bits ++ more)
+unfolding IsBeginning
+waits-stays (Searching clear) bits more is few = searching-stays bits more clear is (leb-true (length (bits ++ more) - 47) clear few)
+waits-stays (Waiting count begun) bits more is few = waits-more bits more count begun is (ltb-true (length (bits ++ more)) count few)
+waits-stays (Gap count) bits more is few = absurd (cc)
+waits-stays (Ready count begun) bits more is few = absurd (cc)
+waits-stays (NoUnit field) bits more is few = absurd (cc)
 
 -- the bits that a gap covers are known by the first place behind them with a sync, or by their number
 pub gap-before_sync : (bits : List Bool) (k : ℕ) → 0 < k → k < 4096 → k ≤ sync_place bits → k + 48 ≤ length bits → has_sync (drop k bits) ≡ true → IsKnownGap bits k

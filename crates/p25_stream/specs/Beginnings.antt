@@ -1,5 +1,5 @@
 -- What a scanner remembers of the item that the bits it holds begin with.
-use Rattle.std.specs.Prelude.{◌≡◌, ℕ, ◌-◌, ◌<◌, ◌≤◌, Bool, true, false, List, ◌++◌, length}
+use Rattle.std.specs.Prelude.{◌≡◌, ℕ, ◌-◌, ◌<◌, ◌≤◌, Bool, true, false, nat_le, nat_lt, List, ◌++◌, length}
 use Rattle.p25_status.specs.Sync.{has_sync}
 use Rattle.p25_units.specs.Begins.{IsBegun}
 use Rattle.p25_units.specs.Needs.{need_of}
@@ -40,6 +40,14 @@ is_settled (Waiting count begun) = false
 is_settled (Gap count) = true
 is_settled (Ready count begun) = true
 is_settled (NoUnit field) = true
+
+-- so many bits are too few for more to be known
+abbrev pub waits : Beginning → ℕ → Bool
+waits (Searching clear) have = nat_le (have - 47) clear
+waits (Waiting count begun) have = nat_lt have count
+waits (Gap count) have = false
+waits (Ready count begun) have = false
+waits (NoUnit field) have = false
 
 -- this is true of the bits that are held
 unfoldable pub IsBeginning : Beginning → List Bool → Type 0

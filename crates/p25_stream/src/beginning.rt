@@ -1,7 +1,7 @@
 //! What is known of the item that some bits begin with.
 
 ghost use Rattle.std.specs.Prelude.{◌≡◌, true, false};
-ghost use Rattle.p25_stream.specs.Beginnings.{is_settled};
+ghost use Rattle.p25_stream.specs.Beginnings.{is_settled, waits};
 
 use p25_units::{Begun, Field};
 
@@ -21,6 +21,20 @@ pub enum Beginning {
 }
 
 impl Beginning {
+    // Whether so many bits are too few for more to be known.
+    #[inline]
+    pub(crate) fn waits(&self, have: usize) -> bool
+        ensures { result ≡ waits self.now have }
+    {
+        match self {
+            Beginning::Searching(clear) => have.saturating_sub(47) <= *clear,
+            Beginning::Waiting(count, _) => have < *count,
+            Beginning::Gap(_) => false,
+            Beginning::Ready(_, _) => false,
+            Beginning::NoUnit(_) => false,
+        }
+    }
+
     // Whether the first item is known.
     pub(crate) fn is_settled(&self) -> bool
         ensures { result ≡ is_settled self.now }

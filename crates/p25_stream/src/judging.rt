@@ -20,10 +20,31 @@ const GAP_MOST: usize = 4_096;
 const BEHIND: usize = 47;
 
 // How many places the bits of one number judge.
-const AT_ONCE: usize = 17;
+const AT_ONCE: usize = 8;
+
+// Every second bit of a sync is 1. Of the 55 bits from eight places on, these stand at such bits of the places 0, 2, 4
+// and 6 alike, and those below at such bits of the places 1, 3, 5 and 7.
+const ONES_AT_EVEN: u64 = 0xAAAA_AAAA_AA80;
+
+const ONES_AT_ODD: u64 = 0x5555_5555_5540;
+
+// How many of these 21 bits are 1 at least where at most four bits of a sync are wrong.
+const ONES_LEAST: u32 = 17;
+
+// What is known of bits of which nothing is known yet.
+#[inline]
+pub(crate) fn beginning_anew(held: &BitBuf) -> Beginning
+    ensures { IsBeginning result held.now }
+{
+    if held.len() <= BEHIND {
+        Beginning::Searching(0)
+    } else {
+        beginning_from(held, 0)
+    }
+}
 
 // What is known of bits whose first `clear` places have no sync.
-pub(crate) fn beginning_from(held: &BitBuf, clear: usize) -> Beginning
+fn beginning_from(held: &BitBuf, clear: usize) -> Beginning
     requires clear { clear ≤ sync_place held.now }
     requires judged { clear ≤ length held.now - 47 }
     requires few { clear ≤ 4096 }
@@ -55,12 +76,24 @@ fn places_before_sync(number: u64, count: usize) -> usize
     ensures none { (place : ℕ) → place < result → has_sync (part place 48 (bits_of (47 + count) number)) ≡ false }
     ensures sync { result < count → has_sync (part result 48 (bits_of (47 + count) number)) ≡ true }
 {
+    if count == AT_ONCE && none_of_eight(number) {
+        return count;
+    }
     for place in 0..count {
         if is_sync_window((number >> (count - 1 - place)) % (1 << 48)) {
             return place;
         }
     }
     count
+}
+
+// Whether two counts of ones tell that none of the first eight places of 55 bits has a sync.
+fn none_of_eight(number: u64) -> bool
+    requires fits { number < 2 ^ 55 }
+    ensures { result ≡ true → (place : ℕ) → place < 8 → has_sync (part place 48 (bits_of 55 number)) ≡ false }
+{
+    (number & ONES_AT_EVEN).count_ones() < ONES_LEAST
+        && (number & ONES_AT_ODD).count_ones() < ONES_LEAST
 }
 
 // What is known of bits whose first sync is at a place.
@@ -93,8 +126,18 @@ fn beginning_at_sync(held: &BitBuf, begun: Begun) -> Beginning
     }
 }
 
-// What is known once more bits have come, where the first item was not known before.
-pub(crate) fn beginning_after(beginning: Beginning, held: &BitBuf) -> Beginning
+// Sets what is known once more bits have come, where the first item was not known before.
+#[inline(never)]
+pub(crate) fn judge_more(beginning: &mut Beginning, held: &BitBuf)
+    requires was { WasBeginning beginning.old held.now }
+    requires unsettled { is_settled beginning.old ≡ false }
+    ensures { IsBeginning beginning.new held.now }
+{
+    *beginning = beginning_after(*beginning, held);
+}
+
+// What is known once more bits have come.
+fn beginning_after(beginning: Beginning, held: &BitBuf) -> Beginning
     requires was { WasBeginning beginning held.now }
     requires unsettled { is_settled beginning ≡ false }
     ensures { IsBeginning result held.now }
@@ -102,10 +145,31 @@ pub(crate) fn beginning_after(beginning: Beginning, held: &BitBuf) -> Beginning
     match beginning {
         Beginning::Searching(clear) => beginning_from(held, clear),
         Beginning::Waiting(count, begun) => beginning_waiting(held, count, begun),
-        Beginning::Gap(_) => beginning_from(held, 0),
-        Beginning::Ready(_, _) => beginning_from(held, 0),
-        Beginning::NoUnit(_) => beginning_from(held, 0),
+        Beginning::Gap(_) => unreachable!(),
+        Beginning::Ready(_, _) => unreachable!(),
+        Beginning::NoUnit(_) => unreachable!(),
     }
+}
+
+// Notes, where two counts tell it, that the next eight places have no sync: mostly they have none where an octet has come.
+// Answers whether it did.
+#[inline]
+pub(crate) fn passes_eight(beginning: &mut Beginning, held: &BitBuf) -> bool
+    requires { WasBeginning beginning.old held.now }
+    ensures passed { result ≡ true → IsBeginning beginning.new held.now }
+    ensures same { result ≡ false → beginning.new ≡ beginning.old }
+{
+    let Beginning::Searching(clear) = *beginning else {
+        return false;
+    };
+    if clear + AT_ONCE < GAP_MOST
+        && held.len() == clear + AT_ONCE + BEHIND
+        && none_of_eight(held.field(clear, (AT_ONCE + BEHIND) as u32))
+    {
+        *beginning = Beginning::Searching(clear + AT_ONCE);
+        return true;
+    }
+    false
 }
 
 // The same at a sync behind which so many bits were waited for.
@@ -120,7 +184,8 @@ fn beginning_waiting(held: &BitBuf, count: usize, begun: Begun) -> Beginning
     }
 }
 
-// The first item of some bits; where it is not known, they are all there are.
+// The first item of some bits, made apart from its caller, which copies it once; where it is not known, they are all there are.
+#[inline(never)]
 pub(crate) fn item_of_beginning(beginning: Beginning, held: &BitBuf, place: u64) -> Item
     requires { IsBeginning beginning held.now }
     ensures item { result ≡ first_item place held.now }

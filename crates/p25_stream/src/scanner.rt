@@ -6,7 +6,7 @@ ghost use Rattle.p25_stream.specs.Scan.{Gave, given};
 ghost use Rattle.p25_units.specs.Items.{IsSoundItem};
 
 use crate::beginning::Beginning;
-use crate::judging::{beginning_after, beginning_from, item_of_beginning};
+use crate::judging::{beginning_anew, item_of_beginning, judge_more, passes_eight};
 use p25_bits::BitBuf;
 use p25_units::Item;
 use std::marker::Model;
@@ -39,7 +39,7 @@ impl Scanner {
         ensures { result ≡ record { place = 0; held = []; finished = false } }
     {
         let held = BitBuf::new();
-        let beginning = beginning_from(&held, 0);
+        let beginning = beginning_anew(&held);
         Scanner {
             held,
             place: 0,
@@ -50,6 +50,7 @@ impl Scanner {
 
     /// Appends the bits of an octet, the most significant first. No item is left to give, the stream is not finished, and
     /// fewer than 2^60 bits were taken.
+    #[inline]
     pub fn push(&mut self, octet: u8)
         requires drained { given self.old ≡ [] }
         requires going { self.old.finished ≡ false }
@@ -57,7 +58,11 @@ impl Scanner {
         ensures { self.new ≡ record self.old { held = self.old.held ++ bits_of 8 octet } }
     {
         self.held.put_field(u64::from(octet), 8);
-        self.beginning = beginning_after(self.beginning, &self.held);
+        if !self.beginning.waits(self.held.len())
+            && !passes_eight(&mut self.beginning, &self.held)
+        {
+            judge_more(&mut self.beginning, &self.held);
+        }
     }
 
     /// Sets that no more bits come: what is held is divided to its end.
@@ -103,7 +108,7 @@ impl Scanner {
         raw.append(&self.held, 0, count as usize);
         self.held.drop_front(count as usize);
         self.place += count;
-        self.beginning = beginning_from(&self.held, 0);
+        self.beginning = beginning_anew(&self.held);
         Some(item)
     }
 }

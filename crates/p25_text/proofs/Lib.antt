@@ -1,4 +1,3 @@
-pub mod Decimals
 pub mod ValueLaws
 pub mod WordLaws
 pub mod GrammarLaws

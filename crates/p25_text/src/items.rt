@@ -70,7 +70,7 @@ fn put_whole(place: u64, frame: &Frame, fixes: u32, out: &mut Line)
 }
 
 // Appends a label and a number in decimal.
-#[tactic(auto, using(crate::proofs::Decimals::decimal_short))]
+#[tactic(auto, using(p25_line::proofs::DecimalLaws::decimal_short))]
 fn put_labelled(label: &[u8], number: u64, out: &mut Line)
     requires { length out.old + length label.now + 20 ≤ 8192 }
     ensures text { out.new ≡ out.old ++ label.now ++ decimal number }
@@ -117,7 +117,7 @@ fn put_fields(fields: &FieldList, out: &mut Line)
 }
 
 // Appends the name of a field.
-#[tactic(auto, using(crate::proofs::Decimals::decimal_octet))]
+#[tactic(auto, using(p25_line::proofs::DecimalLaws::decimal_octet))]
 fn put_field(field: Field, out: &mut Line)
     requires { length out.old + 15 ≤ 8192 }
     ensures text { out.new ≡ out.old ++ field_name field }

@@ -220,7 +220,8 @@ module _ (status : Status) (line : List ℕ) (lines : ℕ) (phase : LinePhase) (
 
     pub step-full : (octet : ℕ) → octet ≢ 10 → 8192 < length line → Progress (building_future (building status line lines phase)) (octet ∷ []) [] (building_future (building status line lines phase))
     step-full octet other long =
-        subst (λ (p : LinePhase). Progress (building_future (building status line lines p)) (octet ∷ []) [] (building_future (building status line lines p))) (sym (is-reading phase none going)) (building-full status line lines octet other long)
+        subst (λ (p : LinePhase). Progress (building_future (building status line lines p)) (octet ∷ []) []
+        (building_future (building status line lines p))) (sym (is-reading phase none going)) (building-full status line lines octet other long)
 
     pub step-finish : 0 < length line → IsClosed (building_future (building status line lines phase)) (building_future (building status line lines ReadyLast))
     step-finish some =

@@ -1,4 +1,3 @@
-pub mod Decimals
 pub mod OctetsLaws
 pub mod ReportsLaws
 pub mod RecordingsLaws

@@ -113,8 +113,11 @@ module _ {R : Type 0} (reporting : Reporting R) where
   pub future-idle : (phase : Phase) (report : R) (scan : Scan) → scan.finished ≡ has_ended phase → phase ≢ Ended → given scan ≡ [] → IsIdle (has_ended phase) (phase_future reporting report scan phase)
   unfolding IsIdle
   future-idle Reading report scan same unclosed none =
-      let no_items : items_by false scan.place scan.held ≡ [] = ap (λ (b : Bool). items_by b scan.place scan.held) (sym same) ∙ none in
-      (ap (λ (bits : List Bool). bits_written reporting false report scan.place bits) (held-none scan.held) ∙ ap (λ (items : List Item). reported reporting false report items scan.held) no_items ∙ reported-nil reporting false report scan.held, refl)
+      let no_items : items_by false scan.place scan.held ≡ [] = ap (λ (b : Bool). items_by b scan.place scan.held) (sym same) ∙ none in (
+        ap (λ (bits : List Bool). bits_written reporting false report scan.place bits) (held-none scan.held)
+            ∙ ap (λ (items : List Item). reported reporting false report items scan.held) no_items ∙ reported-nil reporting false report scan.held,
+        refl,
+      )
   future-idle Ended report scan same unclosed none = absurd (unclosed refl)
   future-idle Closed report scan same unclosed none = λ ended more. refl
 

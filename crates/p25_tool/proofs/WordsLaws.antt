@@ -15,7 +15,9 @@ made n below m (Some status) same some number = ap Some (same_status status (sta
 last : (digit : ℕ) → 48 ≤ digit → digit ≤ 51 → digit ≢ 48 → digit ≢ 49 → digit ≢ 50 → digit ≡ 51
 last digit low high not_0 not_1 not_2 = omega arith
 
-pub status_in-digit : (word : List ℕ) (result : Option Status) → length word ≡ 1 → 48 ≤ get_or word 0 0 → get_or word 0 0 ≤ 51 → (IsSome result ↔ (get_or word 0 0 - 48 < 4)) → IfSome result (λ status. status_number status ≡ get_or word 0 0 - 48) → result ≡ status_in word
+pub status_in-digit : (word : List ℕ) (result : Option Status) → length word ≡ 1 → 48 ≤ get_or word 0 0 → get_or word 0 0 ≤ 51
+    → (IsSome result ↔ (get_or word 0 0 - 48 < 4)) → IfSome result (λ status. status_number status ≡ get_or word 0 0 - 48)
+    → result ≡ status_in word
 status_in-digit [] result one low high some number = absurd (omega arith)
 status_in-digit (digit ∷ []) result one low high some number =
     elim (cases_eq digit 48) [

@@ -88,7 +88,8 @@ output_by Check ended octets =
     let items = items_by ended 0 (octet_bits octets) in
     flat_map faulty items ++ cond ended (check_line (units_in items) (faults_in items)) []
 output_by Repair ended octets = whole_octets (changed_bits repaired (items_by ended 0 (octet_bits octets)) (octet_bits octets))
-output_by (Bridge nac status) ended octets = whole_octets (changed_bits (λ item raw. bridged nac status item []) (items_by ended 0 (octet_bits octets)) (octet_bits octets))
+output_by (Bridge nac status) ended octets =
+    whole_octets (changed_bits (λ item raw. bridged nac status item []) (items_by ended 0 (octet_bits octets)) (octet_bits octets))
 output_by (Build status) ended octets = images_of status (lines_in ended [] octets)
 
 -- how a call of a command ends by the octets of its input, whether they are all or more may come

@@ -2,7 +2,8 @@
 use Rattle.std.specs.Prelude.{◌≡◌, ℕ, Bool, true, false, cond, List, [], ◌++◌, Option, Some, None}
 use Rattle.p25_bits.specs.Bits.{octet_bits}
 use Rattle.p25_stream.specs.Items.{items_by}
-use Rattle.p25_stream.specs.Scan.{Scan, given}
+use Rattle.p25_stream.specs.Scan.{Scan, Gave, given}
+use Rattle.p25_units.specs.declared.item.Item.{Item}
 use Rattle.p25_work.specs.Futures.{Future}
 use Rattle.p25_work.specs.declared.ending.Ending.{Ending}
 use Rattle.p25_tool.specs.declared.recording.Phase.{Phase}
@@ -63,10 +64,20 @@ phase_future reporting report scan Closed = record {
 unfoldable pub recording_future : {R : Type 0} → Reporting R → RecordingParts R → Future
 recording_future reporting work = phase_future reporting work.report work.scan work.phase
 
+-- the next item was given, what is written of it was put, and the report went on behind it
+pub record PutItem {R : Type 0} (reporting : Reporting R) (before : RecordingParts R) (out : List ℕ) (now : RecordingParts R) : Type 0 where
+  pub item : Item
+  pub raw : List Bool
+  pub gave : Gave before.scan item raw now.scan
+  pub piece : out ≡ reporting.piece before.report item raw
+  pub behind : now.report ≡ reporting.behind before.report item raw
+  pub phase : now.phase ≡ before.phase
+
 -- what asking for the piece at the end answers: once the input has ended and before it was given, it is given
 abbrev pub IsClosingBy : {R : Type 0} → Reporting R → Phase → RecordingParts R → Bool → List ℕ → RecordingParts R → Type 0
 IsClosingBy reporting Reading before answer out now = (answer ≡ false) × (now ≡ before)
-IsClosingBy reporting Ended before answer out now = (answer ≡ true) × (out ≡ reporting.closing before.report) × (now ≡ record { report = before.report; scan = before.scan; phase = Closed })
+IsClosingBy reporting Ended before answer out now =
+    (answer ≡ true) × (out ≡ reporting.closing before.report) × (now ≡ record { report = before.report; scan = before.scan; phase = Closed })
 IsClosingBy reporting Closed before answer out now = (answer ≡ false) × (now ≡ before)
 
 abbrev pub IsClosing : {R : Type 0} → Reporting R → RecordingParts R → Bool → List ℕ → RecordingParts R → Type 0

@@ -27,4 +27,6 @@ ending_or None other = other
 
 -- how a call of a command answers an input where no read and no write fails: by what it holds, or that it is too long
 abbrev pub answer_of : Command → List ℕ → Outcome
-answer_of command input = cond (nat_lt input_most (length input)) (ending_or (ending_by command false (take input_most input)) TooLong) (ending_or (ending_by command true input) TooLong)
+answer_of command input =
+    cond (nat_lt input_most (length input)) (ending_or (ending_by command false (take input_most input)) TooLong)
+    (ending_or (ending_by command true input) TooLong)

@@ -17,13 +17,15 @@ abbrev pub status_in : List ℕ → Option Status
 status_in [] = None
 status_in (digit ∷ []) =
     cond (nat_eq digit 48) (Some (status_at_number 0 (lit< tt)))
-    (cond (nat_eq digit 49) (Some (status_at_number 1 (lit< tt))) (cond (nat_eq digit 50) (Some (status_at_number 2 (lit< tt))) (cond (nat_eq digit 51) (Some (status_at_number 3 (lit< tt))) None)))
+    (cond (nat_eq digit 49) (Some (status_at_number 1 (lit< tt)))
+    (cond (nat_eq digit 50) (Some (status_at_number 2 (lit< tt))) (cond (nat_eq digit 51) (Some (status_at_number 3 (lit< tt))) None)))
 status_in (first ∷ second ∷ digits) = None
 
 -- the command of one word
 abbrev pub one_word_command : List ℕ → Option Command
 one_word_command word =
-    cond (bytes_eq word (codes "show")) (Some Show) (cond (bytes_eq word (codes "check")) (Some Check) (cond (bytes_eq word (codes "repair")) (Some Repair) None))
+    cond (bytes_eq word (codes "show")) (Some Show)
+    (cond (bytes_eq word (codes "check")) (Some Check) (cond (bytes_eq word (codes "repair")) (Some Repair) None))
 
 -- `build` with a status symbol, where it is one
 abbrev pub build_of : Option Status → Option Command

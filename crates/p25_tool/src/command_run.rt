@@ -38,9 +38,13 @@ pub fn run<S: Source, K: Sink>(
     ensures untouched { result ≡ Outcome.Usage → (source.new ≡ source.old) × (sink.new ≡ sink.old) }
 
     // What was taken and written, and how it ended.
-    ensures ran { IfSome (command_of words.now) (λ command. Ran (S.left source.old) (S.left source.new) (K.written sink.old) (K.written sink.new) command result) }
-    ensures quiet { (command : Command) (input : List ℕ) → command_of words.now ≡ Some command → S.left source.old ≡ Some input → all_written (command_future command) input ≡ [] → sink.new ≡ sink.old }
-    ensures complete { (command : Command) (input : List ℕ) → command_of words.now ≡ Some command → S.left source.old ≡ Some input → ¬ Rose (S.faults source.old) (S.faults source.new) → ¬ Rose (K.faults sink.old) (K.faults sink.new) → result ≡ answer_of command input }
+    ensures ran { IfSome (command_of words.now)
+        (λ command. Ran (S.left source.old) (S.left source.new) (K.written sink.old) (K.written sink.new) command result) }
+    ensures quiet { (command : Command) (input : List ℕ) → command_of words.now ≡ Some command → S.left source.old ≡ Some input
+        → all_written (command_future command) input ≡ [] → sink.new ≡ sink.old }
+    ensures complete { (command : Command) (input : List ℕ) → command_of words.now ≡ Some command → S.left source.old ≡ Some input
+        → ¬ Rose (S.faults source.old) (S.faults source.new) → ¬ Rose (K.faults sink.old) (K.faults sink.new)
+        → result ≡ answer_of command input }
 
     // Why it was refused.
     ensures source_later { S.faults source.old ≤ S.faults source.new }
@@ -84,8 +88,10 @@ fn run_report<R: Report + Drop, S: Source, K: Sink>(
     sink: &mut K,
 ) -> WorkEnd
     requires { R.counted report ≡ 0 }
-    ensures worked { Worked (S.left source.old) (S.left source.new) (K.written sink.old) (K.written sink.new) (recording_future R.reporting (fresh report)) result }
-    ensures quiet { (input : List ℕ) → S.left source.old ≡ Some input → all_written (recording_future R.reporting (fresh report)) input ≡ [] → sink.new ≡ sink.old }
+    ensures worked { Worked (S.left source.old) (S.left source.new) (K.written sink.old) (K.written sink.new)
+        (recording_future R.reporting (fresh report)) result }
+    ensures quiet { (input : List ℕ) → S.left source.old ≡ Some input → all_written (recording_future R.reporting (fresh report)) input ≡ []
+        → sink.new ≡ sink.old }
     ensures source_later { S.faults source.old ≤ S.faults source.new }
     ensures sink_later { K.faults sink.old ≤ K.faults sink.new }
     ensures read_fault { result ≡ WorkEnd.ReadFault → Rose (S.faults source.old) (S.faults source.new) }

@@ -44,7 +44,7 @@ pub fn outcome_text(outcome: &Outcome, out: &mut Line)
 }
 
 // Appends the line of a refused line to an empty one.
-#[tactic(auto, using(crate::proofs::Decimals::decimal_short))]
+#[tactic(auto, using(p25_line::proofs::DecimalLaws::decimal_short))]
 fn put_bad_line(line: u64, fault: LineFault, out: &mut Line)
     requires { length out.old ≡ 0 }
     ensures text { out.new ≡ out.old ++ codes "line " ++ decimal line ++ codes ": " ++ fault_word fault }
@@ -57,7 +57,7 @@ fn put_bad_line(line: u64, fault: LineFault, out: &mut Line)
 }
 
 // Appends the line of a check that found faults to an empty one.
-#[tactic(auto, using(crate::proofs::Decimals::decimal_short))]
+#[tactic(auto, using(p25_line::proofs::DecimalLaws::decimal_short))]
 fn put_found(faults: u64, out: &mut Line)
     requires { length out.old ≡ 0 }
     ensures text { out.new ≡ out.old ++ codes "found " ++ decimal faults }

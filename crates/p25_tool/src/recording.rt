@@ -1,8 +1,8 @@
 //! The work of a command on a recording: its items, as they are decided, and what a report writes of them.
 
-ghost use Rattle.std.specs.Prelude.{◌≡◌, [], Result, Ok};
+ghost use Rattle.std.specs.Prelude.{◌≡◌, ◌≢◌, [], Result, Ok};
 ghost use Rattle.p25_stream.specs.Scan.{given};
-ghost use Rattle.p25_tool.specs.Recordings.{fresh, IsClosing};
+ghost use Rattle.p25_tool.specs.Recordings.{fresh, IsClosing, PutItem};
 
 use crate::report::Report;
 use p25_bits::BitBuf;
@@ -39,7 +39,10 @@ impl<R: Report> Model for Recording<R> {
 
     ghost view = { λ s. record { report = s.report; scan = s.scanner; phase = s.phase } };
 
-    ghost invariant = { λ s. (s.scanner.finished ≡ has_ended s.phase) × (R.counted s.report ≤ s.scanner.place) × (s.scanner.place + length s.scanner.held < 2 ^ 61) × HasClosed s.phase s.scanner };
+    ghost invariant = { λ s. (s.scanner.finished ≡ has_ended s.phase)
+        × (R.counted s.report ≤ s.scanner.place)
+        × (s.scanner.place + length s.scanner.held < 2 ^ 61)
+        × HasClosed s.phase s.scanner };
 }
 
 impl<R: Report> Recording<R> {
@@ -53,6 +56,18 @@ impl<R: Report> Recording<R> {
             scanner: Scanner::new(),
             raw: BitBuf::new(),
             phase: Phase::Reading,
+        }
+    }
+
+    // Sets `out` to what is written of the next item. There is one.
+    fn put_next(&mut self, out: &mut Line)
+        requires { given self.old.scan ≢ [] }
+        ensures { PutItem R.reporting self.old out.new self.new }
+    {
+        // An item is large: it is not moved.
+        match &self.scanner.next(&mut self.raw) {
+            Some(item) => self.report.put(item, &mut self.raw, out),
+            None => unreachable!(),
         }
     }
 
@@ -99,14 +114,13 @@ impl<R: Report> Worker for Recording<R> {
     }
 
     fn next(&mut self, out: &mut Line) -> Result<bool, Ending> {
-        match self.scanner.next(&mut self.raw) {
-            Some(item) => {
-                item_laws();
-                self.report.put(&item, &mut self.raw, out);
-                Ok(true)
-            }
-            None => Ok(self.close(out)),
+        // Mostly no item is decided: then no room is made for one.
+        if self.scanner.is_drained() {
+            return Ok(self.close(out));
         }
+        item_laws();
+        self.put_next(out);
+        Ok(true)
     }
 
     fn ending(&self) -> Ending {

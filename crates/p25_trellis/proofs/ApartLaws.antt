@@ -1,4 +1,5 @@
--- How far paths differ, and what lies so near to one that no other is as near.
+-- How far paths differ, and what lies so near to one that no other is as near. By induction on the symbols: two states ask for no more bits than a step
+-- differs in and the states after it ask for.
 use Rattle.std.proofs.Common.{◌≡◌, ◌≢◌, ℕ, zero, suc, ◌+◌, ◌*◌, ◌<◌, ◌≤◌, inl, inr, Bool, false, eqb, List, [], ◌∷◌, ◌++◌, length, take, refl, ap, ap₂, sym, subst, ◌∙◌, arith}
 use Rattle.std.proofs.lemmas.Bool.{cases_Bool, eqb-true, eq-eqb}
 use Rattle.p25_bits.specs.Distance.{distance_of}

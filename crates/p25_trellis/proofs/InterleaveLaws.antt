@@ -1,4 +1,5 @@
--- Laws of the interleaver.
+-- Laws of the interleaver: what is summed over the places of lists is summed over their fourth elements, and its order is a table, which
+-- computed tests compare.
 use Rattle.std.proofs.Common.{◌≡◌, ◌≢◌, ℕ, zero, suc, ◌+◌, ◌<◌, ◌≤◌, ◌||◌, Bool, true, false, not, cond, eqb, ltb, List, [], ◌∷◌, ◌++◌, map, length, get_or, set, take, drop, refl, ap, sym, ◌∙◌, arith, length-append, below_more, get_or-set_same, get_or-set_other, All}
 use Rattle.std.proofs.lemmas.List.Elements.{All-cons, All-head, All-tail, All-append, All-same, All-take, All-drop}
 use Rattle.std.specs.List.{range_with_len}

@@ -29,7 +29,7 @@ use Rattle.p25_world.proofs.HeadLaws.{response_head-status, response_head-class,
 use Rattle.p25_world.proofs.SentLaws.{counts-small, all-blocks, whole-carries}
 use Rattle.p25_world.proofs.ReceiverLaws.{eq-true, eq-false, data-is_heard, opening-is_heard}
 use Rattle.p25_world.proofs.SenderLaws.{offer-quiet}
-use Rattle.p25_world.proofs.Phases.{IsQuiet, IsLinked, quiet, waiting, arrived, opening}
+use Rattle.p25_world.proofs.PhaseLaws.{IsQuiet, IsLinked, quiet, waiting, arrived, opening}
 
 -- an ACK is one, of its status alone
 

@@ -18,7 +18,7 @@ use Rattle.p25_world.specs.Link.{with_sent, Link, link_of_sender, link_of_data, 
 use Rattle.p25_world.specs.Facts.{IsDataOf, KeepsOf}
 use Rattle.p25_world.specs.Orderly.{AreOrderly}
 use Rattle.p25_world.proofs.SenderLaws.{IsSame, Resends, offer-quiet, offer-message, offer-opening, timeout-message, timeout-opening, timeout-quiet, reopen-cases, reopen-up}
-use Rattle.p25_world.proofs.Phases.{IsQuiet, IsWaitingAnswer, IsWaiting, IsArrived, IsOpening, IsLinked, quiet, waiting, arrived, opening, IsKept, orderly-linked, orderly-more}
+use Rattle.p25_world.proofs.PhaseLaws.{IsQuiet, IsWaitingAnswer, IsWaiting, IsArrived, IsOpening, IsLinked, quiet, waiting, arrived, opening, IsKept, orderly-linked, orderly-more}
 
 pub same : (s : Sending) → IsSame s s
 same s = record { next = refl; outstanding = refl }

@@ -11,7 +11,7 @@ use Rattle.p25_stations.specs.declared.sender_state.Outstanding.{Outstanding}
 use Rattle.p25_stations.specs.declared.sender_state.Outstanding.TheVariants.{Nothing, Message}
 use Rattle.p25_world.specs.Link.{Link}
 use Rattle.p25_world.specs.Facts.{IsDataOf, KeepsOf, OpeningFacts, SentBy, IsNewestData, SessionFacts, FactsBy, LinkFacts}
-use Rattle.p25_world.proofs.Phases.{IsQuietData, IsQuiet, IsWaitingAnswer, IsWaiting, IsArrived, IsOpening, IsLinked, quiet, waiting, arrived, opening}
+use Rattle.p25_world.proofs.PhaseLaws.{IsQuietData, IsQuiet, IsWaitingAnswer, IsWaiting, IsArrived, IsOpening, IsLinked, quiet, waiting, arrived, opening}
 
 -- the first of a list, where all of it, or all but the last, is meant
 take-same : (xs ys : List (List ℕ)) → xs ≡ ys → xs ≡ take (length xs) ys

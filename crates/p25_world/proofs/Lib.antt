@@ -2,7 +2,7 @@ pub mod HeadLaws
 pub mod SentLaws
 pub mod ReceiverLaws
 pub mod SenderLaws
-pub mod Phases
+pub mod PhaseLaws
 pub mod CallSteps
 pub mod LinkSteps
 pub mod FactsLaws

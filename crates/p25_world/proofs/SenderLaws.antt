@@ -180,7 +180,9 @@ hears-asked s message response false e =
     let last : Stays s message (answered (cond (is_crc_nack response.head s.next) WholeMessage NothingAsked) s message)
     = elim (is_crc_nack response.head s.next) as (λ (b : Bool). Stays s message (answered (cond b WholeMessage NothingAsked) s message)) [ true ↦ stays-whole s message | false ↦ stays-nothing s message ] in
     let rest : Stays s message (answered (cond (is_retry response.head s.next) flags (cond (is_crc_nack response.head s.next) WholeMessage NothingAsked)) s message)
-    = elim (is_retry response.head s.next) as (λ (b : Bool). Stays s message (answered (cond b flags (cond (is_crc_nack response.head s.next) WholeMessage NothingAsked)) s message)) [ true ↦ stays-flags s message blocks (flags_of_octets response.octets) | false ↦ last ] in
+    = elim (is_retry response.head s.next) as (λ (b : Bool). Stays s message
+    (answered (cond b flags (cond (is_crc_nack response.head s.next) WholeMessage NothingAsked)) s message))
+    [ true ↦ stays-flags s message blocks (flags_of_octets response.octets) | false ↦ last ] in
     stays (subst (λ (asked : Asked). Stays s message (answered asked s message)) (sym (cond-false (is_ack response.head s.next) NextMessage _ e)) rest)
 
 pub message-answer : (s : Sending) (message : List ℕ) (packet : Packet) → s.outstanding ≡ Message message → HearsAnswer s message packet (sender_heard s packet)

@@ -65,7 +65,7 @@ impl Report for Check {
 }
 
 // Sets `out` to the last line of a check.
-#[tactic(auto, using(crate::proofs::Decimals::decimal_short))]
+#[tactic(auto, using(p25_line::proofs::DecimalLaws::decimal_short))]
 fn put_check_line(units: u64, faults: u64, out: &mut Line)
     ensures { out.new ≡ check_line units faults }
 {

@@ -8,10 +8,12 @@ use p25_io::{MemorySource, SliceSink, SteadySource};
 
 // Three terminators, with 16 bits between the first two.
 const RECORDING: &[u8; 56] =
-    b"\x55\x75\xF5\xFF\x77\xFF\x00\x03\x35\x93\x0B\xDD\x3B\x2B\x00\x00\x00\x01\x00\x00\x55\x75\xF5\xFF\x77\xFF\x00\x03\x35\x93\x0B\xDD\x3B\x2B\x00\x00\x00\x01\x55\x75\xF5\xFF\x77\xFF\x00\x03\x35\x93\x0B\xDD\x3B\x2B\x00\x00\x00\x01";
+    b"\x55\x75\xF5\xFF\x77\xFF\x00\x03\x35\x93\x0B\xDD\x3B\x2B\x00\x00\x00\x01\x00\x00\
+    \x55\x75\xF5\xFF\x77\xFF\x00\x03\x35\x93\x0B\xDD\x3B\x2B\x00\x00\x00\x01\
+    \x55\x75\xF5\xFF\x77\xFF\x00\x03\x35\x93\x0B\xDD\x3B\x2B\x00\x00\x00\x01";
 
-const TEXT: &[u8; 164] =
-    b"unit at=0 bits=144 fix=0 status=11 tdu nac=000\ngap at=144 bits=16\nunit at=160 bits=144 fix=0 status=11 tdu nac=000\nunit at=304 bits=144 fix=0 status=11 tdu nac=000\n";
+const TEXT: &[u8; 164] = b"unit at=0 bits=144 fix=0 status=11 tdu nac=000\ngap at=144 bits=16\n\
+    unit at=160 bits=144 fix=0 status=11 tdu nac=000\nunit at=304 bits=144 fix=0 status=11 tdu nac=000\n";
 
 // How many octets of the text the first octets of the recording decide. The gap is known with the sync behind it.
 fn decided(octets: usize) -> usize {
@@ -69,7 +71,7 @@ fn each_write_fails_in_turn(rt: HostRuntime) {
 }
 
 // The text of the recording cut off behind so many octets.
-#[tactic(auto, using(crate::proofs::Decimals::decimal_short))]
+#[tactic(auto, using(p25_line::proofs::DecimalLaws::decimal_short))]
 fn put_cut_text(octets: usize, out: &mut Line) {
     // How many octets of the text stand before the items that are cut off, where these begin, and whether a gap comes first.
     let (count, begin, gap) = match octets {
@@ -93,7 +95,7 @@ fn put_cut_text(octets: usize, out: &mut Line) {
 }
 
 // Appends the line of a gap or a cut, by octets.
-#[tactic(auto, using(crate::proofs::Decimals::decimal_short))]
+#[tactic(auto, using(p25_line::proofs::DecimalLaws::decimal_short))]
 fn put_item(label: &[u8], begin: usize, count: usize, out: &mut Line)
     requires label { length label.now ≤ 7 }
     requires begin { begin ≤ 100 }

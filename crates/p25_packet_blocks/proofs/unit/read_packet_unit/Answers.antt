@@ -26,7 +26,8 @@ returns-in_err-packet c =
     let near : distance_of (take 48 c.args.bits.now) sync_bits ≤ sync_slack = grind (arith, c.if-not-is_sync.ensures) in
     let p = err_from_is_err_and c.from_residual.result c.from_residual.ensures.1 in
     p.1
-    ∙ sym (packet_unit_of-bad c.args.bits.now (c.in-Some.nid.nac, c.in-Some.nid.duid) p.0 (has_sync-yes c.args.bits.now (omega arith) near) (sym c.in-Some.ensures) c.if-nid-ne-PACKET_DUID.false (sym c.in_err-packet.ensures ∙ ap Err (sym p.2)))
+    ∙ sym (packet_unit_of-bad c.args.bits.now (c.in-Some.nid.nac, c.in-Some.nid.duid) p.0 (has_sync-yes c.args.bits.now (omega arith) near)
+    (sym c.in-Some.ensures) c.if-nid-ne-PACKET_DUID.false (sym c.in_err-packet.ensures ∙ ap Err (sym p.2)))
 
 pub returns : goal.returns
 returns c =

@@ -18,6 +18,8 @@ pub returns-clause-kept : goal.returns-clause-kept
 returns-clause-kept c =
     let missing = 8 - c.len-missing.result in
     let count = (c.len-2.result - missing) % 8 in
-    kept-behind c.args.kept.now c.args.bits.now missing c.requires (ap (λ (n : ℕ). 8 - n) c.len-missing.ensures.value) (omega (arith, c.if-len-missing.false, c.len.ensures.value)) c.clear-2.new.self c.append-3.new.self (c.len-3.result - count) count c.clear-2.ensures c.append-3.ensures.list
+    kept-behind c.args.kept.now c.args.bits.now missing c.requires (ap (λ (n : ℕ). 8 - n) c.len-missing.ensures.value)
+    (omega (arith, c.if-len-missing.false, c.len.ensures.value)) c.clear-2.new.self c.append-3.new.self (c.len-3.result - count) count c.clear-2.ensures
+    c.append-3.ensures.list
     (ap (λ (n : ℕ). (n - missing) % 8) c.len-2.ensures.value)
     (omega (arith, c.len-2.ensures.value, c.len-3.ensures.value, c.if-len-missing.false, c.len.ensures.value))

@@ -1,0 +1,42 @@
+use Rattle.std.proofs.Common.{ℕ, ◌+◌, ◌*◌, ◌/◌, ◌%◌, [], ◌∷◌, refl, ap, arith}
+use Rattle.p25_packet_blocks.specs.declared.head.PacketHead.{PacketHead}
+use Rattle.p25_packet_blocks.specs.Heads.{head_format, head_is_full, head_blocks, head_pad, head_llid, head_syn, head_number, confirmed_head}
+use Rattle.p25_packet_blocks.proofs.HeadSteps.{flag_bit, flag_back, no_flag, octets_back}
+use Rattle.p25_packet_blocks.proofs.head.PacketHead.confirmed.Goals as goal
+
+pub returns-clause-octets : goal.returns-clause-octets
+unfolding confirmed_head
+returns-clause-octets c =
+    let llid = c.args.llid in
+    let with_flag : ℕ → PacketHead = λ n. record {
+      0 = 0x56 ∷ 0xC0 ∷ 0 ∷ llid / 65536 ∷ llid / 256 % 256 ∷ llid % 256 ∷ (n + c.args.blocks) ∷ c.args.pad ∷ (16 * c.args.number + 8) ∷ 0 ∷ [];
+    } in
+    ap with_flag (flag_bit c.from.result c.args.full c.from.ensures)
+
+pub returns-clause-format : goal.returns-clause-format
+unfolding head_format
+returns-clause-format c = refl
+
+pub returns-clause-full : goal.returns-clause-full
+unfolding head_is_full
+returns-clause-full c = flag_back c.from.result c.args.blocks c.args.full c.from.ensures c.requires.blocks
+
+pub returns-clause-blocks : goal.returns-clause-blocks
+unfolding head_blocks
+returns-clause-blocks c = omega (arith, c.requires.blocks)
+
+pub returns-clause-pad : goal.returns-clause-pad
+unfolding head_pad
+returns-clause-pad c = omega (arith, c.requires.pad)
+
+pub returns-clause-number : goal.returns-clause-number
+unfolding head_number
+returns-clause-number c = omega (arith, c.requires.number)
+
+pub returns-clause-syn : goal.returns-clause-syn
+unfolding head_syn
+returns-clause-syn c = no_flag c.args.number c.requires.number
+
+pub returns-clause-llid : goal.returns-clause-llid
+unfolding head_llid
+returns-clause-llid c = octets_back c.args.llid
