@@ -54,7 +54,8 @@ encoding_symbols k each symbols word sixes long fits is =
 
 module _ {IsInnerWord : List Bool → Type 0} {IsOuterWord : List Sym → Type 0} where
   -- a field is there where the words of its symbols stand at its places
-  pub field_there : (layout : Layout) (k : ℕ) (symbols : List Sym) (sent : List Bool) → 6 * layout.each ≡ k → k ≤ layout.size → layout.each * length layout.places ≡ length symbols → All (λ at. at + layout.size ≤ length sent) layout.places → IsOuterWord symbols
+  pub field_there : (layout : Layout) (k : ℕ) (symbols : List Sym) (sent : List Bool) → 6 * layout.each ≡ k → k ≤ layout.size → layout.each * length layout.places ≡ length symbols
+      → All (λ at. at + layout.size ≤ length sent) layout.places → IsOuterWord symbols
       → ((i d : ℕ) → i < length layout.places → IsEncoding IsInnerWord k (symbol_bits (part (layout.each * i) layout.each symbols)) (part (get_or layout.places i d) layout.size sent))
       → HasField IsInnerWord IsOuterWord layout (take layout.information symbols) sent
   unfolding sent_in
@@ -88,7 +89,8 @@ module _ {IsInnerWord : List Bool → Type 0} {IsOuterWord : List Sym → Type 0
           ∙ take_all (each * length places) symbols all
 
   -- a field that was written is there
-  pub written_field : (layout : Layout) (k count : ℕ) (symbols : List Sym) (old new : List Bool) → 6 * layout.each ≡ k → k ≤ layout.size → layout.each * count ≡ length symbols → layout.places ≡ places_from (length old) layout.size count → IsOuterWord symbols
+  pub written_field : (layout : Layout) (k count : ℕ) (symbols : List Sym) (old new : List Bool) → 6 * layout.each ≡ k → k ≤ layout.size → layout.each * count ≡ length symbols
+      → layout.places ≡ places_from (length old) layout.size count → IsOuterWord symbols
       → IsWritten IsInnerWord layout.size k layout.each count symbols old new → HasField IsInnerWord IsOuterWord layout (take layout.information symbols) new
   written_field layout k count symbols old new sixes fits covers stand outer is =
       field_there layout k symbols new sixes fits (ap (λ n. layout.each * n) many ∙ covers) (λ i d inside. room i d (subst (λ n. i < n) many inside)) outer (λ i d inside. word i d (subst (λ n. i < n) many inside))

@@ -75,7 +75,8 @@ inner_found each k fixes word value answer symbols erased sixes fits found is ma
     ∙ ap (marks_of each) some
 
 -- no inner word was read
-pub inner_beyond : (each : ℕ) (word : List Bool) (value : Option (List Bool)) (answer : Reading) (symbols : List Sym) (erased : List Bool) → length symbols ≡ each → answer ≡ Beyond → word_read answer word ≡ value → erased ≡ replicate each true
+pub inner_beyond : (each : ℕ) (word : List Bool) (value : Option (List Bool)) (answer : Reading) (symbols : List Sym) (erased : List Bool) → length symbols ≡ each → answer ≡ Beyond
+    → word_read answer word ≡ value → erased ≡ replicate each true
     → marked symbols erased ≡ marks_of each value
 unfolding word_read
 inner_beyond each word value answer symbols erased long beyond is gone =
@@ -89,7 +90,8 @@ marked_before each word erased =
     ap₂ (λ m n. marked (take m word) (take n erased)) none none ∙ marked-nil []
 
 -- one more place
-pub marked_next : {L : Type 0} (f : ℕ → List (Option L)) (places : List ℕ) (each i k at : ℕ) (word xs : List L) (erased es : List Bool) → i < length places → at ≡ get_or places i 0 → each * i + each ≤ length word → length erased ≡ length word
+pub marked_next : {L : Type 0} (f : ℕ → List (Option L)) (places : List ℕ) (each i k at : ℕ) (word xs : List L) (erased es : List Bool) → i < length places → at ≡ get_or places i 0
+    → each * i + each ≤ length word → length erased ≡ length word
     → length xs ≡ each → length es ≡ each → marked (take (each * i) word) (take (each * i) erased) ≡ flat_map f (take i places) → marked xs es ≡ f at
     → marked (take (each * (i + 1)) (put_mid (each * i) k word xs)) (take (each * (i + 1)) (put_mid (each * i) k erased es)) ≡ flat_map f (take (i + 1) places)
 marked_next f places each i k at word xs erased es inside read there same long_x long_e before is =

@@ -9,5 +9,6 @@ ghost use Rattle.p25_reed_solomon.specs.Encoding.{rs_word};
 /// Does nothing: its contract is that each information has a word, `rs_word`, and no other.
 pub fn encoding_laws()
     ensures word { (n k : ℕ) (info : List Sym) → IsCode n k → length info ≡ k → IsEncoding (IsWord n k) k info (rs_word n k info) }
-    ensures only { (n k : ℕ) (info word : List Sym) → IsCode n k → length info ≡ k → IsEncoding (IsWord n k) k info word → word ≡ rs_word n k info }
+    ensures only { (n k : ℕ) (info word : List Sym) → IsCode n k → length info ≡ k
+        → IsEncoding (IsWord n k) k info word → word ≡ rs_word n k info }
 {}

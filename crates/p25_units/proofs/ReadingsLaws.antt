@@ -19,7 +19,7 @@ use Rattle.p25_voice_units.specs.Places.{IsVoiceImage}
 use Rattle.p25_voice_units.proofs.ImagesLaws.{IsVoiceImage-iff}
 use Rattle.p25_voice_units.proofs.RadiusLaws.{voice_within}
 use Rattle.p25_voice_units.proofs.ReadingLaws.{IsUnitOf as IsVoiceOf, unit_read}
-use Rattle.p25_voice_units.proofs.ReadNearLaws.{within_read}
+use Rattle.p25_voice_units.proofs.WholeLaws.{voice_whole}
 use Rattle.p25_voice_units.specs.WithinRadius.{IsVoiceWithin}
 use Rattle.p25_packet_blocks.specs.declared.head.PacketHead.{PacketHead}
 use Rattle.p25_packet_blocks.specs.declared.block.Slot.{Slot}
@@ -178,7 +178,7 @@ packet_body-from plain (Ok packet) body read e = packet_body-whole plain packet 
 -- a voice unit that was read lies within radius of its own bits
 voice_read : (nac duid : ℕ) (plain : List Bool) (voice : VoiceUnit) (unit : IsVoiceOf duid voice) → voice_reading_of duid plain ≡ Ok voice → IsVoiceWithin voice (voice_image_of nac voice) plain
 voice_read nac duid plain voice unit is =
-    within_read nac voice (voice_image_of nac voice) plain (IsVoiceImage-same nac voice unit.sendable) (ap (λ d. voice_reading_of d plain) unit.kind ∙ is)
+    voice_whole nac voice (voice_image_of nac voice) plain (IsVoiceImage-same nac voice unit.sendable) (ap (λ d. voice_reading_of d plain) unit.kind ∙ is)
 
 voice_body-from : (duid : ℕ) (plain : List Bool) (reading : Result VoiceUnit (List Field)) (body : Body) → voice_reading_of duid plain ≡ reading → body_from reading ≡ Ok body → IsBodyOf duid plain body
 unfolding IsWholeBody IsSendableBody IsBodyRead

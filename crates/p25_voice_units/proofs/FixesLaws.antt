@@ -58,7 +58,8 @@ counted_none width places received image = record {
 }
 
 pub counted_next : (width : ℕ) (places : List ℕ) (received image : List Bool) (i wrong m n : ℕ) → i < length places → All (λ at. at + width ≤ length received) places → All (λ at. at + width ≤ length image) places
-    → IsCounted width places received image i wrong → m ≡ field_of (part (get_or places i 0) width received) → n ≡ field_of (part (get_or places i 0) width image) → IsCounted width places received image (i + 1) (wrong + count_ones (bit_xor m n))
+    → IsCounted width places received image i wrong → m ≡ field_of (part (get_or places i 0) width received) → n ≡ field_of (part (get_or places i 0) width image)
+    → IsCounted width places received image (i + 1) (wrong + count_ones (bit_xor m n))
 counted_next width places received image i wrong m n inside there there_image before first second =
     let at = get_or places i 0 in
     let long = length-part at width received (there i 0 inside) in

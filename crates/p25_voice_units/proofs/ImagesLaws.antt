@@ -32,7 +32,7 @@ use Rattle.p25_voice_units.specs.Layouts.{header_rows, link_rows, end_rows, end_
 use Rattle.p25_voice_units.specs.FieldLayouts.{word_places, header_layout, link_layout, sync_layout, end_link_layout}
 use Rattle.p25_voice_units.specs.Lengths.{voice_duid, voice_length_of}
 use Rattle.p25_voice_units.specs.Sendable.{IsVoiceFrame, IsSpeech, IsSendableVoice}
-use Rattle.p25_voice_units.specs.Images.{contents, golay18_word, golay24_word, hamming10_word, rows_bits, voice_body, voice_image_of}
+use Rattle.p25_voice_units.specs.Images.{Contents, contents, golay18_word, golay24_word, hamming10_word, rows_bits, voice_body, voice_image_of}
 use Rattle.p25_voice_units.specs.Places.{IsLaidOut, IsVoiceImage}
 use Rattle.p25_voice_units.proofs.CodesLaws.{golay18_encodes, golay24_encodes, hamming10_encodes, header_code, link_code, sync_code}
 use Rattle.p25_voice_units.proofs.LengthsLaws.{length-header, length-link1, length-link2, length-end, length-end_link}
@@ -99,102 +99,146 @@ sync_outer : (sync : EncryptionSync) → IsEncoding (IsWord 24 16) 16 (sync_symb
 sync_outer sync = IsEncoding-rs_word 24 16 (sync_symbols sync) sync_code (length-sync_symbols sync)
 
 -- a header
-header_bits : (nac : ℕ) (word : HeaderWord) → voice_image_of nac (Header word) ≡ unit_front nac 0 ++ rows_bits (contents golay18_word 1 (rs_word 36 20 (header_symbols word)) [] []) header_rows
+abbrev header_contents : (word : HeaderWord) → Contents
+header_contents word = contents golay18_word 1 (rs_word 36 20 (header_symbols word)) [] []
+
+header_carries : (word : HeaderWord) → IsCarried IsGolay18 18 6 (header_contents word)
+header_carries word = golay18_carried (rs_word 36 20 (header_symbols word))
+
+header_suits : (word : HeaderWord) → AreRows 18 770 (header_contents word) header_rows
+header_suits word = header_are (rs_word 36 20 (header_symbols word)) (header_outer word).word_of_set.long
+
+header_stands : (word : HeaderWord) → AreWordPlaces 18 770 (header_contents word) (word_places 18 header_rows)
+header_stands word = header_places (rs_word 36 20 (header_symbols word)) (header_outer word).word_of_set.long
+
+header_bits : (nac : ℕ) (word : HeaderWord) → voice_image_of nac (Header word) ≡ unit_front nac 0 ++ rows_bits (header_contents word) header_rows
 unfolding voice_image_of voice_body
 header_bits nac word = refl
 
 header_long : (nac : ℕ) (word : HeaderWord) → voice_length_of 0 ≡ Some (length (voice_image_of nac (Header word)))
 header_long nac word =
-    length-header ∙ ap Some (sym (ap length (header_bits nac word) ∙ length-unit (golay18_carried (rs_word 36 20 (header_symbols word))) (header_are (rs_word 36 20 (header_symbols word)) (header_outer word).word_of_set.long) nac 0))
+    length-header ∙ ap Some (sym (ap length (header_bits nac word) ∙ length-unit (header_carries word) (header_suits word) nac 0))
 
 header_form : (nac : ℕ) (word : HeaderWord) (plain : List Bool)
     → (IsLaidOut nac 0 770 header_rows [] [] plain × HasField IsGolay18 (IsWord 36 20) header_layout (header_symbols word) plain) ↔ (plain ≡ voice_image_of nac (Header word))
 header_form nac word plain = (
   λ (laid, has).
-      laid_out-only (golay18_carried (rs_word 36 20 (header_symbols word))) (header_are (rs_word 36 20 (header_symbols word)) (header_outer word).word_of_set.long) nac 0 plain laid
-      (words_carried (golay18_carried (rs_word 36 20 (header_symbols word))) (header_are (rs_word 36 20 (header_symbols word)) (header_outer word).word_of_set.long) (header_places (rs_word 36 20 (header_symbols word)) (header_outer word).word_of_set.long) golay18_reading_of (rs_marked_reading_of 36 20) 20
+      laid_out-only (header_carries word) (header_suits word) nac 0 plain laid
+      (words_carried (header_carries word) (header_suits word) (header_stands word) golay18_reading_of (rs_marked_reading_of 36 20) 20
       (header_symbols word) (λ w is. rs_word-only 36 20 (header_symbols word) w header_code (length-header_symbols word) is) plain laid.long has)
       ∙ sym (header_bits nac word),
   λ is.
       let whole = is ∙ header_bits nac word in (
-        laid_out (golay18_carried (rs_word 36 20 (header_symbols word))) (header_are (rs_word 36 20 (header_symbols word)) (header_outer word).word_of_set.long) nac 0 plain whole,
-        field_carried (golay18_carried (rs_word 36 20 (header_symbols word))) (header_are (rs_word 36 20 (header_symbols word)) (header_outer word).word_of_set.long) (header_places (rs_word 36 20 (header_symbols word)) (header_outer word).word_of_set.long) golay18_reading_of (rs_marked_reading_of 36 20) 20
-            (header_symbols word) (header_outer word) nac 0 plain whole,
+        laid_out (header_carries word) (header_suits word) nac 0 plain whole,
+        field_carried (header_carries word) (header_suits word) (header_stands word) golay18_reading_of (rs_marked_reading_of 36 20) 20 (header_symbols word) (header_outer word) nac 0 plain whole,
       ),
 )
 
 -- voice with link control
-link1_bits : (nac : ℕ) (link : LinkControl) (low : List ℕ) (voice : List VoiceFrame) → voice_image_of nac (Link1 link low voice) ≡ unit_front nac 5 ++ rows_bits (contents hamming10_word 1 (rs_word 24 12 (link_symbols link)) low voice) link_rows
+abbrev link1_contents : (link : LinkControl) (low : List ℕ) (voice : List VoiceFrame) → Contents
+link1_contents link low voice = contents hamming10_word 1 (rs_word 24 12 (link_symbols link)) low voice
+
+link1_carries : (link : LinkControl) (low : List ℕ) (voice : List VoiceFrame) → IsSpeech low voice → IsCarried IsHamming10 10 6 (link1_contents link low voice)
+link1_carries link low voice speech = hamming10_carried (rs_word 24 12 (link_symbols link)) low voice speech.frames
+
+link1_suits : (link : LinkControl) (low : List ℕ) (voice : List VoiceFrame) → IsSpeech low voice → AreRows 10 1680 (link1_contents link low voice) link_rows
+link1_suits link low voice speech = link_are (rs_word 24 12 (link_symbols link)) low voice (link_outer link).word_of_set.long speech
+
+link1_stands : (link : LinkControl) (low : List ℕ) (voice : List VoiceFrame) → AreWordPlaces 10 1680 (link1_contents link low voice) (word_places 10 link_rows)
+link1_stands link low voice = link_places (rs_word 24 12 (link_symbols link)) low voice (link_outer link).word_of_set.long
+
+link1_bits : (nac : ℕ) (link : LinkControl) (low : List ℕ) (voice : List VoiceFrame) → voice_image_of nac (Link1 link low voice) ≡ unit_front nac 5 ++ rows_bits (link1_contents link low voice) link_rows
 unfolding voice_image_of voice_body
 link1_bits nac link low voice = refl
 
 link1_long : (nac : ℕ) (link : LinkControl) (low : List ℕ) (voice : List VoiceFrame) → IsSpeech low voice → voice_length_of 5 ≡ Some (length (voice_image_of nac (Link1 link low voice)))
 link1_long nac link low voice speech =
-    length-link1 ∙ ap Some (sym (ap length (link1_bits nac link low voice) ∙ length-unit (hamming10_carried (rs_word 24 12 (link_symbols link)) low voice speech.frames) (link_are (rs_word 24 12 (link_symbols link)) low voice (link_outer link).word_of_set.long speech) nac 5))
+    length-link1 ∙ ap Some (sym (ap length (link1_bits nac link low voice) ∙ length-unit (link1_carries link low voice speech) (link1_suits link low voice speech) nac 5))
 
 link1_form : (nac : ℕ) (link : LinkControl) (low : List ℕ) (voice : List VoiceFrame) (plain : List Bool) → IsSpeech low voice
     → (IsLaidOut nac 5 1680 link_rows low voice plain × HasField IsHamming10 (IsWord 24 12) link_layout (link_symbols link) plain) ↔ (plain ≡ voice_image_of nac (Link1 link low voice))
 link1_form nac link low voice plain speech = (
   λ (laid, has).
-      laid_out-only (hamming10_carried (rs_word 24 12 (link_symbols link)) low voice speech.frames) (link_are (rs_word 24 12 (link_symbols link)) low voice (link_outer link).word_of_set.long speech) nac 5 plain laid
-      (words_carried (hamming10_carried (rs_word 24 12 (link_symbols link)) low voice speech.frames) (link_are (rs_word 24 12 (link_symbols link)) low voice (link_outer link).word_of_set.long speech) (link_places (rs_word 24 12 (link_symbols link)) low voice (link_outer link).word_of_set.long) hamming10_reading_of (rs_marked_reading_of 24 12) 12
+      laid_out-only (link1_carries link low voice speech) (link1_suits link low voice speech) nac 5 plain laid
+      (words_carried (link1_carries link low voice speech) (link1_suits link low voice speech) (link1_stands link low voice) hamming10_reading_of (rs_marked_reading_of 24 12) 12
       (link_symbols link) (λ w is. rs_word-only 24 12 (link_symbols link) w link_code (length-link_symbols link) is) plain laid.long has)
       ∙ sym (link1_bits nac link low voice),
   λ is.
       let whole = is ∙ link1_bits nac link low voice in (
-        laid_out (hamming10_carried (rs_word 24 12 (link_symbols link)) low voice speech.frames) (link_are (rs_word 24 12 (link_symbols link)) low voice (link_outer link).word_of_set.long speech) nac 5 plain whole,
-        field_carried (hamming10_carried (rs_word 24 12 (link_symbols link)) low voice speech.frames) (link_are (rs_word 24 12 (link_symbols link)) low voice (link_outer link).word_of_set.long speech) (link_places (rs_word 24 12 (link_symbols link)) low voice (link_outer link).word_of_set.long) hamming10_reading_of (rs_marked_reading_of 24 12) 12
-            (link_symbols link) (link_outer link) nac 5 plain whole,
+        laid_out (link1_carries link low voice speech) (link1_suits link low voice speech) nac 5 plain whole,
+        field_carried (link1_carries link low voice speech) (link1_suits link low voice speech) (link1_stands link low voice) hamming10_reading_of (rs_marked_reading_of 24 12) 12 (link_symbols link) (link_outer link) nac 5 plain whole,
       ),
 )
 
 -- voice with encryption sync
-link2_bits : (nac : ℕ) (sync : EncryptionSync) (low : List ℕ) (voice : List VoiceFrame) → voice_image_of nac (Link2 sync low voice) ≡ unit_front nac 10 ++ rows_bits (contents hamming10_word 1 (rs_word 24 16 (sync_symbols sync)) low voice) link_rows
+abbrev link2_contents : (sync : EncryptionSync) (low : List ℕ) (voice : List VoiceFrame) → Contents
+link2_contents sync low voice = contents hamming10_word 1 (rs_word 24 16 (sync_symbols sync)) low voice
+
+link2_carries : (sync : EncryptionSync) (low : List ℕ) (voice : List VoiceFrame) → IsSpeech low voice → IsCarried IsHamming10 10 6 (link2_contents sync low voice)
+link2_carries sync low voice speech = hamming10_carried (rs_word 24 16 (sync_symbols sync)) low voice speech.frames
+
+link2_suits : (sync : EncryptionSync) (low : List ℕ) (voice : List VoiceFrame) → IsSpeech low voice → AreRows 10 1680 (link2_contents sync low voice) link_rows
+link2_suits sync low voice speech = link_are (rs_word 24 16 (sync_symbols sync)) low voice (sync_outer sync).word_of_set.long speech
+
+link2_stands : (sync : EncryptionSync) (low : List ℕ) (voice : List VoiceFrame) → AreWordPlaces 10 1680 (link2_contents sync low voice) (word_places 10 link_rows)
+link2_stands sync low voice = link_places (rs_word 24 16 (sync_symbols sync)) low voice (sync_outer sync).word_of_set.long
+
+link2_bits : (nac : ℕ) (sync : EncryptionSync) (low : List ℕ) (voice : List VoiceFrame) → voice_image_of nac (Link2 sync low voice) ≡ unit_front nac 10 ++ rows_bits (link2_contents sync low voice) link_rows
 unfolding voice_image_of voice_body
 link2_bits nac sync low voice = refl
 
 link2_long : (nac : ℕ) (sync : EncryptionSync) (low : List ℕ) (voice : List VoiceFrame) → IsSpeech low voice → voice_length_of 10 ≡ Some (length (voice_image_of nac (Link2 sync low voice)))
 link2_long nac sync low voice speech =
-    length-link2 ∙ ap Some (sym (ap length (link2_bits nac sync low voice) ∙ length-unit (hamming10_carried (rs_word 24 16 (sync_symbols sync)) low voice speech.frames) (link_are (rs_word 24 16 (sync_symbols sync)) low voice (sync_outer sync).word_of_set.long speech) nac 10))
+    length-link2 ∙ ap Some (sym (ap length (link2_bits nac sync low voice) ∙ length-unit (link2_carries sync low voice speech) (link2_suits sync low voice speech) nac 10))
 
 link2_form : (nac : ℕ) (sync : EncryptionSync) (low : List ℕ) (voice : List VoiceFrame) (plain : List Bool) → IsSpeech low voice
     → (IsLaidOut nac 10 1680 link_rows low voice plain × HasField IsHamming10 (IsWord 24 16) sync_layout (sync_symbols sync) plain) ↔ (plain ≡ voice_image_of nac (Link2 sync low voice))
 link2_form nac sync low voice plain speech = (
   λ (laid, has).
-      laid_out-only (hamming10_carried (rs_word 24 16 (sync_symbols sync)) low voice speech.frames) (link_are (rs_word 24 16 (sync_symbols sync)) low voice (sync_outer sync).word_of_set.long speech) nac 10 plain laid
-      (words_carried (hamming10_carried (rs_word 24 16 (sync_symbols sync)) low voice speech.frames) (link_are (rs_word 24 16 (sync_symbols sync)) low voice (sync_outer sync).word_of_set.long speech) (link_places (rs_word 24 16 (sync_symbols sync)) low voice (sync_outer sync).word_of_set.long) hamming10_reading_of (rs_marked_reading_of 24 16) 16
+      laid_out-only (link2_carries sync low voice speech) (link2_suits sync low voice speech) nac 10 plain laid
+      (words_carried (link2_carries sync low voice speech) (link2_suits sync low voice speech) (link2_stands sync low voice) hamming10_reading_of (rs_marked_reading_of 24 16) 16
       (sync_symbols sync) (λ w is. rs_word-only 24 16 (sync_symbols sync) w sync_code (length-sync_symbols sync) is) plain laid.long has)
       ∙ sym (link2_bits nac sync low voice),
   λ is.
       let whole = is ∙ link2_bits nac sync low voice in (
-        laid_out (hamming10_carried (rs_word 24 16 (sync_symbols sync)) low voice speech.frames) (link_are (rs_word 24 16 (sync_symbols sync)) low voice (sync_outer sync).word_of_set.long speech) nac 10 plain whole,
-        field_carried (hamming10_carried (rs_word 24 16 (sync_symbols sync)) low voice speech.frames) (link_are (rs_word 24 16 (sync_symbols sync)) low voice (sync_outer sync).word_of_set.long speech) (link_places (rs_word 24 16 (sync_symbols sync)) low voice (sync_outer sync).word_of_set.long) hamming10_reading_of (rs_marked_reading_of 24 16) 16
-            (sync_symbols sync) (sync_outer sync) nac 10 plain whole,
+        laid_out (link2_carries sync low voice speech) (link2_suits sync low voice speech) nac 10 plain whole,
+        field_carried (link2_carries sync low voice speech) (link2_suits sync low voice speech) (link2_stands sync low voice) hamming10_reading_of (rs_marked_reading_of 24 16) 16 (sync_symbols sync) (sync_outer sync) nac 10 plain whole,
       ),
 )
 
 -- a terminator with link control
-end_link_bits : (nac : ℕ) (link : LinkControl) → voice_image_of nac (EndLink link) ≡ unit_front nac 15 ++ rows_bits (contents golay24_word 2 (rs_word 24 12 (link_symbols link)) [] []) end_link_rows
+abbrev end_link_contents : (link : LinkControl) → Contents
+end_link_contents link = contents golay24_word 2 (rs_word 24 12 (link_symbols link)) [] []
+
+end_link_carries : (link : LinkControl) → IsCarried IsGolay24 24 12 (end_link_contents link)
+end_link_carries link = golay24_carried (rs_word 24 12 (link_symbols link))
+
+end_link_suits : (link : LinkControl) → AreRows 24 420 (end_link_contents link) end_link_rows
+end_link_suits link = end_link_are (rs_word 24 12 (link_symbols link)) (link_outer link).word_of_set.long
+
+end_link_stands : (link : LinkControl) → AreWordPlaces 24 420 (end_link_contents link) (word_places 24 end_link_rows)
+end_link_stands link = end_link_places (rs_word 24 12 (link_symbols link)) (link_outer link).word_of_set.long
+
+end_link_bits : (nac : ℕ) (link : LinkControl) → voice_image_of nac (EndLink link) ≡ unit_front nac 15 ++ rows_bits (end_link_contents link) end_link_rows
 unfolding voice_image_of voice_body
 end_link_bits nac link = refl
 
 end_link_long : (nac : ℕ) (link : LinkControl) → voice_length_of 15 ≡ Some (length (voice_image_of nac (EndLink link)))
 end_link_long nac link =
-    length-end_link ∙ ap Some (sym (ap length (end_link_bits nac link) ∙ length-unit (golay24_carried (rs_word 24 12 (link_symbols link))) (end_link_are (rs_word 24 12 (link_symbols link)) (link_outer link).word_of_set.long) nac 15))
+    length-end_link ∙ ap Some (sym (ap length (end_link_bits nac link) ∙ length-unit (end_link_carries link) (end_link_suits link) nac 15))
 
 end_link_form : (nac : ℕ) (link : LinkControl) (plain : List Bool)
     → (IsLaidOut nac 15 420 end_link_rows [] [] plain × HasField IsGolay24 (IsWord 24 12) end_link_layout (link_symbols link) plain) ↔ (plain ≡ voice_image_of nac (EndLink link))
 end_link_form nac link plain = (
   λ (laid, has).
-      laid_out-only (golay24_carried (rs_word 24 12 (link_symbols link))) (end_link_are (rs_word 24 12 (link_symbols link)) (link_outer link).word_of_set.long) nac 15 plain laid
-      (words_carried (golay24_carried (rs_word 24 12 (link_symbols link))) (end_link_are (rs_word 24 12 (link_symbols link)) (link_outer link).word_of_set.long) (end_link_places (rs_word 24 12 (link_symbols link)) (link_outer link).word_of_set.long) golay24_reading_of (rs_marked_reading_of 24 12) 12
+      laid_out-only (end_link_carries link) (end_link_suits link) nac 15 plain laid
+      (words_carried (end_link_carries link) (end_link_suits link) (end_link_stands link) golay24_reading_of (rs_marked_reading_of 24 12) 12
       (link_symbols link) (λ w is. rs_word-only 24 12 (link_symbols link) w link_code (length-link_symbols link) is) plain laid.long has)
       ∙ sym (end_link_bits nac link),
   λ is.
       let whole = is ∙ end_link_bits nac link in (
-        laid_out (golay24_carried (rs_word 24 12 (link_symbols link))) (end_link_are (rs_word 24 12 (link_symbols link)) (link_outer link).word_of_set.long) nac 15 plain whole,
-        field_carried (golay24_carried (rs_word 24 12 (link_symbols link))) (end_link_are (rs_word 24 12 (link_symbols link)) (link_outer link).word_of_set.long) (end_link_places (rs_word 24 12 (link_symbols link)) (link_outer link).word_of_set.long) golay24_reading_of (rs_marked_reading_of 24 12) 12
-            (link_symbols link) (link_outer link) nac 15 plain whole,
+        laid_out (end_link_carries link) (end_link_suits link) nac 15 plain whole,
+        field_carried (end_link_carries link) (end_link_suits link) (end_link_stands link) golay24_reading_of (rs_marked_reading_of 24 12) 12 (link_symbols link) (link_outer link) nac 15 plain whole,
       ),
 )
 

@@ -1,10 +1,12 @@
 -- The readings of voice units, kind by kind: at the DUID of a kind the definition computes to that kind's; and a unit with voice by which
 -- of its parts were read.
-use Rattle.std.proofs.Common.{◌≡◌, ℕ, Bool, List, [], Option, Some, None, ◌∷◌, ap₂, Ok, Err, Result, refl, ap, sym, ◌∙◌}
+use Rattle.std.proofs.Common.{◌≡◌, ℕ, Bool, List, [], Option, Some, None, ◌∷◌, ap₂, Ok, Err, Result, refl, ap, sym, ◌∙◌, ◌++◌, false, replicate}
 use Rattle.p25_status.specs.declared.fields.Field.{Field}
 use Rattle.p25_voice_units.specs.declared.unit.VoiceUnit.{VoiceUnit}
 use Rattle.p25_voice_units.specs.declared.unit.VoiceUnit.TheVariants.{End}
 use Rattle.p25_voice_units.specs.FieldLayouts.{end_link_layout}
+use Rattle.p25_front.specs.Front.{unit_front}
+use Rattle.p25_voice_units.specs.Images.{piece_bits, rows_bits, voice_body, voice_image_of}
 use Rattle.p25_voice_units.specs.Lengths.{voice_length_of}
 use Rattle.p25_voice_units.specs.declared.unit.VoiceUnit.TheVariants.{Link1, Link2}
 use Rattle.p25_voice_units.specs.declared.voice.VoiceFrame.{VoiceFrame}
@@ -93,3 +95,8 @@ link2_parts plain voice answer first second a b c d =
     ap (λ x. link2_from x answer first second) a
     ∙ ap (λ x. link2_from (voice_in plain) x first second) b
     ∙ ap₂ (link2_from (voice_in plain) (sync_in plain)) c d
+
+-- a terminator is its front and nulls
+pub image-end : (nac : ℕ) → voice_image_of nac End ≡ unit_front nac 3 ++ replicate 28 false
+unfolding voice_image_of voice_body rows_bits piece_bits
+image-end nac = refl

@@ -12,4 +12,5 @@ pub mod FieldCodesLaws
 pub mod ReadingLaws
 pub mod RadiusLaws
 pub mod FixesLaws
-pub mod ReadNearLaws
+pub mod ImageReadingLaws
+pub mod WholeLaws

@@ -51,20 +51,23 @@ two_of (x ∷ y ∷ []) long = refl
 two_of (x ∷ y ∷ z ∷ xs) long = absurd (omega arith)
 
 -- the low speed words of a unit with voice
-low_first : (low : List ℕ) (voice : List VoiceFrame) (sent received : List Bool) → IsSpeech low voice → All (λ row. HasPiece low voice sent row.0 row.1) link_rows → length received ≡ 1680 → AreLowWithin sent received → low_in 0 received ≡ Some (slice_index low 0)
+low_first : (low : List ℕ) (voice : List VoiceFrame) (sent received : List Bool) → IsSpeech low voice → All (λ row. HasPiece low voice sent row.0 row.1) link_rows → length received ≡ 1680
+    → AreLowWithin sent received → low_in 0 received ≡ Some (slice_index low 0)
 unfolding low_in low_places
 low_first low voice sent received keeps pieces long near =
     let there : 1504 + 16 ≤ length received = omega arith in
     low_near 1504 (slice_index low 0) sent received (keeps.small 0 0 (omega (arith, keeps.two))) (pieces 14 (0, Nulls 0) (lit< tt)) there (near 0 0 (lit< tt))
 
-low_second : (low : List ℕ) (voice : List VoiceFrame) (sent received : List Bool) → IsSpeech low voice → All (λ row. HasPiece low voice sent row.0 row.1) link_rows → length received ≡ 1680 → AreLowWithin sent received → low_in 1 received ≡ Some (slice_index low 1)
+low_second : (low : List ℕ) (voice : List VoiceFrame) (sent received : List Bool) → IsSpeech low voice → All (λ row. HasPiece low voice sent row.0 row.1) link_rows → length received ≡ 1680
+    → AreLowWithin sent received → low_in 1 received ≡ Some (slice_index low 1)
 unfolding low_in low_places
 low_second low voice sent received keeps pieces long near =
     let there : 1520 + 16 ≤ length received = omega arith in
     low_near 1520 (slice_index low 1) sent received (keeps.small 1 0 (omega (arith, keeps.two))) (pieces 15 (0, Nulls 0) (lit< tt)) there (near 1 0 (lit< tt))
 
 -- a unit within radius is read as sent, with its voice as received
-pub voice_within : (nac : ℕ) (unit : VoiceUnit) (sent received : List Bool) → IsSendableVoice unit → IsVoiceImage nac unit sent → length received ≡ length sent → IsVoiceWithin unit sent received → voice_reading_of (voice_duid unit) received ≡ Ok (received_voice unit received)
+pub voice_within : (nac : ℕ) (unit : VoiceUnit) (sent received : List Bool) → IsSendableVoice unit → IsVoiceImage nac unit sent → length received ≡ length sent → IsVoiceWithin unit sent received
+    → voice_reading_of (voice_duid unit) received ≡ Ok (received_voice unit received)
 unfolding IsSendableVoice IsVoiceImage IsVoiceWithin header_in link_in sync_in header_from end_link_from
 voice_within nac (Header word) sent received keeps is long near =
     reading-header received

@@ -59,7 +59,9 @@ voice_keeps : (plain : List Bool) → (length (voice_in plain) ≡ 9) × All IsV
 unfolding voice_in frame_in
 voice_keeps plain = (
   length-map (frame_places link_rows) (λ at. frame_in at plain) ∙ nine_frames,
-  All-map IsVoiceFrame (λ at. frame_in at plain) (frame_places link_rows) (λ i d inside. record { long = length-numbers_from 8 18 (drop (get_or (frame_places link_rows) i d) plain); small = All-numbers_from 8 18 (drop (get_or (frame_places link_rows) i d) plain) }),
+  All-map IsVoiceFrame (λ at. frame_in at plain) (frame_places link_rows) (λ i d inside.
+      let behind = drop (get_or (frame_places link_rows) i d) plain in
+      record { long = length-numbers_from 8 18 behind; small = All-numbers_from 8 18 behind }),
 )
 
 speech_keeps : (first second : ℕ) (plain : List Bool) → low_in 0 plain ≡ Some first → low_in 1 plain ≡ Some second → IsSpeech (first ∷ second ∷ []) (voice_in plain)
@@ -90,7 +92,8 @@ end_link_read plain (Some link) unit is read =
     let same : EndLink link ≡ unit = cc in
     subst (IsUnitOf 15) same (record { kind = refl; sendable = read_keeps IsLinkControl link_of_symbols (field_reading_of end_link_layout plain) link link_keeps is })
 
-link1_read : (plain : List Bool) (answer : Option LinkControl) (first second : Option ℕ) (unit : VoiceUnit) → link_in link_layout plain ≡ answer → low_in 0 plain ≡ first → low_in 1 plain ≡ second → link1_from (voice_in plain) answer first second ≡ Ok unit
+link1_read : (plain : List Bool) (answer : Option LinkControl) (first second : Option ℕ) (unit : VoiceUnit) → link_in link_layout plain ≡ answer → low_in 0 plain ≡ first → low_in 1 plain ≡ second
+    → link1_from (voice_in plain) answer first second ≡ Ok unit
     → IsUnitOf 5 unit
 unfolding link_in link1_from IsSendableVoice
 link1_read plain None first second unit is a b read = absurd (cc)
@@ -103,7 +106,8 @@ link1_read plain (Some link) (Some first) (Some second) unit is a b read =
       sendable = record { word = read_keeps IsLinkControl link_of_symbols (field_reading_of link_layout plain) link link_keeps is; speech = speech_keeps first second plain a b };
     })
 
-link2_read : (plain : List Bool) (answer : Option EncryptionSync) (first second : Option ℕ) (unit : VoiceUnit) → sync_in plain ≡ answer → low_in 0 plain ≡ first → low_in 1 plain ≡ second → link2_from (voice_in plain) answer first second ≡ Ok unit
+link2_read : (plain : List Bool) (answer : Option EncryptionSync) (first second : Option ℕ) (unit : VoiceUnit) → sync_in plain ≡ answer → low_in 0 plain ≡ first → low_in 1 plain ≡ second
+    → link2_from (voice_in plain) answer first second ≡ Ok unit
     → IsUnitOf 10 unit
 unfolding sync_in link2_from IsSendableVoice
 link2_read plain None first second unit is a b read = absurd (cc)

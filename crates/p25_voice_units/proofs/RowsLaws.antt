@@ -96,7 +96,8 @@ module _ {IsWord : List Bool → Type 0} {size k : ℕ} {carried : Contents} (ca
       let longer : length (before ++ piece) ≡ at + wide = length-append before piece ∙ ap₂ ◌+◌ long filled in
       let moved : before ++ rows_bits carried (row ∷ rows) ≡ (before ++ piece) ++ rest = cut ∙ sym (append_assoc before piece rest) in
       let others = rows_parts rows (at + wide) (before ++ piece) longer stands.1 fits.1 in
-      All-cons (λ other. part other.0 (piece_length size other.1) (before ++ rows_bits carried (row ∷ rows)) ≡ piece_bits carried other.1) row rows first (λ i d inside. ap (λ (xs : List Bool). part (get_or rows i d).0 (piece_length size (get_or rows i d).1) xs) moved ∙ others i d inside)
+      All-cons (λ other. part other.0 (piece_length size other.1) (before ++ rows_bits carried (row ∷ rows)) ≡ piece_bits carried other.1) row rows first
+      (λ i d inside. ap (λ (xs : List Bool). part (get_or rows i d).0 (piece_length size (get_or rows i d).1) xs) moved ∙ others i d inside)
 
 -- what has each piece at its place is the pieces joined
 pub rows_only : (size : ℕ) (carried : Contents) (rows : List (ℕ × Piece)) (at : ℕ) (plain : List Bool) → rows_stand size at rows ≡ true → length plain ≡ at + rows_length size rows

@@ -1,12 +1,13 @@
 //! Voice units as bits.
 
-ghost use Rattle.std.specs.Prelude.{All, ◌≡◌, ◌+◌, ◌*◌, ◌/◌, ◌<◌, ◌≤◌, ◌++◌, Bool, List, Some, true, length, sum_by};
+ghost use Rattle.std.specs.Prelude.{All, ◌≡◌, ◌+◌, ◌*◌, ◌/◌, ◌<◌, ◌≤◌, ◌++◌, Bool, List, Ok, Some, true, length, sum_by};
 ghost use Rattle.std.specs.List.{list_all};
 ghost use Rattle.p25_fields.specs.Written.{Encodes};
 ghost use Rattle.p25_bits.specs.Bits.{bits_of, octet_bits};
 ghost use Rattle.p25_voice_units.specs.declared.unit.VoiceUnit.TheVariants.{Header as header_unit, Link1 as link1_unit, Link2 as link2_unit, End as end_unit, EndLink as end_link_unit};
 ghost use Rattle.p25_voice_units.specs.Images.{piece_bits, rows_bits, contents, lsd16_word, voice_body, voice_image_of};
 ghost use Rattle.p25_voice_units.specs.Lengths.{voice_duid, voice_length_of};
+ghost use Rattle.p25_voice_units.specs.Readings.{voice_reading_of};
 ghost use Rattle.p25_voice_units.specs.Pieces.{piece_fits, piece_length};
 ghost use Rattle.p25_voice_units.specs.Sendable.{IsSendableVoice, IsSpeech, IsVoiceFrame};
 ghost use Rattle.p25_link.specs.Words.{IsHeaderWord, IsLinkControl, IsEncryptionSync};
@@ -206,6 +207,7 @@ pub fn voice_image(nac: u16, unit: &VoiceUnit, out: &mut BitBuf)
     ensures list { out.new ≡ voice_image_of nac unit.now }
     ensures len { voice_length_of (voice_duid unit.now) ≡ Some (length out.new) }
     ensures sendable { IsSendableVoice unit.now }
+    ensures again { voice_reading_of (voice_duid unit.now) out.new ≡ Ok unit.now }
 {
     out.clear();
     put_front(&identifier(nac, unit.duid()), out);

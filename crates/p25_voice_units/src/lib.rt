@@ -1,21 +1,28 @@
 //! Voice units: their bits without status symbols, written and read (TIA-102.BAAA, Voice Data Units).
 //!
 //! The first bit of a list is the first that is sent. A voice unit begins with its front, the frame sync and the network
-//! identifier, whose DUID tells its kind and so its length: a header has 770 bits, voice with link control or encryption
-//! sync 1,680, a terminator 140, and one with link control 420. Where its parts stand is a table of rows for each kind.
+//! identifier, whose DUID tells its kind:
+//!
+//! | DUID | kind | bits | behind the front |
+//! |---|---|---|---|
+//! | 0 | header | 770 | the header word, 36 symbols in as many Golay (18,6) words; nulls |
+//! | 5 | voice with link control | 1,680 | nine voice frames; link control, 24 symbols in as many Hamming (10,6) words; two low speed words |
+//! | A hex | voice with encryption sync | 1,680 | the same with encryption sync |
+//! | 3 | terminator | 140 | nulls |
+//! | F hex | terminator with link control | 420 | link control, 24 symbols in twelve Golay (24,12) words; nulls |
+//!
+//! Where each part stands is a table for each kind, as `LINK_ROWS`. Voice frames are carried as they are and not decoded.
 //!
 //! ```text
+//! let unit = VoiceUnit::EndLink { link: LinkControl([0; 9]) };
 //! let mut plain = BitBuf::new();
 //! voice_image(0x293, &unit, &mut plain);
-//! match read_voice(unit.duid(), &received) {
-//!     Ok(read) => …,     // voice_fixes(&read, &received, &plain) places were wrong
-//!     Err(failing) => …, // exactly the fields that fail, in order
-//! }
+//! let read = read_voice(unit.duid(), &plain)?;
 //! ```
 //!
-//! Contracts see a unit's bits as `voice_image_of` and what is read as `voice_reading_of`. `image_laws` says that these bits
-//! are the only ones that stand as `IsVoiceImage` says by places, and `radius_laws` that all bits within radius of them are
-//! read as their unit.
+//! Contracts see a unit's bits as `voice_image_of` and what is read as `voice_reading_of`. `image_laws` says that these
+//! bits are the only ones that stand as `IsVoiceImage` says by places, and `radius_laws` that units within radius are read
+//! as sent.
 #![tactic(auto)]
 
 mod fixes;

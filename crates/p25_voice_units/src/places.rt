@@ -29,7 +29,6 @@ pub(crate) const LOW_WORDS: [usize; 2] = [1504, 1520];
 pub(crate) const FRAMES: [usize; 9] = [112, 256, 440, 624, 808, 992, 1176, 1360, 1536];
 
 /// Does nothing: its contract is that the places are those of the layouts.
-#[tactic(auto, unfolding(crate::specs::FieldLayouts::word_places, crate::specs::Readings::frame_places, crate::specs::Readings::low_places, p25_fields::specs::Layouts::places_from))]
 pub fn part_places()
     ensures header { HEADER_WORDS ≡ word_places 18 header_rows }
     ensures link { LINK_WORDS ≡ word_places 10 link_rows }

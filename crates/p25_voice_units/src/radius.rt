@@ -17,6 +17,7 @@ ghost use Rattle.p25_voice_units.specs.WithinRadius.{IsVoiceWithin, IsVoiceWithi
 ///   inner words with more wrong bits than the inner code's radius, and at most two bits of each low speed word are wrong.
 /// - `undamaged`: a unit's own bits are within radius.
 /// - `again`: and are read as the unit.
+/// - `whole`: bits are within radius of the own bits of what they are read as.
 pub fn radius_laws()
     ensures kind { (duid : ℕ) (plain : List Bool) (unit : VoiceUnit) → voice_reading_of duid plain ≡ Ok unit → voice_duid unit ≡ duid }
     ensures sendable { (duid : ℕ) (plain : List Bool) (unit : VoiceUnit) → voice_reading_of duid plain ≡ Ok unit → IsSendableVoice unit }
@@ -26,4 +27,6 @@ pub fn radius_laws()
         → IsVoiceWithinByWords unit (voice_image_of nac unit) received → IsVoiceWithin unit (voice_image_of nac unit) received }
     ensures undamaged { (nac : ℕ) (unit : VoiceUnit) → IsSendableVoice unit → IsVoiceWithin unit (voice_image_of nac unit) (voice_image_of nac unit) }
     ensures again { (nac : ℕ) (unit : VoiceUnit) → IsSendableVoice unit → voice_reading_of (voice_duid unit) (voice_image_of nac unit) ≡ Ok unit }
+    ensures whole { (nac duid : ℕ) (received : List Bool) (unit : VoiceUnit) → voice_reading_of duid received ≡ Ok unit
+        → IsVoiceWithin unit (voice_image_of nac unit) received }
 {}

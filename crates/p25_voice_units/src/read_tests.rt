@@ -53,8 +53,14 @@ fn spoil(bits: &mut BitBuf, all: &[Damage]) {
     }
 }
 
-// A unit is read in spite of damage, with so many fixes.
-fn assert_read(rt: &impl Abort, unit: &VoiceUnit, all: &[Damage], fixes: u32) {
+// A unit is read as another after damage, with so many fixes.
+fn assert_read_as(
+    rt: &impl Abort,
+    unit: &VoiceUnit,
+    all: &[Damage],
+    other: &VoiceUnit,
+    fixes: u32,
+) {
     let mut image = BitBuf::new();
     voice_image(0x293, unit, &mut image);
     let mut plain = BitBuf::new();
@@ -62,10 +68,15 @@ fn assert_read(rt: &impl Abort, unit: &VoiceUnit, all: &[Damage], fixes: u32) {
     spoil(&mut plain, all);
     assert!(rt; plain.len() == image.len());
     match read_voice(unit.duid(), &plain) {
-        Ok(read) => assert!(rt; read == *unit, "another unit, for {fixes} fixes"),
+        Ok(read) => assert!(rt; read == *other, "another unit, for {fixes} fixes"),
         Err(_) => assert!(rt; false, "not read, for {fixes} fixes"),
     }
     assert_eq!(rt; voice_fixes(unit, &plain, &image), fixes);
+}
+
+// A unit is read in spite of damage.
+fn assert_read(rt: &impl Abort, unit: &VoiceUnit, all: &[Damage], fixes: u32) {
+    assert_read_as(rt, unit, all, unit, fixes);
 }
 
 // A unit is refused after damage, with these fields.
@@ -244,12 +255,5 @@ fn terminators(rt: HostRuntime) {
 
 #[test]
 fn voice_is_answered_as_received(rt: HostRuntime) {
-    let mut plain = BitBuf::new();
-    voice_image(0, &link1(0x35), &mut plain);
-    invert(&mut plain, 1536, 4);
-    assert!(rt; plain.len() == 1680);
-    match read_voice(5, &plain) {
-        Ok(read) => assert!(rt; read == link1(0xC5)),
-        Err(_) => assert!(rt; false, "not read"),
-    }
+    assert_read_as(&rt, &link1(0x35), &[run(1536, 4)], &link1(0xC5), 0);
 }

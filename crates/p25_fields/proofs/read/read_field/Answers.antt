@@ -41,4 +41,5 @@ returns g c =
     let same : length c.loop-i.erased ≡ length c.loop-i.word = cut ∙ sym c.loop-i.auto.word in
     let whole
     = marked_whole (λ at. marks_of (b.K / 6) (b.reading_is (part at b.N c.args.plain.now))) places each c.loop-i.i c.loop-i.word c.loop-i.erased (omega arith) covers same (omega arith) c.loop-i.invariant in
-    outer_read (field_layout places b.N (b.K / 6) b.reading_is g.O.ErasedCode.marked_reading_is g.O.BlockCode.K) c.args.plain.now (marked c.loop-i.word c.loop-i.erased) (word_read c.read_marked.result c.read_marked.new.word) c.read_marked.ensures.value whole
+    let layout = field_layout places b.N (b.K / 6) b.reading_is g.O.ErasedCode.marked_reading_is g.O.BlockCode.K in
+    outer_read layout c.args.plain.now (marked c.loop-i.word c.loop-i.erased) (word_read c.read_marked.result c.read_marked.new.word) c.read_marked.ensures.value whole

@@ -1,4 +1,4 @@
-use Rattle.std.proofs.Common.{length, refl, rules}
+use Rattle.std.proofs.Common.{length, refl, arith}
 use Rattle.p25_link.specs.Words.{header_of_symbols}
 use Rattle.p25_fields.specs.Layouts.{places_from, field_reading_of}
 use Rattle.p25_fields.proofs.CodesLaws.{all_end}
@@ -22,4 +22,4 @@ pub read_symbols-requires : goal.read_symbols-requires
 unfolding word_places places_from
 read_symbols-requires c =
     let there = all_end 18 770 (length c.args.plain.now) (word_places 18 header_rows) refl c.requires in
-    (search rules, (tt, (header_code, (search rules, (refl, (search rules, (refl, there)))))))
+    (omega arith, (tt, (header_code, (omega arith, (refl, (omega arith, (refl, there)))))))

@@ -1,0 +1,133 @@
+-- What a voice unit was read as lies within radius of its bits: each part that was read is the word of its code near to what was
+-- received, and the unit's own bits have the only word with this information.
+use Rattle.std.proofs.Common.{◌≡◌, ℕ, zero, suc, ◌≤◌, Bool, List, [], ◌∷◌, length, take, slice_index, Option, Some, None, option_map, Ok, All, refl, ap, sym, ◌∙◌, subst, arith, lit<}
+use Rattle.std.specs.Bool.{beq}
+use Rattle.std.proofs.lemmas.List.{length-take-le}
+use Rattle.p25_bits.specs.Bits.{bits_of, field_of, part}
+use Rattle.p25_bits.specs.Distance.{distance_of}
+use Rattle.p25_bits.proofs.BitsLaws.{bits_of-field_of}
+use Rattle.p25_code.specs.Readings.{IsReadAs}
+use Rattle.p25_code.specs.Words.{IsEncoding}
+use Rattle.p25_gf64.specs.declared.symbol.Sym.{Sym}
+use Rattle.p25_golay.specs.Golay18Readings.{golay18_reading_of}
+use Rattle.p25_golay.specs.Golay24Readings.{golay24_reading_of}
+use Rattle.p25_hamming.specs.Hamming10Readings.{hamming10_reading_of}
+use Rattle.p25_hamming.specs.Lsd16.{IsLsd16}
+use Rattle.p25_hamming.specs.Lsd16Laws.{lsd16_is_code}
+use Rattle.p25_hamming.specs.Lsd16Readings.{lsd16_reading_of, lsd16_reads_as}
+use Rattle.p25_link.specs.Words.{header_of_symbols, header_symbols, link_of_symbols, link_symbols, sync_of_symbols, sync_symbols}
+use Rattle.p25_link.specs.declared.encryption_sync.EncryptionSync.{EncryptionSync}
+use Rattle.p25_link.specs.declared.header_word.HeaderWord.{HeaderWord}
+use Rattle.p25_link.specs.declared.link_control.LinkControl.{LinkControl}
+use Rattle.p25_link.proofs.WordsLaws.{header_symbols_back, link_symbols_back, sync_symbols_back}
+use Rattle.p25_fields.specs.Layouts.{field_reading_of}
+use Rattle.p25_fields.proofs.CodesLaws.{near_from_reading, field_information}
+use Rattle.p25_voice_units.specs.declared.layout.Piece.TheVariants.{Nulls}
+use Rattle.p25_voice_units.specs.declared.unit.VoiceUnit.{VoiceUnit}
+use Rattle.p25_voice_units.specs.declared.unit.VoiceUnit.TheVariants.{Header, Link1, Link2, End, EndLink}
+use Rattle.p25_voice_units.specs.declared.voice.VoiceFrame.{VoiceFrame}
+use Rattle.p25_voice_units.specs.Layouts.{header_rows, link_rows, end_link_rows}
+use Rattle.p25_voice_units.specs.FieldLayouts.{word_places, header_layout, link_layout, sync_layout, end_link_layout}
+use Rattle.p25_voice_units.specs.Lengths.{voice_duid}
+use Rattle.p25_voice_units.specs.Places.{HasPiece, IsVoiceImage}
+use Rattle.p25_voice_units.specs.Readings.{low_places, voice_in, low_in, header_in, link_in, sync_in, header_from, link1_from, link1_in, link2_from, link2_in, end_link_from, voice_reading_of}
+use Rattle.p25_voice_units.specs.WithinRadius.{AreLowWithin, IsVoiceWithin}
+use Rattle.p25_voice_units.proofs.CodesLaws.{header_code, link_code, sync_code}
+use Rattle.p25_voice_units.proofs.KindsLaws.{reading-header, reading-link1, reading-link2, reading-end_link}
+
+-- a part that was read is that of the symbols that were read
+symbols_read : {W : Type 0} (of_symbols : List Sym → W) (symbols_of : W → List Sym) (n : ℕ) (reading : Option (List Sym)) (word : W) → ((symbols : List Sym) → length symbols ≡ n → symbols_of (of_symbols symbols) ≡ symbols)
+    → ((symbols : List Sym) → reading ≡ Some symbols → length symbols ≡ n) → option_map of_symbols reading ≡ Some word → reading ≡ Some (symbols_of word)
+symbols_read of_symbols symbols_of n None word back long is = absurd (cc)
+symbols_read of_symbols symbols_of n (Some symbols) word back long is =
+    let same : of_symbols symbols ≡ word = cc in
+    ap Some (sym (back symbols (long symbols refl)) ∙ ap symbols_of same)
+
+-- what a unit was read as, part by part
+header_parts : (answer : Option HeaderWord) (word : HeaderWord) → header_from answer ≡ Ok (Header word) → answer ≡ Some word
+unfolding header_from
+header_parts None word is = absurd (cc)
+header_parts (Some read) word is = let same : read ≡ word = cc in ap Some same
+
+end_link_parts : (answer : Option LinkControl) (link : LinkControl) → end_link_from answer ≡ Ok (EndLink link) → answer ≡ Some link
+unfolding end_link_from
+end_link_parts None link is = absurd (cc)
+end_link_parts (Some read) link is = let same : read ≡ link = cc in ap Some same
+
+-- the word of a coded field, and the octets of low speed data
+record AreRead {W : Type 0} (answer : Option W) (first second : Option ℕ) (word : W) (low : List ℕ) : Type 0 where
+  word_read : answer ≡ Some word
+  first_read : first ≡ Some (slice_index low 0)
+  second_read : second ≡ Some (slice_index low 1)
+
+link1_read_parts : (voice : List VoiceFrame) (answer : Option LinkControl) (first second : Option ℕ) (link : LinkControl) (low : List ℕ) (frames : List VoiceFrame) → link1_from voice answer first second ≡ Ok (Link1 link low frames)
+    → AreRead answer first second link low
+unfolding link1_from
+link1_read_parts voice None first second link low frames is = absurd (cc)
+link1_read_parts voice (Some read) None second link low frames is = absurd (cc)
+link1_read_parts voice (Some read) (Some a) None link low frames is = absurd (cc)
+link1_read_parts voice (Some read) (Some a) (Some b) link low frames is =
+    let same : read ≡ link = cc in
+    let octets : a ∷ b ∷ [] ≡ low = cc in
+    record { word_read = ap Some same; first_read = ap (λ xs. Some (slice_index xs 0)) octets; second_read = ap (λ xs. Some (slice_index xs 1)) octets }
+
+link2_read_parts : (voice : List VoiceFrame) (answer : Option EncryptionSync) (first second : Option ℕ) (sync : EncryptionSync) (low : List ℕ) (frames : List VoiceFrame) → link2_from voice answer first second ≡ Ok (Link2 sync low frames)
+    → AreRead answer first second sync low
+unfolding link2_from
+link2_read_parts voice None first second sync low frames is = absurd (cc)
+link2_read_parts voice (Some read) None second sync low frames is = absurd (cc)
+link2_read_parts voice (Some read) (Some a) None sync low frames is = absurd (cc)
+link2_read_parts voice (Some read) (Some a) (Some b) sync low frames is =
+    let same : read ≡ sync = cc in
+    let octets : a ∷ b ∷ [] ≡ low = cc in
+    record { word_read = ap Some same; first_read = ap (λ xs. Some (slice_index xs 0)) octets; second_read = ap (λ xs. Some (slice_index xs 1)) octets }
+
+-- a low speed word that was read lies within 2 bits of the one that carries the octet
+low_whole : (at octet : ℕ) (sent received : List Bool) (answer : Option (List Bool)) → IsReadAs beq IsLsd16 2 (part at 16 received) answer → option_map (λ (w : List Bool). field_of (take 8 w)) answer ≡ Some octet
+    → IsEncoding IsLsd16 8 (bits_of 8 octet) (part at 16 sent) → distance_of (part at 16 received) (part at 16 sent) ≤ 2
+unfolding IsReadAs
+low_whole at octet sent received None is read word = absurd (cc)
+low_whole at octet sent received (Some found) is read word =
+    let number : field_of (take 8 found) ≡ octet = cc in
+    let long : 8 ≤ length found = omega (arith, lsd16_is_code.long found is.word_of_set) in
+    let begins : take 8 found ≡ bits_of 8 octet
+    = sym (bits_of-field_of (take 8 found)) ∙ ap (λ n. bits_of n (field_of (take 8 found))) (length-take-le 8 found long) ∙ ap (bits_of 8) number in
+    let same = lsd16_is_code.one_word found (part at 16 sent) is.word_of_set word.word_of_set (begins ∙ sym word.begins) in
+    subst (λ (w : List Bool). distance_of (part at 16 received) w ≤ 2) same is.within
+
+low_words_whole : (low : List ℕ) (voice : List VoiceFrame) (sent received : List Bool) → All (λ row. HasPiece low voice sent row.0 row.1) link_rows → low_in 0 received ≡ Some (slice_index low 0)
+    → low_in 1 received ≡ Some (slice_index low 1)
+    → AreLowWithin sent received
+unfolding low_in low_places
+low_words_whole low voice sent received pieces first second zero d inside =
+    low_whole 1504 (slice_index low 0) sent received (lsd16_reading_of (part 1504 16 received)) (lsd16_reads_as (part 1504 16 received)) first (pieces 14 (0, Nulls 0) (lit< tt))
+low_words_whole low voice sent received pieces first second (suc zero) d inside =
+    low_whole 1520 (slice_index low 1) sent received (lsd16_reading_of (part 1520 16 received)) (lsd16_reads_as (part 1520 16 received)) second (pieces 15 (0, Nulls 0) (lit< tt))
+low_words_whole low voice sent received pieces first second (suc (suc i)) d inside = absurd (omega arith)
+
+-- what a unit was read as is within radius
+pub voice_whole : (nac : ℕ) (unit : VoiceUnit) (sent received : List Bool) → IsVoiceImage nac unit sent → voice_reading_of (voice_duid unit) received ≡ Ok unit → IsVoiceWithin unit sent received
+unfolding IsVoiceImage IsVoiceWithin header_in link_in sync_in link1_in link2_in
+voice_whole nac (Header word) sent received is read =
+    let part_read = header_parts (header_in received) word (sym (reading-header received) ∙ read) in
+    near_from_reading (word_places 18 header_rows) 18 1 36 20 golay18_reading_of header_code (header_symbols word) sent received is.1
+    (symbols_read header_of_symbols header_symbols 20 (field_reading_of header_layout received) word header_symbols_back (field_information (word_places 18 header_rows) 18 1 36 20 golay18_reading_of header_code received) part_read)
+voice_whole nac (Link1 link low voice) sent received is read =
+    let parts = link1_read_parts (voice_in received) (link_in link_layout received) (low_in 0 received) (low_in 1 received) link low voice (sym (reading-link1 received) ∙ read) in
+    record {
+      field = near_from_reading (word_places 10 link_rows) 10 1 24 12 hamming10_reading_of link_code (link_symbols link) sent received is.1
+          (symbols_read link_of_symbols link_symbols 12 (field_reading_of link_layout received) link link_symbols_back (field_information (word_places 10 link_rows) 10 1 24 12 hamming10_reading_of link_code received) parts.word_read);
+      low = low_words_whole low voice sent received is.0.pieces parts.first_read parts.second_read;
+    }
+voice_whole nac (Link2 sync low voice) sent received is read =
+    let parts = link2_read_parts (voice_in received) (sync_in received) (low_in 0 received) (low_in 1 received) sync low voice (sym (reading-link2 received) ∙ read) in
+    record {
+      field = near_from_reading (word_places 10 link_rows) 10 1 24 16 hamming10_reading_of sync_code (sync_symbols sync) sent received is.1
+          (symbols_read sync_of_symbols sync_symbols 16 (field_reading_of sync_layout received) sync sync_symbols_back (field_information (word_places 10 link_rows) 10 1 24 16 hamming10_reading_of sync_code received) parts.word_read);
+      low = low_words_whole low voice sent received is.0.pieces parts.first_read parts.second_read;
+    }
+voice_whole nac End sent received is read = tt
+voice_whole nac (EndLink link) sent received is read =
+    let part_read = end_link_parts (link_in end_link_layout received) link (sym (reading-end_link received) ∙ read) in
+    near_from_reading (word_places 24 end_link_rows) 24 2 24 12 golay24_reading_of link_code (link_symbols link) sent received is.1
+    (symbols_read link_of_symbols link_symbols 12 (field_reading_of end_link_layout received) link link_symbols_back (field_information (word_places 24 end_link_rows) 24 2 24 12 golay24_reading_of link_code received) part_read)
