@@ -16,7 +16,7 @@ use Rattle.p25_voice_units.specs.Readings.{voice_reading_of}
 use Rattle.p25_voice_units.specs.Sendable.{IsSendableVoice}
 use Rattle.p25_voice_units.specs.Images.{voice_image_of}
 use Rattle.p25_voice_units.specs.Places.{IsVoiceImage}
-use Rattle.p25_voice_units.proofs.ImagesLaws.{length-voice_image_of, IsVoiceImage-iff}
+use Rattle.p25_voice_units.proofs.ImagesLaws.{IsVoiceImage-iff}
 use Rattle.p25_voice_units.proofs.RadiusLaws.{voice_within}
 use Rattle.p25_voice_units.proofs.ReadingLaws.{IsUnitOf as IsVoiceOf, unit_read}
 use Rattle.p25_voice_units.proofs.WholeLaws.{voice_whole}

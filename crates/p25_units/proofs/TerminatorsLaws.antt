@@ -1,6 +1,6 @@
 -- Terminators: their frames are sound, their bits are those that are sent, and bits begin with one exactly where the first 144
 -- lie within radius of its frame. By the laws of all units, at a length of two blocks.
-use Rattle.std.proofs.Common.{◌≡◌, ℕ, ◌+◌, ◌*◌, ◌<◌, ◌≤◌, Bool, false, List, ◌++◌, length, replicate, take, refl, ap, ap₂, sym, ◌∙◌, subst, arith}
+use Rattle.std.proofs.Common.{◌≡◌, ℕ, ◌+◌, ◌*◌, ◌<◌, ◌≤◌, Bool, List, length, take, refl, ap, ap₂, sym, ◌∙◌, subst, arith}
 use Rattle.std.proofs.lemmas.List.{length-take-le, take-take}
 use Rattle.p25_bits.specs.Distance.{distance_of}
 use Rattle.p25_status.specs.Sync.{sync_bits, sync_slack}
@@ -14,10 +14,9 @@ use Rattle.p25_voice_units.specs.declared.unit.VoiceUnit.TheVariants.{End}
 use Rattle.p25_voice_units.specs.Lengths.{voice_length_of}
 use Rattle.p25_voice_units.specs.Sendable.{IsSendableVoice}
 use Rattle.p25_voice_units.specs.WithinRadius.{IsVoiceWithin}
-use Rattle.p25_voice_units.specs.Images.{voice_image_of, voice_body, rows_bits, piece_bits}
-use Rattle.p25_units.specs.UnitParts.{UnitParts}
+use Rattle.p25_voice_units.proofs.KindsLaws.{image-end}
 use Rattle.p25_units.specs.declared.unit.Body.TheVariants.{Voice}
-use Rattle.p25_units.specs.Fixes.{body_fixes_of, fixes_of}
+use Rattle.p25_units.specs.Fixes.{fixes_of}
 use Rattle.p25_units.specs.Terminators.{terminator, terminator_bits, sync_errors, identifier_errors, HasTerminator}
 use Rattle.p25_units.specs.Units.{unit_image_of, frame_length_of, image_of, IsWholeBody, IsSoundFrame, IsSendableBody, IsSendableUnit}
 use Rattle.p25_units.specs.WithinRadius.{IsBodyWithin, IsFrontWithin, IsWithinRadius}
@@ -45,15 +44,10 @@ IsSendableUnit-terminator nac statuses fits = record { nac_fits = omega (arith, 
 pub symbols-terminator : (nac : ℕ) (statuses : List Status) → IsSoundFrame (terminator nac statuses) → length statuses ≡ 2
 symbols-terminator nac statuses sound = omega (arith, sound.symbols, length-terminator nac statuses)
 
--- its bits
-voice_image_of-end : (nac : ℕ) → voice_image_of nac End ≡ unit_front nac 3 ++ replicate 28 false
-unfolding voice_image_of voice_body rows_bits piece_bits
-voice_image_of-end nac = refl
-
 -- its bits as they are sent
 pub image_of-terminator : (nac : ℕ) (statuses : List Status) → image_of (terminator nac statuses) ≡ terminator_bits nac statuses
 unfolding image_of unit_image_of unit_front
-image_of-terminator nac statuses = ap (λ bits. woven bits statuses) (voice_image_of-end nac)
+image_of-terminator nac statuses = ap (λ bits. woven bits statuses) (image-end nac)
 
 -- and their front
 module _ (nac : ℕ) (statuses : List Status) (sound : IsSoundFrame (terminator nac statuses)) (fits : nac < 4096) where

@@ -1,5 +1,5 @@
 -- The bits of units: each kind has its length and begins with its front.
-use Rattle.std.proofs.Common.{◌≡◌, List, ℕ, ◌*◌, ◌/◌, ◌%◌, ◌<◌, ◌≤◌, length, take, Some, ap, sym, ◌∙◌, arith, subst}
+use Rattle.std.proofs.Common.{◌≡◌, List, ℕ, ◌*◌, ◌/◌, ◌%◌, ◌<◌, ◌≤◌, length, take, Some, ap, sym, ◌∙◌, arith}
 use Rattle.std.specs.Option.{unwrap_or}
 use Rattle.p25_status.specs.Woven.{plain_of, statuses_of}
 use Rattle.std.proofs.lemmas.List.{take_at}

@@ -61,7 +61,13 @@ fn voice_unit_fixes(bits: &BitBuf, at: usize, nac: u16, voice: &VoiceUnit) -> u3
     ensures most { result ≤ 25200 }
 {
     let mut plain = BitBuf::new();
-    unweave(bits, at, voice.length() / 70 * 72, &mut plain, &mut Statuses::new());
+    unweave(
+        bits,
+        at,
+        voice.length() / 70 * 72,
+        &mut plain,
+        &mut Statuses::new(),
+    );
     let mut image = BitBuf::new();
     voice_image(nac, voice, &mut image);
     voice_fixes(voice, &plain, &image)

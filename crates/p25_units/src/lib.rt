@@ -33,6 +33,8 @@ mod terminators;
 #[cfg(test)]
 mod tests;
 mod unit;
+#[cfg(test)]
+mod voice_tests;
 
 pub use begun::Begun;
 pub use fixing::fixes;

@@ -1,10 +1,5 @@
-use Rattle.std.proofs.Common.{ap, ap₂, sym, ◌∙◌, arith, subst}
-use Rattle.p25_bits.specs.Bits.{part}
-use Rattle.p25_status.specs.Woven.{plain_of}
-use Rattle.p25_units.specs.Units.{IsSendableBody, IsWholeBody, frame_length_of}
-use Rattle.p25_units.specs.UnitParts.{UnitParts}
-use Rattle.p25_units.specs.Fixes.{body_fixes_of}
-use Rattle.p25_units.specs.declared.unit.Body.{Body}
+use Rattle.std.proofs.Common.{sym, ◌∙◌, arith, subst}
+use Rattle.p25_units.specs.Units.{IsSendableBody, IsWholeBody}
 use Rattle.p25_units.specs.declared.unit.Body.TheVariants.{Packet, Voice}
 use Rattle.p25_units.proofs.FixingSteps.{body_fixes-is, frame_length_of-packet, frame_length_of-voice}
 use Rattle.p25_units.proofs.fixing.body_fixes.Goals as goal
