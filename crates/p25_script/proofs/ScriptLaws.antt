@@ -8,6 +8,7 @@ use Rattle.p25_line.specs.Words.{is_word, words_or_fault}
 use Rattle.p25_line.specs.declared.fault.LineFault.{LineFault}
 use Rattle.p25_line.proofs.JoinLaws.{words_or_fault-join, Accepted-words}
 use Rattle.p25_text.proofs.WordLaws.{find-passes}
+use Rattle.p25_air.specs.Runs.{IsEvent}
 use Rattle.p25_air.specs.Sound.{IsMessage}
 use Rattle.p25_air.specs.declared.step.Event.{Event}
 use Rattle.p25_air.specs.declared.step.Event.TheVariants.{Send, Timeout, Reopen, ToReceiver, ToSender}
@@ -143,3 +144,12 @@ length-data places are = omega (arith, length-places_text places are)
 pub length-answer : (places : List ℕ) → ArePlaces places → length (event_text (ToSender places)) ≤ 6 * length places + 16
 unfolding event_text
 length-answer places are = omega (arith, length-places_text places are)
+
+-- the laws of the world speak of what a script can tell of
+pub IsEvent-IsScripted : (event : Event) → IsScripted event → IsEvent event
+unfolding IsEvent
+IsEvent-IsScripted (Send message) fits = fits
+IsEvent-IsScripted Timeout fits = tt
+IsEvent-IsScripted Reopen fits = tt
+IsEvent-IsScripted (ToReceiver places) fits = tt
+IsEvent-IsScripted (ToSender places) fits = tt

@@ -1,6 +1,7 @@
 //! Lines and events tell each other. The function makes no call: its contract is the theorem.
 
 ghost use Rattle.std.specs.Prelude.{◌≡◌, ◌≢◌, ℕ, ◌<◌, ◌≤◌, List, length, Ok};
+ghost use Rattle.p25_air.specs.Runs.{IsEvent};
 ghost use Rattle.p25_air.specs.Sound.{IsMessage};
 ghost use Rattle.p25_air.specs.declared.step.Event.{Event as event_type};
 ghost use Rattle.p25_air.specs.declared.step.Event.TheVariants.{Send, ToReceiver, ToSender};
@@ -10,7 +11,7 @@ ghost use Rattle.p25_script.specs.Values.{ArePlaces};
 /// Answers nothing: its clauses say that lines and events tell each other. The line of each event that is not too long is
 /// read as that event; a line that is read is the line of its event, which a script can tell of, and no line is read as an
 /// event whose line is too long. Each message has a line that is not too long, and so have deliveries with at most 1,360
-/// places.
+/// places. And the laws of the world speak of all that a script can tell of.
 pub fn script_laws()
     ensures line { (event : event_type) → IsScripted event → length (event_text event) ≤ 8192 → event_of (event_text event) ≡ Ok event }
     ensures event { (line : List ℕ) (event : event_type) → event_of line ≡ Ok event → (event_text event ≡ line) × IsScripted event }
@@ -18,4 +19,5 @@ pub fn script_laws()
     ensures message { (message : List ℕ) → IsMessage message → length (event_text (Send message)) ≤ 4061 }
     ensures data { (places : List ℕ) → ArePlaces places → length places ≤ 1360 → length (event_text (ToReceiver places)) ≤ 8192 }
     ensures answer { (places : List ℕ) → ArePlaces places → length places ≤ 1360 → length (event_text (ToSender places)) ≤ 8192 }
+    ensures world { (event : event_type) → IsScripted event → IsEvent event }
 {}

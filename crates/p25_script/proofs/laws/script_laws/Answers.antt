@@ -1,5 +1,5 @@
 use Rattle.std.proofs.Common.{length, ap, arith}
-use Rattle.p25_script.proofs.ScriptLaws.{IsLineOf-event_of, event_of-event_text, length-answer, length-data, length-send}
+use Rattle.p25_script.proofs.ScriptLaws.{IsEvent-IsScripted, IsLineOf-event_of, event_of-event_text, length-answer, length-data, length-send}
 use Rattle.p25_script.proofs.laws.script_laws.Goals as goal
 
 pub returns-clause-line : goal.returns-clause-line
@@ -19,3 +19,6 @@ returns-clause-data c places are few = omega (arith, length-data places are, few
 
 pub returns-clause-answer : goal.returns-clause-answer
 returns-clause-answer c places are few = omega (arith, length-answer places are, few)
+
+pub returns-clause-world : goal.returns-clause-world
+returns-clause-world c event fits = IsEvent-IsScripted event fits
