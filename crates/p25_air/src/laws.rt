@@ -1,7 +1,7 @@
 //! What every run of the world keeps, and what every run without a false pass. Each function makes no call of its own: its
 //! contract is the theorem.
 
-ghost use Rattle.std.specs.Prelude.{◌≡◌, ℕ, ◌≤◌, true, false, List, [], ◌∷◌, ◌++◌, length, None};
+ghost use Rattle.std.specs.Prelude.{◌≡◌, ℕ, ◌≤◌, ◌↔◌, true, false, List, [], ◌∷◌, ◌++◌, length, None};
 ghost use Rattle.p25_packet_blocks.specs.declared.packet.Packet.{Packet as packet_type};
 ghost use Rattle.p25_packet_blocks.specs.Sendable.{IsSendable};
 ghost use Rattle.p25_stations.specs.MessageBlocks.{block_count};
@@ -14,7 +14,7 @@ ghost use Rattle.p25_air.specs.declared.air.Carried.TheVariants.{Heard as heard_
 ghost use Rattle.p25_air.specs.declared.step.Event.{Event as event_type};
 ghost use Rattle.p25_air.specs.declared.step.Event.TheVariants.{Send, Reopen, ToReceiver, ToSender};
 ghost use Rattle.p25_air.specs.declared.step.StepKind.TheVariants.{Taken, Reopened, Delivered, SynHeard, Acknowledged, LinkOpened};
-ghost use Rattle.p25_air.specs.Air.{carried_of, ArrivesWithin};
+ghost use Rattle.p25_air.specs.Air.{is_true_to, carried_of, ArrivesWithin};
 ghost use Rattle.p25_air.specs.WorldState.{WorldState, first_world};
 ghost use Rattle.p25_air.specs.Sound.{IsMessage, IsSound};
 ghost use Rattle.p25_air.specs.Steps.{world_step};
@@ -24,10 +24,11 @@ ghost use Rattle.p25_air.specs.RunLaws.{IsWithin, AreWithin, IsTwiceDamaged, tru
 
 use p25_packet_blocks::packet_radius;
 
-/// Answers nothing: its clause says what the air keeps. A packet that is heard in a delivery that is no false pass is true
-/// to the one that was sent: it has the same header, and the same octets or slots, but those that are Bad. One that arrives
-/// within radius is heard, as no false pass and as it was sent.
+/// Answers nothing: its clauses say what the air keeps. A packet that is heard in a delivery that is no false pass is true
+/// to the one that was sent: it has the same header, and the same octets or slots, but those that are Bad; and the test of
+/// a false pass says exactly that. A packet that arrives within radius is heard, as no false pass and as it was sent.
 pub fn air_is_true()
+    ensures exactly { (sent : packet_type) (packet : packet_type) → IsTrueTo sent packet ↔ (is_true_to sent packet ≡ true) }
     ensures heard { (sent : packet_type) (flips : List ℕ) (packet : packet_type)
         → carried_of sent flips ≡ heard_packet packet false → IsTrueTo sent packet }
     ensures within { (sent : packet_type) (flips : List ℕ)

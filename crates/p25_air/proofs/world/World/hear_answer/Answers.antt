@@ -8,7 +8,8 @@ use Rattle.p25_air.specs.Inside.{state_of}
 use Rattle.p25_air.specs.WorldState.{WorldState}
 use Rattle.p25_air.specs.Sound.{IsSound}
 use Rattle.p25_air.specs.Steps.{after_answer}
-use Rattle.p25_air.proofs.SoundLaws.{sound-apart, sound-counts, answer-sound}
+use Rattle.p25_air.proofs.SoundLaws.{answer-sound}
+use Rattle.p25_air.proofs.SoundWorlds.{sound-apart, sound-counts}
 use Rattle.p25_air.proofs.world.World.hear_answer.Goals as goal
 
 -- the world after an answer of the sender

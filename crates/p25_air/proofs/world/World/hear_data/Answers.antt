@@ -10,7 +10,8 @@ use Rattle.p25_air.specs.Inside.{state_of}
 use Rattle.p25_air.specs.WorldState.{WorldState}
 use Rattle.p25_air.specs.Sound.{IsSound}
 use Rattle.p25_air.specs.Steps.{after_data}
-use Rattle.p25_air.proofs.SoundLaws.{sound-apart, data-sound}
+use Rattle.p25_air.proofs.SoundLaws.{data-sound}
+use Rattle.p25_air.proofs.SoundWorlds.{sound-apart}
 use Rattle.p25_air.proofs.world.World.hear_data.Goals as goal
 use Rattle.p25_air.proofs.world.World.hear_data.Goals.{in-Delivered, in-Opened, in-Again, in-Kept, in-RefusedCrc, in-RefusedOrder}
 

@@ -10,7 +10,8 @@ use Rattle.p25_air.specs.Inside.{state_of}
 use Rattle.p25_air.specs.WorldState.{WorldState}
 use Rattle.p25_air.specs.Sound.{IsSound}
 use Rattle.p25_air.specs.Steps.{after_reopening}
-use Rattle.p25_air.proofs.SoundLaws.{sound-apart, reopen-sound}
+use Rattle.p25_air.proofs.SoundLaws.{reopen-sound}
+use Rattle.p25_air.proofs.SoundWorlds.{sound-apart}
 use Rattle.p25_air.proofs.world.World.reopen.Goals as goal
 use Rattle.p25_air.proofs.world.World.reopen.Goals.{then-not-is_opening, else-not-is_opening}
 

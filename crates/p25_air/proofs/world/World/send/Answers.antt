@@ -6,7 +6,8 @@ use Rattle.p25_stations.specs.declared.sender.Offer.TheVariants.{Taken, Busy, Do
 use Rattle.p25_air.specs.Inside.{state_of}
 use Rattle.p25_air.specs.Sound.{IsSound}
 use Rattle.p25_air.specs.Steps.{after_offer}
-use Rattle.p25_air.proofs.SoundLaws.{sound-apart, offer-sound}
+use Rattle.p25_air.proofs.SoundLaws.{offer-sound}
+use Rattle.p25_air.proofs.SoundWorlds.{sound-apart}
 use Rattle.p25_air.proofs.world.World.send.Goals as goal
 
 pub invariant_of-self : goal.invariant_of-self

@@ -4,7 +4,8 @@ use Rattle.p25_stations.specs.declared.sender.Resend.{Resend}
 use Rattle.p25_stations.specs.declared.sender.Resend.TheVariants.{Sent, Idle, Down}
 use Rattle.p25_air.specs.Inside.{state_of}
 use Rattle.p25_air.specs.Steps.{after_timeout}
-use Rattle.p25_air.proofs.SoundLaws.{sound-apart, timeout-sound}
+use Rattle.p25_air.proofs.SoundLaws.{timeout-sound}
+use Rattle.p25_air.proofs.SoundWorlds.{sound-apart}
 use Rattle.p25_air.proofs.world.World.time_out.Goals as goal
 
 pub invariant_of-self : goal.invariant_of-self
