@@ -1,6 +1,6 @@
 -- What the air keeps: a packet that is heard in no false pass is true to the one sent, and one that arrives within radius is
 -- heard as it was sent. By the tests of a false pass, and the law of packets within radius.
-use Rattle.std.proofs.Common.{◌≡◌, ℕ, ◌*◌, ◌<◌, inl, inr, Bool, true, false, cond, eqb, ◌&&◌, not, List, [], ◌∷◌, length, get_or, replicate, Result, Ok, Err, refl, ap, ap₂, sym, ◌∙◌, arith}
+use Rattle.std.proofs.Common.{subst, ◌≡◌, ℕ, ◌*◌, ◌<◌, inl, inr, Bool, true, false, cond, eqb, ◌&&◌, not, List, [], ◌∷◌, length, get_or, replicate, Result, Ok, Err, refl, ap, ap₂, sym, ◌∙◌, arith}
 use Rattle.std.specs.Prelude.{◌↔◌}
 use Rattle.std.specs.Str.{bytes_eq}
 use Rattle.std.specs.Cmp.Lexicographic.{same_text}
@@ -18,7 +18,7 @@ use Rattle.p25_packet_blocks.specs.declared.packet.Packet.TheVariants.{Confirmed
 use Rattle.p25_packet_blocks.specs.Heads.{head_blocks}
 use Rattle.p25_packet_blocks.specs.Whole.{packet_head, IsWholePacket}
 use Rattle.p25_packet_blocks.specs.Lengths.{packet_parts}
-use Rattle.p25_packet_blocks.specs.Parts.{BlockParts}
+use Rattle.p25_packet_blocks.specs.Parts.{BlockParts, PlainParts}
 use Rattle.p25_packet_blocks.specs.Sendable.{IsSendable}
 use Rattle.p25_packet_blocks.specs.UnitReading.{packet_unit_of}
 use Rattle.p25_packet_blocks.specs.Within.{IsPacketWithin, IsSending, sent_unit}
