@@ -1,6 +1,7 @@
 -- What the air keeps: a packet that is heard in no false pass is true to the one sent, and one that arrives within radius is
 -- heard as it was sent. By the tests of a false pass, and the law of packets within radius.
-use Rattle.std.proofs.Common.{◌≡◌, ℕ, ◌*◌, ◌<◌, inl, inr, Bool, true, false, cond, eqb, ◌&&◌, not, List, [], ◌∷◌, length, get_or, replicate, Result, Ok, Err, refl, ap, ap₂, sym, ◌∙◌, arith}
+use Rattle.std.proofs.Common.{subst, ◌≡◌, ℕ, ◌*◌, ◌<◌, inl, inr, Bool, true, false, cond, eqb, ◌&&◌, not, List, [], ◌∷◌, length, get_or, replicate, Result, Ok, Err, refl, ap, ap₂, sym, ◌∙◌, arith}
+use Rattle.std.specs.Prelude.{◌↔◌}
 use Rattle.std.specs.Str.{bytes_eq}
 use Rattle.std.specs.Cmp.Lexicographic.{same_text}
 use Rattle.std.proofs.lemmas.Bool.{and_parts, and_from, eq-eqb, ne_eqb, cond-true, cond-false}
@@ -17,7 +18,7 @@ use Rattle.p25_packet_blocks.specs.declared.packet.Packet.TheVariants.{Confirmed
 use Rattle.p25_packet_blocks.specs.Heads.{head_blocks}
 use Rattle.p25_packet_blocks.specs.Whole.{packet_head, IsWholePacket}
 use Rattle.p25_packet_blocks.specs.Lengths.{packet_parts}
-use Rattle.p25_packet_blocks.specs.Parts.{BlockParts}
+use Rattle.p25_packet_blocks.specs.Parts.{BlockParts, PlainParts}
 use Rattle.p25_packet_blocks.specs.Sendable.{IsSendable}
 use Rattle.p25_packet_blocks.specs.UnitReading.{packet_unit_of}
 use Rattle.p25_packet_blocks.specs.Within.{IsPacketWithin, IsSending, sent_unit}
@@ -102,6 +103,32 @@ packet-itself : (packet : Packet) → is_true_to packet packet ≡ true
 unfolding is_true_to
 packet-itself (Confirmed packet) = and_from _ _ (itself packet.head.0) (slots-itself packet.slots)
 packet-itself (Plain packet) = and_from _ _ (itself packet.head.0) (itself packet.octets)
+
+-- and to what it is true to
+true-tests : (sent heard : List Slot) → AreTrueSlots sent heard → are_true_slots sent heard ≡ true
+unfolding are_true_slots is_true_slot AreTrueSlots
+true-tests [] [] t = refl
+true-tests [] (slot ∷ heard) t = absurd t
+true-tests (was ∷ sent) [] t = absurd t
+true-tests (was ∷ sent) (Bad ∷ heard) t = true-tests sent heard t.1
+true-tests (Bad ∷ sent) (Good block ∷ heard) (inl e, t) = cc
+true-tests (Bad ∷ sent) (Good block ∷ heard) (inr e, t) = cc
+true-tests (Good was ∷ sent) (Good block ∷ heard) (inl e, t) = cc
+true-tests (Good was ∷ sent) (Good block ∷ heard) (inr e, t) =
+    let same : was ≡ block = cc in
+    let P : BlockParts → Type 0 = λ (b : BlockParts). (eqb was.serial b.serial && bytes_eq was.octets b.octets) ≡ true in
+    and_from _ _ (subst P same (and_from _ _ (eq-eqb was.serial was.serial refl) (itself was.octets))) (true-tests sent heard t)
+
+pub true-exactly : (sent heard : Packet) → IsTrueTo sent heard ↔ (is_true_to sent heard ≡ true)
+unfolding is_true_to IsTrueTo
+true-exactly (Confirmed sent) (Confirmed heard) =
+    let P : PacketHead → Type 0 = λ (h : PacketHead). bytes_eq sent.head.0 h.0 ≡ true in
+    (λ (t : (heard.head ≡ sent.head) × AreTrueSlots sent.slots heard.slots). and_from _ _ (subst P (sym t.0) (itself sent.head.0)) (true-tests sent.slots heard.slots t.1), true-packet (Confirmed sent) (Confirmed heard))
+true-exactly (Confirmed sent) (Plain heard) = (λ t. absurd t, true-packet (Confirmed sent) (Plain heard))
+true-exactly (Plain sent) (Confirmed heard) = (λ t. absurd t, true-packet (Plain sent) (Confirmed heard))
+true-exactly (Plain sent) (Plain heard) =
+    let P : PlainParts → Type 0 = λ (p : PlainParts). (bytes_eq sent.head.0 p.head.0 && bytes_eq sent.octets p.octets) ≡ true in
+    (λ (e : heard ≡ sent). subst P (sym e) (and_from _ _ (itself sent.head.0) (itself sent.octets)), true-packet (Plain sent) (Plain heard))
 
 -- Within radius.
 

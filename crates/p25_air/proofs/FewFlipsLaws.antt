@@ -24,8 +24,7 @@ use Rattle.p25_packet_blocks.specs.Image.{packet_image_of}
 use Rattle.p25_packet_blocks.specs.Sendable.{IsSendable}
 use Rattle.p25_packet_blocks.specs.Within.{block_radius}
 use Rattle.p25_packet_blocks.proofs.PlacesLaws.{image_long}
-use Rattle.p25_air.specs.Air.{station_nac, station_status, transmission_of, with_flips, received_bits, ArrivesWithin}
-use Rattle.p25_air.specs.RunLaws.{places_within}
+use Rattle.p25_air.specs.Air.{places_within, station_nac, station_status, transmission_of, with_flips, received_bits, ArrivesWithin}
 use Rattle.p25_air.proofs.AirSteps.{flipped-past, length-flipped}
 
 -- Distances of parts.

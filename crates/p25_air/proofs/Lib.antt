@@ -1,13 +1,3 @@
-pub mod SendableLaws
-pub mod SendingLaws
-pub mod ReceivingLaws
-pub mod SoundLaws
-pub mod WorldOfLaws
-pub mod SimulationLaws
 pub mod AirSteps
 pub mod AirLaws
-pub mod CleanLaws
-pub mod TriesLaws
 pub mod FewFlipsLaws
-pub mod FalsePassLaws
-pub mod AtOnceLaws

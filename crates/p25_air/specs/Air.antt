@@ -1,6 +1,6 @@
 -- The air between the two stations: a transmission is the unit of a packet, of which the listed bits come inverted. And what
 -- a delivery reads as.
-use Rattle.std.specs.Prelude.{ℕ, ◌&&◌, Bool, true, false, not, eqb, List, [], ◌∷◌, replicate, Result, Ok, Err, if◌then◌else◌}
+use Rattle.std.specs.Prelude.{nat_lt, length, count_by, ℕ, ◌&&◌, Bool, true, false, not, eqb, List, [], ◌∷◌, replicate, Result, Ok, Err, if◌then◌else◌}
 use Rattle.std.specs.Str.{bytes_eq}
 use Rattle.std.proofs.Common.{lit<}
 use Rattle.p25_bits.specs.Bits.{flipped}
@@ -74,3 +74,7 @@ carried_of packet flips = carried_from packet (packet_unit_of (received_bits pac
 -- a packet that is sent arrives within radius where the bits at these places come inverted
 unfoldable pub ArrivesWithin : Packet → List ℕ → Type 0
 ArrivesWithin packet flips = IsPacketWithin packet (transmission_of packet) (received_bits packet flips)
+
+-- how many of the places of flips are within a transmission
+abbrev pub places_within : Packet → List ℕ → ℕ
+places_within packet flips = count_by (λ place. nat_lt place (length (transmission_of packet))) flips

@@ -1,8 +1,1 @@
 pub mod Air
-pub mod WorldState
-pub mod Sound
-pub mod Steps
-pub mod Runs
-pub mod Links
-pub mod RunLaws
-pub mod Inside

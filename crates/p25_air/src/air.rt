@@ -26,8 +26,9 @@ pub enum Carried {
     Heard { packet: Packet, false_pass: bool },
 }
 
-// Sets `out` to the unit of a packet as a station sends it, with the status symbol 00 throughout.
-pub(crate) fn transmit(packet: &Packet, out: &mut BitBuf)
+/// Sets `out` to the unit of a packet as a station sends it, from its sync on, with the network access code 293 hex and the
+/// status symbol 00 throughout. No slot of the packet is Bad.
+pub fn transmit(packet: &Packet, out: &mut BitBuf)
     requires { IsWholePacket packet.now }
     ensures bits { out.new ≡ transmission_of packet.now }
     ensures len { length out.new ≡ packet_sent_length (head_blocks (packet_head packet.now)) }

@@ -1,0 +1,11 @@
+pub mod SendableLaws
+pub mod SendingLaws
+pub mod ReceivingLaws
+pub mod SoundWorlds
+pub mod SoundLaws
+pub mod WorldOfLaws
+pub mod SimulationLaws
+pub mod CleanLaws
+pub mod TriesLaws
+pub mod FalsePassLaws
+pub mod AtOnceLaws

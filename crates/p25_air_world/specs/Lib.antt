@@ -1,0 +1,7 @@
+pub mod WorldState
+pub mod Sound
+pub mod Steps
+pub mod Runs
+pub mod Links
+pub mod RunLaws
+pub mod Inside
