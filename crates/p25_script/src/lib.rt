@@ -28,7 +28,7 @@ mod values;
 pub use closing::closing_text;
 pub use laws::script_laws;
 pub use names::EventKind;
-pub use p25_air::{Event, Step, StepKind, Way, World};
+pub use p25_air_world::{Event, Step, StepKind, Way, World};
 pub use p25_line::{Line, LineFault};
 pub use read::read_event;
 pub use steps::step_text;
