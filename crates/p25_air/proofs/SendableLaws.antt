@@ -16,7 +16,7 @@ use Rattle.p25_packet_blocks.specs.Parts.{BlockParts}
 use Rattle.p25_packet_blocks.specs.FlagOctets.{flag_octets}
 use Rattle.p25_packet_blocks.specs.Sendable.{AreOctets, IsHead, IsDataBlock, AreDataBlocks, IsSendable}
 use Rattle.p25_packet_blocks.proofs.ImageLaws.{AreOctets-checked_octets}
-use Rattle.p25_stations.specs.MessageBlocks.{block_count, pad_count, padded_octets, message_octets, message_block, message_blocks}
+use Rattle.p25_stations.specs.MessageBlocks.{block_count, pad_count, message_octets, message_block, message_blocks}
 use Rattle.p25_stations.specs.SentPackets.{good_slot, message_packet, wanted_slots, blocks_packet, opening_packet, short_response, retry_packet}
 use Rattle.p25_stations.proofs.MessageBlocksLaws.{length-message_octets}
 use Rattle.p25_stations.proofs.SentSteps.{wanted_slot, length-flag_octets}
@@ -75,7 +75,7 @@ response_head-blocks class kind status blocks b = omega arith
 -- The blocks of a message.
 
 message_octets-small : (message : List ℕ) → AreOctets message → AreOctets (message_octets message)
-unfolding message_octets padded_octets
+unfolding message_octets
 message_octets-small message small =
     AreOctets-checked_octets (message ++ replicate (pad_count (length message)) 0)
     (All-append IsOctet message (replicate (pad_count (length message)) 0) small (All-replicate IsOctet (pad_count (length message)) 0 (omega arith)))
