@@ -36,7 +36,7 @@ use Rattle.p25_air.specs.Runs.{IsEvent, AreEvents, world_run, steps_of}
 use Rattle.p25_air.specs.Links.{happenings_in, link_of}
 use Rattle.p25_air.specs.RunLaws.{IsWithin, AreWithin, true_step}
 use Rattle.p25_air.proofs.AirLaws.{ReadsWithin, air-within}
-use Rattle.p25_air.proofs.SoundLaws.{step-sound, run-sound, first-sound}
+use Rattle.p25_air.proofs.SoundRunsLaws.{step-sound, run-sound, first-sound}
 use Rattle.p25_air.proofs.SimulationLaws.{is-world_of}
 use Rattle.p25_air.proofs.CleanLaws.{clean-from_first}
 use Rattle.p25_air.proofs.FalsePassLaws.{clean-from_none}

@@ -2,6 +2,7 @@ pub mod SendableLaws
 pub mod SendingLaws
 pub mod ReceivingLaws
 pub mod SoundLaws
+pub mod SoundRunsLaws
 pub mod WorldOfLaws
 pub mod SimulationLaws
 pub mod AirSteps

@@ -35,7 +35,8 @@ use Rattle.p25_air.specs.Sound.{IsSound}
 use Rattle.p25_air.specs.Steps.{after_offer, after_timeout, after_reopening, after_data, after_answer, counted_when, data_carried, data_delivered, answer_carried, answer_delivered, world_step}
 use Rattle.p25_air.specs.Runs.{AreEvents, world_run, steps_of}
 use Rattle.p25_air.specs.RunLaws.{tries_after, tries_in}
-use Rattle.p25_air.proofs.SoundLaws.{counted-at, quiet-is, step-sound, run-sound, first-sound}
+use Rattle.p25_air.proofs.SoundLaws.{counted-at, quiet-is}
+use Rattle.p25_air.proofs.SoundRunsLaws.{step-sound, run-sound, first-sound}
 
 -- An offer.
 

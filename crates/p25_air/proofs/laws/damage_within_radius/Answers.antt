@@ -4,7 +4,7 @@ use Rattle.p25_air.specs.WorldState.{first_world}
 use Rattle.p25_air.specs.Steps.{world_step}
 use Rattle.p25_air.specs.Runs.{AreEvents, world_run}
 use Rattle.p25_air.specs.RunLaws.{IsWithin}
-use Rattle.p25_air.proofs.SoundLaws.{first-sound, run-sound}
+use Rattle.p25_air.proofs.SoundRunsLaws.{first-sound, run-sound}
 use Rattle.p25_air.proofs.FalsePassLaws.{step-within, step-twice}
 use Rattle.p25_air.proofs.laws.damage_within_radius.Goals as goal
 

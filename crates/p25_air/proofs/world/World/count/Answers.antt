@@ -1,5 +1,5 @@
 use Rattle.p25_air.specs.Inside.{state_of}
-use Rattle.p25_air.proofs.SoundLaws.{recounted-sound}
+use Rattle.p25_air.proofs.SoundRunsLaws.{recounted-sound}
 use Rattle.p25_air.proofs.world.World.count.Goals as goal
 
 pub invariant_of-self : goal.invariant_of-self

@@ -6,7 +6,7 @@ use Rattle.p25_stations.specs.ReceiverRules.{first_receiving}
 use Rattle.p25_air.specs.declared.mark.Mark.{Mark}
 use Rattle.p25_air.specs.WorldState.{WorldState}
 use Rattle.p25_air.specs.Sound.{IsSound}
-use Rattle.p25_air.proofs.SoundLaws.{first-sound}
+use Rattle.p25_air.proofs.SoundRunsLaws.{first-sound}
 use Rattle.p25_air.proofs.world.World.new.Goals as goal
 
 -- a world of nothing but its stations and three lists
