@@ -1,7 +1,7 @@
 pub mod SendableLaws
 pub mod SendingLaws
 pub mod ReceivingLaws
-pub mod SoundWorlds
+pub mod SoundWorldsLaws
 pub mod SoundLaws
 pub mod WorldOfLaws
 pub mod SimulationLaws

@@ -32,7 +32,7 @@ use Rattle.p25_air_world.specs.Runs.{IsEvent, AreEvents, world_run}
 use Rattle.p25_air_world.proofs.SendableLaws.{message_packet-sendable, opening_packet-sendable}
 use Rattle.p25_air_world.proofs.SendingLaws.{after-sending, timeout-sending, heard-sending}
 use Rattle.p25_air_world.proofs.ReceivingLaws.{AnswersSendable, IsReceiving, receiver-soundly}
-use Rattle.p25_air_world.proofs.SoundWorlds.{counted-at, message-in, number-in, quiet-is, data-sendable, IsHeldUp, same-sound, up-message, up-opening, counted-receiver, counted-false, answered-sound}
+use Rattle.p25_air_world.proofs.SoundWorldsLaws.{counted-at, message-in, number-in, quiet-is, data-sendable, IsHeldUp, same-sound, up-message, up-opening, counted-receiver, counted-false, answered-sound}
 
 -- An offer.
 

@@ -36,7 +36,7 @@ use Rattle.p25_air_world.specs.Steps.{after_offer, after_timeout, after_reopenin
 use Rattle.p25_air_world.specs.Runs.{AreEvents, world_run, steps_of}
 use Rattle.p25_air_world.specs.RunLaws.{tries_after, tries_in}
 use Rattle.p25_air_world.proofs.SoundLaws.{step-sound, run-sound, first-sound}
-use Rattle.p25_air_world.proofs.SoundWorlds.{counted-at, quiet-is}
+use Rattle.p25_air_world.proofs.SoundWorldsLaws.{counted-at, quiet-is}
 
 -- An offer.
 

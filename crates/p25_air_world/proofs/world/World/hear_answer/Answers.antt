@@ -9,7 +9,7 @@ use Rattle.p25_air_world.specs.WorldState.{WorldState}
 use Rattle.p25_air_world.specs.Sound.{IsSound}
 use Rattle.p25_air_world.specs.Steps.{after_answer}
 use Rattle.p25_air_world.proofs.SoundLaws.{answer-sound}
-use Rattle.p25_air_world.proofs.SoundWorlds.{sound-apart, sound-counts}
+use Rattle.p25_air_world.proofs.SoundWorldsLaws.{sound-apart, sound-counts}
 use Rattle.p25_air_world.proofs.world.World.hear_answer.Goals as goal
 
 -- the world after an answer of the sender

@@ -11,7 +11,7 @@ use Rattle.p25_air_world.specs.WorldState.{WorldState}
 use Rattle.p25_air_world.specs.Sound.{IsSound}
 use Rattle.p25_air_world.specs.Steps.{after_data}
 use Rattle.p25_air_world.proofs.SoundLaws.{data-sound}
-use Rattle.p25_air_world.proofs.SoundWorlds.{sound-apart}
+use Rattle.p25_air_world.proofs.SoundWorldsLaws.{sound-apart}
 use Rattle.p25_air_world.proofs.world.World.hear_data.Goals as goal
 use Rattle.p25_air_world.proofs.world.World.hear_data.Goals.{in-Delivered, in-Opened, in-Again, in-Kept, in-RefusedCrc, in-RefusedOrder}
 

@@ -11,7 +11,7 @@ use Rattle.p25_air_world.specs.WorldState.{WorldState}
 use Rattle.p25_air_world.specs.Sound.{IsSound}
 use Rattle.p25_air_world.specs.Steps.{after_reopening}
 use Rattle.p25_air_world.proofs.SoundLaws.{reopen-sound}
-use Rattle.p25_air_world.proofs.SoundWorlds.{sound-apart}
+use Rattle.p25_air_world.proofs.SoundWorldsLaws.{sound-apart}
 use Rattle.p25_air_world.proofs.world.World.reopen.Goals as goal
 use Rattle.p25_air_world.proofs.world.World.reopen.Goals.{then-not-is_opening, else-not-is_opening}
 

@@ -7,7 +7,7 @@ use Rattle.p25_air_world.specs.Inside.{state_of}
 use Rattle.p25_air_world.specs.Sound.{IsSound}
 use Rattle.p25_air_world.specs.Steps.{after_offer}
 use Rattle.p25_air_world.proofs.SoundLaws.{offer-sound}
-use Rattle.p25_air_world.proofs.SoundWorlds.{sound-apart}
+use Rattle.p25_air_world.proofs.SoundWorldsLaws.{sound-apart}
 use Rattle.p25_air_world.proofs.world.World.send.Goals as goal
 
 pub invariant_of-self : goal.invariant_of-self

@@ -5,7 +5,7 @@ use Rattle.p25_stations.specs.declared.sender.Resend.TheVariants.{Sent, Idle, Do
 use Rattle.p25_air_world.specs.Inside.{state_of}
 use Rattle.p25_air_world.specs.Steps.{after_timeout}
 use Rattle.p25_air_world.proofs.SoundLaws.{timeout-sound}
-use Rattle.p25_air_world.proofs.SoundWorlds.{sound-apart}
+use Rattle.p25_air_world.proofs.SoundWorldsLaws.{sound-apart}
 use Rattle.p25_air_world.proofs.world.World.time_out.Goals as goal
 
 pub invariant_of-self : goal.invariant_of-self
