@@ -35,10 +35,11 @@ pub fn need_laws()
 
 /// Does nothing: its contract is what units read as.
 ///
-/// - `near`: bits within radius of a sound frame's image read as the frame, with the status symbols that were received,
-///   whatever bits follow; their item is `Whole`.
-/// - `again`: an undamaged image reads as its frame, with no fixes.
-/// - `whole_is_near`: a unit at a sync is `Whole` only where its bits lie within radius of its frame.
+/// - `length`, `near`, `item`: bits within radius of the image of a sound frame that can be sent have its length, whatever bits
+///   follow, and read as the frame, with the voice frames and the status symbols that were received; their item is `Whole`.
+/// - `undamaged`, `again`, `none`: an image is within its own radius, reads as its frame, and has no fixes.
+/// - `whole_is_near`: a unit at a sync is `Whole` only where its bits read as its frame: those of its front and of its voice
+///   words lie within radius, and of a packet the first nearest paths carry it, with all its checks.
 pub fn unit_laws()
     ensures length { (frame : Frame) (sent more : List Bool) → IsSoundFrame frame → IsSendableUnit frame.unit → IsWithinRadius frame sent → need_of (sent ++ more) ≡ Length (length sent) }
     ensures near { (frame : Frame) (sent : List Bool) → IsSoundFrame frame → IsSendableUnit frame.unit → IsWithinRadius frame sent → unit_reading_of sent ≡ Ok (received_frame frame sent) }

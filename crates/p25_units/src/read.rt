@@ -22,8 +22,8 @@ use p25_status::{Field, FieldList, Statuses, unweave};
 use p25_voice_units::read_voice;
 
 /// Answers the frame that the `count` sent bits from place `at` on read as, where `need` answers that length there. The
-/// refusal is the list of exactly the fields that fail, in order, and is never empty: of a packet its format or its packet
-/// CRC alone, or each block whose CRC-9 does not agree.
+/// refusal is the list of exactly the fields that fail, in order, and is never empty: those of a voice unit, or of a packet its
+/// format or its packet CRC alone, or each block whose CRC-9 does not agree.
 pub fn read_unit(bits: &BitBuf, at: usize, count: usize) -> Result<Frame, FieldList>
     requires there { at ≤ length bits.now }
     requires needed { need_of (drop at bits.now) ≡ Length count }
