@@ -1,6 +1,7 @@
 -- The line of a unit is read as that unit, and a line that is read is the line of its unit. By cases on what each step of the reading found.
-use Rattle.std.proofs.Common.{◌≡◌, ℕ, suc, ◌≤◌, ◌&&◌, true, List, [], ◌∷◌, length, Option, Some, None, Result, Ok, Err, refl, sym, ap, ap₂, subst, ◌∙◌, arith}
+use Rattle.std.proofs.Common.{◌≡◌, ℕ, suc, ◌≤◌, ◌&&◌, true, List, [], ◌∷◌, length, Option, Some, None, Result, Ok, Err, inl, inr, refl, sym, ap, ap₂, subst, ◌∙◌, arith}
 use Rattle.std.specs.List.{join_with_byte, list_all}
+use Rattle.std.specs.Option.{option_map}
 use Rattle.std.specs.Prelude.{IfOk}
 use Rattle.std.specs.Str.{bytes_eq}
 use Rattle.std.proofs.lemmas.Slice.Eq.{bytes_eq-Decides}
@@ -8,62 +9,112 @@ use Rattle.p25_line.specs.Words.{is_printed, is_word, words_or_fault}
 use Rattle.p25_line.specs.declared.fault.LineFault.{LineFault}
 use Rattle.p25_line.proofs.JoinLaws.{words_or_fault-join, Accepted-words}
 use Rattle.p25_voice_units.specs.declared.unit.VoiceUnit.{VoiceUnit}
-use Rattle.p25_voice_units.specs.declared.unit.VoiceUnit.TheVariants.{End}
+use Rattle.p25_voice_units.specs.declared.unit.VoiceUnit.TheVariants.{Header, Link1, Link2, End, EndLink}
+use Rattle.p25_packet_blocks.specs.declared.packet.Packet.{Packet as BlockPacket}
+use Rattle.p25_packet_blocks.specs.declared.packet.Packet.TheVariants.{Confirmed as ConfirmedPacket, Plain as PlainPacket}
+use Rattle.p25_packet_blocks.specs.Sendable.{IsSendable}
 use Rattle.p25_units.specs.UnitParts.{UnitParts}
 use Rattle.p25_units.specs.declared.unit.Body.{Body}
-use Rattle.p25_units.specs.declared.unit.Body.TheVariants.{Voice}
-use Rattle.p25_text.specs.Grammar.{IsBody, IsUnit, IsVoice, body_in, body_values, keyed, kind_of, nac_in, or_value, read_kind, read_line_of, read_values, read_words, text_of, three_digits, unit_from, unit_in, unit_words, values_behind, values_of, voice_kind, voice_values}
+use Rattle.p25_units.specs.declared.unit.Body.TheVariants.{Voice, Packet}
+use Rattle.p25_text.specs.Grammar.{IsBody, IsUnit, body_in, body_values, keyed, kind_of, or_value, read_kind, read_line_of, read_values, read_words, text_of, unit_from, unit_in, unit_words, values_behind, values_of}
 use Rattle.p25_text.specs.Names.{kind_named, kind_word, kinds, keys_of}
+use Rattle.p25_text.specs.Packets.{confirmed_in, packet_kind, packet_values, plain_in}
+use Rattle.p25_text.specs.Values.{nac_in, three_digits}
+use Rattle.p25_text.specs.Voices.{voice_in, voice_kind, voice_values}
 use Rattle.p25_text.specs.declared.names.UnitKind.{UnitKind}
-use Rattle.p25_text.specs.declared.names.UnitKind.TheVariants.{Tdu}
+use Rattle.p25_text.specs.declared.names.UnitKind.TheVariants.{Hdu, Ldu1, Ldu2, Tdu, Tdulc, Confirmed, Plain, Response}
+use Rattle.p25_text.proofs.OptionLaws.{option_map-found}
+use Rattle.p25_text.proofs.PacketLaws.{IsPacketRead, confirmed_in-values, packet-count, packet-printed, packet-short, plain_in-values, plain_kind, values-confirmed_in, values-plain_in}
 use Rattle.p25_text.proofs.ValueLaws.{length-three_digits, nac_in-text, nac_in-three_digits, printed-three_digits}
+use Rattle.p25_text.proofs.VoiceLaws.{values-voice_in, voice-count, voice-printed, voice-short, voice_in-values}
 use Rattle.p25_text.proofs.WordLaws.{digits-printed, find-passes, keyed-values_behind, keyed-words, length-join, size_of, size_of-keyed, values_behind-keyed}
 
 -- ---- what is shown for each kind, in the order of their table
 
 -- a kind is named by its word, and by no other
 pub kind_named-word : (kind : UnitKind) → kind_named (kind_word kind) ≡ Some kind
+kind_named-word Hdu = refl
+kind_named-word Ldu1 = refl
+kind_named-word Ldu2 = refl
 kind_named-word Tdu = refl
+kind_named-word Tdulc = refl
+kind_named-word Confirmed = refl
+kind_named-word Plain = refl
+kind_named-word Response = refl
 
 pub word-kind_named : (word : List ℕ) (kind : UnitKind) → kind_named word ≡ Some kind → kind_word kind ≡ word
 word-kind_named word kind found = sym ((bytes_eq-Decides word (kind_word kind)).0 (find-passes (λ k. bytes_eq word (kind_word k)) kinds kind found))
 
 -- the word of a kind is a word of at most nine octets
 kind-word : (kind : UnitKind) → is_word (kind_word kind) ≡ true
+kind-word Hdu = refl
+kind-word Ldu1 = refl
+kind-word Ldu2 = refl
 kind-word Tdu = refl
+kind-word Tdulc = refl
+kind-word Confirmed = refl
+kind-word Plain = refl
+kind-word Response = refl
 
 kind-short : (kind : UnitKind) → length (kind_word kind) ≤ 9
+kind-short Hdu = omega arith
+kind-short Ldu1 = omega arith
+kind-short Ldu2 = omega arith
 kind-short Tdu = omega arith
+kind-short Tdulc = omega arith
+kind-short Confirmed = omega arith
+kind-short Plain = omega arith
+kind-short Response = omega arith
 
 keys-few : (kind : UnitKind) → length (keys_of kind) ≤ 6
+keys-few Hdu = omega arith
+keys-few Ldu1 = omega arith
+keys-few Ldu2 = omega arith
 keys-few Tdu = omega arith
+keys-few Tdulc = omega arith
+keys-few Confirmed = omega arith
+keys-few Plain = omega arith
+keys-few Response = omega arith
 
 -- there is a value for each key
-voice-count : (unit : VoiceUnit) → length (keys_of (voice_kind unit)) ≡ suc (length (voice_values unit))
-voice-count End = refl
-
-body-count : (body : Body) → length (keys_of (kind_of body)) ≡ suc (length (body_values body))
-body-count (Voice unit) = voice-count unit
+body-count : (body : Body) → IsBody body → length (keys_of (kind_of body)) ≡ suc (length (body_values body))
+body-count (Voice unit) fits = ap suc (voice-count unit fits)
+body-count (Packet packet) fits = ap suc (packet-count packet)
 
 -- values are printed, and not too long for a line
-voice-printed : (unit : VoiceUnit) → IsVoice unit → list_all (list_all is_printed) (voice_values unit) ≡ true
-voice-printed End fits = refl
-
 body-printed : (body : Body) → IsBody body → list_all (list_all is_printed) (body_values body) ≡ true
 body-printed (Voice unit) fits = voice-printed unit fits
-
-voice-short : (unit : VoiceUnit) → IsVoice unit → size_of (voice_values unit) ≤ 4620
-voice-short End fits = omega arith
+body-printed (Packet packet) fits = packet-printed packet fits
 
 body-short : (body : Body) → IsBody body → size_of (body_values body) ≤ 4620
 body-short (Voice unit) fits = voice-short unit fits
+body-short (Packet packet) fits = packet-short packet fits
 
 -- the values of a body are read as the body
-voice_in-values : (unit : VoiceUnit) → IsVoice unit → body_in (voice_kind unit) (voice_values unit) ≡ Some (Voice unit)
-voice_in-values End fits = refl
+body_in-voice : (unit : VoiceUnit) (values : List (List ℕ)) → body_in (voice_kind unit) values ≡ option_map Voice (voice_in (voice_kind unit) values)
+body_in-voice (Header word) values = refl
+body_in-voice (Link1 link low voice) values = refl
+body_in-voice (Link2 sync low voice) values = refl
+body_in-voice End values = refl
+body_in-voice (EndLink link) values = refl
+
+packet_in-values : (packet : BlockPacket) → IsSendable packet → body_in (packet_kind packet) (packet_values packet) ≡ Some (Packet packet)
+unfolding IsSendable
+packet_in-values (ConfirmedPacket packet) fits = ap (option_map Packet) (confirmed_in-values packet fits)
+packet_in-values (PlainPacket packet) fits =
+    let values = packet_values (PlainPacket packet) in
+    elim fits.kind.format [
+      | inl format ↦
+          ap (λ f. body_in (plain_kind f) values) format
+          ∙ ap (option_map Packet) (plain_in-values 0x15 packet format fits)
+      | inr format ↦
+          ap (λ f. body_in (plain_kind f) values) format
+          ∙ ap (option_map Packet) (plain_in-values 0x03 packet format fits)
+    ]
 
 body_in-values : (body : Body) → IsBody body → body_in (kind_of body) (body_values body) ≡ Some body
-body_in-values (Voice unit) fits = voice_in-values unit fits
+body_in-values (Voice unit) fits = body_in-voice unit (voice_values unit) ∙ ap (option_map Voice) (voice_in-values unit fits)
+body_in-values (Packet packet) fits = packet_in-values packet fits
 
 -- what is read as a body are its values
 record IsReadAs (kind : UnitKind) (values : List (List ℕ)) (body : Body) : Type 0 where
@@ -71,11 +122,42 @@ record IsReadAs (kind : UnitKind) (values : List (List ℕ)) (body : Body) : Typ
   same_values : body_values body ≡ values
   fits : IsBody body
 
+-- a packet, as what a unit carries
+packet-read : (kind : UnitKind) (values : List (List ℕ)) (found : Option BlockPacket) (body : Body)
+    → ((packet : BlockPacket) → found ≡ Some packet → IsPacketRead kind values packet) → option_map Packet found ≡ Some body → IsReadAs kind values body
+packet-read kind values found body read same =
+    let taken = option_map-found Packet found body same in
+    let facts = read taken.0 taken.1 in
+    subst (IsReadAs kind values) taken.2 (record { same_kind = facts.same_kind; same_values = facts.same_values; fits = facts.sendable })
+
+-- a voice unit, as what a unit carries
+voice-read : (kind : UnitKind) (values : List (List ℕ)) (body : Body) → option_map Voice (voice_in kind values) ≡ Some body → IsReadAs kind values body
+voice-read kind values body same =
+    let taken = option_map-found Voice (voice_in kind values) body same in
+    let facts = values-voice_in kind values taken.0 taken.1 in
+    subst (IsReadAs kind values) taken.2 (record { same_kind = facts.same_kind; same_values = facts.same_values; fits = facts.fits })
+
 values-body_in : (kind : UnitKind) (values : List (List ℕ)) (body : Body) → body_in kind values ≡ Some body → IsReadAs kind values body
-values-body_in Tdu (value ∷ values) body found = cc found
-values-body_in Tdu [] body found =
-    let same : Voice End ≡ body = cc found in
-    subst (λ (b : Body). IsReadAs Tdu [] b) same (record { same_kind = refl; same_values = refl; fits = tt })
+values-body_in Hdu values body found = voice-read Hdu values body found
+values-body_in Ldu1 values body found = voice-read Ldu1 values body found
+values-body_in Ldu2 values body found = voice-read Ldu2 values body found
+values-body_in Tdu values body found = voice-read Tdu values body found
+values-body_in Tdulc values body found = voice-read Tdulc values body found
+values-body_in Confirmed (head ∷ blocks ∷ []) body found =
+    packet-read Confirmed (head ∷ blocks ∷ []) (confirmed_in head blocks) body (λ packet same. values-confirmed_in head blocks packet same) found
+values-body_in Plain (head ∷ octets ∷ []) body found =
+    packet-read Plain (head ∷ octets ∷ []) (plain_in 0x15 head octets) body (λ packet same. values-plain_in 0x15 head octets packet (inl refl) same) found
+values-body_in Response (head ∷ octets ∷ []) body found =
+    packet-read Response (head ∷ octets ∷ []) (plain_in 0x03 head octets) body (λ packet same. values-plain_in 0x03 head octets packet (inr refl) same) found
+values-body_in Confirmed [] body found = cc found
+values-body_in Confirmed (a ∷ []) body found = cc found
+values-body_in Confirmed (a ∷ b ∷ c ∷ others) body found = cc found
+values-body_in Plain [] body found = cc found
+values-body_in Plain (a ∷ []) body found = cc found
+values-body_in Plain (a ∷ b ∷ c ∷ others) body found = cc found
+values-body_in Response [] body found = cc found
+values-body_in Response (a ∷ []) body found = cc found
+values-body_in Response (a ∷ b ∷ c ∷ others) body found = cc found
 
 -- ---- what holds of all kinds
 
@@ -90,7 +172,7 @@ pub length-text_of : (unit : UnitParts) → IsUnit unit → length (text_of unit
 unfolding text_of
 length-text_of unit fits =
     let kind = kind_of unit.body in
-    omega (arith, length-join (unit_words unit), size_of-keyed (keys_of kind) (values_of unit), kind-short kind, keys-few kind, length-three_digits unit.nac, body-short unit.body fits.body_fits)
+    omega (arith, length-join 32 (unit_words unit), size_of-keyed (keys_of kind) (values_of unit), kind-short kind, keys-few kind, length-three_digits unit.nac, body-short unit.body fits.body_fits)
 
 -- the line of a unit is read as the unit
 pub read_line-text_of : (unit : UnitParts) → IsUnit unit → read_line_of (text_of unit) ≡ Ok unit
@@ -98,7 +180,7 @@ unfolding read_line_of text_of
 read_line-text_of unit fits =
     let kind = kind_of unit.body in
     let short : length (text_of unit) ≤ 8192 = omega (arith, length-text_of unit fits) in
-    let count : length (keys_of kind) ≡ length (values_of unit) = body-count unit.body in
+    let count : length (keys_of kind) ≡ length (values_of unit) = body-count unit.body fits.body_fits in
     ap read_words (words_or_fault-join (unit_words unit) (omega arith) (unit_words-words unit fits) short)
     ∙ ap (read_kind (keyed (keys_of kind) (values_of unit))) (kind_named-word kind)
     ∙ ap (read_values kind) (values_behind-keyed (keys_of kind) (values_of unit) count)

@@ -1,5 +1,11 @@
 pub mod ValueLaws
 pub mod WordLaws
+pub mod CommaListLaws
+pub mod CommaSteps
+pub mod OptionLaws
+pub mod PacketValueLaws
+pub mod PacketLaws
+pub mod VoiceLaws
 pub mod GrammarLaws
 pub mod ReadSteps
 pub mod ItemTextSteps

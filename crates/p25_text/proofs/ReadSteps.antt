@@ -12,8 +12,9 @@ use Rattle.p25_line.specs.Words.{LiesIn, WordsAnswer, WordsFound, marked, word_a
 use Rattle.p25_line.specs.declared.fault.LineFault.{LineFault}
 use Rattle.p25_line.specs.declared.fault.LineFault.TheVariants.{Key, Kind as WrongKind}
 use Rattle.p25_line.proofs.JoinLaws.{Known, Known-words}
-use Rattle.p25_text.specs.Grammar.{read_kind, read_line_of, read_values, read_words, values_behind, behind, with_value}
+use Rattle.p25_text.specs.Grammar.{read_kind, read_line_of, read_values, read_words, values_behind, behind}
 use Rattle.p25_text.specs.Names.{kind_named, keys_of, key_text}
+use Rattle.p25_text.specs.Values.{with_value}
 use Rattle.p25_text.specs.declared.names.UnitKey.{UnitKey}
 use Rattle.p25_text.specs.declared.names.UnitKind.{UnitKind}
 use Rattle.p25_text.proofs.WordLaws.{values_behind-other}

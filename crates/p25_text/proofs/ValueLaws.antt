@@ -1,15 +1,21 @@
 -- For each form of value, that its text is read as it, and that what is read is the text of it.
-use Rattle.std.proofs.Common.{◌≡◌, ℕ, ◌+◌, ◌*◌, ◌/◌, ◌%◌, ◌<◌, ◌==◌, ◌&&◌, true, List, [], ◌∷◌, length, drop, slice_index, get_or, Option, Some, None, inl, inr, refl, sym, ap, ap₂, subst, ◌∙◌, arith}
+use Rattle.std.proofs.Common.{◌≡◌, ℕ, ◌+◌, ◌*◌, ◌/◌, ◌%◌, ◌<◌, ◌==◌, ◌&&◌, true, cond, List, [], ◌∷◌, length, drop, slice_index, get_or, Option, Some, None, inl, inr, refl, sym, ap, ap₂, subst, ◌∙◌, arith}
 use Rattle.std.specs.List.{list_all}
-use Rattle.std.proofs.lemmas.Bool.{and_parts, cases_Bool, cond-true, cond-false, eq-eqb, eqb-true}
+use Rattle.std.specs.Str.{bytes_eq}
+use Rattle.std.proofs.lemmas.Bool.Decides.{eqb_tells}
+use Rattle.std.proofs.lemmas.Bool.{and_parts, cases_Bool, cond-true, cond-false, eq-eqb, eqb-true, ne_eqb}
 use Rattle.std.proofs.lemmas.List.Elements.{All-nil, All-cons, All-head, All-tail}
+use Rattle.std.proofs.lemmas.Slice.Eq.{bytes_eq-Decides}
 use Rattle.hex.specs.Hex.{encode_with, encode_lower, lower_digits}
 use Rattle.hex.proofs.HexLemmas.{length-encode_with}
 use Rattle.p25_line.specs.Values.{AllOctets, is_lower_digit, nibble_of, octets_of}
 use Rattle.p25_line.proofs.HexLaws.{digit_facts, list_all-encode_lower, octets_of-encode_lower, octets_of-facts}
-use Rattle.p25_text.specs.Grammar.{three_digits, octets_in, number_in, nac_in}
+use Rattle.p25_text.specs.Values.{dash, three_digits, octets_in, octets_or_none, octets_text, number_in, nac_in}
 
--- two numbers below 256
+-- one number below 256, and two
+pub one_octet : (octet : ℕ) → octet < 256 → AllOctets (octet ∷ [])
+one_octet octet fits = All-cons (λ o. o < 256) octet [] fits (All-nil (λ o. o < 256))
+
 pub two_octets : (high low : ℕ) → high < 256 → low < 256 → AllOctets (high ∷ low ∷ [])
 two_octets high low h l = All-cons (λ x. x < 256) high (low ∷ []) h (All-cons (λ x. x < 256) low [] l (All-nil (λ x. x < 256)))
 
@@ -20,6 +26,9 @@ octets_in-encode_lower count octets fits same =
     cond-true ((length (encode_lower octets) == 2 * count) && list_all is_lower_digit (encode_lower octets)) (Some (octets_of (encode_lower octets))) None
     (ap₂ ◌&&◌ (eq-eqb (length (encode_lower octets)) (2 * count) long) (list_all-encode_lower octets fits))
     ∙ ap Some (octets_of-encode_lower octets fits)
+
+pub octets_in-read : (count : ℕ) (word octets : List ℕ) → encode_lower octets ≡ word → AllOctets octets → length octets ≡ count → octets_in count word ≡ Some octets
+octets_in-read count word octets text fits same = ap (octets_in count) (sym text) ∙ octets_in-encode_lower count octets fits same
 
 -- what is read as octets is their text
 pub octets_in-text : (count : ℕ) (word octets : List ℕ) → octets_in count word ≡ Some octets → (encode_lower octets ≡ word) × AllOctets octets × (length octets ≡ count)
@@ -127,3 +136,40 @@ nac_value-some word octets number same count fits text value =
     let whole = text ∙ ap (λ w. 48 ∷ w) (three_octets word same) in
     ap Some value ∙ sym (number_of_two octets count)
     ∙ sym (ap (λ w. number_in (octets_in 2 w)) (sym whole) ∙ ap number_in (octets_in-encode_lower 2 octets fits count))
+
+-- ---- octets of which there may be none
+
+pub octets_or_none-none : (count : ℕ) (word : List ℕ) → count ≡ 0 → octets_or_none count word ≡ cond (bytes_eq word dash) (Some []) None
+octets_or_none-none count word same = cond-true (count == 0) (cond (bytes_eq word dash) (Some []) None) (octets_in count word) (eq-eqb count 0 same)
+
+pub octets_or_none-some : (count : ℕ) (word : List ℕ) → (count ≡ 0 → ⊥) → octets_or_none count word ≡ octets_in count word
+octets_or_none-some count word other = cond-false (count == 0) (cond (bytes_eq word dash) (Some []) None) (octets_in count word) (ne_eqb count 0 other)
+
+-- they are read from their text
+pub octets_or_none-text : (count : ℕ) (octets : List ℕ) → AllOctets octets → length octets ≡ count → octets_or_none count (octets_text octets) ≡ Some octets
+octets_or_none-text count [] fits same = octets_or_none-none count dash (sym same)
+octets_or_none-text count (octet ∷ octets) fits same =
+    octets_or_none-some count (encode_lower (octet ∷ octets)) (λ none. omega arith) ∙ octets_in-encode_lower count (octet ∷ octets) fits same
+
+some_text : (octets : List ℕ) (count : ℕ) → length octets ≡ count → (count ≡ 0 → ⊥) → octets_text octets ≡ encode_lower octets
+some_text [] count same other = absurd (other (sym same))
+some_text (octet ∷ octets) count same other = refl
+
+-- what is read as them is their text
+pub text-octets_or_none : (count : ℕ) (word octets : List ℕ) → octets_or_none count word ≡ Some octets → (octets_text octets ≡ word) × AllOctets octets × (length octets ≡ count)
+text-octets_or_none count word octets found =
+    let empty : List ℕ = [] in
+    elim (eqb_tells count 0) [
+      | inl none ↦
+          let read = sym (octets_or_none-none count word none.1) ∙ found in
+          elim (cases_Bool (bytes_eq word dash)) [
+            | inl same_dash ↦
+                let taken = cond-true (bytes_eq word dash) (Some empty) None same_dash in
+                let same : empty ≡ octets = cc in
+                subst (λ (o : List ℕ). (octets_text o ≡ word) × AllOctets o × (length o ≡ count)) same (sym ((bytes_eq-Decides word dash).0 same_dash), All-nil (λ o. o < 256), sym none.1)
+            | inr other ↦ let taken = cond-false (bytes_eq word dash) (Some empty) None other in cc
+          ]
+      | inr some ↦
+          let facts = octets_in-text count word octets (sym (octets_or_none-some count word some.1) ∙ found) in
+          (some_text octets count facts.2 some.1 ∙ facts.0, facts.1, facts.2)
+    ]

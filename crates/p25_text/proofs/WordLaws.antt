@@ -9,10 +9,11 @@ use Rattle.std.proofs.lemmas.List.Folds.{list_all-append}
 use Rattle.std.proofs.lemmas.Slice.Eq.{starts_is}
 use Rattle.p25_line.specs.Values.{is_lower_digit}
 use Rattle.p25_line.specs.Words.{is_printed, is_word}
-use Rattle.p25_text.specs.Grammar.{behind, keyed, values_behind, with_value}
+use Rattle.p25_text.specs.Grammar.{behind, keyed, values_behind}
 use Rattle.p25_text.specs.Names.{key_text}
+use Rattle.p25_text.specs.Values.{with_value}
 use Rattle.p25_text.specs.declared.names.UnitKey.{UnitKey}
-use Rattle.p25_text.specs.declared.names.UnitKey.TheVariants.{Nac}
+use Rattle.p25_text.specs.declared.names.UnitKey.TheVariants.{Nac, Mi, Mfid, Algid, Kid, Tgid, Lc, Lsd, Frames, Head, Blocks, Octets}
 
 -- what stands behind a key
 pub behind-append : (key value : List ℕ) → behind key (key ++ value) ≡ Some value
@@ -88,11 +89,15 @@ find-passes test (y ∷ xs) x found =
 digit-printed : (digit : ℕ) → is_lower_digit digit ≡ true → is_printed digit ≡ true
 digit-printed digit lower = grind arith
 
+-- what passes one test, element by element, passes another that follows from it
+pub all-also : {X : Type 0} (first second : X → Bool) → ((x : X) → first x ≡ true → second x ≡ true) → (xs : List X) → list_all first xs ≡ true → list_all second xs ≡ true
+all-also first second also [] all = refl
+all-also first second also (x ∷ xs) all =
+    let parts = and_parts (first x) (list_all first xs) all in
+    ap₂ ◌&&◌ (also x parts.0) (all-also first second also xs parts.1)
+
 pub digits-printed : (digits : List ℕ) → list_all is_lower_digit digits ≡ true → list_all is_printed digits ≡ true
-digits-printed [] lower = refl
-digits-printed (digit ∷ digits) lower =
-    let parts = and_parts (is_lower_digit digit) (list_all is_lower_digit digits) lower in
-    ap₂ ◌&&◌ (digit-printed digit parts.0) (digits-printed digits parts.1)
+digits-printed digits lower = all-also is_lower_digit is_printed digit-printed digits lower
 
 -- a word stays a word with more printed octets behind it
 word-more : (word value : List ℕ) → is_word word ≡ true → list_all is_printed value ≡ true → is_word (word ++ value) ≡ true
@@ -105,9 +110,31 @@ word-more (octet ∷ word) value some printed =
 -- each key is a word of at most seven octets
 key-word : (key : UnitKey) → is_word (key_text key) ≡ true
 key-word Nac = refl
+key-word Mi = refl
+key-word Mfid = refl
+key-word Algid = refl
+key-word Kid = refl
+key-word Tgid = refl
+key-word Lc = refl
+key-word Lsd = refl
+key-word Frames = refl
+key-word Head = refl
+key-word Blocks = refl
+key-word Octets = refl
 
 key-short : (key : UnitKey) → length (key_text key) ≤ 7
 key-short Nac = omega arith
+key-short Mi = omega arith
+key-short Mfid = omega arith
+key-short Algid = omega arith
+key-short Kid = omega arith
+key-short Tgid = omega arith
+key-short Lc = omega arith
+key-short Lsd = omega arith
+key-short Frames = omega arith
+key-short Head = omega arith
+key-short Blocks = omega arith
+key-short Octets = omega arith
 
 -- keys with printed values are words
 pub keyed-words : (keys : List UnitKey) (values : List (List ℕ)) → list_all (list_all is_printed) values ≡ true → list_all is_word (keyed keys values) ≡ true
@@ -122,10 +149,10 @@ abbrev pub size_of : List (List ℕ) → ℕ
 size_of [] = 0
 size_of (word ∷ words) = suc (length word) + size_of words
 
-pub length-join : (words : List (List ℕ)) → length (join_with_byte 32 words) ≤ size_of words
-length-join [] = omega arith
-length-join (word ∷ []) = omega arith
-length-join (word ∷ next ∷ words) = omega (arith, length-append word (32 ∷ join_with_byte 32 (next ∷ words)), length-join (next ∷ words))
+pub length-join : (separator : ℕ) (words : List (List ℕ)) → length (join_with_byte separator words) ≤ size_of words
+length-join separator [] = omega arith
+length-join separator (word ∷ []) = omega arith
+length-join separator (word ∷ next ∷ words) = omega (arith, length-append word (separator ∷ join_with_byte separator (next ∷ words)), length-join separator (next ∷ words))
 
 pub size_of-keyed : (keys : List UnitKey) (values : List (List ℕ)) → size_of (keyed keys values) ≤ 8 * length keys + size_of values
 size_of-keyed [] values = omega arith

@@ -1,68 +1,49 @@
 -- Unit lines: the line of a unit, and the unit of a line.
-use Rattle.std.specs.Prelude.{ℕ, ◌+◌, ◌*◌, ◌/◌, ◌%◌, ◌<◌, ◌==◌, ◌&&◌, nat_eq, cond, List, [], ◌∷◌, ◌++◌, length, drop, Option, Some, None, Result, Ok, Err}
-use Rattle.std.specs.List.{join_with_byte, list_all, starts_with}
-use Rattle.hex.specs.Hex.{encode_lower}
-use Rattle.p25_line.specs.Values.{is_lower_digit, octets_of}
+use Rattle.std.specs.Option.{option_map}
+use Rattle.std.specs.Prelude.{ℕ, ◌<◌, nat_eq, cond, List, [], ◌∷◌, ◌++◌, length, drop, Option, Some, None, Result, Ok, Err}
+use Rattle.std.specs.List.{join_with_byte, starts_with}
 use Rattle.p25_line.specs.Words.{words_or_fault}
 use Rattle.p25_line.specs.declared.fault.LineFault.{LineFault}
 use Rattle.p25_line.specs.declared.fault.LineFault.TheVariants.{Form, Key, Value, Kind as WrongKind}
-use Rattle.p25_voice_units.specs.declared.unit.VoiceUnit.{VoiceUnit}
-use Rattle.p25_voice_units.specs.declared.unit.VoiceUnit.TheVariants.{End}
 use Rattle.p25_units.specs.UnitParts.{UnitParts}
 use Rattle.p25_units.specs.declared.unit.Body.{Body}
-use Rattle.p25_units.specs.declared.unit.Body.TheVariants.{Voice}
+use Rattle.p25_units.specs.declared.unit.Body.TheVariants.{Voice, Packet}
+use Rattle.p25_packet_blocks.specs.Sendable.{IsSendable}
+use Rattle.p25_voice_units.specs.Sendable.{IsSendableVoice}
 use Rattle.p25_text.specs.Names.{kind_word, kind_named, keys_of, key_text}
+use Rattle.p25_text.specs.Packets.{confirmed_in, packet_kind, packet_values, plain_in}
+use Rattle.p25_text.specs.Values.{nac_in, three_digits, with_value}
+use Rattle.p25_text.specs.Voices.{voice_in, voice_kind, voice_values}
 use Rattle.p25_text.specs.declared.names.UnitKey.{UnitKey}
 use Rattle.p25_text.specs.declared.names.UnitKind.{UnitKind}
-use Rattle.p25_text.specs.declared.names.UnitKind.TheVariants.{Tdu}
-
--- ---- values
-
--- the last three hexadecimal digits of a number
-abbrev pub three_digits : ℕ → List ℕ
-three_digits number = drop 1 (encode_lower (number / 256 ∷ number % 256 ∷ []))
-
--- the octets whose text a word is, where it has two digits for each of so many octets
-abbrev pub octets_in : ℕ → List ℕ → Option (List ℕ)
-octets_in count word = cond ((length word == 2 * count) && list_all is_lower_digit word) (Some (octets_of word)) None
-
--- the number of two octets
-abbrev pub number_in : Option (List ℕ) → Option ℕ
-number_in (Some (high ∷ low ∷ [])) = Some (256 * high + low)
-number_in (Some octets) = None
-number_in None = None
-
--- the network access code that a word of three digits is
-abbrev pub nac_in : List ℕ → Option ℕ
-nac_in word = number_in (octets_in 2 (48 ∷ word))
+use Rattle.p25_text.specs.declared.names.UnitKind.TheVariants.{Confirmed, Plain, Response}
 
 -- ---- the kinds, in the order of their table
 
 -- the kind of the line of a unit
-abbrev pub voice_kind : VoiceUnit → UnitKind
-voice_kind End = Tdu
-
 abbrev pub kind_of : Body → UnitKind
 kind_of (Voice voice) = voice_kind voice
+kind_of (Packet packet) = packet_kind packet
 
 -- the values behind the network access code, in the order of the keys
-abbrev pub voice_values : VoiceUnit → List (List ℕ)
-voice_values End = []
-
 abbrev pub body_values : Body → List (List ℕ)
 body_values (Voice voice) = voice_values voice
+body_values (Packet packet) = packet_values packet
 
 -- what the values behind the network access code are read as
 abbrev pub body_in : UnitKind → List (List ℕ) → Option Body
-body_in Tdu [] = Some (Voice End)
-body_in Tdu (value ∷ values) = None
+body_in Confirmed (head ∷ blocks ∷ []) = option_map Packet (confirmed_in head blocks)
+body_in Confirmed values = None
+body_in Plain (head ∷ octets ∷ []) = option_map Packet (plain_in 0x15 head octets)
+body_in Plain values = None
+body_in Response (head ∷ octets ∷ []) = option_map Packet (plain_in 0x03 head octets)
+body_in Response values = None
+body_in kind values = option_map Voice (voice_in kind values)
 
--- what a line can tell of: the octets of fields are octets, and packets are whole
-abbrev pub IsVoice : VoiceUnit → Type 0
-IsVoice End = Unit {0}
-
+-- what a line can tell of: voice units with what their types keep, and packets that can be sent
 abbrev pub IsBody : Body → Type 0
-IsBody (Voice voice) = IsVoice voice
+IsBody (Voice voice) = IsSendableVoice voice
+IsBody (Packet packet) = IsSendable packet
 
 pub record IsUnit (unit : UnitParts) : Type 0 where
   pub nac_fits : unit.nac < 4096
@@ -93,12 +74,6 @@ text_of unit = join_with_byte 32 (unit_words unit)
 -- what stands behind a key in a word that begins with it
 abbrev pub behind : List ℕ → List ℕ → Option (List ℕ)
 behind key word = cond (starts_with nat_eq word key) (Some (drop (length key) word)) None
-
--- one value more, where there are all
-abbrev pub with_value : Option (List ℕ) → Option (List (List ℕ)) → Option (List (List ℕ))
-with_value None values = None
-with_value (Some value) None = None
-with_value (Some value) (Some values) = Some (value ∷ values)
 
 -- the values behind keys: none where there are more or fewer words than keys, or where some word does not begin with its key
 abbrev pub values_behind : List UnitKey → List (List ℕ) → Option (List (List ℕ))

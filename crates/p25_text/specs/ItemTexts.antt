@@ -1,6 +1,5 @@
 -- The texts of items.
 use Rattle.std.specs.Prelude.{ℕ, ◌+◌, List, [], ◌∷◌, ◌++◌, drop, map, codes, decimal}
-use Rattle.std.specs.List.{join_with_byte}
 use Rattle.hex.specs.Hex.{encode_lower}
 use Rattle.p25_status.specs.Status.{status_number}
 use Rattle.p25_status.specs.declared.fields.Field.{Field}
@@ -9,7 +8,9 @@ use Rattle.p25_status.specs.declared.symbols.Status.{Status}
 use Rattle.p25_units.specs.Units.{frame_length_of}
 use Rattle.p25_units.specs.declared.item.Item.{Item}
 use Rattle.p25_units.specs.declared.item.Item.TheVariants.{Whole, Broken, NoUnit, Gap, Cut}
-use Rattle.p25_text.specs.Grammar.{three_digits, text_of}
+use Rattle.p25_text.specs.CommaLists.{comma_text}
+use Rattle.p25_text.specs.Grammar.{text_of}
+use Rattle.p25_text.specs.Values.{three_digits}
 
 -- the name of a field
 abbrev pub field_name : Field → List ℕ
@@ -28,8 +29,8 @@ field_name PacketCrc = codes "packet_crc"
 field_name (Block block) = codes "block." ++ decimal block
 
 -- the names of fields, with commas between them
-unfoldable pub field_names : List Field → List ℕ
-field_names fields = join_with_byte 44 (map field_name fields)
+abbrev pub field_names : List Field → List ℕ
+field_names fields = comma_text field_name fields
 
 -- a digit 0 to 3 for each status symbol
 unfoldable pub status_digits : List Status → List ℕ

@@ -1,3 +1,7 @@
 pub mod Names
+pub mod Values
+pub mod CommaLists
+pub mod Packets
+pub mod Voices
 pub mod Grammar
 pub mod ItemTexts

@@ -28,16 +28,7 @@ pub fn item_text(item: &Item, out: &mut Line)
             nac,
             duid,
             fields,
-        } => {
-            put_labelled(b"broken at=", *place, out);
-            put_labelled(b" bits=", u64::from(*length), out);
-            out.put(b" nac=");
-            put_nac(*nac, out);
-            out.put(b" duid=");
-            put_digit(*duid, out);
-            out.put(b" fields=");
-            put_fields(fields, out);
-        }
+        } => put_broken(*place, *length, (*nac, *duid), fields, out),
         Item::NoUnit { place, field } => {
             put_labelled(b"nounit at=", *place, out);
             out.put(b" field=");
@@ -67,6 +58,23 @@ fn put_whole(place: u64, frame: &Frame, fixes: u32, out: &mut Line)
     put_statuses(&frame.statuses, out);
     out.put(b" ");
     put_unit(&frame.unit, out);
+}
+
+// Appends the text of a broken unit with its network access code and data unit identifier to an empty line.
+#[tactic(auto, unfolding(crate::specs::ItemTexts::item_text_of))]
+fn put_broken(place: u64, count: u32, identifier: (u16, u8), fields: &FieldList, out: &mut Line)
+    requires { out.old ≡ [] }
+    ensures text { out.new ≡ item_text_of (Item.Broken place count identifier.0 identifier.1 fields.now) }
+    ensures short { length out.new < 8192 }
+{
+    put_labelled(b"broken at=", place, out);
+    put_labelled(b" bits=", u64::from(count), out);
+    out.put(b" nac=");
+    put_nac(identifier.0, out);
+    out.put(b" duid=");
+    put_digit(identifier.1, out);
+    out.put(b" fields=");
+    put_fields(fields, out);
 }
 
 // Appends a label and a number in decimal.

@@ -1,24 +1,45 @@
 //! The texts of units and items, and units read from lines.
 //!
 //! A unit line is words with single spaces between them: the kind of the unit, and then each key of that kind with `=` and
-//! its value, in one order. `text_of unit` is the line of a unit, `read_line_of line` what a line is read as, and each undoes
-//! the other. An item's text tells the place of the item, in bits from the beginning of the stream, and what stands there:
-//! `item_text_of item`. A `Line` is seen as the list of its octets, first to last.
+//! its value, in one order. Digits are hexadecimal in lower case, two for each octet.
+//!
+//! | kind | keys, each with how many digits its value has |
+//! |---|---|
+//! | `hdu` | `nac` 3, `mi` 18, `mfid` 2, `algid` 2, `kid` 4, `tgid` 4 |
+//! | `ldu1` | `nac` 3, `lc` 18, `lsd` 4, `voice` 324 |
+//! | `ldu2` | `nac` 3, `mi` 18, `algid` 2, `kid` 4, `lsd` 4, `voice` 324 |
+//! | `tdu` | `nac` 3 |
+//! | `tdulc` | `nac` 3, `lc` 18 |
+//! | `confirmed` | `nac` 3, `head` 20, `blocks` a list |
+//! | `plain`, `response` | `nac` 3, `head` 20, `octets` as many as the header asks for |
+//!
+//! The blocks of a confirmed packet have commas between them, and each is its serial number, two digits that are at most
+//! `7f`, a colon and 32 digits. `-` stands for no blocks and for no octets. `text_of unit` is the line of a unit,
+//! `read_line_of line` what a line is read as, and each undoes the other. An item's text tells the place of the item, in bits
+//! from the beginning of the stream, and what stands there: `item_text_of item`. A `Line` is seen as the list of its octets,
+//! first to last.
 //!
 //! ```text
-//! let unit = read_line(b"tdu nac=293")?;
+//! let unit = read_line(b"tdulc nac=293 lc=000000000001000001")?;
 //! let mut line = Line::new();
 //! unit_text(&unit, &mut line);
 //! item_text(&Item::Gap { place: 0, length: 8 }, &mut line);
 //! ```
 #![tactic(auto)]
 
+mod comma_lists;
+#[cfg(test)]
+mod item_tests;
 mod items;
 mod names;
+mod packet_texts;
+mod packets;
 mod read;
 #[cfg(test)]
 mod tests;
 mod values;
+mod voice_texts;
+mod voices;
 mod write;
 
 pub use items::item_text;

@@ -1,13 +1,27 @@
 //! The kinds of unit lines, and their keys.
 
 ghost use Rattle.std.specs.Prelude.{◌≡◌, ◌<◌, ◌≤◌, length};
-ghost use Rattle.p25_text.specs.Names.{key_text, keys_of, kind_named};
+ghost use Rattle.p25_text.specs.Names.{key_text, keys_of, kind_named, kind_word};
 
 /// A kind of unit line.
 #[derive(Clone, Copy)]
 pub enum UnitKind {
+    /// A header.
+    Hdu,
+    /// Voice with link control.
+    Ldu1,
+    /// Voice with encryption sync.
+    Ldu2,
     /// A terminator without link control.
     Tdu,
+    /// A terminator with link control.
+    Tdulc,
+    /// A packet whose blocks are confirmed one by one.
+    Confirmed,
+    /// A packet that is not confirmed.
+    Plain,
+    /// A response to a packet.
+    Response,
 }
 
 /// A key of a unit line.
@@ -15,16 +29,64 @@ pub enum UnitKind {
 pub enum UnitKey {
     /// The network access code.
     Nac,
+    /// The message indicator.
+    Mi,
+    /// The manufacturer.
+    Mfid,
+    /// The algorithm.
+    Algid,
+    /// The key of a cipher.
+    Kid,
+    /// The talk group.
+    Tgid,
+    /// The octets of link control.
+    Lc,
+    /// The two octets of low speed data.
+    Lsd,
+    /// The octets of nine voice frames.
+    Frames,
+    /// The octets of a packet's header.
+    Head,
+    /// The blocks to follow of a confirmed packet.
+    Blocks,
+    /// The octets of another packet before its packet CRC.
+    Octets,
 }
+
+// All kinds.
+const KINDS: [UnitKind; 8] = [
+    UnitKind::Hdu,
+    UnitKind::Ldu1,
+    UnitKind::Ldu2,
+    UnitKind::Tdu,
+    UnitKind::Tdulc,
+    UnitKind::Confirmed,
+    UnitKind::Plain,
+    UnitKind::Response,
+];
 
 impl UnitKind {
     /// Answers the kind that a word names. `None` comes exactly where it names none.
     pub fn named(word: &[u8]) -> Option<UnitKind>
         ensures { result ≡ kind_named word.now }
     {
-        match word {
-            b"tdu" => Some(UnitKind::Tdu),
-            _ => None,
+        KINDS.iter().copied().find(|kind| word == kind.word())
+    }
+
+    /// Answers the word that begins a line of this kind.
+    pub fn word(self) -> &'static [u8]
+        ensures text { result.now ≡ kind_word self }
+        ensures short { length result.now ≤ 9 }
+    {
+        match self {
+            UnitKind::Hdu => b"hdu",
+            UnitKind::Ldu1 => b"ldu1",
+            UnitKind::Ldu2 => b"ldu2",
+            UnitKind::Tdu => b"tdu",
+            UnitKind::Tdulc => b"tdulc",
+            UnitKind::Confirmed => b"confirmed",
+            UnitKind::Plain => b"plain",
+            UnitKind::Response => b"response",
         }
     }
 
@@ -35,7 +97,28 @@ impl UnitKind {
         ensures some { 0 < length result.now }
     {
         match self {
+            UnitKind::Hdu => &[
+                UnitKey::Nac,
+                UnitKey::Mi,
+                UnitKey::Mfid,
+                UnitKey::Algid,
+                UnitKey::Kid,
+                UnitKey::Tgid,
+            ],
+            UnitKind::Ldu1 => &[UnitKey::Nac, UnitKey::Lc, UnitKey::Lsd, UnitKey::Frames],
+            UnitKind::Ldu2 => &[
+                UnitKey::Nac,
+                UnitKey::Mi,
+                UnitKey::Algid,
+                UnitKey::Kid,
+                UnitKey::Lsd,
+                UnitKey::Frames,
+            ],
             UnitKind::Tdu => &[UnitKey::Nac],
+            UnitKind::Tdulc => &[UnitKey::Nac, UnitKey::Lc],
+            UnitKind::Confirmed => &[UnitKey::Nac, UnitKey::Head, UnitKey::Blocks],
+            UnitKind::Plain => &[UnitKey::Nac, UnitKey::Head, UnitKey::Octets],
+            UnitKind::Response => &[UnitKey::Nac, UnitKey::Head, UnitKey::Octets],
         }
     }
 }
@@ -48,6 +131,17 @@ impl UnitKey {
     {
         match self {
             UnitKey::Nac => b"nac=",
+            UnitKey::Mi => b"mi=",
+            UnitKey::Mfid => b"mfid=",
+            UnitKey::Algid => b"algid=",
+            UnitKey::Kid => b"kid=",
+            UnitKey::Tgid => b"tgid=",
+            UnitKey::Lc => b"lc=",
+            UnitKey::Lsd => b"lsd=",
+            UnitKey::Frames => b"voice=",
+            UnitKey::Head => b"head=",
+            UnitKey::Blocks => b"blocks=",
+            UnitKey::Octets => b"octets=",
         }
     }
 }

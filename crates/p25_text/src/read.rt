@@ -1,20 +1,28 @@
 //! Units read from lines.
 
 ghost use Rattle.std.specs.Prelude.{◌≡◌, ℕ, ◌<◌, Ok, IfOk, length, drop};
+ghost use Rattle.std.specs.Option.{option_map};
 ghost use Rattle.p25_line.specs.Words.{WordsAnswer};
 ghost use Rattle.p25_units.specs.UnitParts.{UnitParts};
 ghost use Rattle.p25_text.specs.Grammar.{IsUnit, body_in, read_line_of, text_of, unit_in};
 ghost use Rattle.p25_text.specs.Names.{keys_of};
+ghost use Rattle.p25_text.specs.Voices.{voice_in};
+ghost use Rattle.p25_text.specs.declared.names.UnitKind.TheVariants.{Hdu, Ldu2};
 
 use super::names::UnitKind;
+use super::packets::{confirmed_value, plain_value};
 use super::values::{Values, nac_value, values_of_words};
+use super::voices::{end_link_value, header_value, link1_value, link2_value};
 use p25_line::{LineFault, WordList, words_of};
+use p25_packet_blocks::Packet;
 use p25_units::{Body, Unit, VoiceUnit};
 
-/// Answers the unit whose text a line is. Each line that is accepted is the text of its unit, and the text of each unit is
-/// accepted. The first of these causes that applies is answered: Long, above 8,192 octets; Form, not one or more words of
-/// octets 21 to 7E hex with single spaces between them; Kind, the first word names no kind; Key, there are not as many
-/// further words as keys, or one does not begin with its key and `=`; Value, a value is not of its form.
+/// Answers the unit whose text a line is. Each line that is accepted is the text of its unit, and the text of each unit of
+/// which nothing fails is accepted. The first of these causes that applies is answered: Long, above 8,192 octets; Form, not
+/// one or more words of octets 21 to 7E hex with single spaces between them; Kind, the first word names no kind; Key, there
+/// are not as many further words as keys, or one does not begin with its key and `=`; Value, a value is not of its form, the
+/// format in a packet's header is not that of the kind (16 hex for `confirmed`, 15 hex for `plain`, 03 hex for `response`),
+/// or there are not as many blocks as the header has to follow, or not twelve octets for each of them less four.
 pub fn read_line(line: &[u8]) -> Result<Unit, LineFault>
     ensures unit { result ≡ read_line_of line.now }
     ensures text { IfOk result (λ unit. text_of unit ≡ line.now) }
@@ -73,5 +81,54 @@ fn read_body(kind: UnitKind, values: &Values) -> Option<Body>
 {
     match kind {
         UnitKind::Tdu => Some(Body::Voice(VoiceUnit::End)),
+        UnitKind::Tdulc => voice_body(end_link_value(values.get(1))),
+        UnitKind::Hdu => voice_body(read_header(values)),
+        UnitKind::Ldu1 => voice_body(link1_value(values.get(1), values.get(2), values.get(3))),
+        UnitKind::Ldu2 => voice_body(read_link2(values)),
+        UnitKind::Confirmed => packet_body(confirmed_value(values.get(1), values.get(2))),
+        UnitKind::Plain => packet_body(plain_value(0x15, values.get(1), values.get(2))),
+        UnitKind::Response => packet_body(plain_value(0x03, values.get(1), values.get(2))),
     }
+}
+
+// The header of the values of a line.
+fn read_header(values: &Values) -> Option<VoiceUnit>
+    requires { length values.now ≡ 6 }
+    ensures { result ≡ voice_in Hdu (drop 1 values.now) }
+{
+    header_value(
+        values.get(1),
+        values.get(2),
+        values.get(3),
+        values.get(4),
+        values.get(5),
+    )
+}
+
+// The voice with encryption sync of the values of a line.
+fn read_link2(values: &Values) -> Option<VoiceUnit>
+    requires { length values.now ≡ 6 }
+    ensures { result ≡ voice_in Ldu2 (drop 1 values.now) }
+{
+    link2_value(
+        values.get(1),
+        values.get(2),
+        values.get(3),
+        values.get(4),
+        values.get(5),
+    )
+}
+
+// What a voice unit carries.
+fn voice_body(voice: Option<VoiceUnit>) -> Option<Body>
+    ensures { result ≡ option_map Body.Voice voice }
+{
+    Some(Body::Voice(voice?))
+}
+
+// What a unit of a packet carries.
+fn packet_body(packet: Option<Packet>) -> Option<Body>
+    ensures { result ≡ option_map Body.Packet packet }
+{
+    Some(Body::Packet(packet?))
 }

@@ -3,8 +3,9 @@
 ghost use Rattle.std.specs.Prelude.{◌≡◌, ℕ, ◌+◌, ◌<◌, ◌≤◌, List, [], ◌∷◌, ◌++◌, length, drop, slice_get, All, IfSome};
 ghost use Rattle.std.specs.Option.{option_and_then, option_map};
 ghost use Rattle.p25_line.specs.Words.{LiesIn, marked, word_at};
-ghost use Rattle.p25_text.specs.Grammar.{behind, nac_in, values_behind};
+ghost use Rattle.p25_text.specs.Grammar.{behind, values_behind};
 ghost use Rattle.p25_text.specs.Names.{key_text};
+ghost use Rattle.p25_text.specs.Values.{nac_in, octets_in};
 
 use super::names::UnitKey;
 use arrayvec::ArrayVec;
@@ -93,4 +94,17 @@ pub fn nac_value(word: &[u8]) -> Option<u16>
         return None;
     }
     Some(u16::from_be_bytes(octets))
+}
+
+/// Answers the octets that a word is, two digits each. `None` comes exactly where it is not the text of `N` octets.
+pub fn octets_value<const N: usize>(word: &[u8]) -> Option<[u8; N]>
+    ensures value { result ≡ octets_in N word.now }
+    ensures len { IfSome result (λ octets. length octets ≡ N) }
+{
+    let mut octets = [0; N];
+    if hex_value(word, &mut octets) {
+        Some(octets)
+    } else {
+        None
+    }
 }

@@ -1,12 +1,20 @@
 //! The lines of units.
 
-ghost use Rattle.std.specs.Prelude.{◌≡◌, ◌+◌, ◌<◌, ◌≤◌, ◌++◌, length};
-ghost use Rattle.p25_text.specs.Grammar.{text_of, three_digits};
+ghost use Rattle.std.specs.Prelude.{◌≡◌, ◌+◌, ◌*◌, ◌<◌, ◌≤◌, ◌∷◌, ◌++◌, length};
+ghost use Rattle.hex.specs.Hex.{encode_lower};
+ghost use Rattle.p25_text.specs.Grammar.{text_of};
+ghost use Rattle.p25_text.specs.Names.{key_text, kind_word};
+ghost use Rattle.p25_text.specs.Values.{field_text, three_digits};
+ghost use Rattle.p25_text.specs.declared.names.UnitKey.TheVariants.{Nac};
 
+use super::names::{UnitKey, UnitKind};
+use super::packet_texts::put_packet;
+use super::voice_texts::put_voice;
 use p25_line::Line;
-use p25_units::{Body, Unit, VoiceUnit};
+use p25_units::{Body, Unit};
 
-/// Sets `out` to the line of a unit, without the end of the line.
+/// Sets `out` to the line of a unit, without the end of the line. A slot of a packet that is Bad has no text, so that the
+/// line of a packet that is not whole is not read.
 pub fn unit_text(unit: &Unit, out: &mut Line)
     ensures { out.new ≡ text_of unit.now }
 {
@@ -22,21 +30,39 @@ pub fn put_unit(unit: &Unit, out: &mut Line)
 {
     match unit.body() {
         Body::Voice(voice) => put_voice(unit.nac(), voice, out),
+        Body::Packet(packet) => put_packet(unit.nac(), packet, out),
     }
 }
 
-// Appends the line of a voice unit.
-fn put_voice(nac: u16, unit: &VoiceUnit, out: &mut Line)
-    requires { length out.old + 4700 ≤ 8192 }
-    ensures text { out.new ≡ out.old ++ text_of (record { nac = nac; body = Body.Voice unit.now }) }
-    ensures short { length out.new ≤ length out.old + 4700 }
+/// Appends the word of a kind, and the first key with the network access code.
+pub fn put_start(kind: UnitKind, nac: u16, out: &mut Line)
+    requires { length out.old + 17 ≤ 8192 }
+    ensures text { out.new ≡ out.old ++ (kind_word kind ++ 32 ∷ key_text Nac ++ three_digits nac) }
+    ensures short { length out.new ≤ length out.old + 17 }
 {
-    match unit {
-        VoiceUnit::End => {
-            out.put(b"tdu nac=");
-            put_nac(nac, out);
-        }
-    }
+    out.put(kind.word());
+    put_key(UnitKey::Nac, out);
+    put_nac(nac, out);
+}
+
+/// Appends a space and a key.
+pub fn put_key(key: UnitKey, out: &mut Line)
+    requires { length out.old + 8 ≤ 8192 }
+    ensures text { out.new ≡ out.old ++ 32 ∷ key_text key }
+    ensures short { length out.new ≤ length out.old + 8 }
+{
+    out.put(b" ");
+    out.put(key.text());
+}
+
+/// Appends a space, a key and its value: octets with two digits each.
+pub fn put_field(key: UnitKey, octets: &[u8], out: &mut Line)
+    requires { length out.old + 8 + 2 * length octets.now ≤ 8192 }
+    ensures text { out.new ≡ out.old ++ field_text key octets.now }
+    ensures short { length out.new ≤ length out.old + 8 + 2 * length octets.now }
+{
+    put_key(key, out);
+    out.put_hex(octets);
 }
 
 /// Appends the last three hexadecimal digits of a number.

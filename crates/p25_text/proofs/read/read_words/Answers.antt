@@ -3,6 +3,7 @@ use Rattle.p25_line.specs.Words.{marked}
 use Rattle.p25_text.specs.Grammar.{or_value, read_values, values_behind}
 use Rattle.p25_text.specs.Names.{keys_of}
 use Rattle.p25_text.proofs.ReadSteps.{right_count, some_place, wrong_count, wrong_kind}
+use Rattle.p25_text.proofs.WordLaws.{keyed-values_behind}
 use Rattle.p25_text.proofs.read.read_words.Goals as goal
 
 pub word-requires-clause-held : goal.word-requires-clause-held
@@ -44,3 +45,9 @@ returns-in-None c =
     let facts = right_count c.args.line.now c.args.words.now c.word.result.now kind c.requires c.word.ensures (sym c.in-Some.ensures)
     (sym c.count.ensures ∙ c.if-count-keys.false ∙ ap (λ k. length k + 1) keys) (omega (arith, c.keys-keys.ensures.few, ap length keys)) in
     sym (facts.reading ∙ ap (read_values kind) (ap (λ k. values_behind k rest) (sym keys) ∙ sym c.in-Some-values_of_words.ensures) ∙ ap or_value (sym c.in-None.ensures))
+
+pub read_values-requires : goal.read_values-requires
+read_values-requires c =
+    let rest = drop 1 (marked c.args.line.now c.args.words.now.places) in
+    let count = (keyed-values_behind c.keys-keys.result.now rest c.in-Some-values_of_words.values (sym c.in-Some-values_of_words.ensures)).1 in
+    count ∙ ap length c.keys-keys.ensures.keys

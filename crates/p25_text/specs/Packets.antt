@@ -1,0 +1,80 @@
+-- The values of packets behind the network access code, and the packets that values are read as.
+use Rattle.std.specs.Prelude.{ℕ, ◌-◌, ◌*◌, ◌==◌, ◌&&◌, nat_lt, cond, List, [], ◌∷◌, ◌++◌, length, take, drop, slice_index, Option, Some, None}
+use Rattle.std.specs.Option.{option_and_then, option_map}
+use Rattle.hex.specs.Hex.{encode_lower}
+use Rattle.p25_packet_blocks.specs.declared.block.Block.{Block}
+use Rattle.p25_packet_blocks.specs.declared.block.Slot.{Slot}
+use Rattle.p25_packet_blocks.specs.declared.block.Slot.TheVariants.{Good, Bad}
+use Rattle.p25_packet_blocks.specs.declared.head.PacketHead.{PacketHead}
+use Rattle.p25_packet_blocks.specs.declared.packet.Packet.{Packet}
+use Rattle.p25_packet_blocks.specs.declared.packet.Packet.TheVariants.{Confirmed, Plain}
+use Rattle.p25_packet_blocks.specs.Heads.{head_blocks, head_format}
+use Rattle.p25_text.specs.CommaLists.{counted, list_in, list_text}
+use Rattle.p25_text.specs.Values.{octets_in, octets_or_none, octets_text}
+use Rattle.p25_text.specs.declared.names.UnitKind.{UnitKind}
+use Rattle.p25_text.specs.declared.names.UnitKind.TheVariants.{Confirmed as ConfirmedKind, Plain as PlainKind, Response as ResponseKind}
+
+-- ---- texts
+
+-- the text of a block: its serial number as two digits, a colon, and its octets
+abbrev pub block_text : Block → List ℕ
+block_text block = encode_lower (block.serial ∷ []) ++ 58 ∷ encode_lower block.octets
+
+-- the text of a slot; a slot that is Bad has none
+abbrev pub slot_text : Slot → List ℕ
+slot_text (Good block) = block_text block
+slot_text Bad = []
+
+-- the values of a packet, in the order of the keys behind the network access code
+abbrev pub packet_values : Packet → List (List ℕ)
+packet_values (Confirmed packet) = encode_lower packet.head.0 ∷ list_text slot_text packet.slots ∷ []
+packet_values (Plain packet) = encode_lower packet.head.0 ∷ octets_text packet.octets ∷ []
+
+-- the kind of the line of a packet: that of a packet that is not confirmed is told by the format
+abbrev pub packet_kind : Packet → UnitKind
+packet_kind (Confirmed packet) = ConfirmedKind
+packet_kind (Plain packet) = cond (head_format packet.head == 0x03) ResponseKind PlainKind
+
+-- ---- readings
+
+-- the block of a serial number, which is at most 127, and sixteen octets
+abbrev pub block_from : Option (List ℕ) → Option (List ℕ) → Option Block
+block_from (Some (serial ∷ [])) (Some octets) = cond (nat_lt serial 128) (Some (record { serial = serial; octets = octets })) None
+block_from serial octets = None
+
+-- the block that a text of 35 octets is read as: two digits, a colon and 32 digits
+abbrev pub block_in : List ℕ → Option Block
+block_in text = cond ((length text == 35) && (slice_index text 2 == 58)) (block_from (octets_in 1 (take 2 text)) (octets_in 16 (drop 3 text))) None
+
+-- the slot of the block that a text is read as
+abbrev pub slot_in : List ℕ → Option Slot
+slot_in text = option_map Good (block_in text)
+
+-- the header that a word of 20 digits is read as
+abbrev pub head_in : List ℕ → Option PacketHead
+head_in word = option_map (λ octets. record { 0 = octets }) (octets_in 10 word)
+
+-- a confirmed packet of its header and its slots
+abbrev pub confirmed_of : PacketHead → List Slot → Packet
+confirmed_of head slots = Confirmed (record { head = head; slots = slots })
+
+-- the confirmed packet of a header of format 16 hex, where a word is read as so many slots as there are blocks to follow
+abbrev pub confirmed_from : List ℕ → PacketHead → Option Packet
+confirmed_from word head = cond (head_format head == 0x16) (option_map (confirmed_of head) (counted (head_blocks head) (list_in slot_in word))) None
+
+-- the confirmed packet of two values
+abbrev pub confirmed_in : List ℕ → List ℕ → Option Packet
+confirmed_in head blocks = option_and_then (confirmed_from blocks) (head_in head)
+
+-- another packet of its header and its octets before the packet CRC
+abbrev pub plain_of : PacketHead → List ℕ → Packet
+plain_of head octets = Plain (record { head = head; octets = octets })
+
+-- the packet of a header of a format, where a word is read as twelve octets for each block to follow less four, or as none
+-- where there is no block to follow
+abbrev pub plain_from : ℕ → List ℕ → PacketHead → Option Packet
+plain_from format word head = cond (head_format head == format) (option_map (plain_of head) (octets_or_none (12 * head_blocks head - 4) word)) None
+
+-- the packet of a format of two values
+abbrev pub plain_in : ℕ → List ℕ → List ℕ → Option Packet
+plain_in format head octets = option_and_then (plain_from format octets) (head_in head)

@@ -1,0 +1,114 @@
+//! The lines of packets.
+
+ghost use Rattle.std.specs.Prelude.{◌≡◌, ◌+◌, ◌≤◌, ◌++◌, length};
+ghost use Rattle.p25_text.specs.CommaLists.{list_text};
+ghost use Rattle.p25_text.specs.Grammar.{text_of};
+ghost use Rattle.p25_text.specs.Packets.{block_text, packet_kind, slot_text};
+ghost use Rattle.p25_text.specs.Values.{octets_text};
+
+use super::names::{UnitKey, UnitKind};
+use super::write::{put_field, put_key, put_start};
+use p25_line::Line;
+use p25_packet_blocks::{Block, Confirmed, Octets, Packet, Plain, Slot, Slots};
+use p25_units::Body;
+
+/// Appends the line of a packet.
+pub fn put_packet(nac: u16, packet: &Packet, out: &mut Line)
+    requires { length out.old + 4700 ≤ 8192 }
+    ensures text { out.new ≡ out.old ++ text_of (record { nac = nac; body = Body.Packet packet.now }) }
+    ensures short { length out.new ≤ length out.old + 4700 }
+{
+    match packet {
+        Packet::Confirmed(packet) => put_confirmed(nac, packet, out),
+        Packet::Plain(packet) => put_plain(nac, packet, out),
+    }
+}
+
+// Appends the line of a confirmed packet.
+fn put_confirmed(nac: u16, packet: &Confirmed, out: &mut Line)
+    requires { length out.old + 4700 ≤ 8192 }
+    ensures text { out.new ≡ out.old ++ text_of (record { nac = nac; body = Body.Packet (Packet.Confirmed packet.now) }) }
+    ensures short { length out.new ≤ length out.old + 4700 }
+{
+    put_start(UnitKind::Confirmed, nac, out);
+    put_field(UnitKey::Head, &packet.head().0, out);
+    put_key(UnitKey::Blocks, out);
+    put_slots(packet.slots(), out);
+}
+
+// Appends the line of another packet.
+fn put_plain(nac: u16, packet: &Plain, out: &mut Line)
+    requires { length out.old + 4700 ≤ 8192 }
+    ensures text { out.new ≡ out.old ++ text_of (record { nac = nac; body = Body.Packet (Packet.Plain packet.now) }) }
+    ensures short { length out.new ≤ length out.old + 4700 }
+{
+    put_start(plain_kind(packet), nac, out);
+    put_field(UnitKey::Head, &packet.head().0, out);
+    put_key(UnitKey::Octets, out);
+    put_octets(packet.octets(), out);
+}
+
+// The kind of the line of a packet that is not confirmed.
+fn plain_kind(packet: &Plain) -> UnitKind
+    ensures { result ≡ packet_kind (Packet.Plain packet.now) }
+{
+    if packet.head().format() == 0x03 {
+        UnitKind::Response
+    } else {
+        UnitKind::Plain
+    }
+}
+
+// Appends octets, or `-` where there are none.
+fn put_octets(octets: &Octets, out: &mut Line)
+    requires { length out.old + 3040 ≤ 8192 }
+    ensures text { out.new ≡ out.old ++ octets_text octets.now }
+    ensures short { length out.new ≤ length out.old + 3040 }
+{
+    if octets.len() == 0 {
+        out.put(b"-");
+    } else {
+        out.put_hex(octets.octets());
+    }
+}
+
+// Appends slots with commas between them, or `-` where there are none.
+fn put_slots(slots: &Slots, out: &mut Line)
+    requires { length out.old + 4572 ≤ 8192 }
+    ensures text { out.new ≡ out.old ++ list_text slot_text slots.now }
+    ensures short { length out.new ≤ length out.old + 4572 }
+{
+    if slots.len() == 0 {
+        out.put(b"-");
+        return;
+    }
+    for i in 0..slots.len() {
+        if i > 0 {
+            out.put(b",");
+        }
+        put_slot(slots.get(i), out);
+    }
+}
+
+// Appends the text of a slot. One that is Bad has none.
+fn put_slot(slot: Slot, out: &mut Line)
+    requires { length out.old + 35 ≤ 8192 }
+    ensures text { out.new ≡ out.old ++ slot_text slot }
+    ensures short { length out.new ≤ length out.old + 35 }
+{
+    match slot {
+        Slot::Good(block) => put_block(&block, out),
+        Slot::Bad => {}
+    }
+}
+
+// Appends the text of a block: its serial number, a colon and its octets.
+fn put_block(block: &Block, out: &mut Line)
+    requires { length out.old + 35 ≤ 8192 }
+    ensures text { out.new ≡ out.old ++ block_text block.now }
+    ensures short { length out.new ≤ length out.old + 35 }
+{
+    out.put_hex(&[block.serial()]);
+    out.put(b":");
+    out.put_hex(block.octets());
+}

@@ -1,0 +1,129 @@
+//! The values of packets: their headers, blocks and octets, read from words.
+
+ghost use Rattle.std.specs.Prelude.{◌≡◌, ◌<◌, ◌≤◌, length, IfSome};
+ghost use Rattle.p25_packet_blocks.specs.Kinds.{IsPlainFormat};
+ghost use Rattle.p25_text.specs.CommaLists.{counted, list_in};
+ghost use Rattle.p25_text.specs.Packets.{block_from, block_in, confirmed_in, head_in, plain_in, slot_in};
+ghost use Rattle.p25_text.specs.Values.{octets_in, octets_or_none};
+
+use super::comma_lists::{comma_part, is_dash};
+use super::values::octets_value;
+use p25_line::hex_value;
+use p25_packet_blocks::{Block, Confirmed, Octets, Packet, PacketHead, Plain, Slot, Slots};
+
+/// Answers the confirmed packet of a header and of its blocks. `None` comes exactly where a value is not of its form, the
+/// format is not 16 hex, or there are not as many blocks as the header has to follow.
+pub fn confirmed_value(head: &[u8], blocks: &[u8]) -> Option<Packet>
+    ensures { result ≡ confirmed_in head.now blocks.now }
+{
+    let head = head_value(head)?;
+    if head.format() != 0x16 {
+        return None;
+    }
+    let slots = slots_value(blocks, usize::from(head.blocks()))?;
+    Some(Packet::Confirmed(Confirmed::new(head, slots)))
+}
+
+/// Answers the packet of a header of a format, 15 or 03 hex, and of its octets before the packet CRC. `None` comes exactly
+/// where a value is not of its form, the format is another, or there are not twelve octets for each block to follow less
+/// four, or none where there is no block to follow.
+pub fn plain_value(format: u8, head: &[u8], octets: &[u8]) -> Option<Packet>
+    requires { IsPlainFormat format }
+    ensures { result ≡ plain_in format head.now octets.now }
+{
+    let head = head_value(head)?;
+    if head.format() != format {
+        return None;
+    }
+    let count = (12 * usize::from(head.blocks())).saturating_sub(4);
+    let octets = octets_or_none_value(octets, count)?;
+    Some(Packet::Plain(Plain::new(head, octets)))
+}
+
+// The header that a word is read as.
+fn head_value(word: &[u8]) -> Option<PacketHead>
+    ensures { result ≡ head_in word.now }
+{
+    let octets = octets_value::<10>(word)?;
+    Some(PacketHead(octets))
+}
+
+// The octets that a word is read as, `-` where there are none.
+fn octets_or_none_value(word: &[u8], count: usize) -> Option<Octets>
+    requires { count ≤ 1520 }
+    ensures value { result ≡ octets_or_none count word.now }
+    ensures len { IfSome result (λ octets. length octets ≡ count) }
+{
+    if count > 0 {
+        let mut room = [0; 1520];
+        return some_octets_value(word, count, &mut room[..count]);
+    }
+    if !is_dash(word) {
+        return None;
+    }
+    Some(Octets::new())
+}
+
+// The octets that a word is read as, with room for so many.
+fn some_octets_value(word: &[u8], count: usize, room: &mut [u8]) -> Option<Octets>
+    requires most { count ≤ 1520 }
+    requires room { length room.old ≡ count }
+    ensures value { result ≡ octets_in count word.now }
+    ensures len { IfSome result (λ octets. length octets ≡ count) }
+{
+    if !hex_value(word, room) {
+        return None;
+    }
+    let mut octets = Octets::new();
+    octets.extend(room);
+    Some(octets)
+}
+
+// The slots that a word is read as, where there are so many.
+fn slots_value(word: &[u8], count: usize) -> Option<Slots>
+    requires { count ≤ 127 }
+    ensures value { result ≡ counted count (list_in slot_in word.now) }
+    ensures len { IfSome result (λ slots. length slots ≡ count) }
+{
+    let mut slots = Slots::new();
+    if is_dash(word) {
+        return if count == 0 { Some(slots) } else { None };
+    }
+    let mut start = 0;
+    for _part in 0..count {
+        if start > word.len() {
+            return None;
+        }
+        let part = comma_part(word, start);
+        slots.push(Slot::Good(block_value(part)?));
+        start += part.len() + 1;
+    }
+    // Behind the last part stands the end, and no comma.
+    if start <= word.len() {
+        return None;
+    }
+    Some(slots)
+}
+
+// The block that a text is read as.
+fn block_value(text: &[u8]) -> Option<Block>
+    ensures { result ≡ block_in text.now }
+{
+    if text.len() != 35 || text[2] != b':' {
+        return None;
+    }
+    block_of(&text[..2], &text[3..])
+}
+
+// The block of a serial number and sixteen octets.
+fn block_of(serial: &[u8], octets: &[u8]) -> Option<Block>
+    ensures { result ≡ block_from (octets_in 1 serial.now) (octets_in 16 octets.now) }
+{
+    let serial = octets_value::<1>(serial)?[0];
+    let octets = octets_value::<16>(octets)?;
+    if serial < 128 {
+        Some(Block::new(serial, octets))
+    } else {
+        None
+    }
+}
