@@ -3,6 +3,7 @@
 ghost use Rattle.std.specs.Prelude.{◌≡◌};
 ghost use Rattle.p25_tool.specs.Buildings.{first_line, lines_ready, IsLineTaken};
 ghost use Rattle.p25_tool.specs.Outputs.{image_octets};
+ghost use Rattle.p25_units.specs.Units.{IsWholeBody};
 
 use crate::reports::put_octets;
 use arrayvec::ArrayVec;
@@ -130,8 +131,9 @@ impl Worker for Build {
     }
 }
 
-// Sets `out` to the octets of a unit's image with one status symbol everywhere.
+// Sets `out` to the octets of a unit's image with one status symbol everywhere. No slot of a packet is Bad.
 fn put_image(unit: Unit, status: Status, out: &mut Line)
+    requires { IsWholeBody unit.body }
     ensures { out.new ≡ image_octets status unit }
 {
     let statuses = Statuses::filled(status, frame_length(&unit) / 72);

@@ -1,6 +1,6 @@
 //! Units read from their sent bits.
 
-ghost use Rattle.std.specs.Prelude.{◌≡◌, ◌+◌, ◌≤◌, Some, Ok, length, drop, IfOk};
+ghost use Rattle.std.specs.Prelude.{◌≡◌, ◌+◌, ◌<◌, ◌≤◌, Some, Ok, length, drop, IfErr, IfOk};
 ghost use Rattle.p25_bits.specs.Bits.{part};
 ghost use Rattle.p25_status.specs.Woven.{plain_of, statuses_of};
 ghost use Rattle.p25_units.specs.Begins.{IsBegun};
@@ -27,7 +27,8 @@ use p25_voice_units::read_voice;
 pub fn read_unit(bits: &BitBuf, at: usize, count: usize) -> Result<Frame, FieldList>
     requires there { at ≤ length bits.now }
     requires needed { need_of (drop at bits.now) ≡ Length count }
-    ensures { result ≡ unit_reading_of (part at count bits.now) }
+    ensures reading { result ≡ unit_reading_of (part at count bits.now) }
+    ensures some { IfErr result (λ fields. 0 < length fields) }
 {
     match read_identifier(bits, at) {
         None => Err(one_field(Field::Nid)),
