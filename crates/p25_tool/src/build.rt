@@ -131,7 +131,7 @@ impl Worker for Build {
     }
 }
 
-// Sets `out` to the octets of a unit's image with one status symbol everywhere.
+// Sets `out` to the octets of a unit's image with one status symbol everywhere. No slot of a packet is Bad.
 fn put_image(unit: Unit, status: Status, out: &mut Line)
     requires { IsSendableBody unit.body }
     ensures { out.new ≡ image_octets status unit }

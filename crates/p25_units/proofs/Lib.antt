@@ -2,6 +2,7 @@ pub mod UnitsLaws
 pub mod NeedsLaws
 pub mod KindsLaws
 pub mod ReadingsLaws
+pub mod FailuresLaws
 pub mod FixesLaws
 pub mod ItemsLaws
 pub mod WithinRadiusLaws

@@ -140,6 +140,12 @@ unfolding IsSendable IsWholePacket
 IsWholePacket-sendable (Confirmed packet) sendable = record { at = λ j inside bad. let good = sendable.good.at j (omega (arith, inside, sendable.kind.count)) in let two : Good good.0 ≡ Bad = sym good.1 ∙ bad in cc }
 IsWholePacket-sendable (Plain packet) sendable = tt
 
+-- what can be sent is whole
+pub IsWholeBody-sendable : (body : Body) → IsSendableBody body → IsWholeBody body
+unfolding IsWholeBody IsSendableBody
+IsWholeBody-sendable (Voice voice) sendable = tt
+IsWholeBody-sendable (Packet packet) sendable = IsWholePacket-sendable packet sendable
+
 -- What was read.
 
 -- the bits of a voice unit are laid out as its kind is

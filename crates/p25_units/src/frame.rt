@@ -16,8 +16,8 @@ pub struct Frame {
     pub statuses: Statuses,
 }
 
-/// Answers how many bits a unit has as it is sent, with its status symbols: 144 for a terminator, and 360 to 25,920
-/// for a packet.
+/// Answers how many bits a unit has as it is sent, with its status symbols: 144 to 1,728 for a voice unit, and 360
+/// to 25,920 for a packet.
 pub fn frame_length(unit: &Unit) -> usize
     ensures value { result ≡ frame_length_of unit.now }
     ensures most { result ≤ 25920 }

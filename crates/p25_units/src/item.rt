@@ -25,8 +25,8 @@ pub enum Item {
         frame: Frame,
         fixes: u32,
     },
-    /// A unit of `length` bits, its identifier, and exactly the fields that fail, in order: a packet's format or its packet
-    /// CRC alone, or each of its blocks whose CRC-9 does not agree.
+    /// A unit of `length` bits, its identifier, and exactly the fields that fail, in order: those of a voice unit, or of a
+    /// packet its format or its packet CRC alone, or each of its blocks whose CRC-9 does not agree.
     Broken {
         place: u64,
         length: u32,

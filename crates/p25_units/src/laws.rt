@@ -1,6 +1,7 @@
 //! The laws of units. The bodies are empty: each function states what is proved.
 
-ghost use Rattle.std.specs.Prelude.{◌≡◌, ℕ, Bool, List, ◌++◌, Ok, length};
+ghost use Rattle.std.specs.Prelude.{◌≡◌, ℕ, ◌<◌, Bool, List, ◌++◌, Ok, Err, length, take};
+ghost use Rattle.p25_status.specs.declared.fields.Field.{Field};
 ghost use Rattle.p25_units.specs.Fixes.{fixes_of};
 ghost use Rattle.p25_units.specs.Items.{unit_item_of};
 ghost use Rattle.p25_units.specs.NeedLaws.{BegunStays, ItemCovers, ItemHasPlace, ItemIsNoGap, ItemIsSound, KnownStays, LengthIsThere, MoreIsFew, MoreWaits, SyncIsSeen};
@@ -35,10 +36,12 @@ pub fn need_laws()
 
 /// Does nothing: its contract is what units read as.
 ///
-/// - `near`: bits within radius of a sound frame's image read as the frame, with the status symbols that were received,
-///   whatever bits follow; their item is `Whole`.
-/// - `again`: an undamaged image reads as its frame, with no fixes.
-/// - `whole_is_near`: a unit at a sync is `Whole` only where its bits lie within radius of its frame.
+/// - `length`, `near`, `item`: bits within radius of the image of a sound frame that can be sent have its length, whatever bits
+///   follow, and read as the frame, with the voice frames and the status symbols that were received; their item is `Whole`.
+/// - `undamaged`, `again`, `none`: an image is within its own radius, reads as its frame, and has no fixes.
+/// - `fails`: a unit whose length is known is read, or some field of it fails.
+/// - `whole_is_near`: a unit at a sync is `Whole` only where its bits read as its frame: those of its front and of its voice
+///   words lie within radius, and of a packet the first nearest paths carry it, with all its checks.
 pub fn unit_laws()
     ensures length { (frame : Frame) (sent more : List Bool) → IsSoundFrame frame → IsSendableUnit frame.unit → IsWithinRadius frame sent → need_of (sent ++ more) ≡ Length (length sent) }
     ensures near { (frame : Frame) (sent : List Bool) → IsSoundFrame frame → IsSendableUnit frame.unit → IsWithinRadius frame sent → unit_reading_of sent ≡ Ok (received_frame frame sent) }
@@ -46,5 +49,6 @@ pub fn unit_laws()
     ensures undamaged { (frame : Frame) → IsSoundFrame frame → IsSendableUnit frame.unit → IsWithinRadius frame (image_of frame) }
     ensures again { (frame : Frame) → IsSoundFrame frame → IsSendableUnit frame.unit → unit_reading_of (image_of frame) ≡ Ok frame }
     ensures none { (frame : Frame) → IsSoundFrame frame → IsSendableUnit frame.unit → fixes_of frame (image_of frame) ≡ 0 }
+    ensures fails { (bits : List Bool) (count : ℕ) (fields : List Field) → need_of bits ≡ Length count → unit_reading_of (take count bits) ≡ Err fields → 0 < length fields }
     ensures whole_is_near { WholeIsNear }
 {}

@@ -1,6 +1,6 @@
 //! Units read from their sent bits.
 
-ghost use Rattle.std.specs.Prelude.{◌≡◌, ◌+◌, ◌≤◌, Some, Ok, length, drop, IfOk};
+ghost use Rattle.std.specs.Prelude.{◌≡◌, ◌+◌, ◌<◌, ◌≤◌, Some, Ok, length, drop, IfErr, IfOk};
 ghost use Rattle.p25_bits.specs.Bits.{part};
 ghost use Rattle.p25_status.specs.Woven.{plain_of, statuses_of};
 ghost use Rattle.p25_units.specs.Begins.{IsBegun};
@@ -22,12 +22,13 @@ use p25_status::{Field, FieldList, Statuses, unweave};
 use p25_voice_units::read_voice;
 
 /// Answers the frame that the `count` sent bits from place `at` on read as, where `need` answers that length there. The
-/// refusal is the list of exactly the fields that fail, in order, and is never empty: of a packet its format or its packet
-/// CRC alone, or each block whose CRC-9 does not agree.
+/// refusal is the list of exactly the fields that fail, in order, and is never empty: those of a voice unit, or of a packet its
+/// format or its packet CRC alone, or each block whose CRC-9 does not agree.
 pub fn read_unit(bits: &BitBuf, at: usize, count: usize) -> Result<Frame, FieldList>
     requires there { at ≤ length bits.now }
     requires needed { need_of (drop at bits.now) ≡ Length count }
-    ensures { result ≡ unit_reading_of (part at count bits.now) }
+    ensures reading { result ≡ unit_reading_of (part at count bits.now) }
+    ensures some { IfErr result (λ fields. 0 < length fields) }
 {
     match read_identifier(bits, at) {
         None => Err(one_field(Field::Nid)),

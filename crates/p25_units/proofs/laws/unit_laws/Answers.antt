@@ -1,3 +1,4 @@
+use Rattle.p25_units.proofs.FailuresLaws.{unit_fails}
 use Rattle.p25_units.proofs.FixesLaws.{fixes_of-image_of}
 use Rattle.p25_units.proofs.WholeLaws.{whole-near}
 use Rattle.p25_units.proofs.WithinRadiusLaws.{need_of-near, unit_reading_of-near, unit_item_of-near, IsWithinRadius-image_of, unit_reading_of-image_of}
@@ -11,5 +12,6 @@ returns c = record {
   undamaged = IsWithinRadius-image_of;
   again = unit_reading_of-image_of;
   none = fixes_of-image_of;
+  fails = unit_fails;
   whole_is_near = whole-near;
 }
