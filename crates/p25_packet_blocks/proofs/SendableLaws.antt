@@ -7,7 +7,7 @@ use Rattle.p25_packet_blocks.specs.declared.packet.Packet.{Packet}
 use Rattle.p25_packet_blocks.specs.declared.packet.Packet.TheVariants.{Confirmed, Plain}
 use Rattle.p25_packet_blocks.specs.Parts.{PlainParts}
 use Rattle.p25_packet_blocks.specs.Heads.{head_blocks}
-use Rattle.p25_packet_blocks.specs.Whole.{packet_head, IsWholePacket}
+use Rattle.p25_packet_blocks.specs.Whole.{packet_head}
 use Rattle.p25_packet_blocks.specs.Image.{checked_octets}
 use Rattle.p25_packet_blocks.specs.Sendable.{AreOctets, IsHead, IsSendable, IsSendablePlain}
 use Rattle.p25_packet_blocks.proofs.ImageLaws.{length-checked_octets, AreOctets-checked_octets}
@@ -26,10 +26,3 @@ octets_of_block packet sendable j inside =
       All-take (λ n. n < 256) 12 (drop (12 * j) (checked_octets packet.octets))
           (All-drop (λ n. n < 256) (12 * j) (checked_octets packet.octets) (AreOctets-checked_octets packet.octets sendable.small)),
     )
-
--- a packet that can be sent is whole
-pub IsWholePacket-IsSendable : (packet : Packet) → IsSendable packet → IsWholePacket packet
-unfolding IsSendable IsWholePacket
-IsWholePacket-IsSendable (Confirmed packet) sendable =
-    record { at = λ j inside bad. let good = sendable.good.at j (omega (arith, inside, sendable.kind.count)) in let same = good.1 in cc }
-IsWholePacket-IsSendable (Plain packet) sendable = tt

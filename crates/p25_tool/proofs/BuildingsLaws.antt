@@ -6,12 +6,8 @@ use Rattle.p25_line.specs.declared.fault.LineFault.{LineFault}
 use Rattle.p25_line.specs.declared.fault.LineFault.TheVariants.{Long}
 use Rattle.p25_line.specs.Words.{words_or_fault}
 use Rattle.p25_status.specs.declared.symbols.Status.{Status}
-use Rattle.p25_text.specs.Grammar.{IsBody, IsUnit, read_line_of}
+use Rattle.p25_text.specs.Grammar.{read_line_of}
 use Rattle.p25_units.specs.UnitParts.{UnitParts}
-use Rattle.p25_units.specs.Units.{IsSendableBody, IsWholeBody}
-use Rattle.p25_units.specs.declared.unit.Body.{Body}
-use Rattle.p25_units.specs.declared.unit.Body.TheVariants.{Voice, Packet}
-use Rattle.p25_units.proofs.ReadingsLaws.{IsWholeBody-sendable}
 use Rattle.p25_work.specs.Futures.{IsClosed, IsIdle, NextPiece, Progress}
 use Rattle.p25_work.specs.declared.ending.Ending.{Ending}
 use Rattle.p25_work.specs.declared.ending.Ending.TheVariants.{BadLine, Done}
@@ -19,15 +15,6 @@ use Rattle.p25_tool.specs.declared.build.LinePhase.{LinePhase}
 use Rattle.p25_tool.specs.declared.build.LinePhase.TheVariants.{Reading, Ready, ReadyLast, Ended}
 use Rattle.p25_tool.specs.Buildings.{Building, building, IsLineTaken, IsLineTakenBy, building_future, ends_with, is_ended_phase, lines_left, lines_ready}
 use Rattle.p25_tool.specs.Outputs.{image_octets, images_of, lines_ending, lines_in, refusal_in}
-
--- a unit that a line tells of is whole
-whole_body : (body : Body) → IsBody body → IsWholeBody body
-unfolding IsSendableBody
-whole_body (Voice voice) is = IsWholeBody-sendable (Voice voice) is
-whole_body (Packet packet) is = IsWholeBody-sendable (Packet packet) is
-
-pub whole-line : (unit : UnitParts) → IsUnit unit → IsWholeBody unit.body
-whole-line unit is = whole_body unit.body is.body_fits
 
 -- a test that holds chooses the first, and one that does not the second
 test_true : {X : Type 0} (test : Bool) (x y : X) → test ≡ true → cond test x y ≡ x

@@ -17,10 +17,9 @@ use Rattle.p25_packet_blocks.specs.Lengths.{packet_plain_length, packet_sent_len
 use Rattle.p25_packet_blocks.specs.Whole.{packet_head}
 use Rattle.p25_packet_blocks.proofs.HeadLaws.{head_blocks-lt}
 use Rattle.p25_packet_blocks.proofs.PlacesLaws.{image_long, image_front}
-use Rattle.p25_packet_blocks.proofs.SendableLaws.{IsWholePacket-IsSendable}
 use Rattle.p25_status.specs.declared.symbols.Status.{Status}
 use Rattle.p25_units.specs.UnitParts.{UnitParts}
-use Rattle.p25_units.specs.Units.{body_duid, body_length, body_image_of, unit_image_of, sent_length, frame_length_of, image_of, frame_as, IsSoundFrame, IsSendableBody, IsSendableUnit, IsWholeBody}
+use Rattle.p25_units.specs.Units.{body_duid, body_length, body_image_of, unit_image_of, sent_length, frame_length_of, image_of, frame_as, IsSoundFrame, IsSendableBody, IsSendableUnit}
 use Rattle.p25_units.specs.declared.unit.Body.{Body}
 use Rattle.p25_units.specs.declared.unit.Body.TheVariants.{Voice, Packet}
 use Rattle.p25_units.specs.declared.frame.Frame.{Frame}
@@ -147,9 +146,3 @@ IsSoundFrame-frame_as nac statuses frame sound same = record {
   whole = sound.whole;
   symbols = ap (λ n. 72 * n) same ∙ sound.symbols;
 }
-
--- what can be sent is whole
-pub IsWholeBody-IsSendableBody : (body : Body) → IsSendableBody body → IsWholeBody body
-unfolding IsSendableBody IsWholeBody
-IsWholeBody-IsSendableBody (Voice voice) sendable = tt
-IsWholeBody-IsSendableBody (Packet packet) sendable = IsWholePacket-IsSendable packet sendable

@@ -3,7 +3,7 @@ use Rattle.std.proofs.lemmas.List.{length-replicate}
 use Rattle.p25_status.specs.declared.symbols.Status.{Status}
 use Rattle.p25_units.specs.UnitParts.{UnitParts}
 use Rattle.p25_units.specs.Units.{frame_length_of}
-use Rattle.p25_units.proofs.UnitsLaws.{IsWholeBody-IsSendableBody}
+use Rattle.p25_units.proofs.ReadingsLaws.{IsWholeBody-sendable}
 use Rattle.p25_tool.proofs.build.put_image.Goals as goal
 
 -- there is a status symbol for each 72 bits
@@ -12,4 +12,4 @@ unfolding frame_length_of
 symbols_of unit status count statuses value list = omega (arith, value, ap length list, length-replicate (count / 72) status)
 
 pub image-requires : goal.image-requires
-image-requires c = record { whole = IsWholeBody-IsSendableBody c.args.unit.body c.requires; symbols = symbols_of c.args.unit c.args.status c.frame_length.result c.filled-statuses.result c.frame_length.ensures.value c.filled-statuses.ensures.list }
+image-requires c = record { whole = IsWholeBody-sendable c.args.unit.body c.requires; symbols = symbols_of c.args.unit c.args.status c.frame_length.result c.filled-statuses.result c.frame_length.ensures.value c.filled-statuses.ensures.list }
