@@ -93,7 +93,7 @@ const HEADERS: [Row; 6] = [
     ),
 ];
 
-const LINK_UNITS: [Row; 9] = [
+const LINK_UNITS: [Row; 11] = [
     (
         "a link unit 1 with a wrong bit in each Hamming word",
         b"3",
@@ -120,11 +120,29 @@ const LINK_UNITS: [Row; 9] = [
         true,
     ),
     (
-        "a link unit 1 with seven Hamming words inverted",
+        "a link unit 1 with twelve Hamming words inverted, which are marks",
         b"0",
         ZERO_LINK_1,
         Some(b'0'),
-        &[(400, 10, 4, 10), (584, 10, 3, 10)],
+        &[(400, 10, 4, 10), (584, 10, 4, 10), (768, 10, 4, 10)],
+        b"unit at=0 bits=1728 fix=120 status=000000000000000000000000 ",
+        true,
+    ),
+    (
+        "a link unit 1 with six Hamming words that are others of their code",
+        b"0",
+        ZERO_LINK_1,
+        Some(b'0'),
+        &[(405, 10, 4, 3), (589, 10, 2, 3)],
+        b"unit at=0 bits=1728 fix=18 status=000000000000000000000000 ",
+        true,
+    ),
+    (
+        "a link unit 1 with seven",
+        b"0",
+        ZERO_LINK_1,
+        Some(b'0'),
+        &[(405, 10, 4, 3), (589, 10, 3, 3)],
         b"broken at=0 bits=1728 nac=000 duid=5 fields=link_control",
         false,
     ),
@@ -134,8 +152,8 @@ const LINK_UNITS: [Row; 9] = [
         ZERO_LINK_1,
         Some(b'0'),
         &[
-            (400, 10, 4, 10),
-            (584, 10, 3, 10),
+            (405, 10, 4, 3),
+            (589, 10, 3, 3),
             (1516, 16, 2, 1),
             (1518, 16, 2, 2),
         ],
@@ -170,13 +188,13 @@ const LINK_UNITS: [Row; 9] = [
         false,
     ),
     (
-        "a link unit 2 with five Hamming words inverted, and the second low speed word",
+        "a link unit 2 with five Hamming words that are others of their code, and the second low speed word beyond",
         b"0",
         ZERO_LINK_2,
         Some(b'0'),
         &[
-            (400, 10, 4, 10),
-            (584, 0, 1, 10),
+            (405, 10, 4, 3),
+            (589, 0, 1, 3),
             (1532, 0, 1, 1),
             (1534, 0, 1, 2),
         ],
