@@ -18,7 +18,8 @@ KnownStays = (bits more : List Bool) → has_sync bits ≡ true → is_known (ne
 
 -- a number of bits that is waited for stays the same until it is reached
 abbrev pub MoreWaits : Type 0
-MoreWaits = (bits more : List Bool) (count : ℕ) → has_sync bits ≡ true → need_of bits ≡ More count → length (bits ++ more) < count → need_of (bits ++ more) ≡ More count
+MoreWaits = (bits more : List Bool) (count : ℕ) → has_sync bits ≡ true → need_of bits ≡ More count → length (bits ++ more) < count
+    → need_of (bits ++ more) ≡ More count
 
 -- more bits are asked for only where fewer are there, and never more than the longest unit has
 abbrev pub MoreIsFew : Type 0

@@ -16,6 +16,8 @@ ghost use Rattle.p25_units.specs.WithinRadius.{IsWithinRadius};
 pub fn terminator_laws()
     ensures sound { (nac : ℕ) (statuses : List Status) → IsSoundFrame (terminator nac statuses) ↔ (length statuses ≡ 2) }
     ensures sent { (nac : ℕ) (statuses : List Status) → image_of (terminator nac statuses) ≡ terminator_bits nac statuses }
-    ensures near { (nac : ℕ) (statuses : List Status) (bits : List Bool) → length statuses ≡ 2 → nac < 4096 → 144 ≤ length bits → HasTerminator nac bits ↔ IsWithinRadius (terminator nac statuses) (take 144 bits) }
-    ensures fixes { (nac : ℕ) (statuses : List Status) (bits : List Bool) → 144 ≤ length bits → fixes_of (terminator nac statuses) (take 144 bits) ≡ sync_errors bits + identifier_errors nac bits }
+    ensures near { (nac : ℕ) (statuses : List Status) (bits : List Bool) → length statuses ≡ 2 → nac < 4096 → 144 ≤ length bits
+        → HasTerminator nac bits ↔ IsWithinRadius (terminator nac statuses) (take 144 bits) }
+    ensures fixes { (nac : ℕ) (statuses : List Status) (bits : List Bool) → 144 ≤ length bits
+        → fixes_of (terminator nac statuses) (take 144 bits) ≡ sync_errors bits + identifier_errors nac bits }
 {}
