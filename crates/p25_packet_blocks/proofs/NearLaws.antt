@@ -20,7 +20,8 @@ pub three_quarter_near : ThreeQuarterNear
 three_quarter_near octets received count small long near =
     let reading
     = IsNearReading-from 8 3 3 three_quarter_point received (nearest_octets 8 3 three_quarter_point received) (nearest_distance 8 three_quarter_point received)
-    (same_from_sent_bits 8 3 three_quarter_point three_quarter_parted (omega arith) three_quarter_together (parted-from_test 8 three_quarter_point three_quarter_parted three_quarter_stays_parted) (parts-from_test 8 3 three_quarter_point three_quarter_parted three_quarter_parts))
+    (same_from_sent_bits 8 3 three_quarter_point three_quarter_parted (omega arith) three_quarter_together (parted-from_test 8 three_quarter_point three_quarter_parted three_quarter_stays_parted)
+    (parts-from_test 8 3 three_quarter_point three_quarter_parted three_quarter_parts))
     long
     (nearest_reading 8 3 three_quarter_point received (omega arith)) in
     reading.near_octets octets (three_quarter_block octets) (IsBlock-block_from 8 3 three_quarter_point octets refl count small) (omega (arith, near))

@@ -96,7 +96,8 @@ body_fails duid sent fields unit e = elim unit.kind [
       packet_fails (packet_reading_of (plain_of sent)) fields (sym (body_reading_of-packet (plain_of sent)) ∙ ap (λ d. body_reading_of d (plain_of sent)) (sym packet.packet) ∙ e)
 ]
 
-frame_fails : (nid : ℕ × ℕ) (sent : List Bool) (reading : Result Body (List Field)) (fields : List Field) → IsUnitOf nid.1 sent → body_reading_of nid.1 (plain_of sent) ≡ reading → frame_from nid.0 (statuses_of sent) reading ≡ Err fields → 0 < length fields
+frame_fails : (nid : ℕ × ℕ) (sent : List Bool) (reading : Result Body (List Field)) (fields : List Field) → IsUnitOf nid.1 sent → body_reading_of nid.1 (plain_of sent) ≡ reading
+    → frame_from nid.0 (statuses_of sent) reading ≡ Err fields → 0 < length fields
 frame_fails nid sent (Ok body) fields unit read e = absurd (cc)
 frame_fails nid sent (Err other) fields unit read e = let same : other ≡ fields = cc in body_fails nid.1 sent fields unit (read ∙ ap Err same)
 

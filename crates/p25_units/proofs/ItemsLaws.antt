@@ -28,7 +28,8 @@ pub record IsItemOf (place : ℕ) (sent : List Bool) (item : Item) : Type 0 wher
   pub covers : covered item ≡ length sent
   pub sound : IsSoundItem item
 
-IsItemOf-from : (place : ℕ) (nid : ℕ × ℕ) (sent : List Bool) (reading : Result Frame (List Field)) → ((frame : Frame) → reading ≡ Ok frame → IsFrameOf nid sent frame) → nid.0 < 4096 → nid.1 < 16 → IsItemOf place sent (item_from place nid sent reading)
+IsItemOf-from : (place : ℕ) (nid : ℕ × ℕ) (sent : List Bool) (reading : Result Frame (List Field)) → ((frame : Frame) → reading ≡ Ok frame → IsFrameOf nid sent frame) → nid.0 < 4096 → nid.1 < 16
+    → IsItemOf place sent (item_from place nid sent reading)
 IsItemOf-from place nid sent (Ok frame) frames nac duid = let is = frames frame refl in record { covers = is.long; sound = is.sound }
 IsItemOf-from place nid sent (Err fields) frames nac duid = record { covers = refl; sound = record { nac_fits = nac; duid_fits = duid } }
 

@@ -246,7 +246,8 @@ pub need_of-synced : (bits : List Bool) → has_sync bits ≡ true → need_of b
 need_of-synced bits yes' = need_of-long bits (has_sync-length bits yes') ∙ cond-true (has_sync bits) (synced_need bits) NoSync yes'
 
 -- what is needed, by cases
-need_of-cases : (P : Need → Type 0) (bits : List Bool) → (length bits < 48 → P (More 48)) → P NoSync → (length bits < 114 → P (More 114)) → (has_sync bits ≡ true → 114 ≤ length bits → P (identified_need (identifier_of bits) bits)) → P (need_of bits)
+need_of-cases : (P : Need → Type 0) (bits : List Bool) → (length bits < 48 → P (More 48)) → P NoSync → (length bits < 114 → P (More 114))
+    → (has_sync bits ≡ true → 114 ≤ length bits → P (identified_need (identifier_of bits) bits)) → P (need_of bits)
 need_of-cases P bits short unsynced cut read =
     elim (cases_lt (length bits) 48) [
       | inl few ↦ subst P (sym (need_of-short bits few)) (short few)

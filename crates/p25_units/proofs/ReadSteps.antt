@@ -89,18 +89,21 @@ pub item_of_unit : (bits : List Bool) (at count place : ℕ) (is : IsUnitAt bits
 item_of_unit bits at count place is = unit_item_of-some place (part at count bits) is.nid (reading_from (Some is.nid) (part at count bits)) is.sent refl
 
 -- the reading by what the unit carries
-pub reading-is : (nid : ℕ × ℕ) (sent : List Bool) (statuses : List Status) (reading : Result Body (List Field)) → statuses ≡ statuses_of sent → reading ≡ body_reading_of nid.1 (plain_of sent) → frame_from nid.0 statuses reading ≡ reading_from (Some nid) sent
+pub reading-is : (nid : ℕ × ℕ) (sent : List Bool) (statuses : List Status) (reading : Result Body (List Field)) → statuses ≡ statuses_of sent → reading ≡ body_reading_of nid.1 (plain_of sent)
+    → frame_from nid.0 statuses reading ≡ reading_from (Some nid) sent
 reading-is nid sent statuses reading statuses_is read = ap₂ (λ (s : List Status) (r : Result Body (List Field)). frame_from nid.0 s r) statuses_is read ∙ sym (reading_from-some nid sent)
 
 -- a frame that was read is sound and as long as its bits
-pub frame-is : (nac duid : ℕ) (bits : List Bool) (at count : ℕ) (frame : Frame) → at ≤ length bits → kind_need duid (drop at bits) ≡ Length count → reading_from (Some (nac, duid)) (part at count bits) ≡ Ok frame → IsSoundFrame frame × (frame_length_of frame.unit ≡ count)
+pub frame-is : (nac duid : ℕ) (bits : List Bool) (at count : ℕ) (frame : Frame) → at ≤ length bits → kind_need duid (drop at bits) ≡ Length count
+    → reading_from (Some (nac, duid)) (part at count bits) ≡ Ok frame → IsSoundFrame frame × (frame_length_of frame.unit ≡ count)
 frame-is nac duid bits at count frame inside kind read =
     let is = IsFrameOf-reading (nac, duid) (part at count bits) frame (IsUnitOf-need count (drop at bits) duid kind) read in
     let counted = IsCountAt-kind duid bits at count inside kind in
     (is.sound, is.long ∙ length-take-le count (drop at bits) (omega (arith, counted.there, length-drop at bits)))
 
 -- the length of a voice unit without status symbols
-pub voice_long : (duid : ℕ) (bits : List Bool) (at count : ℕ) (plain : List Bool) → duid ≢ 0xC → kind_need duid (drop at bits) ≡ Length count → 72 * (count / 72) ≡ count → length plain ≡ 70 * (count / 72) → at + count ≤ length bits → voice_length_of duid ≡ Some (length plain)
+pub voice_long : (duid : ℕ) (bits : List Bool) (at count : ℕ) (plain : List Bool) → duid ≢ 0xC → kind_need duid (drop at bits) ≡ Length count → 72 * (count / 72) ≡ count
+    → length plain ≡ 70 * (count / 72) → at + count ≤ length bits → voice_length_of duid ≡ Some (length plain)
 voice_long duid bits at count plain other kind whole long there =
     elim (IsUnitOf-need count (drop at bits) duid kind).kind [
       | inl voice ↦
@@ -152,7 +155,8 @@ pub need-none : (bits : List Bool) (at : ℕ) → at ≤ length bits → 114 ≤
 need-none bits at inside long read =
     sym (synced_need-read (drop at bits) None (omega (arith, length-drop at bits)) (sym read) ∙ identified_need-none (drop at bits))
 
-pub need-some : (bits : List Bool) (at : ℕ) (nid : Identifier) → at ≤ length bits → 114 ≤ length bits - at → option_map (λ (n : Identifier). (n.nac, n.duid)) (Some nid) ≡ identifier_of (drop at bits) → kind_need nid.duid (drop at bits) ≡ synced_need (drop at bits)
+pub need-some : (bits : List Bool) (at : ℕ) (nid : Identifier) → at ≤ length bits → 114 ≤ length bits - at
+    → option_map (λ (n : Identifier). (n.nac, n.duid)) (Some nid) ≡ identifier_of (drop at bits) → kind_need nid.duid (drop at bits) ≡ synced_need (drop at bits)
 need-some bits at nid inside long read =
     sym (synced_need-read (drop at bits) (Some (nid.nac, nid.duid)) (omega (arith, length-drop at bits)) (sym read) ∙ identified_need-some (nid.nac, nid.duid) (drop at bits))
 

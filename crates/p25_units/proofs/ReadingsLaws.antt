@@ -254,7 +254,8 @@ IsFrameOf-body nid sent body unit read =
       read = is.read nid.0;
     }
 
-frame_from-frame : (nid : ℕ × ℕ) (sent : List Bool) (reading : Result Body (List Field)) (frame : Frame) → IsUnitOf nid.1 sent → body_reading_of nid.1 (plain_of sent) ≡ reading → frame_from nid.0 (statuses_of sent) reading ≡ Ok frame → IsFrameOf nid sent frame
+frame_from-frame : (nid : ℕ × ℕ) (sent : List Bool) (reading : Result Body (List Field)) (frame : Frame) → IsUnitOf nid.1 sent → body_reading_of nid.1 (plain_of sent) ≡ reading
+    → frame_from nid.0 (statuses_of sent) reading ≡ Ok frame → IsFrameOf nid sent frame
 unfolding frame_of
 frame_from-frame nid sent (Ok body) frame unit read e =
     let same : frame_of nid.0 (statuses_of sent) body ≡ frame = cc in
@@ -280,7 +281,8 @@ packet_body_from-whole : (packet : packet_type) → IsWholePacket packet → pac
 packet_body_from-whole packet whole = packet_body_from-read packet ∙ ap (whole_from packet) (failing_blocks_of-none packet whole)
 
 -- a body is read from bits that are within radius of its own, with the voice frames as received
-pub body_reading_of-near : (nac : ℕ) (body : Body) (plain : List Bool) → IsSendableBody body → length plain ≡ length (body_image_of nac body) → IsBodyWithin body (body_image_of nac body) plain → body_reading_of (body_duid body) plain ≡ Ok (received_body body plain)
+pub body_reading_of-near : (nac : ℕ) (body : Body) (plain : List Bool) → IsSendableBody body → length plain ≡ length (body_image_of nac body) → IsBodyWithin body (body_image_of nac body) plain
+    → body_reading_of (body_duid body) plain ≡ Ok (received_body body plain)
 unfolding IsSendableBody IsBodyWithin
 body_reading_of-near nac (Voice voice) plain sendable long within =
     body_reading_of-voice (voice_duid voice) plain (voice-other (voice_duid voice) (body_length (Voice voice)) (body_length-known voice))

@@ -115,7 +115,8 @@ unit_reading_of-near frame sent sound sendable near =
     unit_reading_of-read sent (Some (frame.unit.nac, body_duid frame.unit.body)) (identifier_of-within frame sound sendable sent near)
     ∙ reading_from-near frame sent sound sendable near
 
-pub unit_item_of-near : (place : ℕ) (frame : Frame) (sent : List Bool) → IsSoundFrame frame → IsSendableUnit frame.unit → IsWithinRadius frame sent → unit_item_of place sent ≡ Whole place (received_frame frame sent) (fixes_of (received_frame frame sent) sent)
+pub unit_item_of-near : (place : ℕ) (frame : Frame) (sent : List Bool) → IsSoundFrame frame → IsSendableUnit frame.unit → IsWithinRadius frame sent
+    → unit_item_of place sent ≡ Whole place (received_frame frame sent) (fixes_of (received_frame frame sent) sent)
 unit_item_of-near place frame sent sound sendable near =
     unit_item_of-some place sent (frame.unit.nac, body_duid frame.unit.body) (Ok (received_frame frame sent)) (identifier_of-within frame sound sendable sent near) (reading_from-near frame sent sound sendable near)
 

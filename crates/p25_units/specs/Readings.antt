@@ -54,7 +54,10 @@ body_reading_of duid plain = cond (nat_eq duid 0xC) (packet_body_from (packet_re
 
 -- a frame, where what it carries was read
 abbrev pub frame_from : ℕ → List Status → Result Body (List Field) → Result Frame (List Field)
-frame_from nac statuses (Ok body) = let unit : UnitParts = record { nac = nac; body = body } in let frame : Frame = record { unit = unit; statuses = statuses } in Ok frame
+frame_from nac statuses (Ok body) =
+    let unit : UnitParts = record { nac = nac; body = body } in
+    let frame : Frame = record { unit = unit; statuses = statuses } in
+    Ok frame
 frame_from nac statuses (Err fields) = Err fields
 
 -- the frame of sent bits by their identifier

@@ -57,7 +57,8 @@ fn voice_unit_fixes(bits: &BitBuf, at: usize, nac: u16, voice: &VoiceUnit) -> u3
     requires there { at + sent_length (body_length (voice_in voice.now)) ≤ length bits.now }
     requires nac { nac ≤ 4095 }
     ensures sendable { IsSendableVoice voice.now }
-    ensures value { result ≡ body_fixes_of (record { nac = nac; body = voice_in voice.now }) (plain_of (part at (sent_length (body_length (voice_in voice.now))) bits.now)) }
+    ensures value { result ≡ body_fixes_of (record { nac = nac; body = voice_in voice.now })
+        (plain_of (part at (sent_length (body_length (voice_in voice.now))) bits.now)) }
     ensures most { result ≤ 25200 }
 {
     let mut plain = BitBuf::new();
@@ -79,7 +80,8 @@ fn packet_fixes(bits: &BitBuf, at: usize, nac: u16, packet: &Packet) -> u32
     requires nac { nac ≤ 4095 }
     requires whole { IsWholePacket packet.now }
     ensures sendable { IsSendable packet.now }
-    ensures value { result ≡ body_fixes_of (record { nac = nac; body = packet_in packet.now }) (plain_of (part at (packet_sent_length (head_blocks (packet_head packet.now))) bits.now)) }
+    ensures value { result ≡ body_fixes_of (record { nac = nac; body = packet_in packet.now })
+        (plain_of (part at (packet_sent_length (head_blocks (packet_head packet.now))) bits.now)) }
     ensures most { result ≤ 25200 }
 {
     let head = packet.head();

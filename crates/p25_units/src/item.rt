@@ -111,7 +111,8 @@ fn identified_item(
     requires there { at ≤ length bits.now }
     requires kind { kind_need nid.now.duid (drop at bits.now) ≡ Length count }
     requires begun { IsBegun begun.old (drop at bits.now) }
-    ensures { result ≡ item_from place (nid.now.nac, nid.now.duid) (part at count bits.now) (reading_from (Some (nid.now.nac, nid.now.duid)) (part at count bits.now)) }
+    ensures { result ≡ item_from place (nid.now.nac, nid.now.duid) (part at count bits.now)
+        (reading_from (Some (nid.now.nac, nid.now.duid)) (part at count bits.now)) }
 {
     match read_identified(bits, at, count, nid, begun) {
         Ok(frame) => {

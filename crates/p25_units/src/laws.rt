@@ -43,12 +43,16 @@ pub fn need_laws()
 /// - `whole_is_near`: a unit at a sync is `Whole` only where its bits read as its frame: those of its front and of its voice
 ///   words lie within radius, and of a packet the first nearest paths carry it, with all its checks.
 pub fn unit_laws()
-    ensures length { (frame : Frame) (sent more : List Bool) → IsSoundFrame frame → IsSendableUnit frame.unit → IsWithinRadius frame sent → need_of (sent ++ more) ≡ Length (length sent) }
-    ensures near { (frame : Frame) (sent : List Bool) → IsSoundFrame frame → IsSendableUnit frame.unit → IsWithinRadius frame sent → unit_reading_of sent ≡ Ok (received_frame frame sent) }
-    ensures item { (place : ℕ) (frame : Frame) (sent : List Bool) → IsSoundFrame frame → IsSendableUnit frame.unit → IsWithinRadius frame sent → unit_item_of place sent ≡ Whole place (received_frame frame sent) (fixes_of (received_frame frame sent) sent) }
+    ensures length { (frame : Frame) (sent more : List Bool) → IsSoundFrame frame → IsSendableUnit frame.unit → IsWithinRadius frame sent
+        → need_of (sent ++ more) ≡ Length (length sent) }
+    ensures near { (frame : Frame) (sent : List Bool) → IsSoundFrame frame → IsSendableUnit frame.unit → IsWithinRadius frame sent
+        → unit_reading_of sent ≡ Ok (received_frame frame sent) }
+    ensures item { (place : ℕ) (frame : Frame) (sent : List Bool) → IsSoundFrame frame → IsSendableUnit frame.unit → IsWithinRadius frame sent
+        → unit_item_of place sent ≡ Whole place (received_frame frame sent) (fixes_of (received_frame frame sent) sent) }
     ensures undamaged { (frame : Frame) → IsSoundFrame frame → IsSendableUnit frame.unit → IsWithinRadius frame (image_of frame) }
     ensures again { (frame : Frame) → IsSoundFrame frame → IsSendableUnit frame.unit → unit_reading_of (image_of frame) ≡ Ok frame }
     ensures none { (frame : Frame) → IsSoundFrame frame → IsSendableUnit frame.unit → fixes_of frame (image_of frame) ≡ 0 }
-    ensures fails { (bits : List Bool) (count : ℕ) (fields : List Field) → need_of bits ≡ Length count → unit_reading_of (take count bits) ≡ Err fields → 0 < length fields }
+    ensures fails { (bits : List Bool) (count : ℕ) (fields : List Field) → need_of bits ≡ Length count
+        → unit_reading_of (take count bits) ≡ Err fields → 0 < length fields }
     ensures whole_is_near { WholeIsNear }
 {}

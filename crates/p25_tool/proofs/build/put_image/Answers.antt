@@ -12,4 +12,6 @@ unfolding frame_length_of
 symbols_of unit status count statuses value list = omega (arith, value, ap length list, length-replicate (count / 72) status)
 
 pub image-requires : goal.image-requires
-image-requires c = record { whole = IsWholeBody-sendable c.args.unit.body c.requires; symbols = symbols_of c.args.unit c.args.status c.frame_length.result c.filled-statuses.result c.frame_length.ensures.value c.filled-statuses.ensures.list }
+image-requires c =
+    record { whole = IsWholeBody-sendable c.args.unit.body c.requires;
+    symbols = symbols_of c.args.unit c.args.status c.frame_length.result c.filled-statuses.result c.frame_length.ensures.value c.filled-statuses.ensures.list }
