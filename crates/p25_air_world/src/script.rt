@@ -7,35 +7,49 @@ use crate::world::World;
 use p25_air::transmit;
 use p25_bits::BitBuf;
 use p25_messages::{Flips, Message};
-use p25_packet_blocks::{Packet, is_whole};
+use p25_packet_blocks::{Flags, Packet, is_whole};
 use p25_stations::{Offer, Sender};
 use p25_status::Field;
 use std::process::Abort;
 use std::test::Fail;
 
-// A line of a script: an event, with no wrong bits in a delivery.
+// A line of a script: an event. A delivery of data comes as it was sent, or damaged, or mistaken for another packet.
 #[derive(Clone, Copy)]
 pub(crate) enum Line<'a> {
     Send(&'a [u8]),
     Timeout,
     Reopen,
     Data,
+    Damaged,
+    Mistaken,
     Answer,
 }
 
-pub(crate) fn event(line: Line) -> Result<Event, Fail> {
+fn event(line: Line, sent: &BitBuf, received: &BitBuf) -> Result<Event, Fail> {
     Ok(match line {
         Line::Send(octets) => Event::Send(Message::new(octets).ok_or("at most 2,028 octets")?),
         Line::Timeout => Event::Timeout,
         Line::Reopen => Event::Reopen,
         Line::Data => Event::ToReceiver(Flips::new()),
+        Line::Damaged | Line::Mistaken => Event::ToReceiver(apart(sent, received)),
         Line::Answer => Event::ToSender(Flips::new()),
     })
 }
 
+// How many flags are true.
+fn trues(flags: &Flags) -> usize {
+    let mut count = 0;
+    for i in 0..flags.len() {
+        if flags.get(i) && count < i + 1 {
+            count += 1;
+        }
+    }
+    count
+}
+
 // What a step was, and its two numbers: the message's and, of a taken one, its blocks, of a repeated one, how often it was
-// sent, of a delivered one, its octets.
-pub(crate) fn told(step: &Step) -> (&'static str, usize, usize) {
+// sent, of a delivered one, its octets, and of a kept one, the blocks that are held.
+fn told(step: &Step) -> (&'static str, usize, usize) {
     match &step.kind {
         StepKind::Taken { number, blocks } => ("taken", *number as usize, *blocks as usize),
         StepKind::Busy => ("busy", 0, 0),
@@ -65,7 +79,7 @@ pub(crate) fn told(step: &Step) -> (&'static str, usize, usize) {
         ),
         StepKind::SynHeard { number } => ("syn heard", *number as usize, 0),
         StepKind::Again { number } => ("again", *number as usize, 0),
-        StepKind::Kept { number, flags } => ("kept", *number as usize, flags.len()),
+        StepKind::Kept { number, flags } => ("kept", *number as usize, trues(flags)),
         StepKind::RefusedCrc { number } => ("refused crc", *number as usize, 0),
         StepKind::RefusedOrder { last } => ("refused order", *last as usize, 0),
         StepKind::Acknowledged { number } => ("acknowledged", *number as usize, 0),
@@ -78,25 +92,49 @@ pub(crate) fn told(step: &Step) -> (&'static str, usize, usize) {
 
 pub(crate) type Row<'a> = (Line<'a>, &'static str, usize, usize);
 
-// Has the events of a script happen, and compares each step, which is no false pass.
-pub(crate) fn play(rt: &impl Abort, world: &mut World, rows: &[Row]) -> Result<(), Fail> {
+// Has the events of a script happen, and compares each step, and the numbers sent, delivered and acknowledged, of false passes
+// and of sessions at the end. What is damaged comes as other bits than those that were sent.
+pub(crate) fn play_damaged(
+    rt: &impl Abort,
+    world: &mut World,
+    sent: &BitBuf,
+    received: &BitBuf,
+    rows: &[Row],
+    counts: [u64; 5],
+) -> Result<(), Fail> {
     for (line, name, number, other) in rows {
-        let step = world.step(&event(*line)?)?;
+        let step = world.step(&event(*line, sent, received)?)?;
         assert_eq!(rt; told(&step), (*name, *number, *other));
-        assert!(rt; !step.false_pass);
+        assert_eq!(rt; step.false_pass, matches!(line, Line::Mistaken));
     }
+    assert_eq!(rt; world.sent().len() as u64, counts[0]);
+    assert_eq!(rt; world.delivered().len() as u64, counts[1]);
+    assert_eq!(rt; world.acknowledged(), counts[2]);
+    assert_eq!(rt; world.false_passes(), counts[3]);
+    assert_eq!(rt; world.sessions(), counts[4]);
     Ok(())
 }
 
-// The numbers sent, delivered and acknowledged, of false passes and of sessions.
-pub(crate) fn counts(world: &World) -> [u64; 5] {
-    [
-        world.sent().len() as u64,
-        world.delivered().len() as u64,
-        world.acknowledged(),
-        world.false_passes(),
-        world.sessions(),
-    ]
+// The same for a script in which nothing is damaged.
+pub(crate) fn play(
+    rt: &impl Abort,
+    world: &mut World,
+    rows: &[Row],
+    counts: [u64; 5],
+) -> Result<(), Fail> {
+    play_damaged(rt, world, &BitBuf::new(), &BitBuf::new(), rows, counts)
+}
+
+// Sends message 0 from the second to the sixteenth time.
+pub(crate) fn time_out_to_sixteen(
+    rt: &impl Abort,
+    world: &mut World,
+    counts: [u64; 5],
+) -> Result<(), Fail> {
+    for tries in 2..17 {
+        play(rt, world, &[(Line::Timeout, "resent", 0, tries)], counts)?;
+    }
+    Ok(())
 }
 
 // The first packet of a message.
@@ -119,7 +157,7 @@ pub(crate) fn bits_of(packet: &Packet) -> Result<BitBuf, Fail> {
 }
 
 // The places in which two lists of bits differ.
-pub(crate) fn apart(a: &BitBuf, b: &BitBuf) -> Flips {
+fn apart(a: &BitBuf, b: &BitBuf) -> Flips {
     let mut flips = Flips::new();
     for place in 0..a.len() {
         if place < b.len() && place < 25_920 && flips.len() < 4096 && a.get(place) != b.get(place) {

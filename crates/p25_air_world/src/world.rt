@@ -112,7 +112,7 @@ impl World {
         self.marks.reserve(steps as usize)
     }
 
-    /// Has an event happen, for which there is room, and answers the step that it is. It takes no memory.
+    /// Answers the step that an event is, and has it happen. There is room for it, and it takes no memory.
     #[tactic(auto, unfolding(crate::specs::Steps::world_step))]
     pub fn step_ready(&mut self, event: &Event) -> Step
         requires { 0 < self.old.spare }
@@ -129,8 +129,8 @@ impl World {
         }
     }
 
-    /// Makes room for one step, has an event happen and answers the step that it is. Answers AllocError where there is not
-    /// enough memory; then the world stays as it was.
+    /// Answers the step that an event is, and has it happen. AllocError comes where there is not enough memory for it, and
+    /// then the world stays as it was.
     pub fn step(&mut self, event: &Event) -> Result<Step, AllocError>
         ensures ok { IfOk result (λ step. (self.new.state, step) ≡ world_step self.old.state event.now) }
         ensures err { OnErr result (self.new.state ≡ self.old.state) }
