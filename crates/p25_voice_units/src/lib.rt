@@ -17,12 +17,15 @@
 //! let unit = VoiceUnit::EndLink { link: LinkControl([0; 9]) };
 //! let mut plain = BitBuf::new();
 //! voice_image(0x293, &unit, &mut plain);
-//! let read = read_voice(unit.duid(), &plain)?;
+//! match read_voice(unit.duid(), &received) {
+//!     Ok(read) => …,     // voice_fixes(&read, &received, &plain) places were wrong
+//!     Err(failing) => …, // exactly the fields that fail, in order
+//! }
 //! ```
 //!
-//! Contracts see a unit's bits as `voice_image_of` and what is read as `voice_reading_of`. `image_laws` says that these
-//! bits are the only ones that stand as `IsVoiceImage` says by places, and `radius_laws` that units within radius are read
-//! as sent.
+//! Contracts see a unit's bits as `voice_image_of` and what is read as `voice_reading_of`. `image_laws` says that these bits
+//! are the only ones that stand as `IsVoiceImage` says by places, and `radius_laws` that all bits within radius of them are
+//! read as their unit.
 #![tactic(auto)]
 
 mod fixes;
