@@ -1,12 +1,14 @@
-//! Values from outside, through `run`, read in pieces of 1, of 7 and of all octets.
+//! Values from outside, through `run`, read in pieces of 1, of 2, of 7 and of all octets.
 
 mod calls;
 mod packets;
+mod refusals;
 mod voice;
 
 ghost use Rattle.std.specs.Prelude.{◌≡◌, ◌<◌, length};
 
 use p25_io::{SliceSink, SteadySource};
+use p25_line::Line;
 use p25_tool::{Outcome, Words, run};
 use std::alloc::Global;
 
@@ -39,7 +41,7 @@ fn build(alloc: Global, status: &[u8], lines: &[u8], room: &mut [u8]) -> usize
 
 // Whether a command is done and writes such octets, whatever the reads.
 fn writes(alloc: Global, words: &[&[u8]], input: &[u8], output: &[u8]) -> bool {
-    for piece in [1, 7, 8_192] {
+    for piece in [1, 2, 7, 8_192] {
         let mut source = SteadySource::new(input, piece);
         let mut room = [0; 16_384];
         let mut sink = SliceSink::new(&mut room, &[]);
@@ -64,5 +66,13 @@ fn change_bit(octets: &mut [u8], place: usize, told: Option<bool>)
             Some(false) => *octet & !mask,
             None => *octet ^ mask,
         };
+    }
+}
+
+// Puts a name and its number behind a text.
+fn put_named(text: &mut Line, name: &[u8], number: u64) {
+    if text.len() <= 4_000 && name.len() <= 20 {
+        text.put(name);
+        text.put_number(number);
     }
 }

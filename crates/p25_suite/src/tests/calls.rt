@@ -3,7 +3,7 @@
 
 ghost use Rattle.std.specs.Prelude.{◌≤◌, ◌<◌, length};
 
-use super::{build, words_of, writes};
+use super::{build, put_named, words_of, writes};
 use p25_io::{MemorySource, SliceSink, SteadySource};
 use p25_line::Line;
 use p25_tool::{Outcome, run};
@@ -127,14 +127,6 @@ fn each_write_fails_in_turn(rt: HostRuntime) {
             lines_of(call - 1, true).octets(),
             "failing at {call}"
         );
-    }
-}
-
-// Puts a name and its number behind a text.
-fn put_named(text: &mut Line, name: &[u8], number: u64) {
-    if text.len() <= 4_000 && name.len() <= 20 {
-        text.put(name);
-        text.put_number(number);
     }
 }
 

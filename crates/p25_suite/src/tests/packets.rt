@@ -1,8 +1,8 @@
-//! Packets: built from a line, their blocks damaged or replaced, shown in pieces of 1, of 7 and of all octets, and repaired.
+//! Packets: built from a line, their blocks damaged or replaced, shown in pieces of 1, of 2, of 7 and of all octets, and repaired.
 
 ghost use Rattle.std.specs.Prelude.{◌<◌};
 
-use super::{build, change_bit, writes};
+use super::{build, change_bit, put_named, writes};
 use p25_line::Line;
 use std::alloc::Global;
 
@@ -234,4 +234,84 @@ fn the_largest_packet(rt: HostRuntime) {
     assert!(rt; writes(rt.alloc(), &[b"repair"], &room[..3_240], &room[..3_240]));
     // A header whose blocks are not there.
     assert!(rt; writes(rt.alloc(), &[b"show"], &room[..45], b"cut at=0 bits=360\n"));
+}
+
+// The line of a packet of a format with so many blocks of ones, in order.
+fn line_of(confirmed: bool, line_kind: &[u8], count: u8) -> Line {
+    let mut line = Line::new();
+    if line_kind.len() <= 60 && count < 128 {
+        line.put(line_kind);
+        line.put_hex(&[128 + count]);
+        line.put(if confirmed {
+            b"000800 blocks="
+        } else {
+            b"000000 octets="
+        });
+    }
+    if count == 0 && line.len() <= 200 {
+        line.put(b"-");
+    }
+    for block in 0..count {
+        put_block(confirmed, block, block + 1 == count, &mut line);
+    }
+    line
+}
+
+// Puts a block of ones behind those before it, the last of a packet with a packet CRC without its last four octets.
+fn put_block(confirmed: bool, block: u8, last: bool, line: &mut Line) {
+    if line.len() > 8_000 {
+        return;
+    }
+    if !confirmed {
+        line.put_hex(if last { &[255; 8] } else { &[255; 12] });
+        return;
+    }
+    if block > 0 {
+        line.put(b",");
+    }
+    line.put_hex(&[block]);
+    line.put(b":");
+    line.put_hex(&[255; 16]);
+}
+
+// What `show` writes of a packet of so many blocks without a wrong bit.
+fn shown(line: &Line, count: u8) -> Line {
+    let symbols = (112 + 196 * (1 + u64::from(count))).div_ceil(70);
+    let mut text = Line::new();
+    put_named(&mut text, b"unit at=0 bits=", 72 * symbols);
+    put_named(&mut text, b" fix=", 0);
+    if text.len() <= 1_000 {
+        text.put(b" status=");
+    }
+    for _ in 0..symbols {
+        if text.len() <= 1_000 {
+            text.put(b"0");
+        }
+    }
+    if text.len() <= 1_000 && line.len() <= 7_000 {
+        text.put(b" ");
+        text.put(line.octets());
+        text.put(b"\n");
+    }
+    text
+}
+
+#[test]
+fn packets_of_each_number_of_blocks(rt: HostRuntime) {
+    for count in [0, 1, 2, 126, 127] {
+        for (confirmed, line_kind) in [
+            (true, b"confirmed nac=293 head=56c000000001".as_slice()),
+            (false, b"plain nac=293 head=35c000000001".as_slice()),
+            (false, b"response nac=293 head=238000000001".as_slice()),
+        ] {
+            let line = line_of(confirmed, line_kind, count);
+            let mut room = [0; 4_096];
+            let size = build(rt.alloc(), b"0", line.octets(), &mut room);
+            let unit = room.get(..size).unwrap_or(&[]);
+            assert!(rt;
+                writes(rt.alloc(), &[b"show"], unit, shown(&line, count).octets()),
+                "{count}"
+            );
+        }
+    }
 }

@@ -1,6 +1,6 @@
 use Rattle.std.proofs.Common.{ℕ, ◌^◌, ◌≤◌, ◌<◌, length, decimal, arith}
 use Rattle.std.proofs.lemmas.Fmt.{length-decimal-le}
-use Rattle.p25_suite.proofs.tests.calls.put_named.Goals as goal
+use Rattle.p25_suite.proofs.tests.put_named.Goals as goal
 
 pub put_number-requires : goal.put_number-requires
 put_number-requires c =
