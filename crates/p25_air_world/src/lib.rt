@@ -17,11 +17,7 @@
 
 mod laws;
 mod mark;
-#[cfg(test)]
-mod script;
 mod step;
-#[cfg(test)]
-mod tests;
 mod world;
 
 pub use laws::{

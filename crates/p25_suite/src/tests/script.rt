@@ -2,9 +2,8 @@
 
 ghost use Rattle.std.specs.Prelude.{◌<◌, ◌≤◌, length, All};
 
-use crate::step::{Event, Step, StepKind, Way};
-use crate::world::World;
 use p25_air::transmit;
+use p25_air_world::{Event, Step, StepKind, Way, World};
 use p25_bits::BitBuf;
 use p25_messages::{Flips, Message};
 use p25_packet_blocks::{Flags, Packet, is_whole};

@@ -1,10 +1,10 @@
 //! Scripts as tables: what each step of the world is, and the counts at the end.
 
-use crate::script::{
+use super::script::{
     Line, bits_of, first_packet, play, play_damaged, time_out_to_sixteen, with_flipped,
     with_zero_block,
 };
-use crate::world::World;
+use p25_air_world::World;
 use p25_packet_blocks::{Block, Confirmed, Packet, PacketHead, Slot, Slots};
 use p25_stations::LLID;
 use std::test::Fail;
