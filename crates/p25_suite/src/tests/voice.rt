@@ -4,6 +4,7 @@ ghost use Rattle.std.specs.Prelude.{◌<◌};
 
 use super::{build, change_bit, writes};
 use p25_line::Line;
+use p25_link::{LinkControl, LinkKind};
 use std::alloc::Global;
 
 // Bits that are inverted: the first place, how far the next is, how many places there are, and how many bits at each.
@@ -364,4 +365,10 @@ fn terminators_with_link_control(rt: HostRuntime) {
     for row in TERMINATORS {
         assert!(rt; holds(rt.alloc(), &row), "{}", row.0);
     }
+}
+
+#[test]
+fn link_control_of_another_kind(rt: HostRuntime) {
+    let link = LinkControl([0x15, 0, 0, 0, 0, 0, 0, 0, 0]);
+    assert_eq!(rt; link.kind(), LinkKind::Other);
 }
