@@ -1,5 +1,7 @@
 //! Each call once.
 
+ghost use Rattle.p25_units.specs.Units.{IsWholeBody};
+
 use super::{Item, Scanner, bridge_item, item_laws, repair_item};
 use p25_bits::BitBuf;
 use p25_units::{Body, Frame, Status, Statuses, Unit, VoiceUnit, frame_length};
@@ -32,6 +34,14 @@ fn one_octet(rt: HostRuntime) {
     assert_eq!(rt; scanner.held(), 0);
 }
 
+// What a terminator carries: nothing of it fails.
+#[tactic(auto, unfolding(p25_units::specs::Units::IsWholeBody))]
+fn terminator() -> Body
+    ensures { IsWholeBody result }
+{
+    Body::Voice(VoiceUnit::End)
+}
+
 #[test]
 fn a_terminator_sent_again(rt: HostRuntime) -> Result<(), Fail> {
     let one = Status::new(1).ok_or("1 is a status symbol")?;
@@ -40,7 +50,7 @@ fn a_terminator_sent_again(rt: HostRuntime) -> Result<(), Fail> {
     statuses.push(one);
     statuses.push(one);
     let frame = Frame {
-        unit: Unit::new(0, Body::Voice(VoiceUnit::End)),
+        unit: Unit::new(0, terminator()),
         statuses,
     };
     let mut raw = BitBuf::new();

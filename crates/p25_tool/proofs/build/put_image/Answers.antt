@@ -13,5 +13,7 @@ symbols_of unit status count statuses value list = omega (arith, value, ap lengt
 
 pub image-requires : goal.image-requires
 image-requires c =
-    record { whole = IsWholeBody-sendable c.args.unit.body c.requires;
-    symbols = symbols_of c.args.unit c.args.status c.frame_length.result c.filled-statuses.result c.frame_length.ensures.value c.filled-statuses.ensures.list }
+    record {
+      whole = IsWholeBody-sendable c.args.unit.body c.requires;
+      symbols = symbols_of c.args.unit c.args.status c.frame_length.result c.filled-statuses.result c.frame_length.ensures.value c.filled-statuses.ensures.list;
+    }
