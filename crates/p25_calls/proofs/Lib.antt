@@ -1,0 +1,6 @@
+pub mod RunsLaws
+pub mod DividedLaws
+pub mod CallLaws
+pub mod TakingLaws
+pub mod ClosedLaws
+pub mod CallerSteps

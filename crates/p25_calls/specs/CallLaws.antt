@@ -1,0 +1,39 @@
+-- What makes the definition of calls believable, and what a caller answers: laws over all units and items.
+use Rattle.std.specs.Prelude.{◌≡◌, ℕ, ◌+◌, Bool, true, false, List, [], ◌∷◌, ◌++◌, flat_map}
+use Rattle.p25_units.specs.Items.{covered, place_of}
+use Rattle.p25_units.specs.declared.item.Item.{Item}
+use Rattle.p25_calls.specs.declared.seen.UnitSeen.{UnitSeen}
+use Rattle.p25_calls.specs.Seen.{is_break}
+use Rattle.p25_calls.specs.Runs.{Run, closed_runs, last_unit, runs_of, units_in}
+use Rattle.p25_calls.specs.Calls.{calls_by}
+use Rattle.p25_calls.specs.Taking.{answers_by, fresh_caller}
+
+-- the runs of some units are these units, in order
+abbrev pub RunsJoin : Type 0
+RunsJoin = (units : List UnitSeen) → flat_map units_in (runs_of units) ≡ units
+
+-- between neighbours in a run there is no break
+abbrev pub NoBreakInside : Type 0
+NoBreakInside =
+    (units : List UnitSeen) (before : List Run) (run : Run) (after : List Run) (front : List UnitSeen) (unit next : UnitSeen) (back : List UnitSeen)
+    → runs_of units ≡ before ++ run ∷ after → units_in run ≡ front ++ unit ∷ next ∷ back → is_break unit next ≡ false
+
+-- between neighbouring runs there is one
+abbrev pub BreakBetween : Type 0
+BreakBetween =
+    (units : List UnitSeen) (before : List Run) (run next : Run) (after : List Run)
+    → runs_of units ≡ before ++ run ∷ next ∷ after → is_break (last_unit run) next.first ≡ true
+
+-- a closed run stays a run, whatever units come later
+abbrev pub ClosedStay : Type 0
+ClosedStay = (units more : List UnitSeen) → (rest : List Run) × (runs_of (units ++ more) ≡ closed_runs (runs_of units) ++ rest)
+
+-- items lie end to end from a place on
+unfoldable pub LieFrom : ℕ → List Item → Type 0
+LieFrom at [] = Unit {0}
+LieFrom at (item ∷ items) = (place_of item ≡ at) × LieFrom (at + covered item) items
+
+-- what a new caller answers to items that lie end to end from place 0 on are the calls among them: with what it answers at the end
+-- all calls, and without it those that no further item can change
+abbrev pub AnswersAreCalls : Type 0
+AnswersAreCalls = (ended : Bool) (items : List Item) → LieFrom 0 items → answers_by ended fresh_caller items ≡ calls_by ended items

@@ -1,0 +1,50 @@
+-- The calls of a list of items.
+use Rattle.std.specs.Prelude.{ℕ, ◌-◌, Bool, true, not, ◌&&◌, cond, nat_eq, List, [], ◌∷◌, map, filter, count_by, Option, None}
+use Rattle.std.specs.List.{list_all, list_any}
+use Rattle.std.specs.Option.{option_or}
+use Rattle.p25_units.specs.declared.item.Item.{Item}
+use Rattle.p25_calls.specs.declared.call.Call.{Call}
+use Rattle.p25_calls.specs.declared.call.CallEnd.{CallEnd}
+use Rattle.p25_calls.specs.declared.call.CallEnd.TheVariants.{Tdu, Tdulc, Open}
+use Rattle.p25_calls.specs.declared.seen.UnitSeen.{UnitSeen}
+use Rattle.p25_calls.specs.Seen.{is_header, is_link_unit, is_voice, unit_end, units_of}
+use Rattle.p25_calls.specs.Runs.{Run, last_unit, runs_by, units_in}
+
+-- how a call ends by its last unit: with a terminator without or with link control, or with none
+abbrev pub end_of : UnitSeen → CallEnd
+end_of unit = cond (nat_eq unit.duid 3) Tdu (cond (nat_eq unit.duid 0xF) Tdulc Open)
+
+-- what the first unit that has something has
+abbrev pub first_had : {X : Type 0} → (UnitSeen → Option X) → List UnitSeen → Option X
+first_had had [] = None
+first_had had (unit ∷ units) = option_or (had unit) (first_had had units)
+
+-- a run as a call: it reaches from the place of its first unit to the end of its last one
+unfoldable pub call_of : Run → Call
+call_of run = record {
+  place = run.first.place;
+  bits = unit_end (last_unit run) - run.first.place;
+  nac = run.first.nac;
+  late = not (is_header run.first);
+  end = end_of (last_unit run);
+  links = count_by is_link_unit (units_in run);
+  broken = count_by (λ unit. unit.broken) (units_in run);
+  link = first_had (λ unit. unit.link) (units_in run);
+  algid = first_had (λ unit. unit.algid) (units_in run);
+}
+
+-- a run is a call where it has voice units alone, and a link unit among them
+abbrev pub is_call : Run → Bool
+is_call run = list_all is_voice (units_in run) && list_any is_link_unit (units_in run)
+
+-- the calls among some runs, in order
+abbrev pub calls_among : List Run → List Call
+calls_among runs = map call_of (filter is_call runs)
+
+-- the calls of a list of items, after which no more come, or of which only those count that no further item can change
+unfoldable pub calls_by : Bool → List Item → List Call
+calls_by ended items = calls_among (runs_by ended (units_of items))
+
+-- the calls of a list of items
+abbrev pub calls_of : List Item → List Call
+calls_of = calls_by true

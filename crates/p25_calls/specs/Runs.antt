@@ -1,0 +1,46 @@
+-- Units divided into runs at the breaks between neighbours.
+use Rattle.std.specs.Prelude.{◌≡◌, Bool, true, false, cond, List, [], ◌∷◌, ◌++◌, flat_map}
+use Rattle.p25_calls.specs.declared.seen.UnitSeen.{UnitSeen}
+use Rattle.p25_calls.specs.Seen.{is_break, is_terminator}
+
+-- units that follow one another, one at least
+pub record Run : Type 0 where
+  pub first : UnitSeen
+  pub others : List UnitSeen
+
+-- the run of a unit and those behind it
+abbrev pub run_from : UnitSeen → List UnitSeen → Run
+run_from unit units = record { first = unit; others = units }
+
+-- the units of a run, in order
+abbrev pub units_in : Run → List UnitSeen
+units_in run = run.first ∷ run.others
+
+-- the last of some units, of which the first is there
+unfoldable pub last_of : UnitSeen → List UnitSeen → UnitSeen
+last_of unit [] = unit
+last_of unit (next ∷ units) = last_of next units
+
+-- the last unit of a run
+abbrev pub last_unit : Run → UnitSeen
+last_unit run = last_of run.first run.others
+
+-- a unit before some runs: it begins the first of them, or is a run by itself where there is a break behind it
+unfoldable pub with_unit : UnitSeen → List Run → List Run
+with_unit unit [] = run_from unit [] ∷ []
+with_unit unit (run ∷ runs) = cond (is_break unit run.first) (run_from unit [] ∷ run ∷ runs) (run_from unit (units_in run) ∷ runs)
+
+-- the runs of some units: they are divided exactly where there is a break between neighbours
+unfoldable pub runs_of : List UnitSeen → List Run
+runs_of [] = []
+runs_of (unit ∷ units) = with_unit unit (runs_of units)
+
+-- the runs that no further unit can join, whatever it is: all but the last, and the last one too where it ends with a terminator
+unfoldable pub closed_runs : List Run → List Run
+closed_runs [] = []
+closed_runs (run ∷ []) = cond (is_terminator (last_unit run)) (run ∷ []) []
+closed_runs (run ∷ next ∷ runs) = run ∷ closed_runs (next ∷ runs)
+
+-- the runs of some units, after which no more come, or of which only those count that no further unit can join
+unfoldable pub runs_by : Bool → List UnitSeen → List Run
+runs_by ended units = cond ended (runs_of units) (closed_runs (runs_of units))

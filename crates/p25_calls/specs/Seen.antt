@@ -1,0 +1,89 @@
+-- The units of a list of items, as a call sees them, and the breaks between them.
+use Rattle.std.specs.Prelude.{ℕ, ◌+◌, Bool, true, false, not, ◌&&◌, ◌||◌, nat_eq, nat_lt, List, filter_map, Option, Some, None}
+use Rattle.p25_link.specs.declared.link_control.LinkControl.{LinkControl}
+use Rattle.p25_voice_units.specs.declared.unit.VoiceUnit.TheVariants.{Header, Link1, Link2, End, EndLink}
+use Rattle.p25_units.specs.Items.{covered}
+use Rattle.p25_units.specs.Units.{body_duid, frame_length_of}
+use Rattle.p25_units.specs.declared.unit.Body.{Body}
+use Rattle.p25_units.specs.declared.unit.Body.TheVariants.{Voice, Packet}
+use Rattle.p25_units.specs.declared.frame.Frame.{Frame}
+use Rattle.p25_units.specs.declared.item.Item.{Item}
+use Rattle.p25_units.specs.declared.item.Item.TheVariants.{Whole, Broken, NoUnit, Gap, Cut}
+use Rattle.p25_calls.specs.declared.seen.UnitSeen.{UnitSeen}
+
+-- the link control that a unit carries: voice with link control and a terminator with link control have one
+abbrev pub link_in : Body → Option LinkControl
+link_in (Voice (Header word)) = None
+link_in (Voice (Link1 link low frames)) = Some link
+link_in (Voice (Link2 sync low frames)) = None
+link_in (Voice End) = None
+link_in (Voice (EndLink link)) = Some link
+link_in (Packet packet) = None
+
+-- the algorithm that a unit names: a header and voice with encryption sync name one
+abbrev pub algid_in : Body → Option ℕ
+algid_in (Voice (Header word)) = Some word.algid
+algid_in (Voice (Link1 link low frames)) = None
+algid_in (Voice (Link2 sync low frames)) = Some sync.algid
+algid_in (Voice End) = None
+algid_in (Voice (EndLink link)) = None
+algid_in (Packet packet) = None
+
+-- a whole unit, which tells what it carries
+abbrev pub whole_unit : ℕ → Frame → UnitSeen
+whole_unit place frame = record {
+  place = place;
+  bits = frame_length_of frame.unit;
+  nac = frame.unit.nac;
+  duid = body_duid frame.unit.body;
+  broken = false;
+  link = link_in frame.unit.body;
+  algid = algid_in frame.unit.body;
+}
+
+-- a broken unit, of which the place, the length and the identifier are known alone
+abbrev pub broken_unit : ℕ → ℕ → ℕ → ℕ → UnitSeen
+broken_unit place count nac duid = record { place = place; bits = count; nac = nac; duid = duid; broken = true; link = None; algid = None }
+
+-- the unit that an item is, where it is one
+abbrev pub unit_of : Item → Option UnitSeen
+unit_of (Whole place frame fixes) = Some (whole_unit place frame)
+unit_of (Broken place count nac duid fields) = Some (broken_unit place count nac duid)
+unit_of (NoUnit place field) = None
+unit_of (Gap place count) = None
+unit_of (Cut place have) = None
+
+-- the units of a list of items, in order
+abbrev pub units_of : List Item → List UnitSeen
+units_of items = filter_map unit_of items
+
+-- a voice unit is each unit but a packet, whose data unit identifier is C hex
+abbrev pub is_voice : UnitSeen → Bool
+is_voice unit = not (nat_eq unit.duid 0xC)
+
+-- a header has the data unit identifier 0
+abbrev pub is_header : UnitSeen → Bool
+is_header unit = nat_eq unit.duid 0
+
+-- a link unit has 5 or A hex
+abbrev pub is_link_unit : UnitSeen → Bool
+is_link_unit unit = nat_eq unit.duid 5 || nat_eq unit.duid 0xA
+
+-- a terminator has 3 or F hex
+abbrev pub is_terminator : UnitSeen → Bool
+is_terminator unit = nat_eq unit.duid 3 || nat_eq unit.duid 0xF
+
+-- where a unit ends: the place behind its last bit
+abbrev pub unit_end : UnitSeen → ℕ
+unit_end unit = unit.place + unit.bits
+
+-- there is a break between a unit and the next one where one of them is no voice unit, their network access codes differ, the
+-- first is a terminator, the second is a header, or the second begins more than 3,456 bits after the first ends
+unfoldable pub is_break : UnitSeen → UnitSeen → Bool
+is_break unit next =
+    not (is_voice unit)
+    || not (is_voice next)
+    || not (nat_eq unit.nac next.nac)
+    || is_terminator unit
+    || is_header next
+    || nat_lt (unit_end unit + 3456) next.place

@@ -1,0 +1,118 @@
+-- What a caller holds, and what it answers to an item.
+use Rattle.std.specs.Prelude.{ℕ, ◌+◌, ◌-◌, ◌<◌, ◌≤◌, Bool, not, ◌&&◌, cond, nat_eq, nat_le, nat_lt, List, [], ◌∷◌, ◌++◌, Option, Some, None, IfSome, option_to_list}
+use Rattle.std.specs.Option.{option_or}
+use Rattle.p25_units.specs.Items.{covered, place_of}
+use Rattle.p25_units.specs.declared.item.Item.{Item}
+use Rattle.p25_calls.specs.declared.call.Call.{Call}
+use Rattle.p25_calls.specs.declared.seen.UnitSeen.{UnitSeen}
+use Rattle.p25_calls.specs.Seen.{is_header, is_link_unit, is_terminator, is_voice, unit_end, unit_of}
+use Rattle.p25_calls.specs.Runs.{run_from}
+use Rattle.p25_calls.specs.Calls.{call_of, end_of}
+
+-- where the last item that was taken ended, how many were taken, and the run that a further unit may still join, as a call: it is
+-- none yet where it has no link unit
+pub record CallerParts : Type 0 where
+  pub reached : ℕ
+  pub taken : ℕ
+  pub pending : Option Call
+
+-- before the first item
+abbrev pub fresh_caller : CallerParts
+fresh_caller = record { reached = 0; taken = 0; pending = None }
+
+-- there is no break between the last unit of a run and a unit
+abbrev pub goes_on : Call → UnitSeen → Bool
+goes_on call unit = is_voice unit && nat_eq call.nac unit.nac && not (is_header unit) && nat_le unit.place (call.place + call.bits + 3456)
+
+-- a run of one unit, as a call
+abbrev pub call_of_one : UnitSeen → Call
+call_of_one unit = call_of (run_from unit [])
+
+-- a run with one unit more, as a call
+abbrev pub extended : Call → UnitSeen → Call
+extended call unit = record {
+  place = call.place;
+  bits = unit_end unit - call.place;
+  nac = call.nac;
+  late = call.late;
+  end = end_of unit;
+  links = call.links + cond (is_link_unit unit) 1 0;
+  broken = call.broken + cond unit.broken 1 0;
+  link = option_or call.link unit.link;
+  algid = option_or call.algid unit.algid;
+}
+
+-- the run that a unit is the last of, as a call
+abbrev pub run_with : Option Call → UnitSeen → Call
+run_with None unit = call_of_one unit
+run_with (Some call) unit = cond (goes_on call unit) (extended call unit) (call_of_one unit)
+
+-- a run is a call where it has a link unit
+abbrev pub if_linked : Call → Option Call
+if_linked call = cond (nat_lt 0 call.links) (Some call) None
+
+-- the call that ends with the unit before a unit, since there is a break between them
+abbrev pub broken_off : Option Call → UnitSeen → Option Call
+broken_off None unit = None
+broken_off (Some call) unit = cond (goes_on call unit) None (if_linked call)
+
+-- the call that ends with the last unit of a run, since it is its terminator
+abbrev pub terminated : Call → UnitSeen → Option Call
+terminated run unit = cond (is_terminator unit) (if_linked run) None
+
+-- the call that a unit ends
+abbrev pub ended_call : Option Call → UnitSeen → Option Call
+ended_call pending unit = option_or (broken_off pending unit) (terminated (run_with pending unit) unit)
+
+-- a run that a further unit may still join, by its last unit
+abbrev pub pending_run : Call → UnitSeen → Option Call
+pending_run run unit = cond (is_voice unit && not (is_terminator unit)) (Some run) None
+
+-- what a caller answers to a unit, where an item is one
+abbrev pub unit_answer : Option Call → Option UnitSeen → Option Call
+unit_answer pending None = None
+unit_answer pending (Some unit) = ended_call pending unit
+
+-- and the run that is open behind it
+abbrev pub unit_pending : Option Call → Option UnitSeen → Option Call
+unit_pending pending None = pending
+unit_pending pending (Some unit) = pending_run (run_with pending unit) unit
+
+-- what a caller answers to an item: the call that ends with it, or that ended with the unit before
+unfoldable pub answer_to : CallerParts → Item → Option Call
+answer_to caller item = unit_answer caller.pending (unit_of item)
+
+-- what a caller holds behind an item
+unfoldable pub behind_item : CallerParts → Item → CallerParts
+behind_item caller item = record {
+  reached = place_of item + covered item;
+  taken = caller.taken + 1;
+  pending = unit_pending caller.pending (unit_of item);
+}
+
+-- the call that is still open
+abbrev pub linked_pending : Option Call → Option Call
+linked_pending None = None
+linked_pending (Some call) = if_linked call
+
+unfoldable pub open_call : CallerParts → Option Call
+open_call caller = linked_pending caller.pending
+
+-- what is answered to items, one after the other, and at the end, where it has come
+unfoldable pub answers_by : Bool → CallerParts → List Item → List Call
+answers_by ended caller [] = cond ended (option_to_list (open_call caller)) []
+answers_by ended caller (item ∷ items) = option_to_list (answer_to caller item) ++ answers_by ended (behind_item caller item) items
+
+-- the run that is open ends where the last item does at the latest, and has no more units than items were taken
+pub record IsPending (reached taken : ℕ) (call : Call) : Type 0 where
+  pub before : call.place + call.bits ≤ reached
+  pub links : call.links ≤ taken
+  pub broken : call.broken ≤ taken
+
+-- what every caller keeps
+abbrev pub IsCaller : CallerParts → Type 0
+IsCaller caller = IfSome caller.pending (IsPending caller.reached caller.taken)
+
+-- the network access code of the run that is open has 12 bits
+abbrev pub HasSoundPending : CallerParts → Type 0
+HasSoundPending caller = IfSome caller.pending (λ call. call.nac < 4096)

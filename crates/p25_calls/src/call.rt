@@ -1,0 +1,118 @@
+//! A call, and how it grows with its units.
+
+ghost use Rattle.std.specs.Prelude.{◌≡◌, ◌+◌, ◌^◌, ◌<◌, ◌≤◌};
+ghost use Rattle.p25_calls.specs.Calls.{end_of};
+ghost use Rattle.p25_calls.specs.Seen.{unit_end};
+ghost use Rattle.p25_calls.specs.Taking.{call_of_one, extended, goes_on, if_linked};
+
+use crate::seen::UnitSeen;
+use p25_link::LinkControl;
+
+// The most bits between two units of a call: two units of voice.
+const SILENCE_MOST: u64 = 3_456;
+
+/// How a call ends.
+#[derive(Clone, Copy, Debug, PartialEq, Eq)]
+pub enum CallEnd {
+    /// With a terminator without link control.
+    Tdu,
+    /// With a terminator with link control.
+    Tdulc,
+    /// Without a terminator.
+    Open,
+}
+
+/// A call: a longest run of voice units without a break inside, which holds a link unit.
+#[derive(Clone, Copy, Debug, PartialEq, Eq)]
+pub struct Call {
+    /// The place of the first unit.
+    pub place: u64,
+    /// How many bits there are from there to the end of the last unit.
+    pub bits: u64,
+    /// The network access code of its units.
+    pub nac: u16,
+    /// Whether it begins without a header.
+    pub late: bool,
+    /// How it ends.
+    pub end: CallEnd,
+    /// How many link units it has.
+    pub links: u32,
+    /// How many of its units are broken.
+    pub broken: u32,
+    /// The link control of the first whole unit that carries one.
+    pub link: Option<LinkControl>,
+    /// The algorithm of the first whole unit that names one.
+    pub algid: Option<u8>,
+}
+
+impl Call {
+    // The run of one unit.
+    #[tactic(auto, unfolding(crate::specs::Calls::call_of, crate::specs::Runs::last_of))]
+    pub(crate) fn of_one(unit: &UnitSeen) -> Call
+        ensures { result ≡ call_of_one unit.now }
+    {
+        Call {
+            place: unit.place,
+            bits: unit.bits,
+            nac: unit.nac,
+            late: !unit.is_header(),
+            end: end_with(unit),
+            links: u32::from(unit.is_link_unit()),
+            broken: u32::from(unit.broken),
+            link: unit.link,
+            algid: unit.algid,
+        }
+    }
+
+    // The run with one unit more.
+    pub(crate) fn extended(&self, unit: &UnitSeen) -> Call
+        requires links { self.now.links + 1 < 2 ^ 32 }
+        requires broken { self.now.broken + 1 < 2 ^ 32 }
+        requires behind { self.now.place ≤ unit.now.place }
+        requires end { unit_end unit.now < 2 ^ 61 }
+        ensures { result ≡ extended self.now unit.now }
+    {
+        Call {
+            place: self.place,
+            bits: unit.end() - self.place,
+            nac: self.nac,
+            late: self.late,
+            end: end_with(unit),
+            links: self.links + u32::from(unit.is_link_unit()),
+            broken: self.broken + u32::from(unit.broken),
+            link: self.link.or(unit.link),
+            algid: self.algid.or(unit.algid),
+        }
+    }
+
+    // Whether there is no break between the last unit and a unit.
+    pub(crate) fn goes_on(&self, unit: &UnitSeen) -> bool
+        requires { self.now.place + self.now.bits < 2 ^ 61 }
+        ensures { result ≡ goes_on self.now unit.now }
+    {
+        unit.is_voice()
+            && self.nac == unit.nac
+            && !unit.is_header()
+            && unit.place <= self.place + self.bits + SILENCE_MOST
+    }
+
+    // The call that a run is, where it has a link unit.
+    pub(crate) fn if_linked(&self) -> Option<Call>
+        ensures { result ≡ if_linked self.now }
+    {
+        if self.links > 0 { Some(*self) } else { None }
+    }
+}
+
+// How a call ends by its last unit.
+fn end_with(unit: &UnitSeen) -> CallEnd
+    ensures { result ≡ end_of unit.now }
+{
+    if !unit.is_terminator() {
+        CallEnd::Open
+    } else if unit.has_end_link() {
+        CallEnd::Tdulc
+    } else {
+        CallEnd::Tdu
+    }
+}

@@ -1,0 +1,87 @@
+//! A caller, which groups the units among items into calls.
+
+ghost use Rattle.std.specs.Prelude.{◌≡◌, ◌+◌, ◌-◌, ◌^◌, ◌<◌, ◌≤◌, IfSome};
+ghost use Rattle.p25_calls.specs.Taking.{HasSoundPending, answer_to, behind_item, fresh_caller, open_call};
+ghost use Rattle.p25_units.specs.Items.{IsSoundItem, place_of};
+
+use crate::call::Call;
+use crate::runs::{broken_off, pending_run, run_with, terminated};
+use crate::seen::{item_end, seen_unit};
+use p25_units::Item;
+use std::marker::Model;
+
+/// What is held between the items of a stream: where the last one ended, how many there were, and the run of voice units that
+/// a further unit may still join.
+#[derive(Drop)]
+pub struct Caller {
+    reached: u64,
+    taken: u32,
+    pending: Option<Call>,
+}
+
+impl Model for Caller {
+    ghost use Rattle.p25_calls.specs.Taking.{CallerParts, IsCaller};
+
+    ghost Value = { CallerParts };
+
+    ghost view = { λ s. record { reached = s.reached; taken = s.taken; pending = s.pending } };
+
+    ghost invariant = { λ s. IsCaller (record { reached = s.reached; taken = s.taken; pending = s.pending }) };
+}
+
+impl Caller {
+    /// Answers a caller that no item was taken by.
+    pub fn new() -> Caller
+        ensures { result ≡ fresh_caller }
+    {
+        Caller {
+            reached: 0,
+            taken: 0,
+            pending: None,
+        }
+    }
+
+    /// Takes an item. It begins where the last one ended, or at place 0 where none was taken; places are below 2^60, and fewer
+    /// than 2^32 − 1 items were taken.
+    ///
+    /// Answers the call that ends with this item, since it is its terminator, or the call that ended with the unit before, where
+    /// that is no terminator, since there is a break before this one. `None` comes exactly where no call ends so.
+    pub fn take(&mut self, item: &Item) -> Option<Call>
+        requires place { place_of item.now ≡ self.old.reached }
+        requires below { place_of item.now < 2 ^ 60 }
+        requires few { self.old.taken < 2 ^ 32 - 1 }
+        ensures answer { result ≡ answer_to self.old item.now }
+        ensures behind { self.new ≡ behind_item self.old item.now }
+        ensures sound { IsSoundItem item.now → HasSoundPending self.old → HasSoundPending self.new }
+        ensures nac { IsSoundItem item.now → HasSoundPending self.old → IfSome result (λ call. call.nac < 4096) }
+    {
+        let before = self.pending;
+        self.reached = item_end(item);
+        self.taken += 1;
+        match seen_unit(item) {
+            None => None,
+            Some(unit) => {
+                let run = run_with(&before, &unit);
+                self.pending = pending_run(run, &unit);
+                broken_off(&before, &unit).or(terminated(&run, &unit))
+            }
+        }
+    }
+
+    /// Answers the call that is still open, and sets the caller as a new one. `None` comes exactly where no call is open.
+    #[tactic(auto, unfolding(crate::specs::Taking::open_call))]
+    pub fn finish(&mut self) -> Option<Call>
+        ensures answer { result ≡ open_call self.old }
+        ensures behind { self.new ≡ fresh_caller }
+        ensures nac { HasSoundPending self.old → IfSome result (λ call. call.nac < 4096) }
+    {
+        let before = self.pending;
+        self.reached = 0;
+        self.taken = 0;
+        self.pending = None;
+        match before {
+            None => None,
+            Some(call) => call.if_linked(),
+        }
+    }
+}

@@ -1,0 +1,39 @@
+//! Voice units grouped into calls.
+//!
+//! The items of a stream are taken one after the other, as they lie end to end. A call is a longest run of voice units without
+//! a break inside that holds voice; there is a break where a header begins or a terminator ends, where the network access code
+//! changes, where a packet stands, and where a unit begins more than 3,456 bits after the one before it ends. Places and
+//! lengths count bits.
+//!
+//! ```text
+//! let mut caller = Caller::new();
+//! let mut line = Line::new();
+//! for item in items {
+//!     if let Some(call) = caller.take(&item) {
+//!         call_text(&call, &mut line);
+//!     }
+//! }
+//! let last = caller.finish();
+//! ```
+//!
+//! Contracts see the calls of a list of items as `calls_of`: its units, divided into runs at the breaks between neighbours.
+//! They see a caller as what it holds, what it answers to an item as `answer_to`, and what it holds then as `behind_item`.
+//! `call_laws` says that the answers to all items and at the end are the calls of the items.
+#![tactic(auto)]
+
+mod call;
+mod caller;
+mod laws;
+mod runs;
+mod seen;
+#[cfg(test)]
+mod tests;
+mod text;
+
+pub use call::{Call, CallEnd};
+pub use caller::Caller;
+pub use laws::call_laws;
+pub use p25_line::Line;
+pub use p25_link::LinkControl;
+pub use p25_units::Item;
+pub use text::call_text;

@@ -1,0 +1,69 @@
+//! The run that a unit is the last of, and the calls that it ends.
+
+ghost use Rattle.std.specs.Prelude.{◌≡◌, ◌+◌, ◌-◌, ◌^◌, ◌<◌, ◌≤◌, IfSome};
+ghost use Rattle.p25_calls.specs.Seen.{unit_end};
+ghost use Rattle.p25_calls.specs.Taking.{IsPending, broken_off, pending_run, run_with, terminated};
+
+use crate::call::Call;
+use crate::seen::UnitSeen;
+
+/// Answers the run that a unit is the last of: the one that is open, where there is no break before the unit, and else a new
+/// one.
+pub fn run_with(pending: &Option<Call>, unit: &UnitSeen) -> Call
+    requires pending { IfSome pending.now (IsPending unit.now.place (2 ^ 32 - 2)) }
+    requires end { unit_end unit.now < 2 ^ 61 }
+    ensures { result ≡ run_with pending.now unit.now }
+{
+    match pending {
+        None => Call::of_one(unit),
+        Some(call) => {
+            if call.goes_on(unit) {
+                call.extended(unit)
+            } else {
+                Call::of_one(unit)
+            }
+        }
+    }
+}
+
+/// Answers the call that ends with the unit before a unit. `None` comes exactly where no run is open, where there is no break
+/// before the unit, and where the run has no link unit.
+pub fn broken_off(pending: &Option<Call>, unit: &UnitSeen) -> Option<Call>
+    requires pending { IfSome pending.now (IsPending unit.now.place (2 ^ 32 - 2)) }
+    requires end { unit_end unit.now < 2 ^ 61 }
+    ensures { result ≡ broken_off pending.now unit.now }
+{
+    match pending {
+        None => None,
+        Some(call) => {
+            if call.goes_on(unit) {
+                None
+            } else {
+                call.if_linked()
+            }
+        }
+    }
+}
+
+/// Answers the call that ends with the last unit of a run. `None` comes exactly where that is no terminator, and where the run
+/// has no link unit.
+pub fn terminated(run: &Call, unit: &UnitSeen) -> Option<Call>
+    ensures { result ≡ terminated run.now unit.now }
+{
+    if unit.is_terminator() {
+        run.if_linked()
+    } else {
+        None
+    }
+}
+
+/// Answers a run, where a further unit may still join it: its last unit is a voice unit, and no terminator.
+pub fn pending_run(run: Call, unit: &UnitSeen) -> Option<Call>
+    ensures { result ≡ pending_run run unit.now }
+{
+    if unit.is_voice() && !unit.is_terminator() {
+        Some(run)
+    } else {
+        None
+    }
+}

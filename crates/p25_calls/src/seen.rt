@@ -1,0 +1,157 @@
+//! What a call takes from an item.
+
+ghost use Rattle.std.specs.Prelude.{◌≡◌, ◌+◌, ◌^◌, ◌<◌, ◌≤◌, nat_eq, IfSome};
+ghost use Rattle.p25_calls.specs.Seen.{algid_in, is_header, is_link_unit, is_terminator, is_voice, link_in, unit_end, unit_of};
+ghost use Rattle.p25_units.specs.Items.{IsSoundItem, covered, place_of};
+
+use p25_link::LinkControl;
+use p25_units::{Body, Item, VoiceUnit, frame_length};
+
+// The data unit identifiers of units.
+const HEADER: u8 = 0;
+const TERMINATOR: u8 = 0x3;
+const VOICE_WITH_LINK: u8 = 0x5;
+const VOICE_WITH_SYNC: u8 = 0xA;
+const PACKET: u8 = 0xC;
+const TERMINATOR_WITH_LINK: u8 = 0xF;
+
+/// A unit, as a call sees it.
+#[derive(Clone, Copy, Debug, PartialEq, Eq)]
+pub struct UnitSeen {
+    /// The place of its first bit.
+    pub place: u64,
+    /// How many bits it has.
+    pub bits: u64,
+    /// Its network access code.
+    pub nac: u16,
+    /// Its data unit identifier.
+    pub duid: u8,
+    /// Whether some field of it fails.
+    pub broken: bool,
+    /// Its link control, where it carries one and no field fails.
+    pub link: Option<LinkControl>,
+    /// Its algorithm, where it names one and no field fails.
+    pub algid: Option<u8>,
+}
+
+impl UnitSeen {
+    /// Answers whether it is a voice unit: any but a packet.
+    pub fn is_voice(&self) -> bool
+        ensures { result ≡ is_voice self.now }
+    {
+        self.duid != PACKET
+    }
+
+    /// Answers whether it is a header.
+    pub fn is_header(&self) -> bool
+        ensures { result ≡ is_header self.now }
+    {
+        self.duid == HEADER
+    }
+
+    /// Answers whether it is a link unit: one that carries voice.
+    pub fn is_link_unit(&self) -> bool
+        ensures { result ≡ is_link_unit self.now }
+    {
+        self.duid == VOICE_WITH_LINK || self.duid == VOICE_WITH_SYNC
+    }
+
+    /// Answers whether it is a terminator, with link control or without.
+    pub fn is_terminator(&self) -> bool
+        ensures { result ≡ is_terminator self.now }
+    {
+        self.duid == TERMINATOR || self.duid == TERMINATOR_WITH_LINK
+    }
+
+    /// Answers whether it is a terminator with link control.
+    pub fn has_end_link(&self) -> bool
+        ensures { result ≡ nat_eq self.now.duid 15 }
+    {
+        self.duid == TERMINATOR_WITH_LINK
+    }
+
+    /// Answers the place behind its last bit.
+    pub fn end(&self) -> u64
+        requires { unit_end self.now < 2 ^ 61 }
+        ensures { result ≡ unit_end self.now }
+    {
+        self.place + self.bits
+    }
+}
+
+/// Answers the unit that an item is. `None` comes exactly where it is neither a whole nor a broken unit.
+pub fn seen_unit(item: &Item) -> Option<UnitSeen>
+    requires { place_of item.now < 2 ^ 60 }
+    ensures unit { result ≡ unit_of item.now }
+    ensures place { IfSome result (λ unit. unit.place ≡ place_of item.now) }
+    ensures end { IfSome result (λ unit. unit_end unit < 2 ^ 61) }
+    ensures sound { IsSoundItem item.now → IfSome result (λ unit. unit.nac < 4096) }
+{
+    match item {
+        Item::Whole { place, frame, .. } => Some(UnitSeen {
+            place: *place,
+            bits: frame_length(&frame.unit) as u64,
+            nac: frame.unit.nac(),
+            duid: frame.unit.body().duid(),
+            broken: false,
+            link: link_in(frame.unit.body()),
+            algid: algid_in(frame.unit.body()),
+        }),
+        Item::Broken {
+            place,
+            length,
+            nac,
+            duid,
+            ..
+        } => Some(UnitSeen {
+            place: *place,
+            bits: u64::from(*length),
+            nac: *nac,
+            duid: *duid,
+            broken: true,
+            link: None,
+            algid: None,
+        }),
+        Item::NoUnit { .. } | Item::Gap { .. } | Item::Cut { .. } => None,
+    }
+}
+
+// The link control that a unit carries.
+fn link_in(body: &Body) -> Option<LinkControl>
+    ensures { result ≡ link_in body.now }
+{
+    match body {
+        Body::Voice(VoiceUnit::Link1 { link, .. }) | Body::Voice(VoiceUnit::EndLink { link }) => {
+            Some(*link)
+        }
+        Body::Voice(VoiceUnit::Header(_) | VoiceUnit::Link2 { .. } | VoiceUnit::End)
+        | Body::Packet(_) => None,
+    }
+}
+
+// The algorithm that a unit names.
+fn algid_in(body: &Body) -> Option<u8>
+    ensures { result ≡ algid_in body.now }
+{
+    match body {
+        Body::Voice(VoiceUnit::Header(word)) => Some(word.algid),
+        Body::Voice(VoiceUnit::Link2 { sync, .. }) => Some(sync.algid),
+        Body::Voice(VoiceUnit::Link1 { .. } | VoiceUnit::End | VoiceUnit::EndLink { .. })
+        | Body::Packet(_) => None,
+    }
+}
+
+/// Answers the place behind the last bit of an item.
+pub fn item_end(item: &Item) -> u64
+    requires { place_of item.now < 2 ^ 60 }
+    ensures value { result ≡ place_of item.now + covered item.now }
+    ensures short { result < 2 ^ 61 }
+{
+    match item {
+        Item::Whole { place, frame, .. } => *place + frame_length(&frame.unit) as u64,
+        Item::Broken { place, length, .. } => *place + u64::from(*length),
+        Item::NoUnit { place, .. } => *place + 1,
+        Item::Gap { place, length } => *place + u64::from(*length),
+        Item::Cut { place, have } => *place + u64::from(*have),
+    }
+}
