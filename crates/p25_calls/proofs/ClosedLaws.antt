@@ -31,7 +31,7 @@ one-stay unit more false going = open-stay (run_from unit []) (runs_of (unit ∷
 one-stay unit more true ends = record {
   rest = runs_of more;
   is = runs_of-run (run_from unit []) more tt (cut-terminator (last_unit (run_from unit [])) more ends)
-    ∙ sym (ap (λ (runs : List Run). runs ++ runs_of more) (closed-end (run_from unit []) ends));
+      ∙ sym (ap (λ (runs : List Run). runs ++ runs_of more) (closed-end (run_from unit []) ends));
 }
 
 -- a unit that joins the first run
@@ -48,7 +48,7 @@ longer-one unit run first runs rest before true ends =
     record {
       rest = rest;
       is = ap₂ (λ (r : Run) (rs : List Run). run_from unit (units_in r) ∷ rs) parts.0 parts.1
-        ∙ sym (ap (λ (closed : List Run). closed ++ rest) (closed-end (run_from unit (units_in run)) (ap is_terminator (longer-last unit run) ∙ ends)));
+          ∙ sym (ap (λ (closed : List Run). closed ++ rest) (closed-end (run_from unit (units_in run)) (ap is_terminator (longer-last unit run) ∙ ends)));
     }
 
 longer-stay : (unit : UnitSeen) (run first : Run) (others runs rest : List Run) → first ∷ runs ≡ closed_runs (run ∷ others) ++ rest

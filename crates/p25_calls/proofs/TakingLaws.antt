@@ -31,9 +31,9 @@ end-only : (unit : UnitSeen) → is_terminator unit ≡ true → IsEndOnly unit
 end-only unit ends =
     elim (or_cases (nat_eq unit.duid 3) (nat_eq unit.duid 0xF) ends) [
       | inl three ↦ let is = eqb-true unit.duid 3 three in
-      record { voice = ap (λ (d : ℕ). not (nat_eq d 0xC)) is; unlinked = ap (λ (d : ℕ). nat_eq d 5 || nat_eq d 0xA) is }
+          record { voice = ap (λ (d : ℕ). not (nat_eq d 0xC)) is; unlinked = ap (λ (d : ℕ). nat_eq d 5 || nat_eq d 0xA) is }
       | inr fifteen ↦ let is = eqb-true unit.duid 0xF fifteen in
-      record { voice = ap (λ (d : ℕ). not (nat_eq d 0xC)) is; unlinked = ap (λ (d : ℕ). nat_eq d 5 || nat_eq d 0xA) is }
+          record { voice = ap (λ (d : ℕ). not (nat_eq d 0xC)) is; unlinked = ap (λ (d : ℕ). nat_eq d 5 || nat_eq d 0xA) is }
     ]
 
 -- a packet is no terminator
@@ -99,7 +99,7 @@ pub record LastRun (pending : Option Call) (before : Option Run) (unit : UnitSee
   pub end : unit_end unit ≡ (run_with pending unit).place + (run_with pending unit).bits
   pub one : (broken_off pending unit ≡ None) ⊎ (is_link_unit unit ≡ false → if_linked (run_with pending unit) ≡ None)
   pub rest_is : (ended : Bool) (rest : List UnitSeen)
-    → calls_among (runs_by ended (pending_units before ++ unit ∷ rest)) ≡ option_to_list (broken_off pending unit) ++ calls_among (runs_by ended (units_in last ++ rest))
+      → calls_among (runs_by ended (pending_units before ++ unit ∷ rest)) ≡ option_to_list (broken_off pending unit) ++ calls_among (runs_by ended (units_in last ++ rest))
 
 -- the runs of units that a run begins, with a break behind it
 runs_by-split : (ended : Bool) (run : Run) (unit : UnitSeen) (rest : List UnitSeen) → IsUnbroken run.first run.others → is_break (last_unit run) unit ≡ true
@@ -171,8 +171,8 @@ joins-run reached call run pends unit at goes =
       end = extended-end call unit reached pends.before at ∙ ap (λ (c : Call). c.place + c.bits) (sym grows);
       one = inl (cond-true (goes_on call unit) None (if_linked call) goes);
       rest_is = λ ended rest.
-        ap (λ (units : List UnitSeen). calls_among (runs_by ended units)) (sym (append_assoc (units_in run) (unit ∷ []) rest))
-        ∙ ap (λ (o : Option Call). option_to_list o ++ calls_among (runs_by ended (units_in (grown run unit) ++ rest))) (sym (cond-true (goes_on call unit) None (if_linked call) goes));
+          ap (λ (units : List UnitSeen). calls_among (runs_by ended units)) (sym (append_assoc (units_in run) (unit ∷ []) rest))
+          ∙ ap (λ (o : Option Call). option_to_list o ++ calls_among (runs_by ended (units_in (grown run unit) ++ rest))) (sym (cond-true (goes_on call unit) None (if_linked call) goes));
     }
 
 -- where there is a break before it
@@ -201,7 +201,7 @@ pub record Stepped (before : Option Run) (unit : UnitSeen) (answer pending : Opt
   pub behind : Option Run
   pub holds : Holds (unit_end unit) pending behind
   pub calls : (ended : Bool) (rest : List UnitSeen)
-    → calls_among (runs_by ended (pending_units before ++ unit ∷ rest)) ≡ option_to_list answer ++ calls_among (runs_by ended (pending_units behind ++ rest))
+      → calls_among (runs_by ended (pending_units before ++ unit ∷ rest)) ≡ option_to_list answer ++ calls_among (runs_by ended (pending_units behind ++ rest))
 
 -- a voice unit that is no terminator leaves the run open
 stepped-open : (pending : Option Call) (before : Option Run) (unit : UnitSeen) → LastRun pending before unit → is_voice unit ≡ true → is_terminator unit ≡ false
@@ -285,12 +285,12 @@ stepped-terminator pending before unit last ends =
       behind = None;
       holds = none;
       calls = λ ended rest.
-        last.rest_is ended rest
-        ∙ ap (λ (calls : List Call). option_to_list (broken_off pending unit) ++ calls)
-        (ap calls_among (runs_by-terminated ended last.last rest last.unbroken (ap is_terminator last.ends ∙ ends))
-        ∙ calls_among-voice last.last (runs_by ended rest) (last.voice kind.voice)
-        ∙ ap (λ (call : Call). option_to_list (if_linked call) ++ calls_among (runs_by ended rest)) (sym last.is))
-        ∙ both-lists (broken_off pending unit) (if_linked (run_with pending unit)) (calls_among (runs_by ended rest)) one;
+          last.rest_is ended rest
+          ∙ ap (λ (calls : List Call). option_to_list (broken_off pending unit) ++ calls)
+          (ap calls_among (runs_by-terminated ended last.last rest last.unbroken (ap is_terminator last.ends ∙ ends))
+          ∙ calls_among-voice last.last (runs_by ended rest) (last.voice kind.voice)
+          ∙ ap (λ (call : Call). option_to_list (if_linked call) ++ calls_among (runs_by ended rest)) (sym last.is))
+          ∙ both-lists (broken_off pending unit) (if_linked (run_with pending unit)) (calls_among (runs_by ended rest)) one;
     }
 
 -- and a packet is a run by itself, which is no call
@@ -301,9 +301,9 @@ stepped-packet pending before unit last packet = record {
   behind = None;
   holds = none;
   calls = λ ended rest.
-    last.rest_is ended rest
-    ∙ ap (λ (calls : List Call). option_to_list (broken_off pending unit) ++ calls)
-    (runs_by-packet ended last.last rest last.unbroken (ap is_voice last.ends ∙ packet) (last.packet packet));
+      last.rest_is ended rest
+      ∙ ap (λ (calls : List Call). option_to_list (broken_off pending unit) ++ calls)
+      (runs_by-packet ended last.last rest last.unbroken (ap is_voice last.ends ∙ packet) (last.packet packet));
 }
 
 option_or-nothing : (o : Option Call) → option_or o None ≡ o

@@ -9,10 +9,15 @@ use p25_units::{Body, Item, VoiceUnit, frame_length};
 
 // The data unit identifiers of units.
 const HEADER: u8 = 0;
+
 const TERMINATOR: u8 = 0x3;
+
 const VOICE_WITH_LINK: u8 = 0x5;
+
 const VOICE_WITH_SYNC: u8 = 0xA;
+
 const PACKET: u8 = 0xC;
+
 const TERMINATOR_WITH_LINK: u8 = 0xF;
 
 /// A unit, as a call sees it.
