@@ -1,7 +1,7 @@
 -- What a caller answers are the calls: it holds the run that a further unit may still join. First the run that a unit is the last of, in the three cases of a unit that joins,
 -- that begins behind a break, and that begins where no run is open; then whether that run is closed; then by induction on the items.
-use Rattle.std.proofs.Common.{◌≡◌, ℕ, ◌+◌, ◌-◌, ◌<◌, ◌≤◌, Bool, true, false, cond, not, ◌&&◌, ◌||◌, List, [], ◌∷◌, ◌++◌, Option, Some, None, refl, sym, ap, ap₂, subst, ◌∙◌, inl, inr, ◌⊎◌, arith, append_assoc, append-nil}
-use Rattle.std.specs.Prelude.{count_by, nat_eq, nat_le, nat_lt, filter_map, option_to_list}
+use Rattle.std.proofs.Common.{◌≡◌, ℕ, ◌+◌, ◌-◌, ◌≤◌, Bool, true, false, cond, not, ◌&&◌, ◌||◌, List, [], ◌∷◌, ◌++◌, Option, Some, None, refl, sym, ap, ap₂, subst, ◌∙◌, inl, inr, ◌⊎◌, arith, append_assoc, append-nil}
+use Rattle.std.specs.Prelude.{nat_eq, nat_le, nat_lt, option_to_list}
 use Rattle.std.specs.List.{cons_option, list_all, list_any}
 use Rattle.std.specs.Option.{option_or}
 use Rattle.std.proofs.lemmas.Bool.{and_from, and_parts, cond-true, cond-false, eqb-true, or_cases, true≢false}
@@ -15,7 +15,7 @@ use Rattle.p25_calls.specs.declared.seen.UnitSeen.{UnitSeen}
 use Rattle.p25_calls.specs.Seen.{is_break, is_header, is_link_unit, is_terminator, is_voice, unit_end, unit_of, units_of}
 use Rattle.p25_calls.specs.Runs.{Run, closed_runs, last_of, last_unit, run_from, runs_by, runs_of, units_in}
 use Rattle.p25_calls.specs.Calls.{call_of, calls_among, calls_by, is_call}
-use Rattle.p25_calls.specs.Taking.{CallerParts, answer_to, answers_by, behind_item, broken_off, call_of_one, ended_call, extended, fresh_caller, goes_on, if_linked, linked_pending, open_call, pending_run, run_with, unit_answer, unit_pending}
+use Rattle.p25_calls.specs.Taking.{CallerParts, answer_to, answers_by, behind_item, broken_off, call_of_one, ended_call, extended, goes_on, if_linked, open_call, pending_run, run_with, unit_answer, unit_pending}
 use Rattle.p25_calls.specs.CallLaws.{AnswersAreCalls, LieFrom}
 use Rattle.p25_calls.proofs.RunsLaws.{IsCutBefore, IsUnbroken, last_of-append, runs_of-begins, runs_of-run, runs_of-unbroken, unbroken-append}
 use Rattle.p25_calls.proofs.CallLaws.{call_of-grown, calls_among-none, calls_among-voice, grown}

@@ -1,5 +1,5 @@
 -- The calls of a list of items.
-use Rattle.std.specs.Prelude.{ℕ, ◌-◌, Bool, true, not, ◌&&◌, cond, nat_eq, List, [], ◌∷◌, map, filter, count_by, Option, None}
+use Rattle.std.specs.Prelude.{◌-◌, Bool, true, not, ◌&&◌, cond, nat_eq, List, [], ◌∷◌, map, filter, count_by, Option, None}
 use Rattle.std.specs.List.{list_all, list_any}
 use Rattle.std.specs.Option.{option_or}
 use Rattle.p25_units.specs.declared.item.Item.{Item}

@@ -1,5 +1,5 @@
 -- Units divided into runs at the breaks between neighbours.
-use Rattle.std.specs.Prelude.{◌≡◌, Bool, true, false, cond, List, [], ◌∷◌, ◌++◌, flat_map}
+use Rattle.std.specs.Prelude.{Bool, cond, List, [], ◌∷◌}
 use Rattle.p25_calls.specs.declared.seen.UnitSeen.{UnitSeen}
 use Rattle.p25_calls.specs.Seen.{is_break, is_terminator}
 

@@ -1,8 +1,7 @@
 -- The units of a list of items, as a call sees them, and the breaks between them.
-use Rattle.std.specs.Prelude.{ℕ, ◌+◌, Bool, true, false, not, ◌&&◌, ◌||◌, nat_eq, nat_lt, List, filter_map, Option, Some, None}
+use Rattle.std.specs.Prelude.{ℕ, ◌+◌, Bool, true, false, not, ◌||◌, nat_eq, nat_lt, List, filter_map, Option, Some, None}
 use Rattle.p25_link.specs.declared.link_control.LinkControl.{LinkControl}
 use Rattle.p25_voice_units.specs.declared.unit.VoiceUnit.TheVariants.{Header, Link1, Link2, End, EndLink}
-use Rattle.p25_units.specs.Items.{covered}
 use Rattle.p25_units.specs.Units.{body_duid, frame_length_of}
 use Rattle.p25_units.specs.declared.unit.Body.{Body}
 use Rattle.p25_units.specs.declared.unit.Body.TheVariants.{Voice, Packet}

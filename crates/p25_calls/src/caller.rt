@@ -12,7 +12,7 @@ use std::marker::Model;
 
 /// What is held between the items of a stream: where the last one ended, how many there were, and the run of voice units that
 /// a further unit may still join.
-#[derive(Drop)]
+#[derive(Clone, Copy, Debug, PartialEq, Eq)]
 pub struct Caller {
     reached: u64,
     taken: u32,
@@ -27,6 +27,8 @@ impl Model for Caller {
     ghost view = { λ s. record { reached = s.reached; taken = s.taken; pending = s.pending } };
 
     ghost invariant = { λ s. IsCaller (record { reached = s.reached; taken = s.taken; pending = s.pending }) };
+
+    ghost inverse = { λ parts. record { reached = parts.reached; taken = parts.taken; pending = parts.pending } };
 }
 
 impl Caller {
