@@ -48,7 +48,7 @@ impl Model for Build {
 
     ghost view = { λ s. record { status = s.status; line = s.line.items; lines = s.lines; phase = s.phase } };
 
-    ghost invariant = { λ s. s.lines + lines_ready s.phase ≤ 2 ^ 60 };
+    ghost invariant = { λ s. s.lines + lines_ready s.phase ≤ 2 ^ 28 };
 }
 
 impl Build {

@@ -41,7 +41,7 @@ impl<R: Report> Model for Recording<R> {
 
     ghost invariant = { λ s. (s.scanner.finished ≡ has_ended s.phase)
         × (R.counted s.report ≤ s.scanner.place)
-        × (s.scanner.place + length s.scanner.held < 2 ^ 61)
+        × (s.scanner.place + length s.scanner.held < 2 ^ 29)
         × HasClosed s.phase s.scanner };
 }
 

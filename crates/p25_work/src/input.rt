@@ -70,7 +70,7 @@ fn feed_octet<W: Worker, K: Sink>(
 ) -> Result<(), Stop>
     requires drained { W.IsDrained worker.old }
     requires going { W.is_finished worker.old ≡ false }
-    requires few { W.size worker.old < 2 ^ 60 }
+    requires few { W.size worker.old < 2 ^ 28 }
     ensures moved { OnOk result (Moved K.written sink.old page.old (W.future worker.old) (octet ∷ []) sink.new page.new (W.future worker.new)) }
     ensures drained { OnOk result (W.IsDrained worker.new) }
     ensures idle { OnOk result (IsIdle false (W.future worker.new)) }
@@ -95,7 +95,7 @@ fn feed<W: Worker, K: Sink>(
     requires drained { W.IsDrained worker.old }
     requires idle { IsIdle false (W.future worker.old) }
     requires going { W.is_finished worker.old ≡ false }
-    requires few { W.size worker.old + 8 * length octets.now < 2 ^ 60 }
+    requires few { W.size worker.old + 8 * length octets.now < 2 ^ 28 }
     ensures moved { OnOk result (Moved K.written sink.old page.old (W.future worker.old) octets.now sink.new [] (W.future worker.new)) }
     ensures empty { OnOk result (page.new ≡ []) }
     ensures drained { OnOk result (W.IsDrained worker.new) }
@@ -122,7 +122,7 @@ fn feed<W: Worker, K: Sink>(
 fn end<W: Worker, K: Sink>(worker: &mut W, page: &mut Line, piece: &mut Line, sink: &mut K) -> Stop
     requires drained { W.IsDrained worker.old }
     requires going { W.is_finished worker.old ≡ false }
-    requires few { W.size worker.old < 2 ^ 60 }
+    requires few { W.size worker.old < 2 ^ 28 }
     requires empty { page.old ≡ [] }
     ensures ended { EndsBy K.written sink.old (W.future worker.old) result sink.new }
     ensures later { K.faults sink.old ≤ K.faults sink.new }

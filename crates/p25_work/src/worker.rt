@@ -29,7 +29,7 @@ pub trait Worker {
     fn push(&mut self, octet: u8)
         requires drained { IsDrained self.old }
         requires going { is_finished self.old ≡ false }
-        requires few { size self.old < 2 ^ 60 }
+        requires few { size self.old < 2 ^ 28 }
         ensures moved { Progress (future self.old) (octet ∷ []) [] (future self.new) }
         ensures going { is_finished self.new ≡ false }
         ensures size { size self.new ≤ size self.old + 8 };
@@ -38,7 +38,7 @@ pub trait Worker {
     fn finish(&mut self)
         requires drained { IsDrained self.old }
         requires going { is_finished self.old ≡ false }
-        requires few { size self.old < 2 ^ 60 }
+        requires few { size self.old < 2 ^ 28 }
         ensures closed { IsClosed (future self.old) (future self.new) }
         ensures finished { is_finished self.new ≡ true };
 
