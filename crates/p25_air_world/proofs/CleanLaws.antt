@@ -60,7 +60,7 @@ step-clean link count (ToReceiver flips) is f = data-newest link count link.pack
 step-clean link count (ToSender flips) is f = answer-newest link count link.answer flips refl f
 
 -- two lists, one after the other
-clean-append : (link : Link) (xs ys : List Happening) → IsCleanLink link xs → IsCleanLink (link_run link xs) ys → IsCleanLink link (xs ++ ys)
+pub clean-append : (link : Link) (xs ys : List Happening) → IsCleanLink link xs → IsCleanLink (link_run link xs) ys → IsCleanLink link (xs ++ ys)
 unfolding link_run IsCleanLink
 clean-append link [] ys a b = b
 clean-append link (x ∷ xs) ys a b = (a.0, clean-append (happens link x) xs ys a.1 b)

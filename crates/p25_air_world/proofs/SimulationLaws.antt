@@ -131,7 +131,7 @@ step-of link count (ToReceiver flips) = data-newest link count link.packet_sent 
 step-of link count (ToSender flips) = answer-newest link count link.answer flips
 
 -- what happens in two lists
-link_run-append : (link : Link) (xs ys : List Happening) → link_run link (xs ++ ys) ≡ link_run (link_run link xs) ys
+pub link_run-append : (link : Link) (xs ys : List Happening) → link_run link (xs ++ ys) ≡ link_run (link_run link xs) ys
 unfolding link_run
 link_run-append link [] ys = refl
 link_run-append link (x ∷ xs) ys = link_run-append (happens link x) xs ys

@@ -24,5 +24,6 @@ pub use laws::{
     clean_runs_are_orderly, damage_within_radius, deliveries_within_radius, runs_are_counted,
     world_facts,
 };
+pub use mark::Mark;
 pub use step::{Event, Step, StepKind, Way};
 pub use world::World;

@@ -25,7 +25,7 @@ mod steps;
 mod tests;
 mod values;
 
-pub use closing::closing_text;
+pub use closing::{closing_text, put_count, put_sessions};
 pub use laws::script_laws;
 pub use names::EventKind;
 pub use p25_air_world::{Event, Step, StepKind, Way, World};

@@ -1,0 +1,6 @@
+pub mod StationSoundLaws
+pub mod PairLaws
+pub mod SimulationLaws
+pub mod KindLaws
+pub mod CleanLaws
+pub mod CountLaws

@@ -1,0 +1,30 @@
+use crate::side::Side;
+use p25_air_world::Step;
+use p25_messages::{Flips, Message};
+
+/// Something that happens at one of the two stations, or on the air between them.
+#[derive(Drop)]
+pub enum DuplexEvent {
+    /// A message is offered to the sender of a station.
+    Send(Side, Message),
+    /// The time of a station's sender is up.
+    Timeout(Side),
+    /// A station's sender is to open its link again.
+    Reopen(Side),
+    /// The newest transmission of the other station comes to a station, with the bits at these places inverted.
+    Deliver {
+        /// The station that hears it.
+        to: Side,
+        /// The places of the inverted bits.
+        flips: Flips,
+    },
+}
+
+/// A step of the duplex world.
+#[derive(Drop)]
+pub struct DuplexStep {
+    /// The station that acts or hears.
+    pub side: Side,
+    /// What the step was. A delivery of which nothing is heard has the way of data.
+    pub step: Step,
+}

@@ -1,0 +1,31 @@
+//! The duplex world: two packet stations that both send messages and acknowledge those of the other, and the air between them.
+//!
+//! Stations a and b each have a sender and a receiver. The direction of a station carries whatever it sends, data or an
+//! answer, and keeps the newest transmission alone. An event is a message that is offered, a timeout, a reopening, or a
+//! delivery with the places of the bits that come inverted, counted from the first bit of the unit as it is sent. Each event
+//! is one step. The rules of the stations and of the air are this project's, over those of TIA-102.BAAA, Packet Data.
+//!
+//! ```text
+//! let mut world = DuplexWorld::new(alloc);
+//! world.step(&DuplexEvent::Send(Side::A, message))?;
+//! let step = world.step(&DuplexEvent::Deliver { to: Side::B, flips })?;
+//! ```
+//!
+//! Contracts see a duplex world as its state and the number of steps for which it has room, and each step as the function
+//! `duplex_step`. The laws say what every run without a false pass keeps.
+#![tactic(auto)]
+
+mod closing;
+mod event;
+mod laws;
+mod side;
+mod station;
+#[cfg(test)]
+mod tests;
+mod world;
+
+pub use closing::duplex_closing;
+pub use event::{DuplexEvent, DuplexStep};
+pub use laws::{both_directions_are_orderly, duplex_facts, false_passes_are_counted};
+pub use side::Side;
+pub use world::DuplexWorld;
