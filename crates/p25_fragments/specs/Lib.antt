@@ -1,0 +1,4 @@
+pub mod LongMessages
+pub mod JoiningState
+pub mod Joining
+pub mod LongLists
