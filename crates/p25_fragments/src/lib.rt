@@ -19,8 +19,16 @@
 
 mod joiner;
 mod long_list;
+mod long_mark;
 mod long_message;
+mod long_receiver;
+mod long_sender;
+mod long_step;
+mod long_world;
+mod outgoing;
 
 pub use joiner::{Joined, Joiner};
 pub use long_list::LongList;
 pub use long_message::LongMessage;
+pub use long_step::{LongEvent, LongStep, Then};
+pub use long_world::LongWorld;
