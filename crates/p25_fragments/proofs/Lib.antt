@@ -1,1 +1,4 @@
 pub mod PartsLaws
+pub mod SendLaws
+pub mod OfferSteps
+pub mod HappenSteps

@@ -39,14 +39,14 @@ started w message (inner, step) =
     (record w { inner = inner; sender = taken_with w.sender message }, record { first = Some step; then = Started (part_count (length message)) })
 
 -- a long message is offered to a sender that is not down: it is Busy while a part, or the opening packet, is outstanding
-unfoldable pub offered_beside : Outstanding → LongState → List ℕ → LongState × LongStep
-offered_beside Nothing w message = started w message (world_step w.inner (Send (part_of message 0)))
-offered_beside (Message part) w message = unmoved w Busy
-offered_beside (Opening number) w message = unmoved w Busy
+unfoldable pub long_offered_beside : Outstanding → LongState → List ℕ → LongState × LongStep
+long_offered_beside Nothing w message = started w message (world_step w.inner (Send (part_of message 0)))
+long_offered_beside (Message part) w message = unmoved w Busy
+long_offered_beside (Opening number) w message = unmoved w Busy
 
 -- a long message is offered: whether the sender is down is judged first
 unfoldable pub long_offered : LongState → List ℕ → LongState × LongStep
-long_offered w message = if w.inner.sender.down then unmoved w Down else offered_beside w.inner.sender.outstanding w message
+long_offered w message = if w.inner.sender.down then unmoved w Down else long_offered_beside w.inner.sender.outstanding w message
 
 -- the next part was offered
 unfoldable pub next_offered : WorldState × Step → WorldState × Then
@@ -81,12 +81,12 @@ after_kind (SynHeard number) w = (record w { receiver = set_back w.receiver }, P
 after_kind other w = (w, Plain)
 
 -- a mark with the numbers of this moment
-abbrev pub present_mark : LongState → LongMark
-present_mark w = record { taken = length w.sender.taken; whole = length w.receiver.whole; acknowledged = w.sender.acknowledged }
+abbrev pub present_long_mark : LongState → LongMark
+present_long_mark w = record { taken = length w.sender.taken; whole = length w.receiver.whole; acknowledged = w.sender.acknowledged }
 
 -- where a session of the inner world ends, the long message that is outstanding is given up with its part
 unfoldable pub ended_when : Bool → LongState → LongState
-ended_when true w = record w { sender = given_up w.sender; marks = w.marks ++ present_mark w ∷ [] }
+ended_when true w = record w { sender = given_up w.sender; marks = w.marks ++ present_long_mark w ∷ [] }
 ended_when false w = w
 
 -- the inner world has more marks than before

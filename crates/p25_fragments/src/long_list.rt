@@ -18,11 +18,11 @@ pub struct LongList {
 impl Model for LongList {
     ghost use Rattle.std.specs.Prelude.{vec_len};
     ghost use Rattle.p25_messages.specs.MessageList.{ListParts, pieces_between, AreEnds};
-    ghost use Rattle.p25_fragments.specs.LongLists.{room_for};
+    ghost use Rattle.p25_fragments.specs.LongLists.{long_room_for};
 
     ghost Value = { ListParts };
 
-    ghost view = { λ s. record { list = pieces_between 0 s.ends.items s.octets.items; spare = room_for s.octets s.ends } };
+    ghost view = { λ s. record { list = pieces_between 0 s.ends.items s.octets.items; spare = long_room_for s.octets s.ends } };
 
     ghost invariant = { λ s. AreEnds 0 s.ends.items (vec_len s.octets) };
 }
