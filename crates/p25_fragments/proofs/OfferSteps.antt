@@ -21,11 +21,11 @@ pub data OfferedAs (w : LongState) (message : List ℕ) (inner : WorldState) (st
   told_busy : step.kind ≡ BusyAtOffer → inner ≡ w.inner → long_offered w message ≡ unmoved w Busy → OfferedAs w message inner step
   told_taken : (number blocks : ℕ) → step.kind ≡ Taken number blocks → long_offered w message ≡ started w message (inner, step) → OfferedAs w message inner step
 
-beside : (w : LongState) (message : List ℕ) (out : Outstanding) → w.inner.sender.down ≡ false → w.inner.sender.outstanding ≡ out → long_offered w message ≡ long_offered_beside out w message
+pub beside : (w : LongState) (message : List ℕ) (out : Outstanding) → w.inner.sender.down ≡ false → w.inner.sender.outstanding ≡ out → long_offered w message ≡ long_offered_beside out w message
 unfolding long_offered
 beside w message out d o = cond-false w.inner.sender.down _ _ d ∙ ap (λ (x : Outstanding). long_offered_beside x w message) o
 
-offered-down : (w : LongState) (message : List ℕ) → w.inner.sender.down ≡ true → long_offered w message ≡ unmoved w Down
+pub offered-down : (w : LongState) (message : List ℕ) → w.inner.sender.down ≡ true → long_offered w message ≡ unmoved w Down
 unfolding long_offered
 offered-down w message d = cond-true w.inner.sender.down _ _ d
 

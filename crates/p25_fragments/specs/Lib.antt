@@ -8,4 +8,5 @@ pub mod ReceivingState
 pub mod LongReceivers
 pub mod LongState
 pub mod LongSteps
+pub mod LongRuns
 pub mod Inside

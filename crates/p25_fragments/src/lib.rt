@@ -18,6 +18,7 @@
 #![tactic(auto)]
 
 mod joiner;
+mod laws;
 mod long_list;
 mod long_mark;
 mod long_message;
@@ -26,8 +27,11 @@ mod long_sender;
 mod long_step;
 mod long_world;
 mod outgoing;
+#[cfg(test)]
+mod tests;
 
 pub use joiner::{Joined, Joiner};
+pub use laws::long_messages_come_whole;
 pub use long_list::LongList;
 pub use long_message::LongMessage;
 pub use long_step::{LongEvent, LongStep, Then};
