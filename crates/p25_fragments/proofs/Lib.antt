@@ -1,0 +1,11 @@
+pub mod PartsLaws
+pub mod SendLaws
+pub mod OfferSteps
+pub mod HappenSteps
+pub mod JoinLaws
+pub mod HearingLaws
+pub mod InnerStepLaws
+pub mod MatchLaws
+pub mod OfferedLaws
+pub mod LongStepLaws
+pub mod LongRunLaws

@@ -1,0 +1,12 @@
+pub mod LongMessages
+pub mod JoiningState
+pub mod Joining
+pub mod LongLists
+pub mod SendingState
+pub mod LongSenders
+pub mod ReceivingState
+pub mod LongReceivers
+pub mod LongState
+pub mod LongSteps
+pub mod LongRuns
+pub mod Inside

@@ -1,0 +1,84 @@
+-- Runs of a world of long messages: its state and its steps after a list of events, its sessions, and what is said of the steps
+-- of the inner world.
+use Rattle.std.specs.Prelude.{◌≡◌, ◌≢◌, ℕ, ◌-◌, ◌≤◌, List, [], ◌∷◌, ◌++◌, length, Option, Some, None}
+use Rattle.p25_bits.specs.Bits.{part}
+use Rattle.p25_world.specs.Link.{Session}
+use Rattle.p25_air_world.specs.declared.step.Event.{Event}
+use Rattle.p25_air_world.specs.declared.step.Event.TheVariants.{Send, Timeout, Reopen, ToReceiver, ToSender}
+use Rattle.p25_air_world.specs.declared.step.Step.{Step}
+use Rattle.p25_air_world.specs.Runs.{AreClean}
+use Rattle.p25_fragments.specs.declared.long_mark.LongMark.{LongMark}
+use Rattle.p25_fragments.specs.declared.long_step.LongEvent.{LongEvent}
+use Rattle.p25_fragments.specs.declared.long_step.LongEvent.TheVariants.{Long, Inner}
+use Rattle.p25_fragments.specs.declared.long_step.Then.{Then}
+use Rattle.p25_fragments.specs.declared.long_step.Then.TheVariants.{Plain, Started, Busy, Down, Part, Whole, Refused, Next, Finished}
+use Rattle.p25_fragments.specs.declared.long_step.LongStep.{LongStep}
+use Rattle.p25_fragments.specs.LongState.{LongState, first_long}
+use Rattle.p25_fragments.specs.LongSteps.{present_long_mark, long_step}
+
+-- an event of the inner world that offers no message
+unfoldable pub IsNoOffer : Event → Type 0
+IsNoOffer (Send message) = ⊥
+IsNoOffer Timeout = Unit {0}
+IsNoOffer Reopen = Unit {0}
+IsNoOffer (ToReceiver flips) = Unit {0}
+IsNoOffer (ToSender flips) = Unit {0}
+
+-- what every event keeps: a long message has at most 4,000 octets, and no other message is offered
+unfoldable pub IsLongEvent : LongEvent → Type 0
+IsLongEvent (Long message) = length message ≤ 4000
+IsLongEvent (Inner event) = IsNoOffer event
+
+unfoldable pub AreLongEvents : List LongEvent → Type 0
+AreLongEvents [] = Unit {0}
+AreLongEvents (event ∷ events) = IsLongEvent event × AreLongEvents events
+
+-- the world after a list of events
+unfoldable pub long_run : LongState → List LongEvent → LongState
+long_run w [] = w
+long_run w (event ∷ events) = long_run (long_step w event).0 events
+
+-- and the steps that they are
+unfoldable pub long_steps_of : LongState → List LongEvent → List LongStep
+long_steps_of w [] = []
+long_steps_of w (event ∷ events) = (long_step w event).1 ∷ long_steps_of (long_step w event).0 events
+
+-- the steps of the inner world in a step: that of the event or of the offer of part 0, and that of the offer of the next part
+unfoldable pub first_steps : Option Step → List Step
+first_steps None = []
+first_steps (Some step) = step ∷ []
+
+unfoldable pub next_steps : Then → List Step
+next_steps (Next step) = step ∷ []
+next_steps other = []
+
+unfoldable pub inner_steps : List LongStep → List Step
+inner_steps [] = []
+inner_steps (step ∷ steps) = (first_steps step.first ++ next_steps step.then) ++ inner_steps steps
+
+-- the inner run is clean where none of its steps is a false pass
+abbrev pub IsCleanLongRun : List LongEvent → Type 0
+IsCleanLongRun events = AreClean (inner_steps (long_steps_of first_long events))
+
+-- in no step a part is refused
+unfoldable pub AreUnrefused : List LongStep → Type 0
+AreUnrefused [] = Unit {0}
+AreUnrefused (step ∷ steps) = (step.then ≢ Refused) × AreUnrefused steps
+
+-- a session of long messages between two marks: those taken stand as sent, and those whole as delivered
+abbrev pub long_session_between : LongMark → LongMark → LongState → Session
+long_session_between from to w =
+    record {
+      sent = part from.taken (to.taken - from.taken) w.sender.taken;
+      delivered = part from.whole (to.whole - from.whole) w.receiver.whole;
+      acknowledged = to.acknowledged - from.acknowledged;
+    }
+
+-- the sessions from a mark on: each lies between two marks that are neighbors, and the last behind all marks
+unfoldable pub long_sessions_from : LongMark → List LongMark → LongState → List Session
+long_sessions_from from [] w = long_session_between from (present_long_mark w) w ∷ []
+long_sessions_from from (mark ∷ marks) w = long_session_between from mark w ∷ long_sessions_from mark marks w
+
+-- the sessions of a world: a mark is made whenever a session of the inner world ends, so they begin together
+abbrev pub long_sessions_of : LongState → List Session
+long_sessions_of w = long_sessions_from (record { taken = 0; whole = 0; acknowledged = 0 }) w.marks w

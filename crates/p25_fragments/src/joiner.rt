@@ -1,0 +1,116 @@
+ghost use Rattle.std.specs.Prelude.{◌≡◌, ℕ, ◌%◌, ◌<◌, ◌≤◌, Bool, nat_le, List, length};
+ghost use Rattle.p25_fragments.specs.JoiningState.{first_joining};
+ghost use Rattle.p25_fragments.specs.Joining.{is_refused, part_taken, message_taken};
+
+use crate::long_message::{LAST, LongMessage, MOST_OCTETS, PART_OCTETS};
+use arrayvec::ArrayVec;
+use p25_messages::Message;
+use std::marker::Model;
+
+/// What comes of a message that a joiner takes.
+#[derive(Debug, PartialEq, Eq, Drop)]
+pub enum Joined {
+    /// The last part of a long message, which is whole now.
+    Whole(LongMessage),
+    /// Another part than the last, with this number.
+    Part {
+        number: u8,
+    },
+    /// No part, or not the part that was expected.
+    Refused,
+}
+
+/// Joins the parts of long messages, which come in order.
+#[derive(Drop)]
+pub struct Joiner {
+    // the number of the part that is expected
+    next: u8,
+    // the octets of the parts before it
+    items: ArrayVec<u8, MOST_OCTETS>,
+}
+
+impl Model for Joiner {
+    ghost use Rattle.p25_fragments.specs.JoiningState.{Joining, IsJoining};
+
+    ghost Value = { Joining };
+
+    ghost view = { λ s. record { next = s.next; octets = s.items.items } };
+
+    ghost invariant = { λ s. IsJoining (record { next = s.next; octets = s.items.items }) };
+}
+
+// Whether a part is refused: where so many octets stand behind its first one.
+fn is_refused(next: u8, is_last: bool, number: u8, count: usize) -> bool
+    ensures { result ≡ is_refused next is_last number count }
+{
+    number != next
+        || if is_last {
+            count > PART_OCTETS || number > 0 && count == 0
+        } else {
+            count != PART_OCTETS || number == MOST_NUMBER
+        }
+}
+
+// The highest number of a part.
+const MOST_NUMBER: u8 = 7;
+
+impl Joiner {
+    /// Answers a joiner that expects the part with number 0.
+    pub fn new() -> Joiner
+        ensures { result ≡ first_joining }
+    {
+        Joiner {
+            next: 0,
+            items: ArrayVec::new(),
+        }
+    }
+
+    /// Sets the joiner back: it expects the part with number 0, and holds nothing.
+    pub fn reset(&mut self)
+        ensures { self.new ≡ first_joining }
+    {
+        self.next = 0;
+        self.items.clear();
+    }
+
+    /// Answers what a message is: the last part of a long message, which is whole then; another part; or refused. The first
+    /// octet is the number of the part, with 80 hex more where it is the last. Refused comes exactly where the message is
+    /// empty, where its number is not the one expected, where it is not the last and has other than 500 octets behind the
+    /// first or the number 7, and where it is the last and has more than 500 octets behind the first, or none though its
+    /// number is above 0. After a part the next number is expected, and else 0, with nothing held.
+    #[tactic(auto, unfolding(crate::specs::Joining::message_taken))]
+    pub fn take(&mut self, message: &Message) -> Joined
+        ensures state { self.new ≡ (message_taken self.old message.now).0 }
+        ensures answer { result ≡ (message_taken self.old message.now).1 }
+    {
+        match message.octets().split_first() {
+            Some((mark, octets)) => self.take_part(*mark >= LAST, *mark % LAST, octets),
+            None => {
+                self.reset();
+                Joined::Refused
+            }
+        }
+    }
+
+    // Takes a part with a number.
+    #[tactic(auto, unfolding(crate::specs::Joining::part_taken, crate::specs::Joining::taken_as))]
+    fn take_part(&mut self, is_last: bool, number: u8, octets: &[u8]) -> Joined
+        ensures state { self.new ≡ (part_taken is_last self.old number octets.now).0 }
+        ensures answer { result ≡ (part_taken is_last self.old number octets.now).1 }
+    {
+        if is_refused(self.next, is_last, number, octets.len()) {
+            self.reset();
+            return Joined::Refused;
+        }
+        self.items.try_extend_from_slice(octets).unwrap();
+        if is_last {
+            let whole = LongMessage::new(self.items.as_slice()).unwrap();
+            self.next = 0;
+            self.items.clear();
+            Joined::Whole(whole)
+        } else {
+            self.next += 1;
+            Joined::Part { number }
+        }
+    }
+}

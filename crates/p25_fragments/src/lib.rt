@@ -1,0 +1,38 @@
+//! Long messages: up to 4,000 octets over a link whose messages have at most 2,028.
+//!
+//! A long message is sent as parts, each a message of the stations: one octet with the number of the part, 80 hex more for
+//! the last, and then at most 500 octets, in the order in which they are sent. The packet head stays as it is; the first
+//! octet of a part is this project's own.
+//!
+//! ```text
+//! let mut world = LongWorld::new(alloc);
+//! if let Some(message) = LongMessage::new(&octets) {
+//!     world.step(&LongEvent::Long(message))?;
+//! }
+//! let step = world.step(&LongEvent::Inner(Event::ToReceiver(flips)))?;
+//! ```
+//!
+//! Contracts see a `LongMessage` as its octets, a `Joiner` as the number that it expects and the octets that it holds, a
+//! `LongList` as its messages and the number of those for which it has room, and each step of a `LongWorld` as the function
+//! `long_step`.
+#![tactic(auto)]
+
+mod joiner;
+mod laws;
+mod long_list;
+mod long_mark;
+mod long_message;
+mod long_receiver;
+mod long_sender;
+mod long_step;
+mod long_world;
+mod outgoing;
+#[cfg(test)]
+mod tests;
+
+pub use joiner::{Joined, Joiner};
+pub use laws::long_messages_come_whole;
+pub use long_list::LongList;
+pub use long_message::LongMessage;
+pub use long_step::{LongEvent, LongStep, Then};
+pub use long_world::LongWorld;

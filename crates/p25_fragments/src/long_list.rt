@@ -1,0 +1,89 @@
+ghost use Rattle.std.specs.Prelude.{◌≡◌, ◌+◌, ◌<◌, ◌≤◌, Some, List, [], ◌∷◌, ◌++◌, length, slice_get, OnOk, OnErr};
+ghost use Rattle.p25_messages.specs.MessageList.{start_before};
+
+use crate::long_message::{LongMessage, MOST_OCTETS};
+use std::alloc::{AllocError, Global};
+use std::marker::Model;
+
+/// A list of long messages. Contracts see it as the list, `list`, and the number of messages for which there is room,
+/// `spare`.
+#[derive(Drop)]
+pub struct LongList {
+    // the octets of all messages, one after another
+    octets: Vec<u8>,
+    // the place behind the last octet of each message
+    ends: Vec<usize>,
+}
+
+impl Model for LongList {
+    ghost use Rattle.std.specs.Prelude.{vec_len};
+    ghost use Rattle.p25_messages.specs.MessageList.{ListParts, pieces_between, AreEnds};
+    ghost use Rattle.p25_fragments.specs.LongLists.{long_room_for};
+
+    ghost Value = { ListParts };
+
+    ghost view = { λ s. record { list = pieces_between 0 s.ends.items s.octets.items; spare = long_room_for s.octets s.ends } };
+
+    ghost invariant = { λ s. AreEnds 0 s.ends.items (vec_len s.octets) };
+}
+
+// The place of the first octet of message `i`, which is the place behind the message before it.
+fn start(ends: &[usize], i: usize) -> usize
+    requires { i ≤ length ends.now }
+    ensures { result ≡ start_before 0 ends.now i }
+{
+    if i == 0 { 0 } else { ends[i - 1] }
+}
+
+impl LongList {
+    /// Answers an empty list, which takes no memory.
+    pub fn new(alloc: Global) -> LongList
+        ensures { result.list ≡ [] }
+    {
+        LongList {
+            octets: Vec::new(alloc),
+            ends: Vec::new(alloc),
+        }
+    }
+
+    /// Answers the number of messages.
+    pub fn len(&self) -> usize
+        ensures { result ≡ length self.now.list }
+    {
+        self.ends.len()
+    }
+
+    /// Answers the octets of message `i`, counted from 0.
+    pub fn get(&self, i: usize) -> &[u8]
+        requires { i < length self.now.list }
+        ensures { slice_get self.now.list i ≡ Some result.now }
+    {
+        let ends = self.ends.as_slice();
+        &self.octets.as_slice()[start(ends, i)..start(ends, i + 1)]
+    }
+
+    /// Makes room for 1 to 16 more messages. Answers AllocError where there is not enough memory; the messages stay, and
+    /// no room is lost.
+    pub fn reserve(&mut self, messages: u32) -> Result<(), AllocError>
+        requires some { 0 < messages }
+        requires most { messages ≤ 16 }
+        ensures list { self.new.list ≡ self.old.list }
+        ensures spare { self.old.spare ≤ self.new.spare }
+        ensures ok { OnOk result (messages ≤ self.new.spare) }
+        // It fails only where the room was not there before.
+        ensures err { OnErr result (self.old.spare < messages) }
+    {
+        self.ends.reserve(messages as usize)?;
+        self.octets.reserve(MOST_OCTETS * messages as usize)
+    }
+
+    /// Appends a message. It takes no memory.
+    pub fn push(&mut self, message: &LongMessage)
+        requires { 0 < self.old.spare }
+        ensures list { self.new.list ≡ self.old.list ++ message.now ∷ [] }
+        ensures spare { self.old.spare ≤ self.new.spare + 1 }
+    {
+        self.octets.extend_from_slice(message.octets()).unwrap();
+        self.ends.push(self.octets.len()).unwrap();
+    }
+}

@@ -1,0 +1,47 @@
+use crate::long_message::LongMessage;
+use p25_air_world::{Event, Step};
+
+/// Something that happens in a world of long messages.
+#[derive(Drop)]
+pub enum LongEvent {
+    /// A long message is offered.
+    Long(LongMessage),
+    /// An event of the two stations and the air between them, which is no `Event::Send`.
+    Inner(Event),
+}
+
+/// What a step means for the long messages.
+#[derive(Drop)]
+pub enum Then {
+    /// Nothing.
+    Plain,
+    /// The long message was taken, and the first of its parts offered.
+    Started {
+        parts: u8,
+    },
+    /// A long message or the opening packet is outstanding.
+    Busy,
+    /// The sender is down, so it takes no long message.
+    Down,
+    /// A part was delivered, and the long message is not whole yet.
+    Part {
+        number: u8,
+    },
+    /// The last part was delivered: the long message is whole.
+    Whole(LongMessage),
+    /// What was delivered is not the part that was expected.
+    Refused,
+    /// A part was acknowledged, and this is the offer of the next.
+    Next(Step),
+    /// The last part was acknowledged, and the long message with it.
+    Finished,
+}
+
+/// A step of a world of long messages.
+#[derive(Drop)]
+pub struct LongStep {
+    /// The step of the two stations: of the event, or of the offer of the first part; None for Busy and Down alone.
+    pub first: Option<Step>,
+    /// What it means for the long messages.
+    pub then: Then,
+}

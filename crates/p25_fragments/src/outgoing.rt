@@ -1,0 +1,8 @@
+use crate::long_message::LongMessage;
+
+/// A long message that is outstanding, and the number of its part that is.
+#[derive(Drop)]
+pub(crate) struct Outgoing {
+    pub(crate) message: LongMessage,
+    pub(crate) number: u8,
+}
