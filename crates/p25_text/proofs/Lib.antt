@@ -7,6 +7,6 @@ pub mod PacketValueLaws
 pub mod PacketLaws
 pub mod VoiceLaws
 pub mod GrammarLaws
-pub mod ReadSteps
+pub mod ReadLaws
 pub mod ItemTextSteps
 pub mod WriteSteps

@@ -9,3 +9,4 @@ pub mod NearestLaws
 pub mod DistanceLaws
 pub mod ReceivedCostsSteps
 pub mod ApartLaws
+pub mod ExactSteps

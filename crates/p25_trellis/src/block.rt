@@ -2,12 +2,15 @@
 
 ghost use Rattle.std.specs.Prelude.{◌≡◌, ℕ, ◌+◌, ◌*◌, ◌^◌, ◌<◌, ◌≤◌, List, Bool, ◌++◌, All, length, take, drop};
 ghost use Rattle.p25_bits.specs.Bits.{part};
+ghost use Rattle.p25_bits.specs.Numbers.{number_bits};
+ghost use Rattle.p25_trellis.specs.Interleave.{interleaved};
 ghost use Rattle.p25_trellis.specs.Trellis.{IsBlock, IsFirstLeastReading, IsNearReading, distance_from};
 ghost use Rattle.p25_trellis.specs.Nearest.{nearest_octets, nearest_distance, block_from};
 
+use super::exact::path_along;
 use super::interleave::{gather, spread};
 use super::least::read_costs;
-use super::path::{nibbles_of, path_of};
+use super::path::{nibbles_of, octets_of, path_of};
 use super::rate::Rate;
 use super::received_costs::distance_costs;
 use p25_bits::BitBuf;
@@ -40,7 +43,22 @@ pub fn read_block<R: Rate>(bits: &BitBuf, at: usize, octets: &mut [u8]) -> u32
 {
     let mut received = [0; 49];
     bits.take_numbers(at, 4, &mut received);
-    read_costs::<R>(&distance_costs(&gather(&received)), octets)
+    read_nibbles::<R>(&gather(&received), octets)
+}
+
+// The same by the nibbles that were received, as they are before they are interleaved. Mostly they are those of a path: then no
+// other is as near.
+fn read_nibbles<R: Rate>(received: &[u8; 49], octets: &mut [u8]) -> u32
+    requires nibbles { All (λ n. n < 16) received.now }
+    requires octets { length octets.old ≡ R.OCTETS }
+    ensures { IsFirstLeastReading R.STATES R.BITS_PER_SYMBOL (distance_from R.point_of (number_bits 4 (interleaved received.now))) octets.new result }
+{
+    let path = path_along::<R>(received);
+    if nibbles_of::<R>(&path) == *received {
+        octets_of::<R>(&path, octets);
+        return 0;
+    }
+    read_costs::<R>(&distance_costs(received), octets)
 }
 
 #[cfg(test)]

@@ -22,6 +22,7 @@
 #![tactic(auto)]
 
 mod block;
+mod exact;
 mod interleave;
 mod laws;
 mod least;

@@ -53,6 +53,9 @@ pub trait Rate {
     // The 48 symbols have as many bits as the octets.
     ghost octets_of_bits: { 48 * BITS_PER_SYMBOL ≡ 8 * OCTETS };
 
+    // Two different paths differ.
+    ghost some_apart: { 0 < APART };
+
     // Every point is four bits.
     ghost nibbles: { (state symbol : ℕ) → state < STATES → symbol < STATES → point_of state symbol < 16 };
 
@@ -146,6 +149,8 @@ impl Rate for Half {
 
     ghost octets_of_bits = { refl };
 
+    ghost some_apart = { Prim.omega arith };
+
     ghost nibbles = { nibbles-from_test 4 half_point half_nibbles };
 
     ghost together = { half_together };
@@ -193,6 +198,8 @@ impl Rate for ThreeQuarter {
     ghost few_states = { Prim.omega arith };
 
     ghost octets_of_bits = { refl };
+
+    ghost some_apart = { Prim.omega arith };
 
     ghost nibbles = { nibbles-from_test 8 three_quarter_point three_quarter_nibbles };
 

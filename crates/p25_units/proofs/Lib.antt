@@ -8,6 +8,6 @@ pub mod ItemsLaws
 pub mod WithinRadiusLaws
 pub mod WholeLaws
 pub mod TerminatorsLaws
-pub mod BegunSteps
-pub mod ReadSteps
+pub mod BegunLaws
+pub mod UnitPlaceLaws
 pub mod FixingSteps

@@ -11,6 +11,7 @@ use super::{
 use p25_bits::BitBuf;
 use p25_packet_blocks::{Octets, PacketHead, Plain};
 use p25_status::weave;
+use std::process::Abort;
 use std::test::Fail;
 
 // The front of the network access code 293 hex and of the packets below.
@@ -116,86 +117,83 @@ fn sent(words: &[u64], len: usize) -> BitBuf {
     out
 }
 
+// With how many sent bits a response without blocks needs what.
+const RESPONSE_NEEDS: [(usize, Need); 5] = [
+    (113, Need::More(114)),
+    (114, Need::More(316)),
+    (315, Need::More(316)),
+    (316, Need::More(360)),
+    (360, Need::Length(360)),
+];
+
+// The same for the confirmed packet of one block.
+const CONFIRMED_NEEDS: [(usize, Need); 5] = [
+    (47, Need::More(48)),
+    (315, Need::More(316)),
+    (316, Need::More(576)),
+    (575, Need::More(576)),
+    (576, Need::Length(576)),
+];
+
+// For the confirmed packet of two blocks.
+const NO_BLOCKS_NEEDS: [(usize, Need); 5] = [
+    (114, Need::More(316)),
+    (316, Need::More(720)),
+    (360, Need::More(720)),
+    (719, Need::More(720)),
+    (720, Need::Length(720)),
+];
+
+// For a packet of 127 blocks.
+const LARGEST_NEEDS: [(usize, Need); 5] = [
+    (315, Need::More(316)),
+    (316, Need::More(25_920)),
+    (720, Need::More(25_920)),
+    (25_919, Need::More(25_920)),
+    (25_920, Need::Length(25_920)),
+];
+
+// For the packet of format 17 hex.
+const FORMAT_17_NEEDS: [(usize, Need); 5] = [
+    (114, Need::More(316)),
+    (315, Need::More(316)),
+    (316, Need::More(360)),
+    (359, Need::More(360)),
+    (360, Need::Length(360)),
+];
+
+// For a packet without a header.
+const NO_HEADER_NEEDS: [(usize, Need); 5] = [
+    (113, Need::More(114)),
+    (114, Need::More(316)),
+    (315, Need::More(316)),
+    (316, Need::NoLength(Field::PacketHeader)),
+    (360, Need::NoLength(Field::PacketHeader)),
+];
+
+// Asserts with how many bits of a unit what is needed.
+fn assert_needs(rt: &impl Abort, whole: &BitBuf, needs: &[(usize, Need)]) {
+    for (have, needed) in needs {
+        assert!(rt; *have <= whole.len());
+        let mut bits = BitBuf::new();
+        bits.append(whole, 0, *have);
+        assert_eq!(rt; need(&bits, 0), *needed);
+    }
+}
+
 #[test]
 fn needs(rt: HostRuntime) {
     // Rows: a unit, its number of bits, and with how many sent bits it needs what.
-    let rows: [(&[u64], usize, [(usize, Need); 5]); 6] = [
-        (
-            &RESPONSE,
-            350,
-            [
-                (113, Need::More(114)),
-                (114, Need::More(316)),
-                (315, Need::More(316)),
-                (316, Need::More(360)),
-                (360, Need::Length(360)),
-            ],
-        ),
-        (
-            &CONFIRMED,
-            560,
-            [
-                (47, Need::More(48)),
-                (315, Need::More(316)),
-                (316, Need::More(576)),
-                (575, Need::More(576)),
-                (576, Need::Length(576)),
-            ],
-        ),
-        (
-            &NO_BLOCKS,
-            700,
-            [
-                (114, Need::More(316)),
-                (316, Need::More(720)),
-                (360, Need::More(720)),
-                (719, Need::More(720)),
-                (720, Need::Length(720)),
-            ],
-        ),
-        (
-            &LARGEST,
-            25_200,
-            [
-                (315, Need::More(316)),
-                (316, Need::More(25_920)),
-                (720, Need::More(25_920)),
-                (25_919, Need::More(25_920)),
-                (25_920, Need::Length(25_920)),
-            ],
-        ),
-        (
-            &FORMAT_17,
-            350,
-            [
-                (114, Need::More(316)),
-                (315, Need::More(316)),
-                (316, Need::More(360)),
-                (359, Need::More(360)),
-                (360, Need::Length(360)),
-            ],
-        ),
-        (
-            &NO_HEADER,
-            350,
-            [
-                (113, Need::More(114)),
-                (114, Need::More(316)),
-                (315, Need::More(316)),
-                (316, Need::NoLength(Field::PacketHeader)),
-                (360, Need::NoLength(Field::PacketHeader)),
-            ],
-        ),
+    let rows: [(&[u64], usize, &[(usize, Need)]); 6] = [
+        (&RESPONSE, 350, &RESPONSE_NEEDS),
+        (&CONFIRMED, 560, &CONFIRMED_NEEDS),
+        (&NO_BLOCKS, 700, &NO_BLOCKS_NEEDS),
+        (&LARGEST, 25_200, &LARGEST_NEEDS),
+        (&FORMAT_17, 350, &FORMAT_17_NEEDS),
+        (&NO_HEADER, 350, &NO_HEADER_NEEDS),
     ];
     for (words, len, needs) in rows {
-        let whole = sent(words, len);
-        for (have, needed) in needs {
-            if have <= whole.len() {
-                let mut bits = BitBuf::new();
-                bits.append(&whole, 0, have);
-                assert_eq!(rt; need(&bits, 0), needed);
-            }
-        }
+        assert_needs(&rt, &sent(words, len), needs);
     }
 }
 
@@ -208,6 +206,32 @@ fn damaged(words: &[u64], len: usize, places: &[usize]) -> BitBuf {
         }
     }
     bits
+}
+
+// Asserts that the item of a packet at place 9 is whole with so many fixes, or that exactly these fields fail.
+fn assert_item(rt: &impl Abort, item: Item, count: usize, wrong: u32, fields: &[Field]) {
+    match item {
+        Item::Whole {
+            place,
+            frame,
+            fixes,
+        } => {
+            assert_eq!(rt; (place, fixes, fields.len()), (9, wrong, 0));
+            assert_eq!(rt; frame_length(&frame.unit), count);
+        }
+        Item::Broken {
+            duid,
+            fields: failing,
+            ..
+        } => {
+            assert_eq!(rt; (duid, failing.len()), (0xC, fields.len()));
+            for (i, field) in fields.iter().enumerate() {
+                assert!(rt; i < failing.len());
+                assert_eq!(rt; failing.get(i), *field);
+            }
+        }
+        _ => assert!(rt; false),
+    }
 }
 
 #[test]
@@ -228,29 +252,15 @@ fn readings(rt: HostRuntime) {
         let bits = damaged(words, len, places);
         let mut begun = Begun::new();
         match need_begun(&bits, 0, &mut begun) {
-            Need::Length(count) => match unit_item(&bits, 0, count, begun, 9) {
-                Item::Whole {
-                    place,
-                    frame,
-                    fixes,
-                } => {
-                    assert_eq!(rt; (place, fixes, fields.len()), (9, wrong, 0));
-                    assert_eq!(rt; frame_length(&frame.unit), count);
-                }
-                Item::Broken {
-                    duid,
-                    fields: failing,
-                    ..
-                } => {
-                    assert_eq!(rt; (duid, failing.len()), (0xC, fields.len()));
-                    for (i, field) in fields.iter().enumerate() {
-                        if i < failing.len() {
-                            assert_eq!(rt; failing.get(i), *field);
-                        }
-                    }
-                }
-                _ => assert!(rt; false),
-            },
+            Need::Length(count) => {
+                assert_item(
+                    &rt,
+                    unit_item(&bits, 0, count, begun, 9),
+                    count,
+                    wrong,
+                    fields,
+                );
+            }
             _ => assert!(rt; false),
         }
     }

@@ -1,4 +1,4 @@
-use Rattle.p25_text.proofs.ReadSteps.{refused-answer}
+use Rattle.p25_text.proofs.ReadLaws.{refused-answer}
 use Rattle.p25_text.proofs.read.read_whole.Goals as goal
 
 pub returns-in-Err : goal.returns-in-Err

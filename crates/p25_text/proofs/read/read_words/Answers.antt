@@ -2,7 +2,7 @@ use Rattle.std.proofs.Common.{◌≡◌, ◌+◌, length, drop, sym, ap, ◌∙�
 use Rattle.p25_line.specs.Words.{marked}
 use Rattle.p25_text.specs.Grammar.{or_value, read_values, values_behind}
 use Rattle.p25_text.specs.Names.{keys_of}
-use Rattle.p25_text.proofs.ReadSteps.{right_count, some_place, wrong_count, wrong_kind}
+use Rattle.p25_text.proofs.ReadLaws.{right_count, some_place, wrong_count, wrong_kind}
 use Rattle.p25_text.proofs.WordLaws.{keyed-values_behind}
 use Rattle.p25_text.proofs.read.read_words.Goals as goal
 

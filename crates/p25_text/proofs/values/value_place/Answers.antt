@@ -2,7 +2,7 @@ use Rattle.std.proofs.Common.{◌≤◌, length, refl, sym, ap, ◌∙◌, arith
 use Rattle.std.specs.Option.{option_and_then}
 use Rattle.p25_text.specs.Grammar.{behind}
 use Rattle.p25_text.specs.Names.{key_text}
-use Rattle.p25_text.proofs.ReadSteps.{Stands-read, behind-word}
+use Rattle.p25_text.proofs.ReadLaws.{Stands-read, behind-word}
 use Rattle.p25_text.proofs.values.value_place.Goals as goal
 
 pub returns-clause-value : goal.returns-clause-value

@@ -3,7 +3,7 @@ use Rattle.std.specs.List.{All}
 use Rattle.std.proofs.lemmas.List.{length-map, map_push}
 use Rattle.std.proofs.lemmas.List.Elements.{All-push}
 use Rattle.p25_line.specs.Words.{LiesIn, marked, word_at}
-use Rattle.p25_text.proofs.ReadSteps.{SoFar, SoFar-more, SoFar-none}
+use Rattle.p25_text.proofs.ReadLaws.{SoFar, SoFar-more, SoFar-none}
 use Rattle.p25_text.proofs.values.values_of_words.Goals as goal
 
 pub returns-in_default : goal.returns-in_default

@@ -1,7 +1,7 @@
 use Rattle.std.proofs.Common.{◌≡◌, length}
 use Rattle.std.specs.List.{All}
 use Rattle.p25_line.specs.Words.{LiesIn, marked}
-use Rattle.p25_text.proofs.ReadSteps.{SoFar}
+use Rattle.p25_text.proofs.ReadLaws.{SoFar}
 use Rattle.p25_text.proofs.values.values_of_words.Given as goal
 
 abbrev pub invariant-loop-i : goal.invariant-loop-i

@@ -1,54 +1,47 @@
-use Rattle.std.proofs.Common.{ℕ, ◌*◌, ◌<◌, ◌≤◌, length, drop, sym, ap, ◌∙◌, arith, length-drop}
+use Rattle.std.proofs.Common.{ℕ, ◌*◌, ◌<◌, ◌≤◌, Bool, List, length, drop, sym, ap, subst, ◌∙◌, arith, length-drop}
 use Rattle.std.proofs.lemmas.List.Elements.{All-same}
 use Rattle.p25_bits.specs.Bits.{part}
 use Rattle.p25_trellis.specs.Interleave.{interleaved}
-use Rattle.p25_trellis.specs.Costs.{path_cost, cost_in}
 use Rattle.p25_bits.specs.Numbers.{number_bits, numbers_from}
 use Rattle.p25_bits.proofs.NumbersLaws.{All-numbers_from, number_bits-numbers_from}
-use Rattle.p25_trellis.specs.Trellis.{distance_from}
+use Rattle.p25_trellis.specs.Trellis.{IsFirstLeastReading, distance_from}
 use Rattle.p25_trellis.proofs.InterleaveLaws.{All-from_interleaved}
 use Rattle.p25_trellis.proofs.PathLaws.{power-pos}
 use Rattle.p25_trellis.proofs.NearestLaws.{same_nearest}
-use Rattle.p25_trellis.proofs.DistanceLaws.{path_cost-distance, IsFirstLeastReading-same}
 use Rattle.p25_bits.proofs.PartLaws.{length-part}
 use Rattle.p25_trellis.proofs.ApartLaws.{same_from_sent_bits, IsNearReading-from}
 use Rattle.p25_trellis.proofs.block.read_block.Goals as goal
 
-pub distance_costs-requires : goal.distance_costs-requires
-distance_costs-requires g c =
+pub read_nibbles-requires-clause-nibbles : goal.read_nibbles-requires-clause-nibbles
+read_nibbles-requires-clause-nibbles g c =
     let P : ℕ → Type 0 = λ n. n < 16 in
     All-from_interleaved P c.gather.result
     (All-same P (interleaved c.gather.result) (numbers_from 4 49 (drop c.args.at c.args.bits.now)) (c.gather.ensures.sent ∙ c.take_numbers.ensures) (All-numbers_from 4 49 (drop c.args.at c.args.bits.now)))
 
 pub returns-clause-nearest : goal.returns-clause-nearest
 returns-clause-nearest g c =
-    let states = g.R.Rate.STATES in
-    let point = g.R.Rate.point_of in
-    let costs = c.distance_costs.result in
-    let bits = part c.args.at 196 c.args.bits.now in
     let there : 4 * 49 ≤ length (drop c.args.at c.args.bits.now) = omega (arith, length-drop c.args.at c.args.bits.now, c.requires.there) in
     let are = sym (number_bits-numbers_from 4 49 (drop c.args.at c.args.bits.now) there) ∙ ap (number_bits 4) (sym c.take_numbers.ensures ∙ sym c.gather.ensures.sent) in
-    IsFirstLeastReading-same states g.R.Rate.BITS_PER_SYMBOL (path_cost point (cost_in costs)) (distance_from point bits) c.read_costs.new.octets c.read_costs.result
-    (path_cost-distance states point c.gather.result costs bits (power-pos g.R.Rate.BITS_PER_SYMBOL states g.met.R.Rate.states_of_bits) g.met.R.Rate.nibbles c.distance_costs.ensures.costs c.gather.ensures.len are)
-    c.read_costs.ensures
+    subst (λ (bits : List Bool). IsFirstLeastReading g.R.Rate.STATES g.R.Rate.BITS_PER_SYMBOL (distance_from g.R.Rate.point_of bits) c.read_nibbles.new.octets c.read_nibbles.result)
+    (sym are) c.read_nibbles.ensures
 
 pub returns-clause-octets : goal.returns-clause-octets
 returns-clause-octets g c =
     let received = part c.args.at 196 c.args.bits.now in
     let some = power-pos g.R.Rate.BITS_PER_SYMBOL g.R.Rate.STATES g.met.R.Rate.states_of_bits in
-    (same_nearest g.R.Rate.STATES g.R.Rate.BITS_PER_SYMBOL g.R.Rate.point_of received c.read_costs.new.octets c.read_costs.result some (returns-clause-nearest g c)).0
+    (same_nearest g.R.Rate.STATES g.R.Rate.BITS_PER_SYMBOL g.R.Rate.point_of received c.read_nibbles.new.octets c.read_nibbles.result some (returns-clause-nearest g c)).0
 
 pub returns-clause-distance : goal.returns-clause-distance
 returns-clause-distance g c =
     let received = part c.args.at 196 c.args.bits.now in
     let some = power-pos g.R.Rate.BITS_PER_SYMBOL g.R.Rate.STATES g.met.R.Rate.states_of_bits in
-    (same_nearest g.R.Rate.STATES g.R.Rate.BITS_PER_SYMBOL g.R.Rate.point_of received c.read_costs.new.octets c.read_costs.result some (returns-clause-nearest g c)).1
+    (same_nearest g.R.Rate.STATES g.R.Rate.BITS_PER_SYMBOL g.R.Rate.point_of received c.read_nibbles.new.octets c.read_nibbles.result some (returns-clause-nearest g c)).1
 
 pub returns-clause-near : goal.returns-clause-near
 returns-clause-near g c =
     let law = g.met.R.Rate in
     let bits = part c.args.at 196 c.args.bits.now in
-    IsNearReading-from g.R.Rate.STATES g.R.Rate.BITS_PER_SYMBOL g.R.Rate.APART g.R.Rate.point_of bits c.read_costs.new.octets c.read_costs.result
+    IsNearReading-from g.R.Rate.STATES g.R.Rate.BITS_PER_SYMBOL g.R.Rate.APART g.R.Rate.point_of bits c.read_nibbles.new.octets c.read_nibbles.result
     (same_from_sent_bits g.R.Rate.STATES g.R.Rate.APART g.R.Rate.point_of g.R.Rate.parted (power-pos g.R.Rate.BITS_PER_SYMBOL g.R.Rate.STATES law.states_of_bits) law.together law.stays_parted law.parts)
     (length-part c.args.at 196 c.args.bits.now c.requires.there)
     (returns-clause-nearest g c)

@@ -6,7 +6,7 @@ use Rattle.p25_packet_blocks.specs.Reading.{head_reading_of, packet_reading_of, 
 use Rattle.p25_units.specs.Needs.{kind_need}
 use Rattle.p25_units.specs.Readings.{body_from, body_reading_of, packet_body_from}
 use Rattle.p25_units.proofs.ReadingsLaws.{body_reading_of-packet, body_reading_of-voice}
-use Rattle.p25_units.proofs.ReadSteps.{IsCountAt-kind, IsPacketAt-kind, voice_long}
+use Rattle.p25_units.proofs.UnitPlaceLaws.{IsCountAt-kind, IsPacketAt-kind, voice_long}
 use Rattle.p25_units.proofs.read.read_body.Goals as goal
 
 pub unweave-requires-clause-blocks : goal.unweave-requires-clause-blocks

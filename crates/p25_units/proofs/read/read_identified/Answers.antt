@@ -3,7 +3,7 @@ use Rattle.p25_bits.specs.Bits.{part}
 use Rattle.p25_status.specs.declared.fields.Field.{Field}
 use Rattle.p25_units.specs.UnitParts.{UnitParts}
 use Rattle.p25_units.specs.declared.frame.Frame.{Frame}
-use Rattle.p25_units.proofs.ReadSteps.{reading-is, frame-is}
+use Rattle.p25_units.proofs.UnitPlaceLaws.{reading-is, frame-is}
 use Rattle.p25_units.proofs.read.read_identified.Goals as goal
 
 pub returns-in-Ok : goal.returns-in-Ok

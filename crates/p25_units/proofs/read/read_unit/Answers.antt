@@ -3,7 +3,7 @@ use Rattle.p25_bits.specs.Bits.{part}
 use Rattle.p25_units.specs.Needs.{kind_need}
 use Rattle.p25_units.specs.Readings.{reading_from}
 use Rattle.p25_units.proofs.FailuresLaws.{some_fields}
-use Rattle.p25_units.proofs.ReadSteps.{IsUnitAt-from, same_nid, some_nid, reading_of_unit}
+use Rattle.p25_units.proofs.UnitPlaceLaws.{IsUnitAt-from, same_nid, some_nid, reading_of_unit}
 use Rattle.p25_units.proofs.read.read_unit.Goals as goal
 
 pub read_identifier-requires : goal.read_identifier-requires

@@ -1,5 +1,5 @@
 use Rattle.std.proofs.Common.{◌∙◌, arith}
-use Rattle.p25_units.proofs.ReadSteps.{need-cut, need-none, need-some}
+use Rattle.p25_units.proofs.UnitPlaceLaws.{need-cut, need-none, need-some}
 use Rattle.p25_units.proofs.scan.need_at_sync.Goals as goal
 
 pub returns-then-len-at-lt-IDENTIFIED-clause-need : goal.returns-then-len-at-lt-IDENTIFIED-clause-need

@@ -1,6 +1,6 @@
 use Rattle.std.proofs.Common.{◌∙◌, arith}
 use Rattle.std.proofs.lemmas.Bool.{iff_false}
-use Rattle.p25_units.proofs.ReadSteps.{need-short, need-unsynced, need-synced}
+use Rattle.p25_units.proofs.UnitPlaceLaws.{need-short, need-unsynced, need-synced}
 use Rattle.p25_units.proofs.scan.need_begun.Goals as goal
 
 pub returns-then-len-at-lt48-clause-need : goal.returns-then-len-at-lt48-clause-need

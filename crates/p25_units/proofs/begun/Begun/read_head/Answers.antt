@@ -1,5 +1,5 @@
 use Rattle.std.proofs.Common.{arith, refl, drop, length-drop}
-use Rattle.p25_units.proofs.BegunSteps.{IsBegun-headed, begun-headed}
+use Rattle.p25_units.proofs.BegunLaws.{IsBegun-headed, begun-headed}
 use Rattle.p25_units.proofs.begun.Begun.read_head.Goals as goal
 
 pub returns-in-Some-clause-value : goal.returns-in-Some-clause-value

@@ -3,7 +3,7 @@ use Rattle.std.proofs.lemmas.List.{length-take-le}
 use Rattle.p25_bits.specs.Bits.{part}
 use Rattle.p25_units.specs.Items.{item_from}
 use Rattle.p25_units.specs.declared.item.Item.TheVariants.{Broken}
-use Rattle.p25_units.proofs.ReadSteps.{IsCountAt-kind}
+use Rattle.p25_units.proofs.UnitPlaceLaws.{IsCountAt-kind}
 use Rattle.p25_units.proofs.item.identified_item.Goals as goal
 
 pub fixes-fixes-requires-clause-there : goal.fixes-fixes-requires-clause-there

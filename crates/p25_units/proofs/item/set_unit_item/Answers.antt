@@ -5,7 +5,7 @@ use Rattle.p25_units.specs.Needs.{kind_need}
 use Rattle.p25_units.specs.Readings.{reading_from}
 use Rattle.p25_units.specs.declared.item.Item.{Item}
 use Rattle.p25_units.proofs.ItemsLaws.{IsSoundItem-unit_item_of}
-use Rattle.p25_units.proofs.ReadSteps.{IsUnitAt-from, same_nid, some_nid, item_of_unit}
+use Rattle.p25_units.proofs.UnitPlaceLaws.{IsUnitAt-from, same_nid, some_nid, item_of_unit}
 use Rattle.p25_units.proofs.item.unit_item.Goals as goal
 
 pub identify-requires-clause-there : goal.identify-requires-clause-there
