@@ -13,15 +13,17 @@ use Rattle.p25_work.specs.LineRules.{texts_of}
 use Rattle.p25_work.specs.LineWorks.{first_line, line_future}
 use Rattle.p25_work.proofs.RulesLaws.{first_line-ends, first_line-pauses, first_line-writes}
 use Rattle.p25_tool.specs.declared.build.Build.{Build}
-use Rattle.p25_tool.specs.declared.command.Command.TheVariants.{Show as ShowIt, Check as CheckIt, Repair as RepairIt, Bridge as BridgeIt, Build as BuildIt}
+use Rattle.p25_tool.specs.declared.command.Command.TheVariants.{Show as ShowIt, Check as CheckIt, Repair as RepairIt, Bridge as BridgeIt, Build as BuildIt, Calls as CallsIt}
 use Rattle.p25_tool.specs.declared.reports.show.Show.{Show}
 use Rattle.p25_tool.specs.declared.reports.check.Check.{Check}
 use Rattle.p25_tool.specs.declared.reports.changed.Change.TheVariants.{Repaired, Bridged}
 use Rattle.p25_tool.specs.Buildings.{build_rules}
-use Rattle.p25_tool.specs.Commands.{changed_reporting, check_reporting, show_reporting}
+use Rattle.p25_calls.specs.Taking.{fresh_caller}
+use Rattle.p25_tool.specs.Commands.{CallsParts, calls_reporting, changed_reporting, check_reporting, show_reporting}
 use Rattle.p25_tool.specs.Outputs.{check_ending, check_line, ending_by, faults_in, faulty, image_octets, units_in}
 use Rattle.p25_tool.specs.Recordings.{fresh, recording_future}
 use Rattle.p25_tool.specs.Runs.{command_future}
+use Rattle.p25_tool.proofs.CallReportsLaws.{reported-calls}
 use Rattle.p25_tool.proofs.ReportsLaws.{behind-check, reported-changed, reported-check, reported-show}
 
 -- two futures write and end alike, and memory may be wanting behind the same texts
@@ -97,4 +99,12 @@ build-alike status = record {
       ∙ images build units;
   ends = λ is octets. first_line-ends read_line_of _ _ false (record { status = status }) is octets;
   pauses = λ is octets. first_line-pauses read_line_of _ _ false (record { status = status }) is octets;
+}
+
+pub calls-alike : (report : CallsParts) → report ≡ record { caller = fresh_caller; count = 0 } → AreAlike (recording_future calls_reporting (fresh report)) (command_future CallsIt)
+unfolding recording_future
+calls-alike report empty = record {
+  writes = λ is octets. reported-calls is report (octet_bits octets) empty;
+  ends = λ is octets. refl;
+  pauses = λ is octets. refl;
 }

@@ -4,7 +4,7 @@ use Rattle.p25_tool.specs.declared.command.Command.{Command}
 use Rattle.p25_tool.specs.Commands.{ChangedParts, changed_reporting}
 use Rattle.p25_tool.specs.Recordings.{fresh, recording_future}
 use Rattle.p25_tool.specs.Runs.{command_future}
-use Rattle.p25_tool.proofs.CommandsLaws.{AreAlike, bridge-alike, build-alike, check-alike, repair-alike, show-alike}
+use Rattle.p25_tool.proofs.CommandsLaws.{AreAlike, bridge-alike, build-alike, calls-alike, check-alike, repair-alike, show-alike}
 use Rattle.p25_tool.proofs.RunsLaws.{worked-alike, all_written-alike}
 use Rattle.p25_tool.proofs.command_run.run_command.Goals as goal
 
@@ -49,3 +49,9 @@ returns-in-Build-clause-worked g c = worked-alike _ _ _ _ _ _ _ (alike-to _ _ _ 
 
 pub returns-in-Build-clause-quiet : goal.returns-in-Build-clause-quiet
 returns-in-Build-clause-quiet g c = λ input told none. c.run_build.ensures.quiet input told (all_written-alike _ _ (alike-to _ _ _ c.in-Build.is (build-alike c.in-Build.status)) input none)
+
+pub returns-in-Calls-clause-worked : goal.returns-in-Calls-clause-worked
+returns-in-Calls-clause-worked g c = worked-alike _ _ _ _ _ _ _ (alike-to _ _ _ c.in-Calls.is (calls-alike _ c.new-in-Calls.ensures)) c.run_report-in-Calls.ensures.worked
+
+pub returns-in-Calls-clause-quiet : goal.returns-in-Calls-clause-quiet
+returns-in-Calls-clause-quiet g c = λ input told none. c.run_report-in-Calls.ensures.quiet input told (all_written-alike _ _ (alike-to _ _ _ c.in-Calls.is (calls-alike _ c.new-in-Calls.ensures)) input none)
