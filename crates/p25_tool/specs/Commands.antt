@@ -1,5 +1,5 @@
 -- The reports of the commands, item by item.
-use Rattle.std.specs.Prelude.{◌+◌, ◌*◌, ◌/◌, ◌<◌, Bool, cond, ◌≤◌, ℕ, List, [], ◌++◌, length, drop, flat_map, option_to_list}
+use Rattle.std.specs.Prelude.{◌^◌, ◌+◌, ◌*◌, ◌/◌, ◌<◌, Bool, cond, ◌≤◌, ℕ, List, [], ◌++◌, length, drop, flat_map, option_to_list}
 use Rattle.p25_units.specs.declared.item.Item.{Item}
 use Rattle.p25_stream.specs.Repeats.{bridged, is_whole_item, repaired}
 use Rattle.p25_work.specs.declared.ending.Ending.TheVariants.{Done}
@@ -54,10 +54,11 @@ pub record CallsParts : Type 0 where
   pub caller : CallerParts
   pub count : ℕ
 
--- it has answered no more calls than it took items, and the run that is open has a network access code
+-- it has answered no more calls than it took items, of which there are few, and the run that is open has a network access code
 pub record IsCalls (report : CallsParts) : Type 0 where
   pub sound : HasSoundPending report.caller
-  pub few : report.count ≤ report.caller.taken
+  pub fewer : report.count ≤ report.caller.taken
+  pub few : report.caller.taken ≤ 2 ^ 29
 
 abbrev pub calls_reporting : Reporting CallsParts
 calls_reporting = record {
