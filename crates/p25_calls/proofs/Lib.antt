@@ -3,4 +3,5 @@ pub mod DividedLaws
 pub mod CallLaws
 pub mod TakingLaws
 pub mod ClosedLaws
+pub mod LieLaws
 pub mod CallerSteps

@@ -13,7 +13,7 @@ use Rattle.p25_work.specs.LineRules.{machine_behind, texts_of}
 use Rattle.p25_work.specs.LineWorks.{first_line, line_future}
 use Rattle.p25_work.proofs.RulesLaws.{first_line-ends, first_line-pauses, first_line-writes}
 use Rattle.p25_tool.specs.declared.build.Build.{Build}
-use Rattle.p25_tool.specs.declared.command.Command.TheVariants.{Show as ShowIt, Check as CheckIt, Repair as RepairIt, Bridge as BridgeIt, Build as BuildIt, Stations as StationsIt}
+use Rattle.p25_tool.specs.declared.command.Command.TheVariants.{Show as ShowIt, Check as CheckIt, Repair as RepairIt, Bridge as BridgeIt, Build as BuildIt, Stations as StationsIt, Calls as CallsIt}
 use Rattle.p25_tool.specs.declared.reports.show.Show.{Show}
 use Rattle.p25_tool.specs.declared.reports.check.Check.{Check}
 use Rattle.p25_tool.specs.declared.reports.changed.Change.TheVariants.{Repaired, Bridged}
@@ -25,10 +25,12 @@ use Rattle.p25_air_world.specs.declared.step.Event.{Event}
 use Rattle.p25_air_world.specs.declared.step.Step.{Step}
 use Rattle.p25_script.specs.Script.{event_of}
 use Rattle.p25_tool.specs.StationRules.{station_rules, told_step}
-use Rattle.p25_tool.specs.Commands.{changed_reporting, check_reporting, show_reporting}
+use Rattle.p25_tool.specs.Commands.{changed_reporting, check_reporting, show_reporting, CallsParts, calls_reporting}
 use Rattle.p25_tool.specs.Outputs.{check_ending, check_line, closing_line, ending_by, faults_in, faulty, image_octets, step_line, units_in}
+use Rattle.p25_calls.specs.Taking.{fresh_caller}
 use Rattle.p25_tool.specs.Recordings.{fresh, recording_future}
 use Rattle.p25_tool.specs.Runs.{command_future}
+use Rattle.p25_tool.proofs.CallReportsLaws.{reported-calls}
 use Rattle.p25_tool.proofs.ReportsLaws.{behind-check, reported-changed, reported-check, reported-show}
 
 -- two futures write and end alike, and memory may be wanting behind the same texts
@@ -133,4 +135,12 @@ stations-alike = record {
   pauses = λ is octets.
       first_line-pauses event_of told_step closing_line true first_world is octets
       ∙ ap texts_before (told (read_of event_of (lines_in is [] octets)) first_world);
+}
+
+pub calls-alike : (report : CallsParts) → report ≡ record { caller = fresh_caller; count = 0 } → AreAlike (recording_future calls_reporting (fresh report)) (command_future CallsIt)
+unfolding recording_future
+calls-alike report empty = record {
+  writes = λ is octets. reported-calls is report (octet_bits octets) empty;
+  ends = λ is octets. refl;
+  pauses = λ is octets. refl;
 }

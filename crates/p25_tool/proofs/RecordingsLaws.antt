@@ -1,13 +1,14 @@
 -- How a recording's work goes on: octets come, an item is given, the input ends. Each is one unfolding of what is reported.
-use Rattle.std.proofs.Common.{◌≡◌, ◌≢◌, ℕ, Bool, true, false, cond, List, [], ◌∷◌, ◌++◌, take, drop, Some, None, Ok, refl, ap, ap₂, sym, subst, ◌∙◌, append_assoc, append-nil}
+use Rattle.std.proofs.Common.{◌≡◌, ◌≢◌, ℕ, ◌+◌, Bool, true, false, cond, List, [], ◌∷◌, ◌++◌, take, drop, Some, None, Ok, refl, ap, ap₂, sym, subst, ◌∙◌, arith, append_assoc, append-nil}
 use Rattle.std.proofs.lemmas.List.{take-append-le, drop-append-le}
 use Rattle.p25_bits.specs.Bits.{bits_of, octet_bits}
 use Rattle.p25_bits.proofs.BitsLaws.{octet_bits-cons, octet_bits-nil}
 use Rattle.p25_units.specs.declared.item.Item.{Item}
-use Rattle.p25_units.specs.Items.{covered}
+use Rattle.p25_units.specs.Items.{covered, place_of}
 use Rattle.p25_stream.specs.Items.{items_by, items_in}
 use Rattle.p25_stream.specs.ItemLaws.{GaveItems}
 use Rattle.p25_stream.specs.Scan.{Scan, Gave, given}
+use Rattle.p25_stream.proofs.ItemLaws.{item-covers}
 use Rattle.p25_work.specs.Futures.{IsClosed, IsIdle, NextPiece, Progress}
 use Rattle.p25_work.proofs.LinesLaws.{Contains-none}
 use Rattle.p25_tool.specs.declared.recording.Phase.{Phase}
@@ -15,6 +16,12 @@ use Rattle.p25_tool.specs.declared.recording.Phase.TheVariants.{Reading, Ended, 
 use Rattle.p25_tool.specs.Recordings.{HasClosed, IsClosing, IsClosingBy, RecordingParts, bits_ending, bits_written, fresh, has_ended, phase_future, recording_future}
 use Rattle.p25_tool.specs.Reports.{Reporting, report_behind, reported}
 use Rattle.p25_tool.proofs.ReportsLaws.{behind-cons, behind-nil, reported-cons, reported-nil}
+
+-- an item that was given begins at the place where it was held
+pub gave-place : (before now : Scan) (item : Item) (raw : List Bool) → Gave before item raw now → place_of item ≡ before.place
+gave-place before now item raw gave =
+    let none : before.place + 0 ≡ before.place = omega arith in
+    (item-covers before.finished before.place before.held [] item (given now) gave.items).1 ∙ none
 
 module _ {R : Type 0} (reporting : Reporting R) where
   -- what is held with octets that come

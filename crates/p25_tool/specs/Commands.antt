@@ -1,5 +1,5 @@
 -- The reports of the commands, item by item.
-use Rattle.std.specs.Prelude.{◌+◌, ◌*◌, ◌/◌, ◌<◌, Bool, cond, List, [], ◌++◌, length, drop}
+use Rattle.std.specs.Prelude.{◌^◌, ◌+◌, ◌*◌, ◌/◌, ◌<◌, Bool, cond, ◌≤◌, ℕ, List, [], ◌++◌, length, drop, flat_map, option_to_list}
 use Rattle.p25_units.specs.declared.item.Item.{Item}
 use Rattle.p25_stream.specs.Repeats.{bridged, is_whole_item, repaired}
 use Rattle.p25_work.specs.declared.ending.Ending.TheVariants.{Done}
@@ -7,7 +7,8 @@ use Rattle.p25_tool.specs.declared.reports.show.Show.{Show}
 use Rattle.p25_tool.specs.declared.reports.check.Check.{Check}
 use Rattle.p25_tool.specs.declared.reports.changed.Change.{Change}
 use Rattle.p25_tool.specs.declared.reports.changed.Change.TheVariants.{Repaired, Bridged}
-use Rattle.p25_tool.specs.Outputs.{whole_octets, shown, faulty, check_line, check_ending}
+use Rattle.p25_calls.specs.Taking.{CallerParts, HasSoundPending, answer_to, behind_item, open_call}
+use Rattle.p25_tool.specs.Outputs.{whole_octets, shown, faulty, call_line, calls_line, check_line, check_ending}
 use Rattle.p25_tool.specs.Reports.{Reporting}
 
 abbrev pub show_reporting : Reporting Show
@@ -45,5 +46,28 @@ changed_reporting = record {
   piece = λ report item raw. whole_octets (report.kept ++ change_of report.change item raw);
   behind = λ report item raw. record { change = report.change; kept = unfilled (report.kept ++ change_of report.change item raw) };
   closing = λ report. [];
+  ending = λ report. Done;
+}
+
+-- a caller, and how many calls it has answered
+pub record CallsParts : Type 0 where
+  pub caller : CallerParts
+  pub count : ℕ
+
+-- it has answered no more calls than it took items, of which there are few, and the run that is open has a network access code
+pub record IsCalls (report : CallsParts) : Type 0 where
+  pub sound : HasSoundPending report.caller
+  pub fewer : report.count ≤ report.caller.taken
+  pub few : report.caller.taken ≤ 2 ^ 29
+
+abbrev pub calls_reporting : Reporting CallsParts
+calls_reporting = record {
+  piece = λ report item raw. flat_map call_line (option_to_list (answer_to report.caller item));
+  behind = λ report item raw. record {
+    caller = behind_item report.caller item;
+    count = report.count + length (option_to_list (answer_to report.caller item));
+  };
+  closing = λ report.
+      let last = option_to_list (open_call report.caller) in flat_map call_line last ++ calls_line (report.count + length last);
   ending = λ report. Done;
 }

@@ -13,6 +13,9 @@ use Rattle.p25_stream.specs.Items.{items_by}
 use Rattle.p25_stream.specs.Repeats.{bridged, is_whole_item, repaired}
 use Rattle.p25_text.specs.ItemTexts.{item_text_of}
 use Rattle.p25_text.specs.Grammar.{read_line_of}
+use Rattle.p25_calls.specs.Calls.{calls_by}
+use Rattle.p25_calls.specs.CallTexts.{call_text_of}
+use Rattle.p25_calls.specs.declared.call.Call.{Call}
 use Rattle.p25_work.specs.declared.ending.Ending.{Ending}
 use Rattle.p25_work.specs.declared.ending.Ending.TheVariants.{Done, Found}
 use Rattle.p25_air_world.specs.Runs.{steps_of, world_run}
@@ -22,7 +25,7 @@ use Rattle.p25_script.specs.Script.{event_of}
 use Rattle.p25_script.specs.StepTexts.{closing_text_of, step_text_of}
 use Rattle.p25_work.specs.Lines.{closing_by, lines_ending, lines_in, read_of, refusal_in, texts_before}
 use Rattle.p25_tool.specs.declared.command.Command.{Command}
-use Rattle.p25_tool.specs.declared.command.Command.TheVariants.{Show, Check, Repair, Bridge, Build, Stations}
+use Rattle.p25_tool.specs.declared.command.Command.TheVariants.{Show, Check, Repair, Bridge, Build, Stations, Calls}
 
 -- the octets that bits fill, most significant bit first
 abbrev pub whole_octets : List Bool → List ℕ
@@ -58,6 +61,14 @@ unfoldable pub changed_bits : (Item → List Bool → List Bool) → List Item �
 changed_bits change [] bits = []
 changed_bits change (item ∷ items) bits = change item (take (covered item) bits) ++ changed_bits change items (drop (covered item) bits)
 
+-- the text of a call and the end of its line
+abbrev pub call_line : Call → List ℕ
+call_line call = call_text_of call ++ 10 ∷ []
+
+-- how many calls there are
+abbrev pub calls_line : ℕ → List ℕ
+calls_line count = codes "calls=" ++ decimal count ++ 10 ∷ []
+
 -- the frame of a unit with one status symbol everywhere
 abbrev pub filled_frame : Status → UnitParts → Frame
 filled_frame status unit = record { unit = unit; statuses = replicate (frame_length_of unit / 72) status }
@@ -87,6 +98,8 @@ output_by Stations ended octets =
     let lines = lines_in ended [] octets in
     let events = read_of event_of lines in
     flat_map step_line (steps_of first_world events) ++ closing_by ended (refusal_in event_of 1 lines) (closing_line (world_run first_world events))
+output_by Calls ended octets =
+    let calls = calls_by ended (items_by ended 0 (octet_bits octets)) in flat_map call_line calls ++ cond ended (calls_line (length calls)) []
 
 -- how a call of a command ends by the octets of its input, whether they are all or more may come
 abbrev pub ending_by : Command → Bool → List ℕ → Option Ending
@@ -96,6 +109,7 @@ ending_by Repair ended octets = cond ended (Some Done) None
 ending_by (Bridge nac status) ended octets = cond ended (Some Done) None
 ending_by (Build status) ended octets = lines_ending ended (refusal_in read_line_of 1 (lines_in ended [] octets))
 ending_by Stations ended octets = lines_ending ended (refusal_in event_of 1 (lines_in ended [] octets))
+ending_by Calls ended octets = cond ended (Some Done) None
 
 -- behind which texts of a command memory may be wanting, by the octets of its input: before each step of a script
 abbrev pub pauses_by : Command → Bool → List ℕ → List (List ℕ)

@@ -11,6 +11,8 @@ pub enum Command {
     Repair,
     /// The whole units of a recording, under another network access code and with this status symbol everywhere.
     Bridge { nac: u16, status: Status },
+    /// The text of each call of a recording, one a line, and how many there are.
+    Calls,
     /// The units that lines of text describe, with this status symbol everywhere.
     Build { status: Status },
     /// The steps that the lines of a script are, one a line, and a last line that tells of the world behind them.

@@ -17,7 +17,7 @@ use super::command::Command;
 use super::outcome::{Outcome, outcome_of};
 use super::recording::Recording;
 use super::report::Report;
-use super::reports::{Change, Changed, Check, Show};
+use super::reports::{Change, Changed, Check, Show, Calls};
 use super::stations::Stations;
 use super::words::Words;
 use p25_io::{Sink, Source};
@@ -94,6 +94,7 @@ fn run_command<S: Source, K: Sink>(
         }
         Command::Build { status } => run_lines(Build::new(status), source, sink),
         Command::Stations => run_lines(Stations::new(alloc), source, sink),
+        Command::Calls => run_report(Calls::new(), source, sink),
     }
 }
 
@@ -103,7 +104,8 @@ fn run_report<R: Report + Drop, S: Source, K: Sink>(
     source: &mut S,
     sink: &mut K,
 ) -> WorkEnd
-    requires { R.counted report ≡ 0 }
+    requires counted { R.counted report ≡ 0 }
+    requires reached { R.HasReached report 0 }
     ensures worked { Worked (S.left source.old) (S.left source.new) (K.written sink.old) (K.written sink.new)
         (recording_future R.reporting (fresh report)) result }
     ensures quiet { (input : List ℕ) → S.left source.old ≡ Some input → all_written (recording_future R.reporting (fresh report)) input ≡ []

@@ -42,13 +42,15 @@ impl<R: Report> Model for Recording<R> {
     ghost invariant = { λ s. (s.scanner.finished ≡ has_ended s.phase)
         × (R.counted s.report ≤ s.scanner.place)
         × (s.scanner.place + length s.scanner.held < 2 ^ 29)
-        × HasClosed s.phase s.scanner };
+        × HasClosed s.phase s.scanner
+        × R.HasReached s.report s.scanner.place };
 }
 
 impl<R: Report> Recording<R> {
     // Before the first octet.
     pub(crate) fn new(report: R) -> Recording<R>
-        requires { R.counted report ≡ 0 }
+        requires counted { R.counted report ≡ 0 }
+        requires reached { R.HasReached report 0 }
         ensures { result ≡ fresh report }
     {
         Recording {

@@ -1,7 +1,7 @@
 //! What a command writes of the items of a recording.
 
 ghost use Rattle.std.specs.Prelude.{◌≡◌, ℕ, ◌+◌, ◌^◌, ◌<◌, ◌≤◌};
-ghost use Rattle.p25_units.specs.Items.{IsSoundItem};
+ghost use Rattle.p25_units.specs.Items.{IsSoundItem, covered, place_of};
 ghost use Rattle.p25_tool.specs.Reports.{Reporting};
 
 use p25_bits::BitBuf;
@@ -17,13 +17,19 @@ pub(crate) trait Report {
     // How many items it has counted, at most.
     ghost counted: { Self → ℕ };
 
+    // It has taken the items of a recording that end at a place.
+    ghost HasReached: { Self → ℕ → Type 0 } = { λ _ _. Unit {0} };
+
     // Sets `out` to what is written of an item and the bits that it covers, and changes these.
     fn put(&mut self, item: &Item, raw: &mut BitBuf, out: &mut Line)
         requires sound { IsSoundItem item.now }
         requires few { counted self.old < 2 ^ 29 }
+        requires reached { HasReached self.old (place_of item.now) }
+        requires below { place_of item.now < 2 ^ 29 }
         ensures piece { out.new ≡ reporting.piece self.old item.now raw.old }
         ensures behind { self.new ≡ reporting.behind self.old item.now raw.old }
-        ensures counted { counted self.new ≤ counted self.old + 1 };
+        ensures counted { counted self.new ≤ counted self.old + 1 }
+        ensures reached { HasReached self.new (place_of item.now + covered item.now) };
 
     // Sets `out` to what is written at the end of the input.
     fn close(&self, out: &mut Line)

@@ -8,7 +8,7 @@ use Rattle.p25_tool.specs.Buildings.{build_rules}
 use Rattle.p25_tool.specs.StationRules.{station_rules}
 use Rattle.p25_tool.specs.Recordings.{fresh, recording_future}
 use Rattle.p25_tool.specs.Runs.{command_future}
-use Rattle.p25_tool.proofs.CommandsLaws.{AreAlike, bridge-alike, build-alike, check-alike, repair-alike, show-alike, stations-alike}
+use Rattle.p25_tool.proofs.CommandsLaws.{AreAlike, bridge-alike, build-alike, check-alike, repair-alike, show-alike, stations-alike, calls-alike}
 use Rattle.p25_tool.proofs.RunsLaws.{worked-alike, all_written-alike}
 use Rattle.p25_tool.proofs.command_run.run_command.Goals as goal
 
@@ -71,3 +71,8 @@ pub returns-in-Stations-clause-quiet : goal.returns-in-Stations-clause-quiet
 returns-in-Stations-clause-quiet g c =
     λ input told none.
     c.run_lines-in-Stations.ensures.quiet input told (all_written-alike _ _ (lines-alike station_rules _ _ _ _ c.new-in-Stations.ensures c.in-Stations.is stations-alike) input none)
+
+pub returns-in-Calls-clause-worked : goal.returns-in-Calls-clause-worked
+returns-in-Calls-clause-worked g c = worked-alike _ _ _ _ _ _ _ (alike-to _ _ _ c.in-Calls.is (calls-alike _ c.new-in-Calls.ensures)) c.run_report-in-Calls.ensures.worked
+pub returns-in-Calls-clause-quiet : goal.returns-in-Calls-clause-quiet
+returns-in-Calls-clause-quiet g c = λ input told none. c.run_report-in-Calls.ensures.quiet input told (all_written-alike _ _ (alike-to _ _ _ c.in-Calls.is (calls-alike _ c.new-in-Calls.ensures)) input none)
