@@ -6,4 +6,4 @@ pub mod StationRules
 pub mod DuplexSteps
 pub mod DuplexRuns
 pub mod SideLinks
-pub mod ClosingText
+pub mod DuplexTexts

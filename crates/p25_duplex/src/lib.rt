@@ -15,17 +15,17 @@
 //! `duplex_step`. The laws say what every run without a false pass keeps.
 #![tactic(auto)]
 
-mod closing;
 mod event;
 mod laws;
 mod side;
 mod station;
 #[cfg(test)]
 mod tests;
+mod texts;
 mod world;
 
-pub use closing::duplex_closing;
 pub use event::{DuplexEvent, DuplexStep};
 pub use laws::{both_directions_are_orderly, duplex_facts, false_passes_are_counted};
 pub use side::Side;
+pub use texts::{duplex_closing, duplex_step_text};
 pub use world::DuplexWorld;

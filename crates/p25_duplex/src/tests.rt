@@ -1,9 +1,9 @@
-//! Scripts of both stations as tables: the side and the text of each step, and the texts at the end.
+//! Scripts of both stations as tables: the text of each step, and the texts at the end.
 
-use super::{DuplexEvent, DuplexWorld, Side, duplex_closing};
+use super::{DuplexEvent, DuplexWorld, Side, duplex_closing, duplex_step_text};
 use p25_line::Line;
 use p25_messages::{Flips, Message};
-use p25_script::{Event, read_event, step_text};
+use p25_script::{Event, read_event};
 use std::process::Abort;
 use std::test::Fail;
 
@@ -17,7 +17,7 @@ enum Act<'a> {
     Damaged(Side, &'a [u8]),
 }
 
-type Row<'a> = (Act<'a>, Side, &'static [u8]);
+type Row<'a> = (Act<'a>, &'static [u8]);
 
 fn flips_of(line: &[u8]) -> Result<Flips, Fail> {
     match read_event(line)? {
@@ -44,13 +44,13 @@ fn event(act: Act) -> Result<DuplexEvent, Fail> {
     })
 }
 
-// Has the events of a script happen, and compares the side and the text of each step, and whether it is a false pass.
+// Has the events of a script happen, and compares the text of each step.
 fn play(rt: &impl Abort, world: &mut DuplexWorld, rows: &[Row]) -> Result<(), Fail> {
     let mut line = Line::new();
-    for (act, side, text) in rows {
+    for (act, text) in rows {
         let step = world.step(&event(*act)?)?;
-        step_text(&step.step, &mut line);
-        assert_eq!(rt; (step.side, line.octets()), (*side, *text));
+        duplex_step_text(&step, &mut line);
+        assert_eq!(rt; line.octets(), *text);
     }
     Ok(())
 }
@@ -73,29 +73,13 @@ const DONE_B: &[u8] = b"b sent=1 delivered=1 acknowledged=1";
 fn exchange(rt: HostRuntime) -> Result<(), Fail> {
     let mut world = DuplexWorld::new(rt.alloc());
     let rows: [Row; 7] = [
-        (
-            Act::Send(Side::A, b"ab"),
-            Side::A,
-            b"send taken ns=0 blocks=1",
-        ),
-        (
-            Act::Send(Side::B, b"cd"),
-            Side::B,
-            b"send taken ns=0 blocks=1",
-        ),
-        (
-            Act::Deliver(Side::B),
-            Side::B,
-            b"data delivered ns=0 message=6162",
-        ),
-        (Act::Deliver(Side::A), Side::A, b"answer acknowledged ns=0"),
-        (Act::Timeout(Side::B), Side::B, b"timeout sent ns=0 try=2"),
-        (
-            Act::Deliver(Side::A),
-            Side::A,
-            b"data delivered ns=0 message=6364",
-        ),
-        (Act::Deliver(Side::B), Side::B, b"answer acknowledged ns=0"),
+        (Act::Send(Side::A, b"ab"), b"a send taken ns=0 blocks=1"),
+        (Act::Send(Side::B, b"cd"), b"b send taken ns=0 blocks=1"),
+        (Act::Deliver(Side::B), b"b data delivered ns=0 message=6162"),
+        (Act::Deliver(Side::A), b"a answer acknowledged ns=0"),
+        (Act::Timeout(Side::B), b"b timeout sent ns=0 try=2"),
+        (Act::Deliver(Side::A), b"a data delivered ns=0 message=6364"),
+        (Act::Deliver(Side::B), b"b answer acknowledged ns=0"),
     ];
     play(&rt, &mut world, &rows)?;
     closes(&rt, &world, DONE_A, DONE_B, 0);
@@ -110,9 +94,9 @@ fn exchange(rt: HostRuntime) -> Result<(), Fail> {
 fn idle(rt: HostRuntime) -> Result<(), Fail> {
     let mut world = DuplexWorld::new(rt.alloc());
     let rows: [Row; 3] = [
-        (Act::Deliver(Side::B), Side::B, b"data none"),
-        (Act::Timeout(Side::B), Side::B, b"timeout idle"),
-        (Act::Reopen(Side::A), Side::A, b"reopen up"),
+        (Act::Deliver(Side::B), b"b data none"),
+        (Act::Timeout(Side::B), b"b timeout idle"),
+        (Act::Reopen(Side::A), b"a reopen up"),
     ];
     play(&rt, &mut world, &rows)?;
     let a = b"a sent=0 delivered=0 acknowledged=0".as_slice();
@@ -126,75 +110,68 @@ fn idle(rt: HostRuntime) -> Result<(), Fail> {
 fn answer_replaced_by_data(rt: HostRuntime) -> Result<(), Fail> {
     let mut world = DuplexWorld::new(rt.alloc());
     let rows: [Row; 10] = [
-        (
-            Act::Send(Side::A, b"a"),
-            Side::A,
-            b"send taken ns=0 blocks=1",
-        ),
-        (
-            Act::Deliver(Side::B),
-            Side::B,
-            b"data delivered ns=0 message=61",
-        ),
-        (
-            Act::Send(Side::B, b"b"),
-            Side::B,
-            b"send taken ns=0 blocks=1",
-        ),
-        (
-            Act::Deliver(Side::A),
-            Side::A,
-            b"data delivered ns=0 message=62",
-        ),
-        (Act::Timeout(Side::A), Side::A, b"timeout sent ns=0 try=2"),
-        (Act::Deliver(Side::B), Side::B, b"data again ack=0"),
-        (Act::Deliver(Side::A), Side::A, b"answer acknowledged ns=0"),
-        (Act::Timeout(Side::B), Side::B, b"timeout sent ns=0 try=2"),
-        (Act::Deliver(Side::A), Side::A, b"data again ack=0"),
-        (Act::Deliver(Side::B), Side::B, b"answer acknowledged ns=0"),
+        (Act::Send(Side::A, b"a"), b"a send taken ns=0 blocks=1"),
+        (Act::Deliver(Side::B), b"b data delivered ns=0 message=61"),
+        (Act::Send(Side::B, b"b"), b"b send taken ns=0 blocks=1"),
+        (Act::Deliver(Side::A), b"a data delivered ns=0 message=62"),
+        (Act::Timeout(Side::A), b"a timeout sent ns=0 try=2"),
+        (Act::Deliver(Side::B), b"b data again ack=0"),
+        (Act::Deliver(Side::A), b"a answer acknowledged ns=0"),
+        (Act::Timeout(Side::B), b"b timeout sent ns=0 try=2"),
+        (Act::Deliver(Side::A), b"a data again ack=0"),
+        (Act::Deliver(Side::B), b"b answer acknowledged ns=0"),
     ];
     play(&rt, &mut world, &rows)?;
     closes(&rt, &world, DONE_A, DONE_B, 0);
     Ok(())
 }
 
-// Has a side send an empty message until it is down.
-fn send_until_down(rt: &impl Abort, world: &mut DuplexWorld, side: Side) -> Result<(), Fail> {
-    play(
-        rt,
-        world,
-        &[(Act::Send(side, b""), side, b"send taken ns=0 blocks=1")],
-    )?;
+// Has a side send an empty message until it is down; the texts of its first step and of its last.
+fn send_until_down(
+    rt: &impl Abort,
+    world: &mut DuplexWorld,
+    side: Side,
+    first: &'static [u8],
+    last: &'static [u8],
+) -> Result<(), Fail> {
+    play(rt, world, &[(Act::Send(side, b""), first)])?;
     for _try in 2..17 {
-        let step = world.step(&event(Act::Timeout(side))?)?;
-        assert_eq!(rt; step.side, side);
+        let _ = world.step(&DuplexEvent::Timeout(side))?;
     }
-    play(rt, world, &[(Act::Timeout(side), side, b"timeout down")])
+    play(rt, world, &[(Act::Timeout(side), last)])
 }
 
 #[test]
 fn both_down_and_opened_again(rt: HostRuntime) -> Result<(), Fail> {
     let mut world = DuplexWorld::new(rt.alloc());
-    send_until_down(&rt, &mut world, Side::A)?;
+    send_until_down(
+        &rt,
+        &mut world,
+        Side::A,
+        b"a send taken ns=0 blocks=1",
+        b"a timeout down",
+    )?;
     let rows: [Row; 2] = [
-        (Act::Reopen(Side::A), Side::A, b"reopen sent ns=4"),
-        (Act::Deliver(Side::B), Side::B, b"data opened ns=4"),
+        (Act::Reopen(Side::A), b"a reopen sent ns=4"),
+        (Act::Deliver(Side::B), b"b data opened ns=4"),
     ];
     play(&rt, &mut world, &rows)?;
     assert_eq!(rt; (world.sessions(Side::A), world.sessions(Side::B)), (2, 1));
-    send_until_down(&rt, &mut world, Side::B)?;
+    send_until_down(
+        &rt,
+        &mut world,
+        Side::B,
+        b"b send taken ns=0 blocks=1",
+        b"b timeout down",
+    )?;
     let rows: [Row; 7] = [
-        (Act::Reopen(Side::B), Side::B, b"reopen sent ns=4"),
-        (Act::Deliver(Side::A), Side::A, b"data opened ns=4"),
-        (Act::Deliver(Side::B), Side::B, b"answer opened ns=4"),
-        (Act::Timeout(Side::A), Side::A, b"timeout sent ns=4 try=2"),
-        (Act::Deliver(Side::B), Side::B, b"data opened ns=4"),
-        (Act::Deliver(Side::A), Side::A, b"answer opened ns=4"),
-        (
-            Act::Send(Side::A, b"a"),
-            Side::A,
-            b"send taken ns=5 blocks=1",
-        ),
+        (Act::Reopen(Side::B), b"b reopen sent ns=4"),
+        (Act::Deliver(Side::A), b"a data opened ns=4"),
+        (Act::Deliver(Side::B), b"b answer opened ns=4"),
+        (Act::Timeout(Side::A), b"a timeout sent ns=4 try=2"),
+        (Act::Deliver(Side::B), b"b data opened ns=4"),
+        (Act::Deliver(Side::A), b"a answer opened ns=4"),
+        (Act::Send(Side::A, b"a"), b"a send taken ns=5 blocks=1"),
     ];
     play(&rt, &mut world, &rows)?;
     let a = b"a sent=2 delivered=0 acknowledged=0 sessions=2".as_slice();
@@ -211,25 +188,16 @@ const OTHER_CODE: &[u8] =
 fn foreign_packets_both_ways(rt: HostRuntime) -> Result<(), Fail> {
     let mut world = DuplexWorld::new(rt.alloc());
     let rows: [Row; 7] = [
-        (
-            Act::Send(Side::A, b"ab"),
-            Side::A,
-            b"send taken ns=0 blocks=1",
-        ),
-        (Act::Damaged(Side::B, OTHER_CODE), Side::B, b"data ignored"),
+        (Act::Send(Side::A, b"ab"), b"a send taken ns=0 blocks=1"),
+        (Act::Damaged(Side::B, OTHER_CODE), b"b data ignored"),
         (
             Act::Damaged(Side::B, b"deliver data 0,1,2,3,4"),
-            Side::B,
-            b"data lost sync",
+            b"b data lost sync",
         ),
-        (
-            Act::Deliver(Side::B),
-            Side::B,
-            b"data delivered ns=0 message=6162",
-        ),
-        (Act::Damaged(Side::A, OTHER_CODE), Side::A, b"data ignored"),
-        (Act::Deliver(Side::A), Side::A, b"answer acknowledged ns=0"),
-        (Act::Deliver(Side::A), Side::A, b"answer ignored"),
+        (Act::Deliver(Side::B), b"b data delivered ns=0 message=6162"),
+        (Act::Damaged(Side::A, OTHER_CODE), b"a data ignored"),
+        (Act::Deliver(Side::A), b"a answer acknowledged ns=0"),
+        (Act::Deliver(Side::A), b"a answer ignored"),
     ];
     play(&rt, &mut world, &rows)?;
     let b = b"b sent=0 delivered=0 acknowledged=0".as_slice();
@@ -244,31 +212,18 @@ const ANOTHER_MESSAGE: &[u8] =
 #[test]
 fn false_passes_of_both_directions(rt: HostRuntime) -> Result<(), Fail> {
     let mut world = DuplexWorld::new(rt.alloc());
-    let rows: [Row; 4] = [
-        (
-            Act::Send(Side::A, b"ab"),
-            Side::A,
-            b"send taken ns=0 blocks=1",
-        ),
-        (
-            Act::Send(Side::B, b"ab"),
-            Side::B,
-            b"send taken ns=0 blocks=1",
-        ),
+    let rows: [Row; 6] = [
+        (Act::Send(Side::A, b"ab"), b"a send taken ns=0 blocks=1"),
+        (Act::Send(Side::B, b"ab"), b"b send taken ns=0 blocks=1"),
         (
             Act::Damaged(Side::B, ANOTHER_MESSAGE),
-            Side::B,
-            b"data delivered ns=0 message=6163 false",
+            b"b data delivered ns=0 message=6163 false",
         ),
-        (Act::Deliver(Side::A), Side::A, b"answer acknowledged ns=0"),
-    ];
-    play(&rt, &mut world, &rows)?;
-    let rows: [Row; 2] = [
-        (Act::Timeout(Side::B), Side::B, b"timeout sent ns=0 try=2"),
+        (Act::Deliver(Side::A), b"a answer acknowledged ns=0"),
+        (Act::Timeout(Side::B), b"b timeout sent ns=0 try=2"),
         (
             Act::Damaged(Side::A, ANOTHER_MESSAGE),
-            Side::A,
-            b"data delivered ns=0 message=6163 false",
+            b"a data delivered ns=0 message=6163 false",
         ),
     ];
     play(&rt, &mut world, &rows)?;

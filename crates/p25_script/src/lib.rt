@@ -32,3 +32,4 @@ pub use p25_air_world::{Event, Step, StepKind, Way, World};
 pub use p25_line::{Line, LineFault};
 pub use read::read_event;
 pub use steps::step_text;
+pub use values::{message_value, places_value};

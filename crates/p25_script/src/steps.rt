@@ -19,7 +19,7 @@ use p25_text::put_field;
 #[tactic(auto, unfolding(crate::specs::StepTexts::step_text_of))]
 pub fn step_text(step: &Step, out: &mut Line)
     ensures text { out.new ≡ step_text_of step.now }
-    ensures short { length out.new < 8192 }
+    ensures short { length out.new ≤ 4206 }
 {
     out.clear();
     put_kind(&step.kind, out);
