@@ -21,9 +21,9 @@ pub fn closing_text(world: &World, out: &mut Line)
     put_sessions(world.sessions(), out);
 }
 
-// Appends a label and a number in decimal.
+/// Appends a label and a number in decimal.
 #[tactic(auto, using(p25_line::proofs::DecimalLaws::decimal_short))]
-fn put_count(label: &[u8], number: u64, out: &mut Line)
+pub fn put_count(label: &[u8], number: u64, out: &mut Line)
     requires { length out.old + length label.now + 20 ≤ 8192 }
     ensures text { out.new ≡ out.old ++ label.now ++ decimal number }
     ensures short { length out.new ≤ length out.old + length label.now + 20 }
@@ -32,8 +32,8 @@ fn put_count(label: &[u8], number: u64, out: &mut Line)
     out.put_number(number);
 }
 
-// Appends the number of sessions, where there was more than one.
-fn put_sessions(sessions: u64, out: &mut Line)
+/// Appends ` sessions=` and the number of sessions in decimal, where there was more than one.
+pub fn put_sessions(sessions: u64, out: &mut Line)
     requires { length out.old + 30 ≤ 8192 }
     ensures text { out.new ≡ out.old ++ sessions_text sessions }
     ensures short { length out.new ≤ length out.old + 30 }

@@ -25,10 +25,10 @@ mod steps;
 mod tests;
 mod values;
 
-pub use closing::closing_text;
+pub use closing::{closing_text, put_count, put_sessions};
 pub use laws::script_laws;
 pub use names::EventKind;
 pub use p25_air_world::{Event, Step, StepKind, Way, World};
 pub use p25_line::{Line, LineFault};
 pub use read::read_event;
-pub use steps::step_text;
+pub use steps::{put_octets, step_text};
