@@ -82,7 +82,7 @@ message_text-some (octet ∷ octets) some = refl
 pub record IsTextOf (most : ℕ) (word octets : List ℕ) : Type 0 where
   pub text : message_text octets ≡ word
   pub few : length octets ≤ most
-  pub octets : AllOctets octets
+  pub fits : AllOctets octets
 
 digits-octets : (most : ℕ) (word octets : List ℕ) → cond (has_digits_up_to most word) (Some (octets_of word)) None ≡ Some octets → IsTextOf most word octets
 digits-octets most word octets found =
@@ -94,7 +94,7 @@ digits-octets most word octets found =
           let same : octets_of word ≡ octets = cc in
           let some : 0 < length (octets_of word) = omega (arith, facts.2, digits.some) in
           subst (IsTextOf most word) same
-          (record { text = message_text-some (octets_of word) some ∙ facts.0; few = omega (arith, facts.2, digits.few); octets = facts.1 })
+          (record { text = message_text-some (octets_of word) some ∙ facts.0; few = omega (arith, facts.2, digits.few); fits = facts.1 })
       | inr failed ↦ let none = cond-false (has_digits_up_to most word) (Some (octets_of word)) None failed in cc
     ]
 
@@ -107,14 +107,14 @@ text-octets_up_to most word octets found =
           let none = cond-true (bytes_eq word dash) (Some empty) others same_dash in
           let same : empty ≡ octets = cc in
           subst (IsTextOf most word) same
-          (record { text = sym ((bytes_eq-Decides word dash).0 same_dash); few = omega arith; octets = All-nil (λ octet. octet < 256) })
+          (record { text = sym ((bytes_eq-Decides word dash).0 same_dash); few = omega arith; fits = All-nil (λ octet. octet < 256) })
       | inr other ↦ digits-octets most word octets (sym (cond-false (bytes_eq word dash) (Some empty) others other) ∙ found)
     ]
 
 pub message-message_in : (word message : List ℕ) → message_in word ≡ Some message → (message_text message ≡ word) × IsMessage message
 message-message_in word message found =
     let is = text-octets_up_to 2028 word message found in
-    (is.text, record { short = is.few; octets = is.octets })
+    (is.text, record { short = is.few; octets = is.fits })
 
 -- a word that is no text of octets is none
 pub octets_up_to-none : (most : ℕ) (word : List ℕ) (count : ℕ) → bytes_eq word dash ≡ false → count ≡ length word / 2
