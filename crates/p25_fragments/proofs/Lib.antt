@@ -9,3 +9,4 @@ pub mod MatchLaws
 pub mod OfferedLaws
 pub mod LongStepLaws
 pub mod LongRunLaws
+pub mod InnerRunLaws

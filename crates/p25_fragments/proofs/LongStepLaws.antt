@@ -52,7 +52,7 @@ record FollowsThen (y : LongState × Then) : Type 0 where
 
 -- Whether a session of the inner world ended.
 
-marks-count : (from : Mark) (sessions : List Session) → length (marks_after from sessions) ≡ length sessions
+pub marks-count : (from : Mark) (sessions : List Session) → length (marks_after from sessions) ≡ length sessions
 unfolding marks_after
 marks-count from [] = refl
 marks-count from (s ∷ sessions) = ap suc (marks-count (mark_after from s) sessions)

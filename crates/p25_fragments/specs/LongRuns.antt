@@ -6,7 +6,8 @@ use Rattle.p25_world.specs.Link.{Session}
 use Rattle.p25_air_world.specs.declared.step.Event.{Event}
 use Rattle.p25_air_world.specs.declared.step.Event.TheVariants.{Send, Timeout, Reopen, ToReceiver, ToSender}
 use Rattle.p25_air_world.specs.declared.step.Step.{Step}
-use Rattle.p25_air_world.specs.Runs.{AreClean}
+use Rattle.p25_air_world.specs.WorldState.{WorldState}
+use Rattle.p25_air_world.specs.Runs.{world_run, steps_of, AreClean}
 use Rattle.p25_fragments.specs.declared.long_mark.LongMark.{LongMark}
 use Rattle.p25_fragments.specs.declared.long_step.LongEvent.{LongEvent}
 use Rattle.p25_fragments.specs.declared.long_step.LongEvent.TheVariants.{Long, Inner}
@@ -55,6 +56,12 @@ next_steps other = []
 unfoldable pub inner_steps : List LongStep → List Step
 inner_steps [] = []
 inner_steps (step ∷ steps) = (first_steps step.first ++ next_steps step.then) ++ inner_steps steps
+
+-- some events of the inner world give a world and these steps
+pub record IsInnerRun (from to : WorldState) (inner : List Step) : Type 0 where
+  pub events : List Event
+  pub world : world_run from events ≡ to
+  pub steps : steps_of from events ≡ inner
 
 -- the inner run is clean where none of its steps is a false pass
 abbrev pub IsCleanLongRun : List LongEvent → Type 0

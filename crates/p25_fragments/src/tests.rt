@@ -1,6 +1,6 @@
 //! Long messages of every number of parts, each refusal of a joiner, and what the steps of a world mean.
 
-use super::{Joined, Joiner, LongEvent, LongMessage, LongStep, LongWorld, Then};
+use super::{Joined, Joiner, LongEvent, LongList, LongMessage, LongStep, LongWorld, Then};
 use p25_air_world::{Event, StepKind};
 use p25_messages::{Flips, Message};
 use std::process::Abort;
@@ -39,6 +39,19 @@ fn parts_of_a_long_message(rt: HostRuntime) -> Result<(), Fail> {
         assert_eq!(rt; part.octets().get(1..), octets.get(count + 1 - last..count));
     }
     assert_eq!(rt; LongMessage::new(&octets), None);
+    Ok(())
+}
+
+#[test]
+fn messages_of_a_list(rt: HostRuntime) -> Result<(), Fail> {
+    let octets = octets();
+    let mut list = LongList::new(rt.alloc());
+    list.reserve(16)?;
+    list.push(&LongMessage::new(b"").ok_or("no octets")?);
+    list.push(&LongMessage::new(&octets[1..]).ok_or("4,000 octets")?);
+    assert_eq!(rt; list.len(), 2);
+    assert_eq!(rt; list.get(0), b"".as_slice());
+    assert_eq!(rt; list.get(1), &octets[1..]);
     Ok(())
 }
 

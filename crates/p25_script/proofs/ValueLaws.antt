@@ -19,7 +19,7 @@ use Rattle.p25_line.proofs.JoinLaws.{Lacks}
 use Rattle.p25_text.proofs.WordLaws.{digits-printed}
 use Rattle.p25_air_world.specs.Sound.{IsMessage}
 use Rattle.p25_script.specs.CommaLists.{comma_text, dash, list_in}
-use Rattle.p25_script.specs.Values.{ArePlaces, has_message_digits, is_ascending, message_in, message_text, number_below, place_in, places_in, places_text, where_ascending}
+use Rattle.p25_script.specs.Values.{ArePlaces, has_digits_up_to, is_ascending, message_in, message_text, number_below, octets_up_to, place_in, places_in, places_text, where_ascending}
 use Rattle.p25_script.proofs.CommaListLaws.{AllFit, ItemLaws, list_in-text, text-list_in}
 use Rattle.p25_script.proofs.PlacesLaws.{increasing-is_ascending, is_ascending-increasing}
 
@@ -33,104 +33,124 @@ no_dash word long =
       | inr other ↦ other
     ]
 
--- what the digits of a message say
-record Digits (word : List ℕ) : Type 0 where
+-- what the digits of a word say
+record Digits (most : ℕ) (word : List ℕ) : Type 0 where
   some : 2 ≤ length word
-  few : length word ≤ 4056
+  few : length word ≤ 2 * most
   even : length word ≡ 2 * (length word / 2)
   digits : list_all is_lower_digit word ≡ true
 
-Digits-passed : (word : List ℕ) → has_message_digits word ≡ true → Digits word
-Digits-passed word passed =
-    let third = and_parts (nat_le 2 (length word) && nat_le (length word) 4056 && (length word % 2 == 0)) (list_all is_lower_digit word) passed in
-    let second = and_parts (nat_le 2 (length word) && nat_le (length word) 4056) (length word % 2 == 0) third.0 in
-    let first = and_parts (nat_le 2 (length word)) (nat_le (length word) 4056) second.0 in
+Digits-passed : (most : ℕ) (word : List ℕ) → has_digits_up_to most word ≡ true → Digits most word
+Digits-passed most word passed =
+    let third = and_parts (nat_le 2 (length word) && nat_le (length word) (2 * most) && (length word % 2 == 0)) (list_all is_lower_digit word) passed in
+    let second = and_parts (nat_le 2 (length word) && nat_le (length word) (2 * most)) (length word % 2 == 0) third.0 in
+    let first = and_parts (nat_le 2 (length word)) (nat_le (length word) (2 * most)) second.0 in
     let none : length word % 2 ≡ 0 = eqb-true (length word % 2) 0 second.1 in
     record {
       some = leb-true 2 (length word) first.0;
-      few = leb-true (length word) 4056 first.1;
+      few = leb-true (length word) (2 * most) first.1;
       even = omega (arith, none);
       digits = third.1;
     }
 
 -- the text of one octet or more is read as them
-pub message_in-digits : (word octets : List ℕ) → 0 < length octets → length octets ≤ 2028 → AllOctets octets → encode_lower octets ≡ word → message_in word ≡ Some octets
-message_in-digits word octets some few fits text =
+pub octets_up_to-digits : (most : ℕ) (word octets : List ℕ) → 0 < length octets → length octets ≤ most → AllOctets octets → encode_lower octets ≡ word → octets_up_to most word ≡ Some octets
+octets_up_to-digits most word octets some few fits text =
     let count : length word ≡ 2 * length octets = sym (ap length text) ∙ length-encode_with lower_digits octets in
     let digits : list_all is_lower_digit word ≡ true = ap (list_all is_lower_digit) (sym text) ∙ list_all-encode_lower octets fits in
     let even : length word % 2 ≡ 0 = omega (arith, count) in
     let long : 2 ≤ length word = omega (arith, count, some) in
-    let passed : has_message_digits word ≡ true =
-    ap₂ ◌&&◌ (ap₂ ◌&&◌ (ap₂ ◌&&◌ (le-leb 2 (length word) long) (le-leb (length word) 4056 (omega (arith, count, few)))) (eq-eqb (length word % 2) 0 even)) digits in
-    cond-false (bytes_eq word dash) (Some []) (cond (has_message_digits word) (Some (octets_of word)) None) (no_dash word long)
-    ∙ cond-true (has_message_digits word) (Some (octets_of word)) None passed
+    let passed : has_digits_up_to most word ≡ true =
+    ap₂ ◌&&◌ (ap₂ ◌&&◌ (ap₂ ◌&&◌ (le-leb 2 (length word) long) (le-leb (length word) (2 * most) (omega (arith, count, few)))) (eq-eqb (length word % 2) 0 even)) digits in
+    cond-false (bytes_eq word dash) (Some []) (cond (has_digits_up_to most word) (Some (octets_of word)) None) (no_dash word long)
+    ∙ cond-true (has_digits_up_to most word) (Some (octets_of word)) None passed
     ∙ ap Some (ap octets_of (sym text) ∙ octets_of-encode_lower octets fits)
 
--- a message is read from its text
+-- octets are read from their text
+pub octets_up_to-text : (most : ℕ) (octets : List ℕ) → length octets ≤ most → AllOctets octets → octets_up_to most (message_text octets) ≡ Some octets
+octets_up_to-text most [] few fits = refl
+octets_up_to-text most (octet ∷ octets) few fits = octets_up_to-digits most (encode_lower (octet ∷ octets)) (octet ∷ octets) (omega arith) few fits refl
+
 pub message_in-text : (message : List ℕ) → IsMessage message → message_in (message_text message) ≡ Some message
-message_in-text [] fits = refl
-message_in-text (octet ∷ octets) fits = message_in-digits (encode_lower (octet ∷ octets)) (octet ∷ octets) (omega arith) fits.short fits.octets refl
+message_in-text message fits = octets_up_to-text 2028 message fits.short fits.octets
 
 message_text-some : (octets : List ℕ) → 0 < length octets → message_text octets ≡ encode_lower octets
 message_text-some [] some = absurd (omega arith)
 message_text-some (octet ∷ octets) some = refl
 
--- and a word that is read as a message is its text
-digits-message : (word message : List ℕ) → cond (has_message_digits word) (Some (octets_of word)) None ≡ Some message → (message_text message ≡ word) × IsMessage message
-digits-message word message found =
-    elim (cases_Bool (has_message_digits word)) [
+-- and a word that is read as octets is their text
+pub record IsTextOf (most : ℕ) (word octets : List ℕ) : Type 0 where
+  pub text : message_text octets ≡ word
+  pub few : length octets ≤ most
+  pub fits : AllOctets octets
+
+digits-octets : (most : ℕ) (word octets : List ℕ) → cond (has_digits_up_to most word) (Some (octets_of word)) None ≡ Some octets → IsTextOf most word octets
+digits-octets most word octets found =
+    elim (cases_Bool (has_digits_up_to most word)) [
       | inl passed ↦
-          let digits = Digits-passed word passed in
+          let digits = Digits-passed most word passed in
           let facts = octets_of-facts (length word / 2) word digits.even digits.digits in
-          let read = cond-true (has_message_digits word) (Some (octets_of word)) None passed in
-          let same : octets_of word ≡ message = cc in
+          let read = cond-true (has_digits_up_to most word) (Some (octets_of word)) None passed in
+          let same : octets_of word ≡ octets = cc in
           let some : 0 < length (octets_of word) = omega (arith, facts.2, digits.some) in
-          subst (λ (octets : List ℕ). (message_text octets ≡ word) × IsMessage octets) same
-          (message_text-some (octets_of word) some ∙ facts.0, record { short = omega (arith, facts.2, digits.few); octets = facts.1 })
-      | inr failed ↦ let none = cond-false (has_message_digits word) (Some (octets_of word)) None failed in cc
+          subst (IsTextOf most word) same
+          (record { text = message_text-some (octets_of word) some ∙ facts.0; few = omega (arith, facts.2, digits.few); fits = facts.1 })
+      | inr failed ↦ let none = cond-false (has_digits_up_to most word) (Some (octets_of word)) None failed in cc
+    ]
+
+pub text-octets_up_to : (most : ℕ) (word octets : List ℕ) → octets_up_to most word ≡ Some octets → IsTextOf most word octets
+text-octets_up_to most word octets found =
+    let empty : List ℕ = [] in
+    let others = cond (has_digits_up_to most word) (Some (octets_of word)) None in
+    elim (cases_Bool (bytes_eq word dash)) [
+      | inl same_dash ↦
+          let none = cond-true (bytes_eq word dash) (Some empty) others same_dash in
+          let same : empty ≡ octets = cc in
+          subst (IsTextOf most word) same
+          (record { text = sym ((bytes_eq-Decides word dash).0 same_dash); few = omega arith; fits = All-nil (λ octet. octet < 256) })
+      | inr other ↦ digits-octets most word octets (sym (cond-false (bytes_eq word dash) (Some empty) others other) ∙ found)
     ]
 
 pub message-message_in : (word message : List ℕ) → message_in word ≡ Some message → (message_text message ≡ word) × IsMessage message
 message-message_in word message found =
-    let empty : List ℕ = [] in
-    let others = cond (has_message_digits word) (Some (octets_of word)) None in
-    elim (cases_Bool (bytes_eq word dash)) [
-      | inl same_dash ↦
-          let none = cond-true (bytes_eq word dash) (Some empty) others same_dash in
-          let same : empty ≡ message = cc in
-          subst (λ (octets : List ℕ). (message_text octets ≡ word) × IsMessage octets) same
-          (sym ((bytes_eq-Decides word dash).0 same_dash), record { short = omega arith; octets = All-nil (λ octet. octet < 256) })
-      | inr other ↦ digits-message word message (sym (cond-false (bytes_eq word dash) (Some empty) others other) ∙ found)
-    ]
+    let is = text-octets_up_to 2028 word message found in
+    (is.text, record { short = is.few; octets = is.fits })
 
--- a word that is no text of octets is no message
-pub message_in-none : (word : List ℕ) (count : ℕ) → bytes_eq word dash ≡ false → count ≡ length word / 2
-    → ((octets : List ℕ) → length octets ≡ count → AllOctets octets → encode_lower octets ≡ word → ⊥) → message_in word ≡ None
-message_in-none word count other same refused =
-    cond-false (bytes_eq word dash) (Some []) (cond (has_message_digits word) (Some (octets_of word)) None) other
-    ∙ elim (cases_Bool (has_message_digits word)) [
+-- a word that is no text of octets is none
+pub octets_up_to-none : (most : ℕ) (word : List ℕ) (count : ℕ) → bytes_eq word dash ≡ false → count ≡ length word / 2
+    → ((octets : List ℕ) → length octets ≡ count → AllOctets octets → encode_lower octets ≡ word → ⊥) → octets_up_to most word ≡ None
+octets_up_to-none most word count other same refused =
+    cond-false (bytes_eq word dash) (Some []) (cond (has_digits_up_to most word) (Some (octets_of word)) None) other
+    ∙ elim (cases_Bool (has_digits_up_to most word)) [
       | inl passed ↦
-          let digits = Digits-passed word passed in
+          let digits = Digits-passed most word passed in
           let facts = octets_of-facts (length word / 2) word digits.even digits.digits in
           absurd (refused (octets_of word) (facts.2 ∙ sym same) facts.1 facts.0)
-      | inr failed ↦ cond-false (has_message_digits word) (Some (octets_of word)) None failed
+      | inr failed ↦ cond-false (has_digits_up_to most word) (Some (octets_of word)) None failed
     ]
 
 -- what is made of octets that are few enough
-pub made-message : (octets : List ℕ) (result : Option (List ℕ)) → IsSome result ↔ (length octets ≤ 2028) → IfSome result (λ message. message ≡ octets) → length octets ≤ 2028 → result ≡ Some octets
-made-message octets None fits same few = absurd (true≢false (sym (fits.1 few)))
-made-message octets (Some message) fits same few = ap Some same
+pub made-message : (most : ℕ) (octets : List ℕ) (result : Option (List ℕ)) → IsSome result ↔ (length octets ≤ most) → IfSome result (λ message. message ≡ octets) → length octets ≤ most → result ≡ Some octets
+made-message most octets None fits same few = absurd (true≢false (sym (fits.1 few)))
+made-message most octets (Some message) fits same few = ap Some same
 
-pub message-word : (message : List ℕ) → IsMessage message → is_word (message_text message) ≡ true
-message-word [] fits = refl
-message-word (octet ∷ octets) fits =
+-- the text of octets is a word
+pub octets-word : (octets : List ℕ) → AllOctets octets → is_word (message_text octets) ≡ true
+octets-word [] fits = refl
+octets-word (octet ∷ octets) fits =
     let count = length-encode_with lower_digits (octet ∷ octets) in
     ap₂ ◌&&◌ (lt-ltb 0 (length (encode_lower (octet ∷ octets))) (omega (arith, count)))
-    (digits-printed (encode_lower (octet ∷ octets)) (list_all-encode_lower (octet ∷ octets) fits.octets))
+    (digits-printed (encode_lower (octet ∷ octets)) (list_all-encode_lower (octet ∷ octets) fits))
+
+pub message-word : (message : List ℕ) → IsMessage message → is_word (message_text message) ≡ true
+message-word message fits = octets-word message fits.octets
+
+pub length-octets_text : (most : ℕ) (octets : List ℕ) → 0 < most → length octets ≤ most → length (message_text octets) ≤ 2 * most
+length-octets_text most [] some few = omega arith
+length-octets_text most (octet ∷ octets) some few = omega (arith, length-encode_with lower_digits (octet ∷ octets))
 
 pub length-message_text : (message : List ℕ) → IsMessage message → length (message_text message) ≤ 4056
-length-message_text [] fits = omega arith
-length-message_text (octet ∷ octets) fits = omega (arith, length-encode_with lower_digits (octet ∷ octets), fits.short)
+length-message_text message fits = length-octets_text 2028 message (omega arith) fits.short
 
 -- ---- numbers
 

@@ -1,5 +1,5 @@
 -- The values of script lines: messages and places of wrong bits.
-use Rattle.std.specs.Prelude.{ℕ, zero, suc, ◌%◌, ◌==◌, ◌<◌, ◌&&◌, nat_le, nat_lt, Bool, true, cond, List, [], ◌∷◌, length, All, Option, Some, None, decimal}
+use Rattle.std.specs.Prelude.{ℕ, zero, suc, ◌*◌, ◌%◌, ◌==◌, ◌<◌, ◌&&◌, nat_le, nat_lt, Bool, true, cond, List, [], ◌∷◌, length, All, Option, Some, None, decimal}
 use Rattle.std.specs.List.{list_all}
 use Rattle.std.specs.List.Sorted.{IsStrictlyIncreasing}
 use Rattle.std.specs.Str.{bytes_eq}
@@ -14,14 +14,18 @@ abbrev pub message_text : List ℕ → List ℕ
 message_text [] = dash
 message_text (octet ∷ octets) = encode_lower (octet ∷ octets)
 
--- 2 to 4,056 lower-case hexadecimal digits, an even number
-abbrev pub has_message_digits : List ℕ → Bool
-has_message_digits word =
-    nat_le 2 (length word) && nat_le (length word) 4056 && (length word % 2 == 0) && list_all is_lower_digit word
+-- lower-case hexadecimal digits for so many octets at most, two each, and for one at least
+abbrev pub has_digits_up_to : ℕ → List ℕ → Bool
+has_digits_up_to most word =
+    nat_le 2 (length word) && nat_le (length word) (2 * most) && (length word % 2 == 0) && list_all is_lower_digit word
 
--- the message that a word is
+-- the octets that a word is, of which there are so many at most
+abbrev pub octets_up_to : ℕ → List ℕ → Option (List ℕ)
+octets_up_to most word = cond (bytes_eq word dash) (Some []) (cond (has_digits_up_to most word) (Some (octets_of word)) None)
+
+-- the message that a word is: 2 to 4,056 digits, or `-`
 abbrev pub message_in : List ℕ → Option (List ℕ)
-message_in word = cond (bytes_eq word dash) (Some []) (cond (has_message_digits word) (Some (octets_of word)) None)
+message_in word = octets_up_to 2028 word
 
 -- ---- places
 

@@ -32,7 +32,7 @@ pub fn put_count(label: &[u8], number: u64, out: &mut Line)
     out.put_number(number);
 }
 
-/// Appends ` sessions=` and the number of sessions, where there was more than one.
+/// Appends ` sessions=` and the number of sessions in decimal, where there was more than one.
 pub fn put_sessions(sessions: u64, out: &mut Line)
     requires { length out.old + 30 ≤ 8192 }
     ensures text { out.new ≡ out.old ++ sessions_text sessions }

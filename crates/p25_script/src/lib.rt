@@ -31,5 +31,5 @@ pub use names::EventKind;
 pub use p25_air_world::{Event, Step, StepKind, Way, World};
 pub use p25_line::{Line, LineFault};
 pub use read::read_event;
-pub use steps::step_text;
+pub use steps::{put_octets, step_text};
 pub use values::{message_value, places_value};

@@ -117,16 +117,15 @@ fn put_delivered(number: u8, message: &Message, out: &mut Line)
 {
     put_labelled(b"data delivered ns=", number, out);
     out.put(b" message=");
-    put_message(message, out);
+    put_octets(message.octets(), out);
 }
 
-// Appends a message, two digits for each octet, or `-` where there is none.
-fn put_message(message: &Message, out: &mut Line)
-    requires { length out.old + 4056 ≤ 8192 }
-    ensures text { out.new ≡ out.old ++ message_text message.now }
-    ensures short { length out.new ≤ length out.old + 4056 }
+/// Appends octets, two lower-case hexadecimal digits each, or `-` where there are none.
+pub fn put_octets(octets: &[u8], out: &mut Line)
+    requires { length out.old + 2 * length octets.now < 8192 }
+    ensures text { out.new ≡ out.old ++ message_text octets.now }
+    ensures short { length out.new ≤ length out.old + 2 * length octets.now + 1 }
 {
-    let octets = message.octets();
     if octets.is_empty() {
         out.put(b"-");
     } else {

@@ -1,0 +1,2 @@
+pub mod LongScript
+pub mod LongTexts
