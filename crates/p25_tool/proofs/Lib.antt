@@ -1,7 +1,6 @@
 pub mod OctetsLaws
 pub mod ReportsLaws
 pub mod RecordingsLaws
-pub mod BuildingsLaws
 pub mod WordsLaws
 pub mod CommandsLaws
 pub mod RunsLaws

@@ -5,4 +5,5 @@ pub mod Recordings
 pub mod Outputs
 pub mod Commands
 pub mod Buildings
+pub mod LongLines
 pub mod Runs

@@ -3,7 +3,8 @@
 ghost use Rattle.std.specs.Prelude.{◌≡◌, ◌≢◌, ℕ, ◌≤◌, ◌↔◌, List, [], None, Some, IfSome};
 ghost use Rattle.p25_io.specs.Faults.{Rose};
 ghost use Rattle.p25_work.specs.Runs.{Worked, all_written};
-ghost use Rattle.p25_tool.specs.Buildings.{building_future, first_line};
+ghost use Rattle.p25_work.specs.LineWorks.{first_line, line_future};
+ghost use Rattle.p25_tool.specs.Buildings.{build_rules};
 ghost use Rattle.p25_tool.specs.Recordings.{fresh, recording_future};
 ghost use Rattle.p25_tool.specs.Runs.{Ran, answer_of, command_future};
 ghost use Rattle.p25_tool.specs.Words.{IsSoundCommand, command_of};
@@ -18,7 +19,7 @@ use super::reports::{Change, Changed, Check, Show};
 use super::words::Words;
 use p25_io::{Sink, Source};
 use p25_status::Status;
-use p25_work::{WorkEnd, work};
+use p25_work::{LineWork, WorkEnd, work};
 use std::alloc::Global;
 
 /// Does what the words say: reads the source to its end, at most 16,777,216 octets, and writes the answer to the sink.
@@ -103,13 +104,13 @@ fn run_report<R: Report + Drop, S: Source, K: Sink>(
 
 // The work of `build`.
 fn run_build<S: Source, K: Sink>(status: Status, source: &mut S, sink: &mut K) -> WorkEnd
-    ensures worked { Worked (S.left source.old) (S.left source.new) (K.written sink.old) (K.written sink.new) (building_future (first_line status)) result }
-    ensures quiet { (input : List ℕ) → S.left source.old ≡ Some input → all_written (building_future (first_line status)) input ≡ [] → sink.new ≡ sink.old }
+    ensures worked { Worked (S.left source.old) (S.left source.new) (K.written sink.old) (K.written sink.new) (line_future build_rules (first_line (record { status = status }))) result }
+    ensures quiet { (input : List ℕ) → S.left source.old ≡ Some input → all_written (line_future build_rules (first_line (record { status = status }))) input ≡ [] → sink.new ≡ sink.old }
     ensures source_later { S.faults source.old ≤ S.faults source.new }
     ensures sink_later { K.faults sink.old ≤ K.faults sink.new }
     ensures read_fault { result ≡ WorkEnd.ReadFault → Rose (S.faults source.old) (S.faults source.new) }
     ensures write_fault { result ≡ WorkEnd.WriteFault → Rose (K.faults sink.old) (K.faults sink.new) }
 {
-    let mut build = Build::new(status);
-    work(&mut build, source, sink)
+    let mut lines = LineWork::new(Build::new(status));
+    work(&mut lines, source, sink)
 }

@@ -1,7 +1,7 @@
 use Rattle.std.proofs.Common.{◌≡◌, Option, Some, ap, sym, ◌∙◌}
 use Rattle.p25_tool.specs.declared.command.Command.{Command}
 use Rattle.p25_tool.specs.Runs.{answer_of}
-use Rattle.p25_tool.proofs.RunsLaws.{answer-without-faults}
+use Rattle.p25_tool.proofs.RunsLaws.{answer-without-faults, never-memory}
 use Rattle.p25_tool.proofs.command_run.run.Goals as goal
 
 -- two names of what may be there
@@ -15,3 +15,7 @@ returns-in-Some-clause-complete g c =
     c.outcome_of.ensures
     ∙ answer-without-faults c.in-Some.command _ _ _ _ c.run_command.result c.run_command.ensures.worked (λ is. no_read (c.run_command.ensures.read_fault is)) (λ is. no_write (c.run_command.ensures.write_fault is)) input told
     ∙ ap (λ (x : Command). answer_of x input) same
+
+pub returns-in-Some-clause-memory : goal.returns-in-Some-clause-memory
+returns-in-Some-clause-memory g c =
+    λ is. never-memory c.in-Some.command _ _ _ _ c.run_command.result c.run_command.ensures.worked (sym c.outcome_of.ensures ∙ is)
