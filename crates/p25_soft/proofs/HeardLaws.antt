@@ -1,9 +1,11 @@
 -- What is known of a broken packet that its bits are divided into: its header was read, and it has the length that it tells.
-use Rattle.std.proofs.Common.{◌≡◌, ◌≢◌, ℕ, ◌*◌, inl, inr, Bool, List, length, refl, ap, sym, subst, ◌∙◌, arith, map, ℤ, Some, Result, Ok, Err, eq-eqb}
+use Rattle.std.proofs.Common.{[], ◌∷◌, ◌++◌, ◌≤◌, ◌≡◌, take, ◌≢◌, ℕ, ◌*◌, inl, inr, Bool, List, length, refl, ap, sym, subst, ◌∙◌, arith, map, ℤ, Some, Result, Ok, Err, eq-eqb}
 use Rattle.std.specs.Prelude.{nat_eq}
 use Rattle.std.proofs.lemmas.Bool.{cases_lt, cond-true, cond-false, ne_eqb}
-use Rattle.std.proofs.lemmas.List.{length-map}
-use Rattle.p25_bits.proofs.NumbersLaws.{length-number_bits}
+use Rattle.std.proofs.lemmas.List.{length-map, map-append, take_all}
+use Rattle.p25_bits.specs.Bits.{bits_of}
+use Rattle.p25_bits.specs.Numbers.{number_bits}
+use Rattle.p25_bits.proofs.NumbersLaws.{length-number_bits, number_bits-append, number_bits-one}
 use Rattle.p25_status.specs.declared.fields.Field.{Field}
 use Rattle.p25_packet_blocks.specs.declared.head.PacketHead.{PacketHead}
 use Rattle.p25_packet_blocks.specs.Heads.{head_blocks}
@@ -13,13 +15,13 @@ use Rattle.p25_units.specs.declared.frame.Frame.{Frame}
 use Rattle.p25_units.specs.declared.item.Item.{Item}
 use Rattle.p25_units.specs.declared.item.Item.TheVariants.{Broken}
 use Rattle.p25_units.specs.declared.needs.Need.TheVariants.{More, Length, NoLength}
-use Rattle.p25_units.specs.Items.{item_from}
-use Rattle.p25_units.specs.Needs.{head_need, kind_need, length_need, packet_need}
+use Rattle.p25_units.specs.Items.{covered, item_from, place_of, unit_item_of}
+use Rattle.p25_units.specs.Needs.{head_need, kind_need, length_need, need_of, packet_need}
 use Rattle.p25_units.specs.Readings.{reading_from}
-use Rattle.p25_units.proofs.ItemsLaws.{unit_item_of-some}
+use Rattle.p25_units.proofs.ItemsLaws.{covered-unit_item_of, place_of-unit_item_of, unit_item_of-some}
 use Rattle.p25_units.proofs.NeedsLaws.{IsIdentified-from, head_need-bad, head_need-good, kind_need-packet, length_need-more, length_need-there, packet_need-short, packet_need-long}
 use Rattle.p25_soft.specs.Levels.{hard_bits, hard_dibit}
-use Rattle.p25_soft.specs.Softened.{IsReadFrom, blocks_replaced, blocks_to_follow, softened, softened_count, softened_packet, told_blocks}
+use Rattle.p25_soft.specs.Softened.{IsHeard, IsReadFrom, blocks_replaced, blocks_to_follow, softened, softened_count, softened_packet, told_blocks}
 
 -- bits have one level for each two of them
 pub length-hard_bits : (levels : List ℤ) → length (hard_bits levels) ≡ 2 * length levels
@@ -98,3 +100,31 @@ pub softened_count-other : (item : Item) (sent : List Bool) → ((place count na
 unfolding softened_count
 softened_count-other (Broken place count nac duid fields) sent other = absurd (other place count nac duid fields refl)
 softened_count-other item sent other = refl
+
+-- the item of a unit that its bits are is read from them
+read_from : (item : Item) (place : ℕ) (sent : List Bool) → need_of sent ≡ Length (length sent) → place_of item ≡ place → unit_item_of place sent ≡ item → IsReadFrom item sent
+unfolding IsReadFrom
+read_from (Broken at count nac duid fields) place sent need here is = (need, ap (λ p. unit_item_of p sent) here ∙ is)
+read_from item place sent need here is = tt
+
+pub IsHeard-unit : (levels : List ℤ) (sent : List Bool) (place count : ℕ) → sent ≡ hard_bits levels → need_of sent ≡ Length count → count ≡ length sent → IsHeard (unit_item_of place sent) levels sent
+IsHeard-unit levels sent place count hard need whole =
+    let all : length sent ≤ count = omega arith in
+    let taken : take count sent ≡ sent = take_all count sent all in
+    let known : need_of sent ≡ Length (length sent) = need ∙ ap Length whole in record {
+      covers = sym whole ∙ sym (covered-unit_item_of place sent count need) ∙ ap (λ (bits : List Bool). covered (unit_item_of place bits)) taken;
+      hard = hard;
+      read = read_from (unit_item_of place sent) place sent known (place_of-unit_item_of place sent) refl;
+    }
+
+-- hard bits of levels and one more
+pub hard_bits-one_more : (levels : List ℤ) (level : ℤ) → hard_bits (levels ++ level ∷ []) ≡ hard_bits levels ++ bits_of 2 (hard_dibit level)
+unfolding hard_bits
+hard_bits-one_more levels level =
+    ap (number_bits 2) (map-append hard_dibit levels (level ∷ []))
+    ∙ number_bits-append 2 (map hard_dibit levels) (hard_dibit level ∷ [])
+    ∙ ap (λ (bits : List Bool). number_bits 2 (map hard_dibit levels) ++ bits) (number_bits-one 2 (hard_dibit level))
+
+pub hard_bits-none : hard_bits [] ≡ []
+unfolding hard_bits number_bits
+hard_bits-none = refl

@@ -103,13 +103,7 @@ fn append_soft<R: Rate>(levels: &[i8], out: &mut BitBuf)
 
 // Appends the block at a place, read from its levels where it fails or the packet CRC does, and answers how many blocks were
 // read so, 1 or 0.
-fn append_block(
-    fields: &FieldList,
-    levels: &[i8],
-    plain: &BitBuf,
-    j: u8,
-    out: &mut BitBuf,
-) -> u32
+fn append_block(fields: &FieldList, levels: &[i8], plain: &BitBuf, j: u8, out: &mut BitBuf) -> u32
     requires place { j ≤ 126 }
     requires levels { sent_dibit (154 + 98 * j + 97) < length levels.now }
     requires there { 308 + 196 * j + 196 ≤ length plain.now }
