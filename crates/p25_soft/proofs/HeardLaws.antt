@@ -1,11 +1,9 @@
--- What is known of a broken packet that its bits are divided into: its header was read, and it has the length that it tells.
-use Rattle.std.proofs.Common.{[], ◌∷◌, ◌++◌, ◌≤◌, ◌≡◌, take, ◌≢◌, ℕ, ◌*◌, inl, inr, Bool, List, length, refl, ap, sym, subst, ◌∙◌, arith, map, ℤ, Some, Result, Ok, Err, eq-eqb}
+-- What is known of a broken packet that its bits are divided into: its header was read, and it has the length that it tells. And what is made of each item.
+use Rattle.std.proofs.Common.{◌≡◌, ◌≢◌, ℕ, ◌*◌, ◌≤◌, inl, inr, Bool, true, List, length, take, refl, ap, sym, subst, ◌∙◌, arith, ℤ, Some, Result, Ok, Err, eq-eqb}
 use Rattle.std.specs.Prelude.{nat_eq}
 use Rattle.std.proofs.lemmas.Bool.{cases_lt, cond-true, cond-false, ne_eqb}
-use Rattle.std.proofs.lemmas.List.{length-map, map-append, take_all}
-use Rattle.p25_bits.specs.Bits.{bits_of}
-use Rattle.p25_bits.specs.Numbers.{number_bits}
-use Rattle.p25_bits.proofs.NumbersLaws.{length-number_bits, number_bits-append, number_bits-one}
+use Rattle.std.proofs.lemmas.List.{length-take-le, take_all}
+use Rattle.p25_status.specs.Sync.{has_sync}
 use Rattle.p25_status.specs.declared.fields.Field.{Field}
 use Rattle.p25_packet_blocks.specs.declared.head.PacketHead.{PacketHead}
 use Rattle.p25_packet_blocks.specs.Heads.{head_blocks}
@@ -16,29 +14,20 @@ use Rattle.p25_units.specs.declared.item.Item.{Item}
 use Rattle.p25_units.specs.declared.item.Item.TheVariants.{Broken}
 use Rattle.p25_units.specs.declared.needs.Need.TheVariants.{More, Length, NoLength}
 use Rattle.p25_units.specs.Items.{covered, item_from, place_of, unit_item_of}
-use Rattle.p25_units.specs.Needs.{head_need, kind_need, length_need, need_of, packet_need}
+use Rattle.p25_units.specs.Needs.{head_need, kind_need, need_of, packet_need}
 use Rattle.p25_units.specs.Readings.{reading_from}
 use Rattle.p25_units.proofs.ItemsLaws.{covered-unit_item_of, place_of-unit_item_of, unit_item_of-some}
-use Rattle.p25_units.proofs.NeedsLaws.{IsIdentified-from, head_need-bad, head_need-good, kind_need-packet, length_need-more, length_need-there, packet_need-short, packet_need-long}
-use Rattle.p25_soft.specs.Levels.{hard_bits, hard_dibit}
+use Rattle.p25_units.proofs.NeedsLaws.{IsIdentified-from, head_need-bad, head_need-good, kind_need-packet, packet_need-short, packet_need-long}
+use Rattle.p25_units.proofs.PacketNeedLaws.{length_need-is, need_of-packet_alone}
+use Rattle.p25_units.proofs.ReadSteps.{IsUnitAt-from}
+use Rattle.p25_soft.specs.Levels.{hard_bits}
 use Rattle.p25_soft.specs.Softened.{IsHeard, IsReadFrom, blocks_replaced, blocks_to_follow, softened, softened_count, softened_packet, told_blocks}
 
--- bits have one level for each two of them
-pub length-hard_bits : (levels : List ℤ) → length (hard_bits levels) ≡ 2 * length levels
-unfolding hard_bits
-length-hard_bits levels = length-number_bits 2 (map hard_dibit levels) ∙ ap (λ n. 2 * n) (length-map levels hard_dibit)
-
 -- the length of a packet that is known is the one that its header tells
-length_told : (count have : ℕ) → length_need count have ≡ Length have → have ≡ count
-length_told count have e = elim (cases_lt have count) [
-  | inl few ↦ let two : More count ≡ Length have = sym (length_need-more count have few) ∙ e in absurd (cc)
-  | inr enough ↦ let two : Length count ≡ Length have = sym (length_need-there count have (omega arith)) ∙ e in cc
-]
-
 head_told : (head : Result PacketHead Field) (have : ℕ) → head_need head have ≡ Length have → have ≡ packet_sent_length (told_blocks head)
 unfolding told_blocks
 head_told (Err field) have e = let two : NoLength field ≡ Length have = sym (head_need-bad field have) ∙ e in absurd (cc)
-head_told (Ok head) have e = length_told (packet_sent_length (head_blocks head)) have (sym (head_need-good head have) ∙ e)
+head_told (Ok head) have e = sym (length_need-is (packet_sent_length (head_blocks head)) have have (sym (head_need-good head have) ∙ e))
 
 pub packet_told : (sent : List Bool) → packet_need sent ≡ Length (length sent) → length sent ≡ packet_sent_length (blocks_to_follow sent)
 unfolding blocks_to_follow
@@ -117,14 +106,15 @@ IsHeard-unit levels sent place count hard need whole =
       read = read_from (unit_item_of place sent) place sent known (place_of-unit_item_of place sent) refl;
     }
 
--- hard bits of levels and one more
-pub hard_bits-one_more : (levels : List ℤ) (level : ℤ) → hard_bits (levels ++ level ∷ []) ≡ hard_bits levels ++ bits_of 2 (hard_dibit level)
-unfolding hard_bits
-hard_bits-one_more levels level =
-    ap (number_bits 2) (map-append hard_dibit levels (level ∷ []))
-    ∙ number_bits-append 2 (map hard_dibit levels) (hard_dibit level ∷ [])
-    ∙ ap (λ (bits : List Bool). number_bits 2 (map hard_dibit levels) ++ bits) (number_bits-one 2 (hard_dibit level))
-
-pub hard_bits-none : hard_bits [] ≡ []
-unfolding hard_bits number_bits
-hard_bits-none = refl
+-- the bits of a broken packet at the front of others are heard from the levels that they were read from
+pub IsHeard-front : (levels : List ℤ) (bits : List Bool) (place count at size nac duid : ℕ) (fields : List Field) → has_sync bits ≡ true → need_of bits ≡ Length count
+    → unit_item_of place (take count bits) ≡ Broken at size nac duid fields → duid ≡ 0xC → take count bits ≡ hard_bits levels
+    → IsHeard (unit_item_of place (take count bits)) levels (take count bits)
+IsHeard-front levels bits place count at size nac duid fields synced need is packet hard =
+    let sent = take count bits in
+    let unit = IsUnitAt-from bits 0 count (omega arith) need in
+    let there : count ≤ length bits = omega (arith, unit.there) in
+    let same : unit.nid.1 ≡ duid
+    = same_duid place unit.nid sent (reading_from (Some unit.nid) sent) at size nac duid fields
+    (sym (unit_item_of-some place sent unit.nid (reading_from (Some unit.nid) sent) unit.sent refl) ∙ is) in
+    IsHeard-unit levels sent place count hard (need_of-packet_alone bits count unit.nid synced unit.read (same ∙ packet) unit.kind there) (sym (length-take-le count bits there))

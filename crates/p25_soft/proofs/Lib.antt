@@ -4,4 +4,5 @@ pub mod DeviationLaws
 pub mod SoftLaws
 pub mod NamedSteps
 pub mod SoftenedLaws
+pub mod HardBitsLaws
 pub mod HeardLaws

@@ -11,3 +11,4 @@ pub mod TerminatorsLaws
 pub mod BegunSteps
 pub mod ReadSteps
 pub mod FixingSteps
+pub mod PacketNeedLaws

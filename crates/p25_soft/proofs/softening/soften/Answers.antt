@@ -1,5 +1,6 @@
 use Rattle.std.proofs.Common.{length, ap, sym, ◌∙◌}
-use Rattle.p25_soft.proofs.HeardLaws.{broken_told, length-hard_bits, softened-packet, softened_count-packet, softened-unpacked, softened_count-unpacked, softened-other, softened_count-other}
+use Rattle.p25_soft.proofs.HardBitsLaws.{length-hard_bits}
+use Rattle.p25_soft.proofs.HeardLaws.{broken_told, softened-packet, softened_count-packet, softened-unpacked, softened_count-unpacked, softened-other, softened_count-other}
 use Rattle.p25_soft.proofs.softening.soften.Goals as goal
 
 pub soften_packet-requires-clause-long : goal.soften_packet-requires-clause-long

@@ -3,7 +3,7 @@ use Rattle.std.proofs.lemmas.Int.{to_z-of_z}
 use Rattle.std.proofs.lemmas.List.{take_all, take_more}
 use Rattle.p25_bits.specs.Bits.{bits_of}
 use Rattle.p25_soft.specs.Levels.{hard_bits, hard_dibit}
-use Rattle.p25_soft.proofs.HeardLaws.{hard_bits-none, hard_bits-one_more}
+use Rattle.p25_soft.proofs.HardBitsLaws.{hard_bits-none, hard_bits-one_more}
 use Rattle.p25_soft.proofs.tests.hard_bits_of.Goals as goal
 
 pub loop-level-init : goal.loop-level-init
