@@ -46,7 +46,8 @@ All-nibbles_from states point small state (symbol ∷ path) row all =
     let here : symbol < states = All-head P symbol path all in
     All-cons (λ (n : ℕ). n < 16) (point state symbol) (nibbles_from point symbol path) (small state symbol row here) (All-nibbles_from states point small symbol path here (All-tail P symbol path all))
 
-weighed-drop : {Y : Type 0} (weight : ℕ → Y → ℕ) (nibble : ℕ) (nibbles : List ℕ) (received : List Y) (step : ℕ) (d : Y) → step < length received
+-- what stands first weighs against what was received at its step
+pub weighed-drop : {Y : Type 0} (weight : ℕ → Y → ℕ) (nibble : ℕ) (nibbles : List ℕ) (received : List Y) (step : ℕ) (d : Y) → step < length received
     → weighed weight (nibble ∷ nibbles) (drop step received) ≡ weight nibble (get_or received step d) + weighed weight nibbles (drop (suc step) received)
 unfolding weighed
 weighed-drop weight nibble nibbles received step d inside =

@@ -71,15 +71,17 @@ IsFirstLeastEnd-first_least_end states (suc before) cost some =
     (λ symbol below. IsFirstLeastEnd-first_least_end states before (λ end. cost (symbol ∷ end)) some)
     (IsLowestLeast-lowest_least states (λ symbol. cost (symbol ∷ best symbol)) some)
 
--- the function gives the first nearest path
+-- it gives the first least path by any cost
+pub IsFirstLeast-first_least_end : (states : ℕ) (cost : List ℕ → ℕ) → 0 < states → IsFirstLeast states cost (first_least_end states 48 cost)
+IsFirstLeast-first_least_end states cost some = IsFirstLeast-from_end states cost (first_least_end states 48 cost) some (IsFirstLeastEnd-first_least_end states 48 cost some)
+
+-- and so the first nearest path
 pub IsFirstLeast-nearest_path : (states : ℕ) (point : ℕ → ℕ → ℕ) (received : List Bool) → 0 < states → IsFirstLeast states (distance_from point received) (nearest_path states point received)
 unfolding nearest_path
-IsFirstLeast-nearest_path states point received some =
-    IsFirstLeast-from_end states (distance_from point received) (first_least_end states 48 (distance_from point received)) some
-    (IsFirstLeastEnd-first_least_end states 48 (distance_from point received) some)
+IsFirstLeast-nearest_path states point received some = IsFirstLeast-first_least_end states (distance_from point received) some
 
 -- the octets that a path's symbols write are those that it carries
-Carries-octets_from : (states width : ℕ) (path : List ℕ) → IsPath states path → Carries width path (octets_from (6 * width) (number_bits width (take 48 path)))
+pub Carries-octets_from : (states width : ℕ) (path : List ℕ) → IsPath states path → Carries width path (octets_from (6 * width) (number_bits width (take 48 path)))
 Carries-octets_from states width path is =
     let bits = number_bits width (take 48 path) in
     let there : 48 ≤ length path = omega (arith, is.long) in

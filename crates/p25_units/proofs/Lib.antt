@@ -11,3 +11,4 @@ pub mod TerminatorsLaws
 pub mod BegunLaws
 pub mod UnitPlaceLaws
 pub mod FixingSteps
+pub mod PacketNeedLaws

@@ -1,0 +1,120 @@
+-- What is known of a broken packet that its bits are divided into: its header was read, and it has the length that it tells. And what is made of each item.
+use Rattle.std.proofs.Common.{◌≡◌, ◌≢◌, ℕ, ◌*◌, ◌≤◌, inl, inr, Bool, true, List, length, take, refl, ap, sym, subst, ◌∙◌, arith, ℤ, Some, Result, Ok, Err, eq-eqb}
+use Rattle.std.specs.Prelude.{nat_eq}
+use Rattle.std.proofs.lemmas.Bool.{cases_lt, cond-true, cond-false, ne_eqb}
+use Rattle.std.proofs.lemmas.List.{length-take-le, take_all}
+use Rattle.p25_status.specs.Sync.{has_sync}
+use Rattle.p25_status.specs.declared.fields.Field.{Field}
+use Rattle.p25_packet_blocks.specs.declared.head.PacketHead.{PacketHead}
+use Rattle.p25_packet_blocks.specs.Heads.{head_blocks}
+use Rattle.p25_packet_blocks.specs.Lengths.{packet_sent_length}
+use Rattle.p25_packet_blocks.specs.UnitReading.{sent_head_of}
+use Rattle.p25_units.specs.declared.frame.Frame.{Frame}
+use Rattle.p25_units.specs.declared.item.Item.{Item}
+use Rattle.p25_units.specs.declared.item.Item.TheVariants.{Broken}
+use Rattle.p25_units.specs.declared.needs.Need.TheVariants.{More, Length, NoLength}
+use Rattle.p25_units.specs.Items.{covered, item_from, place_of, unit_item_of}
+use Rattle.p25_units.specs.Needs.{head_need, kind_need, need_of, packet_need}
+use Rattle.p25_units.specs.Readings.{reading_from}
+use Rattle.p25_units.proofs.ItemsLaws.{covered-unit_item_of, place_of-unit_item_of, unit_item_of-some}
+use Rattle.p25_units.proofs.NeedsLaws.{IsIdentified-from, head_need-bad, head_need-good, kind_need-packet, packet_need-short, packet_need-long}
+use Rattle.p25_units.proofs.PacketNeedLaws.{length_need-is, need_of-packet_alone}
+use Rattle.p25_units.proofs.ReadSteps.{IsUnitAt-from}
+use Rattle.p25_soft.specs.Levels.{hard_bits}
+use Rattle.p25_soft.specs.Softened.{IsHeard, IsReadFrom, blocks_replaced, blocks_to_follow, softened, softened_count, softened_packet, told_blocks}
+
+-- the length of a packet that is known is the one that its header tells
+head_told : (head : Result PacketHead Field) (have : ℕ) → head_need head have ≡ Length have → have ≡ packet_sent_length (told_blocks head)
+unfolding told_blocks
+head_told (Err field) have e = let two : NoLength field ≡ Length have = sym (head_need-bad field have) ∙ e in absurd (cc)
+head_told (Ok head) have e = sym (length_need-is (packet_sent_length (head_blocks head)) have have (sym (head_need-good head have) ∙ e))
+
+pub packet_told : (sent : List Bool) → packet_need sent ≡ Length (length sent) → length sent ≡ packet_sent_length (blocks_to_follow sent)
+unfolding blocks_to_follow
+packet_told sent e = elim (cases_lt (length sent) 316) [
+  | inl few ↦ let two : More 316 ≡ Length (length sent) = sym (packet_need-short sent few) ∙ e in absurd (cc)
+  | inr enough ↦ head_told (sent_head_of sent) (length sent) (sym (packet_need-long sent (omega arith)) ∙ e)
+]
+
+-- a broken unit has the identifier that was read
+same_duid : (place : ℕ) (nid : ℕ × ℕ) (sent : List Bool) (reading : Result Frame (List Field)) (at count nac duid : ℕ) (fields : List Field)
+    → item_from place nid sent reading ≡ Broken at count nac duid fields → nid.1 ≡ duid
+same_duid place nid sent (Ok frame) at count nac duid fields e = absurd (cc)
+same_duid place nid sent (Err failing) at count nac duid fields e = cc
+
+-- a broken packet that its bits are divided into has the length that its header tells
+pub broken_told : (item : Item) (sent : List Bool) (place count nac duid : ℕ) (fields : List Field) → IsReadFrom item sent → item ≡ Broken place count nac duid fields → duid ≡ 0xC
+    → length sent ≡ packet_sent_length (blocks_to_follow sent)
+unfolding IsReadFrom
+broken_told item sent place count nac duid fields read is packet =
+    let known = subst (λ (i : Item). IsReadFrom i sent) is read in
+    let found = IsIdentified-from sent (length sent) known.0 in
+    let same : found.nid.1 ≡ duid
+    = same_duid place found.nid sent (reading_from (Some found.nid) sent) place count nac duid fields
+    (sym (unit_item_of-some place sent found.nid (reading_from (Some found.nid) sent) found.read refl) ∙ known.1) in
+    packet_told sent (sym (kind_need-packet sent) ∙ ap (λ d. kind_need d sent) (sym (same ∙ packet)) ∙ found.kind)
+
+-- what is made of a broken packet
+pub softened-packet : (item : Item) (levels : List ℤ) (sent : List Bool) (place count nac duid : ℕ) (fields : List Field) → item ≡ Broken place count nac duid fields → duid ≡ 0xC
+    → softened item levels sent ≡ softened_packet fields levels sent
+unfolding softened
+softened-packet item levels sent place count nac duid fields is packet =
+    ap (λ (i : Item). softened i levels sent) is ∙ cond-true (nat_eq duid 0xC) (softened_packet fields levels sent) sent (eq-eqb duid 0xC packet)
+
+pub softened_count-packet : (item : Item) (sent : List Bool) (place count nac duid : ℕ) (fields : List Field) → item ≡ Broken place count nac duid fields → duid ≡ 0xC
+    → softened_count item sent ≡ blocks_replaced fields (blocks_to_follow sent)
+unfolding softened_count
+softened_count-packet item sent place count nac duid fields is packet =
+    ap (λ (i : Item). softened_count i sent) is ∙ cond-true (nat_eq duid 0xC) (blocks_replaced fields (blocks_to_follow sent)) 0 (eq-eqb duid 0xC packet)
+
+-- of another broken unit
+pub softened-unpacked : (item : Item) (levels : List ℤ) (sent : List Bool) (place count nac duid : ℕ) (fields : List Field) → item ≡ Broken place count nac duid fields → duid ≢ 0xC
+    → softened item levels sent ≡ sent
+unfolding softened
+softened-unpacked item levels sent place count nac duid fields is other =
+    ap (λ (i : Item). softened i levels sent) is ∙ cond-false (nat_eq duid 0xC) (softened_packet fields levels sent) sent (ne_eqb duid 0xC other)
+
+pub softened_count-unpacked : (item : Item) (sent : List Bool) (place count nac duid : ℕ) (fields : List Field) → item ≡ Broken place count nac duid fields → duid ≢ 0xC → softened_count item sent ≡ 0
+unfolding softened_count
+softened_count-unpacked item sent place count nac duid fields is other =
+    ap (λ (i : Item). softened_count i sent) is ∙ cond-false (nat_eq duid 0xC) (blocks_replaced fields (blocks_to_follow sent)) 0 (ne_eqb duid 0xC other)
+
+-- and of every other item
+pub softened-other : (item : Item) (levels : List ℤ) (sent : List Bool) → ((place count nac duid : ℕ) (fields : List Field) → item ≡ Broken place count nac duid fields → ⊥) → softened item levels sent ≡ sent
+unfolding softened
+softened-other (Broken place count nac duid fields) levels sent other = absurd (other place count nac duid fields refl)
+softened-other item levels sent other = refl
+
+pub softened_count-other : (item : Item) (sent : List Bool) → ((place count nac duid : ℕ) (fields : List Field) → item ≡ Broken place count nac duid fields → ⊥) → softened_count item sent ≡ 0
+unfolding softened_count
+softened_count-other (Broken place count nac duid fields) sent other = absurd (other place count nac duid fields refl)
+softened_count-other item sent other = refl
+
+-- the item of a unit that its bits are is read from them
+read_from : (item : Item) (place : ℕ) (sent : List Bool) → need_of sent ≡ Length (length sent) → place_of item ≡ place → unit_item_of place sent ≡ item → IsReadFrom item sent
+unfolding IsReadFrom
+read_from (Broken at count nac duid fields) place sent need here is = (need, ap (λ p. unit_item_of p sent) here ∙ is)
+read_from item place sent need here is = tt
+
+pub IsHeard-unit : (levels : List ℤ) (sent : List Bool) (place count : ℕ) → sent ≡ hard_bits levels → need_of sent ≡ Length count → count ≡ length sent → IsHeard (unit_item_of place sent) levels sent
+IsHeard-unit levels sent place count hard need whole =
+    let all : length sent ≤ count = omega arith in
+    let taken : take count sent ≡ sent = take_all count sent all in
+    let known : need_of sent ≡ Length (length sent) = need ∙ ap Length whole in record {
+      covers = sym whole ∙ sym (covered-unit_item_of place sent count need) ∙ ap (λ (bits : List Bool). covered (unit_item_of place bits)) taken;
+      hard = hard;
+      read = read_from (unit_item_of place sent) place sent known (place_of-unit_item_of place sent) refl;
+    }
+
+-- the bits of a broken packet at the front of others are heard from the levels that they were read from
+pub IsHeard-front : (levels : List ℤ) (bits : List Bool) (place count at size nac duid : ℕ) (fields : List Field) → has_sync bits ≡ true → need_of bits ≡ Length count
+    → unit_item_of place (take count bits) ≡ Broken at size nac duid fields → duid ≡ 0xC → take count bits ≡ hard_bits levels
+    → IsHeard (unit_item_of place (take count bits)) levels (take count bits)
+IsHeard-front levels bits place count at size nac duid fields synced need is packet hard =
+    let sent = take count bits in
+    let unit = IsUnitAt-from bits 0 count (omega arith) need in
+    let there : count ≤ length bits = omega (arith, unit.there) in
+    let same : unit.nid.1 ≡ duid
+    = same_duid place unit.nid sent (reading_from (Some unit.nid) sent) at size nac duid fields
+    (sym (unit_item_of-some place sent unit.nid (reading_from (Some unit.nid) sent) unit.sent refl) ∙ is) in
+    IsHeard-unit levels sent place count hard (need_of-packet_alone bits count unit.nid synced unit.read (same ∙ packet) unit.kind there) (sym (length-take-le count bits there))

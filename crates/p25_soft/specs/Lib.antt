@@ -1,0 +1,4 @@
+pub mod Levels
+pub mod SoftPaths
+pub mod PointCosts
+pub mod Softened

@@ -1,0 +1,17 @@
+-- What a nibble costs at a step of a path, where its two dibits are sent at a place among the points of a block.
+use Rattle.std.specs.Prelude.{◌≡◌, ℕ, ◌+◌, ◌*◌, ◌/◌, ◌%◌, ◌<◌, List, length, ℤ, pos, slice_index, slice_index_or}
+use Rattle.p25_trellis.specs.Interleave.{interleaved}
+use Rattle.p25_trellis.specs.Costs.{cost_in}
+use Rattle.p25_soft.specs.Levels.{squared_deviation}
+
+-- a nibble that is sent as the point at a place, whose levels are those at 2·place and 2·place + 1
+unfoldable pub point_deviation : List ℤ → ℕ → ℕ → ℕ
+point_deviation levels nibble place =
+    squared_deviation (nibble / 4) (slice_index_or levels (2 * place) (pos 0)) + squared_deviation (nibble % 4) (slice_index_or levels (2 * place + 1) (pos 0))
+
+-- a table of costs where a nibble costs how far it is from the two levels that were sent for its step
+pub record IsPointTable (levels : List ℤ) (table : List ℕ) : Type 0 where
+  pub places : List ℕ
+  pub long : length places ≡ 49
+  pub in_order : (k : ℕ) → k < 49 → slice_index (interleaved places) k ≡ k
+  pub at : (step nibble : ℕ) → step < 49 → nibble < 16 → cost_in table step nibble ≡ point_deviation levels nibble (slice_index places step)

@@ -1,0 +1,106 @@
+-- An item's bits with the blocks of a broken packet read from levels.
+use Rattle.std.specs.Prelude.{◌≡◌, ℕ, zero, suc, ◌+◌, ◌*◌, ◌/◌, Bool, true, false, ◌||◌, cond, nat_eq, List, ◌++◌, length, take, drop, ℤ, pos, slice_index_or, Result, Ok, Err, if◌then◌else◌}
+use Rattle.std.specs.List.{list_any}
+use Rattle.p25_bits.specs.Numbers.{each_below, joined_below}
+use Rattle.p25_status.specs.Woven.{woven, plain_of, statuses_of}
+use Rattle.p25_status.specs.declared.fields.Field.{Field}
+use Rattle.p25_status.specs.declared.fields.Field.TheVariants.{PacketCrc, Block}
+use Rattle.p25_trellis.specs.Tables.{half_point, three_quarter_point}
+use Rattle.p25_packet_blocks.specs.declared.head.PacketHead.{PacketHead}
+use Rattle.p25_packet_blocks.specs.Heads.{head_blocks}
+use Rattle.p25_packet_blocks.specs.Reading.{block_bits}
+use Rattle.p25_packet_blocks.specs.UnitReading.{sent_head_of}
+use Rattle.p25_units.specs.Items.{covered, unit_item_of}
+use Rattle.p25_units.specs.Needs.{need_of}
+use Rattle.p25_units.specs.declared.needs.Need.TheVariants.{Length}
+use Rattle.p25_units.specs.declared.item.Item.{Item}
+use Rattle.p25_units.specs.declared.item.Item.TheVariants.{Whole, Broken, NoUnit, Gap, Cut}
+use Rattle.p25_soft.specs.Levels.{hard_bits}
+use Rattle.p25_soft.specs.SoftPaths.{soft_block}
+
+-- where dibit d of a unit without status symbols is sent: one dibit is a status symbol after every 35
+unfoldable pub sent_dibit : ℕ → ℕ
+sent_dibit d = d + d / 35
+
+-- the levels of the block at place j behind the header block, whose dibits are those from 154 + 98·j on
+unfoldable pub block_levels : List ℤ → ℕ → List ℤ
+block_levels levels j = each_below 98 (λ i. slice_index_or levels (sent_dibit (154 + 98 * j + i)) (pos 0))
+
+-- a field is the packet CRC
+unfoldable pub is_packet_crc : Field → Bool
+is_packet_crc PacketCrc = true
+is_packet_crc field = false
+
+-- a field is the block at place j
+unfoldable pub is_block : ℕ → Field → Bool
+is_block j (Block place) = nat_eq place j
+is_block j field = false
+
+-- the fields that fail name the packet CRC, and so all blocks
+unfoldable pub names_all : List Field → Bool
+names_all fields = list_any is_packet_crc fields
+
+-- they name the block at place j
+unfoldable pub names_block : List Field → ℕ → Bool
+names_block fields j = list_any (is_block j) fields
+
+-- the block at place j of a broken packet: where the packet CRC fails the sent bits of its soft path at half rate, where
+-- the block itself fails those at three-quarter rate, and else what it was
+unfoldable pub softened_block : List Field → List ℤ → List Bool → ℕ → List Bool
+softened_block fields levels plain j =
+    if names_all fields
+    then soft_block 4 half_point (block_levels levels j)
+    else (if names_block fields j then soft_block 8 three_quarter_point (block_levels levels j) else block_bits plain j)
+
+-- how many of the first n blocks are replaced
+unfoldable pub blocks_replaced : List Field → ℕ → ℕ
+blocks_replaced fields zero = 0
+blocks_replaced fields (suc n) = blocks_replaced fields n + (if names_all fields || names_block fields n then 1 else 0)
+
+-- the number of blocks to follow that a header tells
+unfoldable pub told_blocks : Result PacketHead Field → ℕ
+told_blocks (Ok head) = head_blocks head
+told_blocks (Err field) = 0
+
+-- that of the packet whose sent bits these are
+unfoldable pub blocks_to_follow : List Bool → ℕ
+blocks_to_follow sent = told_blocks (sent_head_of sent)
+
+-- the unit of a packet with n blocks to follow, without status symbols, its blocks replaced
+unfoldable pub softened_plain : List Field → List ℤ → ℕ → List Bool → List Bool
+softened_plain fields levels n plain = take 308 plain ++ joined_below n (softened_block fields levels plain) ++ drop (308 + 196 * n) plain
+
+-- the sent bits of a broken packet, its blocks replaced
+unfoldable pub softened_packet : List Field → List ℤ → List Bool → List Bool
+softened_packet fields levels sent = woven (softened_plain fields levels (blocks_to_follow sent) (plain_of sent)) (statuses_of sent)
+
+-- the bits of an item, the blocks of a broken packet replaced
+unfoldable pub softened : Item → List ℤ → List Bool → List Bool
+softened (Broken place count nac duid fields) levels sent = cond (nat_eq duid 0xC) (softened_packet fields levels sent) sent
+softened (Whole place frame fixes) levels sent = sent
+softened (NoUnit place field) levels sent = sent
+softened (Gap place count) levels sent = sent
+softened (Cut place have) levels sent = sent
+
+-- how many blocks of an item are replaced
+unfoldable pub softened_count : Item → List Bool → ℕ
+softened_count (Broken place count nac duid fields) sent = cond (nat_eq duid 0xC) (blocks_replaced fields (blocks_to_follow sent)) 0
+softened_count (Whole place frame fixes) sent = 0
+softened_count (NoUnit place field) sent = 0
+softened_count (Gap place count) sent = 0
+softened_count (Cut place have) sent = 0
+
+-- a broken item is the one that its bits are divided into: a unit of their length, with the fields that fail in it
+unfoldable pub IsReadFrom : Item → List Bool → Type 0
+IsReadFrom (Broken place count nac duid fields) sent =
+    (need_of sent ≡ Length (length sent)) × (unit_item_of place sent ≡ Broken place count nac duid fields)
+IsReadFrom (Whole place frame fixes) sent = Unit {0}
+IsReadFrom (NoUnit place field) sent = Unit {0}
+IsReadFrom (Gap place count) sent = Unit {0}
+IsReadFrom (Cut place have) sent = Unit {0}
+
+-- an item with the bits that it covers and the levels that they were read from
+pub record IsHeard (item : Item) (levels : List ℤ) (sent : List Bool) : Type 0 where
+  pub covers : length sent ≡ covered item
+  pub hard : sent ≡ hard_bits levels
+  pub read : IsReadFrom item sent

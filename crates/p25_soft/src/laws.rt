@@ -1,0 +1,54 @@
+//! Laws of levels: which are read as what was sent. The bodies are empty: each function states what is proved.
+
+ghost use Rattle.std.specs.Prelude.{◌≡◌, ℕ, ◌*◌, ◌<◌, List, ℤ, All, length};
+ghost use Rattle.p25_trellis.specs.Nearest.{block_from, half_block, half_octets, three_quarter_block, three_quarter_octets};
+ghost use Rattle.p25_trellis.specs.Tables.{half_point, three_quarter_point};
+ghost use Rattle.p25_trellis.specs.Trellis.{IsFirstLeastReading};
+ghost use Rattle.p25_soft.specs.Levels.{bits_deviation, hard_bits, nominal_levels};
+ghost use Rattle.p25_soft.specs.SoftPaths.{soft_cost, soft_octets, soft_path};
+
+use p25_trellis::{Half, Rate, ThreeQuarter, nearest_laws, paths_apart};
+
+/// Does nothing: its contract is what levels read as.
+///
+/// - `reading`: the octets and the cost that `soft_octets` and `soft_path` give are those of the first least path.
+/// - `near`: levels that deviate from a block by a sum of squares below 1,024 times the least number of bits in which two
+///   paths differ read as its octets. For two paths that differ in b bits have nominal levels that deviate by 4,096 · b at
+///   least, and the square of a sum is at most twice the sum of the squares.
+pub fn soft_laws<R: Rate>()
+    ensures reading { (levels : List ℤ)
+        → IsFirstLeastReading R.STATES R.BITS_PER_SYMBOL (soft_cost R.point_of levels) (soft_octets R.STATES R.BITS_PER_SYMBOL R.point_of levels)
+        (soft_cost R.point_of levels (soft_path R.STATES R.point_of levels)) }
+    ensures near { (octets : List ℕ) (levels : List ℤ) → length octets ≡ R.OCTETS → All (λ octet. octet < 256) octets → length levels ≡ 98
+        → bits_deviation (block_from R.BITS_PER_SYMBOL R.point_of octets) levels < 1024 * R.APART
+        → soft_octets R.STATES R.BITS_PER_SYMBOL R.point_of levels ≡ octets }
+{
+    paths_apart::<R>()
+}
+
+/// Does nothing: its contract is what levels read as at half rate. Those that deviate from a block by a sum of squares below
+/// 5,120 read as its octets. The nominal levels of a block have its bits as hard bits, and read as its octets by `read_soft`
+/// as the bits do by `read_block`.
+pub fn half_rate_soft()
+    ensures near { (octets : List ℕ) (levels : List ℤ) → length octets ≡ 12 → All (λ octet. octet < 256) octets → length levels ≡ 98
+        → bits_deviation (half_block octets) levels < 5120 → soft_octets 4 2 half_point levels ≡ octets }
+    ensures nominal { (octets : List ℕ) → length octets ≡ 12 → All (λ octet. octet < 256) octets
+        → (hard_bits (nominal_levels (half_block octets)) ≡ half_block octets) × (soft_octets 4 2 half_point (nominal_levels (half_block octets)) ≡ octets)
+        × (half_octets (half_block octets) ≡ octets) }
+{
+    nearest_laws::<Half>();
+    soft_laws::<Half>()
+}
+
+/// Does nothing: its contract is the same at three-quarter rate, below 3,072.
+pub fn three_quarter_rate_soft()
+    ensures near { (octets : List ℕ) (levels : List ℤ) → length octets ≡ 18 → All (λ octet. octet < 256) octets → length levels ≡ 98
+        → bits_deviation (three_quarter_block octets) levels < 3072 → soft_octets 8 3 three_quarter_point levels ≡ octets }
+    ensures nominal { (octets : List ℕ) → length octets ≡ 18 → All (λ octet. octet < 256) octets
+        → (hard_bits (nominal_levels (three_quarter_block octets)) ≡ three_quarter_block octets)
+        × (soft_octets 8 3 three_quarter_point (nominal_levels (three_quarter_block octets)) ≡ octets)
+        × (three_quarter_octets (three_quarter_block octets) ≡ octets) }
+{
+    nearest_laws::<ThreeQuarter>();
+    soft_laws::<ThreeQuarter>()
+}

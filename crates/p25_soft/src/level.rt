@@ -1,0 +1,44 @@
+//! Levels, and the dibits that they stand for.
+
+ghost use Rattle.std.specs.Prelude.{◌≡◌, ◌<◌, ◌≤◌};
+ghost use Rattle.p25_soft.specs.Levels.{hard_dibit, nominal_level, squared_deviation};
+
+/// Answers the level that stands for a dibit, which is below 4: 96 for 01, 32 for 00, -32 for 10 and -96 for 11. The levels
+/// are this project's own.
+pub fn nominal(dibit: u8) -> i8
+    requires { dibit < 4 }
+    ensures { result ≡ nominal_level dibit }
+{
+    match dibit {
+        0 => 32,
+        1 => 96,
+        2 => -32,
+        _ => -96,
+    }
+}
+
+/// Answers the dibit whose level a level is nearest to: 01 from 64 up, 00 from 0 to 63, 10 from -64 to -1 and 11 below -64.
+pub fn hard(level: i8) -> u8
+    ensures dibit { result ≡ hard_dibit level }
+    ensures below { result < 4 }
+{
+    if level >= 64 {
+        1
+    } else if level >= 0 {
+        0
+    } else if level >= -64 {
+        2
+    } else {
+        3
+    }
+}
+
+// The square of how far a level is from that of a dibit.
+pub(crate) fn deviation(dibit: u8, level: i8) -> u32
+    requires { dibit < 4 }
+    ensures square { result ≡ squared_deviation dibit level }
+    ensures most { result ≤ 65025 }
+{
+    let apart = (i32::from(level) - i32::from(nominal(dibit))).unsigned_abs();
+    apart * apart
+}

@@ -1,0 +1,31 @@
+//! Blocks of packets read from soft symbols, the levels of a four-level signal.
+//!
+//! A soft recording has one level for every two bits, a number from -128 to 127; the first level is the first that was sent,
+//! and of its two bits the first is the higher. The levels are this project's own: 01 is 96, 00 is 32, 10 is -32 and 11 is
+//! -96. A block of a packet is 98 levels, in the order of sending; so the points of a path, which are two dibits each, are
+//! interleaved as their bits are.
+//!
+//! `read_soft` answers the path whose nominal levels lie nearest to 98 levels, by the sum of squares. It reads blocks that
+//! `read_block` of their hard bits does not, since a level near a border counts for little.
+//!
+//! ```text
+//! let mut octets = [0; 18];
+//! let cost = read_soft::<ThreeQuarter>(&levels, &mut octets);
+//! let replaced = soften(&item, &levels, &mut raw);
+//! ```
+//!
+//! Contracts see levels as a list of numbers, the path that is read as `soft_path`, and the bits of an item with its blocks
+//! replaced as `softened`. `soft_laws` says which levels are read as a path that was sent.
+#![tactic(auto)]
+
+mod laws;
+mod level;
+mod reading;
+mod softening;
+#[cfg(test)]
+mod tests;
+
+pub use laws::{half_rate_soft, soft_laws, three_quarter_rate_soft};
+pub use level::{hard, nominal};
+pub use reading::read_soft;
+pub use softening::soften;

@@ -1,0 +1,69 @@
+//! Blocks read from levels.
+
+ghost use Rattle.std.specs.Prelude.{◌≡◌, ℕ, ◌^◌, ◌<◌, ◌≤◌, All, length, slice_index};
+ghost use Rattle.p25_trellis.specs.Interleave.{interleaved};
+ghost use Rattle.p25_trellis.specs.Trellis.{IsFirstLeastReading};
+ghost use Rattle.p25_soft.specs.SoftPaths.{soft_cost, soft_octets};
+ghost use Rattle.p25_soft.specs.PointCosts.{IsPointTable, point_deviation};
+
+use crate::level::deviation;
+use p25_trellis::{BLOCK_COSTS, Rate, gather, read_costs};
+
+// The number of levels of a block.
+pub(crate) const BLOCK_LEVELS: usize = 98;
+
+// The number of points of a block, of two levels each.
+const BLOCK_POINTS: usize = 49;
+
+// What a nibble costs that is sent as the point at a place: its two dibits are sent one after the other.
+fn point_cost(levels: &[i8], place: usize, nibble: u8) -> u32
+    requires levels { length levels.now ≡ 98 }
+    requires place { place < 49 }
+    requires nibble { nibble < 16 }
+    ensures cost { result ≡ point_deviation levels.now nibble place }
+    ensures low { result ≤ 2 ^ 24 }
+{
+    deviation(nibble / 4, levels[2 * place]) + deviation(nibble % 4, levels[2 * place + 1])
+}
+
+// At which place the point of each step of a path is sent.
+fn sent_places() -> [u8; BLOCK_POINTS]
+    ensures in_order { (k : ℕ) → k < 49 → slice_index (interleaved result) k ≡ k }
+    ensures below { All (λ place. place < 49) result }
+    ensures len { length result ≡ 49 }
+{
+    let mut in_order = [0; BLOCK_POINTS];
+    for place in 0..BLOCK_POINTS {
+        in_order[place] = place as u8;
+    }
+    gather(&in_order)
+}
+
+// The table of what each nibble costs at each step of a path.
+fn level_costs(levels: &[i8]) -> [u32; BLOCK_COSTS]
+    requires { length levels.now ≡ 98 }
+    ensures costs { IsPointTable levels.now result }
+    ensures low { All (λ cost. cost ≤ 2 ^ 24) result }
+    ensures len { length result ≡ 784 }
+{
+    let places = sent_places();
+    let mut costs = [0; BLOCK_COSTS];
+    for entry in 0..BLOCK_COSTS {
+        costs[entry] = point_cost(levels, usize::from(places[entry / 16]), (entry % 16) as u8);
+    }
+    costs
+}
+
+/// Sets `octets` to those of the soft path of a block's 98 levels, and answers what that path costs: the sum, over the 98
+/// dibits of its sent bits, of the square of level minus nominal level. No path costs less, and of several that cost as
+/// little it is the first in dictionary order of symbols. The levels are in the order of sending, as the bits of `read_block`
+/// are; there are 12 octets at half rate and 18 at three-quarter rate. The measure is this project's own; the paths are those
+/// of TIA-102.BAAA, Trellis Coding.
+pub fn read_soft<R: Rate>(levels: &[i8], octets: &mut [u8]) -> u32
+    requires levels { length levels.now ≡ 98 }
+    requires octets { length octets.old ≡ R.OCTETS }
+    ensures least { IsFirstLeastReading R.STATES R.BITS_PER_SYMBOL (soft_cost R.point_of levels.now) octets.new result }
+    ensures octets { octets.new ≡ soft_octets R.STATES R.BITS_PER_SYMBOL R.point_of levels.now }
+{
+    read_costs::<R>(&level_costs(levels), octets)
+}
