@@ -10,4 +10,5 @@ pub mod WholeLaws
 pub mod TerminatorsLaws
 pub mod BegunLaws
 pub mod UnitPlaceLaws
-pub mod FixingSteps
+pub mod FixingLaws
+pub mod ItemSteps
