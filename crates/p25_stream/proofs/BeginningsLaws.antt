@@ -8,7 +8,7 @@ use Rattle.p25_units.specs.Needs.{need_of}
 use Rattle.p25_units.specs.declared.begun.Begun.{Begun}
 use Rattle.p25_units.specs.declared.needs.Need.TheVariants.{More, Length, NoLength}
 use Rattle.p25_units.proofs.NeedsLaws.{need_of-few, need_of-waits}
-use Rattle.p25_units.proofs.BegunSteps.{IsBegun-append}
+use Rattle.p25_units.proofs.BegunLaws.{IsBegun-append}
 use Rattle.p25_stream.specs.Items.{sync_place, gap_of, gap_known, is_decided}
 use Rattle.p25_stream.specs.Beginnings.{Needs, HasNoUnit, IsSearched, IsKnownGap, is_settled, waits, IsBeginning}
 use Rattle.p25_stream.specs.declared.beginning.Beginning.{Beginning}

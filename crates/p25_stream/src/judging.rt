@@ -11,7 +11,7 @@ ghost use Rattle.p25_stream.specs.Items.{first_item, sync_place};
 use crate::beginning::{BEHIND, Beginning};
 use p25_bits::BitBuf;
 use p25_status::is_sync_window;
-use p25_units::{Begun, Field, Item, Need, need_begun, unit_item};
+use p25_units::{Begun, Field, Item, Need, need_begun, set_unit_item};
 
 // The most bits of a gap.
 const GAP_MOST: usize = 4_096;
@@ -181,28 +181,42 @@ fn beginning_waiting(held: &BitBuf, count: usize, begun: Begun) -> Beginning
     }
 }
 
-// The first item of some bits; where it is not known, they are all there are. It is large, so it is made apart from its
-// caller.
+// Sets `item` to the first item of some bits; where it is not known, they are all there are. An item is large, so it is set in
+// place, apart from the caller.
 #[inline(never)]
-pub(crate) fn item_of_beginning(beginning: Beginning, held: &BitBuf, place: u64) -> Item
+pub(crate) fn set_item(
+    beginning: Beginning,
+    held: &BitBuf,
+    place: u64,
+    room: &mut BitBuf,
+    item: &mut Item,
+)
     requires { IsBeginning beginning held.now }
-    ensures item { result ≡ first_item place held.now }
-    ensures sound { IsSoundItem result }
+    ensures item { item.new ≡ first_item place held.now }
+    ensures sound { IsSoundItem item.new }
 {
     match beginning {
-        Beginning::Searching(_) => Item::Gap {
-            place,
-            length: held.len().min(GAP_MOST) as u32,
-        },
-        Beginning::Waiting(_, _) => Item::Cut {
-            place,
-            have: held.len() as u32,
-        },
-        Beginning::Gap(count) => Item::Gap {
-            place,
-            length: count as u32,
-        },
-        Beginning::Ready(count, begun) => unit_item(held, 0, count, begun, place),
-        Beginning::NoUnit(field) => Item::NoUnit { place, field },
+        Beginning::Searching(_) => {
+            *item = Item::Gap {
+                place,
+                length: held.len().min(GAP_MOST) as u32,
+            };
+        }
+        Beginning::Waiting(_, _) => {
+            *item = Item::Cut {
+                place,
+                have: held.len() as u32,
+            };
+        }
+        Beginning::Gap(count) => {
+            *item = Item::Gap {
+                place,
+                length: count as u32,
+            };
+        }
+        Beginning::Ready(count, begun) => {
+            set_unit_item(held, 0, count, begun, place, room, item);
+        }
+        Beginning::NoUnit(field) => *item = Item::NoUnit { place, field },
     }
 }

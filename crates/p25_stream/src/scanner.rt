@@ -6,7 +6,7 @@ ghost use Rattle.p25_stream.specs.Scan.{Gave, given};
 ghost use Rattle.p25_units.specs.Items.{IsSoundItem};
 
 use crate::beginning::Beginning;
-use crate::judging::{beginning_anew, item_of_beginning, judge_more, passes_eight};
+use crate::judging::{beginning_anew, judge_more, passes_eight, set_item};
 use p25_bits::BitBuf;
 use p25_units::Item;
 use std::marker::Model;
@@ -16,6 +16,8 @@ use std::marker::Model;
 #[derive(Drop)]
 pub struct Scanner {
     held: BitBuf,
+    // Where a unit is read: what it holds means nothing.
+    room: BitBuf,
     place: u64,
     finished: bool,
     beginning: Beginning,
@@ -42,6 +44,7 @@ impl Scanner {
         let beginning = beginning_anew(&held);
         Scanner {
             held,
+            room: BitBuf::new(),
             place: 0,
             finished: false,
             beginning,
@@ -99,16 +102,31 @@ impl Scanner {
         ensures given { MatchOption result ((given self.old ≡ []) × (self.new ≡ self.old) × (raw.new ≡ raw.old)) (λ item. Gave self.old item raw.new self.new) }
         ensures sound { IfSome result IsSoundItem }
     {
-        if self.is_drained() {
-            return None;
+        let mut item = Item::Cut { place: 0, have: 0 };
+        if self.take_next(raw, &mut item) {
+            Some(item)
+        } else {
+            None
         }
-        let item = item_of_beginning(self.beginning, &self.held, self.place);
+    }
+
+    /// Sets `item` to the next item and `raw` to the bits that it covers, which are held no longer, and answers true. False
+    /// comes exactly where `next` would answer `None`; then all stays as it is. An item is large: so it is not moved.
+    pub fn take_next(&mut self, raw: &mut BitBuf, item: &mut Item) -> bool
+        ensures given { result ≡ true → Gave self.old item.new raw.new self.new }
+        ensures none { result ≡ false → (given self.old ≡ []) × (self.new ≡ self.old) × (raw.new ≡ raw.old) × (item.new ≡ item.old) }
+        ensures sound { result ≡ true → IsSoundItem item.new }
+    {
+        if self.is_drained() {
+            return false;
+        }
+        set_item(self.beginning, &self.held, self.place, &mut self.room, item);
         let count = item.covered();
         raw.clear();
         raw.append(&self.held, 0, count as usize);
         self.held.drop_front(count as usize);
         self.place += count;
         self.beginning = beginning_anew(&self.held);
-        Some(item)
+        true
     }
 }

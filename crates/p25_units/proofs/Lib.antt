@@ -10,5 +10,6 @@ pub mod WholeLaws
 pub mod TerminatorsLaws
 pub mod BegunLaws
 pub mod UnitPlaceLaws
-pub mod FixingSteps
+pub mod FixingLaws
+pub mod ItemSteps
 pub mod PacketNeedLaws

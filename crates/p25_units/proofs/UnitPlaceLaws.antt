@@ -27,6 +27,7 @@ use Rattle.p25_units.specs.Needs.{need_of, synced_need, kind_need}
 use Rattle.p25_units.specs.Readings.{body_reading_of, frame_from, reading_from, unit_reading_of}
 use Rattle.p25_units.specs.declared.unit.Body.{Body}
 use Rattle.p25_units.specs.declared.frame.Frame.{Frame}
+use Rattle.p25_units.specs.declared.item.Item.{Item}
 use Rattle.p25_units.specs.declared.needs.Need.TheVariants.{NoSync, More, Length, NoLength}
 use Rattle.p25_units.proofs.UnitsLaws.{IsSentLength-voice}
 use Rattle.p25_units.proofs.NeedsLaws.{IsIdentified-from, IsHead-kind, need_of-there, need_of-short, need_of-unsynced, need_of-synced, synced_need-short, synced_need-read, identified_need-none, identified_need-some}
@@ -87,6 +88,18 @@ reading_of_unit bits at count is = unit_reading_of-read (part at count bits) (So
 
 pub item_of_unit : (bits : List Bool) (at count place : ℕ) (is : IsUnitAt bits at count) → unit_item_of place (part at count bits) ≡ item_from place is.nid (part at count bits) (reading_from (Some is.nid) (part at count bits))
 item_of_unit bits at count place is = unit_item_of-some place (part at count bits) is.nid (reading_from (Some is.nid) (part at count bits)) is.sent refl
+
+-- the item by an identifier that was read
+pub item-is : (bits : List Bool) (at count place : ℕ) → IsUnitAt bits at count → (nid : Identifier) → option_map (λ (n : Identifier). (n.nac, n.duid)) (Some nid) ≡ identifier_of (drop at bits)
+    → (item : Item) → item ≡ item_from place (nid.nac, nid.duid) (part at count bits) (reading_from (Some (nid.nac, nid.duid)) (part at count bits)) → item ≡ unit_item_of place (part at count bits)
+item-is bits at count place is nid read item e =
+    let sent = part at count bits in
+    e ∙ ap (λ n. item_from place n sent (reading_from (Some n) sent)) (same_nid bits at count is nid read) ∙ sym (item_of_unit bits at count place is)
+
+-- the kind by it
+pub kind-is : (bits : List Bool) (at count : ℕ) (is : IsUnitAt bits at count) (nid : Identifier) → option_map (λ (n : Identifier). (n.nac, n.duid)) (Some nid) ≡ identifier_of (drop at bits)
+    → kind_need nid.duid (drop at bits) ≡ Length count
+kind-is bits at count is nid read = ap (λ n. kind_need n.1 (drop at bits)) (same_nid bits at count is nid read) ∙ is.kind
 
 -- the reading by what the unit carries
 pub reading-is : (nid : ℕ × ℕ) (sent : List Bool) (statuses : List Status) (reading : Result Body (List Field)) → statuses ≡ statuses_of sent → reading ≡ body_reading_of nid.1 (plain_of sent)

@@ -1,6 +1,6 @@
 //! In how many bits a unit was received otherwise than its frame is sent.
 
-ghost use Rattle.std.specs.Prelude.{◌≡◌, ◌+◌, ◌≤◌, length};
+ghost use Rattle.std.specs.Prelude.{◌≡◌, ◌+◌, ◌≤◌, Some, length};
 ghost use Rattle.p25_bits.specs.Bits.{part};
 ghost use Rattle.p25_bits.specs.Distance.{distance_of};
 ghost use Rattle.p25_packet_blocks.specs.Heads.{head_blocks};
@@ -11,6 +11,7 @@ ghost use Rattle.p25_status.specs.Woven.{plain_of};
 ghost use Rattle.p25_units.specs.Fixes.{body_fixes_of, fixes_of};
 ghost use Rattle.p25_units.specs.Units.{IsSendableUnit, IsSoundFrame, IsWholeBody, body_length, frame_length_of, sent_length};
 ghost use Rattle.p25_units.specs.declared.unit.Body.TheVariants.{Packet as packet_in, Voice as voice_in};
+ghost use Rattle.p25_voice_units.specs.Lengths.{voice_duid, voice_length_of};
 ghost use Rattle.p25_voice_units.specs.Sendable.{IsSendableVoice};
 
 use crate::frame::Frame;
@@ -69,9 +70,35 @@ fn voice_unit_fixes(bits: &BitBuf, at: usize, nac: u16, voice: &VoiceUnit) -> u3
         &mut plain,
         &mut Statuses::new(),
     );
+    coded_fixes(nac, voice, &plain)
+}
+
+// The same of a voice unit whose bits without status symbols are there. Behind the front of a terminator stand no words.
+pub(crate) fn coded_fixes(nac: u16, voice: &VoiceUnit, plain: &BitBuf) -> u32
+    requires nac { nac ≤ 4095 }
+    requires long { voice_length_of (voice_duid voice.now) ≡ Some (length plain.now) }
+    ensures sendable { IsSendableVoice voice.now }
+    ensures value { result ≡ body_fixes_of (record { nac = nac; body = voice_in voice.now }) plain.now }
+    ensures most { result ≤ 1680 }
+{
+    match voice {
+        VoiceUnit::End => 0,
+        _ => word_fixes(nac, voice, plain),
+    }
+}
+
+// The same, by the bits that are sent for it. They take room, so they are made apart from the caller.
+#[inline(never)]
+fn word_fixes(nac: u16, voice: &VoiceUnit, plain: &BitBuf) -> u32
+    requires nac { nac ≤ 4095 }
+    requires long { voice_length_of (voice_duid voice.now) ≡ Some (length plain.now) }
+    ensures sendable { IsSendableVoice voice.now }
+    ensures value { result ≡ body_fixes_of (record { nac = nac; body = voice_in voice.now }) plain.now }
+    ensures most { result ≤ 1680 }
+{
     let mut image = BitBuf::new();
     voice_image(nac, voice, &mut image);
-    voice_fixes(voice, &plain, &image)
+    voice_fixes(voice, plain, &image)
 }
 
 // The same of a packet.

@@ -1,20 +1,24 @@
 //! What a stream is divided into.
 
-ghost use Rattle.std.specs.Prelude.{◌≡◌, ◌≤◌, Some, length, drop};
+ghost use Rattle.std.specs.Prelude.{◌≡◌, ◌≢◌, ◌<◌, ◌≤◌, Some, length, drop};
 ghost use Rattle.p25_bits.specs.Bits.{part};
 ghost use Rattle.p25_units.specs.Begins.{IsBegun};
-ghost use Rattle.p25_units.specs.Items.{IsSoundItem, covered, item_from, place_of, unit_item_of};
+ghost use Rattle.p25_units.specs.Items.{IsSoundItem, covered, item_from, place_of, unit_item_of, whole_voice};
 ghost use Rattle.p25_units.specs.Needs.{kind_need, need_of};
+ghost use Rattle.p25_units.specs.declared.item.Item.TheVariants.{Broken};
 ghost use Rattle.p25_units.specs.declared.needs.Need.TheVariants.{Length};
 ghost use Rattle.p25_units.specs.Readings.{reading_from};
 
 use crate::begun::Begun;
-use crate::fixing::fixes;
+use crate::fixing::{coded_fixes, fixes};
 use crate::frame::{Frame, frame_length};
 use crate::read::read_identified;
+use crate::unit::{Body, PACKET_DUID, Unit};
 use p25_bch_nid::Nid;
 use p25_bits::BitBuf;
-use p25_status::{Field, FieldList};
+use p25_front::front_fixes;
+use p25_status::{Field, FieldList, Statuses, unweave};
+use p25_voice_units::{VoiceUnit, read_voice};
 
 /// A stretch of a stream. Places count bits from the beginning of the stream.
 #[derive(Drop)]
@@ -77,6 +81,35 @@ impl Item {
             Item::Cut { place, .. } => *place,
         }
     }
+
+    // Becomes a whole voice unit. Where it was one, no room for a packet is moved.
+    fn set_voice(&mut self, place: u64, nac: u16, voice: VoiceUnit, statuses: Statuses, fixes: u32)
+        requires { nac < 4096 }
+        ensures { self.new ≡ whole_voice place nac voice statuses fixes }
+    {
+        match self {
+            Item::Whole {
+                place: held_place,
+                frame,
+                fixes: held_fixes,
+            } => {
+                frame.unit.set_voice(nac, voice);
+                frame.statuses = statuses;
+                *held_place = place;
+                *held_fixes = fixes;
+            }
+            _ => {
+                *self = Item::Whole {
+                    place,
+                    frame: Frame {
+                        unit: Unit::new(nac, Body::Voice(voice)),
+                        statuses,
+                    },
+                    fixes,
+                };
+            }
+        }
+    }
 }
 
 /// Answers the item of the unit whose `count` sent bits begin at place `at`, where `need` answers that length there and
@@ -89,18 +122,76 @@ pub fn unit_item(bits: &BitBuf, at: usize, count: usize, begun: Begun, place: u6
     ensures item { result ≡ unit_item_of place (part at count bits.now) }
     ensures sound { IsSoundItem result }
 {
+    let mut item = Item::Cut { place, have: 0 };
+    set_unit_item(bits, at, count, begun, place, &mut BitBuf::new(), &mut item);
+    item
+}
+
+/// Sets `item` to the same. An item is large: set in place, it is not moved, and where a voice unit follows a voice unit only
+/// that is written. `room` is taken for the unit's bits without status symbols.
+pub fn set_unit_item(
+    bits: &BitBuf,
+    at: usize,
+    count: usize,
+    begun: Begun,
+    place: u64,
+    room: &mut BitBuf,
+    item: &mut Item,
+)
+    requires there { at ≤ length bits.now }
+    requires needed { need_of (drop at bits.now) ≡ Length count }
+    requires begun { IsBegun begun (drop at bits.now) }
+    ensures item { item.new ≡ unit_item_of place (part at count bits.now) }
+    ensures sound { IsSoundItem item.new }
+{
     let mut begun = begun;
     match begun.identify(bits, at) {
-        None => Item::NoUnit {
-            place,
-            field: Field::Nid,
-        },
-        Some(nid) => identified_item(bits, at, count, &nid, &mut begun, place),
+        None => {
+            *item = Item::NoUnit {
+                place,
+                field: Field::Nid,
+            };
+        }
+        Some(nid) => {
+            if nid.duid == PACKET_DUID {
+                *item = packet_item(bits, at, count, &nid, &mut begun, place);
+            } else {
+                set_voice_item(bits, at, count, &nid, place, room, item);
+            }
+        }
     }
 }
 
-// The same, where the identifier was read.
-fn identified_item(
+// Sets `item` to that of a voice unit whose identifier was read.
+fn set_voice_item(
+    bits: &BitBuf,
+    at: usize,
+    count: usize,
+    nid: &Nid,
+    place: u64,
+    room: &mut BitBuf,
+    item: &mut Item,
+)
+    requires there { at ≤ length bits.now }
+    requires kind { kind_need nid.now.duid (drop at bits.now) ≡ Length count }
+    requires voice { nid.now.duid ≢ 0xC }
+    ensures { item.new ≡ item_from place (nid.now.nac, nid.now.duid) (part at count bits.now)
+        (reading_from (Some (nid.now.nac, nid.now.duid)) (part at count bits.now)) }
+{
+    let mut statuses = Statuses::new();
+    unweave(bits, at, count, room, &mut statuses);
+    match read_voice(nid.duid, room) {
+        Ok(voice) => {
+            let fixes = front_fixes(bits, at, nid) + coded_fixes(nid.nac, &voice, room);
+            item.set_voice(place, nid.nac, voice, statuses, fixes);
+        }
+        Err(fields) => *item = broken_item(place, count, nid, fields),
+    }
+}
+
+// The item of a packet whose identifier was read. A packet takes room, so it is read apart from voice units.
+#[inline(never)]
+fn packet_item(
     bits: &BitBuf,
     at: usize,
     count: usize,
@@ -123,12 +214,20 @@ fn identified_item(
                 fixes,
             }
         }
-        Err(fields) => Item::Broken {
-            place,
-            length: count as u32,
-            nac: nid.nac,
-            duid: nid.duid,
-            fields,
-        },
+        Err(fields) => broken_item(place, count, nid, fields),
+    }
+}
+
+// The item of a unit some fields of which fail.
+fn broken_item(place: u64, count: usize, nid: &Nid, fields: FieldList) -> Item
+    requires { count ≤ 25920 }
+    ensures { result ≡ Broken place count nid.now.nac nid.now.duid fields }
+{
+    Item::Broken {
+        place,
+        length: count as u32,
+        nac: nid.nac,
+        duid: nid.duid,
+        fields,
     }
 }

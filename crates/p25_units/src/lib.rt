@@ -40,7 +40,7 @@ mod voice_tests;
 pub use begun::Begun;
 pub use fixing::fixes;
 pub use frame::{Frame, frame_length};
-pub use item::{Item, unit_item};
+pub use item::{Item, set_unit_item, unit_item};
 pub use laws::{need_laws, unit_laws};
 pub use needs::Need;
 pub use p25_packet_blocks::Packet;

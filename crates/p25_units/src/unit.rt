@@ -2,6 +2,7 @@
 
 ghost use Rattle.std.specs.Prelude.{◌≡◌, ◌<◌, ◌≤◌};
 ghost use Rattle.p25_units.specs.Units.{body_duid, body_length};
+ghost use Rattle.p25_units.specs.declared.unit.Body.TheVariants.{Voice as voice_in};
 
 use p25_bch_nid::Nid;
 use p25_packet_blocks::{Packet, packet_length};
@@ -29,6 +30,16 @@ impl Body {
         match self {
             Body::Voice(voice) => voice.duid(),
             Body::Packet(_) => PACKET_DUID,
+        }
+    }
+
+    // Becomes a voice unit. Where it was one, no room for a packet is moved.
+    fn set_voice(&mut self, voice: VoiceUnit)
+        ensures { self.new ≡ voice_in voice }
+    {
+        match self {
+            Body::Voice(held) => *held = voice,
+            Body::Packet(_) => *self = Body::Voice(voice),
         }
     }
 
@@ -69,6 +80,15 @@ impl Unit {
         ensures { result ≡ record { nac = nac; body = body } }
     {
         Unit { nac, body }
+    }
+
+    // Becomes a voice unit of a network access code.
+    pub(crate) fn set_voice(&mut self, nac: u16, voice: VoiceUnit)
+        requires { nac < 4096 }
+        ensures { self.new ≡ record { nac = nac; body = voice_in voice } }
+    {
+        self.nac = nac;
+        self.body.set_voice(voice);
     }
 
     /// Answers the network access code.

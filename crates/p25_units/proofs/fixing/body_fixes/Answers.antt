@@ -1,7 +1,7 @@
 use Rattle.std.proofs.Common.{sym, ◌∙◌, arith, subst}
 use Rattle.p25_units.specs.Units.{IsSendableBody, IsWholeBody}
 use Rattle.p25_units.specs.declared.unit.Body.TheVariants.{Packet, Voice}
-use Rattle.p25_units.proofs.FixingSteps.{body_fixes-is, frame_length_of-packet, frame_length_of-voice}
+use Rattle.p25_units.proofs.FixingLaws.{body_fixes-is, frame_length_of-packet, frame_length_of-voice}
 use Rattle.p25_units.proofs.fixing.body_fixes.Goals as goal
 
 pub voice_unit_fixes-requires-clause-there : goal.voice_unit_fixes-requires-clause-there

@@ -1,6 +1,6 @@
 use Rattle.std.proofs.Common.{arith}
 use Rattle.p25_units.proofs.UnitsLaws.{blocks-sound}
-use Rattle.p25_units.proofs.FixingSteps.{fixes_in}
+use Rattle.p25_units.proofs.FixingLaws.{fixes_in}
 use Rattle.p25_units.proofs.fixing.fixes.Goals as goal
 
 pub front_fixes-requires : goal.front_fixes-requires

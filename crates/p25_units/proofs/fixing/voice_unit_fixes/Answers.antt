@@ -1,16 +1,16 @@
-use Rattle.std.proofs.Common.{◌≡◌, Some, ap, ap₂, sym, ◌∙◌, arith, length}
+use Rattle.std.proofs.Common.{◌≡◌, Some, ap, sym, ◌∙◌, arith, length}
 use Rattle.p25_bits.specs.Bits.{part}
 use Rattle.p25_status.specs.Woven.{plain_of}
-use Rattle.p25_voice_units.specs.Fixes.{voice_fixes_of}
 use Rattle.p25_voice_units.specs.Lengths.{voice_duid}
+use Rattle.p25_units.specs.Fixes.{body_fixes_of}
+use Rattle.p25_units.specs.UnitParts.{UnitParts}
 use Rattle.p25_units.specs.Units.{body_length, sent_length}
 use Rattle.p25_units.specs.declared.unit.Body.TheVariants.{Voice}
-use Rattle.p25_units.proofs.FixesLaws.{body_fixes_of-voice}
 use Rattle.p25_units.proofs.UnitsLaws.{IsSentLength-voice, body_length-voice}
 use Rattle.p25_units.proofs.fixing.voice_unit_fixes.Goals as goal
 
-pub voice_fixes-requires-clause-received : goal.voice_fixes-requires-clause-received
-voice_fixes-requires-clause-received c =
+pub coded_fixes-requires-clause-long : goal.coded_fixes-requires-clause-long
+coded_fixes-requires-clause-long c =
     let is = IsSentLength-voice (voice_duid c.args.voice.now) c.length.result c.length.ensures.value in
     let same : c.length.result ≡ length c.unweave.new.out = omega (arith, c.unweave.ensures.plain_len, c.unweave.ensures.len, is.fills, is.sent) in
     c.length.ensures.value ∙ ap Some same
@@ -19,8 +19,7 @@ pub returns-clause-value : goal.returns-clause-value
 returns-clause-value c =
     let voice = c.args.voice.now in
     let bits = c.args.bits.now in
+    let unit : UnitParts = record { nac = c.args.nac; body = Voice voice } in
     let long : sent_length c.length.result ≡ sent_length (body_length (Voice voice)) = ap sent_length (sym (body_length-voice voice c.length.result c.length.ensures.value)) in
     let plain = c.unweave.ensures.plain ∙ ap (λ n. plain_of (part c.args.at n bits)) long in
-    c.voice_fixes.ensures.value
-    ∙ ap₂ (voice_fixes_of voice) plain c.voice_image.ensures.list
-    ∙ sym (body_fixes_of-voice c.args.nac voice (plain_of (part c.args.at (sent_length (body_length (Voice voice))) bits)))
+    c.coded_fixes.ensures.value ∙ ap (body_fixes_of unit) plain

@@ -4,18 +4,18 @@ use Rattle.p25_units.specs.declared.item.Item.TheVariants.{Gap, Cut}
 use Rattle.p25_stream.specs.Items.{gap_of}
 use Rattle.p25_stream.proofs.BeginningsLaws.{was-searching, was-waiting, was-gap, was-ready, was-no_unit, searched-none, searched-all}
 use Rattle.p25_stream.proofs.ItemsLaws.{first_item-gap, first_item-synced}
-use Rattle.p25_stream.proofs.judging.item_of_beginning.Goals as goal
+use Rattle.p25_stream.proofs.judging.set_item.Goals as goal
 
-pub overflow_cast-result-in-Gap : goal.overflow_cast-result-in-Gap
-overflow_cast-result-in-Gap c =
+pub overflow_cast-item-in-Gap : goal.overflow_cast-item-in-Gap
+overflow_cast-item-in-Gap c =
     let is = was-gap c.args.beginning c.args.held.now c.in-Gap.count c.requires c.in-Gap.is in
     omega (arith, is.is)
 
-pub unit_item-requires-clause-needed : goal.unit_item-requires-clause-needed
-unit_item-requires-clause-needed c = (was-ready c.args.beginning c.args.held.now c.in-Ready.count c.in-Ready.begun c.requires c.in-Ready.is).needs
+pub set_unit_item-requires-clause-needed : goal.set_unit_item-requires-clause-needed
+set_unit_item-requires-clause-needed c = (was-ready c.args.beginning c.args.held.now c.in-Ready.count c.in-Ready.begun c.requires c.in-Ready.is).needs
 
-pub unit_item-requires-clause-begun : goal.unit_item-requires-clause-begun
-unit_item-requires-clause-begun c = (was-ready c.args.beginning c.args.held.now c.in-Ready.count c.in-Ready.begun c.requires c.in-Ready.is).read
+pub set_unit_item-requires-clause-begun : goal.set_unit_item-requires-clause-begun
+set_unit_item-requires-clause-begun c = (was-ready c.args.beginning c.args.held.now c.in-Ready.count c.in-Ready.begun c.requires c.in-Ready.is).read
 
 pub returns-in-Searching-clause-item : goal.returns-in-Searching-clause-item
 returns-in-Searching-clause-item c =
@@ -40,7 +40,7 @@ pub returns-in-Ready-clause-item : goal.returns-in-Ready-clause-item
 returns-in-Ready-clause-item c =
     let bits = c.args.held.now in
     let is = was-ready c.args.beginning bits c.in-Ready.count c.in-Ready.begun c.requires c.in-Ready.is in
-    c.unit_item.ensures.item ∙ sym (first_item-synced c.args.place bits (Length c.in-Ready.count) is.synced is.needs)
+    c.set_unit_item.ensures.item ∙ sym (first_item-synced c.args.place bits (Length c.in-Ready.count) is.synced is.needs)
 
 pub returns-in-NoUnit-clause-item : goal.returns-in-NoUnit-clause-item
 returns-in-NoUnit-clause-item c =
