@@ -48,6 +48,6 @@ pub use p25_status::{Field, FieldList, Status, Statuses};
 pub use p25_voice_units::VoiceUnit;
 pub use read::read_unit;
 pub use scan::{need, need_begun};
-pub use sending::{image, image_as};
+pub use sending::{image, image_as, unit_image};
 pub use terminators::terminator_laws;
 pub use unit::{Body, Unit};

@@ -39,8 +39,8 @@ pub fn image_as(frame: &Frame, nac: u16, statuses: &Statuses, out: &mut BitBuf)
     weave(&plain, statuses, out);
 }
 
-// The bits of a unit without status symbols.
-fn unit_image(unit: &Unit, out: &mut BitBuf)
+/// Sets `out` to the bits of a unit without status symbols, first to last. No slot of a packet is Bad.
+pub fn unit_image(unit: &Unit, out: &mut BitBuf)
     requires { IsWholeBody unit.now.body }
     ensures list { out.new ≡ unit_image_of unit.now }
     ensures len { length out.new ≡ body_length unit.now.body }

@@ -46,7 +46,7 @@ pub use fixes::voice_fixes;
 pub use image::voice_image;
 pub use laws::image_laws;
 pub use layout::{END_LINK_ROWS, END_ROWS, HEADER_ROWS, LINK_ROWS, Piece, layouts};
-pub use places::part_places;
+pub use places::{END_LINK_WORDS, HEADER_WORDS, LINK_WORDS, LOW_WORDS, part_places};
 pub use radius::radius_laws;
 pub use read::read_voice;
 pub use unit::{VoiceUnit, voice_length};

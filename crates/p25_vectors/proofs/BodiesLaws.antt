@@ -1,0 +1,181 @@
+-- What units carry, from the parts that were drawn one after the other: the states between them add up.
+use Rattle.std.proofs.Common.{◌≡◌, ℕ, ◌+◌, ◌-◌, ◌*◌, ◌%◌, ◌<◌, ◌≢◌, inl, inr, List, [], ◌∷◌, ◌++◌, length, get_or, refl, ap, ap₂, sym, ◌∙◌, arith}
+use Rattle.p25_bits.proofs.NumbersLaws.{length-each_below, each_below-more, each_below-zero, get_or-each_below}
+use Rattle.p25_link.specs.declared.link_control.LinkControl.{LinkControl}
+use Rattle.p25_link.specs.declared.encryption_sync.EncryptionSync.{EncryptionSync}
+use Rattle.p25_voice_units.specs.declared.voice.VoiceFrame.{VoiceFrame}
+use Rattle.p25_voice_units.specs.declared.unit.VoiceUnit.TheVariants.{Link1 as link1_unit, Link2 as link2_unit}
+use Rattle.p25_packet_blocks.specs.ConfirmedParts.{ConfirmedParts}
+use Rattle.p25_packet_blocks.specs.Parts.{PlainParts}
+use Rattle.p25_packet_blocks.specs.Heads.{head_format, head_blocks}
+use Rattle.p25_packet_blocks.specs.Kinds.{IsConfirmed, IsPlain}
+use Rattle.p25_packet_blocks.specs.Whole.{AreGood, IsWholePacket}
+use Rattle.p25_packet_blocks.specs.declared.head.PacketHead.{PacketHead}
+use Rattle.p25_packet_blocks.specs.declared.block.Slot.{Slot}
+use Rattle.p25_packet_blocks.specs.declared.block.Slot.TheVariants.{Bad}
+use Rattle.p25_packet_blocks.specs.declared.packet.Packet.TheVariants.{Confirmed as confirmed_packet, Plain as plain_packet}
+use Rattle.p25_units.specs.Units.{IsWholeBody}
+use Rattle.p25_units.specs.declared.unit.Body.TheVariants.{Voice, Packet}
+use Rattle.p25_vectors.specs.Draws.{state_after, octets_drawn}
+use Rattle.p25_vectors.specs.Bodies.{link_of, sync_of, voice_frame_of, voice_drawn, head_of, blocks_drawn, block_of, slots_drawn, body_drawn, body_draws}
+use Rattle.p25_vectors.specs.declared.kind.Kind.{Kind}
+use Rattle.p25_vectors.specs.declared.kind.Kind.TheVariants.{End, Header, EndLink, Link1, Link2, Confirmed, Plain, Response}
+use Rattle.p25_vectors.proofs.DrawsLaws.{state_after-add}
+
+-- Lists of drawn things.
+
+pub voice_drawn-none : (state : ℕ) → voice_drawn 0 state ≡ []
+unfolding voice_drawn
+voice_drawn-none state = each_below-zero (λ i. voice_frame_of (octets_drawn 18 (state_after (18 * i) state)))
+
+pub voice_drawn-more : (count state : ℕ) → voice_drawn (count + 1) state ≡ voice_drawn count state ++ voice_frame_of (octets_drawn 18 (state_after (18 * count) state)) ∷ []
+unfolding voice_drawn
+voice_drawn-more count state = each_below-more count (λ i. voice_frame_of (octets_drawn 18 (state_after (18 * i) state)))
+
+pub slots_drawn-none : (state : ℕ) → slots_drawn 0 state ≡ []
+unfolding slots_drawn
+slots_drawn-none state = each_below-zero (λ j. block_of j (octets_drawn 16 (state_after (16 * j) state)))
+
+pub slots_drawn-more : (count state : ℕ) → slots_drawn (count + 1) state ≡ slots_drawn count state ++ block_of count (octets_drawn 16 (state_after (16 * count) state)) ∷ []
+unfolding slots_drawn
+slots_drawn-more count state = each_below-more count (λ j. block_of j (octets_drawn 16 (state_after (16 * j) state)))
+
+pub length-slots_drawn : (count state : ℕ) → length (slots_drawn count state) ≡ count
+unfolding slots_drawn
+length-slots_drawn count state = length-each_below count (λ j. block_of j (octets_drawn 16 (state_after (16 * j) state)))
+
+-- one more of a size behind so many
+pub state_after-more : (size count state now next : ℕ) → now ≡ state_after (size * count) state → next ≡ state_after size now → next ≡ state_after (size * (count + 1)) state
+state_after-more size count state now next is then =
+    let e : size * count + size ≡ size * (count + 1) = omega arith in
+    then ∙ ap (state_after size) is ∙ state_after-add (size * count) size state ∙ ap (λ n. state_after n state) e
+
+-- Voice.
+
+pub link1-drawn : (state first second last : ℕ) (link : LinkControl) (low : List ℕ) (voice : List VoiceFrame)
+    → link ≡ link_of (octets_drawn 9 state) → first ≡ state_after 9 state → low ≡ octets_drawn 2 first → second ≡ state_after 2 first
+    → voice ≡ voice_drawn 9 second → last ≡ state_after 162 second
+    → (Voice (link1_unit link low voice) ≡ body_drawn Link1 state) × (last ≡ state_after (body_draws Link1 state) state)
+unfolding body_drawn body_draws
+link1-drawn state first second last link low voice a b c d e f =
+    let behind : second ≡ state_after 11 state = d ∙ ap (state_after 2) b ∙ state_after-add 9 2 state in
+    let lows : low ≡ octets_drawn 2 (state_after 9 state) = c ∙ ap (octets_drawn 2) b in
+    let voices : voice ≡ voice_drawn 9 (state_after 11 state) = e ∙ ap (voice_drawn 9) behind in
+    (ap (λ l. Voice (link1_unit l low voice)) a ∙ ap₂ (λ x y. Voice (link1_unit (link_of (octets_drawn 9 state)) x y)) lows voices, f ∙ ap (state_after 162) behind ∙ state_after-add 11 162 state)
+
+pub link2-drawn : (state first second last : ℕ) (sync : EncryptionSync) (low : List ℕ) (voice : List VoiceFrame)
+    → sync ≡ sync_of (octets_drawn 12 state) → first ≡ state_after 12 state → low ≡ octets_drawn 2 first → second ≡ state_after 2 first
+    → voice ≡ voice_drawn 9 second → last ≡ state_after 162 second
+    → (Voice (link2_unit sync low voice) ≡ body_drawn Link2 state) × (last ≡ state_after (body_draws Link2 state) state)
+unfolding body_drawn body_draws
+link2-drawn state first second last sync low voice a b c d e f =
+    let behind : second ≡ state_after 14 state = d ∙ ap (state_after 2) b ∙ state_after-add 12 2 state in
+    let lows : low ≡ octets_drawn 2 (state_after 12 state) = c ∙ ap (octets_drawn 2) b in
+    let voices : voice ≡ voice_drawn 9 (state_after 14 state) = e ∙ ap (voice_drawn 9) behind in
+    (ap (λ s. Voice (link2_unit s low voice)) a ∙ ap₂ (λ x y. Voice (link2_unit (sync_of (octets_drawn 12 state)) x y)) lows voices, f ∙ ap (state_after 162) behind ∙ state_after-add 14 162 state)
+
+-- Packets.
+
+pub head_of-blocks : (first second blocks ninth : ℕ) (llid : List ℕ) → length llid ≡ 3 → blocks < 128 → head_blocks (head_of first second llid blocks ninth) ≡ blocks
+unfolding head_blocks
+head_of-blocks first second blocks ninth [] long few = absurd (omega arith)
+head_of-blocks first second blocks ninth (a ∷ []) long few = absurd (omega arith)
+head_of-blocks first second blocks ninth (a ∷ b ∷ []) long few = absurd (omega arith)
+head_of-blocks first second blocks ninth (a ∷ b ∷ c ∷ []) long few = omega arith
+head_of-blocks first second blocks ninth (a ∷ b ∷ c ∷ d ∷ llid) long few = absurd (omega arith)
+
+pub head_of-format : (first second blocks ninth : ℕ) (llid : List ℕ) → head_format (head_of first second llid blocks ninth) ≡ first % 32
+unfolding head_format
+head_of-format first second blocks ninth llid = refl
+
+pub confirmed-is : (blocks : ℕ) (llid : List ℕ) (head : PacketHead) (slots : List Slot) → head ≡ head_of 0x56 0xC0 llid blocks 0x08 → length llid ≡ 3 → blocks < 128 → length slots ≡ blocks
+    → IsConfirmed (record { head = head; slots = slots })
+confirmed-is blocks llid head slots is long few many = record {
+  format = ap head_format is ∙ head_of-format 0x56 0xC0 blocks 0x08 llid;
+  count = many ∙ sym (ap head_blocks is ∙ head_of-blocks 0x56 0xC0 blocks 0x08 llid long few);
+}
+
+pub plain-is : (blocks : ℕ) (llid : List ℕ) (head : PacketHead) (octets : List ℕ) → head ≡ head_of 0x35 0xC0 llid blocks 0 → length llid ≡ 3 → blocks < 128 → length octets ≡ 12 * blocks - 4
+    → IsPlain (record { head = head; octets = octets })
+plain-is blocks llid head octets is long few many = record {
+  format = inl (ap head_format is ∙ head_of-format 0x35 0xC0 blocks 0 llid);
+  count = many ∙ ap (λ n. 12 * n - 4) (sym (ap head_blocks is ∙ head_of-blocks 0x35 0xC0 blocks 0 llid long few));
+}
+
+pub response-is : (llid : List ℕ) (head : PacketHead) (octets : List ℕ) → head ≡ head_of 0x23 0x08 llid 0 0 → length llid ≡ 3 → octets ≡ []
+    → IsPlain (record { head = head; octets = octets })
+response-is llid head octets is long none =
+    let few : 0 < 128 = omega arith in
+    record {
+      format = inr (ap head_format is ∙ head_of-format 0x23 0x08 0 0 llid);
+      count = ap length none ∙ ap (λ n. 12 * n - 4) (sym (ap head_blocks is ∙ head_of-blocks 0x23 0x08 0 0 llid long few));
+    }
+
+-- the states of blocks, LLID and what follows
+four-behind : (state first second : ℕ) → first ≡ state_after 1 state → second ≡ state_after 3 first → second ≡ state_after 4 state
+four-behind state first second a b = b ∙ ap (state_after 3) a ∙ state_after-add 1 3 state
+
+pub confirmed-drawn : (state first second last blocks : ℕ) (llid : List ℕ) (head : PacketHead) (slots : List Slot) (packet : ConfirmedParts)
+    → blocks ≡ blocks_drawn state → first ≡ state_after 1 state → llid ≡ octets_drawn 3 first → second ≡ state_after 3 first
+    → head ≡ head_of 0x56 0xC0 llid blocks 0x08 → slots ≡ slots_drawn blocks second → last ≡ state_after (16 * blocks) second
+    → packet ≡ record { head = head; slots = slots }
+    → (Packet (confirmed_packet packet) ≡ body_drawn Confirmed state) × (last ≡ state_after (body_draws Confirmed state) state)
+unfolding body_drawn body_draws
+confirmed-drawn state first second last blocks llid head slots packet a b c d e f g h =
+    let behind : second ≡ state_after 4 state = four-behind state first second b d in
+    let ids : llid ≡ octets_drawn 3 (state_after 1 state) = c ∙ ap (octets_drawn 3) b in
+    let heads : head ≡ head_of 0x56 0xC0 (octets_drawn 3 (state_after 1 state)) (blocks_drawn state) 0x08 = e ∙ ap₂ (λ x n. head_of 0x56 0xC0 x n 0x08) ids a in
+    let all : slots ≡ slots_drawn (blocks_drawn state) (state_after 4 state) = f ∙ ap₂ slots_drawn a behind in
+    let made : PacketHead → List Slot → ConfirmedParts = λ x y. record { head = x; slots = y } in (
+      ap (λ p. Packet (confirmed_packet p)) (h ∙ ap₂ made heads all),
+      g ∙ ap₂ (λ n s. state_after (16 * n) s) a behind ∙ state_after-add 4 (16 * blocks_drawn state) state,
+    )
+
+pub plain-drawn : (state first second last blocks : ℕ) (llid : List ℕ) (head : PacketHead) (octets : List ℕ) (packet : PlainParts)
+    → blocks ≡ blocks_drawn state → first ≡ state_after 1 state → llid ≡ octets_drawn 3 first → second ≡ state_after 3 first
+    → head ≡ head_of 0x35 0xC0 llid blocks 0 → octets ≡ octets_drawn (12 * blocks - 4) second → last ≡ state_after (12 * blocks - 4) second
+    → packet ≡ record { head = head; octets = octets }
+    → (Packet (plain_packet packet) ≡ body_drawn Plain state) × (last ≡ state_after (body_draws Plain state) state)
+unfolding body_drawn body_draws
+plain-drawn state first second last blocks llid head octets packet a b c d e f g h =
+    let behind : second ≡ state_after 4 state = four-behind state first second b d in
+    let ids : llid ≡ octets_drawn 3 (state_after 1 state) = c ∙ ap (octets_drawn 3) b in
+    let heads : head ≡ head_of 0x35 0xC0 (octets_drawn 3 (state_after 1 state)) (blocks_drawn state) 0 = e ∙ ap₂ (λ x n. head_of 0x35 0xC0 x n 0) ids a in
+    let all : octets ≡ octets_drawn (12 * blocks_drawn state - 4) (state_after 4 state) = f ∙ ap₂ (λ n s. octets_drawn (12 * n - 4) s) a behind in
+    let made : PacketHead → List ℕ → PlainParts = λ x y. record { head = x; octets = y } in (
+      ap (λ p. Packet (plain_packet p)) (h ∙ ap₂ made heads all),
+      g ∙ ap₂ (λ n s. state_after (12 * n - 4) s) a behind ∙ state_after-add 4 (12 * blocks_drawn state - 4) state,
+    )
+
+pub response-drawn : (state : ℕ) (llid : List ℕ) (head : PacketHead) (octets : List ℕ) (packet : PlainParts)
+    → llid ≡ octets_drawn 3 state → head ≡ head_of 0x23 0x08 llid 0 0 → octets ≡ [] → packet ≡ record { head = head; octets = octets }
+    → Packet (plain_packet packet) ≡ body_drawn Response state
+unfolding body_drawn
+response-drawn state llid head octets packet a b c d =
+    let made : PacketHead → List ℕ → PlainParts = λ x y. record { head = x; octets = y } in
+    ap (λ p. Packet (plain_packet p)) (d ∙ ap₂ made (b ∙ ap (λ x. head_of 0x23 0x08 x 0 0) a) c)
+
+pub draws-of : (kind is : Kind) (state : ℕ) → kind ≡ is → state_after (body_draws is state) state ≡ state_after (body_draws kind state) state
+draws-of kind is state e = sym (ap (λ k. state_after (body_draws k state) state) e)
+
+-- Nothing fails of them.
+
+slots-good : (count state : ℕ) → AreGood (slots_drawn count state)
+unfolding slots_drawn
+slots-good count state = record { at = good }
+  where
+    good : (j : ℕ) → j < length (slots_drawn count state) → get_or (slots_drawn count state) j Bad ≢ Bad
+    good j inside bad =
+        let is = get_or-each_below count (λ k. block_of k (octets_drawn 16 (state_after (16 * k) state))) j Bad (omega (arith, length-slots_drawn count state)) in
+        absurd (cc)
+
+pub body_drawn-whole : (kind : Kind) (state : ℕ) → IsWholeBody (body_drawn kind state)
+unfolding body_drawn IsWholeBody IsWholePacket
+body_drawn-whole End state = tt
+body_drawn-whole Header state = tt
+body_drawn-whole EndLink state = tt
+body_drawn-whole Link1 state = tt
+body_drawn-whole Link2 state = tt
+body_drawn-whole Confirmed state = slots-good (blocks_drawn state) (state_after 4 state)
+body_drawn-whole Plain state = tt
+body_drawn-whole Response state = tt

@@ -1,0 +1,6 @@
+mod DrawsLaws
+mod BodiesLaws
+mod DamageLaws
+mod CountsLaws
+mod WithinLaws
+mod SampleLaws

@@ -1,0 +1,293 @@
+-- Damaged sample units lie within radius of their frames and read as them: what is damaged lies in words that are read by their codes,
+-- so the voice frames and the status symbols come as they were sent.
+use Rattle.std.proofs.Common.{◌≡◌, ℕ, zero, suc, ◌+◌, ◌*◌, ◌/◌, ◌%◌, ◌<◌, ◌≤◌, ◌⊎◌, inl, inr, ◌&&◌, ◌||◌, Bool, true, nat_le, List, [], ◌∷◌, ◌++◌, length, take, drop, map, replicate, sum, Ok, refl, ap, ap₂, sym, subst, ◌∙◌, arith, length-drop}
+use Rattle.std.specs.List.{list_all}
+use Rattle.std.proofs.lemmas.Bool.{and_parts, or_cases, leb-true}
+use Rattle.std.proofs.lemmas.List.{length-replicate, length-take-le, take_at, drop_at, take-take, append-nil}
+use Rattle.std.proofs.lemmas.List.Sums.{sum_by_push}
+use Rattle.p25_bits.specs.Bits.{part}
+use Rattle.p25_bits.specs.Distance.{distance_of}
+use Rattle.p25_bits.specs.Numbers.{each_below, numbers_from}
+use Rattle.p25_bits.proofs.PartLaws.{drop-part, take-part}
+use Rattle.p25_bits.proofs.NumbersLaws.{numbers_from-take, each_below-zero, each_below-more}
+use Rattle.p25_status.specs.Woven.{plain_of, statuses_of}
+use Rattle.p25_status.specs.declared.symbols.Status.{Status}
+use Rattle.p25_status.proofs.WovenLaws.{length-woven, plain_of-woven, statuses_of-woven}
+use Rattle.p25_front.specs.Front.{front_of, identifier_bits}
+use Rattle.p25_front.proofs.FrontLaws.{front_of-plain_of}
+use Rattle.p25_voice_units.specs.declared.voice.VoiceFrame.{VoiceFrame}
+use Rattle.p25_voice_units.specs.declared.unit.VoiceUnit.{VoiceUnit}
+use Rattle.p25_voice_units.specs.declared.unit.VoiceUnit.TheVariants.{Header, Link1, Link2, End, EndLink}
+use Rattle.p25_voice_units.specs.FieldLayouts.{word_places}
+use Rattle.p25_voice_units.specs.Fixes.{wide, voice_looked, link_looked}
+use Rattle.p25_voice_units.specs.Images.{voice_image_of}
+use Rattle.p25_voice_units.specs.Layouts.{link_rows}
+use Rattle.p25_voice_units.specs.Lengths.{voice_duid, voice_length_of}
+use Rattle.std.specs.Option.{unwrap_or}
+use Rattle.p25_units.specs.Fixes.{body_looked}
+use Rattle.p25_voice_units.specs.Readings.{frame_places, frame_in, low_places, voice_in}
+use Rattle.p25_voice_units.specs.Sendable.{IsSendableVoice}
+use Rattle.p25_voice_units.proofs.RadiusLaws.{within_from_words, received_itself}
+use Rattle.p25_fields.specs.Layouts.{places_from}
+use Rattle.p25_packet_blocks.specs.Image.{packet_image_of}
+use Rattle.p25_units.specs.Needs.{need_of}
+use Rattle.p25_units.specs.Readings.{unit_reading_of}
+use Rattle.p25_units.specs.UnitParts.{UnitParts}
+use Rattle.p25_units.specs.Units.{body_image_of, body_length, frame_length_of, image_of, unit_image_of, IsSendableBody, IsSendableUnit, IsSoundFrame, IsWholeBody}
+use Rattle.p25_units.specs.WithinRadius.{IsBodyWithin, IsFrontWithin, IsWithinRadius, received_body, received_frame}
+use Rattle.p25_units.specs.declared.unit.Body.{Body}
+use Rattle.p25_units.specs.declared.unit.Body.TheVariants.{Voice, Packet}
+use Rattle.p25_units.specs.declared.frame.Frame.{Frame}
+use Rattle.p25_units.specs.declared.needs.Need.TheVariants.{Length}
+use Rattle.p25_units.proofs.ReadingsLaws.{IsVoiceImage-same}
+use Rattle.p25_units.proofs.UnitsLaws.{length-body_image_of, blocks-sound, symbols-image, length-image_of-blocks, plain_of-image_of}
+use Rattle.p25_units.proofs.WithinRadiusLaws.{need_of-near, unit_reading_of-near}
+use Rattle.p25_vectors.specs.Draws.{draw, state_after}
+use Rattle.p25_vectors.specs.Damage.{damaged, body_counts, damaged_words, damage_counts, damage_draws}
+use Rattle.p25_vectors.specs.Samples.{frame_of, frame_drawn, frame_draws, damaged_image, damage_state, flips_of, sample_bits, sample_flips, sample_frame, state_before, state_behind_unit, status_drawn}
+use Rattle.p25_vectors.specs.Bodies.{body_drawn, body_draws, kind_of}
+use Rattle.p25_vectors.specs.declared.kind.Kind.{Kind}
+use Rattle.p25_vectors.proofs.DrawsLaws.{draw-after, state_after-add}
+use Rattle.p25_vectors.proofs.BodiesLaws.{body_drawn-whole}
+use Rattle.p25_vectors.proofs.DamageLaws.{no_word, AreCounts, length-damaged, part-damaged}
+use Rattle.p25_vectors.proofs.WithinLaws.{IsNearAt, voice-within, packet-within, words-fit, damaged-near, sync-near, identifier-near, body-near}
+use Rattle.std.proofs.Common.{get_or}
+
+-- Voice frames.
+
+-- a voice frame lies outside of words
+clear : List (ℕ × ℕ) → ℕ → Bool
+clear [] at = true
+clear (word ∷ words) at = (nat_le (word.0 + word.1) at || nat_le (at + 144) word.0) && clear words at
+
+clear-outside : (words : List (ℕ × ℕ)) (at : ℕ) → clear words at ≡ true → (k : ℕ) → k < length words
+    → ((get_or words k no_word).0 + (get_or words k no_word).1 ≤ at) ⊎ (at + 144 ≤ (get_or words k no_word).0)
+unfolding clear
+clear-outside [] at test k h = absurd (omega arith)
+clear-outside (word ∷ words) at test zero h =
+    let first = (and_parts (nat_le (word.0 + word.1) at || nat_le (at + 144) word.0) (clear words at) test).0 in
+    elim (or_cases (nat_le (word.0 + word.1) at) (nat_le (at + 144) word.0) first) [
+      | inl behind ↦ inl (leb-true (word.0 + word.1) at behind)
+      | inr before ↦ inr (leb-true (at + 144) word.0 before)
+    ]
+clear-outside (word ∷ words) at test (suc k) h =
+    clear-outside words at (and_parts (nat_le (word.0 + word.1) at || nat_le (at + 144) word.0) (clear words at) test).1 k (omega arith)
+
+-- it is there
+frame-same : (at : ℕ) (sent received : List Bool) → at + 144 ≤ length sent → length received ≡ length sent → part at 144 received ≡ part at 144 sent → frame_in at received ≡ frame_in at sent
+unfolding frame_in
+frame-same at sent received there long same =
+    let made : List ℕ → VoiceFrame = λ octets. record { 0 = octets } in
+    let inside : 8 * 18 ≤ 144 = omega arith in
+    let first : 8 * 18 ≤ length (drop at received) = omega (arith, length-drop at received, long, there) in
+    let second : 8 * 18 ≤ length (drop at sent) = omega (arith, length-drop at sent, there) in
+    ap made (sym (numbers_from-take 8 18 144 (drop at received) inside first) ∙ ap (numbers_from 8 18) same ∙ numbers_from-take 8 18 144 (drop at sent) inside second)
+
+frames-same : (words : List (ℕ × ℕ)) (counts : List ℕ) (sent : List Bool) (places : List ℕ) → AreCounts words counts → length sent ≡ 1680
+    → list_all (λ at. nat_le (at + 144) 1680 && clear words at) places ≡ true
+    → map (λ at. frame_in at (damaged words counts sent)) places ≡ map (λ at. frame_in at sent) places
+frames-same words counts sent [] fit long test = refl
+frames-same words counts sent (at ∷ places) fit long test =
+    let parts = and_parts (nat_le (at + 144) 1680 && clear words at) (list_all (λ at. nat_le (at + 144) 1680 && clear words at) places) test in
+    let here = and_parts (nat_le (at + 144) 1680) (clear words at) parts.0 in
+    let same = part-damaged words counts sent at 144 fit (clear-outside words at here.1) in
+    let there : at + 144 ≤ length sent = omega (arith, leb-true (at + 144) 1680 here.0, long) in
+    ap₂ (λ (x : VoiceFrame) (xs : List VoiceFrame). x ∷ xs)
+    (frame-same at sent (damaged words counts sent) there (length-damaged words counts sent) same)
+    (frames-same words counts sent places fit long parts.1)
+
+frames-clear : list_all (λ at. nat_le (at + 144) 1680 && clear ((0, 48) ∷ (48, 63) ∷ link_looked) at) (frame_places link_rows) ≡ true
+unfolding clear frame_places link_looked wide word_places places_from low_places
+frames-clear = refl
+
+voice-same : (counts : List ℕ) (sent : List Bool) → AreCounts ((0, 48) ∷ (48, 63) ∷ link_looked) counts → length sent ≡ 1680
+    → voice_in (damaged ((0, 48) ∷ (48, 63) ∷ link_looked) counts sent) ≡ voice_in sent
+unfolding voice_in
+voice-same counts sent fit long = frames-same ((0, 48) ∷ (48, 63) ∷ link_looked) counts sent (frame_places link_rows) fit long frames-clear
+
+-- What a unit carries.
+
+long-link : (nac : ℕ) (voice : VoiceUnit) → IsSendableVoice voice → body_length (Voice voice) ≡ 1680 → length (voice_image_of nac voice) ≡ 1680
+unfolding IsSendableBody
+long-link nac voice sendable is = length-body_image_of nac (Voice voice) sendable ∙ is
+
+link_long : (voice : VoiceUnit) → voice_duid voice ≡ 5 ⊎ voice_duid voice ≡ 10 → body_length (Voice voice) ≡ 1680
+unfolding voice_length_of
+link_long voice (inl is) = ap (λ (d : ℕ). unwrap_or (voice_length_of d) 0) is
+link_long voice (inr is) = ap (λ (d : ℕ). unwrap_or (voice_length_of d) 0) is
+
+link-same : (voice : VoiceUnit) (state : ℕ) (sent : List Bool) → voice_looked voice ≡ link_looked → length sent ≡ 1680
+    → voice_in (damaged (damaged_words (Voice voice)) (damage_counts (Voice voice) state) sent) ≡ voice_in sent
+unfolding damaged_words
+link-same voice state sent is long =
+    let words : damaged_words (Voice voice) ≡ (0, 48) ∷ (48, 63) ∷ link_looked = ap (λ (ws : List (ℕ × ℕ)). (0, 48) ∷ (48, 63) ∷ ws) is in
+    let counts = damage_counts (Voice voice) state in
+    ap (λ (ws : List (ℕ × ℕ)). voice_in (damaged ws counts sent)) words
+    ∙ voice-same counts sent (subst (λ (ws : List (ℕ × ℕ)). AreCounts ws counts) words (words-fit (Voice voice) state)) long
+
+received-same : (nac : ℕ) (body : Body) (state : ℕ) → IsSendableBody body
+    → received_body body (damaged (damaged_words body) (damage_counts body state) (body_image_of nac body)) ≡ body
+unfolding IsSendableBody voice_looked
+received-same nac (Voice (Header word)) state sendable = refl
+received-same nac (Voice (Link1 link low voice)) state sendable =
+    let unit = Link1 link low voice in
+    let sent = voice_image_of nac unit in
+    let same = link-same unit state sent refl (long-link nac unit sendable (link_long unit (inl refl))) in
+    ap (λ (v : List VoiceFrame). Voice (Link1 link low v)) same ∙ ap Voice (received_itself nac unit sent sendable (IsVoiceImage-same nac unit sendable))
+received-same nac (Voice (Link2 sync low voice)) state sendable =
+    let unit = Link2 sync low voice in
+    let sent = voice_image_of nac unit in
+    let same = link-same unit state sent refl (long-link nac unit sendable (link_long unit (inr refl))) in
+    ap (λ (v : List VoiceFrame). Voice (Link2 sync low v)) same ∙ ap Voice (received_itself nac unit sent sendable (IsVoiceImage-same nac unit sendable))
+received-same nac (Voice End) state sendable = refl
+received-same nac (Voice (EndLink link)) state sendable = refl
+received-same nac (Packet packet) state sendable = refl
+
+body-within : (nac : ℕ) (body : Body) (state : ℕ) (received : List Bool) → IsSendableBody body → length received ≡ length (body_image_of nac body)
+    → IsNearAt (body_looked body) (body_counts body state) (body_image_of nac body) received → IsBodyWithin body (body_image_of nac body) received
+unfolding IsSendableBody IsBodyWithin
+body-within nac (Voice voice) state received sendable long is =
+    within_from_words nac voice (voice_image_of nac voice) received (IsVoiceImage-same nac voice sendable) long (voice-within voice state (voice_image_of nac voice) received is)
+body-within nac (Packet packet) state received sendable long is = packet-within packet state (packet_image_of nac packet) received long is
+
+-- The front of a sent unit, by its bits without status symbols.
+sent-front : (blocks : ℕ) (sent : List Bool) → 2 ≤ blocks → length sent ≡ 72 * blocks
+    → (take 48 sent ≡ part 0 48 (plain_of sent)) × (take 63 (identifier_bits sent) ≡ part 48 63 (plain_of sent))
+unfolding front_of
+sent-front blocks sent two long =
+    let plain = plain_of sent in
+    let front : take 112 plain ≡ take 48 sent ++ identifier_bits sent = front_of-plain_of blocks sent two long in
+    let first : length (take 48 sent) ≡ 48 = length-take-le 48 sent (omega arith) in (
+      sym (take_at (take 48 sent) (identifier_bits sent) 48 first) ∙ sym (ap (take 48) front) ∙ take-take 48 112 plain (omega arith),
+      ap (take 63) (sym (drop_at (take 48 sent) (identifier_bits sent) 48 first) ∙ sym (ap (drop 48) front) ∙ drop-part 0 112 48 plain (omega arith)) ∙ take-part 48 64 63 plain (omega arith),
+    )
+
+-- A frame.
+
+module _ (frame : Frame) (sound : IsSoundFrame frame) (sendable : IsSendableUnit frame.unit) (state : ℕ) where
+  blocks : ℕ
+  blocks = length frame.statuses
+
+  sent : List Bool
+  sent = damaged_image frame state
+
+  plain : List Bool
+  plain = damaged (damaged_words frame.unit.body) (damage_counts frame.unit.body state) (unit_image_of frame.unit)
+
+  long_plain : length plain ≡ 70 * blocks
+  unfolding plain blocks
+  long_plain = length-damaged (damaged_words frame.unit.body) (damage_counts frame.unit.body state) (unit_image_of frame.unit) ∙ symbols-image frame sound sendable
+
+  long_sent : length sent ≡ 72 * blocks
+  unfolding sent damaged_image plain blocks
+  long_sent = length-woven plain frame.statuses long_plain
+
+  plain_is : plain_of sent ≡ plain
+  unfolding sent damaged_image plain blocks
+  plain_is = plain_of-woven plain frame.statuses long_plain
+
+  statuses_are : statuses_of sent ≡ frame.statuses
+  unfolding sent damaged_image plain blocks
+  statuses_are = statuses_of-woven plain frame.statuses long_plain
+
+  near : IsNearAt (damaged_words frame.unit.body) (damage_counts frame.unit.body state) (unit_image_of frame.unit) plain
+  unfolding plain
+  near = damaged-near frame.unit.body state (unit_image_of frame.unit)
+
+  front-within : IsFrontWithin frame sent
+  unfolding blocks
+  front-within =
+      let image = image_of frame in
+      let two = (blocks-sound frame sound).0 in
+      let here = sent-front blocks sent two long_sent in
+      let there = sent-front blocks image two (length-image_of-blocks frame sound sendable) in
+      let image_plain = plain_of-image_of frame sound sendable in
+      let sync = sync-near frame.unit.body state (unit_image_of frame.unit) plain near in
+      let identifier = identifier-near frame.unit.body state (unit_image_of frame.unit) plain near in
+      let first = here.0 ∙ ap (part 0 48) plain_is in
+      let second = there.0 ∙ ap (part 0 48) image_plain in
+      let third = here.1 ∙ ap (part 48 63) plain_is in
+      let fourth = there.1 ∙ ap (part 48 63) image_plain in
+      record {
+        long = long_sent ∙ sym (length-image_of-blocks frame sound sendable);
+        sync = omega (arith, sync, ap₂ (λ (xs ys : List Bool). distance_of xs ys) first second);
+        identifier = omega (arith, identifier, ap₂ (λ (xs ys : List Bool). distance_of xs ys) third fourth);
+      }
+
+  body-is-within : IsBodyWithin frame.unit.body (unit_image_of frame.unit) plain
+  unfolding unit_image_of plain
+  body-is-within =
+      let body = frame.unit.body in
+      let long = length-damaged (damaged_words body) (damage_counts body state) (unit_image_of frame.unit) in
+      body-within frame.unit.nac body (state_after 2 state) plain sendable.body long (body-near body state (unit_image_of frame.unit) plain near)
+
+  pub image-within : IsWithinRadius frame (damaged_image frame state)
+  unfolding sent
+  image-within = record { front = front-within; body = subst (IsBodyWithin frame.unit.body (unit_image_of frame.unit)) (sym plain_is) body-is-within }
+
+  pub image-received : received_frame frame (damaged_image frame state) ≡ frame
+  unfolding sent plain unit_image_of
+  image-received =
+      ap₂ (λ (body : Body) (statuses : List Status). let unit : UnitParts = record { nac = frame.unit.nac; body = body } in let same : Frame = record { unit = unit; statuses = statuses } in same)
+      (ap (received_body frame.unit.body) plain_is ∙ received-same frame.unit.nac frame.unit.body state sendable.body)
+      statuses_are
+
+  pub image-length : need_of (damaged_image frame state) ≡ Length (length (damaged_image frame state))
+  image-length =
+      ap need_of (sym (append-nil (damaged_image frame state))) ∙ need_of-near frame (damaged_image frame state) [] sound sendable image-within
+
+  pub image-reads : unit_reading_of (damaged_image frame state) ≡ Ok frame
+  image-reads = unit_reading_of-near frame (damaged_image frame state) sound sendable image-within ∙ ap Ok image-received
+
+-- Frames that were drawn.
+
+pub frame_of-sound : (nac : ℕ) (status : Status) (body : Body) → IsWholeBody body → IsSoundFrame (frame_of nac status body)
+unfolding frame_length_of
+frame_of-sound nac status body whole = record { whole = whole; symbols = omega (arith, length-replicate (body_length body / 70) status) }
+
+pub frame_drawn-sound : (kind : Kind) (state : ℕ) → IsSoundFrame (frame_drawn kind state)
+unfolding frame_drawn
+frame_drawn-sound kind state = frame_of-sound (draw 0 state % 4096) (status_drawn (draw 1 state)) (body_drawn kind (state_after 2 state)) (body_drawn-whole kind (state_after 2 state))
+
+pub frame-drawn : (kind : Kind) (state first second last nac : ℕ) (status : Status) (body : Body) (unit : UnitParts) (statuses : List Status)
+    → nac ≡ draw 0 state % 4096 → first ≡ state_after 1 state → status ≡ status_drawn (draw 0 first) → second ≡ state_after 1 first
+    → body ≡ body_drawn kind second → last ≡ state_after (body_draws kind second) second → unit ≡ record { nac = nac; body = body }
+    → statuses ≡ replicate (frame_length_of unit / 72) status
+    → (◌≡◌ {A = Frame} (record { unit = unit; statuses = statuses }) (frame_drawn kind state)) × (last ≡ state_after (frame_draws kind state) state)
+unfolding frame_drawn frame_length_of
+frame-drawn kind state first second last nac status body unit statuses a b c d e f g h =
+    let behind : second ≡ state_after 2 state = d ∙ ap (state_after 1) b ∙ state_after-add 1 1 state in
+    let symbol : status ≡ status_drawn (draw 1 state) = c ∙ ap (λ (s : ℕ). status_drawn (draw 0 s)) b ∙ ap status_drawn (draw-after 1 state) in
+    let carried : body ≡ body_drawn kind (state_after 2 state) = e ∙ ap (body_drawn kind) behind in
+    let made : ℕ → Body → UnitParts = λ n x. record { nac = n; body = x } in
+    let whole : UnitParts → List Status → Frame = λ u xs. record { unit = u; statuses = xs } in
+    let units : unit ≡ made (draw 0 state % 4096) (body_drawn kind (state_after 2 state)) = g ∙ ap₂ made a carried in
+    let count : frame_length_of unit / 72 ≡ body_length unit.body / 70 = omega arith in
+    let symbols : statuses ≡ replicate (body_length (body_drawn kind (state_after 2 state)) / 70) (status_drawn (draw 1 state))
+    = h ∙ ap₂ (λ (n : ℕ) (x : Status). replicate n x) (count ∙ ap (λ (u : UnitParts). body_length u.body / 70) units) symbol in
+    (ap₂ whole units symbols, f ∙ ap (λ (s : ℕ). state_after (body_draws kind s) s) behind ∙ state_after-add 2 (body_draws kind (state_after 2 state)) state)
+
+-- The units in order.
+
+pub sample-next : (i state middle last flips : ℕ) (kind : Kind) (frame : Frame) (bits : List Bool) → kind ≡ kind_of i → state ≡ state_before i → frame ≡ frame_drawn kind state
+    → middle ≡ state_after (frame_draws kind state) state → bits ≡ damaged_image frame middle → flips ≡ sum (damage_counts frame.unit.body middle)
+    → last ≡ state_after (damage_draws frame.unit.body middle) middle
+    → (frame ≡ sample_frame i) × (bits ≡ sample_bits i) × (flips ≡ sample_flips i) × (last ≡ state_before (i + 1))
+unfolding sample_frame sample_bits sample_flips state_before state_behind_unit
+sample-next i state middle last flips kind frame bits a b c d e f g =
+    let frames : frame ≡ sample_frame i = c ∙ ap₂ frame_drawn a b in
+    let behind : middle ≡ damage_state i = d ∙ ap₂ (λ (k : Kind) (s : ℕ). state_after (frame_draws k s) s) a b in
+    let next : suc i ≡ i + 1 = omega arith in (
+      frames,
+      e ∙ ap₂ damaged_image frames behind,
+      f ∙ ap₂ (λ (x : Frame) (s : ℕ). sum (damage_counts x.unit.body s)) frames behind,
+      g ∙ ap₂ (λ (x : Frame) (s : ℕ). state_after (damage_draws x.unit.body s) s) frames behind ∙ ap state_before next,
+    )
+
+pub flips_of-none : flips_of 0 ≡ 0
+unfolding flips_of
+flips_of-none = ap sum (each_below-zero sample_flips)
+
+pub flips_of-more : (units : ℕ) → flips_of (units + 1) ≡ flips_of units + sample_flips units
+unfolding flips_of
+flips_of-more units = ap sum (each_below-more units sample_flips) ∙ sum_by_push (λ (x : ℕ). x) (each_below units sample_flips) (sample_flips units)

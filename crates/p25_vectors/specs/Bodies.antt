@@ -1,0 +1,107 @@
+-- What sample units carry: their kinds in turn, and what each has of the draws behind a state.
+use Rattle.std.specs.Prelude.{ℕ, ◌+◌, ◌-◌, ◌*◌, ◌%◌, List, [], ◌∷◌, ◌++◌, take, slice_index}
+use Rattle.std.proofs.Common.{get_or}
+use Rattle.p25_bits.specs.Numbers.{each_below}
+use Rattle.p25_link.specs.declared.link_control.LinkControl.{LinkControl}
+use Rattle.p25_link.specs.declared.encryption_sync.EncryptionSync.{EncryptionSync}
+use Rattle.p25_link.specs.declared.header_word.HeaderWord.{HeaderWord}
+use Rattle.p25_voice_units.specs.declared.voice.VoiceFrame.{VoiceFrame}
+use Rattle.p25_voice_units.specs.declared.unit.VoiceUnit.TheVariants.{Header as header_unit, Link1 as link1_unit, Link2 as link2_unit, End as end_unit, EndLink as end_link_unit}
+use Rattle.p25_packet_blocks.specs.declared.head.PacketHead.{PacketHead}
+use Rattle.p25_packet_blocks.specs.declared.block.Slot.{Slot}
+use Rattle.p25_packet_blocks.specs.declared.block.Slot.TheVariants.{Good}
+use Rattle.p25_packet_blocks.specs.Reading.{confirmed_by_parts, plain_by_parts}
+use Rattle.p25_units.specs.declared.unit.Body.{Body}
+use Rattle.p25_units.specs.declared.unit.Body.TheVariants.{Voice, Packet}
+use Rattle.p25_vectors.specs.Draws.{draw, state_after, octets_drawn}
+use Rattle.p25_vectors.specs.declared.kind.Kind.{Kind}
+use Rattle.p25_vectors.specs.declared.kind.Kind.TheVariants.{End, Header, EndLink, Link1, Link2, Confirmed, Plain, Response}
+
+-- the kinds, in turn
+unfoldable pub kinds : List Kind
+kinds = End ∷ Header ∷ EndLink ∷ Link1 ∷ Link2 ∷ Confirmed ∷ Plain ∷ Response ∷ []
+
+-- the kind of the unit of a number, from 0
+unfoldable pub kind_of : ℕ → Kind
+kind_of i = get_or kinds (i % 8) End
+
+-- a number of two octets of a list, the first higher
+abbrev pub pair_at : List ℕ → ℕ → ℕ
+pair_at octets i = 256 * slice_index octets i + slice_index octets (i + 1)
+
+-- a header word: fifteen octets of MI, MFID, ALGID, KID and TGID
+abbrev pub header_of : List ℕ → HeaderWord
+header_of octets = record {
+  mi = take 9 octets;
+  mfid = slice_index octets 9;
+  algid = slice_index octets 10;
+  kid = pair_at octets 11;
+  tgid = pair_at octets 13;
+}
+
+-- encryption sync: twelve octets of MI, ALGID and KID
+abbrev pub sync_of : List ℕ → EncryptionSync
+sync_of octets = record { mi = take 9 octets; algid = slice_index octets 9; kid = pair_at octets 10 }
+
+-- link control: nine octets
+abbrev pub link_of : List ℕ → LinkControl
+link_of octets = record { 0 = octets }
+
+-- a voice frame of eighteen octets
+abbrev pub voice_frame_of : List ℕ → VoiceFrame
+voice_frame_of octets = record { 0 = octets }
+
+-- so many voice frames
+unfoldable pub voice_drawn : ℕ → ℕ → List VoiceFrame
+voice_drawn count state = each_below count (λ i. voice_frame_of (octets_drawn 18 (state_after (18 * i) state)))
+
+-- the ten octets of a header of a packet: the first one, the second, 0, the LLID, the full message flag with the blocks to
+-- follow, 0, the octet behind the pad count, and 0
+abbrev pub head_of : ℕ → ℕ → List ℕ → ℕ → ℕ → PacketHead
+head_of first second llid blocks ninth = record { 0 = first ∷ second ∷ 0 ∷ llid ++ (0x80 + blocks) ∷ 0 ∷ ninth ∷ 0 ∷ [] }
+
+-- the number of blocks to follow, one to four
+abbrev pub blocks_drawn : ℕ → ℕ
+blocks_drawn state = 1 + draw 0 state % 4
+
+-- the LLID, behind that number
+abbrev pub llid_drawn : ℕ → List ℕ
+llid_drawn state = octets_drawn 3 (state_after 1 state)
+
+-- a block of a serial number and sixteen octets
+abbrev pub block_of : ℕ → List ℕ → Slot
+block_of serial octets = Good (record { serial = serial; octets = octets })
+
+-- the blocks of a confirmed packet, behind number and LLID
+unfoldable pub slots_drawn : ℕ → ℕ → List Slot
+slots_drawn blocks state = each_below blocks (λ j. block_of j (octets_drawn 16 (state_after (16 * j) state)))
+
+-- what a unit of a kind carries
+unfoldable pub body_drawn : Kind → ℕ → Body
+body_drawn End state = Voice end_unit
+body_drawn Header state = Voice (header_unit (header_of (octets_drawn 15 state)))
+body_drawn EndLink state = Voice (end_link_unit (link_of (octets_drawn 9 state)))
+body_drawn Link1 state =
+    Voice (link1_unit (link_of (octets_drawn 9 state)) (octets_drawn 2 (state_after 9 state)) (voice_drawn 9 (state_after 11 state)))
+body_drawn Link2 state =
+    Voice (link2_unit (sync_of (octets_drawn 12 state)) (octets_drawn 2 (state_after 12 state)) (voice_drawn 9 (state_after 14 state)))
+body_drawn Confirmed state =
+    Packet (
+    confirmed_by_parts (head_of 0x56 0xC0 (llid_drawn state) (blocks_drawn state) 0x08)
+    (slots_drawn (blocks_drawn state) (state_after 4 state)))
+body_drawn Plain state =
+    Packet (
+    plain_by_parts (head_of 0x35 0xC0 (llid_drawn state) (blocks_drawn state) 0)
+    (octets_drawn (12 * blocks_drawn state - 4) (state_after 4 state)))
+body_drawn Response state = Packet (plain_by_parts (head_of 0x23 0x08 (octets_drawn 3 state) 0 0) [])
+
+-- how many draws that takes
+unfoldable pub body_draws : Kind → ℕ → ℕ
+body_draws End state = 0
+body_draws Header state = 15
+body_draws EndLink state = 9
+body_draws Link1 state = 9 + 2 + 162
+body_draws Link2 state = 12 + 2 + 162
+body_draws Confirmed state = 4 + 16 * blocks_drawn state
+body_draws Plain state = 4 + (12 * blocks_drawn state - 4)
+body_draws Response state = 3

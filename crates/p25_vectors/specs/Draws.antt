@@ -1,0 +1,20 @@
+-- Numbers that look drawn by lot, and are the same on every run: each draw replaces a state below 2^32.
+use Rattle.std.specs.Prelude.{ℕ, zero, suc, ◌+◌, ◌*◌, ◌/◌, ◌%◌, ◌^◌, List}
+use Rattle.p25_bits.specs.Numbers.{each_below}
+
+-- the state that a draw leaves
+unfoldable pub state_behind : ℕ → ℕ
+state_behind state = (1664525 * state + 1013904223) % 2 ^ 32
+
+-- the state that so many draws leave
+unfoldable pub state_after : ℕ → ℕ → ℕ
+state_after zero state = state
+state_after (suc count) state = state_behind (state_after count state)
+
+-- the draw behind so many others: the higher half of the state that it leaves
+unfoldable pub draw : ℕ → ℕ → ℕ
+draw count state = state_after (suc count) state / 65536
+
+-- so many octets, each the lowest eight bits of a draw
+unfoldable pub octets_drawn : ℕ → ℕ → List ℕ
+octets_drawn count state = each_below count (λ k. draw k state % 256)

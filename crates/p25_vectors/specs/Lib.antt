@@ -1,0 +1,4 @@
+pub mod Draws
+pub mod Bodies
+pub mod Damage
+pub mod Samples

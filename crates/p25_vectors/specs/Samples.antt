@@ -1,0 +1,70 @@
+-- The sample units, in order, and what is counted of them.
+use Rattle.std.specs.Prelude.{ℕ, zero, suc, ◌+◌, ◌/◌, ◌%◌, Bool, List, replicate, sum}
+use Rattle.std.proofs.Common.{lit<}
+use Rattle.std.proofs.Math.Nat.{mod-lt}
+use Rattle.p25_bits.specs.Numbers.{each_below}
+use Rattle.p25_status.specs.Status.{status_at_number}
+use Rattle.p25_status.specs.Woven.{woven}
+use Rattle.p25_status.specs.declared.symbols.Status.{Status}
+use Rattle.p25_units.specs.UnitParts.{UnitParts}
+use Rattle.p25_units.specs.Units.{body_length, unit_image_of}
+use Rattle.p25_units.specs.declared.frame.Frame.{Frame}
+use Rattle.p25_units.specs.declared.unit.Body.{Body}
+use Rattle.p25_vectors.specs.Draws.{draw, state_after}
+use Rattle.p25_vectors.specs.Bodies.{body_drawn, body_draws, kind_of}
+use Rattle.p25_vectors.specs.Damage.{damage_counts, damage_draws, damaged, damaged_words}
+use Rattle.p25_vectors.specs.declared.kind.Kind.{Kind}
+
+-- the status symbol that a draw says
+unfoldable pub status_drawn : ℕ → Status
+status_drawn drawn = status_at_number (drawn % 4) (mod-lt drawn (lit< tt))
+
+-- the frame of a unit that carries a body, with one status symbol everywhere
+abbrev pub frame_of : ℕ → Status → Body → Frame
+frame_of nac status body =
+    let unit : UnitParts = record { nac = nac; body = body } in
+    record { unit = unit; statuses = replicate (body_length body / 70) status }
+
+-- the frame of a kind that the draws behind a state say: its NAC, its status symbol, and what it carries
+unfoldable pub frame_drawn : Kind → ℕ → Frame
+frame_drawn kind state = frame_of (draw 0 state % 4096) (status_drawn (draw 1 state)) (body_drawn kind (state_after 2 state))
+
+-- how many draws that takes
+abbrev pub frame_draws : Kind → ℕ → ℕ
+frame_draws kind state = 2 + body_draws kind (state_after 2 state)
+
+-- the bits of a frame as they are sent, damaged as the draws behind a state say; no status symbol is damaged
+unfoldable pub damaged_image : Frame → ℕ → List Bool
+damaged_image frame state =
+    woven (damaged (damaged_words frame.unit.body) (damage_counts frame.unit.body state) (unit_image_of frame.unit)) frame.statuses
+
+-- the state behind a unit of a kind and its damage
+unfoldable pub state_behind_unit : Kind → ℕ → ℕ
+state_behind_unit kind state =
+    let damage = state_after (frame_draws kind state) state in
+    state_after (damage_draws (frame_drawn kind state).unit.body damage) damage
+
+-- the state before the unit of a number, from 0
+unfoldable pub state_before : ℕ → ℕ
+state_before zero = 0
+state_before (suc i) = state_behind_unit (kind_of i) (state_before i)
+
+-- the frame of the unit of a number
+unfoldable pub sample_frame : ℕ → Frame
+sample_frame i = frame_drawn (kind_of i) (state_before i)
+
+-- the state before its damage
+abbrev pub damage_state : ℕ → ℕ
+damage_state i = state_after (frame_draws (kind_of i) (state_before i)) (state_before i)
+
+-- its bits as they are sent, damaged
+unfoldable pub sample_bits : ℕ → List Bool
+sample_bits i = damaged_image (sample_frame i) (damage_state i)
+
+-- how many of them are inverted
+unfoldable pub sample_flips : ℕ → ℕ
+sample_flips i = sum (damage_counts (sample_frame i).unit.body (damage_state i))
+
+-- how many bits of the first units are inverted
+unfoldable pub flips_of : ℕ → ℕ
+flips_of units = sum (each_below units sample_flips)

@@ -1,0 +1,185 @@
+//! What sample units carry.
+
+ghost use Rattle.std.specs.Prelude.{◌≡◌, ◌+◌, ◌-◌, ◌*◌, ◌<◌, ◌≤◌, length, take};
+ghost use Rattle.p25_packet_blocks.specs.Reading.{confirmed_by_parts, plain_by_parts};
+ghost use Rattle.p25_vectors.specs.Draws.{octets_drawn, state_after};
+ghost use Rattle.p25_vectors.specs.Bodies.{blocks_drawn, body_drawn, body_draws, head_of, header_of, link_of, llid_drawn, slots_drawn, sync_of, voice_drawn};
+ghost use Rattle.p25_vectors.specs.declared.kind.Kind.TheVariants.{Confirmed as confirmed_kind, Plain as plain_kind, Response as response_kind};
+ghost use Rattle.p25_units.specs.declared.unit.Body.TheVariants.{Packet as packet_in};
+
+use crate::draws::Draws;
+use crate::kind::Kind;
+use p25_link::{EncryptionSync, HeaderWord, LinkControl};
+use p25_packet_blocks::{Block, Confirmed, Octets, Packet, PacketHead, Plain, Slot, Slots};
+use p25_units::Body;
+use p25_voice_units::{Voice, VoiceFrame, VoiceUnit};
+
+// The number of two octets, the first one higher.
+fn pair(high: u8, low: u8) -> u16
+    ensures { result ≡ 256 * high + low }
+{
+    256 * u16::from(high) + u16::from(low)
+}
+
+// The first nine octets.
+fn nine<const N: usize>(octets: &[u8; N]) -> [u8; 9]
+    requires { 9 ≤ N }
+    ensures { result ≡ take 9 octets.now }
+{
+    let mut first = [0; 9];
+    first.copy_from_slice(&octets[..9]);
+    first
+}
+
+fn draw_header(draws: &mut Draws) -> HeaderWord
+    ensures word { result ≡ header_of (octets_drawn 15 draws.old) }
+    ensures state { draws.new ≡ state_after 15 draws.old }
+{
+    let octets: [u8; 15] = draws.octets();
+    HeaderWord {
+        mi: nine(&octets),
+        mfid: octets[9],
+        algid: octets[10],
+        kid: pair(octets[11], octets[12]),
+        tgid: pair(octets[13], octets[14]),
+    }
+}
+
+fn draw_link(draws: &mut Draws) -> LinkControl
+    ensures link { result ≡ link_of (octets_drawn 9 draws.old) }
+    ensures state { draws.new ≡ state_after 9 draws.old }
+{
+    LinkControl(draws.octets())
+}
+
+fn draw_sync(draws: &mut Draws) -> EncryptionSync
+    ensures sync { result ≡ sync_of (octets_drawn 12 draws.old) }
+    ensures state { draws.new ≡ state_after 12 draws.old }
+{
+    let octets: [u8; 12] = draws.octets();
+    EncryptionSync {
+        mi: nine(&octets),
+        algid: octets[9],
+        kid: pair(octets[10], octets[11]),
+    }
+}
+
+fn draw_voice(draws: &mut Draws) -> Voice
+    ensures voice { result ≡ voice_drawn 9 draws.old }
+    ensures state { draws.new ≡ state_after 162 draws.old }
+{
+    let mut frames = [VoiceFrame([0; 18]); 9];
+    for i in 0..9 {
+        frames[i] = VoiceFrame(draws.octets());
+    }
+    Voice::new(frames)
+}
+
+// The number of blocks to follow, from 1 to 4.
+fn draw_blocks(draws: &mut Draws) -> u8
+    ensures value { result ≡ blocks_drawn draws.old }
+    ensures few { result ≤ 4 }
+    ensures state { draws.new ≡ state_after 1 draws.old }
+{
+    1 + draws.below(4) as u8
+}
+
+// The header of a packet, with the full message flag.
+fn head_with(first: u8, second: u8, llid: [u8; 3], blocks: u8, ninth: u8) -> PacketHead
+    requires { blocks < 128 }
+    ensures { result ≡ head_of first second llid blocks ninth }
+{
+    let [high, middle, low] = llid;
+    PacketHead([
+        first,
+        second,
+        0,
+        high,
+        middle,
+        low,
+        0x80 + blocks,
+        0,
+        ninth,
+        0,
+    ])
+}
+
+fn draw_slots(blocks: u8, draws: &mut Draws) -> Slots
+    requires { blocks ≤ 4 }
+    ensures slots { result ≡ slots_drawn blocks draws.old }
+    ensures len { length result ≡ blocks }
+    ensures state { draws.new ≡ state_after (16 * blocks) draws.old }
+{
+    let mut slots = Slots::new();
+    for serial in 0..blocks {
+        slots.push(Slot::Good(Block::new(serial, draws.octets())));
+    }
+    slots
+}
+
+fn draw_octets(count: usize, draws: &mut Draws) -> Octets
+    requires { count ≤ 1520 }
+    ensures octets { result ≡ octets_drawn count draws.old }
+    ensures len { length result ≡ count }
+    ensures state { draws.new ≡ state_after count draws.old }
+{
+    let mut octets = Octets::new();
+    for _drawn in 0..count {
+        octets.push(draws.octet());
+    }
+    octets
+}
+
+fn draw_confirmed(draws: &mut Draws) -> Packet
+    ensures packet { packet_in result ≡ body_drawn confirmed_kind draws.old }
+    ensures state { draws.new ≡ state_after (body_draws confirmed_kind draws.old) draws.old }
+{
+    let blocks = draw_blocks(draws);
+    let head = head_with(0x56, 0xC0, draws.octets(), blocks, 0x08);
+    Packet::Confirmed(Confirmed::new(head, draw_slots(blocks, draws)))
+}
+
+fn draw_plain(draws: &mut Draws) -> Packet
+    ensures packet { packet_in result ≡ body_drawn plain_kind draws.old }
+    ensures state { draws.new ≡ state_after (body_draws plain_kind draws.old) draws.old }
+{
+    let blocks = draw_blocks(draws);
+    let head = head_with(0x35, 0xC0, draws.octets(), blocks, 0);
+    let octets = draw_octets(12 * usize::from(blocks) - 4, draws);
+    Packet::Plain(Plain::new(head, octets))
+}
+
+fn draw_response(draws: &mut Draws) -> Packet
+    ensures packet { packet_in result ≡ body_drawn response_kind draws.old }
+    ensures state { draws.new ≡ state_after (body_draws response_kind draws.old) draws.old }
+{
+    let head = head_with(0x23, 0x08, draws.octets(), 0, 0);
+    Packet::Plain(Plain::new(head, Octets::new()))
+}
+
+// What a unit of a kind carries.
+pub(crate) fn draw_body(kind: Kind, draws: &mut Draws) -> Body
+    ensures body { result ≡ body_drawn kind draws.old }
+    ensures state { draws.new ≡ state_after (body_draws kind draws.old) draws.old }
+{
+    match kind {
+        Kind::End => Body::Voice(VoiceUnit::End),
+        Kind::Header => Body::Voice(VoiceUnit::Header(draw_header(draws))),
+        Kind::EndLink => Body::Voice(VoiceUnit::EndLink {
+            link: draw_link(draws),
+        }),
+        Kind::Link1 => Body::Voice(VoiceUnit::Link1 {
+            link: draw_link(draws),
+            low: draws.octets(),
+            voice: draw_voice(draws),
+        }),
+        Kind::Link2 => Body::Voice(VoiceUnit::Link2 {
+            sync: draw_sync(draws),
+            low: draws.octets(),
+            voice: draw_voice(draws),
+        }),
+        Kind::Confirmed => Body::Packet(draw_confirmed(draws)),
+        Kind::Plain => Body::Packet(draw_plain(draws)),
+        Kind::Response => Body::Packet(draw_response(draws)),
+    }
+}

@@ -1,0 +1,239 @@
+//! The damage of sample units: the first bits of each of their words are inverted, as the draws say.
+
+ghost use Rattle.std.specs.Prelude.{◌≡◌, ◌+◌, ◌-◌, ◌*◌, ◌%◌, ◌<◌, ◌≤◌, All, length, sum};
+ghost use Rattle.p25_bits.specs.Numbers.{each_below};
+ghost use Rattle.p25_packet_blocks.specs.Heads.{head_blocks};
+ghost use Rattle.p25_packet_blocks.specs.Lengths.{packet_bits};
+ghost use Rattle.p25_packet_blocks.specs.Whole.{packet_head};
+ghost use Rattle.p25_packet_blocks.specs.Within.{block_radius};
+ghost use Rattle.p25_units.specs.Fixes.{body_looked, packet_looked};
+ghost use Rattle.p25_units.specs.Units.{body_length};
+ghost use Rattle.p25_units.specs.declared.unit.Body.TheVariants.{Packet as packet_in, Voice as voice_in};
+ghost use Rattle.p25_voice_units.specs.Fixes.{link_looked, voice_looked, wide};
+ghost use Rattle.p25_vectors.specs.Draws.{draw, state_after};
+ghost use Rattle.p25_vectors.specs.Damage.{body_counts, body_damage_draws, damage_counts, damage_draws, damaged, damaged_words, field_counts, field_draws, inverted, link_counts, word_counts};
+
+use crate::draws::Draws;
+use p25_bits::BitBuf;
+use p25_packet_blocks::Packet;
+use p25_units::Body;
+use p25_voice_units::{
+    END_LINK_WORDS, HEADER_WORDS, LINK_WORDS, LOW_WORDS, VoiceUnit, part_places,
+};
+
+// Inverts so many bits from a place on.
+fn invert(at: usize, count: usize, bits: &mut BitBuf)
+    requires { at + count ≤ length bits.old }
+    ensures list { bits.new ≡ inverted at count bits.old }
+    ensures len { length bits.new ≡ length bits.old }
+{
+    let _ = bits.len();
+    for k in 0..count {
+        bits.flip(at + k);
+    }
+}
+
+// Code words of one code: how many bits each has, and how many wrong ones the code corrects.
+#[derive(Clone, Copy)]
+struct Words {
+    size: usize,
+    radius: usize,
+}
+
+const GOLAY18: Words = Words {
+    size: 18,
+    radius: 3,
+};
+
+const GOLAY24: Words = Words {
+    size: 24,
+    radius: 3,
+};
+
+const HAMMING10: Words = Words {
+    size: 10,
+    radius: 1,
+};
+
+const LOW_SPEED: Words = Words {
+    size: 16,
+    radius: 2,
+};
+
+// Inverts the first bits of a word, at most so many, as a draw says, and answers how many.
+fn damage_word(at: usize, most: usize, draws: &mut Draws, bits: &mut BitBuf) -> u32
+    requires few { most ≤ 24 }
+    requires there { at + most ≤ length bits.old }
+    ensures list { bits.new ≡ inverted at (draw 0 draws.old % (most + 1)) bits.old }
+    ensures len { length bits.new ≡ length bits.old }
+    ensures count { result ≡ draw 0 draws.old % (most + 1) }
+    ensures few { result ≤ most }
+    ensures state { draws.new ≡ state_after 1 draws.old }
+{
+    let count = draws.below(most as u64 + 1) as u32;
+    invert(at, count as usize, bits);
+    count
+}
+
+// Inverts the first words whole, and the first bits of each later one as draws say, and answers how many bits.
+fn damage_words(
+    places: &[usize],
+    words: Words,
+    whole: usize,
+    draws: &mut Draws,
+    bits: &mut BitBuf,
+) -> u32
+    requires size { words.size ≤ 24 }
+    requires radius { words.radius ≤ words.size }
+    requires few { length places.now ≤ 36 }
+    requires whole { whole ≤ length places.now }
+    requires there { All (λ at. at + words.size ≤ length bits.old) places.now }
+    ensures list { bits.new ≡ damaged (wide words.size places.now)
+        (word_counts (length places.now) words.size words.radius whole draws.old) bits.old }
+    ensures len { length bits.new ≡ length bits.old }
+    ensures flips { result ≡ sum (word_counts (length places.now) words.size words.radius whole draws.old) }
+    ensures few { result ≤ 24 * length places.now }
+    ensures state { draws.new ≡ state_after (length places.now - whole) draws.old }
+{
+    let mut flips = 0;
+    for i in 0..places.len() {
+        if i < whole {
+            invert(places[i], words.size, bits);
+            flips += words.size as u32;
+        } else {
+            flips += damage_word(places[i], words.radius, draws, bits);
+        }
+    }
+    flips
+}
+
+// The same of the inner words of a coded field, where a draw says how many are inverted whole, at most so many.
+fn damage_field(
+    places: &[usize],
+    words: Words,
+    most: usize,
+    draws: &mut Draws,
+    bits: &mut BitBuf,
+) -> u32
+    requires size { words.size ≤ 24 }
+    requires radius { words.radius ≤ words.size }
+    requires few { length places.now ≤ 36 }
+    requires most { most ≤ length places.now }
+    requires there { All (λ at. at + words.size ≤ length bits.old) places.now }
+    ensures list { bits.new ≡ damaged (wide words.size places.now)
+        (field_counts (length places.now) words.size words.radius most draws.old) bits.old }
+    ensures len { length bits.new ≡ length bits.old }
+    ensures flips { result ≡ sum (field_counts (length places.now) words.size words.radius most draws.old) }
+    ensures few { result ≤ 24 * length places.now }
+    ensures state { draws.new ≡ state_after (field_draws (length places.now) most draws.old) draws.old }
+{
+    let whole = draws.below(most as u64 + 1) as usize;
+    damage_words(places, words, whole, draws, bits)
+}
+
+// The same of the inner words and the low speed words of a unit with voice.
+fn damage_link(most: usize, draws: &mut Draws, bits: &mut BitBuf) -> u32
+    requires most { most ≤ 24 }
+    requires long { length bits.old ≡ 1680 }
+    ensures list { bits.new ≡ damaged link_looked (link_counts most draws.old) bits.old }
+    ensures len { length bits.new ≡ 1680 }
+    ensures flips { result ≡ sum (link_counts most draws.old) }
+    ensures few { result ≤ 864 }
+    ensures state { draws.new ≡ state_after (field_draws 24 most draws.old + 2) draws.old }
+{
+    part_places();
+    let field = damage_field(&LINK_WORDS, HAMMING10, most, draws, bits);
+    field + damage_words(&LOW_WORDS, LOW_SPEED, 0, draws, bits)
+}
+
+// The same of the words of a voice unit behind its front.
+fn damage_voice(voice: &VoiceUnit, draws: &mut Draws, bits: &mut BitBuf) -> u32
+    requires { length bits.old ≡ body_length (voice_in voice.now) }
+    ensures list { bits.new ≡ damaged (voice_looked voice.now) (body_counts (voice_in voice.now) draws.old) bits.old }
+    ensures len { length bits.new ≡ length bits.old }
+    ensures flips { result ≡ sum (body_counts (voice_in voice.now) draws.old) }
+    ensures few { result ≤ 864 }
+    ensures state { draws.new ≡ state_after (body_damage_draws (voice_in voice.now) draws.old) draws.old }
+{
+    part_places();
+    match voice {
+        VoiceUnit::End => 0,
+        VoiceUnit::Header(_) => damage_field(&HEADER_WORDS, GOLAY18, 8, draws, bits),
+        VoiceUnit::EndLink { .. } => damage_field(&END_LINK_WORDS, GOLAY24, 3, draws, bits),
+        VoiceUnit::Link1 { .. } => damage_link(6, draws, bits),
+        VoiceUnit::Link2 { .. } => damage_link(4, draws, bits),
+    }
+}
+
+// Inverts the first bits of each of so many blocks of a packet behind its header block, as draws say, and answers how many.
+fn damage_blocks(count: usize, radius: usize, draws: &mut Draws, bits: &mut BitBuf) -> u32
+    requires few { count < 128 }
+    requires radius { radius ≤ 2 }
+    requires there { packet_bits count ≤ length bits.old }
+    ensures list { bits.new ≡ damaged (each_below count (λ j. (308 + 196 * j, 196))) (word_counts count 196 radius 0 draws.old) bits.old }
+    ensures len { length bits.new ≡ length bits.old }
+    ensures flips { result ≡ sum (word_counts count 196 radius 0 draws.old) }
+    ensures few { result ≤ 2 * count }
+    ensures state { draws.new ≡ state_after count draws.old }
+{
+    let mut flips = 0;
+    for j in 0..count {
+        flips += damage_word(308 + 196 * j, radius, draws, bits);
+    }
+    flips
+}
+
+// The same of all blocks of a packet.
+fn damage_packet(packet: &Packet, draws: &mut Draws, bits: &mut BitBuf) -> u32
+    requires { length bits.old ≡ body_length (packet_in packet.now) }
+    ensures list { bits.new ≡ damaged (packet_looked (head_blocks (packet_head packet.now)))
+        (body_counts (packet_in packet.now) draws.old) bits.old }
+    ensures len { length bits.new ≡ length bits.old }
+    ensures flips { result ≡ sum (body_counts (packet_in packet.now) draws.old) }
+    ensures few { result ≤ 256 }
+    ensures state { draws.new ≡ state_after (body_damage_draws (packet_in packet.now) draws.old) draws.old }
+{
+    let header = damage_word(112, 2, draws, bits);
+    let count = usize::from(packet.head().blocks());
+    header + damage_blocks(count, radius_of(packet), draws, bits)
+}
+
+// How many wrong bits of a block to follow do no harm.
+fn radius_of(packet: &Packet) -> usize
+    ensures value { result ≡ block_radius packet.now }
+    ensures few { result ≤ 2 }
+{
+    match packet {
+        Packet::Confirmed(_) => 1,
+        Packet::Plain(_) => 2,
+    }
+}
+
+// Inverts bits of a unit without status symbols, as draws say, and answers how many: the first ones of its sync, of its
+// identifier, and of each of its code words and blocks.
+pub(crate) fn damage(body: &Body, draws: &mut Draws, bits: &mut BitBuf) -> u32
+    requires { length bits.old ≡ body_length body.now }
+    ensures list { bits.new ≡ damaged (damaged_words body.now) (damage_counts body.now draws.old) bits.old }
+    ensures len { length bits.new ≡ length bits.old }
+    ensures flips { result ≡ sum (damage_counts body.now draws.old) }
+    ensures state { draws.new ≡ state_after (damage_draws body.now draws.old) draws.old }
+{
+    let sync = damage_word(0, 4, draws, bits);
+    let identifier = damage_word(48, 11, draws, bits);
+    sync + identifier + damage_body(body, draws, bits)
+}
+
+// The same behind the front.
+fn damage_body(body: &Body, draws: &mut Draws, bits: &mut BitBuf) -> u32
+    requires { length bits.old ≡ body_length body.now }
+    ensures list { bits.new ≡ damaged (body_looked body.now) (body_counts body.now draws.old) bits.old }
+    ensures len { length bits.new ≡ length bits.old }
+    ensures flips { result ≡ sum (body_counts body.now draws.old) }
+    ensures few { result ≤ 864 }
+    ensures state { draws.new ≡ state_after (body_damage_draws body.now draws.old) draws.old }
+{
+    match body {
+        Body::Voice(voice) => damage_voice(voice, draws, bits),
+        Body::Packet(packet) => damage_packet(packet, draws, bits),
+    }
+}

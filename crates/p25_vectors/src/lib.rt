@@ -1,0 +1,29 @@
+//! Sample units: a large valid input from a number.
+//!
+//! The units come in eight kinds in turn, each with fields that look drawn by lot and are the same on every run, and each
+//! with damage that its codes undo: so many of the first bits of its sync, of its identifier and of each of its code words
+//! and blocks are inverted. What is drawn, and in which order, is this project's. The first bit of a list is the first that
+//! is sent.
+//!
+//! ```text
+//! let mut sampler = Sampler::new();
+//! let mut bits = BitBuf::new();
+//! let unit = sampler.next(&mut bits); // the first unit: a terminator, with 8 wrong bits
+//! let report = sample(1_000); // reads the first 1,000 units
+//! ```
+//!
+//! Contracts see a `Sampler` as the number of units that it has given. The frame of unit i is `sample_frame i`, its damaged
+//! bits are `sample_bits i`, and `sample_flips i` of them are inverted.
+#![tactic(auto)]
+
+mod bodies;
+mod damage;
+mod draws;
+mod kind;
+mod report;
+mod sampler;
+#[cfg(test)]
+mod tests;
+
+pub use report::{SampleReport, sample};
+pub use sampler::{SampleUnit, Sampler};

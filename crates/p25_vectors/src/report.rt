@@ -1,0 +1,77 @@
+//! A report on sample units.
+
+ghost use Rattle.std.specs.Prelude.{◌≡◌, ◌≤◌, ◌↔◌, Ok, length, true};
+ghost use Rattle.p25_units.specs.Needs.{need_of};
+ghost use Rattle.p25_units.specs.Readings.{unit_reading_of};
+ghost use Rattle.p25_units.specs.Units.{IsSoundFrame};
+ghost use Rattle.p25_units.specs.declared.needs.Need.TheVariants.{Length};
+ghost use Rattle.p25_vectors.specs.Samples.{flips_of};
+
+use crate::sampler::Sampler;
+use p25_bits::BitBuf;
+use p25_units::{Frame, Need, image, need, read_unit};
+
+/// What was counted of sample units.
+#[derive(Clone, Copy, Debug, PartialEq, Eq)]
+pub struct SampleReport {
+    /// How many there were.
+    pub units: u64,
+    /// How many bits were inverted.
+    pub flips: u64,
+    /// How many of them, damaged, read as their own frames.
+    pub exact: u64,
+}
+
+/// Answers the report on the first `n` sample units, of which there are 1 to 10,000. Each is damaged and read: all read as
+/// their own frames.
+pub fn sample(n: u64) -> SampleReport
+    requires some { 1 ≤ n }
+    requires most { n ≤ 10000 }
+    ensures units { result.units ≡ n }
+    ensures flips { result.flips ≡ flips_of n }
+    ensures exact { result.exact ≡ n }
+{
+    let mut sampler = Sampler::new();
+    let mut bits = BitBuf::new();
+    let mut report = SampleReport {
+        units: 0,
+        flips: 0,
+        exact: 0,
+    };
+    for _given in 0..n {
+        let unit = sampler.next(&mut bits);
+        report.units += 1;
+        report.flips += u64::from(unit.flips);
+        report.exact += u64::from(reads_as(&bits, &unit.frame));
+    }
+    report
+}
+
+// Whether bits read as a frame.
+fn reads_as(bits: &BitBuf, frame: &Frame) -> bool
+    requires length { need_of bits.now ≡ Length (length bits.now) }
+    requires sound { IsSoundFrame frame.now }
+    requires read { unit_reading_of bits.now ≡ Ok frame.now }
+    ensures { result ≡ true }
+{
+    match need(bits, 0) {
+        Need::Length(count) => match read_unit(bits, 0, count) {
+            Ok(read) => are_same(&read, frame),
+            Err(_) => false,
+        },
+        _ => false,
+    }
+}
+
+// Whether two frames are the same: their sent bits are.
+fn are_same(a: &Frame, b: &Frame) -> bool
+    requires first { IsSoundFrame a.now }
+    requires second { IsSoundFrame b.now }
+    ensures { (result ≡ true) ↔ (a.now ≡ b.now) }
+{
+    let mut first = BitBuf::new();
+    image(a, &mut first);
+    let mut second = BitBuf::new();
+    image(b, &mut second);
+    first.len() == second.len() && BitBuf::distance(&first, &second) == 0
+}

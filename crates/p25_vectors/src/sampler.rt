@@ -1,0 +1,119 @@
+//! The sample units, one after the other.
+
+ghost use Rattle.std.specs.Prelude.{◌≡◌, ◌+◌, ◌<◌, Ok, length, sum};
+ghost use Rattle.p25_units.specs.Needs.{need_of};
+ghost use Rattle.p25_units.specs.Readings.{unit_reading_of};
+ghost use Rattle.p25_units.specs.Units.{IsSendableUnit, IsSoundFrame};
+ghost use Rattle.p25_units.specs.WithinRadius.{IsWithinRadius};
+ghost use Rattle.p25_units.specs.declared.needs.Need.TheVariants.{Length};
+ghost use Rattle.p25_vectors.specs.Draws.{draw, state_after};
+ghost use Rattle.p25_vectors.specs.Damage.{damage_counts, damage_draws};
+ghost use Rattle.p25_vectors.specs.Samples.{damaged_image, frame_drawn, frame_draws, sample_bits, sample_flips, sample_frame, status_drawn};
+
+use crate::bodies::draw_body;
+use crate::damage::damage;
+use crate::draws::Draws;
+use crate::kind::{Kind, kind_at};
+use p25_bits::BitBuf;
+use p25_status::{SENT_BLOCK_LENGTH, Status, Statuses, weave};
+use p25_units::{Frame, Unit, frame_length, unit_image};
+use std::marker::Model;
+
+/// A sample unit.
+#[derive(Drop)]
+pub struct SampleUnit {
+    /// The frame, undamaged.
+    pub frame: Frame,
+    /// How many of its sent bits are inverted.
+    pub flips: u32,
+}
+
+/// The sample units from the first one on.
+#[derive(Drop)]
+pub struct Sampler {
+    draws: Draws,
+    given: u32,
+}
+
+impl Model for Sampler {
+    ghost use Rattle.std.specs.Prelude.{◌≡◌, ◌≤◌, ℕ};
+    ghost use Rattle.p25_vectors.specs.Damage.{damage_counts, damage_draws};
+    ghost use Rattle.p25_vectors.specs.Samples.{state_before};
+
+    ghost Value = { ℕ };
+
+    ghost view = { λ s. s.given };
+
+    ghost invariant = { λ s. (s.given ≤ 10000) × (s.draws ≡ state_before s.given) };
+}
+
+impl Sampler {
+    /// Answers the sampler before unit 0.
+    pub fn new() -> Sampler
+        ensures { result ≡ 0 }
+    {
+        Sampler {
+            draws: Draws::new(),
+            given: 0,
+        }
+    }
+
+    /// Answers the next unit and sets `bits` to its damaged bits, as they are sent. Fewer than 10,000 units were given. The
+    /// damaged bits lie within radius of the frame's, and read as the frame.
+    pub fn next(&mut self, bits: &mut BitBuf) -> SampleUnit
+        requires { self.old < 10000 }
+        ensures given { self.new ≡ self.old + 1 }
+        ensures frame { result.frame ≡ sample_frame self.old }
+        ensures bits { bits.new ≡ sample_bits self.old }
+        ensures flips { result.flips ≡ sample_flips self.old }
+        ensures sound { IsSoundFrame result.frame }
+        ensures sendable { IsSendableUnit result.frame.unit }
+        ensures within { IsWithinRadius result.frame bits.new }
+        ensures length { need_of bits.new ≡ Length (length bits.new) }
+        ensures read { unit_reading_of bits.new ≡ Ok result.frame }
+    {
+        let frame = draw_frame(kind_at(self.given), &mut self.draws);
+        let flips = put_damaged(&frame, &mut self.draws, bits);
+        self.given += 1;
+        SampleUnit { frame, flips }
+    }
+}
+
+// Draws the frame of a kind.
+fn draw_frame(kind: Kind, draws: &mut Draws) -> Frame
+    ensures frame { result ≡ frame_drawn kind draws.old }
+    ensures sound { IsSoundFrame result }
+    ensures state { draws.new ≡ state_after (frame_draws kind draws.old) draws.old }
+{
+    let nac = draws.below(4096) as u16;
+    let status = draw_status(draws);
+    let unit = Unit::new(nac, draw_body(kind, draws));
+    let statuses = Statuses::filled(status, frame_length(&unit) / SENT_BLOCK_LENGTH);
+    Frame { unit, statuses }
+}
+
+// Sets `bits` to the bits of a frame as they are sent, damaged as draws say, and answers how many are inverted.
+fn put_damaged(frame: &Frame, draws: &mut Draws, bits: &mut BitBuf) -> u32
+    requires { IsSoundFrame frame.now }
+    ensures bits { bits.new ≡ damaged_image frame.now draws.old }
+    ensures flips { result ≡ sum (damage_counts frame.now.unit.body draws.old) }
+    ensures sendable { IsSendableUnit frame.now.unit }
+    ensures state { draws.new ≡ state_after (damage_draws frame.now.unit.body draws.old) draws.old }
+{
+    let mut plain = BitBuf::new();
+    unit_image(&frame.unit, &mut plain);
+    let flips = damage(frame.unit.body(), draws, &mut plain);
+    weave(&plain, &frame.statuses, bits);
+    flips
+}
+
+// The status symbol of a unit.
+fn draw_status(draws: &mut Draws) -> Status
+    ensures status { result ≡ status_drawn (draw 0 draws.old) }
+    ensures state { draws.new ≡ state_after 1 draws.old }
+{
+    match Status::new(draws.below(4) as u8) {
+        Some(status) => status,
+        None => unreachable!(),
+    }
+}
