@@ -1,5 +1,5 @@
-//! A call of four voice units: built, shown, counted, repaired and bridged; each read and each write fails in turn, and it is
-//! cut off behind each of its octets.
+//! A call of four voice units: built, shown, counted, repaired, bridged and grouped; each read and each write fails in turn, and
+//! it is cut off behind each of its octets.
 
 ghost use Rattle.std.specs.Prelude.{◌≤◌, ◌<◌, length};
 
@@ -80,6 +80,60 @@ fn a_call_is_built_and_reported(rt: HostRuntime) {
     let rebuilt = build(rt.alloc(), b"2", lines_of(4, false).octets(), &mut other);
     assert_eq!(rt; rebuilt, 585);
     assert!(rt; writes(rt.alloc(), &[b"bridge", b"293", b"2"], call, &other));
+}
+
+// The text of the call with its header and without it, and the last line.
+const WITH_HEADER: &[u8] =
+    b"call at=0 bits=4680 nac=293 entry=header end=tdulc links=2 broken=0 lc=000000000001000001 alg=80\n";
+
+const LATE_ENTRY: &[u8] =
+    b"call at=0 bits=3888 nac=293 entry=late end=tdulc links=2 broken=0 lc=000000000001000001 alg=80\n";
+
+const ONE_CALL: &[u8] = b"calls=1\n";
+
+// Two texts, one behind the other.
+fn both(first: &[u8], second: &[u8]) -> Line {
+    let mut text = Line::new();
+    if first.len() <= 200 && second.len() <= 200 {
+        text.put(first);
+        text.put(second);
+    }
+    text
+}
+
+#[test]
+fn units_are_grouped_into_calls(rt: HostRuntime) {
+    let mut room = [0; 585];
+    build(rt.alloc(), b"1", lines_of(4, false).octets(), &mut room);
+    let whole = both(WITH_HEADER, ONE_CALL);
+    assert!(rt; writes(rt.alloc(), &[b"calls"], &room, whole.octets()));
+    let late = room.get(99..).unwrap_or(&[]);
+    assert!(rt;
+        writes(
+            rt.alloc(),
+            &[b"calls"],
+            late,
+            both(LATE_ENTRY, ONE_CALL).octets()
+        )
+    );
+    assert!(rt; writes(rt.alloc(), &[b"calls"], b"", b"calls=0\n"));
+}
+
+// A call is written once its terminator is there, and after a read fault neither a call that is open nor the last line.
+#[test]
+fn calls_stand_after_a_read_fault(rt: HostRuntime) {
+    let mut room = [0; 585];
+    build(rt.alloc(), b"1", lines_of(4, false).octets(), &mut room);
+    let rows: [(u64, &[u8]); 3] = [(532, b""), (585, b""), (586, WITH_HEADER)];
+    for (call, text) in rows {
+        let fails = [call];
+        let mut source = MemorySource::new(&room, 1, &fails);
+        let mut written = [0; 256];
+        let mut sink = SliceSink::new(&mut written, &[]);
+        let outcome = run(rt.alloc(), &words_of(&[b"calls"]), &mut source, &mut sink);
+        assert_eq!(rt; outcome, Outcome::ReadFault, "failing at {call}");
+        assert_eq!(rt; sink.written(), text, "failing at {call}");
+    }
 }
 
 #[test]

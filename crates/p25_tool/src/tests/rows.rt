@@ -35,7 +35,7 @@ const NID_BEYOND_THEN_WHOLE: &[u8] =
 
 const PLAIN_TEXT: &[u8] = b"unit at=0 bits=144 fix=0 status=11 tdu nac=000\n";
 
-const RECORDINGS: [Row; 17] = [
+const RECORDINGS: [Row; 18] = [
     ("an empty input", &[b"show"], b"", b"", Outcome::Done),
     (
         "a check of an empty input",
@@ -56,6 +56,13 @@ const RECORDINGS: [Row; 17] = [
         &[b"check"],
         TERMINATOR,
         b"check units=1 faults=0\n",
+        Outcome::Done,
+    ),
+    (
+        "a terminator, which is no call",
+        &[b"calls"],
+        TERMINATOR,
+        b"calls=0\n",
         Outcome::Done,
     ),
     (

@@ -36,8 +36,7 @@ invariant_of-self g c =
     let raw = c.next.new.raw in
     let item = c.in-Some.item in
     let gave = there c.next.result item _ (λ (i : Item). Gave scan i raw next) c.in-Some.is c.next.ensures.given in
-    let held = ap length gave.left ∙ length-drop (covered item) scan.held in
-    (
+    let held = ap length gave.left ∙ length-drop (covered item) scan.held in (
       gave.same ∙ c.self.invariant.0,
       omega (arith, c.put.ensures.counted, c.self.invariant.1, gave.place, gave.some),
       omega (arith, gave.place, gave.there, held, c.self.invariant.2),
