@@ -8,6 +8,7 @@ use crate::report::Report;
 use p25_bits::BitBuf;
 use p25_line::Line;
 use p25_stream::{Scanner, item_laws};
+use p25_units::Item;
 use p25_work::{Ending, Refusal, Worker};
 use std::marker::Model;
 
@@ -27,6 +28,8 @@ pub(crate) enum Phase {
 pub(crate) struct Recording<R: Report> {
     report: R,
     scanner: Scanner,
+    // The last item and its bits.
+    item: Item,
     raw: BitBuf,
     phase: Phase,
 }
@@ -56,6 +59,7 @@ impl<R: Report> Recording<R> {
         Recording {
             report,
             scanner: Scanner::new(),
+            item: Item::Cut { place: 0, have: 0 },
             raw: BitBuf::new(),
             phase: Phase::Reading,
         }
@@ -66,10 +70,10 @@ impl<R: Report> Recording<R> {
         requires { given self.old.scan ≢ [] }
         ensures { PutItem R.reporting self.old out.new self.new }
     {
-        // An item is large: it is not moved.
-        match &self.scanner.next(&mut self.raw) {
-            Some(item) => self.report.put(item, &mut self.raw, out),
-            None => unreachable!(),
+        if self.scanner.take_next(&mut self.raw, &mut self.item) {
+            self.report.put(&self.item, &mut self.raw, out);
+        } else {
+            unreachable!();
         }
     }
 
