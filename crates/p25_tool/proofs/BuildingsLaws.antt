@@ -58,7 +58,7 @@ pub refusal_in-err : (number : ℕ) (line : List ℕ) (lines : List (List ℕ)) 
 unfolding refusal_in
 refusal_in-err number line lines fault read = ap (λ (r : Result UnitParts LineFault). elim r [ Ok unit ↦ refusal_in (number + 1) lines | Err fault ↦ Some (BadLine number fault) ]) read
 
-images_of-nil : (status : Status) → images_of status [] ≡ []
+pub images_of-nil : (status : Status) → images_of status [] ≡ []
 unfolding images_of
 images_of-nil status = refl
 

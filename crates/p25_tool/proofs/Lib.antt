@@ -5,3 +5,6 @@ pub mod BuildingsLaws
 pub mod WordsLaws
 pub mod CommandsLaws
 pub mod RunsLaws
+pub mod RecordedLaws
+pub mod BuiltLaws
+pub mod FoundLaws

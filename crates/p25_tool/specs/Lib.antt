@@ -6,3 +6,5 @@ pub mod Outputs
 pub mod Commands
 pub mod Buildings
 pub mod Runs
+pub mod Recorded
+pub mod Built
