@@ -62,7 +62,7 @@ pub images_of-nil : (status : Status) → images_of status [] ≡ []
 unfolding images_of
 images_of-nil status = refl
 
-refusal_in-nil : (number : ℕ) → refusal_in number [] ≡ None
+pub refusal_in-nil : (number : ℕ) → refusal_in number [] ≡ None
 unfolding refusal_in
 refusal_in-nil number = refl
 

@@ -8,3 +8,4 @@ pub mod RunsLaws
 pub mod RecordedLaws
 pub mod BuiltLaws
 pub mod FoundLaws
+pub mod WrittenLaws

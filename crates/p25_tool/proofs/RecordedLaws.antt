@@ -22,7 +22,7 @@ use Rattle.p25_stream.specs.Repeats.{bridged, bridged_frame, repaired}
 use Rattle.p25_stream.proofs.ArrivalLaws.{covered-whole_of, frame_arrived-sound, units-whole, wholes_of-cons, wholes_of-nil}
 use Rattle.p25_stream.proofs.ItemsLaws.{items_by-nil}
 use Rattle.p25_tool.specs.Outputs.{changed_bits, check_ending, check_line, faults_in, faulty, shown, units_in, whole_octets}
-use Rattle.p25_tool.specs.Recorded.{AreSentAgain, BridgesUnits, ChecksUnits, IsRecording, RepairedIsRecorded, RepairsUnits, ShowsUnits, UnitsAreRecorded, undamaged}
+use Rattle.p25_tool.specs.Recorded.{AreOctetsOf, BridgesUnits, ChecksUnits, IsRecording, RepairedIsRecorded, RepairsUnits, ShowsUnits, UnitsAreRecorded, undamaged}
 
 -- bits that fill whole octets are those of the octets
 pub octet_bits-whole : (bits : List Bool) → length bits % 8 ≡ 0 → octet_bits (whole_octets bits) ≡ bits
@@ -130,7 +130,7 @@ module _ (change : Item → List Bool → List Bool) (of_frame : Frame → List 
 
   pub changed-recording : (ended : Bool) (arrivals : List Arrival) (octets : List ℕ) → IsRecording arrivals octets
       → ((arrival : Arrival) → IsNearArrival arrival → length (of_frame (frame_arrived arrival)) % 8 ≡ 0)
-      → AreSentAgain (flat_map (λ (arrival : Arrival). of_frame (frame_arrived arrival)) arrivals) (whole_octets (changed_bits change (items_by ended 0 (octet_bits octets)) (octet_bits octets)))
+      → AreOctetsOf (flat_map (λ (arrival : Arrival). of_frame (frame_arrived arrival)) arrivals) (whole_octets (changed_bits change (items_by ended 0 (octet_bits octets)) (octet_bits octets)))
   changed-recording ended arrivals octets is whole =
       let images : List Bool = flat_map (λ (arrival : Arrival). of_frame (frame_arrived arrival)) arrivals in
       let same : whole_octets (changed_bits change (items_by ended 0 (octet_bits octets)) (octet_bits octets)) ≡ whole_octets images

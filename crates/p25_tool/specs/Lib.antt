@@ -8,3 +8,4 @@ pub mod Buildings
 pub mod Runs
 pub mod Recorded
 pub mod Built
+pub mod Written

@@ -30,8 +30,8 @@ images_bridged nac status arrivals = flat_map (λ arrival. image_of (bridged_fra
 abbrev pub undamaged : Arrival → Arrival
 undamaged arrival = record { frame = frame_arrived arrival; bits = image_of (frame_arrived arrival) }
 
--- units that are sent again: as bits, which fill whole octets, and as the recording that they are
-pub record AreSentAgain (bits : List Bool) (octets : List ℕ) : Type 0 where
+-- the octets that bits fill, with no bit left over
+pub record AreOctetsOf (bits : List Bool) (octets : List ℕ) : Type 0 where
   pub octets_are : octets ≡ whole_octets bits
   pub bits_are : octet_bits octets ≡ bits
 
@@ -57,7 +57,7 @@ ChecksUnits =
 abbrev pub RepairsUnits : Type 0
 RepairsUnits =
     (ended : Bool) (arrivals : List Arrival) (octets : List ℕ) → IsRecording arrivals octets
-    → AreSentAgain (images_arrived arrivals) (output_by Repair ended octets)
+    → AreOctetsOf (images_arrived arrivals) (output_by Repair ended octets)
 
 -- these are a recording of the same units without damage, so repairing it again changes nothing
 abbrev pub RepairedIsRecorded : Type 0
@@ -70,7 +70,7 @@ RepairedIsRecorded =
 abbrev pub BridgesUnits : Type 0
 BridgesUnits =
     (ended : Bool) (nac : ℕ) (status : Status) (arrivals : List Arrival) (octets : List ℕ) → nac < 4096 → IsRecording arrivals octets
-    → AreSentAgain (images_bridged nac status arrivals) (output_by (Bridge nac status) ended octets)
+    → AreOctetsOf (images_bridged nac status arrivals) (output_by (Bridge nac status) ended octets)
 
 -- lines that `show` writes have that of an item among them
 pub record HasLine (item : Item) (octets : List ℕ) : Type 0 where

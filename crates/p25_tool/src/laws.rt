@@ -2,6 +2,14 @@
 
 ghost use Rattle.p25_tool.specs.Built.{BuildsUnits};
 ghost use Rattle.p25_tool.specs.Recorded.{BridgesUnits, ChecksUnits, RepairKeepsLength, RepairedIsRecorded, RepairsEachUnit, RepairsUnits, ShowsEachUnit, ShowsUnits, UnitsAreRecorded};
+ghost use Rattle.p25_tool.specs.Written.{AllIsWritten};
+
+/// Does nothing: its contract is that a call of `run` that came to the end of its input wrote all of `output_by` of all that the
+/// source held, behind what the sink held before; however the reads of the source are cut. So the laws below speak of what
+/// `run` writes.
+pub fn written_laws()
+    ensures all { AllIsWritten }
+{}
 
 /// Does nothing: its contract is what the commands write of a recording of units that were sent one behind the other, each
 /// damaged within radius, for all lists of units and all such damage.
@@ -12,8 +20,6 @@ ghost use Rattle.p25_tool.specs.Recorded.{BridgesUnits, ChecksUnits, RepairKeeps
 /// - `repair`: the images of the units as received, end to end.
 /// - `repaired`: these are a recording of the same units without damage; repairing it again changes nothing.
 /// - `bridge`: the images of the units as received under another network access code and with one status symbol.
-///
-/// `run` writes what these laws speak of, however the reads of the source are cut.
 pub fn recorded_laws()
     ensures recorded { UnitsAreRecorded }
     ensures show { ShowsUnits }
