@@ -1,10 +1,10 @@
 pub mod OctetsLaws
 pub mod ReportsLaws
 pub mod RecordingsLaws
-pub mod BuildingsLaws
 pub mod WordsLaws
 pub mod CommandsLaws
 pub mod RunsLaws
+pub mod ScriptsLaws
 pub mod RecordedLaws
 pub mod BuiltLaws
 pub mod FoundLaws

@@ -1,5 +1,5 @@
 -- What becomes of what `build` writes: the units of the lines, undamaged, end to end.
-use Rattle.std.specs.Prelude.{◌≡◌, ℕ, ◌+◌, Bool, true, List, [], ◌∷◌, map, Ok}
+use Rattle.std.specs.Prelude.{◌≡◌, ℕ, ◌+◌, Bool, true, List, [], ◌∷◌, length, map, take, Ok}
 use Rattle.std.specs.List.{flat_map}
 use Rattle.p25_bits.specs.Bits.{octet_bits}
 use Rattle.p25_status.specs.declared.symbols.Status.{Status}
@@ -9,12 +9,9 @@ use Rattle.p25_units.specs.Units.{frame_length_of, image_of}
 use Rattle.p25_units.specs.declared.item.Item.{Item}
 use Rattle.p25_units.specs.declared.item.Item.TheVariants.{Whole}
 use Rattle.p25_stream.specs.Items.{items_of}
+use Rattle.p25_work.specs.Lines.{lines_in, read_of}
 use Rattle.p25_tool.specs.declared.command.Command.TheVariants.{Show, Build}
-use Rattle.p25_tool.specs.Outputs.{filled_frame, lines_in, output_by, shown}
-
--- every line is read as a unit, and these are the units, in order
-pub record AreReadAs (lines : List (List ℕ)) (units : List UnitParts) : Type 0 where
-  pub read : map read_line_of lines ≡ map Ok units
+use Rattle.p25_tool.specs.Outputs.{filled_frame, output_by, shown}
 
 -- the bits of units with one status symbol everywhere, end to end
 abbrev pub bits_built : Status → List UnitParts → List Bool
@@ -32,8 +29,21 @@ pub record AreBuilt (status : Status) (units : List UnitParts) (octets : List �
   pub items : items_of 0 (octet_bits octets) ≡ wholes_built status 0 units
   pub lines : output_by Show true octets ≡ flat_map shown (wholes_built status 0 units)
 
--- where every line is read as a unit, `build` writes these units, and the lines are their texts
+-- the units that lines are read as, up to the first line that is refused
+abbrev pub units_of : List (List ℕ) → List UnitParts
+units_of lines = read_of read_line_of lines
+
+-- `build` writes the units of the lines of its input
 abbrev pub BuildsUnits : Type 0
 BuildsUnits =
-    (ended : Bool) (status : Status) (octets : List ℕ) (units : List UnitParts) → AreReadAs (lines_in ended [] octets) units
-    → AreBuilt status units (output_by (Build status) ended octets) × (map text_of units ≡ lines_in ended [] octets)
+    (ended : Bool) (status : Status) (octets : List ℕ) → AreBuilt status (units_of (lines_in ended [] octets)) (output_by (Build status) ended octets)
+
+-- the texts of the units that lines are read as are the first of the lines, in order
+abbrev pub LinesAreTexts : Type 0
+LinesAreTexts = (lines : List (List ℕ)) → map text_of (units_of lines) ≡ take (length (units_of lines)) lines
+
+-- where every line is read as a unit, they are these units, in order, and the lines are their texts
+abbrev pub AcceptedAreRead : Type 0
+AcceptedAreRead =
+    (lines : List (List ℕ)) (units : List UnitParts) → map read_line_of lines ≡ map Ok units
+    → (units_of lines ≡ units) × (map text_of units ≡ lines)

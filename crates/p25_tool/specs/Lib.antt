@@ -5,6 +5,9 @@ pub mod Recordings
 pub mod Outputs
 pub mod Commands
 pub mod Buildings
+pub mod StationRules
+pub mod Scripts
+pub mod LongLines
 pub mod Runs
 pub mod Recorded
 pub mod Built

@@ -1,6 +1,6 @@
 //! What the commands make of units: laws of their outputs. The bodies are empty: each function states what is proved.
 
-ghost use Rattle.p25_tool.specs.Built.{BuildsUnits};
+ghost use Rattle.p25_tool.specs.Built.{AcceptedAreRead, BuildsUnits, LinesAreTexts};
 ghost use Rattle.p25_tool.specs.Recorded.{BridgesUnits, ChecksUnits, RepairKeepsLength, RepairedIsRecorded, RepairsEachUnit, RepairsUnits, ShowsEachUnit, ShowsUnits, UnitsAreRecorded};
 ghost use Rattle.p25_tool.specs.Written.{AllIsWritten};
 
@@ -41,9 +41,14 @@ pub fn found_laws()
     ensures length { RepairKeepsLength }
 {}
 
-/// Does nothing: its contract is that `build` and `show` undo each other. Where every line of an input is read as a unit, what
-/// is written for it has the units of these lines as its items: whole, with no fixes, end to end, in order and with the one
-/// status symbol. So `show` of it writes one line for each line, and the text of each unit is its line.
+/// Does nothing: its contract is that `build` and `show` undo each other, for every input.
+///
+/// - `build`: what is written has the units of the input's lines as its items: whole, with no fixes, end to end, in order and
+///   with the one status symbol. So `show` of it writes one line for each of them.
+/// - `texts`: these are the units of the lines before the first that is refused, and these lines are their texts, in order.
+/// - `accepted`: where every line is read as a unit, these are the units, and all lines are their texts.
 pub fn built_laws()
     ensures build { BuildsUnits }
+    ensures texts { LinesAreTexts }
+    ensures accepted { AcceptedAreRead }
 {}
