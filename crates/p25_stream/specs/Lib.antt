@@ -1,5 +1,6 @@
 pub mod Items
 pub mod ItemLaws
+pub mod Arrivals
 pub mod Scan
 pub mod Beginnings
 pub mod Repeats

@@ -16,7 +16,8 @@
 //! ```
 //!
 //! Contracts see a scanner as a `Scan`, the bits that it holds with their place, and the items that it can give as `given`.
-//! `items_by` is the definition of a stream's items, one walk over its bits; `item_laws` says what is true of it.
+//! `items_by` is the definition of a stream's items, one walk over its bits; `item_laws` says what is true of it, and
+//! `arrival_laws` where units that were sent are found again.
 #![tactic(auto)]
 
 mod beginning;
@@ -27,7 +28,7 @@ mod scanner;
 #[cfg(test)]
 mod tests;
 
-pub use laws::item_laws;
+pub use laws::{arrival_laws, item_laws};
 pub use p25_units::Item;
 pub use repeats::{bridge_item, repair_item};
 pub use scanner::Scanner;

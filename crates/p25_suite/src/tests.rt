@@ -1,6 +1,8 @@
 //! Values from outside: through `run`, read in pieces of 1, of 2, of 7 and of all octets, and as scripts of the stations' world.
 
 mod calls;
+mod damaged;
+mod drawn;
 mod packets;
 mod refusals;
 mod script;

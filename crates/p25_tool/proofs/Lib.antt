@@ -6,3 +6,7 @@ pub mod CallReportsLaws
 pub mod CommandsLaws
 pub mod RunsLaws
 pub mod ScriptsLaws
+pub mod RecordedLaws
+pub mod BuiltLaws
+pub mod FoundLaws
+pub mod WrittenLaws

@@ -9,3 +9,6 @@ pub mod StationRules
 pub mod Scripts
 pub mod LongLines
 pub mod Runs
+pub mod Recorded
+pub mod Built
+pub mod Written

@@ -9,9 +9,9 @@ use p25_line::Line;
 use p25_tool::{Outcome, run};
 
 // A unit of the call: its line, whether nine voice frames of zeros end it, and what `show` says before it.
-type Part = (&'static [u8], bool, &'static [u8]);
+pub type Part = (&'static [u8], bool, &'static [u8]);
 
-const PARTS: [Part; 4] = [
+pub const PARTS: [Part; 4] = [
     (
         b"hdu nac=293 mi=000000000000000000 mfid=00 algid=80 kid=0000 tgid=0001",
         false,
@@ -38,7 +38,7 @@ const PARTS: [Part; 4] = [
 const ENDS: [u16; 5] = [0, 99, 315, 531, 585];
 
 // The lines of the first units, as they are built from or as they are shown.
-fn lines_of(count: usize, shown: bool) -> Line {
+pub fn lines_of(count: usize, shown: bool) -> Line {
     let mut text = Line::new();
     for (line, voice, prefix) in PARTS.iter().take(count) {
         if text.len() <= 4_000 && line.len() <= 200 && prefix.len() <= 200 {

@@ -9,7 +9,7 @@ use std::alloc::Global;
 
 // Bits that are inverted: the first place, how far the next is, how many places there are, and how many bits at each.
 // Places count the bits of a unit without its status symbols; that of the first bit of its sync is 0.
-type Inverted = (u16, u16, u16, u16);
+pub type Inverted = (u16, u16, u16, u16);
 
 // A unit: what its row shows, its status symbols, its line, the nine voice frames' digit where it has them, the bits that
 // are inverted, what `show` writes, and whether the line follows that, since the unit is whole.
@@ -269,7 +269,7 @@ fn invert_run(octets: &mut [u8], first: usize, width: u16)
     }
 }
 
-fn invert(octets: &mut [u8], inverted: &Inverted) {
+pub fn invert(octets: &mut [u8], inverted: &Inverted) {
     let (first, step, places, width) = *inverted;
     for i in 0..usize::from(places) {
         let place = usize::from(first) + i * usize::from(step);

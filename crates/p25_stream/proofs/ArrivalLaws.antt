@@ -1,0 +1,153 @@
+-- Units end to end are whole, by induction on their list: each is decided by its own bits. A unit behind other bits is found there, by
+-- induction on the number of those bits: the first item of them ends before it, or it is a unit that covers its first bit.
+use Rattle.std.proofs.Common.{◌≡◌, ℕ, zero, suc, ◌+◌, ◌<◌, ◌≤◌, ◌⊎◌, inl, inr, Bool, true, false, List, [], ◌∷◌, ◌++◌, length, drop, refl, ap, ap₂, sym, ◌∙◌, subst, arith, append_assoc, append-nil, length-append, length-drop}
+use Rattle.std.proofs.lemmas.Bool.{cases_lt}
+use Rattle.std.proofs.lemmas.List.{drop-append-le, drop_all}
+use Rattle.std.proofs.lemmas.List.Elements.{All-head, All-tail}
+use Rattle.std.proofs.lemmas.List.Sums.{sum_by-cons}
+use Rattle.p25_status.specs.Sync.{has_sync}
+use Rattle.p25_status.proofs.SyncLaws.{has_sync-append, has_sync-length}
+use Rattle.p25_units.specs.Items.{covered}
+use Rattle.p25_units.specs.Units.{IsSendableUnit, IsSoundFrame}
+use Rattle.p25_units.specs.declared.item.Item.{Item}
+use Rattle.p25_units.specs.declared.item.Item.TheVariants.{Whole, Broken, NoUnit, Gap, Cut}
+use Rattle.p25_units.proofs.WithinRadiusLaws.{has_sync-near}
+use Rattle.p25_stream.specs.Arrivals.{Arrival, IsFound, IsHidden, IsNearArrival, IsUnitItem, UnitIsFound, UnitsAreWhole, bits_arrived, frame_arrived, whole_of, wholes_of}
+use Rattle.p25_stream.specs.Items.{first_item, is_decided, items_by, items_of}
+use Rattle.p25_stream.proofs.ItemLaws.{near-whole, whole-within}
+use Rattle.p25_stream.proofs.ItemsLaws.{covered-first_item, gap-first, items_by-decided, items_by-more, place_of-first_item}
+use Rattle.p25_stream.proofs.SyncPlaceLaws.{has_sync-before}
+
+pub wholes_of-nil : (place : ℕ) → wholes_of place [] ≡ []
+unfolding wholes_of
+wholes_of-nil place = refl
+
+pub wholes_of-cons : (place : ℕ) (arrival : Arrival) (arrivals : List Arrival) → wholes_of place (arrival ∷ arrivals) ≡ whole_of place arrival ∷ wholes_of (place + length arrival.bits) arrivals
+unfolding wholes_of
+wholes_of-cons place arrival arrivals = refl
+
+-- a unit alone: its item is decided by its bits, and covers them
+module _ (at : ℕ) (arrival : Arrival) (is : IsNearArrival arrival) where
+  alone : (first_item at arrival.bits ≡ whole_of at arrival) × (is_decided arrival.bits ≡ true) × (covered (first_item at arrival.bits) ≡ length arrival.bits)
+  alone =
+      subst (λ (bits : List Bool). (first_item at bits ≡ whole_of at arrival) × (is_decided bits ≡ true) × (covered (first_item at bits) ≡ length arrival.bits))
+      (append-nil arrival.bits)
+      (near-whole at arrival.frame arrival.bits [] is.sound is.sendable is.near)
+
+  pub covered-whole_of : covered (whole_of at arrival) ≡ length arrival.bits
+  covered-whole_of = ap covered (sym alone.0) ∙ alone.2
+
+  -- and what it reads as is sound and can be sent
+  pub frame_arrived-sound : IsSoundFrame (frame_arrived arrival) × IsSendableUnit (frame_arrived arrival).unit
+  frame_arrived-sound =
+      let read = whole-within at arrival.bits at (frame_arrived arrival) _ alone.0 in
+      (read.sound, read.sendable)
+
+  -- where bits begin with it, it is the first of the items, and those of the bits behind it follow
+  pub items_by-arrival : (ended : Bool) (more : List Bool) → items_by ended at (arrival.bits ++ more) ≡ whole_of at arrival ∷ items_by ended (at + length arrival.bits) more
+  items_by-arrival ended more =
+      items_by-decided ended at arrival.bits more alone.1
+      ∙ ap (λ (n : ℕ). first_item at arrival.bits ∷ items_by ended (at + n) (drop n arrival.bits ++ more)) alone.2
+      ∙ ap₂ (λ (item : Item) (left : List Bool). item ∷ items_by ended (at + length arrival.bits) (left ++ more)) alone.0 (drop_all (length arrival.bits) arrival.bits (omega arith))
+
+-- units end to end
+pub units-whole : UnitsAreWhole
+units-whole ended at [] more near =
+    let none : at ≡ at + 0 = omega arith in
+    ap (λ (n : ℕ). items_by ended n more) none ∙ ap (λ (items : List Item). items ++ items_by ended (at + 0) more) (sym (wholes_of-nil at))
+units-whole ended at (arrival ∷ arrivals) more near =
+    let bits = arrival.bits in
+    let later = bits_arrived arrivals in
+    let place : at + length bits + length later ≡ at + length (bits ++ later) = omega (arith, length-append bits later) in
+    ap (items_by ended at) (append_assoc bits later more)
+    ∙ items_by-arrival at arrival (All-head IsNearArrival arrival arrivals near) ended (later ++ more)
+    ∙ ap (λ (items : List Item). whole_of at arrival ∷ items) (units-whole ended (at + length bits) arrivals more (All-tail IsNearArrival arrival arrivals near))
+    ∙ ap (λ (n : ℕ). whole_of at arrival ∷ (wholes_of (at + length bits) arrivals ++ items_by ended n more)) place
+    ∙ ap (λ (items : List Item). items ++ items_by ended (at + length (bits ++ later)) more) (sym (wholes_of-cons at arrival arrivals))
+
+-- a unit behind other bits
+module _ (place : ℕ) (arrival : Arrival) (more : List Bool) (is : IsNearArrival arrival) where
+  abbrev rest : List Bool
+  rest = arrival.bits ++ more
+
+  -- what is said of the items of some bits is said of those of bits that have one item more in front
+  later-hidden : (item : Item) (items : List Item) → IsHidden place items → IsHidden place (item ∷ items)
+  later-hidden item items hidden = record {
+    before = item ∷ hidden.before;
+    item = hidden.item;
+    after = hidden.after;
+    among = ap (λ (is : List Item). item ∷ is) hidden.among;
+    unit = hidden.unit;
+    begins = hidden.begins;
+    covers = hidden.covers;
+  }
+
+  later-found : (at : ℕ) (item : Item) (items : List Item) → IsFound (at + covered item) place arrival more items → IsFound at place arrival more (item ∷ items)
+  later-found at item items found = record {
+    before = item ∷ found.before;
+    among = ap (λ (is : List Item). item ∷ is) found.among;
+    ends = omega (arith, sum_by-cons covered item found.before, found.ends);
+  }
+
+  later : (at : ℕ) (item : Item) (items : List Item) → IsHidden place items ⊎ IsFound (at + covered item) place arrival more items → IsHidden place (item ∷ items) ⊎ IsFound at place arrival more (item ∷ items)
+  later at item items (inl hidden) = inl (later-hidden item items hidden)
+  later at item items (inr found) = inr (later-found at item items found)
+
+  -- a first item that reaches past the place of the unit is a unit itself
+  module _ (at : ℕ) (bits : List Bool) (some : 0 < length bits) where
+    no_gap : (start count : ℕ) → Gap start count ≡ first_item at (bits ++ rest) → length bits < count → ⊥
+    no_gap start count same far =
+        let gap = gap-first at (bits ++ rest) start count same in
+        let behind : drop (length bits) (bits ++ rest) ≡ rest
+        = drop-append-le (length bits) bits rest (omega arith) ∙ ap (λ (left : List Bool). left ++ rest) (drop_all (length bits) bits (omega arith)) in
+        let sync = has_sync-near arrival.frame is.sound is.sendable arrival.bits is.near in
+        let seen : has_sync rest ≡ true = has_sync-append arrival.bits more (has_sync-length arrival.bits sync) ∙ sync in
+        let unseen : has_sync rest ≡ false = ap has_sync (sym behind) ∙ has_sync-before (bits ++ rest) (length bits) (omega (arith, gap.1)) in
+        let both : true ≡ false = sym seen ∙ unseen in
+        absurd (cc)
+
+    reaching : (item : Item) → item ≡ first_item at (bits ++ rest) → length bits < covered item → IsUnitItem item
+    reaching (Whole start frame fixes) same far = tt
+    reaching (Broken start count nac duid fields) same far = tt
+    reaching (NoUnit start field) same far = absurd (omega arith)
+    reaching (Gap start count) same far = no_gap start count same far
+    reaching (Cut start have) same far = tt
+
+  walk : (turns at : ℕ) (bits : List Bool) → length bits ≤ turns → place ≡ at + length bits → IsHidden place (items_of at (bits ++ rest)) ⊎ IsFound at place arrival more (items_of at (bits ++ rest))
+  walk turns at [] few here =
+      let same : at ≡ place = omega arith in
+      inr (record {
+        before = [];
+        among = items_by-arrival at arrival is true more ∙ ap (λ (n : ℕ). whole_of n arrival ∷ items_of (n + length arrival.bits) more) same;
+        ends = omega arith;
+      })
+  walk zero at (bit ∷ bits) few here = absurd (omega arith)
+  walk (suc turns) at (bit ∷ bits) few here =
+      let front = bit ∷ bits in
+      let all = front ++ rest in
+      let item = first_item at all in
+      let count = covered item in
+      let some : 0 < length all = omega (arith, length-append front rest) in
+      let fits = covered-first_item at all some in
+      let unfolds : items_of at all ≡ item ∷ items_of (at + count) (drop count all) = items_by-more true at all some refl in
+      elim (cases_lt (length front) count) [
+        | inl far ↦ inl (record {
+          before = [];
+          item = item;
+          after = items_of (at + count) (drop count all);
+          among = unfolds;
+          unit = reaching at front (omega arith) item refl far;
+          begins = omega (arith, place_of-first_item at all);
+          covers = omega (arith, place_of-first_item at all);
+        })
+        | inr near ↦
+            let left = drop count front in
+            let behind : drop count all ≡ left ++ rest = drop-append-le count front rest near in
+            let less : length left ≤ turns = omega (arith, length-drop count front, fits.0) in
+            let place_is : place ≡ at + count + length left = omega (arith, length-drop count front) in
+            subst (λ (items : List Item). IsHidden place items ⊎ IsFound at place arrival more items) (sym (unfolds ∙ ap (λ (bits : List Bool). item ∷ items_of (at + count) bits) behind))
+            (later at item (items_of (at + count) (left ++ rest)) (walk turns (at + count) left less place_is))
+      ]
+
+pub unit-found : UnitIsFound
+unit-found at bits arrival more is = walk (at + length bits) arrival more is (length bits) at bits (omega arith) refl

@@ -1,0 +1,79 @@
+-- Units that were sent one behind the other, and what came of them: where each is found again among the items of a stream.
+use Rattle.std.specs.Prelude.{◌≡◌, ℕ, ◌+◌, ◌<◌, Bool, List, [], ◌∷◌, ◌++◌, length, All, ◌⊎◌}
+use Rattle.std.specs.List.{flat_map, sum_by}
+use Rattle.p25_units.specs.Fixes.{fixes_of}
+use Rattle.p25_units.specs.Items.{covered, place_of}
+use Rattle.p25_units.specs.Units.{IsSendableUnit, IsSoundFrame}
+use Rattle.p25_units.specs.WithinRadius.{IsWithinRadius, received_frame}
+use Rattle.p25_units.specs.declared.frame.Frame.{Frame}
+use Rattle.p25_units.specs.declared.item.Item.{Item}
+use Rattle.p25_units.specs.declared.item.Item.TheVariants.{Whole, Broken, NoUnit, Gap, Cut}
+use Rattle.p25_stream.specs.Items.{items_by, items_of}
+
+-- a frame that was sent, and the bits that came of its image
+pub record Arrival : Type 0 where
+  pub frame : Frame
+  pub bits : List Bool
+
+-- the frame is sound, its unit can be sent, and the bits lie within radius of its image
+pub record IsNearArrival (arrival : Arrival) : Type 0 where
+  pub sound : IsSoundFrame arrival.frame
+  pub sendable : IsSendableUnit arrival.frame.unit
+  pub near : IsWithinRadius arrival.frame arrival.bits
+
+-- the frame as received: the fields that were sent, with the voice frames and the status symbols that came
+abbrev pub frame_arrived : Arrival → Frame
+frame_arrived arrival = received_frame arrival.frame arrival.bits
+
+-- the bits of units, end to end
+abbrev pub bits_arrived : List Arrival → List Bool
+bits_arrived arrivals = flat_map (λ arrival. arrival.bits) arrivals
+
+-- a unit at a place: whole, as received, with the wrong bits as its fixes
+abbrev pub whole_of : ℕ → Arrival → Item
+whole_of place arrival = Whole place (frame_arrived arrival) (fixes_of (frame_arrived arrival) arrival.bits)
+
+-- units from a place on, each where the one before it ends
+unfoldable pub wholes_of : ℕ → List Arrival → List Item
+wholes_of place [] = []
+wholes_of place (arrival ∷ arrivals) = whole_of place arrival ∷ wholes_of (place + length arrival.bits) arrivals
+
+-- where units begin, each within radius, the items are these units, whole and as received, and then those of the bits behind
+-- them; a stream that goes on has given them too
+abbrev pub UnitsAreWhole : Type 0
+UnitsAreWhole =
+    (ended : Bool) (at : ℕ) (arrivals : List Arrival) (more : List Bool) → All IsNearArrival arrivals
+    → items_by ended at (bits_arrived arrivals ++ more) ≡ wholes_of at arrivals ++ items_by ended (at + length (bits_arrived arrivals)) more
+
+-- an item is a unit, whole, broken or cut
+abbrev pub IsUnitItem : Item → Type 0
+IsUnitItem (Whole place frame fixes) = Unit {0}
+IsUnitItem (Broken place count nac duid fields) = Unit {0}
+IsUnitItem (NoUnit place field) = ⊥
+IsUnitItem (Gap place count) = ⊥
+IsUnitItem (Cut place have) = Unit {0}
+
+-- among some items is a unit, whole, broken or cut, that begins before a place and covers it
+pub record IsHidden (place : ℕ) (items : List Item) : Type 0 where
+  pub before : List Item
+  pub item : Item
+  pub after : List Item
+  pub among : items ≡ before ++ item ∷ after
+  pub unit : IsUnitItem item
+  pub begins : place_of item < place
+  pub covers : place < place_of item + covered item
+
+-- among the items of some bits is the unit of an arrival, whole and as received, at its place: the items before it end there,
+-- and those behind it are those of the bits that follow
+pub record IsFound (at place : ℕ) (arrival : Arrival) (more : List Bool) (items : List Item) : Type 0 where
+  pub before : List Item
+  pub among : items ≡ before ++ whole_of place arrival ∷ items_of (place + length arrival.bits) more
+  pub ends : at + sum_by covered before ≡ place
+
+-- wherever a unit within radius stands in a stream, it is found there, whole and as received, unless a unit that begins before
+-- it, whole, broken or cut, covers its first bit: a gap ends where a unit begins, and a place without a unit has one bit
+abbrev pub UnitIsFound : Type 0
+UnitIsFound =
+    (at : ℕ) (bits : List Bool) (arrival : Arrival) (more : List Bool) → IsNearArrival arrival
+    → IsHidden (at + length bits) (items_of at (bits ++ (arrival.bits ++ more)))
+    ⊎ IsFound at (at + length bits) arrival more (items_of at (bits ++ (arrival.bits ++ more)))

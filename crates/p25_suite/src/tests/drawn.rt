@@ -1,0 +1,240 @@
+//! Drawn units: a line of a drawn kind with drawn values, its image, and that image with wrong bits at drawn places, as few as the
+//! codes of the unit correct.
+
+ghost use Rattle.std.specs.Prelude.{◌≤◌, ◌<◌, length};
+
+use super::{build, change_bit, put_named};
+use p25_line::Line;
+use std::alloc::Global;
+
+// Words of a unit: the first place, how far the next is, how many there are, how many bits each has, how many of these may be
+// wrong, and in how many of the words any of them may be. Places count the bits of a unit without its status symbols.
+pub type Damage = (u16, u16, u16, u16, u16, u16);
+
+// A kind of unit: its line with a question mark for each drawn digit, whether the digits of nine voice frames end it, and what
+// may be wrong behind its identifier.
+pub type Kind = (&'static [u8], bool, &'static [Damage]);
+
+const LINK_1: [Damage; 7] = [
+    (400, 10, 4, 10, 1, 1),
+    (584, 10, 4, 10, 1, 1),
+    (768, 10, 4, 10, 1, 1),
+    (952, 10, 4, 10, 1, 1),
+    (1136, 10, 4, 10, 1, 1),
+    (1320, 10, 4, 10, 1, 1),
+    (1504, 16, 2, 16, 2, 0),
+];
+
+const LINK_2: [Damage; 7] = [
+    (400, 10, 4, 10, 1, 2),
+    (584, 10, 4, 10, 1, 0),
+    (768, 10, 4, 10, 1, 1),
+    (952, 10, 4, 10, 1, 0),
+    (1136, 10, 4, 10, 1, 1),
+    (1320, 10, 4, 10, 1, 0),
+    (1504, 16, 2, 16, 2, 0),
+];
+
+pub const KINDS: [Kind; 8] = [
+    (
+        b"hdu nac=??? mi=?????????????????? mfid=?? algid=?? kid=???? tgid=????",
+        false,
+        &[(112, 18, 36, 18, 3, 8)],
+    ),
+    (
+        b"ldu1 nac=??? lc=?????????????????? lsd=???? voice=",
+        true,
+        &LINK_1,
+    ),
+    (
+        b"ldu2 nac=??? mi=?????????????????? algid=?? kid=???? lsd=???? voice=",
+        true,
+        &LINK_2,
+    ),
+    (b"tdu nac=???", false, &[]),
+    (
+        b"tdulc nac=??? lc=??????????????????",
+        false,
+        &[(112, 24, 12, 24, 3, 3)],
+    ),
+    (
+        b"confirmed nac=??? head=56c000??????82000800 blocks=0?:????????????????????????????????,1?:????????????????????????????????",
+        false,
+        &[(112, 0, 1, 196, 2, 0), (308, 196, 2, 196, 1, 0)],
+    ),
+    (
+        b"plain nac=??? head=35c000??????81000000 octets=????????????????",
+        false,
+        &[(112, 0, 1, 196, 2, 0), (308, 0, 1, 196, 2, 0)],
+    ),
+    (
+        b"response nac=??? head=238000??????81000000 octets=????????????????",
+        false,
+        &[(112, 0, 1, 196, 2, 0), (308, 0, 1, 196, 2, 0)],
+    ),
+];
+
+// The sync and the identifier, of which the last bit is free.
+const FRONT: [Damage; 2] = [(0, 0, 1, 48, 4, 0), (48, 0, 1, 63, 11, 0)];
+
+// Numbers that are drawn: a linear congruence of 64 bits, of which the upper ones are given.
+#[derive(Drop)]
+pub struct Draw {
+    state: u64,
+}
+
+impl Draw {
+    pub fn new(seed: u64) -> Draw {
+        Draw { state: seed }
+    }
+
+    // A number below a bound.
+    pub fn below(&mut self, bound: u64) -> u64
+        requires { 0 < bound }
+        ensures { result < bound }
+    {
+        self.state = self
+            .state
+            .wrapping_mul(6_364_136_223_846_793_005)
+            .wrapping_add(1_442_695_040_888_963_407);
+        (self.state >> 33) % bound
+    }
+}
+
+// A drawn unit: its line, its status symbol, its image and that image with wrong bits, how many octets these have, and how many
+// bits are wrong.
+#[derive(Drop)]
+pub struct Drawn {
+    pub line: Line,
+    pub symbol: u8,
+    pub sent: [u8; 256],
+    pub came: [u8; 256],
+    pub size: usize,
+    pub wrong: u64,
+}
+
+impl Drawn {
+    pub fn sent(&self) -> &[u8] {
+        self.sent.get(..self.size).unwrap_or(&[])
+    }
+
+    pub fn came(&self) -> &[u8] {
+        self.came.get(..self.size).unwrap_or(&[])
+    }
+
+    // What `show` writes of the unit at a place, with so many fixes.
+    pub fn shown(&self, place: u64, fixes: u64) -> Line {
+        let mut text = Line::new();
+        put_named(&mut text, b"unit at=", place);
+        put_named(&mut text, b" bits=", 8 * self.size.min(256) as u64);
+        put_named(&mut text, b" fix=", fixes);
+        put_short(&mut text, b" status=");
+        for _ in 0..self.size.min(256) / 9 {
+            put_short(&mut text, &[self.symbol]);
+        }
+        put_short(&mut text, b" ");
+        put_short(&mut text, self.line.octets());
+        put_short(&mut text, b"\n");
+        text
+    }
+}
+
+// Puts a text behind another, where both are short.
+pub fn put_short(text: &mut Line, more: &[u8]) {
+    if text.len() <= 4_000 && more.len() <= 4_000 {
+        text.put(more);
+    }
+}
+
+fn put_drawn(line: &mut Line, octet: u8, draw: &mut Draw) {
+    let digit = draw.below(16);
+    if octet == b'?' && digit < 10 {
+        put_short(line, &[b'0' + digit as u8]);
+    } else if octet == b'?' {
+        put_short(line, &[b'a' + (digit as u8 - 10)]);
+    } else {
+        put_short(line, &[octet]);
+    }
+}
+
+// The line of a unit of a kind.
+fn line_of(kind: &Kind, draw: &mut Draw) -> Line {
+    let mut line = Line::new();
+    for octet in kind.0 {
+        put_drawn(&mut line, *octet, draw);
+    }
+    if kind.1 {
+        for _ in 0..324 {
+            put_drawn(&mut line, b'?', draw);
+        }
+    }
+    line
+}
+
+// Inverts so many bits of a word at drawn places: each place is chosen as often as any other.
+fn damage_word(unit: &mut [u8], first: usize, width: u16, wrong: u64, draw: &mut Draw)
+    requires { first < 30000 }
+{
+    let mut left = wrong;
+    for i in 0..width {
+        if draw.below(u64::from(width - i)) < left {
+            change_bit(unit, first + usize::from(i), None);
+            left -= 1;
+        }
+    }
+}
+
+// How many bits of a word are wrong: any number in a lost word, else as many as may be, or fewer where they are drawn.
+fn wrong_in(words: &Damage, lost: bool, full: bool, draw: &mut Draw) -> u64 {
+    let (_, _, _, width, most, _) = *words;
+    if lost {
+        draw.below(u64::from(width) + 1)
+    } else if full {
+        u64::from(most)
+    } else {
+        draw.below(u64::from(most) + 1)
+    }
+}
+
+// Damages some words, and answers how many bits are wrong.
+fn damage_words(unit: &mut [u8], words: &Damage, full: bool, draw: &mut Draw) -> u64 {
+    let (first, step, count, width, _, lost) = *words;
+    let mut lost = u64::from(lost);
+    let mut all: u64 = 0;
+    for i in 0..count {
+        let is_lost = draw.below(u64::from(count - i)) < lost;
+        if is_lost {
+            lost -= 1;
+        }
+        let wrong = wrong_in(words, is_lost, full, draw);
+        let place = usize::from(first) + usize::from(i) * usize::from(step);
+        if place < 30_000 {
+            damage_word(unit, place, width, wrong, draw);
+        }
+        all = all.saturating_add(wrong);
+    }
+    all
+}
+
+// A unit of a kind, with as many wrong bits as may be in its sync, its identifier and its words, or with drawn numbers of them.
+// The last bit of the identifier is wrong.
+pub fn draw_unit(alloc: Global, kind: &Kind, full: bool, draw: &mut Draw) -> Drawn {
+    let line = line_of(kind, draw);
+    let symbol = b'0' + draw.below(4) as u8;
+    let mut sent = [0; 256];
+    let size = build(alloc, &[symbol], line.octets(), &mut sent);
+    let mut came = sent;
+    let mut wrong: u64 = 0;
+    for words in FRONT.iter().chain(kind.2) {
+        wrong = wrong.saturating_add(damage_words(&mut came, words, full, draw));
+    }
+    change_bit(&mut came, 111, None);
+    Drawn {
+        line,
+        symbol,
+        sent,
+        came,
+        size,
+        wrong,
+    }
+}

@@ -1,0 +1,72 @@
+-- A call that came to the end of its input wrote the output of all of it: what ends a call before that is a line that is refused.
+use Rattle.std.proofs.Common.{◌≡◌, ℕ, ◌+◌, ◌≤◌, Bool, true, false, List, [], ◌∷◌, ◌++◌, length, take, Option, Some, None, Result, Ok, Err, refl, ap, sym, ◌∙◌, subst}
+use Rattle.std.specs.Prelude.{IfSome}
+use Rattle.std.proofs.lemmas.List.{take_all}
+use Rattle.p25_io.specs.Octets.{Appended}
+use Rattle.p25_line.specs.declared.fault.LineFault.{LineFault}
+use Rattle.p25_text.specs.Grammar.{read_line_of}
+use Rattle.p25_script.specs.Script.{event_of}
+use Rattle.p25_work.specs.Lines.{lines_ending, lines_in, refusal_in}
+use Rattle.p25_work.proofs.RulesLaws.{refusal_in-err, refusal_in-nil, refusal_in-ok}
+use Rattle.p25_work.specs.Runs.{IsFinal, Worked, input_most}
+use Rattle.p25_work.specs.declared.ending.Ending.{Ending}
+use Rattle.p25_work.specs.declared.ending.Ending.TheVariants.{BadLine}
+use Rattle.p25_work.specs.declared.ending.WorkEnd.{WorkEnd}
+use Rattle.p25_work.specs.declared.ending.WorkEnd.TheVariants.{Ended, ReadFault, WriteFault, TooLong, Memory}
+use Rattle.p25_tool.specs.declared.command.Command.{Command}
+use Rattle.p25_tool.specs.declared.command.Command.TheVariants.{Show, Check, Repair, Bridge, Build, Stations}
+use Rattle.p25_tool.specs.Outcomes.{ending_outcome, work_outcome}
+use Rattle.p25_tool.specs.Outputs.{ending_by, output_by}
+use Rattle.p25_tool.specs.Runs.{command_future}
+use Rattle.p25_tool.specs.Written.{AllIsWritten, HasEnded}
+
+-- a line that is refused is no end of the input, whatever lines are read as
+module _ {E : Type 0} (read : List ℕ → Result E LineFault) where
+  refused-line : (number : ℕ) (lines : List (List ℕ)) (ending : Ending) → refusal_in read number lines ≡ Some ending → HasEnded (ending_outcome ending) → ⊥
+  refused-line number [] ending is end = let none : None ≡ Some ending = sym (refusal_in-nil read number) ∙ is in absurd (cc)
+  refused-line number (line ∷ lines) ending is end = by_reading (read line) refl (λ later. refused-line (number + 1) lines ending later end)
+    where
+      by_reading : (result : Result E LineFault) → read line ≡ result → (refusal_in read (number + 1) lines ≡ Some ending → ⊥) → ⊥
+      by_reading (Ok event) same none = none (sym (refusal_in-ok read number line lines event same) ∙ is)
+      by_reading (Err fault) same none =
+          let some : Some (BadLine number fault) ≡ Some ending = sym (refusal_in-err read number line lines fault same) ∙ is in
+          let refused : BadLine number fault ≡ ending = cc in
+          subst (λ (e : Ending). HasEnded (ending_outcome e)) (sym refused) end
+
+  lines-go_on : (lines : List (List ℕ)) (ending : Ending) → lines_ending false (refusal_in read 1 lines) ≡ Some ending → HasEnded (ending_outcome ending) → ⊥
+  lines-go_on lines ending is end = by_refusal (refusal_in read 1 lines) refl is
+    where
+      by_refusal : (refusal : Option Ending) → refusal_in read 1 lines ≡ refusal → lines_ending false refusal ≡ Some ending → ⊥
+      by_refusal None none same = cc same
+      by_refusal (Some other) some same = refused-line 1 lines ending (some ∙ same) end
+
+-- while more octets may come, nothing else ends a call
+not-before_end : (command : Command) (octets : List ℕ) (ending : Ending) → ending_by command false octets ≡ Some ending → HasEnded (ending_outcome ending) → ⊥
+not-before_end Show octets ending is end = cc is
+not-before_end Check octets ending is end = cc is
+not-before_end Repair octets ending is end = cc is
+not-before_end (Bridge nac status) octets ending is end = cc is
+not-before_end (Build status) octets ending is end = lines-go_on read_line_of (lines_in false [] octets) ending is end
+not-before_end Stations octets ending is end = lines-go_on event_of (lines_in false [] octets) ending is end
+
+module _ (command : Command) (input written : List ℕ) (last : Option (List ℕ)) where
+  wrote-all : (ending : Ending) (octets : List ℕ) → HasEnded (ending_outcome ending) → IsFinal (Some input) (Some written) last (command_future command) octets ending → last ≡ Some (written ++ output_by command true input)
+  wrote-all ending octets end final = by_end final.ended final.all final.ends final.wrote
+    where
+      by_end : (ended : Bool) → (ended ≡ true → (length octets ≤ input_most) × IfSome (Some input) (λ all. all ≡ octets)) → ending_by command ended (take input_most octets) ≡ Some ending
+          → Appended (Some written) (output_by command ended (take input_most octets)) last → last ≡ Some (written ++ output_by command true input)
+      by_end true all ends wrote =
+          let few : length octets ≤ input_most = (all refl).0 in
+          let same : input ≡ octets = (all refl).1 in
+          wrote.written ∙ ap (λ (xs : List ℕ). Some (written ++ output_by command true xs)) (take_all input_most octets few ∙ sym same)
+      by_end false all ends wrote = absurd (not-before_end command (take input_most octets) ending ends end)
+
+  by-work_end : (left : Option (List ℕ)) (end : WorkEnd) → HasEnded (work_outcome end) → Worked (Some input) left (Some written) last (command_future command) end → last ≡ Some (written ++ output_by command true input)
+  by-work_end left (Ended ending) is worked = wrote-all ending worked.octets is worked.meets
+  by-work_end left ReadFault is worked = absurd is
+  by-work_end left WriteFault is worked = absurd is
+  by-work_end left TooLong is worked = absurd is
+  by-work_end left Memory is worked = absurd is
+
+pub all-written : AllIsWritten
+all-written command input written left last outcome ran ended = by-work_end command input written last left ran.end (subst HasEnded ran.outcome_is ended) ran.worked

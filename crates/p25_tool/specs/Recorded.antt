@@ -1,0 +1,99 @@
+-- What the commands write of a recording of units that were sent one behind the other, each damaged within radius: each unit as it
+-- was sent, with the voice frames and the status symbols that came.
+use Rattle.std.specs.Prelude.{◌≡◌, ℕ, ◌<◌, Bool, true, false, List, [], ◌++◌, length, map, All, Some, ◌⊎◌}
+use Rattle.std.specs.List.{flat_map}
+use Rattle.p25_bits.specs.Bits.{octet_bits, part}
+use Rattle.p25_status.specs.declared.symbols.Status.{Status}
+use Rattle.p25_units.specs.Units.{image_of}
+use Rattle.p25_units.specs.declared.item.Item.{Item}
+use Rattle.p25_stream.specs.Arrivals.{Arrival, IsHidden, IsNearArrival, bits_arrived, frame_arrived, whole_of, wholes_of}
+use Rattle.p25_stream.specs.Items.{items_of}
+use Rattle.p25_stream.specs.Repeats.{bridged_frame}
+use Rattle.p25_work.specs.declared.ending.Ending.TheVariants.{Done}
+use Rattle.p25_tool.specs.declared.command.Command.TheVariants.{Show, Check, Repair, Bridge}
+use Rattle.p25_tool.specs.Outputs.{check_line, ending_by, output_by, shown, whole_octets}
+
+-- octets are a recording of units: their bits are those of the units, end to end, each within radius of its image
+pub record IsRecording (arrivals : List Arrival) (octets : List ℕ) : Type 0 where
+  pub near : All IsNearArrival arrivals
+  pub bits : octet_bits octets ≡ bits_arrived arrivals
+
+-- the images of units as received, end to end
+abbrev pub images_arrived : List Arrival → List Bool
+images_arrived arrivals = flat_map (λ arrival. image_of (frame_arrived arrival)) arrivals
+
+-- the same under another network access code, with one status symbol everywhere
+abbrev pub images_bridged : ℕ → Status → List Arrival → List Bool
+images_bridged nac status arrivals = flat_map (λ arrival. image_of (bridged_frame nac status (frame_arrived arrival))) arrivals
+
+-- a unit that came without damage, as its image
+abbrev pub undamaged : Arrival → Arrival
+undamaged arrival = record { frame = frame_arrived arrival; bits = image_of (frame_arrived arrival) }
+
+-- the octets that bits fill, with no bit left over
+pub record AreOctetsOf (bits : List Bool) (octets : List ℕ) : Type 0 where
+  pub octets_are : octets ≡ whole_octets bits
+  pub bits_are : octet_bits octets ≡ bits
+
+-- every list of units within radius is recorded: their bits fill whole octets
+abbrev pub UnitsAreRecorded : Type 0
+UnitsAreRecorded = (arrivals : List Arrival) → All IsNearArrival arrivals → IsRecording arrivals (whole_octets (bits_arrived arrivals))
+
+-- `show` writes one line for each unit: whole, as received, where it lies
+abbrev pub ShowsUnits : Type 0
+ShowsUnits =
+    (ended : Bool) (arrivals : List Arrival) (octets : List ℕ) → IsRecording arrivals octets
+    → output_by Show ended octets ≡ flat_map shown (wholes_of 0 arrivals)
+
+-- `check` writes only its last line, which counts the units, and finds no fault
+abbrev pub ChecksUnits : Type 0
+ChecksUnits =
+    (arrivals : List Arrival) (octets : List ℕ) → IsRecording arrivals octets
+    → (output_by Check true octets ≡ check_line (length arrivals) 0)
+    × (output_by Check false octets ≡ [])
+    × (ending_by Check true octets ≡ Some Done)
+
+-- `repair` writes the images of the units as received
+abbrev pub RepairsUnits : Type 0
+RepairsUnits =
+    (ended : Bool) (arrivals : List Arrival) (octets : List ℕ) → IsRecording arrivals octets
+    → AreOctetsOf (images_arrived arrivals) (output_by Repair ended octets)
+
+-- these are a recording of the same units without damage, so repairing it again changes nothing
+abbrev pub RepairedIsRecorded : Type 0
+RepairedIsRecorded =
+    (ended : Bool) (arrivals : List Arrival) (octets : List ℕ) → IsRecording arrivals octets
+    → IsRecording (map undamaged arrivals) (output_by Repair ended octets)
+    × (output_by Repair true (output_by Repair ended octets) ≡ output_by Repair ended octets)
+
+-- `bridge` writes their images under its network access code and with its status symbol
+abbrev pub BridgesUnits : Type 0
+BridgesUnits =
+    (ended : Bool) (nac : ℕ) (status : Status) (arrivals : List Arrival) (octets : List ℕ) → nac < 4096 → IsRecording arrivals octets
+    → AreOctetsOf (images_bridged nac status arrivals) (output_by (Bridge nac status) ended octets)
+
+-- lines that `show` writes have that of an item among them
+pub record HasLine (item : Item) (octets : List ℕ) : Type 0 where
+  pub before : List Item
+  pub after : List Item
+  pub among : octets ≡ flat_map shown before ++ (shown item ++ flat_map shown after)
+
+-- wherever a unit within radius stands among the bits of a recording, `show` writes its line: whole, as received, at its place;
+-- unless a unit that begins before it, whole, broken or cut, covers its first bit
+abbrev pub ShowsEachUnit : Type 0
+ShowsEachUnit =
+    (octets : List ℕ) (bits : List Bool) (arrival : Arrival) (more : List Bool) → IsNearArrival arrival
+    → octet_bits octets ≡ bits ++ (arrival.bits ++ more)
+    → IsHidden (length bits) (items_of 0 (octet_bits octets)) ⊎ HasLine (whole_of (length bits) arrival) (output_by Show true octets)
+
+-- and `repair` writes its image at its place
+abbrev pub RepairsEachUnit : Type 0
+RepairsEachUnit =
+    (octets : List ℕ) (bits : List Bool) (arrival : Arrival) (more : List Bool) → IsNearArrival arrival
+    → octet_bits octets ≡ bits ++ (arrival.bits ++ more)
+    → IsHidden (length bits) (items_of 0 (octet_bits octets))
+    ⊎ (part (length bits) (length arrival.bits) (octet_bits (output_by Repair true octets)) ≡ image_of (frame_arrived arrival))
+
+-- what `repair` writes of any recording has as many octets
+abbrev pub RepairKeepsLength : Type 0
+RepairKeepsLength = (octets : List ℕ) → length (output_by Repair true octets) ≡ length octets
