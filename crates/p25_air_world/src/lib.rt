@@ -18,6 +18,7 @@
 mod laws;
 mod mark;
 mod step;
+mod step_laws;
 mod world;
 
 pub use laws::{
@@ -26,4 +27,5 @@ pub use laws::{
 };
 pub use mark::Mark;
 pub use step::{Event, Step, StepKind, Way};
+pub use step_laws::steps_tell_lists;
 pub use world::World;

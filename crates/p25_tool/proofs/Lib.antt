@@ -4,3 +4,4 @@ pub mod RecordingsLaws
 pub mod WordsLaws
 pub mod CommandsLaws
 pub mod RunsLaws
+pub mod ScriptsLaws
