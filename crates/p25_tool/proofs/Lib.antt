@@ -5,3 +5,6 @@ pub mod WordsLaws
 pub mod CommandsLaws
 pub mod RunsLaws
 pub mod ScriptsLaws
+pub mod DuplexReadSteps
+pub mod DuplexLineLaws
+pub mod DuplexCommandLaws
