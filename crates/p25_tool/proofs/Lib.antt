@@ -10,3 +10,6 @@ pub mod RecordedLaws
 pub mod BuiltLaws
 pub mod FoundLaws
 pub mod WrittenLaws
+pub mod DuplexReadSteps
+pub mod DuplexLineLaws
+pub mod DuplexCommandLaws

@@ -2,10 +2,12 @@ pub mod Words
 pub mod Outcomes
 pub mod Reports
 pub mod Recordings
+pub mod DuplexLines
 pub mod Outputs
 pub mod Commands
 pub mod Buildings
 pub mod StationRules
+pub mod DuplexRules
 pub mod Scripts
 pub mod LongLines
 pub mod Runs

@@ -6,10 +6,13 @@ use Rattle.p25_line.specs.Words.{words_or_fault}
 use Rattle.p25_text.specs.Grammar.{read_line_of}
 use Rattle.p25_air_world.specs.WorldState.{WorldState}
 use Rattle.p25_script.specs.Script.{event_of}
+use Rattle.p25_duplex.specs.DuplexState.{DuplexState}
 use Rattle.p25_work.specs.LineRules.{answer_from}
 use Rattle.p25_work.proofs.LinesLaws.{is_more}
 use Rattle.p25_tool.specs.declared.build.Build.{Build}
 use Rattle.p25_tool.specs.Buildings.{build_rules}
+use Rattle.p25_tool.specs.DuplexLines.{duplex_event_of}
+use Rattle.p25_tool.specs.DuplexRules.{duplex_rules, told_duplex}
 use Rattle.p25_tool.specs.Outputs.{image_octets}
 use Rattle.p25_tool.specs.StationRules.{station_rules, told_step}
 
@@ -26,3 +29,10 @@ event_long line long = rw (is_more 8192 (length line) long) refl
 
 pub station_long : (world : WorldState) (line : List ℕ) → 8192 < length line → station_rules.answer world line ≡ Err Long
 station_long world line long = ap (answer_from told_step world) (event_long line long)
+
+duplex_event_long : (line : List ℕ) → 8192 < length line → duplex_event_of line ≡ Err Long
+unfolding duplex_event_of words_or_fault
+duplex_event_long line long = rw (is_more 8192 (length line) long) refl
+
+pub duplex_long : (d : DuplexState) (line : List ℕ) → 8192 < length line → duplex_rules.answer d line ≡ Err Long
+duplex_long d line long = ap (answer_from told_duplex d) (duplex_event_long line long)

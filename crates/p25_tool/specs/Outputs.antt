@@ -23,9 +23,15 @@ use Rattle.p25_air_world.specs.WorldState.{WorldState, first_world}
 use Rattle.p25_air_world.specs.declared.step.Step.{Step}
 use Rattle.p25_script.specs.Script.{event_of}
 use Rattle.p25_script.specs.StepTexts.{closing_text_of, step_text_of}
+use Rattle.p25_duplex.specs.declared.side.Side.TheVariants.{A, B}
+use Rattle.p25_duplex.specs.declared.event.DuplexStep.{DuplexStep}
+use Rattle.p25_duplex.specs.DuplexState.{DuplexState, first_duplex}
+use Rattle.p25_duplex.specs.DuplexRuns.{duplex_run, duplex_steps}
+use Rattle.p25_duplex.specs.DuplexTexts.{duplex_closing_of, duplex_step_text_of}
+use Rattle.p25_tool.specs.DuplexLines.{duplex_event_of}
 use Rattle.p25_work.specs.Lines.{closing_by, lines_ending, lines_in, read_of, refusal_in, texts_before}
 use Rattle.p25_tool.specs.declared.command.Command.{Command}
-use Rattle.p25_tool.specs.declared.command.Command.TheVariants.{Show, Check, Repair, Bridge, Build, Stations, Calls}
+use Rattle.p25_tool.specs.declared.command.Command.TheVariants.{Show, Check, Repair, Bridge, Build, Stations, Calls, Duplex}
 
 -- the octets that bits fill, most significant bit first
 abbrev pub whole_octets : List Bool → List ℕ
@@ -84,6 +90,13 @@ step_line step = step_text_of step ++ 10 ∷ []
 abbrev pub closing_line : WorldState → List ℕ
 closing_line world = closing_text_of world ++ 10 ∷ []
 
+-- the same of a step of both stations, and of what closes their run: a line of each side, and one with the number of false passes
+abbrev pub duplex_step_line : DuplexStep → List ℕ
+duplex_step_line step = duplex_step_text_of step ++ 10 ∷ []
+
+unfoldable pub duplex_closing_lines : DuplexState → List ℕ
+duplex_closing_lines d = duplex_closing_of A d ++ 10 ∷ duplex_closing_of B d ++ codes "\nfalse=" ++ decimal d.false_passes ++ 10 ∷ []
+
 -- what a command writes for the octets of its input, whether they are all or more may come
 abbrev pub output_by : Command → Bool → List ℕ → List ℕ
 output_by Show ended octets = flat_map shown (items_by ended 0 (octet_bits octets))
@@ -100,6 +113,11 @@ output_by Stations ended octets =
     flat_map step_line (steps_of first_world events) ++ closing_by ended (refusal_in event_of 1 lines) (closing_line (world_run first_world events))
 output_by Calls ended octets =
     let calls = calls_by ended (items_by ended 0 (octet_bits octets)) in flat_map call_line calls ++ cond ended (calls_line (length calls)) []
+output_by Duplex ended octets =
+    let lines = lines_in ended [] octets in
+    let events = read_of duplex_event_of lines in
+    flat_map duplex_step_line (duplex_steps first_duplex events)
+    ++ closing_by ended (refusal_in duplex_event_of 1 lines) (duplex_closing_lines (duplex_run first_duplex events))
 
 -- how a call of a command ends by the octets of its input, whether they are all or more may come
 abbrev pub ending_by : Command → Bool → List ℕ → Option Ending
@@ -110,13 +128,16 @@ ending_by (Bridge nac status) ended octets = cond ended (Some Done) None
 ending_by (Build status) ended octets = lines_ending ended (refusal_in read_line_of 1 (lines_in ended [] octets))
 ending_by Stations ended octets = lines_ending ended (refusal_in event_of 1 (lines_in ended [] octets))
 ending_by Calls ended octets = cond ended (Some Done) None
+ending_by Duplex ended octets = lines_ending ended (refusal_in duplex_event_of 1 (lines_in ended [] octets))
 
 -- behind which texts of a command memory may be wanting, by the octets of its input: before each step of a script
 abbrev pub pauses_by : Command → Bool → List ℕ → List (List ℕ)
 pauses_by Stations ended octets = texts_before (map step_line (steps_of first_world (read_of event_of (lines_in ended [] octets))))
+pauses_by Duplex ended octets = texts_before (map duplex_step_line (duplex_steps first_duplex (read_of duplex_event_of (lines_in ended [] octets))))
 pauses_by command ended octets = []
 
 -- the commands that take memory
 abbrev pub CanWantMemory : Command → Type 0
 CanWantMemory Stations = Unit {0}
+CanWantMemory Duplex = Unit {0}
 CanWantMemory command = ⊥

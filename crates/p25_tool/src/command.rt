@@ -17,4 +17,6 @@ pub enum Command {
     Build { status: Status },
     /// The steps that the lines of a script are, one a line, and a last line that tells of the world behind them.
     Stations,
+    /// The steps of both stations that the lines of a script are, one a line, and last lines that tell of the world behind them.
+    Duplex,
 }

@@ -14,6 +14,7 @@ ghost use Rattle.p25_air_world.specs.declared.step.Event.{Event as event_type};
 
 use super::build::Build;
 use super::command::Command;
+use super::duplex::Duplex;
 use super::outcome::{Outcome, outcome_of};
 use super::recording::Recording;
 use super::report::Report;
@@ -32,8 +33,8 @@ use std::alloc::Global;
 /// fault or an input that is too long the sink holds what the octets before decide, in whole octets and without a last line
 /// of a check; after a refused line what the lines before ask for; and after a write fault a beginning of the output.
 ///
-/// `stations` alone takes memory, for each line that is accepted, before its step is made. Where there is not enough the outcome
-/// is `Memory`, and the sink holds the steps before, without the closing line.
+/// `stations` and `duplex` alone take memory, for each line that is accepted, before its step is made. Where there is not enough
+/// the outcome is `Memory`, and the sink holds the steps before, without the closing lines.
 pub fn run<S: Source, K: Sink>(
     alloc: Global,
     words: &Words,
@@ -95,6 +96,7 @@ fn run_command<S: Source, K: Sink>(
         Command::Build { status } => run_lines(Build::new(status), source, sink),
         Command::Stations => run_lines(Stations::new(alloc), source, sink),
         Command::Calls => run_report(Calls::new(), source, sink),
+        Command::Duplex => run_lines(Duplex::new(alloc), source, sink),
     }
 }
 

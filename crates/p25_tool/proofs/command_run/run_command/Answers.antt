@@ -6,9 +6,11 @@ use Rattle.p25_work.specs.LineRules.{LineRules}
 use Rattle.p25_work.specs.LineWorks.{first_line, line_future}
 use Rattle.p25_tool.specs.Buildings.{build_rules}
 use Rattle.p25_tool.specs.StationRules.{station_rules}
+use Rattle.p25_tool.specs.DuplexRules.{duplex_rules}
 use Rattle.p25_tool.specs.Recordings.{fresh, recording_future}
 use Rattle.p25_tool.specs.Runs.{command_future}
 use Rattle.p25_tool.proofs.CommandsLaws.{AreAlike, bridge-alike, build-alike, check-alike, repair-alike, show-alike, stations-alike, calls-alike}
+use Rattle.p25_tool.proofs.DuplexCommandLaws.{duplex-alike}
 use Rattle.p25_tool.proofs.RunsLaws.{worked-alike, all_written-alike}
 use Rattle.p25_tool.proofs.command_run.run_command.Goals as goal
 
@@ -74,5 +76,15 @@ returns-in-Stations-clause-quiet g c =
 
 pub returns-in-Calls-clause-worked : goal.returns-in-Calls-clause-worked
 returns-in-Calls-clause-worked g c = worked-alike _ _ _ _ _ _ _ (alike-to _ _ _ c.in-Calls.is (calls-alike _ c.new-in-Calls.ensures)) c.run_report-in-Calls.ensures.worked
+
 pub returns-in-Calls-clause-quiet : goal.returns-in-Calls-clause-quiet
 returns-in-Calls-clause-quiet g c = λ input told none. c.run_report-in-Calls.ensures.quiet input told (all_written-alike _ _ (alike-to _ _ _ c.in-Calls.is (calls-alike _ c.new-in-Calls.ensures)) input none)
+
+pub returns-in-Duplex-clause-worked : goal.returns-in-Duplex-clause-worked
+returns-in-Duplex-clause-worked g c =
+    worked-alike _ _ _ _ _ _ _ (lines-alike duplex_rules _ _ _ _ c.new-in-Duplex.ensures c.in-Duplex.is duplex-alike) c.run_lines-in-Duplex.ensures.worked
+
+pub returns-in-Duplex-clause-quiet : goal.returns-in-Duplex-clause-quiet
+returns-in-Duplex-clause-quiet g c =
+    λ input told none.
+    c.run_lines-in-Duplex.ensures.quiet input told (all_written-alike _ _ (lines-alike duplex_rules _ _ _ _ c.new-in-Duplex.ensures c.in-Duplex.is duplex-alike) input none)

@@ -1,0 +1,88 @@
+//! The work of `duplex`: each line of the input as the event of both stations that it tells of.
+
+ghost use Rattle.std.specs.Prelude.{◌≡◌, ◌≤◌, length};
+ghost use Rattle.p25_duplex.specs.DuplexState.{first_duplex};
+ghost use Rattle.p25_tool.specs.Outputs.{duplex_closing_lines, duplex_step_line};
+
+use super::duplex_lines::read_duplex_event;
+use p25_duplex::{DuplexStep, DuplexWorld, Side, duplex_closing, duplex_step_text};
+use p25_line::Line;
+use p25_script::put_count;
+use p25_work::{LineMachine, LineRefusal};
+use std::alloc::Global;
+use std::marker::Model;
+
+// The world in which the events of a script of both stations happen.
+#[derive(Drop)]
+pub(crate) struct Duplex {
+    world: DuplexWorld,
+}
+
+impl Model for Duplex {
+    ghost use Rattle.p25_duplex.specs.DuplexState.{DuplexState};
+
+    ghost Value = { DuplexState };
+
+    ghost view = { λ d. d.world.state };
+}
+
+impl Duplex {
+    // Before the first line. It takes no memory.
+    pub(crate) fn new(alloc: Global) -> Duplex
+        ensures { result ≡ first_duplex }
+    {
+        Duplex {
+            world: DuplexWorld::new(alloc),
+        }
+    }
+}
+
+impl LineMachine for Duplex {
+    ghost use Rattle.p25_tool.specs.DuplexRules.{duplex_rules};
+    ghost use Rattle.p25_tool.specs.LongLines.{duplex_long};
+
+    ghost rules = { duplex_rules };
+
+    ghost long = { duplex_long };
+
+    fn take(&mut self, line: &[u8], out: &mut Line, behind: &mut Line) -> Result<(), LineRefusal> {
+        // A step's text is one piece.
+        let _ = behind.len();
+        match read_duplex_event(line) {
+            Ok(event) => {
+                let Ok(step) = self.world.step(&event) else {
+                    return Err(LineRefusal::Memory);
+                };
+                put_duplex_line(&step, out);
+                Ok(())
+            }
+            Err(fault) => Err(LineRefusal::Fault(fault)),
+        }
+    }
+
+    fn close(&self, out: &mut Line) {
+        put_closing_lines(&self.world, out);
+    }
+}
+
+// Sets `out` to the text of a step and the end of its line.
+fn put_duplex_line(step: &DuplexStep, out: &mut Line)
+    ensures { out.new ≡ duplex_step_line step.now }
+{
+    duplex_step_text(step, out);
+    out.put(b"\n");
+}
+
+// Sets `out` to the lines that close a run: one of each side, and one with the number of false passes.
+#[tactic(auto, unfolding(crate::specs::Outputs::duplex_closing_lines))]
+fn put_closing_lines(world: &DuplexWorld, out: &mut Line)
+    ensures { out.new ≡ duplex_closing_lines world.now.state }
+{
+    let mut other = Line::new();
+    duplex_closing(world, Side::B, &mut other);
+    duplex_closing(world, Side::A, out);
+    out.put(b"\n");
+    out.put(other.octets());
+    put_count(b"\nfalse=", world.false_passes(), out);
+    out.put(b"\n");
+}
