@@ -1,6 +1,6 @@
 -- What a step of the inner world is in a clean run, by what is outstanding before it. By the answers of the stations, each event
 -- in turn.
-use Rattle.std.proofs.Common.{◌≡◌, ℕ, ◌+◌, ◌%◌, inl, inr, Bool, true, false, List, [], ◌∷◌, ◌++◌, length, Option, Some, None, refl, ap, sym, subst, ◌∙◌, arith, length-append}
+use Rattle.std.proofs.Common.{◌≡◌, ℕ, ◌+◌, ◌%◌, inl, inr, Bool, false, List, [], ◌∷◌, ◌++◌, length, Option, Some, None, refl, ap, sym, subst, ◌∙◌, arith, length-append}
 use Rattle.p25_packet_blocks.specs.declared.packet.Packet.{Packet}
 use Rattle.p25_stations.specs.SenderState.{Sending}
 use Rattle.p25_stations.specs.ReceiverState.{Receiving}
@@ -16,7 +16,7 @@ use Rattle.p25_stations.specs.declared.sender.SenderHeard.{SenderHeard}
 use Rattle.p25_stations.specs.declared.sender.SenderHeard.TheVariants.{Acknowledged as HeardAck, Opened as SenderOpened, Retry, Repeat, Ignored as SenderIgnored, Down as DownAtAnswer}
 use Rattle.p25_stations.specs.declared.receiver.Heard.{Heard as HeardAnswer}
 use Rattle.p25_stations.specs.declared.receiver.Heard.TheVariants.{Delivered as HeardDelivered, Opened as ReceiverOpened, Again, Kept, RefusedCrc, RefusedOrder, Ignored as ReceiverIgnored}
-use Rattle.p25_world.specs.Link.{Link, next_session, Happening, Time_up, Opening_again, Data_heard, Answer_heard, happens, link_run}
+use Rattle.p25_world.specs.Link.{Link, next_session, Time_up, Opening_again, Data_heard, Answer_heard, happens, link_run}
 use Rattle.p25_world.specs.Link.{after_timeout as link_timeout, after_reopening as link_reopening, after_data as link_data, after_answer as link_answer}
 use Rattle.p25_world.specs.Clean.{IsHeardOf, IsClean}
 use Rattle.p25_world.proofs.SenderLaws.{Resends, resent-of, timeout-of, reopen-cases, reopen-up}

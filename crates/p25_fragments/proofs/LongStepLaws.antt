@@ -1,6 +1,6 @@
 -- Each step of a clean run keeps the long messages matched to the link, and refuses no part. By what the step of the inner world
 -- is, and by what was outstanding.
-use Rattle.std.proofs.Common.{◌≡◌, ◌≢◌, ℕ, suc, ◌+◌, ◌<◌, ◌≤◌, ◌⊎◌, inl, inr, Bool, true, false, List, [], ◌∷◌, ◌++◌, length, map, Option, Some, None, refl, ap, ap₂, sym, subst, ◌∙◌, arith, length-append, append_assoc, append-nil}
+use Rattle.std.proofs.Common.{◌≡◌, ◌≢◌, ℕ, suc, ◌+◌, ◌<◌, ◌⊎◌, inl, inr, Bool, true, false, List, [], ◌∷◌, ◌++◌, length, map, Option, Some, None, refl, ap, ap₂, sym, subst, ◌∙◌, arith, length-append, append_assoc}
 use Rattle.std.specs.Prelude.{nat_lt}
 use Rattle.std.proofs.lemmas.Bool.{cond-true, cond-false}
 use Rattle.std.proofs.lemmas.Bool.Decides.{nat_tests}
@@ -11,11 +11,9 @@ use Rattle.p25_world.proofs.PhaseLaws.{orderly-more}
 use Rattle.p25_air_world.specs.declared.step.StepKind.{StepKind}
 use Rattle.p25_air_world.specs.declared.step.StepKind.TheVariants.{Acknowledged, Delivered, SynHeard}
 use Rattle.p25_air_world.specs.declared.step.Step.{Step}
-use Rattle.p25_air_world.specs.declared.step.Event.TheVariants.{Send}
 use Rattle.p25_air_world.specs.declared.mark.Mark.{Mark}
 use Rattle.p25_air_world.specs.WorldState.{WorldState}
-use Rattle.p25_air_world.specs.Steps.{world_step}
-use Rattle.p25_air_world.proofs.WorldOfLaws.{sent_in, delivered_in, acknowledged_in, mark_after, marks_after, first_mark, world_of, session-ends}
+use Rattle.p25_air_world.proofs.WorldOfLaws.{delivered_in, mark_after, marks_after, first_mark, world_of, session-ends}
 use Rattle.p25_fragments.specs.declared.long_mark.LongMark.{LongMark}
 use Rattle.p25_fragments.specs.declared.outgoing.Outgoing.{Outgoing}
 use Rattle.p25_fragments.specs.declared.joiner.Joined.{Joined}
@@ -23,7 +21,7 @@ use Rattle.p25_fragments.specs.declared.joiner.Joined.TheVariants.{Whole as Join
 use Rattle.p25_fragments.specs.declared.long_sender.Following.{Following}
 use Rattle.p25_fragments.specs.declared.long_sender.Following.TheVariants.{Part as PartFollows, Finished as AllFinished}
 use Rattle.p25_fragments.specs.declared.long_step.Then.{Then}
-use Rattle.p25_fragments.specs.declared.long_step.Then.TheVariants.{Plain, Part, Whole, Refused, Next, Finished}
+use Rattle.p25_fragments.specs.declared.long_step.Then.TheVariants.{Plain, Refused}
 use Rattle.p25_fragments.specs.declared.long_step.LongStep.{LongStep}
 use Rattle.p25_fragments.specs.LongMessages.{part_count, part_of}
 use Rattle.p25_fragments.specs.JoiningState.{Joining, first_joining}
@@ -37,8 +35,8 @@ use Rattle.p25_fragments.specs.LongSteps.{next_offered, followed, then_of, after
 use Rattle.p25_fragments.proofs.JoinLaws.{joined_at, join-inner, join-last}
 use Rattle.p25_fragments.proofs.HearingLaws.{IsNoMessage}
 use Rattle.p25_fragments.proofs.InnerStepLaws.{IsPlainKind, IsSameLink, IsWorldAt, InnerStep, step_still, step_ended, step_delivered, step_syn, step_acknowledged, step_opened}
-use Rattle.p25_fragments.proofs.MatchLaws.{Came, not_yet, came_inner, came_last, IsIdleLong, IsSendingLong, IsOpeningLong, MatchesBy, Matches, matches-at, matches-from, mark_of, as_world, IsLongOf, Follows, present-orderly}
-use Rattle.p25_fragments.proofs.OfferedLaws.{OfferedTo, offered-to}
+use Rattle.p25_fragments.proofs.MatchLaws.{Came, not_yet, came_inner, came_last, IsSendingLong, IsOpeningLong, MatchesBy, Matches, matches-at, matches-from, mark_of, as_world, IsLongOf, Follows, present-orderly}
+use Rattle.p25_fragments.proofs.OfferedLaws.{offered-to}
 
 -- a step after which the long messages match, and in which no part is refused
 pub record FollowsStep (y : LongState × LongStep) : Type 0 where

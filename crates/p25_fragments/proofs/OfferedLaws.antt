@@ -1,12 +1,10 @@
 -- A part that is offered where nothing is outstanding is outstanding then, and has not arrived. By the rules of an offer.
-use Rattle.std.proofs.Common.{◌≡◌, ℕ, ◌+◌, ◌*◌, ◌<◌, ◌≤◌, false, List, [], ◌∷◌, ◌++◌, length, drop, refl, ap, sym, subst, ◌∙◌, arith}
+use Rattle.std.proofs.Common.{◌≡◌, ℕ, ◌*◌, ◌≤◌, false, List, length, drop, refl, ap, sym, subst, ◌∙◌, arith}
 use Rattle.std.proofs.lemmas.List.{length-take}
-use Rattle.p25_stations.specs.MessageBlocks.{block_count}
 use Rattle.p25_stations.specs.SentPackets.{message_packet}
 use Rattle.p25_stations.specs.SenderState.{Sending}
 use Rattle.p25_stations.specs.SenderRules.{offered}
-use Rattle.p25_stations.specs.declared.sender_state.Outstanding.{Outstanding}
-use Rattle.p25_stations.specs.declared.sender_state.Outstanding.TheVariants.{Nothing, Message, Opening}
+use Rattle.p25_stations.specs.declared.sender_state.Outstanding.TheVariants.{Nothing, Message}
 use Rattle.p25_stations.specs.declared.sender.Offer.{Offer}
 use Rattle.p25_stations.specs.declared.sender.Offer.TheVariants.{Taken}
 use Rattle.p25_world.specs.Link.{Link, Offering, happens, link_run}
