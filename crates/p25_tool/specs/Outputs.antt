@@ -20,9 +20,13 @@ use Rattle.p25_air_world.specs.WorldState.{WorldState, first_world}
 use Rattle.p25_air_world.specs.declared.step.Step.{Step}
 use Rattle.p25_script.specs.Script.{event_of}
 use Rattle.p25_script.specs.StepTexts.{closing_text_of, step_text_of}
+use Rattle.p25_fragments.specs.LongState.{LongState, first_long}
+use Rattle.p25_fragments.specs.LongRuns.{long_run, long_steps_of}
+use Rattle.p25_long_script.specs.LongScript.{long_event_of}
+use Rattle.p25_long_script.specs.LongTexts.{long_closing_text_of, long_step_text_of}
 use Rattle.p25_work.specs.Lines.{closing_by, lines_ending, lines_in, read_of, refusal_in, texts_before}
 use Rattle.p25_tool.specs.declared.command.Command.{Command}
-use Rattle.p25_tool.specs.declared.command.Command.TheVariants.{Show, Check, Repair, Bridge, Build, Stations}
+use Rattle.p25_tool.specs.declared.command.Command.TheVariants.{Show, Check, Repair, Bridge, Build, Stations, Fragments}
 
 -- the octets that bits fill, most significant bit first
 abbrev pub whole_octets : List Bool → List ℕ
@@ -73,6 +77,9 @@ step_line step = step_text_of step ++ 10 ∷ []
 abbrev pub closing_line : WorldState → List ℕ
 closing_line world = closing_text_of world ++ 10 ∷ []
 
+abbrev pub long_closing_line : LongState → List ℕ
+long_closing_line world = long_closing_text_of world ++ 10 ∷ []
+
 -- what a command writes for the octets of its input, whether they are all or more may come
 abbrev pub output_by : Command → Bool → List ℕ → List ℕ
 output_by Show ended octets = flat_map shown (items_by ended 0 (octet_bits octets))
@@ -87,6 +94,11 @@ output_by Stations ended octets =
     let lines = lines_in ended [] octets in
     let events = read_of event_of lines in
     flat_map step_line (steps_of first_world events) ++ closing_by ended (refusal_in event_of 1 lines) (closing_line (world_run first_world events))
+output_by Fragments ended octets =
+    let lines = lines_in ended [] octets in
+    let events = read_of long_event_of lines in
+    flat_map long_step_text_of (long_steps_of first_long events)
+    ++ closing_by ended (refusal_in long_event_of 1 lines) (long_closing_line (long_run first_long events))
 
 -- how a call of a command ends by the octets of its input, whether they are all or more may come
 abbrev pub ending_by : Command → Bool → List ℕ → Option Ending
@@ -96,13 +108,17 @@ ending_by Repair ended octets = cond ended (Some Done) None
 ending_by (Bridge nac status) ended octets = cond ended (Some Done) None
 ending_by (Build status) ended octets = lines_ending ended (refusal_in read_line_of 1 (lines_in ended [] octets))
 ending_by Stations ended octets = lines_ending ended (refusal_in event_of 1 (lines_in ended [] octets))
+ending_by Fragments ended octets = lines_ending ended (refusal_in long_event_of 1 (lines_in ended [] octets))
 
 -- behind which texts of a command memory may be wanting, by the octets of its input: before each step of a script
 abbrev pub pauses_by : Command → Bool → List ℕ → List (List ℕ)
 pauses_by Stations ended octets = texts_before (map step_line (steps_of first_world (read_of event_of (lines_in ended [] octets))))
+pauses_by Fragments ended octets =
+    texts_before (map long_step_text_of (long_steps_of first_long (read_of long_event_of (lines_in ended [] octets))))
 pauses_by command ended octets = []
 
 -- the commands that take memory
 abbrev pub CanWantMemory : Command → Type 0
 CanWantMemory Stations = Unit {0}
+CanWantMemory Fragments = Unit {0}
 CanWantMemory command = ⊥

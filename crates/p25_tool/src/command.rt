@@ -15,4 +15,6 @@ pub enum Command {
     Build { status: Status },
     /// The steps that the lines of a script are, one a line, and a last line that tells of the world behind them.
     Stations,
+    /// The same for lines that tell of long messages: one or two lines a step.
+    Fragments,
 }

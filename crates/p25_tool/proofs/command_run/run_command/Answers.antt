@@ -6,9 +6,10 @@ use Rattle.p25_work.specs.LineRules.{LineRules}
 use Rattle.p25_work.specs.LineWorks.{first_line, line_future}
 use Rattle.p25_tool.specs.Buildings.{build_rules}
 use Rattle.p25_tool.specs.StationRules.{station_rules}
+use Rattle.p25_tool.specs.FragmentRules.{fragment_rules}
 use Rattle.p25_tool.specs.Recordings.{fresh, recording_future}
 use Rattle.p25_tool.specs.Runs.{command_future}
-use Rattle.p25_tool.proofs.CommandsLaws.{AreAlike, bridge-alike, build-alike, check-alike, repair-alike, show-alike, stations-alike}
+use Rattle.p25_tool.proofs.CommandsLaws.{AreAlike, bridge-alike, build-alike, check-alike, fragments-alike, repair-alike, show-alike, stations-alike}
 use Rattle.p25_tool.proofs.RunsLaws.{worked-alike, all_written-alike}
 use Rattle.p25_tool.proofs.command_run.run_command.Goals as goal
 
@@ -71,3 +72,12 @@ pub returns-in-Stations-clause-quiet : goal.returns-in-Stations-clause-quiet
 returns-in-Stations-clause-quiet g c =
     λ input told none.
     c.run_lines-in-Stations.ensures.quiet input told (all_written-alike _ _ (lines-alike station_rules _ _ _ _ c.new-in-Stations.ensures c.in-Stations.is stations-alike) input none)
+
+pub returns-in-Fragments-clause-worked : goal.returns-in-Fragments-clause-worked
+returns-in-Fragments-clause-worked g c =
+    worked-alike _ _ _ _ _ _ _ (lines-alike fragment_rules _ _ _ _ c.new-in-Fragments.ensures c.in-Fragments.is fragments-alike) c.run_lines-in-Fragments.ensures.worked
+
+pub returns-in-Fragments-clause-quiet : goal.returns-in-Fragments-clause-quiet
+returns-in-Fragments-clause-quiet g c =
+    λ input told none.
+    c.run_lines-in-Fragments.ensures.quiet input told (all_written-alike _ _ (lines-alike fragment_rules _ _ _ _ c.new-in-Fragments.ensures c.in-Fragments.is fragments-alike) input none)
