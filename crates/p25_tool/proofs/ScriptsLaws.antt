@@ -91,11 +91,11 @@ by_length true x y is = cc is
 by_length false x y is = refl
 
 -- a command whose output and ending are made of what its lines are read as
-record IsScripted {E : Type 0} (read : Reading E) (command : Command) (text : List E → Bool → Option Ending → List ℕ) : Type 0 where
+record IsLineCommand {E : Type 0} (read : Reading E) (command : Command) (text : List E → Bool → Option Ending → List ℕ) : Type 0 where
   pub writes : (ended : Bool) (octets : List ℕ) → output_by command ended octets ≡ text (read_of read (lines_in ended [] octets)) ended (refusal_in read 1 (lines_in ended [] octets))
   pub ends : (ended : Bool) (octets : List ℕ) → ending_by command ended octets ≡ lines_ending ended (refusal_in read 1 (lines_in ended [] octets))
 
-module _ {E : Type 0} (read : Reading E) (command : Command) (text : List E → Bool → Option Ending → List ℕ) (is : IsScripted read command text) (told left first last : Option (List ℕ)) (input : List ℕ) (events : List E)
+module _ {E : Type 0} (read : Reading E) (command : Command) (text : List E → Bool → Option Ending → List ℕ) (is : IsLineCommand read command text) (told left first last : Option (List ℕ)) (input : List ℕ) (events : List E)
     (few : length input ≤ input_most) (lines_are : map read (lines_in true [] input) ≡ map (λ e. Ok e) events) (is_told : told ≡ Some input) where
   are : AreReadAs read 1 (lines_in true [] input) events
   are = read-as read (lines_in true [] input) events 1 lines_are
@@ -146,7 +146,7 @@ are-events (line ∷ lines) (event ∷ events) same =
 stations-text : List Event → Bool → Option Ending → List ℕ
 stations-text events ended refusal = flat_map step_line (steps_of first_world events) ++ closing_by ended refusal (closing_line (world_run first_world events))
 
-stations-scripted : IsScripted event_of Stations stations-text
+stations-scripted : IsLineCommand event_of Stations stations-text
 unfolding stations-text
 stations-scripted = record { writes = λ ended octets. refl; ends = λ ended octets. refl }
 
@@ -177,7 +177,7 @@ are-long_events (line ∷ lines) (event ∷ events) same =
 fragments-text : List LongEvent → Bool → Option Ending → List ℕ
 fragments-text events ended refusal = flat_map long_step_text_of (long_steps_of first_long events) ++ closing_by ended refusal (long_closing_line (long_run first_long events))
 
-fragments-scripted : IsScripted long_event_of Fragments fragments-text
+fragments-scripted : IsLineCommand long_event_of Fragments fragments-text
 unfolding fragments-text
 fragments-scripted = record { writes = λ ended octets. refl; ends = λ ended octets. refl }
 
