@@ -1,31 +1,56 @@
 -- What the work of each command writes from the first octet on is what the command is defined to write.
-use Rattle.std.proofs.Common.{◌≡◌, ℕ, ◌+◌, Bool, true, false, cond, List, [], ◌++◌, Some, refl, ap, ap₂, ◌∙◌, arith}
-use Rattle.std.specs.List.{flat_map}
+use Rattle.std.proofs.Common.{◌≡◌, ℕ, ◌+◌, Bool, true, false, cond, List, [], ◌∷◌, ◌++◌, map, Option, Some, None, refl, ap, ap₂, ◌∙◌, arith, append-nil}
+use Rattle.std.specs.List.{concat, flat_map}
 use Rattle.p25_bits.specs.Bits.{octet_bits}
 use Rattle.p25_status.specs.declared.symbols.Status.{Status}
 use Rattle.p25_stream.specs.Items.{items_by}
+use Rattle.p25_text.specs.Grammar.{read_line_of}
+use Rattle.p25_units.specs.UnitParts.{UnitParts}
+use Rattle.p25_work.specs.declared.ending.Ending.{Ending}
 use Rattle.p25_work.specs.Futures.{Future}
-use Rattle.p25_tool.specs.declared.command.Command.TheVariants.{Show as ShowIt, Check as CheckIt, Repair as RepairIt, Bridge as BridgeIt, Build as BuildIt}
+use Rattle.p25_work.specs.Lines.{closing_by, lines_in, read_of, refusal_in, texts_before}
+use Rattle.p25_work.specs.LineRules.{machine_behind, texts_of}
+use Rattle.p25_work.specs.LineWorks.{first_line, line_future}
+use Rattle.p25_work.proofs.RulesLaws.{first_line-ends, first_line-pauses, first_line-writes}
+use Rattle.p25_tool.specs.declared.build.Build.{Build}
+use Rattle.p25_tool.specs.declared.command.Command.TheVariants.{Show as ShowIt, Check as CheckIt, Repair as RepairIt, Bridge as BridgeIt, Build as BuildIt, Stations as StationsIt, Fragments as FragmentsIt}
 use Rattle.p25_tool.specs.declared.reports.show.Show.{Show}
 use Rattle.p25_tool.specs.declared.reports.check.Check.{Check}
 use Rattle.p25_tool.specs.declared.reports.changed.Change.TheVariants.{Repaired, Bridged}
-use Rattle.p25_tool.specs.Buildings.{building_future, first_line}
+use Rattle.p25_tool.specs.Buildings.{build_rules}
+use Rattle.p25_air_world.specs.Runs.{steps_of, world_run}
+use Rattle.p25_air_world.specs.Steps.{world_step}
+use Rattle.p25_air_world.specs.WorldState.{WorldState, first_world}
+use Rattle.p25_air_world.specs.declared.step.Event.{Event}
+use Rattle.p25_air_world.specs.declared.step.Step.{Step}
+use Rattle.p25_script.specs.Script.{event_of}
+use Rattle.p25_tool.specs.StationRules.{station_rules, told_step}
+use Rattle.p25_fragments.specs.LongState.{LongState, first_long}
+use Rattle.p25_fragments.specs.LongSteps.{long_step}
+use Rattle.p25_fragments.specs.LongRuns.{long_run, long_steps_of}
+use Rattle.p25_fragments.specs.declared.long_step.LongEvent.{LongEvent}
+use Rattle.p25_fragments.specs.declared.long_step.LongStep.{LongStep}
+use Rattle.p25_long_script.specs.LongScript.{long_event_of}
+use Rattle.p25_long_script.specs.LongTexts.{long_step_text_of}
+use Rattle.p25_tool.specs.FragmentRules.{fragment_rules, told_long}
 use Rattle.p25_tool.specs.Commands.{changed_reporting, check_reporting, show_reporting}
-use Rattle.p25_tool.specs.Outputs.{check_ending, check_line, ending_by, faults_in, faulty, units_in}
+use Rattle.p25_tool.specs.Outputs.{check_ending, check_line, closing_line, ending_by, faults_in, faulty, image_octets, long_closing_line, step_line, units_in}
 use Rattle.p25_tool.specs.Recordings.{fresh, recording_future}
 use Rattle.p25_tool.specs.Runs.{command_future}
 use Rattle.p25_tool.proofs.ReportsLaws.{behind-check, reported-changed, reported-check, reported-show}
 
--- two futures write and end alike
+-- two futures write and end alike, and memory may be wanting behind the same texts
 pub record AreAlike (f g : Future) : Type 0 where
   pub writes : (is : Bool) (octets : List ℕ) → f.writes is octets ≡ g.writes is octets
   pub ends : (is : Bool) (octets : List ℕ) → f.ends is octets ≡ g.ends is octets
+  pub pauses : (is : Bool) (octets : List ℕ) → f.pauses is octets ≡ g.pauses is octets
 
 pub show-alike : (report : Show) → AreAlike (recording_future show_reporting (fresh report)) (command_future ShowIt)
 unfolding recording_future
 show-alike report = record {
   writes = λ is octets. reported-show is report (items_by is 0 (octet_bits octets)) (octet_bits octets);
   ends = λ is octets. refl;
+  pauses = λ is octets. refl;
 }
 
 pub check-alike : (report : Check) → report ≡ record { units = 0; faults = 0 } → AreAlike (recording_future check_reporting (fresh report)) (command_future CheckIt)
@@ -37,6 +62,7 @@ check-alike report empty = record {
       let faults : report.faults + faults_in items ≡ faults_in items = omega (arith, ap (λ (r : Check). r.faults) empty) in
       reported-check is report items (octet_bits octets) ∙ ap₂ (λ (u f : ℕ). flat_map faulty items ++ cond is (check_line u f) []) units faults;
   ends = ends;
+  pauses = λ is octets. refl;
 }
   where
     ends : (is : Bool) (octets : List ℕ) → (recording_future check_reporting (fresh report)).ends is octets ≡ ending_by CheckIt is octets
@@ -51,6 +77,7 @@ unfolding recording_future
 repair-alike = record {
   writes = λ is octets. reported-changed is (record { change = Repaired; kept = [] }) (items_by is 0 (octet_bits octets)) (octet_bits octets) (omega arith);
   ends = λ is octets. refl;
+  pauses = λ is octets. refl;
 }
 
 pub bridge-alike : (nac : ℕ) (status : Status) → AreAlike (recording_future changed_reporting (fresh (record { change = Bridged nac status; kept = [] }))) (command_future (BridgeIt nac status))
@@ -58,8 +85,89 @@ unfolding recording_future
 bridge-alike nac status = record {
   writes = λ is octets. reported-changed is (record { change = Bridged nac status; kept = [] }) (items_by is 0 (octet_bits octets)) (octet_bits octets) (omega arith);
   ends = λ is octets. refl;
+  pauses = λ is octets. refl;
 }
 
-pub build-alike : (status : Status) → AreAlike (building_future (first_line status)) (command_future (BuildIt status))
-unfolding building_future
-build-alike status = record { writes = λ is octets. refl; ends = λ is octets. refl }
+-- the images of units, one after the other
+images : (build : Build) (units : List UnitParts)
+    → concat (texts_of (λ build unit. (image_octets build.status unit, build)) build units) ≡ flat_map (image_octets build.status) units
+unfolding texts_of
+images build [] = refl
+images build (unit ∷ units) = ap (λ (zs : List ℕ). image_octets build.status unit ++ zs) (images build units)
+
+closing_none : (ended : Bool) (refusal : Option Ending) → closing_by ended refusal [] ≡ []
+closing_none ended (Some refusal) = refl
+closing_none true None = refl
+closing_none false None = refl
+
+pub build-alike : (status : Status) → AreAlike (line_future build_rules (first_line (record { status = status }))) (command_future (BuildIt status))
+build-alike status = record {
+  writes = λ is octets.
+      let build : Build = record { status = status } in
+      let lines = lines_in is [] octets in
+      let units = read_of read_line_of lines in
+      first_line-writes read_line_of _ _ false build is octets
+      ∙ ap (λ (zs : List ℕ). concat (texts_of (λ build unit. (image_octets build.status unit, build)) build units) ++ zs) (closing_none is (refusal_in read_line_of 1 lines))
+      ∙ append-nil (concat (texts_of (λ build unit. (image_octets build.status unit, build)) build units))
+      ∙ images build units;
+  ends = λ is octets. first_line-ends read_line_of _ _ false (record { status = status }) is octets;
+  pauses = λ is octets. first_line-pauses read_line_of _ _ false (record { status = status }) is octets;
+}
+
+-- the lines of steps, one after the other, and the world behind them
+told : (events : List Event) (world : WorldState) → texts_of told_step world events ≡ map step_line (steps_of world events)
+unfolding texts_of steps_of
+told [] world = refl
+told (event ∷ events) world = ap (λ (ts : List (List ℕ)). step_line (world_step world event).1 ∷ ts) (told events (world_step world event).0)
+
+run_behind : (events : List Event) (world : WorldState) → machine_behind told_step world events ≡ world_run world events
+unfolding machine_behind world_run
+run_behind [] world = refl
+run_behind (event ∷ events) world = run_behind events (world_step world event).0
+
+concat_lines : (steps : List Step) → concat (map step_line steps) ≡ flat_map step_line steps
+concat_lines [] = refl
+concat_lines (step ∷ steps) = ap (λ (zs : List ℕ). step_line step ++ zs) (concat_lines steps)
+
+pub stations-alike : AreAlike (line_future station_rules (first_line first_world)) (command_future StationsIt)
+stations-alike = record {
+  writes = λ is octets.
+      let lines = lines_in is [] octets in
+      let events = read_of event_of lines in
+      first_line-writes event_of told_step closing_line true first_world is octets
+      ∙ ap₂ (λ (zs : List ℕ) (w : WorldState). zs ++ closing_by is (refusal_in event_of 1 lines) (closing_line w))
+      (ap concat (told events first_world) ∙ concat_lines (steps_of first_world events)) (run_behind events first_world);
+  ends = λ is octets. first_line-ends event_of told_step closing_line true first_world is octets;
+  pauses = λ is octets.
+      first_line-pauses event_of told_step closing_line true first_world is octets
+      ∙ ap texts_before (told (read_of event_of (lines_in is [] octets)) first_world);
+}
+
+-- the texts of steps of long messages, one after the other, and the world behind them
+told-long : (events : List LongEvent) (world : LongState) → texts_of told_long world events ≡ map long_step_text_of (long_steps_of world events)
+unfolding texts_of long_steps_of
+told-long [] world = refl
+told-long (event ∷ events) world = ap (λ (ts : List (List ℕ)). long_step_text_of (long_step world event).1 ∷ ts) (told-long events (long_step world event).0)
+
+long_run-behind : (events : List LongEvent) (world : LongState) → machine_behind told_long world events ≡ long_run world events
+unfolding machine_behind long_run
+long_run-behind [] world = refl
+long_run-behind (event ∷ events) world = long_run-behind events (long_step world event).0
+
+concat_texts : (steps : List LongStep) → concat (map long_step_text_of steps) ≡ flat_map long_step_text_of steps
+concat_texts [] = refl
+concat_texts (step ∷ steps) = ap (λ (zs : List ℕ). long_step_text_of step ++ zs) (concat_texts steps)
+
+pub fragments-alike : AreAlike (line_future fragment_rules (first_line first_long)) (command_future FragmentsIt)
+fragments-alike = record {
+  writes = λ is octets.
+      let lines = lines_in is [] octets in
+      let events = read_of long_event_of lines in
+      first_line-writes long_event_of told_long long_closing_line true first_long is octets
+      ∙ ap₂ (λ (zs : List ℕ) (w : LongState). zs ++ closing_by is (refusal_in long_event_of 1 lines) (long_closing_line w))
+      (ap concat (told-long events first_long) ∙ concat_texts (long_steps_of first_long events)) (long_run-behind events first_long);
+  ends = λ is octets. first_line-ends long_event_of told_long long_closing_line true first_long is octets;
+  pauses = λ is octets.
+      first_line-pauses long_event_of told_long long_closing_line true first_long is octets
+      ∙ ap texts_before (told-long (read_of long_event_of (lines_in is [] octets)) first_long);
+}

@@ -1,7 +1,7 @@
 pub mod OctetsLaws
 pub mod ReportsLaws
 pub mod RecordingsLaws
-pub mod BuildingsLaws
 pub mod WordsLaws
 pub mod CommandsLaws
 pub mod RunsLaws
+pub mod ScriptsLaws

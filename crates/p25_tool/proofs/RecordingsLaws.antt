@@ -9,6 +9,7 @@ use Rattle.p25_stream.specs.Items.{items_by, items_in}
 use Rattle.p25_stream.specs.ItemLaws.{GaveItems}
 use Rattle.p25_stream.specs.Scan.{Scan, Gave, given}
 use Rattle.p25_work.specs.Futures.{IsClosed, IsIdle, NextPiece, Progress}
+use Rattle.p25_work.proofs.LinesLaws.{Contains-none}
 use Rattle.p25_tool.specs.declared.recording.Phase.{Phase}
 use Rattle.p25_tool.specs.declared.recording.Phase.TheVariants.{Reading, Ended, Closed}
 use Rattle.p25_tool.specs.Recordings.{HasClosed, IsClosing, IsClosingBy, RecordingParts, bits_ending, bits_written, fresh, has_ended, phase_future, recording_future}
@@ -29,6 +30,7 @@ module _ {R : Type 0} (reporting : Reporting R) where
   future-push report scan next octet place held = record {
     writes = λ ended more. ap₂ (λ (p : ℕ) (bits : List Bool). bits_written reporting ended report p bits) (sym place) (held-octet scan.held octet more ∙ ap (λ (zs : List Bool). zs ++ octet_bits more) (sym held));
     ends = λ ended more. ap₂ (λ (p : ℕ) (bits : List Bool). bits_ending reporting ended report p bits) (sym place) (held-octet scan.held octet more ∙ ap (λ (zs : List Bool). zs ++ octet_bits more) (sym held));
+    pauses = λ ended more pause is. absurd (Contains-none pause is);
   }
 
   -- the input ends
@@ -37,6 +39,7 @@ module _ {R : Type 0} (reporting : Reporting R) where
   future-finish report scan next place held = record {
     writes = λ ended more. ap₂ (λ (p : ℕ) (bits : List Bool). bits_written reporting true report p bits) place (held ∙ sym (held-none scan.held));
     ends = λ ended more. ap₂ (λ (p : ℕ) (bits : List Bool). bits_ending reporting true report p bits) place (held ∙ sym (held-none scan.held));
+    pauses = λ ended more. refl;
   }
 
   -- what is written of bits whose first item is given
@@ -75,6 +78,7 @@ module _ {R : Type 0} (reporting : Reporting R) where
         ends = λ ended more.
             ending-item ended report scan.place next.place (scan.held ++ octet_bits more) (next.held ++ octet_bits more) item (first true more) (left more)
             ∙ ap (λ (zs : List Bool). bits_ending reporting ended (reporting.behind report item zs) next.place (next.held ++ octet_bits more)) (front more);
+        pauses = λ ended more pause is. absurd (Contains-none pause is);
       }
 
   -- an item is given behind the end of the input
@@ -91,6 +95,7 @@ module _ {R : Type 0} (reporting : Reporting R) where
         ends = λ ended more.
             ending-item true report scan.place next.place scan.held next.held item first (sym gave.left)
             ∙ ap (λ (zs : List Bool). bits_ending reporting true (reporting.behind report item zs) next.place next.held) (sym gave.raw_bits);
+        pauses = λ ended more pause is. absurd (Contains-none pause is);
       }
 
   -- an item is given
@@ -107,6 +112,7 @@ module _ {R : Type 0} (reporting : Reporting R) where
       record {
         writes = λ ended more. ap (λ (items : List Item). reported reporting true report items scan.held) no_items ∙ reported-nil reporting true report scan.held ∙ sym (append-nil (reporting.closing report));
         ends = λ ended more. ap (λ (r : R). Some (reporting.ending r)) (ap (λ (items : List Item). report_behind reporting report items scan.held) no_items ∙ behind-nil reporting report scan.held);
+        pauses = λ ended more pause is. absurd (Contains-none pause is);
       }
 
   -- with nothing to give, what the octets so far decide is written

@@ -5,4 +5,8 @@ pub mod Recordings
 pub mod Outputs
 pub mod Commands
 pub mod Buildings
+pub mod StationRules
+pub mod FragmentRules
+pub mod Scripts
+pub mod LongLines
 pub mod Runs

@@ -5,7 +5,7 @@ use Rattle.p25_line.specs.declared.fault.LineFault.TheVariants.{Long, Form, Kind
 use Rattle.p25_work.specs.declared.ending.Ending.{Ending}
 use Rattle.p25_work.specs.declared.ending.Ending.TheVariants.{Done as EndDone, Found as EndFound, BadLine as EndBadLine}
 use Rattle.p25_work.specs.declared.ending.WorkEnd.{WorkEnd}
-use Rattle.p25_work.specs.declared.ending.WorkEnd.TheVariants.{Ended, ReadFault as ReadFailed, WriteFault as WriteFailed, TooLong as InputTooLong}
+use Rattle.p25_work.specs.declared.ending.WorkEnd.TheVariants.{Ended, ReadFault as ReadFailed, WriteFault as WriteFailed, TooLong as InputTooLong, Memory as NoMemory}
 use Rattle.p25_tool.specs.declared.outcome.Outcome.{Outcome}
 use Rattle.p25_tool.specs.declared.outcome.Outcome.TheVariants.{Done, Usage, BadLine, ReadFault, WriteFault, Memory, TooLong, Found}
 
@@ -51,3 +51,4 @@ work_outcome (Ended ending) = ending_outcome ending
 work_outcome ReadFailed = ReadFault
 work_outcome WriteFailed = WriteFault
 work_outcome InputTooLong = TooLong
+work_outcome NoMemory = Memory

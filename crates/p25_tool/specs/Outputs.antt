@@ -1,5 +1,5 @@
 -- What each command writes for its input, and how a call ends by its input.
-use Rattle.std.specs.Prelude.{ℕ, ◌+◌, ◌/◌, Bool, ◌&&◌, cond, nat_eq, nat_lt, List, [], ◌∷◌, ◌++◌, length, take, drop, replicate, codes, decimal, Option, Some, None, Ok, Err}
+use Rattle.std.specs.Prelude.{ℕ, ◌+◌, ◌/◌, Bool, cond, nat_eq, List, [], ◌∷◌, ◌++◌, length, map, take, drop, replicate, codes, decimal, Option, Some, None}
 use Rattle.std.specs.List.{flat_map}
 use Rattle.p25_bits.specs.Bits.{octet_bits}
 use Rattle.p25_bits.specs.Numbers.{octets_from}
@@ -14,9 +14,19 @@ use Rattle.p25_stream.specs.Repeats.{bridged, is_whole_item, repaired}
 use Rattle.p25_text.specs.ItemTexts.{item_text_of}
 use Rattle.p25_text.specs.Grammar.{read_line_of}
 use Rattle.p25_work.specs.declared.ending.Ending.{Ending}
-use Rattle.p25_work.specs.declared.ending.Ending.TheVariants.{Done, Found, BadLine}
+use Rattle.p25_work.specs.declared.ending.Ending.TheVariants.{Done, Found}
+use Rattle.p25_air_world.specs.Runs.{steps_of, world_run}
+use Rattle.p25_air_world.specs.WorldState.{WorldState, first_world}
+use Rattle.p25_air_world.specs.declared.step.Step.{Step}
+use Rattle.p25_script.specs.Script.{event_of}
+use Rattle.p25_script.specs.StepTexts.{closing_text_of, step_text_of}
+use Rattle.p25_fragments.specs.LongState.{LongState, first_long}
+use Rattle.p25_fragments.specs.LongRuns.{long_run, long_steps_of}
+use Rattle.p25_long_script.specs.LongScript.{long_event_of}
+use Rattle.p25_long_script.specs.LongTexts.{long_closing_text_of, long_step_text_of}
+use Rattle.p25_work.specs.Lines.{closing_by, lines_ending, lines_in, read_of, refusal_in, texts_before}
 use Rattle.p25_tool.specs.declared.command.Command.{Command}
-use Rattle.p25_tool.specs.declared.command.Command.TheVariants.{Show, Check, Repair, Bridge, Build}
+use Rattle.p25_tool.specs.declared.command.Command.TheVariants.{Show, Check, Repair, Bridge, Build, Stations, Fragments}
 
 -- the octets that bits fill, most significant bit first
 abbrev pub whole_octets : List Bool → List ℕ
@@ -52,12 +62,6 @@ unfoldable pub changed_bits : (Item → List Bool → List Bool) → List Item �
 changed_bits change [] bits = []
 changed_bits change (item ∷ items) bits = change item (take (covered item) bits) ++ changed_bits change items (drop (covered item) bits)
 
--- the lines of some octets behind those of a line that has begun: each ends with an LF, and at the end of the input also the
--- last octets are a line, where there are any
-unfoldable pub lines_in : Bool → List ℕ → List ℕ → List (List ℕ)
-lines_in ended line [] = cond (ended && nat_lt 0 (length line)) (line ∷ []) []
-lines_in ended line (octet ∷ octets) = cond (nat_eq octet 10) (line ∷ lines_in ended [] octets) (lines_in ended (line ++ octet ∷ []) octets)
-
 -- the frame of a unit with one status symbol everywhere
 abbrev pub filled_frame : Status → UnitParts → Frame
 filled_frame status unit = record { unit = unit; statuses = replicate (frame_length_of unit / 72) status }
@@ -66,20 +70,15 @@ filled_frame status unit = record { unit = unit; statuses = replicate (frame_len
 abbrev pub image_octets : Status → UnitParts → List ℕ
 image_octets status unit = whole_octets (image_of (filled_frame status unit))
 
--- the images of the units that lines describe, up to the first line that is refused
-unfoldable pub images_of : Status → List (List ℕ) → List ℕ
-images_of status [] = []
-images_of status (line ∷ lines) = elim (read_line_of line) [ Ok unit ↦ image_octets status unit ++ images_of status lines | Err fault ↦ [] ]
+-- the text of a step, and the text that closes a run, each with the end of its line
+abbrev pub step_line : Step → List ℕ
+step_line step = step_text_of step ++ 10 ∷ []
 
--- the first line that is refused, by its number, and its fault; the first line has this number
-unfoldable pub refusal_in : ℕ → List (List ℕ) → Option Ending
-refusal_in number [] = None
-refusal_in number (line ∷ lines) = elim (read_line_of line) [ Ok unit ↦ refusal_in (number + 1) lines | Err fault ↦ Some (BadLine number fault) ]
+abbrev pub closing_line : WorldState → List ℕ
+closing_line world = closing_text_of world ++ 10 ∷ []
 
--- how lines end a call: by the first that is refused, or at the end of the input
-abbrev pub lines_ending : Bool → Option Ending → Option Ending
-lines_ending ended (Some ending) = Some ending
-lines_ending ended None = cond ended (Some Done) None
+abbrev pub long_closing_line : LongState → List ℕ
+long_closing_line world = long_closing_text_of world ++ 10 ∷ []
 
 -- what a command writes for the octets of its input, whether they are all or more may come
 abbrev pub output_by : Command → Bool → List ℕ → List ℕ
@@ -90,7 +89,16 @@ output_by Check ended octets =
 output_by Repair ended octets = whole_octets (changed_bits repaired (items_by ended 0 (octet_bits octets)) (octet_bits octets))
 output_by (Bridge nac status) ended octets =
     whole_octets (changed_bits (λ item raw. bridged nac status item []) (items_by ended 0 (octet_bits octets)) (octet_bits octets))
-output_by (Build status) ended octets = images_of status (lines_in ended [] octets)
+output_by (Build status) ended octets = flat_map (image_octets status) (read_of read_line_of (lines_in ended [] octets))
+output_by Stations ended octets =
+    let lines = lines_in ended [] octets in
+    let events = read_of event_of lines in
+    flat_map step_line (steps_of first_world events) ++ closing_by ended (refusal_in event_of 1 lines) (closing_line (world_run first_world events))
+output_by Fragments ended octets =
+    let lines = lines_in ended [] octets in
+    let events = read_of long_event_of lines in
+    flat_map long_step_text_of (long_steps_of first_long events)
+    ++ closing_by ended (refusal_in long_event_of 1 lines) (long_closing_line (long_run first_long events))
 
 -- how a call of a command ends by the octets of its input, whether they are all or more may come
 abbrev pub ending_by : Command → Bool → List ℕ → Option Ending
@@ -98,4 +106,19 @@ ending_by Show ended octets = cond ended (Some Done) None
 ending_by Check ended octets = cond ended (Some (check_ending (faults_in (items_by ended 0 (octet_bits octets))))) None
 ending_by Repair ended octets = cond ended (Some Done) None
 ending_by (Bridge nac status) ended octets = cond ended (Some Done) None
-ending_by (Build status) ended octets = lines_ending ended (refusal_in 1 (lines_in ended [] octets))
+ending_by (Build status) ended octets = lines_ending ended (refusal_in read_line_of 1 (lines_in ended [] octets))
+ending_by Stations ended octets = lines_ending ended (refusal_in event_of 1 (lines_in ended [] octets))
+ending_by Fragments ended octets = lines_ending ended (refusal_in long_event_of 1 (lines_in ended [] octets))
+
+-- behind which texts of a command memory may be wanting, by the octets of its input: before each step of a script
+abbrev pub pauses_by : Command → Bool → List ℕ → List (List ℕ)
+pauses_by Stations ended octets = texts_before (map step_line (steps_of first_world (read_of event_of (lines_in ended [] octets))))
+pauses_by Fragments ended octets =
+    texts_before (map long_step_text_of (long_steps_of first_long (read_of long_event_of (lines_in ended [] octets))))
+pauses_by command ended octets = []
+
+-- the commands that take memory
+abbrev pub CanWantMemory : Command → Type 0
+CanWantMemory Stations = Unit {0}
+CanWantMemory Fragments = Unit {0}
+CanWantMemory command = ⊥

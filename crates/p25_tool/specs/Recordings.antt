@@ -51,14 +51,17 @@ abbrev pub phase_future : {R : Type 0} → Reporting R → R → Scan → Phase 
 phase_future reporting report scan Reading = record {
   writes = λ ended more. bits_written reporting ended report scan.place (scan.held ++ octet_bits more);
   ends = λ ended more. bits_ending reporting ended report scan.place (scan.held ++ octet_bits more);
+  pauses = λ ended more. [];
 }
 phase_future reporting report scan Ended = record {
   writes = λ ended more. bits_written reporting true report scan.place scan.held;
   ends = λ ended more. bits_ending reporting true report scan.place scan.held;
+  pauses = λ ended more. [];
 }
 phase_future reporting report scan Closed = record {
   writes = λ ended more. [];
   ends = λ ended more. Some (reporting.ending report);
+  pauses = λ ended more. [];
 }
 
 unfoldable pub recording_future : {R : Type 0} → Reporting R → RecordingParts R → Future

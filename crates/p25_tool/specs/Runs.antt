@@ -8,11 +8,11 @@ use Rattle.p25_tool.specs.declared.command.Command.{Command}
 use Rattle.p25_tool.specs.declared.outcome.Outcome.{Outcome}
 use Rattle.p25_tool.specs.declared.outcome.Outcome.TheVariants.{TooLong}
 use Rattle.p25_tool.specs.Outcomes.{ending_outcome, work_outcome}
-use Rattle.p25_tool.specs.Outputs.{ending_by, output_by}
+use Rattle.p25_tool.specs.Outputs.{ending_by, output_by, pauses_by}
 
--- what a command writes, and how it ends, for the octets of an input
+-- what a command writes, how it ends, and behind which texts memory may be wanting, for the octets of an input
 abbrev pub command_future : Command → Future
-command_future command = record { writes = output_by command; ends = ending_by command }
+command_future command = record { writes = output_by command; ends = ending_by command; pauses = pauses_by command }
 
 -- what a call of a command took and wrote, by its outcome
 pub record Ran (told left first last : Option (List ℕ)) (command : Command) (outcome : Outcome) : Type 0 where

@@ -13,4 +13,8 @@ pub enum Command {
     Bridge { nac: u16, status: Status },
     /// The units that lines of text describe, with this status symbol everywhere.
     Build { status: Status },
+    /// The steps that the lines of a script are, one a line, and a last line that tells of the world behind them.
+    Stations,
+    /// The same for lines that tell of long messages: one or two lines a step.
+    Fragments,
 }

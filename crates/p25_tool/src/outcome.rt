@@ -108,5 +108,6 @@ pub(crate) fn outcome_of(end: WorkEnd) -> Outcome
         WorkEnd::ReadFault => Outcome::ReadFault,
         WorkEnd::WriteFault => Outcome::WriteFault,
         WorkEnd::TooLong => Outcome::TooLong,
+        WorkEnd::Memory => Outcome::Memory,
     }
 }

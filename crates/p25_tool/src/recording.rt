@@ -8,7 +8,7 @@ use crate::report::Report;
 use p25_bits::BitBuf;
 use p25_line::Line;
 use p25_stream::{Scanner, item_laws};
-use p25_work::{Ending, Worker};
+use p25_work::{Ending, Refusal, Worker};
 use std::marker::Model;
 
 // How far the work has come.
@@ -41,7 +41,7 @@ impl<R: Report> Model for Recording<R> {
 
     ghost invariant = { λ s. (s.scanner.finished ≡ has_ended s.phase)
         × (R.counted s.report ≤ s.scanner.place)
-        × (s.scanner.place + length s.scanner.held < 2 ^ 61)
+        × (s.scanner.place + length s.scanner.held < 2 ^ 29)
         × HasClosed s.phase s.scanner };
 }
 
@@ -113,7 +113,7 @@ impl<R: Report> Worker for Recording<R> {
         self.phase = Phase::Ended;
     }
 
-    fn next(&mut self, out: &mut Line) -> Result<bool, Ending> {
+    fn next(&mut self, out: &mut Line) -> Result<bool, Refusal> {
         // Mostly no item is decided: then no room is made for one.
         if self.scanner.is_drained() {
             return Ok(self.close(out));

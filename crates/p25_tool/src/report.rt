@@ -20,7 +20,7 @@ pub(crate) trait Report {
     // Sets `out` to what is written of an item and the bits that it covers, and changes these.
     fn put(&mut self, item: &Item, raw: &mut BitBuf, out: &mut Line)
         requires sound { IsSoundItem item.now }
-        requires few { counted self.old < 2 ^ 61 }
+        requires few { counted self.old < 2 ^ 29 }
         ensures piece { out.new ≡ reporting.piece self.old item.now raw.old }
         ensures behind { self.new ≡ reporting.behind self.old item.now raw.old }
         ensures counted { counted self.new ≤ counted self.old + 1 };

@@ -111,6 +111,10 @@ fn one_word(word: &[u8]) -> Option<Command>
         Some(Command::Check)
     } else if word == b"repair".as_slice() {
         Some(Command::Repair)
+    } else if word == b"stations".as_slice() {
+        Some(Command::Stations)
+    } else if word == b"fragments".as_slice() {
+        Some(Command::Fragments)
     } else {
         None
     }

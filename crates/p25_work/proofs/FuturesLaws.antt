@@ -3,7 +3,8 @@
 use Rattle.std.proofs.Common.{◌≡◌, ℕ, ◌<◌, Bool, List, [], ◌++◌, length, Option, ◌⊎◌, inl, inr, refl, ap, sym, subst, ◌∙◌, append_assoc, append-nil, length-append, arith}
 use Rattle.p25_io.specs.Octets.{Appended, AppendedFront}
 use Rattle.p25_io.proofs.OctetsLaws.{Appended-none, Appended-same, Appended-trans, AppendedFront-same, AppendedFront-next, AppendedFront-longer}
-use Rattle.p25_work.specs.Futures.{Future, Progress, IsRefused, Moved, IsCutOff, IsEnded}
+use Rattle.std.specs.Prelude.{Contains}
+use Rattle.p25_work.specs.Futures.{Future, Progress, IsRefused, IsPausing, Moved, IsCutOff, IsEnded, IsPaused}
 use Rattle.p25_work.specs.Pages.{Gathered}
 
 module _ {K : Type 0} (written : K → Option (List ℕ)) where
@@ -14,6 +15,7 @@ module _ {K : Type 0} (written : K → Option (List ℕ)) where
     appended = Appended-none (written sink);
     writes = λ ended more. refl;
     ends = λ ended more. refl;
+    pauses = λ ended more pause is. record { pause = pause; is = is; whole = refl };
     touched = inl refl;
   }
 
@@ -40,6 +42,14 @@ module _ {K : Type 0} (written : K → Option (List ℕ)) where
         ∙ ap (λ (zs : List ℕ). one.text ++ zs) (two.writes ended more)
         ∙ sym (append_assoc one.text two.text (last ++ c.writes ended more));
     ends = λ ended more. ap (a.ends ended) (append_assoc xs ys more) ∙ one.ends ended (ys ++ more) ∙ two.ends ended more;
+    pauses = λ ended more pause is.
+        let after = two.pauses ended more pause is in
+        let before = one.pauses ended (ys ++ more) after.pause after.is in
+        record {
+          pause = before.pause;
+          is = subst (λ (zs : List ℕ). Contains (a.pauses ended zs) before.pause) (sym (append_assoc xs ys more)) before.is;
+          whole = before.whole ∙ ap (λ (zs : List ℕ). one.text ++ zs) after.whole ∙ sym (append_assoc one.text two.text (last ++ pause));
+        };
     touched = both_touched one.text two.text one.touched two.touched;
   }
 
@@ -56,6 +66,12 @@ module _ {K : Type 0} (written : K → Option (List ℕ)) where
         ∙ ap (λ (zs : List ℕ). zs ++ b.writes ended more) gathered.whole
         ∙ append_assoc gathered.text kept (b.writes ended more);
     ends = progress.ends;
+    pauses = λ ended more pause is.
+        record {
+          pause = piece ++ pause;
+          is = progress.pauses ended more pause is;
+          whole = sym (append_assoc page piece pause) ∙ ap (λ (zs : List ℕ). zs ++ pause) gathered.whole ∙ append_assoc gathered.text kept pause;
+        };
     touched = gathered.touched;
   }
 
@@ -65,6 +81,7 @@ module _ {K : Type 0} (written : K → Option (List ℕ)) where
     appended = Appended-none (written sink);
     writes = λ ended more. ap (λ (zs : List ℕ). page ++ zs) (progress.writes ended more);
     ends = progress.ends;
+    pauses = λ ended more pause is. record { pause = pause; is = progress.pauses ended more pause is; whole = refl };
     touched = inl refl;
   }
 
@@ -77,6 +94,9 @@ module _ {K : Type 0} (written : K → Option (List ℕ)) where
     appended = Appended-trans moved.appended appended;
     writes = λ ended more. moved.writes ended more ∙ sym (append_assoc moved.text kept (b.writes ended more));
     ends = moved.ends;
+    pauses = λ ended more pause is.
+        let before = moved.pauses ended more pause is in
+        record { pause = before.pause; is = before.is; whole = before.whole ∙ sym (append_assoc moved.text kept pause) };
     touched = both_touched moved.text kept moved.touched touched;
   }
 
@@ -143,3 +163,43 @@ module _ {K : Type 0} (written : K → Option (List ℕ)) where
           inr (λ ended more. subst (λ (zs : List ℕ). 0 < length zs) (sym (whole ended more)) (longer moved.text (kept ++ b.writes ended (ys ++ more)) (inr (long ended more))))
       some (inr long) rest =
           inr (λ ended more. subst (λ (zs : List ℕ). 0 < length zs) (sym (whole ended more)) (longer moved.text (kept ++ b.writes ended (ys ++ more)) (inl long)))
+
+  -- the page is written where memory is wanting
+  pub IsPaused-page : (first second third : K) (page kept xs : List ℕ) (a b : Future)
+      → Moved written first page a xs second kept b → IsPausing b → Appended (written second) kept (written third) → (third ≡ second) ⊎ (0 < length kept)
+      → IsPaused written first page a xs third
+  IsPaused-page first second third page kept xs a b moved pausing appended touched = record {
+    text = moved.text ++ kept;
+    appended = Appended-trans moved.appended appended;
+    pauses = λ ended more.
+        let before = moved.pauses ended more [] (pausing ended more) in
+        record { pause = before.pause; is = before.is; whole = before.whole ∙ ap (λ (zs : List ℕ). moved.text ++ zs) (append-nil kept) };
+    begins = λ ended more. (b.writes ended more, moved.writes ended more ∙ sym (append_assoc moved.text kept (b.writes ended more)));
+    touched = both_touched moved.text kept moved.touched touched;
+  }
+
+  -- it is wanting after a move
+  pub IsPaused-after : (first second third : K) (page kept xs ys : List ℕ) (a b : Future)
+      → Moved written first page a xs second kept b → IsPaused written second kept b ys third
+      → IsPaused written first page a (xs ++ ys) third
+  IsPaused-after first second third page kept xs ys a b moved paused = record {
+    text = moved.text ++ paused.text;
+    appended = Appended-trans moved.appended paused.appended;
+    pauses = λ ended more.
+        let after = paused.pauses ended more in
+        let before = moved.pauses ended (ys ++ more) after.pause after.is in
+        record {
+          pause = before.pause;
+          is = subst (λ (zs : List ℕ). Contains (a.pauses ended zs) before.pause) (sym (append_assoc xs ys more)) before.is;
+          whole = before.whole ∙ ap (λ (zs : List ℕ). moved.text ++ zs) after.whole;
+        };
+    begins = λ ended more.
+        let rest = paused.begins ended more in (
+          rest.0,
+          ap (λ (zs : List ℕ). page ++ a.writes ended zs) (append_assoc xs ys more)
+              ∙ moved.writes ended (ys ++ more)
+              ∙ ap (λ (zs : List ℕ). moved.text ++ zs) rest.1
+              ∙ sym (append_assoc moved.text paused.text rest.0),
+        );
+    touched = both_touched moved.text paused.text moved.touched paused.touched;
+  }

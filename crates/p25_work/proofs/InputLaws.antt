@@ -1,13 +1,15 @@
 -- The steps of the work on an input: what asking for a piece answers, and why the work stops, case by case.
 use Rattle.std.proofs.Common.{◌≡◌, ℕ, ◌<◌, Bool, true, false, List, [], ◌++◌, length, Option, Some, Result, Ok, Err, ◌⊎◌, inl, inr, sym, subst, ◌∙◌}
-use Rattle.std.specs.Prelude.{IfErr}
+use Rattle.std.specs.Prelude.{Contains, IfErr, OnOk}
 use Rattle.p25_io.specs.Octets.{Appended, AppendedFront}
 use Rattle.p25_io.proofs.OctetsLaws.{Appended-same, AppendedFront-same}
 use Rattle.p25_work.specs.declared.ending.Ending.{Ending}
 use Rattle.p25_work.specs.declared.ending.Stop.{Stop}
-use Rattle.p25_work.specs.declared.ending.Stop.TheVariants.{Fault, Ended}
-use Rattle.p25_work.specs.Futures.{Future, Progress, IsClosed, IsRefused, IsIdle, NextPiece, Moved, IsCutOff, IsEnded, IsStopped, EndsBy}
-use Rattle.p25_work.proofs.FuturesLaws.{IsCutOff-page, IsCutOff-after, IsEnded-page, IsEnded-after}
+use Rattle.p25_work.specs.declared.ending.Stop.TheVariants.{Fault, Refused}
+use Rattle.p25_work.specs.declared.ending.Refusal.{Refusal}
+use Rattle.p25_work.specs.declared.ending.Refusal.TheVariants.{Ended, Memory}
+use Rattle.p25_work.specs.Futures.{Future, Progress, IsClosed, IsRefused, IsRefusedBy, IsIdle, NextPiece, Moved, IsCutOff, IsStopped, EndsBy}
+use Rattle.p25_work.proofs.FuturesLaws.{Moved-trans, IsCutOff-page, IsCutOff-after, IsEnded-page, IsEnded-after, IsPaused-page, IsPaused-after}
 
 -- a piece was given
 pub piece-given : (before now : Future) (is : Bool) (piece : List ℕ) → NextPiece before (Ok is) piece now → is ≡ true → Progress before [] piece now
@@ -21,10 +23,10 @@ unfolding NextPiece
 piece-none before now true piece given same = cc
 piece-none before now false piece given same = given
 
--- the input is refused
-pub piece-refused : (before now : Future) (ending : Ending) (piece : List ℕ) → NextPiece before (Err ending) piece now → IsRefused before ending
+-- there is none, for a refusal
+pub piece-refused : (before now : Future) (refusal : Refusal) (piece : List ℕ) → NextPiece before (Err refusal) piece now → IsRefusedBy before refusal
 unfolding NextPiece
-piece-refused before now ending piece given = given
+piece-refused before now refusal piece given = given
 
 module _ {K : Type 0} (written : K → Option (List ℕ)) where
   -- a write failed
@@ -32,19 +34,24 @@ module _ {K : Type 0} (written : K → Option (List ℕ)) where
   unfolding IsStopped
   stopped-fault first last page octets before cut = cut
 
+  -- the page before a refusal is written
+  refused-page : (first second third : K) (page kept octets : List ℕ) (a b : Future) (refusal : Refusal)
+      → Moved written first page a octets second kept b → IsRefusedBy b refusal → Appended (written second) kept (written third) → (third ≡ second) ⊎ (0 < length kept)
+      → IsStopped written first page a octets (Refused refusal) third
+  unfolding IsStopped IsRefusedBy
+  refused-page first second third page kept octets a b (Ended ending) moved refused appended touched = IsEnded-page written first second third page kept octets a b ending moved refused appended touched
+  refused-page first second third page kept octets a b Memory moved pausing appended touched = IsPaused-page written first second third page kept octets a b moved pausing appended touched
+
   -- how the page before a refusal was written
-  pub stopped-page : (first second third : K) (page kept octets : List ℕ) (a b : Future) (ending : Ending) (stop : Stop)
-      → Moved written first page a octets second kept b → IsRefused b ending
-      → (stop ≡ Ended ending → Appended (written second) kept (written third))
+  pub stopped-page : (first second third : K) (page kept octets : List ℕ) (a b : Future) (refusal : Refusal) (stop : Stop)
+      → Moved written first page a octets second kept b → IsRefusedBy b refusal
+      → (stop ≡ Refused refusal → Appended (written second) kept (written third))
       → (stop ≡ Fault → AppendedFront (written second) kept (written third) × (0 < length kept))
-      → (stop ≡ Ended ending) ⊎ (stop ≡ Fault) → (third ≡ second) ⊎ (0 < length kept)
+      → (stop ≡ Refused refusal) ⊎ (stop ≡ Fault) → (third ≡ second) ⊎ (0 < length kept)
       → IsStopped written first page a octets stop third
-  stopped-page first second third page kept octets a b ending stop moved refused whole cut (inl same) touched =
-      subst (λ (s : Stop). IsStopped written first page a octets s third) (sym same) (end_of (IsEnded-page written first second third page kept octets a b ending moved refused (whole same) touched))
-    where
-      end_of : IsEnded written first page a octets ending third → IsStopped written first page a octets (Ended ending) third
-      end_of is = unfold IsStopped in is
-  stopped-page first second third page kept octets a b ending stop moved refused whole cut (inr same) touched =
+  stopped-page first second third page kept octets a b refusal stop moved refused whole cut (inl same) touched =
+      subst (λ (s : Stop). IsStopped written first page a octets s third) (sym same) (refused-page first second third page kept octets a b refusal moved refused (whole same) touched)
+  stopped-page first second third page kept octets a b refusal stop moved refused whole cut (inr same) touched =
       let front = cut same in
       subst (λ (s : Stop). IsStopped written first page a octets s third) (sym same) (stopped-fault first third page octets a (IsCutOff-page written first second third page kept octets a b moved front.0 front.1))
 
@@ -54,7 +61,8 @@ module _ {K : Type 0} (written : K → Option (List ℕ)) where
       → IsStopped written first page a (xs ++ ys) stop third
   unfolding IsStopped
   stopped-after first second third page kept xs ys a b Fault moved stopped = IsCutOff-after written first second third page kept xs ys a b moved stopped
-  stopped-after first second third page kept xs ys a b (Ended ending) moved stopped = IsEnded-after written first second third page kept xs ys a b ending moved stopped
+  stopped-after first second third page kept xs ys a b (Refused (Ended ending)) moved stopped = IsEnded-after written first second third page kept xs ys a b ending moved stopped
+  stopped-after first second third page kept xs ys a b (Refused Memory) moved stopped = IsPaused-after written first second third page kept xs ys a b moved stopped
 
   -- the same of an answer
   pub all_stopped-after : (first second third : K) (page kept xs ys : List ℕ) (a b : Future) (result : Result (Unit {0}) Stop)
@@ -62,6 +70,13 @@ module _ {K : Type 0} (written : K → Option (List ℕ)) where
       → IfErr result (λ stop. IsStopped written first page a (xs ++ ys) stop third)
   all_stopped-after first second third page kept xs ys a b (Ok done) moved stopped = tt
   all_stopped-after first second third page kept xs ys a b (Err stop) moved stopped = stopped-after first second third page kept xs ys a b stop moved stopped
+
+  -- a move behind a move, of an answer
+  pub all_moved-after : (first second third : K) (page kept last xs ys : List ℕ) (a b c : Future) (result : Result (Unit {0}) Stop)
+      → Moved written first page a xs second kept b → OnOk result (Moved written second kept b ys third last c)
+      → OnOk result (Moved written first page a (xs ++ ys) third last c)
+  all_moved-after first second third page kept last xs ys a b c (Ok done) moved next = Moved-trans written first second third page kept last a b c xs ys moved next
+  all_moved-after first second third page kept last xs ys a b c (Err stop) moved next = tt
 
   -- the same from an empty page
   pub on-blank_page : (first last : K) (page octets : List ℕ) (before : Future) (stop : Stop) → page ≡ [] → IsStopped written first page before octets stop last → IsStopped written first [] before octets stop last
@@ -73,7 +88,17 @@ module _ {K : Type 0} (written : K → Option (List ℕ)) where
   ends-stopped first last a closed Fault is_closed cut =
       let same = is_closed.writes true [] in
       (AppendedFront-same same (cut.front true []), subst (λ (zs : List ℕ). 0 < length zs) same (cut.some true []))
-  ends-stopped first last a closed (Ended ending) is_closed ended =
+  ends-stopped first last a closed (Refused Memory) is_closed paused =
+      let pause = paused.pauses true [] in
+      let rest = paused.begins true [] in
+      record {
+        text = paused.text;
+        appended = paused.appended;
+        pauses = subst (λ (zs : List ℕ). Contains (a.pauses true []) zs) pause.whole (subst (λ (texts : List (List ℕ)). Contains texts pause.pause) (is_closed.pauses true []) pause.is);
+        begins = (rest.0, sym (is_closed.writes true []) ∙ rest.1);
+        touched = paused.touched;
+      }
+  ends-stopped first last a closed (Refused (Ended ending)) is_closed ended =
       let same = is_closed.writes true [] in
       (Appended-same same (ended.wrote true []), sym (is_closed.ends true []) ∙ ended.ends true [], some ended.touched)
     where
@@ -84,13 +109,16 @@ module _ {K : Type 0} (written : K → Option (List ℕ)) where
   -- the input ended: all was given, and the page is written
   pub ends-page : (first second third : K) (page kept : List ℕ) (a closed b : Future) (ending : Ending) (stop : Stop)
       → IsClosed a closed → page ≡ [] → Moved written first page closed [] second kept b → ((is : Bool) (more : List ℕ) → b.writes is more ≡ []) → ((is : Bool) (more : List ℕ) → b.ends is more ≡ Some ending)
-      → (stop ≡ Ended ending → Appended (written second) kept (written third))
+      → (stop ≡ Refused (Ended ending) → Appended (written second) kept (written third))
       → (stop ≡ Fault → AppendedFront (written second) kept (written third) × (0 < length kept))
-      → (stop ≡ Ended ending) ⊎ (stop ≡ Fault) → (third ≡ second) ⊎ (0 < length kept)
+      → (stop ≡ Refused (Ended ending)) ⊎ (stop ≡ Fault) → (third ≡ second) ⊎ (0 < length kept)
       → EndsBy written first a stop third
   ends-page first second third page kept a closed b ending stop is_closed empty moved idle ends whole cut one touched =
       ends-stopped first third a closed stop is_closed
-      (on-blank_page first third page [] closed stop empty (stopped-page first second third page kept [] closed b ending stop moved (record { writes = idle; ends = ends }) whole cut one touched))
+      (on-blank_page first third page [] closed stop empty (stopped-page first second third page kept [] closed b (Ended ending) stop moved (unfold IsRefusedBy in refused) whole cut one touched))
+    where
+      refused : IsRefused b ending
+      refused = record { writes = idle; ends = ends }
 
 -- with nothing to give once the input has ended, all was written
 pub idle-finished : (finished was : Bool) (now : Future) → IsIdle finished now → finished ≡ was → was ≡ true → (is : Bool) (more : List ℕ) → now.writes is more ≡ []

@@ -1,3 +1,6 @@
 pub mod FuturesLaws
 pub mod InputLaws
 pub mod RunsLaws
+pub mod LinesLaws
+pub mod LineWorksLaws
+pub mod RulesLaws

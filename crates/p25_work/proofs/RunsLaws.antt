@@ -1,16 +1,17 @@
 -- What stands when the work ends, from how far it has come: what was written begins all that is to be written, and each end
 -- is one case of the octets that come.
 use Rattle.std.proofs.Common.{◌≡◌, ℕ, ◌+◌, ◌-◌, ◌<◌, ◌≤◌, Bool, true, false, cond, nat_lt, zero, suc, List, [], ◌∷◌, ◌++◌, length, take, drop, Option, Some, None, inl, inr, refl, ap, sym, subst, ◌∙◌, arith, append_assoc, append-nil, length-append, length-take, length-drop, ◌↔◌}
-use Rattle.std.specs.Prelude.{IfSome}
+use Rattle.std.specs.Prelude.{Contains, IfSome}
 use Rattle.std.proofs.lemmas.List.{take-append-drop, take_all}
 use Rattle.std.proofs.lemmas.Bool.Decides.{nat_tests}
 use Rattle.std.proofs.Math.Seq.{take-add, take-append-add}
 use Rattle.p25_io.specs.Octets.{Taken, Gives, Appended, AppendedFront}
 use Rattle.p25_io.proofs.OctetsLaws.{Taken-trans, Taken-told, Taken-ended, Appended-same, Appended-trans, AppendedFront-same, AppendedFront-next}
 use Rattle.p25_work.specs.declared.ending.Stop.{Stop}
-use Rattle.p25_work.specs.declared.ending.Stop.TheVariants.{Fault, Ended}
+use Rattle.p25_work.specs.declared.ending.Stop.TheVariants.{Fault, Refused}
+use Rattle.p25_work.specs.declared.ending.Refusal.TheVariants.{Ended, Memory as NoMemory}
 use Rattle.p25_work.specs.declared.ending.WorkEnd.{WorkEnd}
-use Rattle.p25_work.specs.declared.ending.WorkEnd.TheVariants.{Ended as WorkEnded, ReadFault, WriteFault, TooLong}
+use Rattle.p25_work.specs.declared.ending.WorkEnd.TheVariants.{Ended as WorkEnded, ReadFault, WriteFault, TooLong, Memory}
 use Rattle.p25_work.specs.Endings.{end_of}
 use Rattle.p25_work.specs.Futures.{Future, IsIdle, Moved, IsStopped, EndsBy}
 use Rattle.p25_work.proofs.FuturesLaws.{Moved-trans}
@@ -103,7 +104,22 @@ module _ {K : Type 0} (written : K → Option (List ℕ)) (first last : K) (futu
               (AppendedFront-next moved.appended cut.0);
         };
       }
-  ends-final told left (Ended ending) third few taken none all ended =
+  ends-final told left (Refused NoMemory) third few taken none all paused =
+      let before = moved.pauses true [] paused.text paused.pauses in
+      record {
+        octets = octets;
+        taken = taken;
+        few = omega arith;
+        meets = record {
+          ended = true;
+          all = λ same. (few, all);
+          text = moved.text ++ paused.text;
+          pauses = subst (λ (zs : List ℕ). Contains (future.pauses true zs) (moved.text ++ paused.text)) (append-nil octets ∙ sym (take_all input_most octets few))
+              (subst (λ (zs : List ℕ). Contains (future.pauses true (octets ++ [])) zs) before.whole before.is);
+          wrote = Appended-trans moved.appended paused.appended;
+        };
+      }
+  ends-final told left (Refused (Ended ending)) third few taken none all ended =
       let whole : moved.text ++ now.writes true [] ≡ future.writes true octets = sym (writes-more true []) ∙ ap (future.writes true) (append-nil octets) in
       let first_octets : take input_most octets ≡ octets = take_all input_most octets few in
       record {
@@ -135,7 +151,22 @@ stops-final written first third future fed tail told left Fault few most taken c
             (all_written-from future (λ (zs : List ℕ). AppendedFront (written first) zs (written third)) fed (tail ++ rest) few (λ b m. cut.front b m));
       };
     }
-stops-final written first third future fed tail told left (Ended ending) few most taken ended =
+stops-final written first third future fed tail told left (Refused NoMemory) few most taken paused =
+    let before = paused.pauses false (take (input_most - length fed) tail) in
+    record {
+      octets = fed ++ tail;
+      taken = taken;
+      few = most;
+      meets = record {
+        ended = false;
+        all = λ same. cc;
+        text = paused.text;
+        pauses = subst (λ (zs : List ℕ). Contains (future.pauses false zs) paused.text) (sym (first-take fed tail few))
+            (subst (λ (zs : List ℕ). Contains (future.pauses false (fed ++ take (input_most - length fed) tail)) zs) before.whole before.is);
+        wrote = paused.appended;
+      };
+    }
+stops-final written first third future fed tail told left (Refused (Ended ending)) few most taken ended =
     let e = first-take fed tail few in
     record {
       octets = fed ++ tail;
@@ -160,7 +191,15 @@ unfolding IsStopped
 nothing-stopped written first third future fed more Fault few cut none =
     let long = all_written-from future (λ (zs : List ℕ). 0 < length zs) fed more few (λ b m. cut.some b m) in
     absurd (omega (arith, ap length none, long))
-nothing-stopped written first third future fed more (Ended ending) few ended none =
+nothing-stopped written first third future fed more (Refused NoMemory) few paused none =
+    elim paused.touched [
+      | inl same ↦ same
+      | inr some ↦
+          let long = all_written-from future (λ (zs : List ℕ). 0 < length zs) fed more few
+          (λ b m. let rest = paused.begins b m in subst (λ (zs : List ℕ). 0 < length zs) (sym rest.1) (omega (arith, length-append paused.text rest.0, some))) in
+          absurd (omega (arith, ap length none, long))
+    ]
+nothing-stopped written first third future fed more (Refused (Ended ending)) few ended none =
     elim ended.touched [
       | inl same ↦ same
       | inr some ↦
@@ -172,7 +211,14 @@ nothing-stopped written first third future fed more (Ended ending) few ended non
 pub nothing-ended : {K : Type 0} (written : K → Option (List ℕ)) (first third : K) (now : Future) (stop : Stop) → EndsBy written first now stop third → now.writes true [] ≡ [] → third ≡ first
 unfolding EndsBy
 nothing-ended written first third now Fault cut none = absurd (omega (arith, ap length none, cut.1))
-nothing-ended written first third now (Ended ending) ended none = elim ended.2 [ inl same ↦ same | inr some ↦ absurd (omega (arith, ap length none, some)) ]
+nothing-ended written first third now (Refused NoMemory) paused none =
+    elim paused.touched [
+      | inl same ↦ same
+      | inr some ↦
+          let rest = paused.begins in
+          absurd (omega (arith, ap length none, ap length rest.1, length-append paused.text rest.0, some))
+    ]
+nothing-ended written first third now (Refused (Ended ending)) ended none = elim ended.2 [ inl same ↦ same | inr some ↦ absurd (omega (arith, ap length none, some)) ]
 
 -- the input is too long: its first octets were fed
 pub too-long : {K : Type 0} (written : K → Option (List ℕ)) (first third : K) (future now : Future) (fed tail : List ℕ) (told left : Option (List ℕ))
@@ -313,8 +359,8 @@ all_written-same f g writes input = by_length (nat_lt input_most (length input))
 
 pub Worked-same : (told left first last : Option (List ℕ)) (f g : Future) (end : WorkEnd)
     → ((is : Bool) (octets : List ℕ) → f.writes is octets ≡ g.writes is octets) → ((is : Bool) (octets : List ℕ) → f.ends is octets ≡ g.ends is octets)
-    → Worked told left first last f end → Worked told left first last g end
-Worked-same told left first last f g (WorkEnded ending) writes ends worked =
+    → ((is : Bool) (octets : List ℕ) → f.pauses is octets ≡ g.pauses is octets) → Worked told left first last f end → Worked told left first last g end
+Worked-same told left first last f g (WorkEnded ending) writes ends pauses worked =
     record {
       octets = worked.octets;
       taken = worked.taken;
@@ -327,7 +373,7 @@ Worked-same told left first last f g (WorkEnded ending) writes ends worked =
         wrote = Appended-same (writes worked.meets.ended (take input_most worked.octets)) worked.meets.wrote;
       };
     }
-Worked-same told left first last f g ReadFault writes ends worked =
+Worked-same told left first last f g ReadFault writes ends pauses worked =
     record {
       octets = worked.octets;
       taken = worked.taken;
@@ -338,14 +384,14 @@ Worked-same told left first last f g ReadFault writes ends worked =
         wrote = Appended-same (writes false worked.octets) worked.meets.wrote;
       };
     }
-Worked-same told left first last f g WriteFault writes ends worked =
+Worked-same told left first last f g WriteFault writes ends pauses worked =
     record {
       octets = worked.octets;
       taken = worked.taken;
       few = worked.few;
       meets = record { front = λ rest is. AppendedFront-same (all_written-same f g writes (worked.octets ++ rest)) (worked.meets.front rest is) };
     }
-Worked-same told left first last f g TooLong writes ends worked =
+Worked-same told left first last f g TooLong writes ends pauses worked =
     record {
       octets = worked.octets;
       taken = worked.taken;
@@ -354,5 +400,18 @@ Worked-same told left first last f g TooLong writes ends worked =
         many = worked.meets.many;
         ends = sym (ends false (take input_most worked.octets)) ∙ worked.meets.ends;
         wrote = Appended-same (writes false (take input_most worked.octets)) worked.meets.wrote;
+      };
+    }
+Worked-same told left first last f g Memory writes ends pauses worked =
+    record {
+      octets = worked.octets;
+      taken = worked.taken;
+      few = worked.few;
+      meets = record {
+        ended = worked.meets.ended;
+        all = worked.meets.all;
+        text = worked.meets.text;
+        pauses = subst (λ (texts : List (List ℕ)). Contains texts worked.meets.text) (pauses worked.meets.ended (take input_most worked.octets)) worked.meets.pauses;
+        wrote = worked.meets.wrote;
       };
     }

@@ -1,9 +1,9 @@
 -- What the work on an input leaves, by how it ended.
-use Rattle.std.specs.Prelude.{◌≡◌, ℕ, ◌+◌, ◌<◌, ◌≤◌, Bool, true, false, cond, nat_lt, Option, Some, None, List, ◌++◌, length, take, IfSome}
+use Rattle.std.specs.Prelude.{◌≡◌, ℕ, ◌+◌, ◌<◌, ◌≤◌, Bool, true, false, cond, nat_lt, Option, Some, None, List, ◌++◌, length, take, Contains, IfSome}
 use Rattle.p25_io.specs.Octets.{Taken, Appended, AppendedFront}
 use Rattle.p25_work.specs.declared.ending.Ending.{Ending}
 use Rattle.p25_work.specs.declared.ending.WorkEnd.{WorkEnd}
-use Rattle.p25_work.specs.declared.ending.WorkEnd.TheVariants.{Ended, ReadFault, WriteFault, TooLong}
+use Rattle.p25_work.specs.declared.ending.WorkEnd.TheVariants.{Ended, ReadFault, WriteFault, TooLong, Memory}
 use Rattle.p25_work.specs.Futures.{Future}
 
 -- the most octets of an input, and of a read
@@ -42,12 +42,22 @@ pub record IsTooLong (first last : Option (List ℕ)) (future : Future) (octets 
 pub record IsWriteFault (left first last : Option (List ℕ)) (future : Future) (octets : List ℕ) : Type 0 where
   pub front : (rest : List ℕ) → left ≡ Some rest → AppendedFront first (all_written future (octets ++ rest)) last
 
+-- memory was wanting: what is written is a text behind which it may be, by the octets taken, which are all or more may come;
+-- no octet past the most is looked at
+pub record IsMemory (told first last : Option (List ℕ)) (future : Future) (octets : List ℕ) : Type 0 where
+  pub ended : Bool
+  pub all : ended ≡ true → (length octets ≤ input_most) × IfSome told (λ input. input ≡ octets)
+  pub text : List ℕ
+  pub pauses : Contains (future.pauses ended (take input_most octets)) text
+  pub wrote : Appended first text last
+
 -- what an end says of the octets taken and of what was written
 abbrev pub Meets : (told left first last : Option (List ℕ)) → Future → List ℕ → WorkEnd → Type 0
 Meets told left first last future octets (Ended ending) = IsFinal told first last future octets ending
 Meets told left first last future octets ReadFault = IsReadFault first last future octets
 Meets told left first last future octets WriteFault = IsWriteFault left first last future octets
 Meets told left first last future octets TooLong = IsTooLong first last future octets
+Meets told left first last future octets Memory = IsMemory told first last future octets
 
 -- some octets were taken from the source, at most one read more than the most of an input, and the end is met
 pub record Worked (told left first last : Option (List ℕ)) (future : Future) (end : WorkEnd) : Type 0 where

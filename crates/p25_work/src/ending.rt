@@ -13,6 +13,15 @@ pub enum Ending {
     BadLine { line: u64, fault: LineFault },
 }
 
+/// Why a command at work gives no further piece.
+#[derive(Clone, Copy, Debug, PartialEq, Eq)]
+pub enum Refusal {
+    /// The input is refused, and the call ends so.
+    Ended(Ending),
+    /// There is not enough memory.
+    Memory,
+}
+
 /// How the work on an input ended.
 #[derive(Clone, Copy, Debug, PartialEq, Eq)]
 pub enum WorkEnd {
@@ -24,6 +33,8 @@ pub enum WorkEnd {
     WriteFault,
     /// The input has more than 16,777,216 octets.
     TooLong,
+    /// There was not enough memory, and all before that was written.
+    Memory,
 }
 
 // Why the work stopped before the next read.
@@ -31,8 +42,8 @@ pub enum WorkEnd {
 pub(crate) enum Stop {
     // A write failed.
     Fault,
-    // The input ended or was refused, and all before that is written.
-    Ended(Ending),
+    // The input ended or was refused, or there was not enough memory; all before that is written.
+    Refused(Refusal),
 }
 
 impl Stop {
@@ -45,7 +56,8 @@ impl Stop {
     {
         match self {
             Stop::Fault => WorkEnd::WriteFault,
-            Stop::Ended(ending) => WorkEnd::Ended(ending),
+            Stop::Refused(Refusal::Ended(ending)) => WorkEnd::Ended(ending),
+            Stop::Refused(Refusal::Memory) => WorkEnd::Memory,
         }
     }
 }

@@ -7,7 +7,7 @@ ghost use Rattle.p25_work.specs.Endings.{end_of};
 ghost use Rattle.p25_work.specs.Futures.{EndsBy, IsIdle, IsStopped, Moved};
 ghost use Rattle.p25_work.specs.Runs.{Worked, all_written};
 
-use super::ending::{Ending, Stop, WorkEnd};
+use super::ending::{Refusal, Stop, WorkEnd};
 use super::page::{flush, gather};
 use super::worker::Worker;
 use p25_io::{Sink, Source};
@@ -16,17 +16,17 @@ use p25_line::Line;
 // The most octets of an input.
 const INPUT_MOST: usize = 16_777_216;
 
-// Writes the page, behind which the input is refused.
-fn refused<K: Sink>(ending: Ending, page: &mut Line, sink: &mut K) -> Stop
-    ensures refused { result ≡ Stop.Ended ending → Appended (K.written sink.old) page.old (K.written sink.new) }
+// Writes the page, behind which there is no further piece.
+fn refused<K: Sink>(refusal: Refusal, page: &mut Line, sink: &mut K) -> Stop
+    ensures refused { result ≡ Stop.Refused refusal → Appended (K.written sink.old) page.old (K.written sink.new) }
     ensures fault { result ≡ Stop.Fault
         → AppendedFront (K.written sink.old) page.old (K.written sink.new) × (0 < length page.old) × Rose (K.faults sink.old) (K.faults sink.new) }
-    ensures one { (result ≡ Stop.Ended ending) ⊎ (result ≡ Stop.Fault) }
+    ensures one { (result ≡ Stop.Refused refusal) ⊎ (result ≡ Stop.Fault) }
     ensures touched { (sink.new ≡ sink.old) ⊎ (0 < length page.old) }
     ensures later { K.faults sink.old ≤ K.faults sink.new }
 {
     match flush(page, sink) {
-        Ok(()) => Stop::Ended(ending),
+        Ok(()) => Stop::Refused(refusal),
         Err(_) => Stop::Fault,
     }
 }
@@ -55,7 +55,7 @@ fn drain<W: Worker, K: Sink>(
                 };
             }
             Ok(false) => return Ok(()),
-            Err(ending) => return Err(refused(ending, page, sink)),
+            Err(refusal) => return Err(refused(refusal, page, sink)),
         }
     }
 }
@@ -70,7 +70,7 @@ fn feed_octet<W: Worker, K: Sink>(
 ) -> Result<(), Stop>
     requires drained { W.IsDrained worker.old }
     requires going { W.is_finished worker.old ≡ false }
-    requires few { W.size worker.old < 2 ^ 60 }
+    requires few { W.size worker.old < 2 ^ 28 }
     ensures moved { OnOk result (Moved K.written sink.old page.old (W.future worker.old) (octet ∷ []) sink.new page.new (W.future worker.new)) }
     ensures drained { OnOk result (W.IsDrained worker.new) }
     ensures idle { OnOk result (IsIdle false (W.future worker.new)) }
@@ -95,7 +95,7 @@ fn feed<W: Worker, K: Sink>(
     requires drained { W.IsDrained worker.old }
     requires idle { IsIdle false (W.future worker.old) }
     requires going { W.is_finished worker.old ≡ false }
-    requires few { W.size worker.old + 8 * length octets.now < 2 ^ 60 }
+    requires few { W.size worker.old + 8 * length octets.now < 2 ^ 28 }
     ensures moved { OnOk result (Moved K.written sink.old page.old (W.future worker.old) octets.now sink.new [] (W.future worker.new)) }
     ensures empty { OnOk result (page.new ≡ []) }
     ensures drained { OnOk result (W.IsDrained worker.new) }
@@ -122,7 +122,7 @@ fn feed<W: Worker, K: Sink>(
 fn end<W: Worker, K: Sink>(worker: &mut W, page: &mut Line, piece: &mut Line, sink: &mut K) -> Stop
     requires drained { W.IsDrained worker.old }
     requires going { W.is_finished worker.old ≡ false }
-    requires few { W.size worker.old < 2 ^ 60 }
+    requires few { W.size worker.old < 2 ^ 28 }
     requires empty { page.old ≡ [] }
     ensures ended { EndsBy K.written sink.old (W.future worker.old) result sink.new }
     ensures later { K.faults sink.old ≤ K.faults sink.new }
@@ -132,11 +132,12 @@ fn end<W: Worker, K: Sink>(worker: &mut W, page: &mut Line, piece: &mut Line, si
     if let Err(stop) = drain(worker, page, piece, sink) {
         return stop;
     }
-    refused(worker.ending(), page, sink)
+    refused(Refusal::Ended(worker.ending()), page, sink)
 }
 
 /// Reads the source to its end, at most 16,777,216 octets, hands the octets to the command and writes what it gives. All
-/// that the octets taken so far decide is written before the next read.
+/// that the octets taken so far decide is written before the next read. Where there is not enough memory, what came before is
+/// written.
 pub fn work<W: Worker, S: Source, K: Sink>(worker: &mut W, source: &mut S, sink: &mut K) -> WorkEnd
     requires drained { W.IsDrained worker.old }
     requires idle { IsIdle false (W.future worker.old) }

@@ -1,16 +1,20 @@
 //! The work on an input: octets are read in pieces from a source, handed one after the other to a command, and what the
 //! command gives for them is written to a sink in few pieces.
 //!
-//! A command is a `Worker`. Contracts see it by its `Future`: what it still writes, and how the call ends, for each list
-//! of octets that may still come. `work` reads to the end of the input, at most 16,777,216 octets; all that the octets
+//! A command is a `Worker`. Contracts see it by its `Future`: what it still writes, how the call ends, and behind which texts
+//! memory may be wanting, for each list of octets that may still come. `work` reads to the end of the input, at most 16,777,216 octets; all that the octets
 //! taken so far decide is written before the next read. What stands after each way to end is `Worked`.
 #![tactic(auto)]
 
 mod ending;
 mod input;
+mod line_machine;
+mod line_work;
 mod page;
 mod worker;
 
-pub use ending::{Ending, WorkEnd};
+pub use ending::{Ending, Refusal, WorkEnd};
 pub use input::work;
+pub use line_machine::{LineMachine, LineRefusal};
+pub use line_work::LineWork;
 pub use worker::Worker;

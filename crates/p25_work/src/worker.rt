@@ -3,14 +3,15 @@
 ghost use Rattle.std.specs.Prelude.{◌≡◌, ℕ, ◌+◌, ◌^◌, ◌<◌, ◌≤◌, Bool, true, false, List, [], ◌∷◌};
 ghost use Rattle.p25_work.specs.Futures.{Future, Progress, IsClosed, IsIdle, NextPiece};
 
-use super::ending::Ending;
+use super::ending::{Ending, Refusal};
 use p25_line::Line;
 
 /// A command at work: octets go in one at a time, and what it writes for them comes out in pieces.
 ///
-/// Contracts see what it is still to write, and how it ends, for any octets that may still come (its `future`).
+/// Contracts see what it is still to write, how it ends, and where memory may be wanting, for any octets that may still
+/// come (its `future`).
 pub trait Worker {
-    // What it still writes and how it ends, for each list of octets that may come.
+    // What it still writes, how it ends and where memory may be wanting, for each list of octets that may come.
     ghost future: { Self → Future };
 
     // No more octets come.
@@ -29,7 +30,7 @@ pub trait Worker {
     fn push(&mut self, octet: u8)
         requires drained { IsDrained self.old }
         requires going { is_finished self.old ≡ false }
-        requires few { size self.old < 2 ^ 60 }
+        requires few { size self.old < 2 ^ 28 }
         ensures moved { Progress (future self.old) (octet ∷ []) [] (future self.new) }
         ensures going { is_finished self.new ≡ false }
         ensures size { size self.new ≤ size self.old + 8 };
@@ -38,13 +39,13 @@ pub trait Worker {
     fn finish(&mut self)
         requires drained { IsDrained self.old }
         requires going { is_finished self.old ≡ false }
-        requires few { size self.old < 2 ^ 60 }
+        requires few { size self.old < 2 ^ 28 }
         ensures closed { IsClosed (future self.old) (future self.new) }
         ensures finished { is_finished self.new ≡ true };
 
-    /// Sets `out` to the next piece and answers true, or answers false where it is drained. An ending is a refusal of
-    /// the input, which ends the call.
-    fn next(&mut self, out: &mut Line) -> Result<bool, Ending>
+    /// Sets `out` to the next piece and answers true, or answers false where it is drained. A refusal ends the call: the
+    /// input is refused, or there is not enough memory, which may be only where the `future` says so.
+    fn next(&mut self, out: &mut Line) -> Result<bool, Refusal>
         ensures piece { NextPiece (future self.old) result out.new (future self.new) }
         ensures drained { result ≡ Ok false → IsDrained self.new }
         ensures idle { result ≡ Ok false → IsIdle (is_finished self.new) (future self.new) }

@@ -1,13 +1,13 @@
 use Rattle.std.proofs.Common.{◌≡◌, Bool, true, false, [], Result, Ok, sym, subst}
 use Rattle.p25_stream.specs.Scan.{given}
 use Rattle.p25_work.specs.Futures.{NextPiece}
-use Rattle.p25_work.specs.declared.ending.Ending.{Ending}
+use Rattle.p25_work.specs.declared.ending.Refusal.{Refusal}
 use Rattle.p25_tool.specs.declared.recording.Phase.{Phase}
 use Rattle.p25_tool.specs.Recordings.{HasClosed, RecordingParts, has_ended, recording, recording_future}
 use Rattle.p25_tool.proofs.RecordingsLaws.{step-close, step-idle, step-item}
 use Rattle.p25_tool.proofs.recording.RecordingWorker.next.Goals as goal
 
-no_piece : (answer : Bool) → ◌≡◌ {A = Result Bool Ending} (Ok answer) (Ok false) → answer ≡ false
+no_piece : (answer : Bool) → ◌≡◌ {A = Result Bool Refusal} (Ok answer) (Ok false) → answer ≡ false
 no_piece answer same = cc
 
 pub returns-clause-piece : goal.returns-clause-piece
