@@ -113,7 +113,7 @@ module _ {E : Type 0} (read : Reading E) (command : Command) (text : List E → 
           let lines = lines_in false [] (take input_most octets) in
           absurd (not-done (refusal_in read 1 lines) (refusal-done read lines 1) (sym (is.ends false (take input_most octets)) ∙ ends ∙ ap (λ (e : Ending). Some e) done))
 
-  pub wrote-done : (end : WorkEnd) → Worked told left first last (command_future command) end → work_outcome end ≡ Done → Appended first (text events true None) last
+  wrote-done : (end : WorkEnd) → Worked told left first last (command_future command) end → work_outcome end ≡ Done → Appended first (text events true None) last
   wrote-done (Ended ending) worked same = wrote-final worked.octets ending worked.meets (ended-done ending same)
   wrote-done ReadFault worked same = cc same
   wrote-done WriteFault worked same = cc same
@@ -126,7 +126,7 @@ module _ {E : Type 0} (read : Reading E) (command : Command) (text : List E → 
       let short : answer_of command input ≡ ending_or (ending_by command true input) OutcomeTooLong = by_length (nat_lt input_most (length input)) _ _ (grind (arith, nat_tests, few)) in
       short ∙ ap (λ (o : Option Ending). ending_or o OutcomeTooLong) (is.ends true input ∙ ap (λ (r : Option Ending). lines_ending true r) are.accepted)
 
-  pub script-ended : (outcome : Outcome) → (outcome ≡ answer_of command input) ⊎ ((outcome ≡ Memory) × CanWantMemory command) → (outcome ≡ Done) ⊎ (outcome ≡ Memory)
+  script-ended : (outcome : Outcome) → (outcome ≡ answer_of command input) ⊎ ((outcome ≡ Memory) × CanWantMemory command) → (outcome ≡ Done) ⊎ (outcome ≡ Memory)
   script-ended outcome (inl same) = inl (same ∙ answer-done)
   script-ended outcome (inr wanting) = inr wanting.0
 
