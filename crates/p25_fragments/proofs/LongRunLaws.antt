@@ -26,12 +26,14 @@ use Rattle.p25_fragments.proofs.OfferSteps.{offered-down, beside}
 use Rattle.p25_fragments.proofs.OfferedLaws.{offered-to}
 use Rattle.p25_fragments.proofs.InnerStepLaws.{inner-step}
 use Rattle.p25_fragments.proofs.MatchLaws.{mark_of, not_yet, IsIdleLong, MatchesBy, matches-at, matches-from, Follows, sessions-orderly}
-use Rattle.p25_fragments.proofs.LongStepLaws.{FollowsStep, marks-count, inner-follows}
+use Rattle.p25_fragments.proofs.FollowsLaws.{FollowsStep, marks-count}
+use Rattle.p25_fragments.proofs.LongStepLaws.{inner-follows}
 
 -- A long message is offered.
 
 -- it is taken, and its part 0 is outstanding
-started-follows : (w : LongState) (message : List ℕ) → (f : Follows w) → length message ≤ 4000 → f.link.sender.outstanding ≡ Nothing → f.link.sender.down ≡ false → FollowsStep (started w message (world_step w.inner (Send (part_of message 0))))
+started-follows : (w : LongState) (message : List ℕ) → (f : Follows w) → length message ≤ 4000 → f.link.sender.outstanding ≡ Nothing → f.link.sender.down ≡ false →
+    FollowsStep (started w message (world_step w.inner (Send (part_of message 0))))
 unfolding started MatchesBy
 started-follows w message f short o up =
     let h = f.long in

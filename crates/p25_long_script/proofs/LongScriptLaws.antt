@@ -62,7 +62,8 @@ pub record IsLongLineOf (line : List ℕ) (event : LongEvent) : Type 0 where
   pub text : long_event_text event ≡ line
   pub fits : IsLongScripted event
 
-from_long : (line first word : List ℕ) (made : Option (List ℕ)) (event : LongEvent) → words_or_fault line ≡ Ok (first ∷ word ∷ []) → first ≡ codes "long" → long_message_in word ≡ made → long_or_fault made ≡ Ok event → IsLongLineOf line event
+from_long : (line first word : List ℕ) (made : Option (List ℕ)) (event : LongEvent) → words_or_fault line ≡ Ok (first ∷ word ∷ []) → first ≡ codes "long" → long_message_in word ≡ made → long_or_fault made ≡ Ok event →
+    IsLongLineOf line event
 unfolding long_event_text IsLongScripted
 from_long line first word None event w f read found = cc found
 from_long line first word (Some message) event w f read found =
@@ -78,7 +79,8 @@ from_others line first (word ∷ []) event w f found = from_long line first word
 from_others line first (word ∷ next ∷ others) event w f found = cc found
 
 -- an event whose line begins with another word than `send` offers no message
-no-offer : (line first : List ℕ) (others : List (List ℕ)) (event : Event) → words_or_fault line ≡ Ok (first ∷ others) → bytes_eq first (codes "send") ≡ false → event_text event ≡ line → length line ≤ 8192 → IsScripted event → IsNoOffer event
+no-offer : (line first : List ℕ) (others : List (List ℕ)) (event : Event) → words_or_fault line ≡ Ok (first ∷ others) → bytes_eq first (codes "send") ≡ false → event_text event ≡ line → length line ≤ 8192 → IsScripted event →
+    IsNoOffer event
 unfolding IsNoOffer
 no-offer line first others (Send message) w s text short fits =
     let words = line-words (Send message) fits (subst (λ (l : List ℕ). length l ≤ 8192) (sym text) short) in
@@ -91,7 +93,8 @@ no-offer line first others Reopen w s text short fits = tt
 no-offer line first others (ToReceiver places) w s text short fits = tt
 no-offer line first others (ToSender places) w s text short fits = tt
 
-from_inner : (line first : List ℕ) (others : List (List ℕ)) (read : Result Event LineFault) (event : LongEvent) → words_or_fault line ≡ Ok (first ∷ others) → bytes_eq first (codes "send") ≡ false → event_of line ≡ read → inner_or_fault read ≡ Ok event →
+from_inner : (line first : List ℕ) (others : List (List ℕ)) (read : Result Event LineFault) (event : LongEvent) → words_or_fault line ≡ Ok (first ∷ others) → bytes_eq first (codes "send") ≡ false → event_of line ≡ read →
+    inner_or_fault read ≡ Ok event →
     IsLongLineOf line event
 unfolding long_event_text IsLongScripted
 from_inner line first others (Err fault) event w s read found = cc found

@@ -1,9 +1,11 @@
 //! Values from outside: through `run`, read in pieces of 1, of 2, of 7 and of all octets, and as scripts of the stations' world.
 
 mod calls;
+mod fragments;
 mod packets;
 mod refusals;
 mod script;
+mod stations;
 mod voice;
 mod world;
 
