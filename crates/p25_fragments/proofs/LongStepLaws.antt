@@ -62,7 +62,7 @@ record TakesPart (v w : Link) (s : LongSending) (r : LongReceiving) (marks : Lis
 
 takes-inner : (v w : Link) (s : LongSending) (r : LongReceiving) (marks : List LongMark) (part : List ℕ) → w.sender.outstanding ≡ Message part → length w.session.delivered ≡ w.session.acknowledged + 1 → w.ended ≡ v.ended →
     (h : IsLongOf v s r marks) → (m : IsSendingLong part (length v.session.delivered) v.session.acknowledged s.outgoing r.joining h.present) → h.present.delivered ≡ m.front → r.joining ≡ joined_at m.message m.number →
-        m.number + 1 < part_count (length m.message) →
+    m.number + 1 < part_count (length m.message) →
     TakesPart v w s r marks part
 unfolding MatchesBy joined_with then_of
 takes-inner v w s r marks part o c e h m d j n =
@@ -98,7 +98,7 @@ takes-inner v w s r marks part o c e h m d j n =
 
 takes-last : (v w : Link) (s : LongSending) (r : LongReceiving) (marks : List LongMark) (part : List ℕ) → w.sender.outstanding ≡ Message part → length w.session.delivered ≡ w.session.acknowledged + 1 → w.ended ≡ v.ended →
     (h : IsLongOf v s r marks) → (m : IsSendingLong part (length v.session.delivered) v.session.acknowledged s.outgoing r.joining h.present) → h.present.delivered ≡ m.front → r.joining ≡ joined_at m.message m.number →
-        m.number + 1 ≡ part_count (length m.message) →
+    m.number + 1 ≡ part_count (length m.message) →
     TakesPart v w s r marks part
 unfolding MatchesBy joined_with then_of
 takes-last v w s r marks part o c e h m d j n =
@@ -169,8 +169,18 @@ syn-then v w inner s r marks kind number at k is o e h =
     let m = matches-from w v.sender.outstanding s.outgoing first_joining h.present o
     (syn-matches v.sender.outstanding v.receiver.last (length v.session.delivered) v.session.acknowledged w.receiver.last (length w.session.delivered) w.session.acknowledged s.outgoing r.joining h.present is h.matches) in
     let long : IsLongOf w s (set_back r) marks
-    = record { ended = h.ended; present = h.present; orderly = h.orderly; ended_count = h.ended_count ∙
-        ap length (sym e); taken_is = h.taken_is; whole_is = h.whole_is; acknowledged_is = h.acknowledged_is; marks_are = h.marks_are; matches = m } in
+    = record {
+      ended = h.ended;
+      present = h.present;
+      orderly = h.orderly;
+      ended_count = h.ended_count ∙
+          ap length (sym e);
+      taken_is = h.taken_is;
+      whole_is = h.whole_is;
+      acknowledged_is = h.acknowledged_is;
+      marks_are = h.marks_are;
+      matches = m;
+    } in
     subst FollowsThen (sym (ap (λ (x : StepKind). after_kind x u) k)) (record { follows = record { link = w; world = at; long = long }; unrefused = plain-unrefused })
 
 -- A part is acknowledged.

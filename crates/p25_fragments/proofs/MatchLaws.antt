@@ -94,7 +94,7 @@ orderly-matches Nothing last delivered acknowledged out j s m = whole-orderly s 
 orderly-matches (Message part) last delivered acknowledged out j s m = came-orderly m.message m.number m.front delivered acknowledged j s m.sent_is m.acknowledged_is m.came
 orderly-matches (Opening number) last delivered acknowledged out j s m =
     whole-orderly s (ap (λ (x : Session). x.delivered) m.session_is ∙
-        sym (ap (λ (x : Session). x.sent) m.session_is)) (omega (arith, ap (λ (x : Session). x.acknowledged) m.session_is)) (omega (arith, ap (λ (x : Session). length x.sent) m.session_is))
+    sym (ap (λ (x : Session). x.sent) m.session_is)) (omega (arith, ap (λ (x : Session). x.acknowledged) m.session_is)) (omega (arith, ap (λ (x : Session). length x.sent) m.session_is))
 
 -- The sessions before it.
 
@@ -140,7 +140,7 @@ sessions-are w v h =
     let made : List (List ℕ) → List (List ℕ) → ℕ → List Mark → WorldState = λ (a b : List (List ℕ)) (k : ℕ) (ms : List Mark). record first_world { sent = a; delivered = b; acknowledged = k; marks = ms } in
     let same : as_world w.sender w.receiver w.marks ≡ world_of fake 0
     = ap₂ (λ (a b : List (List ℕ)). made a b w.sender.acknowledged (map mark_of w.marks)) h.taken_is h.whole_is ∙
-        ap₂ (λ (k : ℕ) (ms : List Mark). made (sent_in h.ended ++ h.present.sent) (delivered_in h.ended ++ h.present.delivered) k ms) h.acknowledged_is h.marks_are in
+    ap₂ (λ (k : ℕ) (ms : List Mark). made (sent_in h.ended ++ h.present.sent) (delivered_in h.ended ++ h.present.delivered) k ms) h.acknowledged_is h.marks_are in
     long-sessions (record { taken = 0; whole = 0; acknowledged = 0 }) w.marks w ∙ ap (λ (x : WorldState). sessions_of x) same ∙ sessions-world_of fake 0
 
 pub sessions-orderly : (w : LongState) → Follows w → AreOrderly (long_sessions_of w)

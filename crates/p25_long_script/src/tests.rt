@@ -51,12 +51,7 @@ fn read_lines(rt: HostRuntime) -> Result<(), Fail> {
 // A line, and the two pieces of the text of its step.
 type Row<'a> = (&'a [u8], &'a [u8], &'a [u8]);
 
-fn play(
-    rt: &impl Abort,
-    world: &mut LongWorld,
-    rows: &[Row],
-    closing: &[u8],
-) -> Result<(), Fail> {
+fn play(rt: &impl Abort, world: &mut LongWorld, rows: &[Row], closing: &[u8]) -> Result<(), Fail> {
     let mut out = Line::new();
     let mut behind = Line::new();
     for (line, first, second) in rows {
@@ -81,25 +76,59 @@ fn two_parts(rt: HostRuntime) -> Result<(), Fail> {
     whole[..14].copy_from_slice(b"whole message=");
     whole[1_016] = b'\n';
     let rows: [Row; 5] = [
-        (&long, b"long taken parts=2\n", b"send taken ns=0 blocks=32\n"),
+        (
+            &long,
+            b"long taken parts=2\n",
+            b"send taken ns=0 blocks=32\n",
+        ),
         (b"deliver data -", &delivered, b"part 0\n"),
-        (b"deliver answer -", b"answer acknowledged ns=0\n", b"send taken ns=1 blocks=1\n"),
-        (b"deliver data -", b"data delivered ns=1 message=8100\n", &whole),
-        (b"deliver answer -", b"answer acknowledged ns=1\n", b"long acknowledged\n"),
+        (
+            b"deliver answer -",
+            b"answer acknowledged ns=0\n",
+            b"send taken ns=1 blocks=1\n",
+        ),
+        (
+            b"deliver data -",
+            b"data delivered ns=1 message=8100\n",
+            &whole,
+        ),
+        (
+            b"deliver answer -",
+            b"answer acknowledged ns=1\n",
+            b"long acknowledged\n",
+        ),
     ];
     let mut world = LongWorld::new(rt.alloc());
-    play(&rt, &mut world, &rows, b"taken=1 whole=1 acknowledged=1 false=0")
+    play(
+        &rt,
+        &mut world,
+        &rows,
+        b"taken=1 whole=1 acknowledged=1 false=0",
+    )
 }
 
 #[test]
 fn one_part_and_busy(rt: HostRuntime) -> Result<(), Fail> {
     let rows: [Row; 3] = [
-        (b"long -", b"long taken parts=1\n", b"send taken ns=0 blocks=1\n"),
+        (
+            b"long -",
+            b"long taken parts=1\n",
+            b"send taken ns=0 blocks=1\n",
+        ),
         (b"long -", b"", b"long busy\n"),
-        (b"deliver data -", b"data delivered ns=0 message=80\n", b"whole message=-\n"),
+        (
+            b"deliver data -",
+            b"data delivered ns=0 message=80\n",
+            b"whole message=-\n",
+        ),
     ];
     let mut world = LongWorld::new(rt.alloc());
-    play(&rt, &mut world, &rows, b"taken=1 whole=1 acknowledged=0 false=0")
+    play(
+        &rt,
+        &mut world,
+        &rows,
+        b"taken=1 whole=1 acknowledged=0 false=0",
+    )
 }
 
 #[test]
@@ -108,8 +137,17 @@ fn down_and_another_session(rt: HostRuntime) -> Result<(), Fail> {
     for _tries in 0..17 {
         world.step(&read_long_event(b"timeout")?)?;
     }
-    let rows: [Row; 1] = [(b"long -", b"long taken parts=1\n", b"send taken ns=0 blocks=1\n")];
-    play(&rt, &mut world, &rows, b"taken=1 whole=0 acknowledged=0 false=0")?;
+    let rows: [Row; 1] = [(
+        b"long -",
+        b"long taken parts=1\n",
+        b"send taken ns=0 blocks=1\n",
+    )];
+    play(
+        &rt,
+        &mut world,
+        &rows,
+        b"taken=1 whole=0 acknowledged=0 false=0",
+    )?;
     for _tries in 0..16 {
         world.step(&read_long_event(b"timeout")?)?;
     }
@@ -118,5 +156,10 @@ fn down_and_another_session(rt: HostRuntime) -> Result<(), Fail> {
         (b"reopen", b"reopen sent ns=4\n", b""),
         (b"long 61", b"", b"long busy\n"),
     ];
-    play(&rt, &mut world, &rows, b"taken=1 whole=0 acknowledged=0 false=0 sessions=2")
+    play(
+        &rt,
+        &mut world,
+        &rows,
+        b"taken=1 whole=0 acknowledged=0 false=0 sessions=2",
+    )
 }

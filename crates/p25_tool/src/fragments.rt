@@ -43,12 +43,7 @@ impl LineMachine for Fragments {
 
     ghost long = { fragment_long };
 
-    fn take(
-        &mut self,
-        line: &[u8],
-        out: &mut Line,
-        behind: &mut Line,
-    ) -> Result<(), LineRefusal> {
+    fn take(&mut self, line: &[u8], out: &mut Line, behind: &mut Line) -> Result<(), LineRefusal> {
         match read_long_event(line) {
             Ok(event) => {
                 // Memory is taken before anything happens.

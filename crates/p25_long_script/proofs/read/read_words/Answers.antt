@@ -20,11 +20,11 @@ word-requires-clause-held c = omega (arith, two_places c.args.line.now c.args.wo
 pub returns-in-Some : goal.returns-in-Some
 returns-in-Some c =
     let read = right_count c.args.line.now c.args.words.now c.word-first.result.now c.word.result.now c.requires c.word-first.ensures (sym c.is_same.ensures ∙ c.if-not-is_same.false) (sym c.count.ensures ∙
-        c.if-count-ne2.false) c.word.ensures in
+    c.if-count-ne2.false) c.word.ensures in
     sym (read ∙ ap long_or_fault (sym c.long_value.ensures ∙ c.in-Some.is))
 
 pub returns-in-None : goal.returns-in-None
 returns-in-None c =
     let read = right_count c.args.line.now c.args.words.now c.word-first.result.now c.word.result.now c.requires c.word-first.ensures (sym c.is_same.ensures ∙ c.if-not-is_same.false) (sym c.count.ensures ∙
-        c.if-count-ne2.false) c.word.ensures in
+    c.if-count-ne2.false) c.word.ensures in
     sym (read ∙ ap long_or_fault (sym c.long_value.ensures ∙ c.in-None.is))
