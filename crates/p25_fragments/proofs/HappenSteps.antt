@@ -1,6 +1,5 @@
 -- What a step of the inner world means for the long messages, as the code takes it. By the kind of the step.
-use Rattle.std.proofs.Common.{◌≡◌, ℕ, ◌+◌, ◌<◌, ◌≤◌, ◌⊎◌, inl, inr, Bool, true, false, List, [], ◌∷◌, ◌++◌, length, Some, None, ap, ap₂, sym, subst, refl, ◌∙◌, arith}
-use Rattle.std.specs.Prelude.{nat_lt}
+use Rattle.std.proofs.Common.{◌≡◌, ℕ, ◌<◌, ◌≤◌, Bool, true, false, List, [], ◌∷◌, ◌++◌, length, ap, ap₂, sym, refl, ◌∙◌, arith}
 use Rattle.std.proofs.lemmas.Bool.Decides.{nat_tests}
 use Rattle.p25_air_world.specs.declared.step.Event.{Event}
 use Rattle.p25_air_world.specs.declared.step.StepKind.{StepKind}
@@ -13,7 +12,6 @@ use Rattle.p25_fragments.specs.declared.long_mark.LongMark.{LongMark}
 use Rattle.p25_fragments.specs.declared.long_sender.Following.{Following}
 use Rattle.p25_fragments.specs.declared.long_step.Then.{Then}
 use Rattle.p25_fragments.specs.declared.long_step.Then.TheVariants.{Plain}
-use Rattle.p25_fragments.specs.declared.long_step.LongStep.{LongStep}
 use Rattle.p25_fragments.specs.SendingState.{LongSending}
 use Rattle.p25_fragments.specs.LongSenders.{given_up, gone_on}
 use Rattle.p25_fragments.specs.ReceivingState.{LongReceiving}
@@ -42,7 +40,8 @@ marked-same w inner v more e =
     record { is = e ∙ ap (λ (b : Bool). record (ended_when b w) { inner = inner }) (sym test) }
 
 -- the step, by what its kind means
-pub happened : (w now v : LongState) (event : Event) (inner : WorldState) (step : Step) (told : LongState × Then) → w ≡ now → inner ≡ (world_step w.inner event).0 → step ≡ (world_step w.inner event).1 → IsMarked w inner v → told ≡ after_kind step.kind v →
+pub happened : (w now v : LongState) (event : Event) (inner : WorldState) (step : Step) (told : LongState × Then) → w ≡ now → inner ≡ (world_step w.inner event).0 → step ≡ (world_step w.inner event).1 → IsMarked w inner v →
+    told ≡ after_kind step.kind v →
     with_first step told ≡ inner_happened now (world_step now.inner event)
 unfolding inner_happened
 happened w now v event inner step told n i s m t =
@@ -52,13 +51,15 @@ happened w now v event inner step told n i s m t =
 
 -- the kinds
 
-pub acknowledged-arm : (kind : StepKind) (number : ℕ) (v : LongState) (s : LongSending) (following : Following) (inner : WorldState) (told : Then) → kind ≡ Acknowledged number → s ≡ (gone_on v.sender.outgoing v.sender).0 → following ≡ (gone_on v.sender.outgoing v.sender).1 →
+pub acknowledged-arm : (kind : StepKind) (number : ℕ) (v : LongState) (s : LongSending) (following : Following) (inner : WorldState) (told : Then) → kind ≡ Acknowledged number → s ≡ (gone_on v.sender.outgoing v.sender).0 →
+    following ≡ (gone_on v.sender.outgoing v.sender).1 →
     inner ≡ (followed v.inner following).0 → told ≡ (followed v.inner following).1 → (record v { inner = inner; sender = s }, told) ≡ after_kind kind v
 unfolding after_kind after_acknowledged
 acknowledged-arm kind number v s following inner told k g f i t =
     ap₂ (λ (x : WorldState) (y : Then). (record v { inner = x; sender = s }, y)) i t ∙ ap₂ (λ (x : LongSending) (y : Following). after_acknowledged v (x, y)) g f ∙ ap (λ (x : StepKind). after_kind x v) (sym k)
 
-pub delivered-arm : (kind : StepKind) (number : ℕ) (message : List ℕ) (v : LongState) (r : LongReceiving) (joined : Joined) (told : Then) → kind ≡ Delivered number message → r ≡ (delivered_to v.receiver message).0 → joined ≡ (delivered_to v.receiver message).1 →
+pub delivered-arm : (kind : StepKind) (number : ℕ) (message : List ℕ) (v : LongState) (r : LongReceiving) (joined : Joined) (told : Then) → kind ≡ Delivered number message → r ≡ (delivered_to v.receiver message).0 →
+    joined ≡ (delivered_to v.receiver message).1 →
     told ≡ then_of joined → (record v { receiver = r }, told) ≡ after_kind kind v
 unfolding after_kind after_delivered
 delivered-arm kind number message v r joined told k d j t =
@@ -68,7 +69,8 @@ pub syn-arm : (kind : StepKind) (number : ℕ) (v : LongState) (r : LongReceivin
 unfolding after_kind
 syn-arm kind number v r k s = ap (λ (x : LongReceiving). (record v { receiver = x }, Plain)) s ∙ ap (λ (x : StepKind). after_kind x v) (sym k)
 
-pub other-arm : (kind : StepKind) (v : LongState) → ((number : ℕ) → kind ≡ Acknowledged number → ⊥) → ((number : ℕ) (message : List ℕ) → kind ≡ Delivered number message → ⊥) → ((number : ℕ) → kind ≡ SynHeard number → ⊥) → (v, Plain) ≡ after_kind kind v
+pub other-arm : (kind : StepKind) (v : LongState) → ((number : ℕ) → kind ≡ Acknowledged number → ⊥) → ((number : ℕ) (message : List ℕ) → kind ≡ Delivered number message → ⊥) → ((number : ℕ) → kind ≡ SynHeard number → ⊥) →
+    (v, Plain) ≡ after_kind kind v
 unfolding after_kind
 other-arm (Acknowledged number) v a d s = absurd (a number refl)
 other-arm (Delivered number message) v a d s = absurd (d number message refl)

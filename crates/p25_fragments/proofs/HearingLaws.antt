@@ -1,6 +1,6 @@
 -- What a station hears in a clean run, by what is outstanding. By the phases of a link, each with what its newest transmission
 -- reads as.
-use Rattle.std.proofs.Common.{◌≡◌, ℕ, ◌+◌, ◌%◌, ◌<◌, inl, inr, true, List, [], ◌∷◌, ◌++◌, length, Option, Some, None, refl, ap, sym, subst, ◌∙◌, arith, length-append}
+use Rattle.std.proofs.Common.{◌≡◌, ℕ, ◌+◌, ◌%◌, inl, inr, true, List, [], ◌∷◌, length, refl, ap, sym, subst, ◌∙◌, arith, length-append}
 use Rattle.std.proofs.lemmas.Option.{same_Some}
 use Rattle.p25_packet_blocks.specs.declared.packet.Packet.{Packet}
 use Rattle.p25_packet_blocks.specs.declared.packet.Packet.TheVariants.{Confirmed}
@@ -16,7 +16,7 @@ use Rattle.p25_stations.specs.declared.sender.SenderHeard.{SenderHeard}
 use Rattle.p25_stations.specs.declared.sender.SenderHeard.TheVariants.{Acknowledged, Opened as SenderOpened, Retry, Repeat, Ignored as SenderIgnored, Down as HeardDown}
 use Rattle.p25_stations.specs.declared.receiver.Heard.{Heard}
 use Rattle.p25_stations.specs.declared.receiver.Heard.TheVariants.{Delivered, Opened, Again, Kept, RefusedCrc, RefusedOrder, Ignored}
-use Rattle.p25_world.specs.Link.{Session, Link, empty_session}
+use Rattle.p25_world.specs.Link.{Link}
 use Rattle.p25_world.specs.Clean.{IsTrueTo, IsHeardOf}
 use Rattle.p25_world.specs.Facts.{IsDataOf}
 use Rattle.p25_world.proofs.SentLaws.{data-heard, opening-packet_heard, ack-heard, retry-heard}

@@ -1,6 +1,6 @@
 -- The inner world of a run of long messages has a run of its own, whose steps are the inner steps. One event after the other, by
 -- the rule that it takes.
-use Rattle.std.proofs.Common.{◌≡◌, ℕ, Bool, true, false, List, [], ◌∷◌, ◌++◌, length, Option, Some, None, refl, ap, ap₂, sym, subst, ◌∙◌, append_assoc}
+use Rattle.std.proofs.Common.{◌≡◌, ℕ, Bool, true, false, List, [], ◌∷◌, ◌++◌, refl, ap, ap₂, sym, subst, ◌∙◌}
 use Rattle.p25_stations.specs.declared.sender_state.Outstanding.{Outstanding}
 use Rattle.p25_stations.specs.declared.sender_state.Outstanding.TheVariants.{Nothing, Message, Opening}
 use Rattle.p25_air_world.specs.declared.step.Event.{Event}
@@ -26,7 +26,7 @@ use Rattle.p25_fragments.specs.LongSenders.{gone_on}
 use Rattle.p25_fragments.specs.ReceivingState.{LongReceiving}
 use Rattle.p25_fragments.specs.LongReceivers.{delivered_to}
 use Rattle.p25_fragments.specs.LongState.{LongState}
-use Rattle.p25_fragments.specs.LongSteps.{unmoved, started, long_offered_beside, long_offered, next_offered, followed, then_of, after_acknowledged, after_delivered, after_kind, ended_when, has_ended, with_first, inner_happened, long_step}
+use Rattle.p25_fragments.specs.LongSteps.{unmoved, started, long_offered_beside, long_offered, next_offered, followed, then_of, after_acknowledged, after_delivered, after_kind, ended_when, has_ended, inner_happened, long_step}
 use Rattle.p25_fragments.specs.LongRuns.{long_run, long_steps_of, first_steps, next_steps, inner_steps, IsInnerRun}
 use Rattle.p25_fragments.proofs.OfferSteps.{offered-down, beside}
 

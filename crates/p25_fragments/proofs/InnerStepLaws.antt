@@ -1,6 +1,6 @@
 -- What a step of the inner world is in a clean run, by what is outstanding before it. By the answers of the stations, each event
 -- in turn.
-use Rattle.std.proofs.Common.{◌≡◌, ℕ, ◌+◌, ◌%◌, inl, inr, Bool, true, false, List, [], ◌∷◌, ◌++◌, length, Option, Some, None, refl, ap, sym, subst, ◌∙◌, arith, length-append}
+use Rattle.std.proofs.Common.{◌≡◌, ℕ, ◌+◌, ◌%◌, inl, inr, Bool, false, List, [], ◌∷◌, ◌++◌, length, Option, Some, None, refl, ap, sym, subst, ◌∙◌, arith, length-append}
 use Rattle.p25_packet_blocks.specs.declared.packet.Packet.{Packet}
 use Rattle.p25_stations.specs.SenderState.{Sending}
 use Rattle.p25_stations.specs.ReceiverState.{Receiving}
@@ -16,7 +16,7 @@ use Rattle.p25_stations.specs.declared.sender.SenderHeard.{SenderHeard}
 use Rattle.p25_stations.specs.declared.sender.SenderHeard.TheVariants.{Acknowledged as HeardAck, Opened as SenderOpened, Retry, Repeat, Ignored as SenderIgnored, Down as DownAtAnswer}
 use Rattle.p25_stations.specs.declared.receiver.Heard.{Heard as HeardAnswer}
 use Rattle.p25_stations.specs.declared.receiver.Heard.TheVariants.{Delivered as HeardDelivered, Opened as ReceiverOpened, Again, Kept, RefusedCrc, RefusedOrder, Ignored as ReceiverIgnored}
-use Rattle.p25_world.specs.Link.{Link, next_session, Happening, Time_up, Opening_again, Data_heard, Answer_heard, happens, link_run}
+use Rattle.p25_world.specs.Link.{Link, next_session, Time_up, Opening_again, Data_heard, Answer_heard, happens, link_run}
 use Rattle.p25_world.specs.Link.{after_timeout as link_timeout, after_reopening as link_reopening, after_data as link_data, after_answer as link_answer}
 use Rattle.p25_world.specs.Clean.{IsHeardOf, IsClean}
 use Rattle.p25_world.proofs.SenderLaws.{Resends, resent-of, timeout-of, reopen-cases, reopen-up}
@@ -87,7 +87,8 @@ timed-with s (Opening number) = resent-of (λ packet. Unit {0}) s number _ tt
 timed-same : (s : Sending) → (timed_out s).0.outstanding ≡ s.outstanding
 timed-same s = (timeout-of (λ packet. Unit {0}) s s.outstanding refl (timed-with s s.outstanding)).0.outstanding
 
-timeout-by : (v : Link) (count : ℕ) (x : Sending × Resend) → x.0.outstanding ≡ v.sender.outstanding → IsOf (link_timeout v x) (after_timeout (world_of v count) x).0 → IsKept (link_timeout v x) → InnerStep v (quiet_step (after_timeout (world_of v count) x))
+timeout-by : (v : Link) (count : ℕ) (x : Sending × Resend) → x.0.outstanding ≡ v.sender.outstanding → IsOf (link_timeout v x) (after_timeout (world_of v count) x).0 → IsKept (link_timeout v x) →
+    InnerStep v (quiet_step (after_timeout (world_of v count) x))
 unfolding after_timeout link_timeout IsPlainKind
 timeout-by v count (s, Sent number tries packet) o is k = step_still _ (at _ _ is k) tt (record { outstanding = o; session_is = refl; last_is = refl; ended_is = refl })
 timeout-by v count (s, ResendIdle) o is k = step_still _ (at _ _ is k) tt (record { outstanding = o; session_is = refl; last_is = refl; ended_is = refl })
@@ -158,7 +159,8 @@ reopen-inner v count k = reopen-by v count v.sender.outstanding (reopened v.send
 
 -- A delivery to the receiver.
 
-plain-heard : (v : Link) (count : ℕ) (false_pass : Bool) (r : Receiving) (heard : HeardAnswer) → IsPlainHeard heard → r.last ≡ v.receiver.last → IsOf (link_data v (r, heard)) (heard_step false_pass (after_data (world_of v count) (r, heard))).0 →
+plain-heard : (v : Link) (count : ℕ) (false_pass : Bool) (r : Receiving) (heard : HeardAnswer) → IsPlainHeard heard → r.last ≡ v.receiver.last →
+    IsOf (link_data v (r, heard)) (heard_step false_pass (after_data (world_of v count) (r, heard))).0 →
     IsKept (link_data v (r, heard)) → InnerStep v (heard_step false_pass (after_data (world_of v count) (r, heard)))
 unfolding after_data link_data IsPlainHeard IsPlainKind
 plain-heard v count b r (HeardDelivered number message answer) p l is k = absurd p
@@ -200,7 +202,8 @@ data-newest v count (Some sent) flips n k f is = data-carried v count sent flips
 
 -- A delivery to the sender.
 
-plain-answer : (v : Link) (count : ℕ) (false_pass : Bool) (s : Sending) (heard : SenderHeard) → IsPlainAnswer heard → s.outstanding ≡ v.sender.outstanding → IsOf (link_answer v (s, heard)) (heard_step false_pass (after_answer (world_of v count) (s, heard))).0 →
+plain-answer : (v : Link) (count : ℕ) (false_pass : Bool) (s : Sending) (heard : SenderHeard) → IsPlainAnswer heard → s.outstanding ≡ v.sender.outstanding →
+    IsOf (link_answer v (s, heard)) (heard_step false_pass (after_answer (world_of v count) (s, heard))).0 →
     IsKept (link_answer v (s, heard)) → InnerStep v (heard_step false_pass (after_answer (world_of v count) (s, heard)))
 unfolding after_answer link_answer IsPlainAnswer IsPlainKind
 plain-answer v count b s (HeardAck number) p o is k = absurd p

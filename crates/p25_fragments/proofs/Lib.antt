@@ -7,6 +7,7 @@ pub mod HearingLaws
 pub mod InnerStepLaws
 pub mod MatchLaws
 pub mod OfferedLaws
+pub mod FollowsLaws
 pub mod LongStepLaws
 pub mod LongRunLaws
 pub mod InnerRunLaws

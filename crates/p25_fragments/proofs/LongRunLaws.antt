@@ -1,9 +1,9 @@
 -- A clean run keeps the long messages matched to the link, and refuses no part. One event after the other.
-use Rattle.std.proofs.Common.{◌≡◌, ◌≢◌, ℕ, ◌+◌, ◌<◌, ◌≤◌, Bool, true, false, List, [], ◌∷◌, ◌++◌, length, Option, Some, None, refl, ap, ap₂, sym, subst, ◌∙◌, arith, length-append, append_assoc}
+use Rattle.std.proofs.Common.{◌≡◌, ◌≢◌, ℕ, ◌≤◌, Bool, true, false, List, [], ◌∷◌, ◌++◌, length, Option, Some, refl, ap, sym, subst, ◌∙◌, arith, append_assoc}
 use Rattle.std.proofs.lemmas.List.{length-map}
 use Rattle.p25_stations.specs.declared.sender_state.Outstanding.{Outstanding}
 use Rattle.p25_stations.specs.declared.sender_state.Outstanding.TheVariants.{Nothing, Message, Opening}
-use Rattle.p25_world.specs.Link.{Session, empty_session, Link, first_link}
+use Rattle.p25_world.specs.Link.{Session, empty_session, first_link}
 use Rattle.p25_world.specs.Orderly.{AreOrderly}
 use Rattle.p25_world.proofs.LinkSteps.{first-kept}
 use Rattle.p25_air_world.specs.declared.step.Event.{Event}
@@ -16,26 +16,24 @@ use Rattle.p25_air_world.proofs.WorldOfLaws.{sent_in, marks_after, first_mark, w
 use Rattle.p25_fragments.specs.declared.long_step.LongEvent.{LongEvent}
 use Rattle.p25_fragments.specs.declared.long_step.LongEvent.TheVariants.{Long, Inner}
 use Rattle.p25_fragments.specs.declared.long_step.Then.{Then}
-use Rattle.p25_fragments.specs.declared.long_step.Then.TheVariants.{Busy, Down, Started, Refused}
-use Rattle.p25_fragments.specs.declared.long_step.LongStep.{LongStep}
-use Rattle.p25_fragments.specs.LongMessages.{part_count, part_of}
-use Rattle.p25_fragments.specs.SendingState.{LongSending}
-use Rattle.p25_fragments.specs.LongSenders.{taken_with}
-use Rattle.p25_fragments.specs.ReceivingState.{LongReceiving}
+use Rattle.p25_fragments.specs.declared.long_step.Then.TheVariants.{Busy, Down, Refused}
+use Rattle.p25_fragments.specs.LongMessages.{part_of}
 use Rattle.p25_fragments.specs.LongState.{LongState, first_long}
 use Rattle.p25_fragments.specs.LongSteps.{unmoved, started, long_offered_beside, long_offered, inner_happened, long_step}
 use Rattle.p25_fragments.specs.LongRuns.{IsNoOffer, IsLongEvent, AreLongEvents, long_run, long_steps_of, first_steps, next_steps, inner_steps, IsCleanLongRun, AreUnrefused, long_sessions_of}
 use Rattle.p25_fragments.proofs.JoinLaws.{joined-none}
 use Rattle.p25_fragments.proofs.OfferSteps.{offered-down, beside}
 use Rattle.p25_fragments.proofs.OfferedLaws.{offered-to}
-use Rattle.p25_fragments.proofs.InnerStepLaws.{IsWorldAt, inner-step}
-use Rattle.p25_fragments.proofs.MatchLaws.{mark_of, not_yet, IsIdleLong, IsSendingLong, MatchesBy, matches-at, matches-from, IsLongOf, Follows, sessions-orderly}
-use Rattle.p25_fragments.proofs.LongStepLaws.{FollowsStep, marks-count, inner-follows}
+use Rattle.p25_fragments.proofs.InnerStepLaws.{inner-step}
+use Rattle.p25_fragments.proofs.MatchLaws.{mark_of, not_yet, IsIdleLong, MatchesBy, matches-at, matches-from, Follows, sessions-orderly}
+use Rattle.p25_fragments.proofs.FollowsLaws.{FollowsStep, marks-count}
+use Rattle.p25_fragments.proofs.LongStepLaws.{inner-follows}
 
 -- A long message is offered.
 
 -- it is taken, and its part 0 is outstanding
-started-follows : (w : LongState) (message : List ℕ) → (f : Follows w) → length message ≤ 4000 → f.link.sender.outstanding ≡ Nothing → f.link.sender.down ≡ false → FollowsStep (started w message (world_step w.inner (Send (part_of message 0))))
+started-follows : (w : LongState) (message : List ℕ) → (f : Follows w) → length message ≤ 4000 → f.link.sender.outstanding ≡ Nothing → f.link.sender.down ≡ false →
+    FollowsStep (started w message (world_step w.inner (Send (part_of message 0))))
 unfolding started MatchesBy
 started-follows w message f short o up =
     let h = f.long in

@@ -1,30 +1,24 @@
--- Each step of a clean run keeps the long messages matched to the link, and refuses no part. By what the step of the inner world
--- is, and by what was outstanding.
-use Rattle.std.proofs.Common.{◌≡◌, ◌≢◌, ℕ, suc, ◌+◌, ◌<◌, ◌≤◌, ◌⊎◌, inl, inr, Bool, true, false, List, [], ◌∷◌, ◌++◌, length, map, Option, Some, None, refl, ap, ap₂, sym, subst, ◌∙◌, arith, length-append, append_assoc, append-nil}
+-- Each step of a clean run keeps the long messages matched to the link, and refuses no part: a delivery, an opening packet that is
+-- heard, an acknowledgement. By what was outstanding.
+use Rattle.std.proofs.Common.{◌≡◌, ◌≢◌, ℕ, ◌+◌, ◌<◌, ◌⊎◌, inl, inr, Bool, true, false, List, [], ◌∷◌, ◌++◌, length, Option, Some, None, refl, ap, ap₂, sym, subst, ◌∙◌, arith, length-append, append_assoc}
 use Rattle.std.specs.Prelude.{nat_lt}
 use Rattle.std.proofs.lemmas.Bool.{cond-true, cond-false}
 use Rattle.std.proofs.lemmas.Bool.Decides.{nat_tests}
 use Rattle.p25_stations.specs.declared.sender_state.Outstanding.{Outstanding}
 use Rattle.p25_stations.specs.declared.sender_state.Outstanding.TheVariants.{Nothing, Message, Opening}
-use Rattle.p25_world.specs.Link.{Session, empty_session, Link}
-use Rattle.p25_world.proofs.PhaseLaws.{orderly-more}
+use Rattle.p25_world.specs.Link.{Session, Link}
 use Rattle.p25_air_world.specs.declared.step.StepKind.{StepKind}
 use Rattle.p25_air_world.specs.declared.step.StepKind.TheVariants.{Acknowledged, Delivered, SynHeard}
 use Rattle.p25_air_world.specs.declared.step.Step.{Step}
-use Rattle.p25_air_world.specs.declared.step.Event.TheVariants.{Send}
-use Rattle.p25_air_world.specs.declared.mark.Mark.{Mark}
 use Rattle.p25_air_world.specs.WorldState.{WorldState}
-use Rattle.p25_air_world.specs.Steps.{world_step}
-use Rattle.p25_air_world.proofs.WorldOfLaws.{sent_in, delivered_in, acknowledged_in, mark_after, marks_after, first_mark, world_of, session-ends}
+use Rattle.p25_air_world.proofs.WorldOfLaws.{delivered_in, world_of}
 use Rattle.p25_fragments.specs.declared.long_mark.LongMark.{LongMark}
 use Rattle.p25_fragments.specs.declared.outgoing.Outgoing.{Outgoing}
 use Rattle.p25_fragments.specs.declared.joiner.Joined.{Joined}
 use Rattle.p25_fragments.specs.declared.joiner.Joined.TheVariants.{Whole as JoinedWhole, Part as JoinedPart}
 use Rattle.p25_fragments.specs.declared.long_sender.Following.{Following}
 use Rattle.p25_fragments.specs.declared.long_sender.Following.TheVariants.{Part as PartFollows, Finished as AllFinished}
-use Rattle.p25_fragments.specs.declared.long_step.Then.{Then}
-use Rattle.p25_fragments.specs.declared.long_step.Then.TheVariants.{Plain, Part, Whole, Refused, Next, Finished}
-use Rattle.p25_fragments.specs.declared.long_step.LongStep.{LongStep}
+use Rattle.p25_fragments.specs.declared.long_step.Then.TheVariants.{Refused}
 use Rattle.p25_fragments.specs.LongMessages.{part_count, part_of}
 use Rattle.p25_fragments.specs.JoiningState.{Joining, first_joining}
 use Rattle.p25_fragments.specs.Joining.{message_taken}
@@ -32,118 +26,13 @@ use Rattle.p25_fragments.specs.SendingState.{LongSending}
 use Rattle.p25_fragments.specs.LongSenders.{given_up, with_next, finished, gone_on}
 use Rattle.p25_fragments.specs.ReceivingState.{LongReceiving}
 use Rattle.p25_fragments.specs.LongReceivers.{joined_with, delivered_to, set_back}
-use Rattle.p25_fragments.specs.LongState.{LongState}
-use Rattle.p25_fragments.specs.LongSteps.{next_offered, followed, then_of, after_acknowledged, after_delivered, after_kind, present_long_mark, ended_when, has_ended, with_first, inner_happened}
+use Rattle.p25_fragments.specs.LongSteps.{next_offered, followed, then_of, after_acknowledged, after_delivered, after_kind, present_long_mark, inner_happened}
 use Rattle.p25_fragments.proofs.JoinLaws.{joined_at, join-inner, join-last}
 use Rattle.p25_fragments.proofs.HearingLaws.{IsNoMessage}
-use Rattle.p25_fragments.proofs.InnerStepLaws.{IsPlainKind, IsSameLink, IsWorldAt, InnerStep, step_still, step_ended, step_delivered, step_syn, step_acknowledged, step_opened}
-use Rattle.p25_fragments.proofs.MatchLaws.{Came, not_yet, came_inner, came_last, IsIdleLong, IsSendingLong, IsOpeningLong, MatchesBy, Matches, matches-at, matches-from, mark_of, as_world, IsLongOf, Follows, present-orderly}
-use Rattle.p25_fragments.proofs.OfferedLaws.{OfferedTo, offered-to}
-
--- a step after which the long messages match, and in which no part is refused
-pub record FollowsStep (y : LongState × LongStep) : Type 0 where
-  pub follows : Follows y.0
-  pub unrefused : y.1.then ≢ Refused
-
--- the same, of what follows a step of the inner world
-record FollowsThen (y : LongState × Then) : Type 0 where
-  pub follows : Follows y.0
-  pub unrefused : y.1 ≢ Refused
-
--- Whether a session of the inner world ended.
-
-pub marks-count : (from : Mark) (sessions : List Session) → length (marks_after from sessions) ≡ length sessions
-unfolding marks_after
-marks-count from [] = refl
-marks-count from (s ∷ sessions) = ap suc (marks-count (mark_after from s) sessions)
-
-goes-on : (v w : Link) (count : ℕ) (inner : WorldState) → IsWorldAt w inner → w.ended ≡ v.ended → has_ended (world_of v count) inner ≡ false
-goes-on v w count inner is e =
-    let before = marks-count first_mark v.ended in
-    let after : length inner.marks ≡ length v.ended = ap (λ (x : WorldState). length x.marks) is.is ∙ marks-count first_mark w.ended ∙ ap length e in
-    grind (arith, nat_tests)
-
-ends : (v w : Link) (count : ℕ) (inner : WorldState) → IsWorldAt w inner → w.ended ≡ v.ended ++ v.session ∷ [] → has_ended (world_of v count) inner ≡ true
-ends v w count inner is e =
-    let before = marks-count first_mark v.ended in
-    let after : length inner.marks ≡ length v.ended + 1 = ap (λ (x : WorldState). length x.marks) is.is ∙ marks-count first_mark w.ended ∙ ap length e ∙ length-append v.ended (v.session ∷ []) in
-    grind (arith, nat_tests)
-
--- the world of long messages over the world of a link
-abbrev long_at : WorldState → LongSending → LongReceiving → List LongMark → LongState
-long_at inner s r marks = record { inner = inner; sender = s; receiver = r; marks = marks }
-
-happened-on : (v : WorldState) (s : LongSending) (r : LongReceiving) (marks : List LongMark) (inner : WorldState) (step : Step) → has_ended v inner ≡ false →
-    inner_happened (long_at v s r marks) (inner, step) ≡ with_first step (after_kind step.kind (long_at inner s r marks))
-unfolding inner_happened ended_when
-happened-on v s r marks inner step e = ap (λ (b : Bool). with_first step (after_kind step.kind (record (ended_when b (long_at v s r marks)) { inner = inner }))) e
-
-happened-end : (v : WorldState) (s : LongSending) (r : LongReceiving) (marks : List LongMark) (inner : WorldState) (step : Step) → has_ended v inner ≡ true →
-    inner_happened (long_at v s r marks) (inner, step) ≡ with_first step (after_kind step.kind (long_at inner (given_up s) r (marks ++ present_long_mark (long_at v s r marks) ∷ [])))
-unfolding inner_happened ended_when
-happened-end v s r marks inner step e = ap (λ (b : Bool). with_first step (after_kind step.kind (record (ended_when b (long_at v s r marks)) { inner = inner }))) e
-
-step-then : (step : Step) (y : LongState × Then) → FollowsThen y → FollowsStep (with_first step y)
-step-then step y f = record { follows = f.follows; unrefused = f.unrefused }
-
--- a step that means nothing
-
-after-plain : (kind : StepKind) (w : LongState) → IsPlainKind kind → after_kind kind w ≡ (w, Plain)
-unfolding IsPlainKind after_kind
-after-plain (Acknowledged number) w p = absurd p
-after-plain (Delivered number message) w p = absurd p
-after-plain (SynHeard number) w p = absurd p
-after-plain other w p = refl
-
-plain-unrefused : Plain ≢ Refused
-plain-unrefused e = absurd (cc)
-
-plain-then : (kind : StepKind) (w : LongState) → IsPlainKind kind → Follows w → FollowsThen (after_kind kind w)
-plain-then kind w p f = subst FollowsThen (sym (after-plain kind w p)) (record { follows = f; unrefused = plain-unrefused })
-
--- the same long messages over another link
-same-long : (v w : Link) (s : LongSending) (r : LongReceiving) (marks : List LongMark) → w.ended ≡ v.ended → (h : IsLongOf v s r marks) → Matches w s.outgoing r.joining h.present → IsLongOf w s r marks
-same-long v w s r marks e h m = record {
-  ended = h.ended;
-  present = h.present;
-  orderly = h.orderly;
-  ended_count = h.ended_count ∙ ap length (sym e);
-  taken_is = h.taken_is;
-  whole_is = h.whole_is;
-  acknowledged_is = h.acknowledged_is;
-  marks_are = h.marks_are;
-  matches = m;
-}
-
-same-matches : (v w : Link) (out : Option Outgoing) (j : Joining) (p : Session) → IsSameLink v w → Matches v out j p → Matches w out j p
-same-matches v w out j p same m =
-    let counts : MatchesBy v.sender.outstanding w.receiver.last (length w.session.delivered) w.session.acknowledged out j p
-    = subst (λ (x : Session). MatchesBy v.sender.outstanding w.receiver.last (length x.delivered) x.acknowledged out j p) (sym same.session_is)
-    (subst (λ (n : ℕ). MatchesBy v.sender.outstanding n (length v.session.delivered) v.session.acknowledged out j p) (sym same.last_is) m) in
-    matches-from w v.sender.outstanding out j p same.outstanding counts
-
--- A session ends.
-
-map-more : (marks : List LongMark) (mark : LongMark) → map mark_of (marks ++ mark ∷ []) ≡ map mark_of marks ++ mark_of mark ∷ []
-map-more [] mark = refl
-map-more (first ∷ marks) mark = ap (λ (ms : List Mark). mark_of first ∷ ms) (map-more marks mark)
-
-ended-long : (v w : Link) (inner : WorldState) (s : LongSending) (r : LongReceiving) (marks : List LongMark) (part : List ℕ) (number : ℕ) → v.sender.outstanding ≡ Message part → w.sender.outstanding ≡ Opening number → (w.receiver.last ≡ number → ⊥) →
-    w.ended ≡ v.ended ++ v.session ∷ [] → IsLongOf v s r marks → IsLongOf w (given_up s) r (marks ++ present_long_mark (long_at inner s r marks) ∷ [])
-unfolding MatchesBy
-ended-long v w inner s r marks part number o p l e h =
-    let same = session-ends h.ended h.present (as_world s r marks) h.taken_is h.whole_is h.acknowledged_is h.marks_are in
-    record {
-      ended = h.ended ++ h.present ∷ [];
-      present = empty_session;
-      orderly = orderly-more h.ended h.present h.orderly (present-orderly v s r marks h);
-      ended_count = omega (arith, length-append h.ended (h.present ∷ []), h.ended_count, ap length e, length-append v.ended (v.session ∷ []));
-      taken_is = ap (λ (x : WorldState). x.sent) same;
-      whole_is = ap (λ (x : WorldState). x.delivered) same;
-      acknowledged_is = ap (λ (x : WorldState). x.acknowledged) same;
-      marks_are = map-more marks (present_long_mark (long_at inner s r marks)) ∙ ap (λ (x : WorldState). x.marks) same;
-      matches = matches-from w (Opening number) None r.joining empty_session p (record { out_is = refl; session_is = refl; joining_is = λ (is : w.receiver.last ≡ number). absurd (l is) });
-    }
+use Rattle.p25_fragments.proofs.InnerStepLaws.{IsWorldAt, InnerStep, step_still, step_ended, step_delivered, step_syn, step_acknowledged, step_opened}
+use Rattle.p25_fragments.proofs.MatchLaws.{Came, not_yet, came_inner, came_last, IsSendingLong, IsOpeningLong, MatchesBy, Matches, matches-at, matches-from, IsLongOf}
+use Rattle.p25_fragments.proofs.OfferedLaws.{offered-to}
+use Rattle.p25_fragments.proofs.FollowsLaws.{FollowsStep, FollowsThen, goes-on, ends, long_at, happened-on, happened-end, step-then, plain-unrefused, plain-then, same-long, same-matches, ended-long}
 
 -- A part is delivered.
 
@@ -157,7 +46,8 @@ next-or-last number count h =
     by (nat_lt (number + 1) count) refl
 
 -- what the joiner held before, where the part had not come
-held-before : (message : List ℕ) (number : ℕ) (front : List (List ℕ)) (delivered acknowledged : ℕ) (j : Joining) (whole : List (List ℕ)) → delivered ≡ acknowledged → Came message number front delivered acknowledged j whole → (whole ≡ front) × (j ≡ joined_at message number)
+held-before : (message : List ℕ) (number : ℕ) (front : List (List ℕ)) (delivered acknowledged : ℕ) (j : Joining) (whole : List (List ℕ)) → delivered ≡ acknowledged → Came message number front delivered acknowledged j whole →
+    (whole ≡ front) × (j ≡ joined_at message number)
 held-before message number front d a j whole c (not_yet e w i) = (w, i)
 held-before message number front d a j whole c (came_inner e n w i) = absurd (omega (arith, c, e))
 held-before message number front d a j whole c (came_last e n w i) = absurd (omega (arith, c, e))
@@ -171,7 +61,8 @@ record TakesPart (v w : Link) (s : LongSending) (r : LongReceiving) (marks : Lis
   pub unrefused : then_of joined ≢ Refused
 
 takes-inner : (v w : Link) (s : LongSending) (r : LongReceiving) (marks : List LongMark) (part : List ℕ) → w.sender.outstanding ≡ Message part → length w.session.delivered ≡ w.session.acknowledged + 1 → w.ended ≡ v.ended →
-    (h : IsLongOf v s r marks) → (m : IsSendingLong part (length v.session.delivered) v.session.acknowledged s.outgoing r.joining h.present) → h.present.delivered ≡ m.front → r.joining ≡ joined_at m.message m.number → m.number + 1 < part_count (length m.message) →
+    (h : IsLongOf v s r marks) → (m : IsSendingLong part (length v.session.delivered) v.session.acknowledged s.outgoing r.joining h.present) → h.present.delivered ≡ m.front → r.joining ≡ joined_at m.message m.number →
+    m.number + 1 < part_count (length m.message) →
     TakesPart v w s r marks part
 unfolding MatchesBy joined_with then_of
 takes-inner v w s r marks part o c e h m d j n =
@@ -206,7 +97,8 @@ takes-inner v w s r marks part o c e h m d j n =
     }
 
 takes-last : (v w : Link) (s : LongSending) (r : LongReceiving) (marks : List LongMark) (part : List ℕ) → w.sender.outstanding ≡ Message part → length w.session.delivered ≡ w.session.acknowledged + 1 → w.ended ≡ v.ended →
-    (h : IsLongOf v s r marks) → (m : IsSendingLong part (length v.session.delivered) v.session.acknowledged s.outgoing r.joining h.present) → h.present.delivered ≡ m.front → r.joining ≡ joined_at m.message m.number → m.number + 1 ≡ part_count (length m.message) →
+    (h : IsLongOf v s r marks) → (m : IsSendingLong part (length v.session.delivered) v.session.acknowledged s.outgoing r.joining h.present) → h.present.delivered ≡ m.front → r.joining ≡ joined_at m.message m.number →
+    m.number + 1 ≡ part_count (length m.message) →
     TakesPart v w s r marks part
 unfolding MatchesBy joined_with then_of
 takes-last v w s r marks part o c e h m d j n =
@@ -252,7 +144,8 @@ takes-part v w s r marks part o c p d e h =
       | inr n ↦ takes-last v w s r marks part p d e h m held.0 held.1 n
     ]
 
-delivered-then : (v w : Link) (inner : WorldState) (s : LongSending) (r : LongReceiving) (marks : List LongMark) (kind : StepKind) (number : ℕ) (part : List ℕ) → IsWorldAt w inner → kind ≡ Delivered number part → TakesPart v w s r marks part →
+delivered-then : (v w : Link) (inner : WorldState) (s : LongSending) (r : LongReceiving) (marks : List LongMark) (kind : StepKind) (number : ℕ) (part : List ℕ) → IsWorldAt w inner → kind ≡ Delivered number part →
+    TakesPart v w s r marks part →
     FollowsThen (after_kind kind (long_at inner s r marks))
 unfolding after_kind after_delivered
 delivered-then v w inner s r marks kind number part at k t =
@@ -276,7 +169,18 @@ syn-then v w inner s r marks kind number at k is o e h =
     let m = matches-from w v.sender.outstanding s.outgoing first_joining h.present o
     (syn-matches v.sender.outstanding v.receiver.last (length v.session.delivered) v.session.acknowledged w.receiver.last (length w.session.delivered) w.session.acknowledged s.outgoing r.joining h.present is h.matches) in
     let long : IsLongOf w s (set_back r) marks
-    = record { ended = h.ended; present = h.present; orderly = h.orderly; ended_count = h.ended_count ∙ ap length (sym e); taken_is = h.taken_is; whole_is = h.whole_is; acknowledged_is = h.acknowledged_is; marks_are = h.marks_are; matches = m } in
+    = record {
+      ended = h.ended;
+      present = h.present;
+      orderly = h.orderly;
+      ended_count = h.ended_count ∙
+          ap length (sym e);
+      taken_is = h.taken_is;
+      whole_is = h.whole_is;
+      acknowledged_is = h.acknowledged_is;
+      marks_are = h.marks_are;
+      matches = m;
+    } in
     subst FollowsThen (sym (ap (λ (x : StepKind). after_kind x u) k)) (record { follows = record { link = w; world = at; long = long }; unrefused = plain-unrefused })
 
 -- A part is acknowledged.
@@ -363,7 +267,8 @@ finished-then v w inner s r marks part at o e h m n d j =
     subst (λ (x : LongSending × Following). FollowsThen (after_acknowledged (long_at inner s r marks) x)) (sym (gone-last s sent m.out_is n))
     (record { follows = record { link = w; world = at; long = long }; unrefused = λ q. absurd (cc) })
 
-acknowledged-then : (v w : Link) (inner : WorldState) (s : LongSending) (r : LongReceiving) (marks : List LongMark) (kind : StepKind) (number : ℕ) (part : List ℕ) → IsWorldAt w inner → kind ≡ Acknowledged number → v.sender.outstanding ≡ Message part →
+acknowledged-then : (v w : Link) (inner : WorldState) (s : LongSending) (r : LongReceiving) (marks : List LongMark) (kind : StepKind) (number : ℕ) (part : List ℕ) → IsWorldAt w inner → kind ≡ Acknowledged number →
+    v.sender.outstanding ≡ Message part →
     length v.session.delivered ≡ v.session.acknowledged + 1 → w.sender.outstanding ≡ Nothing → w.sender.down ≡ false → w.ended ≡ v.ended → IsLongOf v s r marks → FollowsThen (after_kind kind (long_at inner s r marks))
 unfolding after_kind MatchesBy
 acknowledged-then v w inner s r marks kind number part at k o c p up e h =
@@ -395,7 +300,8 @@ on : (v w : Link) (count : ℕ) (s : LongSending) (r : LongReceiving) (marks : L
 on v w count s r marks inner step at e f =
     subst FollowsStep (sym (happened-on (world_of v count) s r marks inner step (goes-on v w count inner at e))) (step-then step (after_kind step.kind (long_at inner s r marks)) f)
 
-pub inner-follows : (v : Link) (count : ℕ) (s : LongSending) (r : LongReceiving) (marks : List LongMark) (inner : WorldState) (step : Step) → InnerStep v (inner, step) → IsLongOf v s r marks → FollowsStep (inner_happened (long_at (world_of v count) s r marks) (inner, step))
+pub inner-follows : (v : Link) (count : ℕ) (s : LongSending) (r : LongReceiving) (marks : List LongMark) (inner : WorldState) (step : Step) → InnerStep v (inner, step) → IsLongOf v s r marks →
+    FollowsStep (inner_happened (long_at (world_of v count) s r marks) (inner, step))
 inner-follows v count s r marks inner step (step_still w at p same) h =
     on v w count s r marks inner step at same.ended_is
     (plain-then step.kind (long_at inner s r marks) p (record { link = w; world = at; long = same-long v w s r marks same.ended_is h (same-matches v w s.outgoing r.joining h.present same h.matches) }))

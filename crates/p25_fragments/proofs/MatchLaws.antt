@@ -1,5 +1,5 @@
 -- How the long messages of the present session match its link: by what is outstanding, and by whether it has arrived.
-use Rattle.std.proofs.Common.{◌≡◌, ℕ, ◌+◌, ◌<◌, ◌≤◌, List, [], ◌∷◌, ◌++◌, length, map, Option, Some, None, refl, ap, ap₂, sym, subst, ◌∙◌, arith, length-append, append_assoc, append-nil}
+use Rattle.std.proofs.Common.{◌≡◌, ℕ, ◌+◌, ◌<◌, ◌≤◌, List, [], ◌∷◌, ◌++◌, length, map, Option, Some, None, refl, ap, ap₂, sym, subst, ◌∙◌, arith, length-append, append-nil}
 use Rattle.p25_stations.specs.declared.sender_state.Outstanding.{Outstanding}
 use Rattle.p25_stations.specs.declared.sender_state.Outstanding.TheVariants.{Nothing, Message, Opening}
 use Rattle.p25_world.specs.Link.{Session, empty_session, Link}
@@ -8,7 +8,7 @@ use Rattle.p25_world.proofs.PhaseLaws.{orderly-more}
 use Rattle.p25_air_world.specs.declared.mark.Mark.{Mark}
 use Rattle.p25_air_world.specs.WorldState.{WorldState, first_world}
 use Rattle.p25_air_world.specs.Runs.{sessions_from, sessions_of}
-use Rattle.p25_air_world.proofs.WorldOfLaws.{sent_in, delivered_in, acknowledged_in, marks_after, first_mark, world_of, session-ends, sessions-world_of}
+use Rattle.p25_air_world.proofs.WorldOfLaws.{sent_in, delivered_in, acknowledged_in, marks_after, first_mark, world_of, sessions-world_of}
 use Rattle.p25_fragments.specs.declared.long_mark.LongMark.{LongMark}
 use Rattle.p25_fragments.specs.declared.outgoing.Outgoing.{Outgoing}
 use Rattle.p25_fragments.specs.LongMessages.{part_count, part_of}
@@ -80,7 +80,8 @@ front-orderly s message front d e a = record {
   delivered = omega (arith, a, ap length d);
 }
 
-came-orderly : (message : List ℕ) (number : ℕ) (front : List (List ℕ)) (delivered acknowledged : ℕ) (j : Joining) (s : Session) → s.sent ≡ front ++ message ∷ [] → s.acknowledged ≡ length front → Came message number front delivered acknowledged j s.delivered → IsOrderly s
+came-orderly : (message : List ℕ) (number : ℕ) (front : List (List ℕ)) (delivered acknowledged : ℕ) (j : Joining) (s : Session) → s.sent ≡ front ++ message ∷ [] → s.acknowledged ≡ length front →
+    Came message number front delivered acknowledged j s.delivered → IsOrderly s
 came-orderly message number front delivered acknowledged j s e a (not_yet c w i) = front-orderly s message front w e a
 came-orderly message number front delivered acknowledged j s e a (came_inner c n w i) = front-orderly s message front w e a
 came-orderly message number front delivered acknowledged j s e a (came_last c n w i) =
@@ -92,7 +93,8 @@ unfolding MatchesBy
 orderly-matches Nothing last delivered acknowledged out j s m = whole-orderly s m.whole_is (omega (arith, m.acknowledged_is)) (omega (arith, m.acknowledged_is))
 orderly-matches (Message part) last delivered acknowledged out j s m = came-orderly m.message m.number m.front delivered acknowledged j s m.sent_is m.acknowledged_is m.came
 orderly-matches (Opening number) last delivered acknowledged out j s m =
-    whole-orderly s (ap (λ (x : Session). x.delivered) m.session_is ∙ sym (ap (λ (x : Session). x.sent) m.session_is)) (omega (arith, ap (λ (x : Session). x.acknowledged) m.session_is)) (omega (arith, ap (λ (x : Session). length x.sent) m.session_is))
+    whole-orderly s (ap (λ (x : Session). x.delivered) m.session_is ∙
+    sym (ap (λ (x : Session). x.sent) m.session_is)) (omega (arith, ap (λ (x : Session). x.acknowledged) m.session_is)) (omega (arith, ap (λ (x : Session). length x.sent) m.session_is))
 
 -- The sessions before it.
 
@@ -137,7 +139,8 @@ sessions-are w v h =
     = record { sender = first_world.sender; receiver = first_world.receiver; packet_sent = None; answer = None; session = h.present; base = 0; ended = h.ended } in
     let made : List (List ℕ) → List (List ℕ) → ℕ → List Mark → WorldState = λ (a b : List (List ℕ)) (k : ℕ) (ms : List Mark). record first_world { sent = a; delivered = b; acknowledged = k; marks = ms } in
     let same : as_world w.sender w.receiver w.marks ≡ world_of fake 0
-    = ap₂ (λ (a b : List (List ℕ)). made a b w.sender.acknowledged (map mark_of w.marks)) h.taken_is h.whole_is ∙ ap₂ (λ (k : ℕ) (ms : List Mark). made (sent_in h.ended ++ h.present.sent) (delivered_in h.ended ++ h.present.delivered) k ms) h.acknowledged_is h.marks_are in
+    = ap₂ (λ (a b : List (List ℕ)). made a b w.sender.acknowledged (map mark_of w.marks)) h.taken_is h.whole_is ∙
+    ap₂ (λ (k : ℕ) (ms : List Mark). made (sent_in h.ended ++ h.present.sent) (delivered_in h.ended ++ h.present.delivered) k ms) h.acknowledged_is h.marks_are in
     long-sessions (record { taken = 0; whole = 0; acknowledged = 0 }) w.marks w ∙ ap (λ (x : WorldState). sessions_of x) same ∙ sessions-world_of fake 0
 
 pub sessions-orderly : (w : LongState) → Follows w → AreOrderly (long_sessions_of w)

@@ -1,16 +1,14 @@
 -- What the offer of part 0 tells of a long message. By whether the sender is down, and what is outstanding.
-use Rattle.std.proofs.Common.{◌≡◌, ℕ, Bool, true, false, List, Some, None, ap, ap₂, sym, subst, refl, ◌∙◌}
+use Rattle.std.proofs.Common.{◌≡◌, ℕ, Bool, true, false, List, None, ap, sym, subst, refl, ◌∙◌}
 use Rattle.std.proofs.lemmas.Bool.{cond-true, cond-false}
 use Rattle.p25_stations.specs.declared.sender_state.Outstanding.{Outstanding}
 use Rattle.p25_stations.specs.declared.sender_state.Outstanding.TheVariants.{Nothing, Message, Opening}
 use Rattle.p25_air_world.specs.declared.step.Event.TheVariants.{Send}
-use Rattle.p25_air_world.specs.declared.step.StepKind.{StepKind}
 use Rattle.p25_air_world.specs.declared.step.StepKind.TheVariants.{Taken, Busy as BusyAtOffer, OfferDown}
 use Rattle.p25_air_world.specs.declared.step.Step.{Step}
 use Rattle.p25_air_world.specs.WorldState.{WorldState}
 use Rattle.p25_air_world.specs.Steps.{world_step}
 use Rattle.p25_fragments.specs.declared.long_step.Then.TheVariants.{Busy, Down}
-use Rattle.p25_fragments.specs.declared.long_step.LongStep.{LongStep}
 use Rattle.p25_fragments.specs.LongMessages.{part_of}
 use Rattle.p25_fragments.specs.LongState.{LongState}
 use Rattle.p25_fragments.specs.LongSteps.{unmoved, started, long_offered_beside, long_offered}

@@ -1,12 +1,10 @@
 -- A part that is offered where nothing is outstanding is outstanding then, and has not arrived. By the rules of an offer.
-use Rattle.std.proofs.Common.{◌≡◌, ℕ, ◌+◌, ◌*◌, ◌<◌, ◌≤◌, false, List, [], ◌∷◌, ◌++◌, length, drop, refl, ap, sym, subst, ◌∙◌, arith}
+use Rattle.std.proofs.Common.{◌≡◌, ℕ, ◌*◌, ◌≤◌, false, List, length, drop, refl, ap, sym, subst, ◌∙◌, arith}
 use Rattle.std.proofs.lemmas.List.{length-take}
-use Rattle.p25_stations.specs.MessageBlocks.{block_count}
 use Rattle.p25_stations.specs.SentPackets.{message_packet}
 use Rattle.p25_stations.specs.SenderState.{Sending}
 use Rattle.p25_stations.specs.SenderRules.{offered}
-use Rattle.p25_stations.specs.declared.sender_state.Outstanding.{Outstanding}
-use Rattle.p25_stations.specs.declared.sender_state.Outstanding.TheVariants.{Nothing, Message, Opening}
+use Rattle.p25_stations.specs.declared.sender_state.Outstanding.TheVariants.{Nothing, Message}
 use Rattle.p25_stations.specs.declared.sender.Offer.{Offer}
 use Rattle.p25_stations.specs.declared.sender.Offer.TheVariants.{Taken}
 use Rattle.p25_world.specs.Link.{Link, Offering, happens, link_run}
@@ -46,7 +44,8 @@ quiet-counts w (opening number h) o = absurd (cc (o, h.outstanding))
 Makes : Link → List ℕ → WorldState → Sending × Offer → Type 0
 Makes w part x y = IsOf (link_offer w part y) x → IsKept (link_offer w part y) → OfferedTo w part x
 
-makes : (w : Link) (part : List ℕ) (x : WorldState) (s : Sending) (number blocks : ℕ) → s.outstanding ≡ Message part → length w.session.delivered ≡ w.session.acknowledged → Makes w part x (s, Taken number blocks (message_packet number part))
+makes : (w : Link) (part : List ℕ) (x : WorldState) (s : Sending) (number blocks : ℕ) → s.outstanding ≡ Message part → length w.session.delivered ≡ w.session.acknowledged →
+    Makes w part x (s, Taken number blocks (message_packet number part))
 unfolding Makes link_offer
 makes w part x s number blocks o c = λ is k. record { link = _; world = record { count = is.count; is = is.is; kept = k }; outstanding = o; counted = c; ended_is = refl }
 
@@ -57,7 +56,8 @@ offer-made w count part short k o up =
     let made : Makes w part x (offered w.sender part) = subst (Makes w part x) (sym (offer-quiet w.sender part up o)) (makes w part x _ w.sender.next _ refl (quiet-counts w k.linked o)) in
     made (step-of w count (Send part)) (happens-kept w (Offering part) k short)
 
-pub offered-to : (w : Link) (inner : WorldState) (message : List ℕ) (number : ℕ) → IsWorldAt w inner → w.sender.outstanding ≡ Nothing → w.sender.down ≡ false → OfferedTo w (part_of message number) (world_step inner (Send (part_of message number))).0
+pub offered-to : (w : Link) (inner : WorldState) (message : List ℕ) (number : ℕ) → IsWorldAt w inner → w.sender.outstanding ≡ Nothing → w.sender.down ≡ false →
+    OfferedTo w (part_of message number) (world_step inner (Send (part_of message number))).0
 offered-to w inner message number at o up =
     let part = part_of message number in
     subst (λ (x : WorldState). OfferedTo w part (world_step x (Send part)).0) (sym at.is) (offer-made w at.count part (part-short message number) at.kept o up)

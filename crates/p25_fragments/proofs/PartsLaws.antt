@@ -1,5 +1,5 @@
 -- The parts of a long message.
-use Rattle.std.proofs.Common.{◌≡◌, ℕ, ◌+◌, ◌-◌, ◌<◌, ◌≤◌, ◌⊎◌, inl, inr, List, length, take, drop, min, ap, sym, refl, ◌∙◌, arith, length-drop}
+use Rattle.std.proofs.Common.{◌≡◌, ℕ, ◌+◌, ◌-◌, ◌≤◌, List, length, take, drop, min, arith, length-drop}
 use Rattle.std.proofs.lemmas.List.{take_all}
 
 -- what is left where a part would go past the end

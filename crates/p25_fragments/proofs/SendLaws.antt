@@ -43,10 +43,13 @@ pub send-opening : (w : WorldState) (message : List ℕ) (number : ℕ) → w.se
 unfolding world_step after_offer
 send-opening w message number d o = ap (λ (x : Sending × Offer). quiet_step (after_offer w message x)) (offered-opening w.sender message number d o)
 
-pub send-taken : (w : WorldState) (message : List ℕ) → w.sender.down ≡ false → w.sender.outstanding ≡ Nothing → world_step w (Send message) ≡ (record w {
-  sender = record { next = w.sender.next; outstanding = Message message; tries = 1; down = false };
-  packet_sent = Some (message_packet w.sender.next message);
-  sent = w.sent ++ message ∷ [];
-}, true_step (Taken w.sender.next (block_count (length message))))
+pub send-taken : (w : WorldState) (message : List ℕ) → w.sender.down ≡ false → w.sender.outstanding ≡ Nothing → world_step w (Send message) ≡ (
+  record w {
+    sender = record { next = w.sender.next; outstanding = Message message; tries = 1; down = false };
+    packet_sent = Some (message_packet w.sender.next message);
+    sent = w.sent ++ message ∷ [];
+  },
+  true_step (Taken w.sender.next (block_count (length message))),
+)
 unfolding world_step after_offer
 send-taken w message d o = ap (λ (x : Sending × Offer). quiet_step (after_offer w message x)) (offer-quiet w.sender message d o)

@@ -28,4 +28,6 @@ finished s = record { taken = s.taken; outgoing = None; acknowledged = s.acknowl
 unfoldable pub gone_on : Option Outgoing → LongSending → LongSending × Following
 gone_on None s = (s, Nothing)
 gone_on (Some sent) s =
-    if nat_lt (sent.number + 1) (part_count (length sent.message)) then (with_next s sent, Part (part_of sent.message (sent.number + 1))) else (finished s, Finished)
+    if nat_lt (sent.number + 1) (part_count (length sent.message))
+    then (with_next s sent, Part (part_of sent.message (sent.number + 1)))
+    else (finished s, Finished)

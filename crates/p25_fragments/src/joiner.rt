@@ -13,9 +13,7 @@ pub enum Joined {
     /// The last part of a long message, which is whole now.
     Whole(LongMessage),
     /// Another part than the last, with this number.
-    Part {
-        number: u8,
-    },
+    Part { number: u8 },
     /// No part, or not the part that was expected.
     Refused,
 }

@@ -16,17 +16,13 @@ pub enum Then {
     /// Nothing.
     Plain,
     /// The long message was taken, and the first of its parts offered.
-    Started {
-        parts: u8,
-    },
+    Started { parts: u8 },
     /// A long message or the opening packet is outstanding.
     Busy,
     /// The sender is down, so it takes no long message.
     Down,
     /// A part was delivered, and the long message is not whole yet.
-    Part {
-        number: u8,
-    },
+    Part { number: u8 },
     /// The last part was delivered: the long message is whole.
     Whole(LongMessage),
     /// What was delivered is not the part that was expected.

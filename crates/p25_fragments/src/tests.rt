@@ -240,7 +240,12 @@ fn given_up_in_the_second_part(rt: HostRuntime) -> Result<(), Fail> {
     ];
     play(&rt, &mut world, &rows, [1, 0, 0, 1])?;
     for _tries in 1..17 {
-        play(&rt, &mut world, &[(Line::Timeout, "plain", 0)], [1, 0, 0, 1])?;
+        play(
+            &rt,
+            &mut world,
+            &[(Line::Timeout, "plain", 0)],
+            [1, 0, 0, 1],
+        )?;
     }
     let rows = [
         (Line::Long(b""), "down", 0),

@@ -16,6 +16,8 @@
 mod closing;
 mod read;
 mod steps;
+#[cfg(test)]
+mod tests;
 mod value;
 
 pub use closing::long_closing_text;

@@ -1,6 +1,7 @@
 //! Events of long messages read from lines.
 
 ghost use Rattle.std.specs.Prelude.{◌≡◌, ◌≤◌, Ok, IfOk, length};
+ghost use Rattle.std.specs.Str.{bytes_eq};
 ghost use Rattle.p25_line.specs.Words.{WordsAnswer};
 ghost use Rattle.p25_fragments.specs.declared.long_step.LongEvent.{LongEvent as event_type};
 ghost use Rattle.p25_long_script.specs.LongScript.{IsLongScripted, long_event_of, long_event_text, other_event};
@@ -42,7 +43,7 @@ fn read_words(line: &[u8], words: &WordList) -> Result<LongEvent, LineFault>
     ensures { result ≡ long_event_of line.now }
 {
     let first = words.word(line, 0);
-    if first != b"long".as_slice() {
+    if !is_same(first, b"long") {
         return read_other(line, first);
     }
     if words.count() != 2 {
@@ -54,11 +55,18 @@ fn read_words(line: &[u8], words: &WordList) -> Result<LongEvent, LineFault>
     }
 }
 
+// Whether two words are the same.
+fn is_same(word: &[u8], other: &[u8]) -> bool
+    ensures { result ≡ bytes_eq word.now other.now }
+{
+    word == other
+}
+
 // The event of a line that begins with another word.
 fn read_other(line: &[u8], first: &[u8]) -> Result<LongEvent, LineFault>
     ensures { result ≡ other_event line.now first.now }
 {
-    if first == b"send".as_slice() {
+    if is_same(first, b"send") {
         return Err(LineFault::Kind);
     }
     match read_event(line) {

@@ -23,14 +23,14 @@ use Rattle.p25_script.proofs.ValueLaws.{length-message_text, length-places_text,
 -- ---- the line of an event is read as it
 
 -- the words of an event are words
-event_words-words : (event : Event) → IsScripted event → list_all is_word (event_words event) ≡ true
+pub event_words-words : (event : Event) → IsScripted event → list_all is_word (event_words event) ≡ true
 event_words-words (Send message) fits = ap₂ ◌&&◌ (message-word message fits) refl
 event_words-words Timeout fits = refl
 event_words-words Reopen fits = refl
 event_words-words (ToReceiver places) fits = ap₂ ◌&&◌ (places-word places fits) refl
 event_words-words (ToSender places) fits = ap₂ ◌&&◌ (places-word places fits) refl
 
-event_words-some : (event : Event) → 0 < length (event_words event)
+pub event_words-some : (event : Event) → 0 < length (event_words event)
 event_words-some (Send message) = omega arith
 event_words-some Timeout = omega arith
 event_words-some Reopen = omega arith

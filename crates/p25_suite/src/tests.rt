@@ -3,6 +3,7 @@
 mod calls;
 mod damaged;
 mod drawn;
+mod fragments;
 mod packets;
 mod refusals;
 mod script;

@@ -13,7 +13,7 @@ use Rattle.p25_work.specs.LineRules.{machine_behind, texts_of}
 use Rattle.p25_work.specs.LineWorks.{first_line, line_future}
 use Rattle.p25_work.proofs.RulesLaws.{first_line-ends, first_line-pauses, first_line-writes}
 use Rattle.p25_tool.specs.declared.build.Build.{Build}
-use Rattle.p25_tool.specs.declared.command.Command.TheVariants.{Show as ShowIt, Check as CheckIt, Repair as RepairIt, Bridge as BridgeIt, Build as BuildIt, Stations as StationsIt, Calls as CallsIt}
+use Rattle.p25_tool.specs.declared.command.Command.TheVariants.{Show as ShowIt, Check as CheckIt, Repair as RepairIt, Bridge as BridgeIt, Build as BuildIt, Stations as StationsIt, Calls as CallsIt, Fragments as FragmentsIt}
 use Rattle.p25_tool.specs.declared.reports.show.Show.{Show}
 use Rattle.p25_tool.specs.declared.reports.check.Check.{Check}
 use Rattle.p25_tool.specs.declared.reports.changed.Change.TheVariants.{Repaired, Bridged}
@@ -26,8 +26,16 @@ use Rattle.p25_air_world.specs.declared.step.Step.{Step}
 use Rattle.p25_script.specs.Script.{event_of}
 use Rattle.p25_tool.specs.StationRules.{station_rules, told_step}
 use Rattle.p25_tool.specs.Commands.{changed_reporting, check_reporting, show_reporting, CallsParts, calls_reporting}
-use Rattle.p25_tool.specs.Outputs.{check_ending, check_line, closing_line, ending_by, faults_in, faulty, image_octets, step_line, units_in}
+use Rattle.p25_tool.specs.Outputs.{check_ending, check_line, closing_line, ending_by, faults_in, faulty, image_octets, step_line, units_in, long_closing_line}
 use Rattle.p25_calls.specs.Taking.{fresh_caller}
+use Rattle.p25_fragments.specs.LongState.{LongState, first_long}
+use Rattle.p25_fragments.specs.LongSteps.{long_step}
+use Rattle.p25_fragments.specs.LongRuns.{long_run, long_steps_of}
+use Rattle.p25_fragments.specs.declared.long_step.LongEvent.{LongEvent}
+use Rattle.p25_fragments.specs.declared.long_step.LongStep.{LongStep}
+use Rattle.p25_long_script.specs.LongScript.{long_event_of}
+use Rattle.p25_long_script.specs.LongTexts.{long_step_text_of}
+use Rattle.p25_tool.specs.FragmentRules.{fragment_rules, told_long}
 use Rattle.p25_tool.specs.Recordings.{fresh, recording_future}
 use Rattle.p25_tool.specs.Runs.{command_future}
 use Rattle.p25_tool.proofs.CallReportsLaws.{reported-calls}
@@ -143,4 +151,33 @@ calls-alike report empty = record {
   writes = λ is octets. reported-calls is report (octet_bits octets) empty;
   ends = λ is octets. refl;
   pauses = λ is octets. refl;
+}
+
+-- the texts of steps of long messages, one after the other, and the world behind them
+told-long : (events : List LongEvent) (world : LongState) → texts_of told_long world events ≡ map long_step_text_of (long_steps_of world events)
+unfolding texts_of long_steps_of
+told-long [] world = refl
+told-long (event ∷ events) world = ap (λ (ts : List (List ℕ)). long_step_text_of (long_step world event).1 ∷ ts) (told-long events (long_step world event).0)
+
+long_run-behind : (events : List LongEvent) (world : LongState) → machine_behind told_long world events ≡ long_run world events
+unfolding machine_behind long_run
+long_run-behind [] world = refl
+long_run-behind (event ∷ events) world = long_run-behind events (long_step world event).0
+
+concat_texts : (steps : List LongStep) → concat (map long_step_text_of steps) ≡ flat_map long_step_text_of steps
+concat_texts [] = refl
+concat_texts (step ∷ steps) = ap (λ (zs : List ℕ). long_step_text_of step ++ zs) (concat_texts steps)
+
+pub fragments-alike : AreAlike (line_future fragment_rules (first_line first_long)) (command_future FragmentsIt)
+fragments-alike = record {
+  writes = λ is octets.
+      let lines = lines_in is [] octets in
+      let events = read_of long_event_of lines in
+      first_line-writes long_event_of told_long long_closing_line true first_long is octets
+      ∙ ap₂ (λ (zs : List ℕ) (w : LongState). zs ++ closing_by is (refusal_in long_event_of 1 lines) (long_closing_line w))
+      (ap concat (told-long events first_long) ∙ concat_texts (long_steps_of first_long events)) (long_run-behind events first_long);
+  ends = λ is octets. first_line-ends long_event_of told_long long_closing_line true first_long is octets;
+  pauses = λ is octets.
+      first_line-pauses long_event_of told_long long_closing_line true first_long is octets
+      ∙ ap texts_before (told-long (read_of long_event_of (lines_in is [] octets)) first_long);
 }

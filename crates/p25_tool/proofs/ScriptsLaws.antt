@@ -1,5 +1,5 @@
 -- A script whose lines are all read: they are read as its events and none is refused, by induction on the lines; and what stands
--- when its run is done.
+-- when its run is done. For any machine that reads each line by itself.
 use Rattle.std.proofs.Common.{◌≡◌, ℕ, ◌+◌, ◌≤◌, Bool, true, false, cond, nat_lt, List, [], ◌∷◌, ◌++◌, length, map, take, Option, Some, None, Result, Ok, Err, ◌⊎◌, inl, inr, refl, ap, ap₂, sym, ◌∙◌, arith}
 use Rattle.std.specs.Prelude.{IfSome}
 use Rattle.std.specs.List.{flat_map}
@@ -14,6 +14,14 @@ use Rattle.p25_air_world.specs.declared.step.Event.{Event}
 use Rattle.p25_air_world.proofs.CleanLaws.{run-orderly}
 use Rattle.p25_script.specs.Script.{event_of}
 use Rattle.p25_script.proofs.ScriptLaws.{IsEvent-IsScripted, IsLineOf-event_of}
+use Rattle.p25_fragments.specs.LongState.{first_long}
+use Rattle.p25_fragments.specs.LongRuns.{IsLongEvent, AreLongEvents, long_run, long_steps_of}
+use Rattle.p25_fragments.specs.declared.long_step.LongEvent.{LongEvent}
+use Rattle.p25_fragments.specs.declared.long_step.LongEvent.TheVariants.{Long, Inner}
+use Rattle.p25_fragments.proofs.LongRunLaws.{long-orderly, long-unrefused}
+use Rattle.p25_long_script.specs.LongScript.{IsLongScripted, long_event_of}
+use Rattle.p25_long_script.specs.LongTexts.{long_step_text_of}
+use Rattle.p25_long_script.proofs.LongScriptLaws.{IsLongLineOf-of}
 use Rattle.p25_work.specs.declared.ending.Ending.{Ending}
 use Rattle.p25_work.specs.declared.ending.Ending.TheVariants.{Done as EndDone, Found, BadLine}
 use Rattle.p25_work.specs.declared.ending.WorkEnd.{WorkEnd}
@@ -22,53 +30,51 @@ use Rattle.p25_work.specs.Lines.{closing_by, lines_ending, lines_in, read_of, re
 use Rattle.p25_work.specs.Runs.{IsFinal, Worked, input_most}
 use Rattle.p25_work.proofs.RulesLaws.{read_of-nil, read_of-ok, refusal_in-err, refusal_in-nil, refusal_in-ok}
 use Rattle.p25_work.proofs.RunsLaws.{ended-input}
-use Rattle.p25_tool.specs.declared.command.Command.TheVariants.{Stations}
+use Rattle.p25_tool.specs.declared.command.Command.{Command}
+use Rattle.p25_tool.specs.declared.command.Command.TheVariants.{Stations, Fragments}
 use Rattle.p25_tool.specs.declared.outcome.Outcome.{Outcome}
 use Rattle.p25_tool.specs.declared.outcome.Outcome.TheVariants.{Done, Memory, TooLong as OutcomeTooLong}
 use Rattle.p25_tool.specs.Outcomes.{ending_outcome, work_outcome}
-use Rattle.p25_tool.specs.Outputs.{CanWantMemory, closing_line, output_by, step_line}
+use Rattle.p25_tool.specs.Outputs.{CanWantMemory, closing_line, ending_by, long_closing_line, output_by, step_line}
 use Rattle.p25_tool.specs.Runs.{answer_of, command_future, ending_or}
-use Rattle.p25_tool.specs.Scripts.{HasRun, IsScriptOf, script_text}
+use Rattle.p25_tool.specs.Scripts.{HasLongRun, HasRun, IsLongScriptOf, IsScriptOf, long_script_text, script_text}
+
+-- how a line is read
+abbrev Reading : Type 0 → Type 0
+Reading E = List ℕ → Result E LineFault
 
 -- the lines are read as the events, and none is refused
-record AreReadAs (number : ℕ) (lines : List (List ℕ)) (events : List Event) : Type 0 where
-  pub events_are : read_of event_of lines ≡ events
-  pub accepted : refusal_in event_of number lines ≡ None
-  pub are_events : AreEvents events
+record AreReadAs {E : Type 0} (read : Reading E) (number : ℕ) (lines : List (List ℕ)) (events : List E) : Type 0 where
+  pub events_are : read_of read lines ≡ events
+  pub accepted : refusal_in read number lines ≡ None
 
-is_event : (line : List ℕ) (event : Event) → event_of line ≡ Ok event → IsEvent event
-is_event line event is = IsEvent-IsScripted event (IsLineOf-event_of line event is).fits
-
-with_event : (number : ℕ) (line : List ℕ) (lines : List (List ℕ)) (event : Event) (events : List Event) → event_of line ≡ Ok event → AreReadAs (number + 1) lines events
-    → AreReadAs number (line ∷ lines) (event ∷ events)
-unfolding AreEvents
-with_event number line lines event events is rest = record {
-  events_are = read_of-ok event_of line lines event is ∙ ap (λ (es : List Event). event ∷ es) rest.events_are;
-  accepted = refusal_in-ok event_of number line lines event is ∙ rest.accepted;
-  are_events = (is_event line event is, rest.are_events);
+with_event : {E : Type 0} (read : Reading E) (number : ℕ) (line : List ℕ) (lines : List (List ℕ)) (event : E) (events : List E) → read line ≡ Ok event → AreReadAs read (number + 1) lines events
+    → AreReadAs read number (line ∷ lines) (event ∷ events)
+with_event {E = E} read number line lines event events is rest = record {
+  events_are = read_of-ok read line lines event is ∙ ap (λ (es : List E). event ∷ es) rest.events_are;
+  accepted = refusal_in-ok read number line lines event is ∙ rest.accepted;
 }
 
-head_of : (line : List ℕ) (lines : List (List ℕ)) (event : Event) (events : List Event) → map event_of (line ∷ lines) ≡ map (λ event. Ok event) (event ∷ events)
-    → (event_of line ≡ Ok event) × (map event_of lines ≡ map (λ event. Ok event) events)
-head_of line lines event events same = (cc same, cc same)
+head_of : {E : Type 0} (read : Reading E) (line : List ℕ) (lines : List (List ℕ)) (event : E) (events : List E) → map read (line ∷ lines) ≡ map (λ e. Ok e) (event ∷ events)
+    → (read line ≡ Ok event) × (map read lines ≡ map (λ e. Ok e) events)
+head_of read line lines event events same = (cc same, cc same)
 
-read-as : (lines : List (List ℕ)) (events : List Event) (number : ℕ) → map event_of lines ≡ map (λ event. Ok event) events → AreReadAs number lines events
-unfolding AreEvents
-read-as [] [] number same = record { events_are = read_of-nil event_of; accepted = refusal_in-nil event_of number; are_events = tt }
-read-as [] (event ∷ events) number same = cc same
-read-as (line ∷ lines) [] number same = cc same
-read-as (line ∷ lines) (event ∷ events) number same =
-    let parts = head_of line lines event events same in
-    with_event number line lines event events parts.0 (read-as lines events (number + 1) parts.1)
+read-as : {E : Type 0} (read : Reading E) (lines : List (List ℕ)) (events : List E) (number : ℕ) → map read lines ≡ map (λ e. Ok e) events → AreReadAs read number lines events
+read-as read [] [] number same = record { events_are = read_of-nil read; accepted = refusal_in-nil read number }
+read-as read [] (event ∷ events) number same = cc same
+read-as read (line ∷ lines) [] number same = cc same
+read-as read (line ∷ lines) (event ∷ events) number same =
+    let parts = head_of read line lines event events same in
+    with_event read number line lines event events parts.0 (read-as read lines events (number + 1) parts.1)
 
 -- no line is refused by an ending that is Done
-refusal-done : (lines : List (List ℕ)) (number : ℕ) → refusal_in event_of number lines ≡ Some EndDone → ⊥
-refusal-done [] number is = let none = refusal_in-nil event_of number in cc (none, is)
-refusal-done (line ∷ lines) number is = by_read (event_of line) refl (λ rest. refusal-done lines (number + 1) rest)
+refusal-done : {E : Type 0} (read : Reading E) (lines : List (List ℕ)) (number : ℕ) → refusal_in read number lines ≡ Some EndDone → ⊥
+refusal-done read [] number is = let none = refusal_in-nil read number in cc (none, is)
+refusal-done {E = E} read (line ∷ lines) number is = by_read (read line) refl (λ rest. refusal-done read lines (number + 1) rest)
   where
-    by_read : (result : Result Event LineFault) → event_of line ≡ result → (refusal_in event_of (number + 1) lines ≡ Some EndDone → ⊥) → ⊥
-    by_read (Ok event) read rest = rest (sym (refusal_in-ok event_of number line lines event read) ∙ is)
-    by_read (Err fault) read rest = let bad = refusal_in-err event_of number line lines fault read in cc (bad, is)
+    by_read : (result : Result E LineFault) → read line ≡ result → (refusal_in read (number + 1) lines ≡ Some EndDone → ⊥) → ⊥
+    by_read (Ok event) same rest = rest (sym (refusal_in-ok read number line lines event same) ∙ is)
+    by_read (Err fault) same rest = let bad = refusal_in-err read number line lines fault same in cc (bad, is)
 
 -- while more octets may come a script is not done
 not-done : (refusal : Option Ending) → (refusal ≡ Some EndDone → ⊥) → lines_ending false refusal ≡ Some EndDone → ⊥
@@ -80,52 +86,109 @@ ended-done EndDone is = refl
 ended-done (Found faults) is = cc is
 ended-done (BadLine line fault) is = cc is
 
-module _ (told left first last : Option (List ℕ)) (input : List ℕ) (events : List Event) (script : IsScriptOf input events) (is_told : told ≡ Some input) where
+by_length : (long : Bool) (x y : Outcome) → long ≡ false → cond long x y ≡ y
+by_length true x y is = cc is
+by_length false x y is = refl
+
+-- a command whose output and ending are made of what its lines are read as
+record IsLineCommand {E : Type 0} (read : Reading E) (command : Command) (text : List E → Bool → Option Ending → List ℕ) : Type 0 where
+  pub writes : (ended : Bool) (octets : List ℕ) → output_by command ended octets ≡ text (read_of read (lines_in ended [] octets)) ended (refusal_in read 1 (lines_in ended [] octets))
+  pub ends : (ended : Bool) (octets : List ℕ) → ending_by command ended octets ≡ lines_ending ended (refusal_in read 1 (lines_in ended [] octets))
+
+module _ {E : Type 0} (read : Reading E) (command : Command) (text : List E → Bool → Option Ending → List ℕ) (is : IsLineCommand read command text) (told left first last : Option (List ℕ)) (input : List ℕ) (events : List E)
+    (few : length input ≤ input_most) (lines_are : map read (lines_in true [] input) ≡ map (λ e. Ok e) events) (is_told : told ≡ Some input) where
+  are : AreReadAs read 1 (lines_in true [] input) events
+  are = read-as read (lines_in true [] input) events 1 lines_are
+
   -- all lines that tell of the run were written where the work is done
-  wrote-final : (octets : List ℕ) (ending : Ending) → IsFinal told first last (command_future Stations) octets ending → ending ≡ EndDone → Appended first (script_text events) last
+  wrote-final : (octets : List ℕ) (ending : Ending) → IsFinal told first last (command_future command) octets ending → ending ≡ EndDone → Appended first (text events true None) last
   wrote-final octets ending final done = by_end final.ended final.all final.ends final.wrote
     where
-      are : AreReadAs 1 (lines_in true [] input) events
-      are = read-as (lines_in true [] input) events 1 script.lines
-
-      by_end : (ended : Bool) → (ended ≡ true → (length octets ≤ input_most) × IfSome told (λ all. all ≡ octets))
-          → lines_ending ended (refusal_in event_of 1 (lines_in ended [] (take input_most octets))) ≡ Some ending
-          → Appended first (output_by Stations ended (take input_most octets)) last → Appended first (script_text events) last
+      by_end : (ended : Bool) → (ended ≡ true → (length octets ≤ input_most) × IfSome told (λ all. all ≡ octets)) → ending_by command ended (take input_most octets) ≡ Some ending
+          → Appended first (output_by command ended (take input_most octets)) last → Appended first (text events true None) last
       by_end true all ends wrote =
           let same : take input_most octets ≡ input = take_all input_most octets (all refl).0 ∙ sym (ended-input told octets input (all refl).1 is_told) in
-          Appended-same (ap (output_by Stations true) same
-          ∙ ap₂ (λ (es : List Event) (r : Option Ending). flat_map step_line (steps_of first_world es) ++ closing_by true r (closing_line (world_run first_world es))) are.events_are are.accepted) wrote
+          Appended-same (ap (output_by command true) same ∙ is.writes true input ∙ ap₂ (λ (es : List E) (r : Option Ending). text es true r) are.events_are are.accepted) wrote
       by_end false all ends wrote =
-          absurd (not-done (refusal_in event_of 1 (lines_in false [] (take input_most octets))) (refusal-done (lines_in false [] (take input_most octets)) 1) (ends ∙ ap (λ (e : Ending). Some e) done))
+          let lines = lines_in false [] (take input_most octets) in
+          absurd (not-done (refusal_in read 1 lines) (refusal-done read lines 1) (sym (is.ends false (take input_most octets)) ∙ ends ∙ ap (λ (e : Ending). Some e) done))
 
-  wrote-done : (end : WorkEnd) → Worked told left first last (command_future Stations) end → work_outcome end ≡ Done → Appended first (script_text events) last
-  wrote-done (Ended ending) worked is = wrote-final worked.octets ending worked.meets (ended-done ending is)
-  wrote-done ReadFault worked is = cc is
-  wrote-done WriteFault worked is = cc is
-  wrote-done TooLong worked is = cc is
-  wrote-done NoMemory worked is = cc is
+  wrote-done : (end : WorkEnd) → Worked told left first last (command_future command) end → work_outcome end ≡ Done → Appended first (text events true None) last
+  wrote-done (Ended ending) worked same = wrote-final worked.octets ending worked.meets (ended-done ending same)
+  wrote-done ReadFault worked same = cc same
+  wrote-done WriteFault worked same = cc same
+  wrote-done TooLong worked same = cc same
+  wrote-done NoMemory worked same = cc same
 
   -- the answer for such a script is Done
-  answer-done : answer_of Stations input ≡ Done
+  answer-done : answer_of command input ≡ Done
   answer-done =
-      let are = read-as (lines_in true [] input) events 1 script.lines in
-      short ∙ ap (λ (r : Option Ending). ending_or (lines_ending true r) OutcomeTooLong) are.accepted
-    where
-      by_length : (long : Bool) (x y : Outcome) → long ≡ false → cond long x y ≡ y
-      by_length true x y is = cc is
-      by_length false x y is = refl
+      let short : answer_of command input ≡ ending_or (ending_by command true input) OutcomeTooLong = by_length (nat_lt input_most (length input)) _ _ (grind (arith, nat_tests, few)) in
+      short ∙ ap (λ (o : Option Ending). ending_or o OutcomeTooLong) (is.ends true input ∙ ap (λ (r : Option Ending). lines_ending true r) are.accepted)
 
-      short : answer_of Stations input ≡ ending_or (lines_ending true (refusal_in event_of 1 (lines_in true [] input))) OutcomeTooLong
-      short = let few = script.short in by_length (nat_lt input_most (length input)) _ _ (grind (arith, nat_tests, few))
+  script-ended : (outcome : Outcome) → (outcome ≡ answer_of command input) ⊎ ((outcome ≡ Memory) × CanWantMemory command) → (outcome ≡ Done) ⊎ (outcome ≡ Memory)
+  script-ended outcome (inl same) = inl (same ∙ answer-done)
+  script-ended outcome (inr wanting) = inr wanting.0
 
-  pub script-run : (end : WorkEnd) (outcome : Outcome) → outcome ≡ work_outcome end → Worked told left first last (command_future Stations) end
-      → (outcome ≡ answer_of Stations input) ⊎ ((outcome ≡ Memory) × CanWantMemory Stations) → HasRun first last events outcome
-  script-run end outcome same worked complete = record {
-    ended = ended complete;
-    wrote = λ done. wrote-done end worked (sym same ∙ done);
-    orderly = λ clean. run-orderly events (read-as (lines_in true [] input) events 1 script.lines).are_events clean;
-  }
-    where
-      ended : (outcome ≡ answer_of Stations input) ⊎ ((outcome ≡ Memory) × CanWantMemory Stations) → (outcome ≡ Done) ⊎ (outcome ≡ Memory)
-      ended (inl is) = inl (is ∙ answer-done)
-      ended (inr wanting) = inr wanting.0
+-- Scripts of the stations.
+
+is_event : (line : List ℕ) (event : Event) → event_of line ≡ Ok event → IsEvent event
+is_event line event same = IsEvent-IsScripted event (IsLineOf-event_of line event same).fits
+
+are-events : (lines : List (List ℕ)) (events : List Event) → map event_of lines ≡ map (λ e. Ok e) events → AreEvents events
+unfolding AreEvents
+are-events lines [] same = tt
+are-events [] (event ∷ events) same = cc same
+are-events (line ∷ lines) (event ∷ events) same =
+    let parts = head_of event_of line lines event events same in
+    (is_event line event parts.0, are-events lines events parts.1)
+
+stations-text : List Event → Bool → Option Ending → List ℕ
+stations-text events ended refusal = flat_map step_line (steps_of first_world events) ++ closing_by ended refusal (closing_line (world_run first_world events))
+
+stations-scripted : IsLineCommand event_of Stations stations-text
+unfolding stations-text
+stations-scripted = record { writes = λ ended octets. refl; ends = λ ended octets. refl }
+
+pub script-run : (told left first last : Option (List ℕ)) (input : List ℕ) (events : List Event) → IsScriptOf input events → told ≡ Some input → (end : WorkEnd) (outcome : Outcome) → outcome ≡ work_outcome end
+    → Worked told left first last (command_future Stations) end → (outcome ≡ answer_of Stations input) ⊎ ((outcome ≡ Memory) × CanWantMemory Stations) → HasRun first last events outcome
+unfolding stations-text
+script-run told left first last input events script is_told end outcome same worked complete = record {
+  ended = script-ended event_of Stations stations-text stations-scripted told left first last input events script.short script.lines is_told outcome complete;
+  wrote = λ done. wrote-done event_of Stations stations-text stations-scripted told left first last input events script.short script.lines is_told end worked (sym same ∙ done);
+  orderly = λ clean. run-orderly events (are-events (lines_in true [] input) events script.lines) clean;
+}
+
+-- Scripts of long messages.
+
+is-long_event : (event : LongEvent) → IsLongScripted event → IsLongEvent event
+unfolding IsLongScripted IsLongEvent
+is-long_event (Long message) fits = fits.short
+is-long_event (Inner event) fits = fits.no_offer
+
+are-long_events : (lines : List (List ℕ)) (events : List LongEvent) → map long_event_of lines ≡ map (λ e. Ok e) events → AreLongEvents events
+unfolding AreLongEvents
+are-long_events lines [] same = tt
+are-long_events [] (event ∷ events) same = cc same
+are-long_events (line ∷ lines) (event ∷ events) same =
+    let parts = head_of long_event_of line lines event events same in
+    (is-long_event event (IsLongLineOf-of line event parts.0).fits, are-long_events lines events parts.1)
+
+fragments-text : List LongEvent → Bool → Option Ending → List ℕ
+fragments-text events ended refusal = flat_map long_step_text_of (long_steps_of first_long events) ++ closing_by ended refusal (long_closing_line (long_run first_long events))
+
+fragments-scripted : IsLineCommand long_event_of Fragments fragments-text
+unfolding fragments-text
+fragments-scripted = record { writes = λ ended octets. refl; ends = λ ended octets. refl }
+
+pub long-script-run : (told left first last : Option (List ℕ)) (input : List ℕ) (events : List LongEvent) → IsLongScriptOf input events → told ≡ Some input → (end : WorkEnd) (outcome : Outcome) → outcome ≡ work_outcome end
+    → Worked told left first last (command_future Fragments) end → (outcome ≡ answer_of Fragments input) ⊎ ((outcome ≡ Memory) × CanWantMemory Fragments) → HasLongRun first last events outcome
+unfolding fragments-text
+long-script-run told left first last input events script is_told end outcome same worked complete =
+    let fit = are-long_events (lines_in true [] input) events script.lines in
+    record {
+      ended = script-ended long_event_of Fragments fragments-text fragments-scripted told left first last input events script.short script.lines is_told outcome complete;
+      wrote = λ done. wrote-done long_event_of Fragments fragments-text fragments-scripted told left first last input events script.short script.lines is_told end worked (sym same ∙ done);
+      unrefused = λ clean. long-unrefused events fit clean;
+      orderly = λ clean. long-orderly events fit clean;
+    }

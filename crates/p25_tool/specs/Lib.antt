@@ -8,6 +8,7 @@ pub mod Commands
 pub mod Buildings
 pub mod StationRules
 pub mod DuplexRules
+pub mod FragmentRules
 pub mod Scripts
 pub mod LongLines
 pub mod Runs

@@ -15,6 +15,9 @@ use Rattle.p25_tool.specs.DuplexLines.{duplex_event_of}
 use Rattle.p25_tool.specs.DuplexRules.{duplex_rules, told_duplex}
 use Rattle.p25_tool.specs.Outputs.{image_octets}
 use Rattle.p25_tool.specs.StationRules.{station_rules, told_step}
+use Rattle.p25_fragments.specs.LongState.{LongState}
+use Rattle.p25_long_script.specs.LongScript.{long_event_of}
+use Rattle.p25_tool.specs.FragmentRules.{fragment_rules, told_long}
 
 read_line_long : (line : List ℕ) → 8192 < length line → read_line_of line ≡ Err Long
 unfolding read_line_of words_or_fault
@@ -36,3 +39,9 @@ duplex_event_long line long = rw (is_more 8192 (length line) long) refl
 
 pub duplex_long : (d : DuplexState) (line : List ℕ) → 8192 < length line → duplex_rules.answer d line ≡ Err Long
 duplex_long d line long = ap (answer_from told_duplex d) (duplex_event_long line long)
+long_event_long : (line : List ℕ) → 8192 < length line → long_event_of line ≡ Err Long
+unfolding long_event_of words_or_fault
+long_event_long line long = rw (is_more 8192 (length line) long) refl
+
+pub fragment_long : (world : LongState) (line : List ℕ) → 8192 < length line → fragment_rules.answer world line ≡ Err Long
+fragment_long world line long = ap (answer_from told_long world) (long_event_long line long)

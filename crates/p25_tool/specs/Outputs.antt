@@ -31,7 +31,11 @@ use Rattle.p25_duplex.specs.DuplexTexts.{duplex_closing_of, duplex_step_text_of}
 use Rattle.p25_tool.specs.DuplexLines.{duplex_event_of}
 use Rattle.p25_work.specs.Lines.{closing_by, lines_ending, lines_in, read_of, refusal_in, texts_before}
 use Rattle.p25_tool.specs.declared.command.Command.{Command}
-use Rattle.p25_tool.specs.declared.command.Command.TheVariants.{Show, Check, Repair, Bridge, Build, Stations, Calls, Duplex}
+use Rattle.p25_tool.specs.declared.command.Command.TheVariants.{Show, Check, Repair, Bridge, Build, Stations, Calls, Duplex, Fragments}
+use Rattle.p25_fragments.specs.LongState.{LongState, first_long}
+use Rattle.p25_fragments.specs.LongRuns.{long_run, long_steps_of}
+use Rattle.p25_long_script.specs.LongScript.{long_event_of}
+use Rattle.p25_long_script.specs.LongTexts.{long_closing_text_of, long_step_text_of}
 
 -- the octets that bits fill, most significant bit first
 abbrev pub whole_octets : List Bool → List ℕ
@@ -96,6 +100,8 @@ duplex_step_line step = duplex_step_text_of step ++ 10 ∷ []
 
 unfoldable pub duplex_closing_lines : DuplexState → List ℕ
 duplex_closing_lines d = duplex_closing_of A d ++ 10 ∷ duplex_closing_of B d ++ codes "\nfalse=" ++ decimal d.false_passes ++ 10 ∷ []
+abbrev pub long_closing_line : LongState → List ℕ
+long_closing_line world = long_closing_text_of world ++ 10 ∷ []
 
 -- what a command writes for the octets of its input, whether they are all or more may come
 abbrev pub output_by : Command → Bool → List ℕ → List ℕ
@@ -118,6 +124,11 @@ output_by Duplex ended octets =
     let events = read_of duplex_event_of lines in
     flat_map duplex_step_line (duplex_steps first_duplex events)
     ++ closing_by ended (refusal_in duplex_event_of 1 lines) (duplex_closing_lines (duplex_run first_duplex events))
+output_by Fragments ended octets =
+    let lines = lines_in ended [] octets in
+    let events = read_of long_event_of lines in
+    flat_map long_step_text_of (long_steps_of first_long events)
+    ++ closing_by ended (refusal_in long_event_of 1 lines) (long_closing_line (long_run first_long events))
 
 -- how a call of a command ends by the octets of its input, whether they are all or more may come
 abbrev pub ending_by : Command → Bool → List ℕ → Option Ending
@@ -129,15 +140,19 @@ ending_by (Build status) ended octets = lines_ending ended (refusal_in read_line
 ending_by Stations ended octets = lines_ending ended (refusal_in event_of 1 (lines_in ended [] octets))
 ending_by Calls ended octets = cond ended (Some Done) None
 ending_by Duplex ended octets = lines_ending ended (refusal_in duplex_event_of 1 (lines_in ended [] octets))
+ending_by Fragments ended octets = lines_ending ended (refusal_in long_event_of 1 (lines_in ended [] octets))
 
 -- behind which texts of a command memory may be wanting, by the octets of its input: before each step of a script
 abbrev pub pauses_by : Command → Bool → List ℕ → List (List ℕ)
 pauses_by Stations ended octets = texts_before (map step_line (steps_of first_world (read_of event_of (lines_in ended [] octets))))
 pauses_by Duplex ended octets = texts_before (map duplex_step_line (duplex_steps first_duplex (read_of duplex_event_of (lines_in ended [] octets))))
+pauses_by Fragments ended octets =
+    texts_before (map long_step_text_of (long_steps_of first_long (read_of long_event_of (lines_in ended [] octets))))
 pauses_by command ended octets = []
 
 -- the commands that take memory
 abbrev pub CanWantMemory : Command → Type 0
 CanWantMemory Stations = Unit {0}
 CanWantMemory Duplex = Unit {0}
+CanWantMemory Fragments = Unit {0}
 CanWantMemory command = ⊥

@@ -7,11 +7,16 @@ use Rattle.p25_air_world.specs.Runs.{IsCleanRun, sessions_of, steps_of, world_ru
 use Rattle.p25_air_world.specs.WorldState.{first_world}
 use Rattle.p25_air_world.specs.declared.step.Event.{Event}
 use Rattle.p25_script.specs.Script.{event_of}
+use Rattle.p25_fragments.specs.LongState.{first_long}
+use Rattle.p25_fragments.specs.LongRuns.{AreUnrefused, IsCleanLongRun, long_run, long_sessions_of, long_steps_of}
+use Rattle.p25_fragments.specs.declared.long_step.LongEvent.{LongEvent}
+use Rattle.p25_long_script.specs.LongScript.{long_event_of}
+use Rattle.p25_long_script.specs.LongTexts.{long_step_text_of}
 use Rattle.p25_work.specs.Lines.{lines_in}
 use Rattle.p25_work.specs.Runs.{input_most}
 use Rattle.p25_tool.specs.declared.outcome.Outcome.{Outcome}
 use Rattle.p25_tool.specs.declared.outcome.Outcome.TheVariants.{Done, Memory}
-use Rattle.p25_tool.specs.Outputs.{closing_line, step_line}
+use Rattle.p25_tool.specs.Outputs.{closing_line, long_closing_line, step_line}
 
 -- an input is a script of events: it is not too long, and each of its lines is read as the event at its place
 pub record IsScriptOf (input : List ℕ) (events : List Event) : Type 0 where
@@ -29,3 +34,19 @@ pub record HasRun (first last : Option (List ℕ)) (events : List Event) (outcom
   pub ended : (outcome ≡ Done) ⊎ (outcome ≡ Memory)
   pub wrote : outcome ≡ Done → Appended first (script_text events) last
   pub orderly : IsCleanRun events → AreOrderly (sessions_of (world_run first_world events))
+
+-- the same of events of long messages
+pub record IsLongScriptOf (input : List ℕ) (events : List LongEvent) : Type 0 where
+  pub short : length input ≤ input_most
+  pub lines : map long_event_of (lines_in true [] input) ≡ map (λ event. Ok event) events
+
+abbrev pub long_script_text : List LongEvent → List ℕ
+long_script_text events = flat_map long_step_text_of (long_steps_of first_long events) ++ long_closing_line (long_run first_long events)
+
+-- and where no step of the inner world is a false pass, no part is refused and each session is orderly: the long messages whole
+-- are the first of those taken, those acknowledged are whole, and one at most is whole that was not acknowledged
+pub record HasLongRun (first last : Option (List ℕ)) (events : List LongEvent) (outcome : Outcome) : Type 0 where
+  pub ended : (outcome ≡ Done) ⊎ (outcome ≡ Memory)
+  pub wrote : outcome ≡ Done → Appended first (long_script_text events) last
+  pub unrefused : IsCleanLongRun events → AreUnrefused (long_steps_of first_long events)
+  pub orderly : IsCleanLongRun events → AreOrderly (long_sessions_of (long_run first_long events))

@@ -19,4 +19,6 @@ pub enum Command {
     Stations,
     /// The steps of both stations that the lines of a script are, one a line, and last lines that tell of the world behind them.
     Duplex,
+    /// The same for lines that tell of long messages: one or two lines a step.
+    Fragments,
 }

@@ -7,14 +7,16 @@ ghost use Rattle.p25_work.specs.LineWorks.{first_line, line_future};
 ghost use Rattle.p25_tool.specs.Outputs.{CanWantMemory};
 ghost use Rattle.p25_tool.specs.Recordings.{fresh, recording_future};
 ghost use Rattle.p25_tool.specs.Runs.{Ran, answer_of, command_future};
-ghost use Rattle.p25_tool.specs.Scripts.{HasRun, IsScriptOf};
+ghost use Rattle.p25_tool.specs.Scripts.{HasLongRun, HasRun, IsLongScriptOf, IsScriptOf};
 ghost use Rattle.p25_tool.specs.Words.{IsSoundCommand, command_of};
 ghost use Rattle.p25_tool.specs.declared.command.Command.{Command};
 ghost use Rattle.p25_air_world.specs.declared.step.Event.{Event as event_type};
+ghost use Rattle.p25_fragments.specs.declared.long_step.LongEvent.{LongEvent as long_event_type};
 
 use super::build::Build;
 use super::command::Command;
 use super::duplex::Duplex;
+use super::fragments::Fragments;
 use super::outcome::{Outcome, outcome_of};
 use super::recording::Recording;
 use super::report::Report;
@@ -35,6 +37,8 @@ use std::alloc::Global;
 ///
 /// `stations` and `duplex` alone take memory, for each line that is accepted, before its step is made. Where there is not enough
 /// the outcome is `Memory`, and the sink holds the steps before, without the closing lines.
+/// `stations`, `fragments` and `duplex` alone take memory, for each line that is accepted, before its step is made. Where there
+/// is not enough the outcome is `Memory`, and the sink holds the steps before, without the closing line.
 pub fn run<S: Source, K: Sink>(
     alloc: Global,
     words: &Words,
@@ -57,6 +61,11 @@ pub fn run<S: Source, K: Sink>(
     ensures stations { (input : List ℕ) (events : List event_type) → command_of words.now ≡ Some Command.Stations → S.left source.old ≡ Some input
         → IsScriptOf input events → ¬ Rose (S.faults source.old) (S.faults source.new) → ¬ Rose (K.faults sink.old) (K.faults sink.new)
         → HasRun (K.written sink.old) (K.written sink.new) events result }
+
+    // What comes of a script of long messages.
+    ensures fragments { (input : List ℕ) (events : List long_event_type) → command_of words.now ≡ Some Command.Fragments
+        → S.left source.old ≡ Some input → IsLongScriptOf input events → ¬ Rose (S.faults source.old) (S.faults source.new)
+        → ¬ Rose (K.faults sink.old) (K.faults sink.new) → HasLongRun (K.written sink.old) (K.written sink.new) events result }
 
     // Why it was refused.
     ensures source_later { S.faults source.old ≤ S.faults source.new }
@@ -97,6 +106,7 @@ fn run_command<S: Source, K: Sink>(
         Command::Stations => run_lines(Stations::new(alloc), source, sink),
         Command::Calls => run_report(Calls::new(), source, sink),
         Command::Duplex => run_lines(Duplex::new(alloc), source, sink),
+        Command::Fragments => run_lines(Fragments::new(alloc), source, sink),
     }
 }
 

@@ -11,7 +11,7 @@
 //! A recording is a list of bits, each octet's most significant bit first. It falls into items that lie end to end and
 //! cover every bit. What a command writes for the octets of its input is `output_by`: `show` and `check` the texts of items,
 //! `repair` and `bridge` their bits, `calls` the texts of calls, `build` the images of the units that lines describe,
-//! `stations` and `duplex` the steps of the events that lines tell of. What stands after each way to end is `Ran`;
+//! `stations`, `fragments` and `duplex` the steps of the events that lines tell of. What stands after each way to end is `Ran`;
 //! `written_laws` says it of a call that came to the end of its input. `recorded_laws`, `found_laws` and `built_laws` say what
 //! these outputs are where units were sent, each damaged within radius or not at all. `outcome_text` and `outcome_status` are
 //! what the program makes of the outcome of a call.
@@ -22,6 +22,7 @@ mod command;
 mod command_run;
 mod duplex;
 mod duplex_lines;
+mod fragments;
 mod laws;
 mod outcome;
 mod recording;
@@ -36,6 +37,7 @@ pub use duplex_lines::read_duplex_event;
 pub use laws::{built_laws, found_laws, recorded_laws, written_laws};
 pub use outcome::{Outcome, outcome_status, outcome_text};
 pub use p25_line::Line;
+pub use p25_long_script::read_long_event;
 pub use words::Words;
 
 #[cfg(test)]

@@ -115,6 +115,8 @@ fn one_word(word: &[u8]) -> Option<Command>
         Some(Command::Calls)
     } else if word == b"stations".as_slice() {
         Some(Command::Stations)
+    } else if word == b"fragments".as_slice() {
+        Some(Command::Fragments)
     } else if word == b"duplex".as_slice() {
         Some(Command::Duplex)
     } else {

@@ -128,7 +128,7 @@ const ROWS: [Row; 8] = [
 ];
 
 // Parts, one behind the other.
-fn joined(parts: &[&[u8]]) -> Line {
+pub(super) fn joined(parts: &[&[u8]]) -> Line {
     let mut text = Line::new();
     for part in parts {
         if text.len() <= 4_000 && part.len() <= 4_000 {

@@ -9,8 +9,9 @@ use Rattle.p25_tool.specs.StationRules.{station_rules}
 use Rattle.p25_tool.specs.DuplexRules.{duplex_rules}
 use Rattle.p25_tool.specs.Recordings.{fresh, recording_future}
 use Rattle.p25_tool.specs.Runs.{command_future}
-use Rattle.p25_tool.proofs.CommandsLaws.{AreAlike, bridge-alike, build-alike, check-alike, repair-alike, show-alike, stations-alike, calls-alike}
+use Rattle.p25_tool.proofs.CommandsLaws.{AreAlike, bridge-alike, build-alike, check-alike, repair-alike, show-alike, stations-alike, calls-alike, fragments-alike}
 use Rattle.p25_tool.proofs.DuplexCommandLaws.{duplex-alike}
+use Rattle.p25_tool.specs.FragmentRules.{fragment_rules}
 use Rattle.p25_tool.proofs.RunsLaws.{worked-alike, all_written-alike}
 use Rattle.p25_tool.proofs.command_run.run_command.Goals as goal
 
@@ -88,3 +89,12 @@ pub returns-in-Duplex-clause-quiet : goal.returns-in-Duplex-clause-quiet
 returns-in-Duplex-clause-quiet g c =
     λ input told none.
     c.run_lines-in-Duplex.ensures.quiet input told (all_written-alike _ _ (lines-alike duplex_rules _ _ _ _ c.new-in-Duplex.ensures c.in-Duplex.is duplex-alike) input none)
+
+pub returns-in-Fragments-clause-worked : goal.returns-in-Fragments-clause-worked
+returns-in-Fragments-clause-worked g c =
+    worked-alike _ _ _ _ _ _ _ (lines-alike fragment_rules _ _ _ _ c.new-in-Fragments.ensures c.in-Fragments.is fragments-alike) c.run_lines-in-Fragments.ensures.worked
+
+pub returns-in-Fragments-clause-quiet : goal.returns-in-Fragments-clause-quiet
+returns-in-Fragments-clause-quiet g c =
+    λ input told none.
+    c.run_lines-in-Fragments.ensures.quiet input told (all_written-alike _ _ (lines-alike fragment_rules _ _ _ _ c.new-in-Fragments.ensures c.in-Fragments.is fragments-alike) input none)

@@ -1,5 +1,5 @@
 use Rattle.std.proofs.Common.{◌≡◌, List, [], ◌∷◌, ◌++◌, ℕ, ◌*◌, ◌-◌, ◌≤◌, length, ap, ap₂, take, drop, ◌∙◌, arith}
-use Rattle.p25_fragments.specs.LongMessages.{part_count, part_mark, part_of}
+use Rattle.p25_fragments.specs.LongMessages.{part_mark, part_of}
 use Rattle.p25_fragments.proofs.PartsLaws.{take-least}
 use Rattle.p25_fragments.proofs.long_message.LongMessage.part.Goals as goal
 

@@ -1,11 +1,10 @@
-use Rattle.std.proofs.Common.{◌≡◌, ℕ, ◌<◌, ◌≤◌, List, [], ◌∷◌, ◌++◌, length, ap, ap₂, sym, ◌∙◌, arith}
+use Rattle.std.proofs.Common.{◌≡◌, ℕ, ◌<◌, ◌≤◌, [], ◌∷◌, ◌++◌, length, ap, ap₂, ◌∙◌, arith}
 use Rattle.p25_fragments.specs.declared.long_mark.LongMark.{LongMark}
 use Rattle.p25_fragments.specs.declared.long_step.LongStep.{LongStep}
 use Rattle.p25_fragments.specs.declared.long_step.Then.{Then}
-use Rattle.p25_fragments.specs.declared.long_world.LongWorld.TheInside.{Inside}
 use Rattle.p25_fragments.specs.Inside.{state_of}
 use Rattle.p25_fragments.specs.LongState.{LongState, LongParts}
-use Rattle.p25_fragments.specs.LongSteps.{present_long_mark, after_kind, with_first, inner_happened}
+use Rattle.p25_fragments.specs.LongSteps.{after_kind, with_first, inner_happened}
 use Rattle.p25_air_world.specs.Steps.{world_step}
 use Rattle.p25_fragments.proofs.HappenSteps.{IsMarked, marked-ended, marked-same, happened, acknowledged-arm, delivered-arm, syn-arm, other-arm}
 use Rattle.p25_fragments.proofs.long_world.LongWorld.happen.Goals as goal

@@ -1,4 +1,4 @@
-use Rattle.std.proofs.Common.{◌≡◌, List, ℕ, Some, ap, ap₂, sym, ◌∙◌}
+use Rattle.std.proofs.Common.{◌≡◌, List, ℕ, Some, ap, ◌∙◌}
 use Rattle.p25_fragments.specs.declared.long_step.LongStep.{LongStep}
 use Rattle.p25_fragments.specs.declared.long_step.Then.TheVariants.{Started}
 use Rattle.p25_fragments.specs.Inside.{state_of}

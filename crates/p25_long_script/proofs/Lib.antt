@@ -1,0 +1,2 @@
+pub mod LongReadSteps
+pub mod LongScriptLaws
