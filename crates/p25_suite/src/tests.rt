@@ -4,6 +4,7 @@ mod calls;
 mod packets;
 mod refusals;
 mod script;
+mod soft;
 mod voice;
 mod world;
 

@@ -13,13 +13,14 @@ use Rattle.p25_work.specs.LineRules.{texts_of}
 use Rattle.p25_work.specs.LineWorks.{first_line, line_future}
 use Rattle.p25_work.proofs.RulesLaws.{first_line-ends, first_line-pauses, first_line-writes}
 use Rattle.p25_tool.specs.declared.build.Build.{Build}
-use Rattle.p25_tool.specs.declared.command.Command.TheVariants.{Show as ShowIt, Check as CheckIt, Repair as RepairIt, Bridge as BridgeIt, Build as BuildIt}
+use Rattle.p25_tool.specs.declared.command.Command.TheVariants.{Show as ShowIt, Check as CheckIt, Repair as RepairIt, Bridge as BridgeIt, Build as BuildIt, Soft as SoftIt}
 use Rattle.p25_tool.specs.declared.reports.show.Show.{Show}
 use Rattle.p25_tool.specs.declared.reports.check.Check.{Check}
 use Rattle.p25_tool.specs.declared.reports.changed.Change.TheVariants.{Repaired, Bridged}
 use Rattle.p25_tool.specs.Buildings.{build_rules}
 use Rattle.p25_tool.specs.Commands.{changed_reporting, check_reporting, show_reporting}
-use Rattle.p25_tool.specs.Outputs.{check_ending, check_line, ending_by, faults_in, faulty, image_octets, units_in}
+use Rattle.p25_tool.specs.Outputs.{check_ending, check_line, ending_by, faults_in, faulty, image_octets, soft_output, units_in}
+use Rattle.p25_tool.specs.Softs.{fresh_soft, soft_future}
 use Rattle.p25_tool.specs.Recordings.{fresh, recording_future}
 use Rattle.p25_tool.specs.Runs.{command_future}
 use Rattle.p25_tool.proofs.ReportsLaws.{behind-check, reported-changed, reported-check, reported-show}
@@ -98,3 +99,7 @@ build-alike status = record {
   ends = λ is octets. first_line-ends read_line_of _ _ false (record { status = status }) is octets;
   pauses = λ is octets. first_line-pauses read_line_of _ _ false (record { status = status }) is octets;
 }
+
+pub soft-alike : AreAlike (soft_future fresh_soft) (command_future SoftIt)
+unfolding soft_future soft_output
+soft-alike = record { writes = λ is octets. refl; ends = λ is octets. refl; pauses = λ is octets. refl }

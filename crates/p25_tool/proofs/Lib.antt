@@ -4,3 +4,6 @@ pub mod RecordingsLaws
 pub mod WordsLaws
 pub mod CommandsLaws
 pub mod RunsLaws
+pub mod SoftLevelsLaws
+pub mod SoftRecordingsLaws
+pub mod SoftHearingLaws

@@ -2,8 +2,10 @@ pub mod Words
 pub mod Outcomes
 pub mod Reports
 pub mod Recordings
+pub mod SoftLevels
 pub mod Outputs
 pub mod Commands
+pub mod Softs
 pub mod Buildings
 pub mod LongLines
 pub mod Runs

@@ -1,5 +1,5 @@
 -- What each command writes for its input, and how a call ends by its input.
-use Rattle.std.specs.Prelude.{ℕ, ◌+◌, ◌/◌, Bool, cond, nat_eq, List, [], ◌∷◌, ◌++◌, length, take, drop, replicate, codes, decimal, Option, Some, None}
+use Rattle.std.specs.Prelude.{ℕ, ◌+◌, ◌/◌, Bool, cond, nat_eq, List, [], ◌∷◌, ◌++◌, length, take, drop, map, replicate, codes, decimal, Option, Some, None}
 use Rattle.std.specs.List.{flat_map}
 use Rattle.p25_bits.specs.Bits.{octet_bits}
 use Rattle.p25_bits.specs.Numbers.{octets_from}
@@ -10,14 +10,16 @@ use Rattle.p25_units.specs.Items.{covered}
 use Rattle.p25_units.specs.declared.frame.Frame.{Frame}
 use Rattle.p25_units.specs.declared.item.Item.{Item}
 use Rattle.p25_stream.specs.Items.{items_by}
+use Rattle.p25_soft.specs.Levels.{hard_bits}
 use Rattle.p25_stream.specs.Repeats.{bridged, is_whole_item, repaired}
 use Rattle.p25_text.specs.ItemTexts.{item_text_of}
 use Rattle.p25_text.specs.Grammar.{read_line_of}
 use Rattle.p25_work.specs.declared.ending.Ending.{Ending}
 use Rattle.p25_work.specs.declared.ending.Ending.TheVariants.{Done, Found}
 use Rattle.p25_work.specs.Lines.{lines_ending, lines_in, read_of, refusal_in}
+use Rattle.p25_tool.specs.SoftLevels.{item_softened, octet_level, scanned}
 use Rattle.p25_tool.specs.declared.command.Command.{Command}
-use Rattle.p25_tool.specs.declared.command.Command.TheVariants.{Show, Check, Repair, Bridge, Build}
+use Rattle.p25_tool.specs.declared.command.Command.TheVariants.{Show, Check, Repair, Bridge, Build, Soft}
 
 -- the octets that bits fill, most significant bit first
 abbrev pub whole_octets : List Bool → List ℕ
@@ -61,6 +63,13 @@ filled_frame status unit = record { unit = unit; statuses = replicate (frame_len
 abbrev pub image_octets : Status → UnitParts → List ℕ
 image_octets status unit = whole_octets (image_of (filled_frame status unit))
 
+-- what `soft` writes for the octets of a soft recording, whether they are all or more may come: the bits of all items of the hard
+-- bits of its levels, each broken packet that begins at an even place softened
+unfoldable pub soft_output : Bool → List ℕ → List ℕ
+soft_output ended octets =
+    let levels = scanned ended (map octet_level octets) in
+    whole_octets (changed_bits (item_softened 0 levels) (items_by ended 0 (hard_bits levels)) (hard_bits levels))
+
 -- what a command writes for the octets of its input, whether they are all or more may come
 abbrev pub output_by : Command → Bool → List ℕ → List ℕ
 output_by Show ended octets = flat_map shown (items_by ended 0 (octet_bits octets))
@@ -70,6 +79,7 @@ output_by Check ended octets =
 output_by Repair ended octets = whole_octets (changed_bits repaired (items_by ended 0 (octet_bits octets)) (octet_bits octets))
 output_by (Bridge nac status) ended octets =
     whole_octets (changed_bits (λ item raw. bridged nac status item []) (items_by ended 0 (octet_bits octets)) (octet_bits octets))
+output_by Soft ended octets = soft_output ended octets
 output_by (Build status) ended octets = flat_map (image_octets status) (read_of read_line_of (lines_in ended [] octets))
 
 -- how a call of a command ends by the octets of its input, whether they are all or more may come
@@ -78,6 +88,7 @@ ending_by Show ended octets = cond ended (Some Done) None
 ending_by Check ended octets = cond ended (Some (check_ending (faults_in (items_by ended 0 (octet_bits octets))))) None
 ending_by Repair ended octets = cond ended (Some Done) None
 ending_by (Bridge nac status) ended octets = cond ended (Some Done) None
+ending_by Soft ended octets = cond ended (Some Done) None
 ending_by (Build status) ended octets = lines_ending ended (refusal_in read_line_of 1 (lines_in ended [] octets))
 
 -- behind which texts of a command memory may be wanting, by the octets of its input: no command takes memory

@@ -6,7 +6,7 @@ use Rattle.p25_status.specs.Status.{status_at_number}
 use Rattle.p25_status.specs.declared.symbols.Status.{Status}
 use Rattle.p25_text.specs.Values.{nac_in}
 use Rattle.p25_tool.specs.declared.command.Command.{Command}
-use Rattle.p25_tool.specs.declared.command.Command.TheVariants.{Show, Check, Repair, Bridge, Build}
+use Rattle.p25_tool.specs.declared.command.Command.TheVariants.{Show, Check, Repair, Bridge, Build, Soft}
 
 -- the words after one more: its first 16 octets behind the others, or nothing where four are held
 abbrev pub added : List (List ℕ) → List ℕ → List (List ℕ)
@@ -25,7 +25,8 @@ status_in (first ∷ second ∷ digits) = None
 abbrev pub one_word_command : List ℕ → Option Command
 one_word_command word =
     cond (bytes_eq word (codes "show")) (Some Show)
-    (cond (bytes_eq word (codes "check")) (Some Check) (cond (bytes_eq word (codes "repair")) (Some Repair) None))
+    (cond (bytes_eq word (codes "check")) (Some Check)
+    (cond (bytes_eq word (codes "repair")) (Some Repair) (cond (bytes_eq word (codes "soft")) (Some Soft) None)))
 
 -- `build` with a status symbol, where it is one
 abbrev pub build_of : Option Status → Option Command
@@ -61,3 +62,4 @@ IsSoundCommand Check = Unit {0}
 IsSoundCommand Repair = Unit {0}
 IsSoundCommand (Bridge nac status) = nac < 4096
 IsSoundCommand (Build status) = Unit {0}
+IsSoundCommand Soft = Unit {0}

@@ -13,4 +13,6 @@ pub enum Command {
     Bridge { nac: u16, status: Status },
     /// The units that lines of text describe, with this status symbol everywhere.
     Build { status: Status },
+    /// The recording whose levels these are, one octet each, the blocks of broken packets read again from their levels.
+    Soft,
 }

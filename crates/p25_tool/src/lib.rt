@@ -10,17 +10,20 @@
 //!
 //! A recording is a list of bits, each octet's most significant bit first. It falls into items that lie end to end and
 //! cover every bit. What a command writes for the octets of its input is `output_by`: `show` and `check` the texts of items,
-//! `repair` and `bridge` their bits, `build` the images of the units that lines describe. What stands after each way to end
+//! `repair` and `bridge` their bits, `build` the images of the units that lines describe, and `soft` the bits of a recording
+//! whose levels come in place of bits. What stands after each way to end
 //! is `Ran`. `outcome_text` and `outcome_status` are what the program makes of the outcome of a call.
 #![tactic(auto)]
 
 mod build;
 mod command;
 mod command_run;
+mod held_levels;
 mod outcome;
 mod recording;
 mod report;
 mod reports;
+mod soft;
 mod words;
 
 pub use command::Command;

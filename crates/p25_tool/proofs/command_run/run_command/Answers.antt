@@ -4,7 +4,7 @@ use Rattle.p25_tool.specs.declared.command.Command.{Command}
 use Rattle.p25_tool.specs.Commands.{ChangedParts, changed_reporting}
 use Rattle.p25_tool.specs.Recordings.{fresh, recording_future}
 use Rattle.p25_tool.specs.Runs.{command_future}
-use Rattle.p25_tool.proofs.CommandsLaws.{AreAlike, bridge-alike, build-alike, check-alike, repair-alike, show-alike}
+use Rattle.p25_tool.proofs.CommandsLaws.{AreAlike, bridge-alike, build-alike, check-alike, repair-alike, show-alike, soft-alike}
 use Rattle.p25_tool.proofs.RunsLaws.{worked-alike, all_written-alike}
 use Rattle.p25_tool.proofs.command_run.run_command.Goals as goal
 
@@ -49,3 +49,9 @@ returns-in-Build-clause-worked g c = worked-alike _ _ _ _ _ _ _ (alike-to _ _ _ 
 
 pub returns-in-Build-clause-quiet : goal.returns-in-Build-clause-quiet
 returns-in-Build-clause-quiet g c = λ input told none. c.run_build.ensures.quiet input told (all_written-alike _ _ (alike-to _ _ _ c.in-Build.is (build-alike c.in-Build.status)) input none)
+
+pub returns-in-Soft-clause-worked : goal.returns-in-Soft-clause-worked
+returns-in-Soft-clause-worked g c = worked-alike _ _ _ _ _ _ _ (alike-to _ _ _ c.in-Soft.is soft-alike) c.run_soft.ensures.worked
+
+pub returns-in-Soft-clause-quiet : goal.returns-in-Soft-clause-quiet
+returns-in-Soft-clause-quiet g c = λ input told none. c.run_soft.ensures.quiet input told (all_written-alike _ _ (alike-to _ _ _ c.in-Soft.is soft-alike) input none)
