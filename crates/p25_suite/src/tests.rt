@@ -8,6 +8,7 @@ mod packets;
 mod refusals;
 mod script;
 mod stations;
+mod soft;
 mod voice;
 mod world;
 

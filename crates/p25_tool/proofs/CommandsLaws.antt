@@ -13,7 +13,7 @@ use Rattle.p25_work.specs.LineRules.{machine_behind, texts_of}
 use Rattle.p25_work.specs.LineWorks.{first_line, line_future}
 use Rattle.p25_work.proofs.RulesLaws.{first_line-ends, first_line-pauses, first_line-writes}
 use Rattle.p25_tool.specs.declared.build.Build.{Build}
-use Rattle.p25_tool.specs.declared.command.Command.TheVariants.{Show as ShowIt, Check as CheckIt, Repair as RepairIt, Bridge as BridgeIt, Build as BuildIt, Stations as StationsIt, Calls as CallsIt, Fragments as FragmentsIt}
+use Rattle.p25_tool.specs.declared.command.Command.TheVariants.{Show as ShowIt, Check as CheckIt, Repair as RepairIt, Bridge as BridgeIt, Build as BuildIt, Stations as StationsIt, Calls as CallsIt, Fragments as FragmentsIt, Soft as SoftIt}
 use Rattle.p25_tool.specs.declared.reports.show.Show.{Show}
 use Rattle.p25_tool.specs.declared.reports.check.Check.{Check}
 use Rattle.p25_tool.specs.declared.reports.changed.Change.TheVariants.{Repaired, Bridged}
@@ -26,7 +26,7 @@ use Rattle.p25_air_world.specs.declared.step.Step.{Step}
 use Rattle.p25_script.specs.Script.{event_of}
 use Rattle.p25_tool.specs.StationRules.{station_rules, told_step}
 use Rattle.p25_tool.specs.Commands.{changed_reporting, check_reporting, show_reporting, CallsParts, calls_reporting}
-use Rattle.p25_tool.specs.Outputs.{check_ending, check_line, closing_line, ending_by, faults_in, faulty, image_octets, step_line, units_in, long_closing_line}
+use Rattle.p25_tool.specs.Outputs.{check_ending, check_line, closing_line, ending_by, faults_in, faulty, image_octets, step_line, units_in, long_closing_line, soft_output}
 use Rattle.p25_calls.specs.Taking.{fresh_caller}
 use Rattle.p25_fragments.specs.LongState.{LongState, first_long}
 use Rattle.p25_fragments.specs.LongSteps.{long_step}
@@ -36,6 +36,7 @@ use Rattle.p25_fragments.specs.declared.long_step.LongStep.{LongStep}
 use Rattle.p25_long_script.specs.LongScript.{long_event_of}
 use Rattle.p25_long_script.specs.LongTexts.{long_step_text_of}
 use Rattle.p25_tool.specs.FragmentRules.{fragment_rules, told_long}
+use Rattle.p25_tool.specs.Softs.{fresh_soft, soft_future}
 use Rattle.p25_tool.specs.Recordings.{fresh, recording_future}
 use Rattle.p25_tool.specs.Runs.{command_future}
 use Rattle.p25_tool.proofs.CallReportsLaws.{reported-calls}
@@ -181,3 +182,7 @@ fragments-alike = record {
       first_line-pauses long_event_of told_long long_closing_line true first_long is octets
       ∙ ap texts_before (told-long (read_of long_event_of (lines_in is [] octets)) first_long);
 }
+
+pub soft-alike : AreAlike (soft_future fresh_soft) (command_future SoftIt)
+unfolding soft_future soft_output
+soft-alike = record { writes = λ is octets. refl; ends = λ is octets. refl; pauses = λ is octets. refl }

@@ -13,3 +13,6 @@ pub mod WrittenLaws
 pub mod DuplexReadSteps
 pub mod DuplexLineLaws
 pub mod DuplexCommandLaws
+pub mod SoftLevelsLaws
+pub mod SoftRecordingsLaws
+pub mod SoftHearingLaws

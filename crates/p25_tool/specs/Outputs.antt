@@ -10,6 +10,7 @@ use Rattle.p25_units.specs.Items.{covered}
 use Rattle.p25_units.specs.declared.frame.Frame.{Frame}
 use Rattle.p25_units.specs.declared.item.Item.{Item}
 use Rattle.p25_stream.specs.Items.{items_by}
+use Rattle.p25_soft.specs.Levels.{hard_bits}
 use Rattle.p25_stream.specs.Repeats.{bridged, is_whole_item, repaired}
 use Rattle.p25_text.specs.ItemTexts.{item_text_of}
 use Rattle.p25_text.specs.Grammar.{read_line_of}
@@ -31,11 +32,12 @@ use Rattle.p25_duplex.specs.DuplexTexts.{duplex_closing_of, duplex_step_text_of}
 use Rattle.p25_tool.specs.DuplexLines.{duplex_event_of}
 use Rattle.p25_work.specs.Lines.{closing_by, lines_ending, lines_in, read_of, refusal_in, texts_before}
 use Rattle.p25_tool.specs.declared.command.Command.{Command}
-use Rattle.p25_tool.specs.declared.command.Command.TheVariants.{Show, Check, Repair, Bridge, Build, Stations, Calls, Duplex, Fragments}
+use Rattle.p25_tool.specs.declared.command.Command.TheVariants.{Show, Check, Repair, Bridge, Build, Stations, Calls, Duplex, Fragments, Soft}
 use Rattle.p25_fragments.specs.LongState.{LongState, first_long}
 use Rattle.p25_fragments.specs.LongRuns.{long_run, long_steps_of}
 use Rattle.p25_long_script.specs.LongScript.{long_event_of}
 use Rattle.p25_long_script.specs.LongTexts.{long_closing_text_of, long_step_text_of}
+use Rattle.p25_tool.specs.SoftLevels.{item_softened, octet_level, scanned}
 
 -- the octets that bits fill, most significant bit first
 abbrev pub whole_octets : List Bool → List ℕ
@@ -100,8 +102,17 @@ duplex_step_line step = duplex_step_text_of step ++ 10 ∷ []
 
 unfoldable pub duplex_closing_lines : DuplexState → List ℕ
 duplex_closing_lines d = duplex_closing_of A d ++ 10 ∷ duplex_closing_of B d ++ codes "\nfalse=" ++ decimal d.false_passes ++ 10 ∷ []
+
+-- the text that closes a run of long messages, with the end of its line
 abbrev pub long_closing_line : LongState → List ℕ
 long_closing_line world = long_closing_text_of world ++ 10 ∷ []
+
+-- what `soft` writes for the octets of a soft recording, whether they are all or more may come: the bits of all items of the hard
+-- bits of its levels, each broken packet that begins at an even place softened
+unfoldable pub soft_output : Bool → List ℕ → List ℕ
+soft_output ended octets =
+    let levels = scanned ended (map octet_level octets) in
+    whole_octets (changed_bits (item_softened 0 levels) (items_by ended 0 (hard_bits levels)) (hard_bits levels))
 
 -- what a command writes for the octets of its input, whether they are all or more may come
 abbrev pub output_by : Command → Bool → List ℕ → List ℕ
@@ -112,6 +123,7 @@ output_by Check ended octets =
 output_by Repair ended octets = whole_octets (changed_bits repaired (items_by ended 0 (octet_bits octets)) (octet_bits octets))
 output_by (Bridge nac status) ended octets =
     whole_octets (changed_bits (λ item raw. bridged nac status item []) (items_by ended 0 (octet_bits octets)) (octet_bits octets))
+output_by Soft ended octets = soft_output ended octets
 output_by (Build status) ended octets = flat_map (image_octets status) (read_of read_line_of (lines_in ended [] octets))
 output_by Stations ended octets =
     let lines = lines_in ended [] octets in
@@ -136,6 +148,7 @@ ending_by Show ended octets = cond ended (Some Done) None
 ending_by Check ended octets = cond ended (Some (check_ending (faults_in (items_by ended 0 (octet_bits octets))))) None
 ending_by Repair ended octets = cond ended (Some Done) None
 ending_by (Bridge nac status) ended octets = cond ended (Some Done) None
+ending_by Soft ended octets = cond ended (Some Done) None
 ending_by (Build status) ended octets = lines_ending ended (refusal_in read_line_of 1 (lines_in ended [] octets))
 ending_by Stations ended octets = lines_ending ended (refusal_in event_of 1 (lines_in ended [] octets))
 ending_by Calls ended octets = cond ended (Some Done) None

@@ -6,7 +6,7 @@ use Rattle.p25_status.specs.Status.{status_at_number}
 use Rattle.p25_status.specs.declared.symbols.Status.{Status}
 use Rattle.p25_text.specs.Values.{nac_in}
 use Rattle.p25_tool.specs.declared.command.Command.{Command}
-use Rattle.p25_tool.specs.declared.command.Command.TheVariants.{Show, Check, Repair, Bridge, Build, Stations, Calls, Duplex, Fragments}
+use Rattle.p25_tool.specs.declared.command.Command.TheVariants.{Show, Check, Repair, Bridge, Build, Stations, Calls, Duplex, Fragments, Soft}
 
 -- the words after one more: its first 16 octets behind the others, or nothing where four are held
 abbrev pub added : List (List ℕ) → List ℕ → List (List ℕ)
@@ -28,9 +28,10 @@ one_word_command word =
     (cond (bytes_eq word (codes "check")) (Some Check)
     (cond (bytes_eq word (codes "repair")) (Some Repair)
     (cond (bytes_eq word (codes "calls")) (Some Calls)
+    (cond (bytes_eq word (codes "soft")) (Some Soft)
     (cond (bytes_eq word (codes "stations")) (Some Stations)
     (cond (bytes_eq word (codes "fragments")) (Some Fragments)
-    (cond (bytes_eq word (codes "duplex")) (Some Duplex) None))))))
+    (cond (bytes_eq word (codes "duplex")) (Some Duplex) None)))))))
 
 -- `build` with a status symbol, where it is one
 abbrev pub build_of : Option Status → Option Command
@@ -70,3 +71,4 @@ IsSoundCommand Stations = Unit {0}
 IsSoundCommand Calls = Unit {0}
 IsSoundCommand Duplex = Unit {0}
 IsSoundCommand Fragments = Unit {0}
+IsSoundCommand Soft = Unit {0}

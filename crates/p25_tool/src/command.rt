@@ -21,4 +21,6 @@ pub enum Command {
     Duplex,
     /// The same for lines that tell of long messages: one or two lines a step.
     Fragments,
+    /// The recording whose levels these are, one octet each, the blocks of broken packets read again from their levels.
+    Soft,
 }

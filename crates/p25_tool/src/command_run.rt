@@ -6,6 +6,7 @@ ghost use Rattle.p25_work.specs.Runs.{Worked, all_written};
 ghost use Rattle.p25_work.specs.LineWorks.{first_line, line_future};
 ghost use Rattle.p25_tool.specs.Outputs.{CanWantMemory};
 ghost use Rattle.p25_tool.specs.Recordings.{fresh, recording_future};
+ghost use Rattle.p25_tool.specs.Softs.{fresh_soft, soft_future};
 ghost use Rattle.p25_tool.specs.Runs.{Ran, answer_of, command_future};
 ghost use Rattle.p25_tool.specs.Scripts.{HasLongRun, HasRun, IsLongScriptOf, IsScriptOf};
 ghost use Rattle.p25_tool.specs.Words.{IsSoundCommand, command_of};
@@ -22,6 +23,7 @@ use super::recording::Recording;
 use super::report::Report;
 use super::reports::{Change, Changed, Check, Show, Calls};
 use super::stations::Stations;
+use super::soft::Soft;
 use super::words::Words;
 use p25_io::{Sink, Source};
 use p25_work::{LineMachine, LineWork, WorkEnd, work};
@@ -107,6 +109,7 @@ fn run_command<S: Source, K: Sink>(
         Command::Calls => run_report(Calls::new(), source, sink),
         Command::Duplex => run_lines(Duplex::new(alloc), source, sink),
         Command::Fragments => run_lines(Fragments::new(alloc), source, sink),
+        Command::Soft => run_soft(source, sink),
     }
 }
 
@@ -148,4 +151,17 @@ fn run_lines<M: LineMachine + Drop, S: Source, K: Sink>(
 {
     let mut lines = LineWork::new(machine);
     work(&mut lines, source, sink)
+}
+
+// The work of `soft`.
+fn run_soft<S: Source, K: Sink>(source: &mut S, sink: &mut K) -> WorkEnd
+    ensures worked { Worked (S.left source.old) (S.left source.new) (K.written sink.old) (K.written sink.new) (soft_future fresh_soft) result }
+    ensures quiet { (input : List ℕ) → S.left source.old ≡ Some input → all_written (soft_future fresh_soft) input ≡ [] → sink.new ≡ sink.old }
+    ensures source_later { S.faults source.old ≤ S.faults source.new }
+    ensures sink_later { K.faults sink.old ≤ K.faults sink.new }
+    ensures read_fault { result ≡ WorkEnd.ReadFault → Rose (S.faults source.old) (S.faults source.new) }
+    ensures write_fault { result ≡ WorkEnd.WriteFault → Rose (K.faults sink.old) (K.faults sink.new) }
+{
+    let mut soft = Soft::new();
+    work(&mut soft, source, sink)
 }

@@ -113,6 +113,8 @@ fn one_word(word: &[u8]) -> Option<Command>
         Some(Command::Repair)
     } else if word == b"calls".as_slice() {
         Some(Command::Calls)
+    } else if word == b"soft".as_slice() {
+        Some(Command::Soft)
     } else if word == b"stations".as_slice() {
         Some(Command::Stations)
     } else if word == b"fragments".as_slice() {

@@ -91,7 +91,7 @@ fn change_item(change: Change, item: &Item, raw: &mut BitBuf)
 }
 
 // Sets `out` to the octets that kept bits and those behind them fill, and keeps the bits that are left.
-fn put_behind(kept: &mut BitBuf, bits: &BitBuf, out: &mut Line)
+pub(crate) fn put_behind(kept: &mut BitBuf, bits: &BitBuf, out: &mut Line)
     requires { length kept.old < 8 }
     ensures octets { out.new ≡ whole_octets (kept.old ++ bits.now) }
     ensures kept { kept.new ≡ unfilled (kept.old ++ bits.now) }

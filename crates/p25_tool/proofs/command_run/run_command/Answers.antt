@@ -9,7 +9,7 @@ use Rattle.p25_tool.specs.StationRules.{station_rules}
 use Rattle.p25_tool.specs.DuplexRules.{duplex_rules}
 use Rattle.p25_tool.specs.Recordings.{fresh, recording_future}
 use Rattle.p25_tool.specs.Runs.{command_future}
-use Rattle.p25_tool.proofs.CommandsLaws.{AreAlike, bridge-alike, build-alike, check-alike, repair-alike, show-alike, stations-alike, calls-alike, fragments-alike}
+use Rattle.p25_tool.proofs.CommandsLaws.{AreAlike, bridge-alike, build-alike, check-alike, repair-alike, show-alike, stations-alike, calls-alike, fragments-alike, soft-alike}
 use Rattle.p25_tool.proofs.DuplexCommandLaws.{duplex-alike}
 use Rattle.p25_tool.specs.FragmentRules.{fragment_rules}
 use Rattle.p25_tool.proofs.RunsLaws.{worked-alike, all_written-alike}
@@ -98,3 +98,9 @@ pub returns-in-Fragments-clause-quiet : goal.returns-in-Fragments-clause-quiet
 returns-in-Fragments-clause-quiet g c =
     λ input told none.
     c.run_lines-in-Fragments.ensures.quiet input told (all_written-alike _ _ (lines-alike fragment_rules _ _ _ _ c.new-in-Fragments.ensures c.in-Fragments.is fragments-alike) input none)
+
+pub returns-in-Soft-clause-worked : goal.returns-in-Soft-clause-worked
+returns-in-Soft-clause-worked g c = worked-alike _ _ _ _ _ _ _ (alike-to _ _ _ c.in-Soft.is soft-alike) c.run_soft.ensures.worked
+
+pub returns-in-Soft-clause-quiet : goal.returns-in-Soft-clause-quiet
+returns-in-Soft-clause-quiet g c = λ input told none. c.run_soft.ensures.quiet input told (all_written-alike _ _ (alike-to _ _ _ c.in-Soft.is soft-alike) input none)

@@ -1,0 +1,216 @@
+//! Soft recordings: units built from lines, their levels changed, and what `soft` and `show` make of them in pieces of 1, of 3 and of
+//! all octets.
+
+use super::{build, words_of};
+use p25_io::{MemorySource, SliceSink, SteadySource};
+use p25_tool::{Outcome, run};
+use std::alloc::Global;
+
+// A unit: what its row shows, its line, how many bits 0 stand before it, which levels become which octets, what `show` writes of the
+// hard bits, and whether the output is the bits as they were sent.
+type Row = (
+    &'static str,
+    &'static [u8],
+    usize,
+    &'static [(usize, u8)],
+    &'static [u8],
+    bool,
+);
+
+const CONFIRMED: &[u8] =
+    b"confirmed nac=293 head=56c00000000181000800 blocks=00:00000000000000000000000000000000";
+
+const ROWS: [Row; 6] = [
+    (
+        "a block is read from its levels",
+        CONFIRMED,
+        0,
+        &[(164, 255), (165, 0)],
+        b"broken at=0 bits=576 nac=293 duid=c fields=block.0\n",
+        true,
+    ),
+    (
+        "only the block that fails is read from its levels",
+        b"confirmed nac=293 head=56c00000000182000800 blocks=00:00000000000000000000000000000000,01:00000000000000000000000000000000",
+        0,
+        &[(265, 255), (266, 0)],
+        b"broken at=0 bits=720 nac=293 duid=c fields=block.1\n",
+        true,
+    ),
+    (
+        "both blocks of a packet whose CRC fails are read from their levels",
+        b"plain nac=293 head=35c00000000182000000 octets=0000000000000000000000000000000000000000",
+        0,
+        &[
+            (158, 255),
+            (159, 0),
+            (185, 255),
+            (259, 255),
+            (260, 0),
+            (285, 255),
+        ],
+        b"broken at=0 bits=720 nac=293 duid=c fields=packet_crc\n",
+        true,
+    ),
+    (
+        "a block behind two bits is read from its levels",
+        CONFIRMED,
+        2,
+        &[(165, 255), (166, 0)],
+        b"gap at=0 bits=2\nbroken at=2 bits=576 nac=293 duid=c fields=block.0\ngap at=578 bits=6\n",
+        true,
+    ),
+    (
+        "a block at an odd place stays as it is",
+        CONFIRMED,
+        1,
+        &[(165, 96), (166, 96), (167, 96)],
+        b"gap at=0 bits=1\nbroken at=1 bits=576 nac=293 duid=c fields=block.0\ngap at=577 bits=7\n",
+        false,
+    ),
+    (
+        "a broken voice unit stays as it is",
+        b"tdulc nac=293 lc=ffffffffffffffffff",
+        0,
+        &[],
+        b"broken at=0 bits=432 nac=293 duid=f fields=link_control\n",
+        false,
+    ),
+];
+
+// The octet of a dibit's level: 32, 96, -32 and -96 in two's complement.
+fn level_of(dibit: u8) -> u8 {
+    match dibit {
+        0 => 32,
+        1 => 96,
+        2 => 224,
+        _ => 160,
+    }
+}
+
+// The dibit that the octet of a level is nearest to.
+fn dibit_of(level: u8) -> u8 {
+    match level {
+        0..=63 => 0,
+        64..=127 => 1,
+        192..=255 => 2,
+        _ => 3,
+    }
+}
+
+// Puts so many bits 0 before octets.
+fn shifted(octets: &[u8; 128], shift: usize) -> [u8; 128] {
+    let mut out = [0; 128];
+    for place in 0..1024 {
+        if place >= shift && shift < 8 {
+            let from = place - shift;
+            let bit = (octets[from / 8] >> (7 - from % 8)) & 1;
+            out[place / 8] |= bit << (7 - place % 8);
+        }
+    }
+    out
+}
+
+// The octets of the levels of octets.
+fn levels_of(octets: &[u8; 128]) -> [u8; 512] {
+    let mut levels = [0; 512];
+    for i in 0..512 {
+        levels[i] = level_of((octets[i / 4] >> (6 - 2 * (i % 4))) & 3);
+    }
+    levels
+}
+
+// The octets of the dibits that levels are nearest to.
+fn hard_of(levels: &[u8; 512]) -> [u8; 128] {
+    let mut octets = [0; 128];
+    for i in 0..512 {
+        octets[i / 4] |= dibit_of(levels[i]) << (6 - 2 * (i % 4));
+    }
+    octets
+}
+
+// Whether a command of one word is done and writes such octets, in pieces of 1, of 3 and of all octets.
+fn does(alloc: Global, word: &[u8], input: &[u8], output: &[u8]) -> bool {
+    for piece in [1, 3, 8_192] {
+        let mut source = SteadySource::new(input, piece);
+        let mut room = [0; 256];
+        let mut sink = SliceSink::new(&mut room, &[]);
+        if run(alloc, &words_of(&[word]), &mut source, &mut sink) != Outcome::Done
+            || sink.written() != output
+        {
+            return false;
+        }
+    }
+    true
+}
+
+// Whether a row holds. A voice unit is broken by six words of zeros behind its identifier.
+fn holds(alloc: Global, row: &Row) -> bool {
+    let mut room = [0; 128];
+    let size = build(alloc, b"0", row.1, &mut room) + row.2.min(1);
+    if size > 128 || size < 20 {
+        return false;
+    }
+    let sent = shifted(&room, row.2);
+    let mut levels = levels_of(&sent);
+    for (place, level) in row.3 {
+        if let Some(octet) = levels.get_mut(*place) {
+            *octet = *level;
+        }
+    }
+    if row.3.len() == 0 {
+        for octet in &mut levels[58..130] {
+            *octet = 0;
+        }
+    }
+    let hard = hard_of(&levels);
+    let output = if row.5 { &sent } else { &hard };
+    does(alloc, b"show", &hard[..size], row.4)
+        && does(alloc, b"soft", &levels[..4 * size], &output[..size])
+}
+
+#[test]
+fn blocks_and_their_levels(rt: HostRuntime) {
+    for row in ROWS {
+        assert!(rt; holds(rt.alloc(), &row), "{}", row.0);
+    }
+}
+
+// A terminator of NAC 0 with both status symbols 1.
+const TERMINATOR: [u8; 18] = [
+    0x55, 0x75, 0xF5, 0xFF, 0x77, 0xFF, 0x00, 0x03, 0x35, 0x93, 0x0B, 0xDD, 0x3B, 0x2B, 0, 0, 0, 1,
+];
+
+// The levels of a terminator.
+fn terminator_levels() -> [u8; 512] {
+    let mut octets = [0; 128];
+    octets[..18].copy_from_slice(&TERMINATOR);
+    levels_of(&octets)
+}
+
+#[test]
+fn a_terminator_and_its_first_levels(rt: HostRuntime) {
+    let levels = terminator_levels();
+    assert!(rt; does(rt.alloc(), b"soft", &levels[..72], &TERMINATOR));
+    // The last group is filled by the dibit 00.
+    let mut filled = TERMINATOR;
+    filled[17] = 0;
+    assert!(rt; does(rt.alloc(), b"soft", &levels[..70], &filled));
+    assert!(rt; does(rt.alloc(), b"soft", &[], &[]));
+}
+
+// Behind a read fault only what whole groups of four levels decide is written, and nothing is filled.
+#[test]
+fn a_read_fails(rt: HostRuntime) {
+    let levels = terminator_levels();
+    // Rows: the read that fails, and how many octets are written before.
+    for (call, count) in [(1, 0), (71, 0), (72, 0), (73, 18), (75, 18)] {
+        let fails = [call];
+        let mut source = MemorySource::new(&levels[..75], 1, &fails);
+        let mut room = [0; 32];
+        let mut sink = SliceSink::new(&mut room, &[]);
+        let outcome = run(rt.alloc(), &words_of(&[b"soft"]), &mut source, &mut sink);
+        assert_eq!(rt; outcome, Outcome::ReadFault, "failing at {call}");
+        assert_eq!(rt; sink.written(), &TERMINATOR[..count], "failing at {call}");
+    }
+}

@@ -1,0 +1,67 @@
+//! The levels of the bits that a scanner holds.
+
+ghost use Rattle.std.specs.Prelude.{◌≡◌, ◌+◌, ◌<◌, ◌≤◌, [], ◌∷◌, ◌++◌, length, drop};
+ghost use Rattle.p25_bits.specs.Bits.{part};
+
+use arrayvec::ArrayVec;
+use std::marker::Model;
+
+// A list of at most 12,976 levels: two bits for each, and a group of four more than the bits that a scanner holds.
+#[derive(Drop)]
+pub(crate) struct HeldLevels {
+    levels: ArrayVec<i8, 12_976>,
+}
+
+impl Model for HeldLevels {
+    ghost use Rattle.std.specs.Prelude.{List, ℤ};
+
+    ghost Value = { List ℤ };
+
+    ghost view = { λ s. s.levels.items };
+}
+
+impl HeldLevels {
+    // No levels.
+    pub(crate) fn new() -> HeldLevels
+        ensures { result ≡ [] }
+    {
+        HeldLevels {
+            levels: ArrayVec::new(),
+        }
+    }
+
+    // How many there are.
+    pub(crate) fn len(&self) -> usize
+        ensures { result ≡ length self.now }
+    {
+        self.levels.len()
+    }
+
+    // Appends a level.
+    pub(crate) fn push(&mut self, level: i8)
+        requires { length self.old < 12976 }
+        ensures list { self.new ≡ self.old ++ level ∷ [] }
+        ensures len { length self.new ≡ length self.old + 1 }
+    {
+        self.levels.push(level);
+    }
+
+    // The part of `count` levels from a place on.
+    pub(crate) fn part(&self, at: usize, count: usize) -> &[i8]
+        requires { at + count ≤ length self.now }
+        ensures list { result.now ≡ part at count self.now }
+        ensures len { length result.now ≡ count }
+    {
+        &self.levels.as_slice()[at..at + count]
+    }
+
+    // Takes the first levels away.
+    pub(crate) fn drop_front(&mut self, count: usize)
+        requires { count ≤ length self.old }
+        ensures { self.new ≡ drop count self.old }
+    {
+        let left = self.levels.len() - count;
+        self.levels.as_mut_slice().rotate_left(count);
+        self.levels.truncate(left);
+    }
+}
