@@ -127,8 +127,9 @@ pub fn unit_item(bits: &BitBuf, at: usize, count: usize, begun: Begun, place: u6
     item
 }
 
-/// Sets `item` to the same. An item is large: set in place, it is not moved, and where a voice unit follows a voice unit only
-/// that is written. `room` is taken for the unit's bits without status symbols.
+/// Sets `item` to the item that `unit_item` answers. An item is large: set in place it is not moved, and where a voice unit
+/// follows a voice unit, only that is written. `room` takes the unit's bits without status symbols; what it holds before and
+/// behind the call means nothing.
 pub fn set_unit_item(
     bits: &BitBuf,
     at: usize,
