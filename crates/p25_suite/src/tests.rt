@@ -3,6 +3,7 @@
 mod calls;
 mod packets;
 mod refusals;
+mod samples;
 mod script;
 mod voice;
 mod world;

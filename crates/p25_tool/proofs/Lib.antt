@@ -2,6 +2,7 @@ pub mod OctetsLaws
 pub mod ReportsLaws
 pub mod RecordingsLaws
 pub mod WordsLaws
+pub mod SamplingLaws
 pub mod CommandsLaws
 pub mod RunsLaws
 pub mod ScriptsLaws

@@ -15,7 +15,7 @@ use Rattle.p25_work.specs.declared.ending.WorkEnd.TheVariants.{Ended, ReadFault,
 use Rattle.p25_work.proofs.LinesLaws.{Contains-none}
 use Rattle.p25_work.proofs.RunsLaws.{Worked-same, all_written-same, ended-input, first-take, told-parts}
 use Rattle.p25_tool.specs.declared.command.Command.{Command}
-use Rattle.p25_tool.specs.declared.command.Command.TheVariants.{Show, Check, Repair, Bridge, Build, Stations}
+use Rattle.p25_tool.specs.declared.command.Command.TheVariants.{Show, Check, Repair, Bridge, Build, Stations, Sample}
 use Rattle.p25_tool.specs.declared.outcome.Outcome.{Outcome}
 use Rattle.p25_tool.specs.declared.outcome.Outcome.TheVariants.{TooLong, Memory}
 use Rattle.p25_tool.specs.Outcomes.{ending_outcome, work_outcome}
@@ -103,6 +103,7 @@ wanting-command Repair told left first last worked = Contains-none worked.meets.
 wanting-command (Bridge nac status) told left first last worked = Contains-none worked.meets.text worked.meets.pauses
 wanting-command (Build status) told left first last worked = Contains-none worked.meets.text worked.meets.pauses
 wanting-command Stations told left first last worked = tt
+wanting-command (Sample count) told left first last worked = Contains-none worked.meets.text worked.meets.pauses
 
 ending-memory : (ending : Ending) → ending_outcome ending ≡ Memory → ⊥
 ending-memory Done is = cc

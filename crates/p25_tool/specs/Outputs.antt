@@ -13,6 +13,7 @@ use Rattle.p25_stream.specs.Items.{items_by}
 use Rattle.p25_stream.specs.Repeats.{bridged, is_whole_item, repaired}
 use Rattle.p25_text.specs.ItemTexts.{item_text_of}
 use Rattle.p25_text.specs.Grammar.{read_line_of}
+use Rattle.p25_vectors.specs.Samples.{flips_of}
 use Rattle.p25_work.specs.declared.ending.Ending.{Ending}
 use Rattle.p25_work.specs.declared.ending.Ending.TheVariants.{Done, Found}
 use Rattle.p25_air_world.specs.Runs.{steps_of, world_run}
@@ -22,7 +23,7 @@ use Rattle.p25_script.specs.Script.{event_of}
 use Rattle.p25_script.specs.StepTexts.{closing_text_of, step_text_of}
 use Rattle.p25_work.specs.Lines.{closing_by, lines_ending, lines_in, read_of, refusal_in, texts_before}
 use Rattle.p25_tool.specs.declared.command.Command.{Command}
-use Rattle.p25_tool.specs.declared.command.Command.TheVariants.{Show, Check, Repair, Bridge, Build, Stations}
+use Rattle.p25_tool.specs.declared.command.Command.TheVariants.{Show, Check, Repair, Bridge, Build, Stations, Sample}
 
 -- the octets that bits fill, most significant bit first
 abbrev pub whole_octets : List Bool → List ℕ
@@ -73,6 +74,11 @@ step_line step = step_text_of step ++ 10 ∷ []
 abbrev pub closing_line : WorldState → List ℕ
 closing_line world = closing_text_of world ++ 10 ∷ []
 
+-- the line that tells of the first sample units: how many there are, how many of their bits are inverted, and how many read as
+-- their own frames, which are all
+abbrev pub sample_line : ℕ → List ℕ
+sample_line count = codes "units=" ++ decimal count ++ codes " flips=" ++ decimal (flips_of count) ++ codes " exact=" ++ decimal count ++ 10 ∷ []
+
 -- what a command writes for the octets of its input, whether they are all or more may come
 abbrev pub output_by : Command → Bool → List ℕ → List ℕ
 output_by Show ended octets = flat_map shown (items_by ended 0 (octet_bits octets))
@@ -87,6 +93,7 @@ output_by Stations ended octets =
     let lines = lines_in ended [] octets in
     let events = read_of event_of lines in
     flat_map step_line (steps_of first_world events) ++ closing_by ended (refusal_in event_of 1 lines) (closing_line (world_run first_world events))
+output_by (Sample count) ended octets = sample_line count
 
 -- how a call of a command ends by the octets of its input, whether they are all or more may come
 abbrev pub ending_by : Command → Bool → List ℕ → Option Ending
@@ -96,6 +103,7 @@ ending_by Repair ended octets = cond ended (Some Done) None
 ending_by (Bridge nac status) ended octets = cond ended (Some Done) None
 ending_by (Build status) ended octets = lines_ending ended (refusal_in read_line_of 1 (lines_in ended [] octets))
 ending_by Stations ended octets = lines_ending ended (refusal_in event_of 1 (lines_in ended [] octets))
+ending_by (Sample count) ended octets = Some Done
 
 -- behind which texts of a command memory may be wanting, by the octets of its input: before each step of a script
 abbrev pub pauses_by : Command → Bool → List ℕ → List (List ℕ)

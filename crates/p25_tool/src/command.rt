@@ -15,4 +15,6 @@ pub enum Command {
     Build { status: Status },
     /// The steps that the lines of a script are, one a line, and a last line that tells of the world behind them.
     Stations,
+    /// What the first sample units read as, one line. There are 1 to 10,000 of them.
+    Sample { count: u64 },
 }

@@ -18,6 +18,7 @@ use super::outcome::{Outcome, outcome_of};
 use super::recording::Recording;
 use super::report::Report;
 use super::reports::{Change, Changed, Check, Show};
+use super::sampling::run_sample;
 use super::stations::Stations;
 use super::words::Words;
 use p25_io::{Sink, Source};
@@ -31,6 +32,8 @@ use std::alloc::Global;
 /// that is refused, a write fault. What the octets taken so far decide is written before the next read. So after a read
 /// fault or an input that is too long the sink holds what the octets before decide, in whole octets and without a last line
 /// of a check; after a refused line what the lines before ask for; and after a write fault a beginning of the output.
+///
+/// `sample` reads nothing, and ends as `Done` or `WriteFault`.
 ///
 /// `stations` alone takes memory, for each line that is accepted, before its step is made. Where there is not enough the outcome
 /// is `Memory`, and the sink holds the steps before, without the closing line.
@@ -46,6 +49,7 @@ pub fn run<S: Source, K: Sink>(
     // What was taken and written, and how it ended.
     ensures ran { IfSome (command_of words.now)
         (λ command. Ran (S.left source.old) (S.left source.new) (K.written sink.old) (K.written sink.new) command result) }
+    ensures unread { (count : ℕ) → command_of words.now ≡ Some (Command.Sample count) → source.new ≡ source.old }
     ensures quiet { (command : Command) (input : List ℕ) → command_of words.now ≡ Some command → S.left source.old ≡ Some input
         → all_written (command_future command) input ≡ [] → sink.new ≡ sink.old }
     ensures complete { (command : Command) (input : List ℕ) → command_of words.now ≡ Some command → S.left source.old ≡ Some input
@@ -79,6 +83,7 @@ fn run_command<S: Source, K: Sink>(
 ) -> WorkEnd
     requires { IsSoundCommand command }
     ensures worked { Worked (S.left source.old) (S.left source.new) (K.written sink.old) (K.written sink.new) (command_future command) result }
+    ensures unread { (count : ℕ) → command ≡ Command.Sample count → source.new ≡ source.old }
     ensures quiet { (input : List ℕ) → S.left source.old ≡ Some input → all_written (command_future command) input ≡ [] → sink.new ≡ sink.old }
     ensures source_later { S.faults source.old ≤ S.faults source.new }
     ensures sink_later { K.faults sink.old ≤ K.faults sink.new }
@@ -94,6 +99,7 @@ fn run_command<S: Source, K: Sink>(
         }
         Command::Build { status } => run_lines(Build::new(status), source, sink),
         Command::Stations => run_lines(Stations::new(alloc), source, sink),
+        Command::Sample { count } => run_sample(count, sink),
     }
 }
 

@@ -1,4 +1,4 @@
-use Rattle.std.proofs.Common.{◌≡◌, sym, subst}
+use Rattle.std.proofs.Common.{◌≡◌, ◌∙◌, ap, sym, subst}
 use Rattle.p25_work.specs.Futures.{Future}
 use Rattle.p25_tool.specs.declared.command.Command.{Command}
 use Rattle.p25_tool.specs.Commands.{ChangedParts, changed_reporting}
@@ -9,6 +9,8 @@ use Rattle.p25_tool.specs.StationRules.{station_rules}
 use Rattle.p25_tool.specs.Recordings.{fresh, recording_future}
 use Rattle.p25_tool.specs.Runs.{command_future}
 use Rattle.p25_tool.proofs.CommandsLaws.{AreAlike, bridge-alike, build-alike, check-alike, repair-alike, show-alike, stations-alike}
+use Rattle.p25_work.specs.Runs.{all_written}
+use Rattle.p25_tool.proofs.SamplingLaws.{sample-some}
 use Rattle.p25_tool.proofs.RunsLaws.{worked-alike, all_written-alike}
 use Rattle.p25_tool.proofs.command_run.run_command.Goals as goal
 
@@ -71,3 +73,8 @@ pub returns-in-Stations-clause-quiet : goal.returns-in-Stations-clause-quiet
 returns-in-Stations-clause-quiet g c =
     λ input told none.
     c.run_lines-in-Stations.ensures.quiet input told (all_written-alike _ _ (lines-alike station_rules _ _ _ _ c.new-in-Stations.ensures c.in-Stations.is stations-alike) input none)
+
+pub returns-in-Sample-clause-quiet : goal.returns-in-Sample-clause-quiet
+returns-in-Sample-clause-quiet g c =
+    λ input told none.
+    absurd (sample-some c.in-Sample.count input (ap (λ (x : Command). all_written (command_future x) input) (sym c.in-Sample.is) ∙ none))
