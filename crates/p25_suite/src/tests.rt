@@ -5,6 +5,7 @@ mod packets;
 mod refusals;
 mod samples;
 mod script;
+mod stations;
 mod voice;
 mod world;
 
