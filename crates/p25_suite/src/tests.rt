@@ -6,6 +6,7 @@ mod drawn;
 mod fragments;
 mod packets;
 mod refusals;
+mod samples;
 mod script;
 mod stations;
 mod soft;

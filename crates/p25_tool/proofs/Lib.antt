@@ -3,6 +3,7 @@ pub mod ReportsLaws
 pub mod RecordingsLaws
 pub mod WordsLaws
 pub mod CallReportsLaws
+pub mod SamplingLaws
 pub mod CommandsLaws
 pub mod RunsLaws
 pub mod ScriptsLaws

@@ -15,7 +15,7 @@ use Rattle.p25_work.specs.declared.ending.WorkEnd.TheVariants.{Ended, ReadFault,
 use Rattle.p25_work.proofs.LinesLaws.{Contains-none}
 use Rattle.p25_work.proofs.RunsLaws.{Worked-same, all_written-same, ended-input, first-take, told-parts}
 use Rattle.p25_tool.specs.declared.command.Command.{Command}
-use Rattle.p25_tool.specs.declared.command.Command.TheVariants.{Show, Check, Repair, Bridge, Build, Calls, Soft, Stations, Duplex, Fragments}
+use Rattle.p25_tool.specs.declared.command.Command.TheVariants.{Show, Check, Repair, Bridge, Build, Calls, Soft, Stations, Duplex, Fragments, Sample}
 use Rattle.p25_tool.specs.declared.outcome.Outcome.{Outcome}
 use Rattle.p25_tool.specs.declared.outcome.Outcome.TheVariants.{TooLong, Memory}
 use Rattle.p25_tool.specs.Outcomes.{ending_outcome, work_outcome}
@@ -107,6 +107,7 @@ wanting-command Duplex told left first last worked = tt
 wanting-command Fragments told left first last worked = tt
 wanting-command Calls told left first last worked = Contains-none worked.meets.text worked.meets.pauses
 wanting-command Soft told left first last worked = Contains-none worked.meets.text worked.meets.pauses
+wanting-command (Sample count) told left first last worked = Contains-none worked.meets.text worked.meets.pauses
 
 ending-memory : (ending : Ending) → ending_outcome ending ≡ Memory → ⊥
 ending-memory Done is = cc

@@ -1,10 +1,12 @@
 -- The status symbol of a word, by its only digit: each of the four digits by itself.
 use Rattle.std.proofs.Common.{◌≡◌, ◌≢◌, ℕ, ◌-◌, ◌<◌, ◌≤◌, List, [], ◌∷◌, length, get_or, Option, Some, None, refl, ap, sym, subst, ◌∙◌, arith, lit<, inl, inr, cond, nat_eq, true, false}
-use Rattle.std.specs.Prelude.{IfSome, IsSome, ◌↔◌}
+use Rattle.std.specs.Prelude.{IfSome, IsSome, MatchOption, decimal, ◌↔◌}
 use Rattle.std.proofs.lemmas.Bool.{cases_eq}
 use Rattle.std.proofs.lemmas.Bool.Decides.{nat_tests}
 use Rattle.p25_status.specs.Status.{same_status, status_at_number, status_number}
 use Rattle.p25_status.specs.declared.symbols.Status.{Status}
+use Rattle.p25_script.specs.Values.{number_below}
+use Rattle.p25_script.proofs.ValueLaws.{number_below-decimal, number_below-none}
 use Rattle.p25_tool.specs.Words.{status_in}
 
 -- what is made of a number below 4 is its symbol
@@ -52,3 +54,18 @@ pub status_in-above : (word : List ℕ) → length word ≡ 1 → (51 < get_or w
 status_in-above [] one low = absurd (omega arith)
 status_in-above (digit ∷ []) one low = no_digit digit _ _ _ _ (λ e. omega arith) (λ e. omega arith) (λ e. omega arith) (λ e. omega arith)
 status_in-above (first ∷ second ∷ digits) one low = absurd (omega arith)
+
+-- Numbers of sample units.
+
+-- what reading a number of at most 10,000 answers
+abbrev pub IsNumberRead : List ℕ → Option ℕ → Type 0
+IsNumberRead word result = MatchOption result ((number : ℕ) → number ≤ 10000 → decimal number ≢ word) (λ number. (number ≤ 10000) × (decimal number ≡ word))
+
+pub number-read : (word : List ℕ) (result : Option ℕ) → IsNumberRead word result → result ≡ number_below 10001 word
+number-read word None refused = sym (number_below-none 10001 word (λ number below same. refused number (omega (arith, below)) same))
+number-read word (Some number) is =
+    sym (ap (number_below 10001) (sym is.1) ∙ number_below-decimal 10001 number (omega (arith, is.0)) (omega arith))
+
+pub number-most : (word : List ℕ) (result : Option ℕ) → IsNumberRead word result → IfSome result (λ count. count ≤ 10000)
+number-most word None refused = tt
+number-most word (Some number) is = is.0

@@ -17,6 +17,7 @@ use Rattle.p25_text.specs.Grammar.{read_line_of}
 use Rattle.p25_calls.specs.Calls.{calls_by}
 use Rattle.p25_calls.specs.CallTexts.{call_text_of}
 use Rattle.p25_calls.specs.declared.call.Call.{Call}
+use Rattle.p25_vectors.specs.Samples.{flips_of}
 use Rattle.p25_work.specs.declared.ending.Ending.{Ending}
 use Rattle.p25_work.specs.declared.ending.Ending.TheVariants.{Done, Found}
 use Rattle.p25_air_world.specs.Runs.{steps_of, world_run}
@@ -32,7 +33,7 @@ use Rattle.p25_duplex.specs.DuplexTexts.{duplex_closing_of, duplex_step_text_of}
 use Rattle.p25_tool.specs.DuplexLines.{duplex_event_of}
 use Rattle.p25_work.specs.Lines.{closing_by, lines_ending, lines_in, read_of, refusal_in, texts_before}
 use Rattle.p25_tool.specs.declared.command.Command.{Command}
-use Rattle.p25_tool.specs.declared.command.Command.TheVariants.{Show, Check, Repair, Bridge, Build, Stations, Calls, Duplex, Fragments, Soft}
+use Rattle.p25_tool.specs.declared.command.Command.TheVariants.{Show, Check, Repair, Bridge, Build, Stations, Calls, Duplex, Fragments, Soft, Sample}
 use Rattle.p25_fragments.specs.LongState.{LongState, first_long}
 use Rattle.p25_fragments.specs.LongRuns.{long_run, long_steps_of}
 use Rattle.p25_long_script.specs.LongScript.{long_event_of}
@@ -114,6 +115,11 @@ soft_output ended octets =
     let levels = scanned ended (map octet_level octets) in
     whole_octets (changed_bits (item_softened 0 levels) (items_by ended 0 (hard_bits levels)) (hard_bits levels))
 
+-- the line that tells of the first sample units: how many there are, how many of their bits are inverted, and how many read as
+-- their own frames, which are all
+abbrev pub sample_line : ℕ → List ℕ
+sample_line count = codes "units=" ++ decimal count ++ codes " flips=" ++ decimal (flips_of count) ++ codes " exact=" ++ decimal count ++ 10 ∷ []
+
 -- what a command writes for the octets of its input, whether they are all or more may come
 abbrev pub output_by : Command → Bool → List ℕ → List ℕ
 output_by Show ended octets = flat_map shown (items_by ended 0 (octet_bits octets))
@@ -141,6 +147,7 @@ output_by Fragments ended octets =
     let events = read_of long_event_of lines in
     flat_map long_step_text_of (long_steps_of first_long events)
     ++ closing_by ended (refusal_in long_event_of 1 lines) (long_closing_line (long_run first_long events))
+output_by (Sample count) ended octets = sample_line count
 
 -- how a call of a command ends by the octets of its input, whether they are all or more may come
 abbrev pub ending_by : Command → Bool → List ℕ → Option Ending
@@ -154,6 +161,7 @@ ending_by Stations ended octets = lines_ending ended (refusal_in event_of 1 (lin
 ending_by Calls ended octets = cond ended (Some Done) None
 ending_by Duplex ended octets = lines_ending ended (refusal_in duplex_event_of 1 (lines_in ended [] octets))
 ending_by Fragments ended octets = lines_ending ended (refusal_in long_event_of 1 (lines_in ended [] octets))
+ending_by (Sample count) ended octets = Some Done
 
 -- behind which texts of a command memory may be wanting, by the octets of its input: before each step of a script
 abbrev pub pauses_by : Command → Bool → List ℕ → List (List ℕ)

@@ -1,12 +1,13 @@
 -- The words of a call, and the commands that they name.
-use Rattle.std.specs.Prelude.{ℕ, ◌<◌, List, [], ◌∷◌, ◌++◌, Option, Some, None, cond, nat_eq, ltb, length, take, codes}
+use Rattle.std.specs.Prelude.{ℕ, ◌<◌, ◌≤◌, List, [], ◌∷◌, ◌++◌, Option, Some, None, cond, nat_eq, ltb, length, take, codes}
 use Rattle.std.specs.Str.{bytes_eq}
 use Rattle.std.proofs.Common.{lit<}
 use Rattle.p25_status.specs.Status.{status_at_number}
 use Rattle.p25_status.specs.declared.symbols.Status.{Status}
 use Rattle.p25_text.specs.Values.{nac_in}
+use Rattle.p25_script.specs.Values.{number_below}
 use Rattle.p25_tool.specs.declared.command.Command.{Command}
-use Rattle.p25_tool.specs.declared.command.Command.TheVariants.{Show, Check, Repair, Bridge, Build, Stations, Calls, Duplex, Fragments, Soft}
+use Rattle.p25_tool.specs.declared.command.Command.TheVariants.{Show, Check, Repair, Bridge, Build, Stations, Calls, Duplex, Fragments, Soft, Sample}
 
 -- the words after one more: its first 16 octets behind the others, or nothing where four are held
 abbrev pub added : List (List ℕ) → List ℕ → List (List ℕ)
@@ -38,9 +39,16 @@ abbrev pub build_of : Option Status → Option Command
 build_of None = None
 build_of (Some status) = Some (Build status)
 
--- the command of two words
+-- `sample` with a number, where it is one from 1 on
+abbrev pub sample_of : Option ℕ → Option Command
+sample_of None = None
+sample_of (Some count) = cond (nat_eq count 0) None (Some (Sample count))
+
+-- the command of two words: `build` with a status symbol, or `sample` with a number of at most 10,000
 abbrev pub two_word_command : List ℕ → List ℕ → Option Command
-two_word_command word status = cond (bytes_eq word (codes "build")) (build_of (status_in status)) None
+two_word_command word value =
+    cond (bytes_eq word (codes "build")) (build_of (status_in value))
+    (cond (bytes_eq word (codes "sample")) (sample_of (number_below 10001 value)) None)
 
 -- `bridge` with a network access code and a status symbol, where they are both
 abbrev pub bridge_of : Option ℕ → Option Status → Option Command
@@ -60,7 +68,7 @@ command_of (first ∷ second ∷ []) = two_word_command first second
 command_of (first ∷ second ∷ third ∷ []) = three_word_command first second third
 command_of (first ∷ second ∷ third ∷ fourth ∷ others) = None
 
--- the network access code of a command is one
+-- the network access code of a command is one, and its number of sample units is in its range
 abbrev pub IsSoundCommand : Command → Type 0
 IsSoundCommand Show = Unit {0}
 IsSoundCommand Check = Unit {0}
@@ -72,3 +80,4 @@ IsSoundCommand Calls = Unit {0}
 IsSoundCommand Duplex = Unit {0}
 IsSoundCommand Fragments = Unit {0}
 IsSoundCommand Soft = Unit {0}
+IsSoundCommand (Sample count) = (1 ≤ count) × (count ≤ 10000)

@@ -23,4 +23,6 @@ pub enum Command {
     Fragments,
     /// The recording whose levels these are, one octet each, the blocks of broken packets read again from their levels.
     Soft,
+    /// What the first sample units read as, one line. There are 1 to 10,000 of them.
+    Sample { count: u64 },
 }

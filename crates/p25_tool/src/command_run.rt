@@ -22,6 +22,7 @@ use super::outcome::{Outcome, outcome_of};
 use super::recording::Recording;
 use super::report::Report;
 use super::reports::{Change, Changed, Check, Show, Calls};
+use super::sampling::run_sample;
 use super::stations::Stations;
 use super::soft::Soft;
 use super::words::Words;
@@ -37,8 +38,8 @@ use std::alloc::Global;
 /// fault or an input that is too long the sink holds what the octets before decide, in whole octets and without a last line
 /// of a check; after a refused line what the lines before ask for; and after a write fault a beginning of the output.
 ///
-/// `stations` and `duplex` alone take memory, for each line that is accepted, before its step is made. Where there is not enough
-/// the outcome is `Memory`, and the sink holds the steps before, without the closing lines.
+/// `sample` reads nothing, and ends as `Done` or `WriteFault`.
+///
 /// `stations`, `fragments` and `duplex` alone take memory, for each line that is accepted, before its step is made. Where there
 /// is not enough the outcome is `Memory`, and the sink holds the steps before, without the closing line.
 pub fn run<S: Source, K: Sink>(
@@ -53,6 +54,7 @@ pub fn run<S: Source, K: Sink>(
     // What was taken and written, and how it ended.
     ensures ran { IfSome (command_of words.now)
         (λ command. Ran (S.left source.old) (S.left source.new) (K.written sink.old) (K.written sink.new) command result) }
+    ensures unread { (count : ℕ) → command_of words.now ≡ Some (Command.Sample count) → source.new ≡ source.old }
     ensures quiet { (command : Command) (input : List ℕ) → command_of words.now ≡ Some command → S.left source.old ≡ Some input
         → all_written (command_future command) input ≡ [] → sink.new ≡ sink.old }
     ensures complete { (command : Command) (input : List ℕ) → command_of words.now ≡ Some command → S.left source.old ≡ Some input
@@ -91,6 +93,7 @@ fn run_command<S: Source, K: Sink>(
 ) -> WorkEnd
     requires { IsSoundCommand command }
     ensures worked { Worked (S.left source.old) (S.left source.new) (K.written sink.old) (K.written sink.new) (command_future command) result }
+    ensures unread { (count : ℕ) → command ≡ Command.Sample count → source.new ≡ source.old }
     ensures quiet { (input : List ℕ) → S.left source.old ≡ Some input → all_written (command_future command) input ≡ [] → sink.new ≡ sink.old }
     ensures source_later { S.faults source.old ≤ S.faults source.new }
     ensures sink_later { K.faults sink.old ≤ K.faults sink.new }
@@ -110,6 +113,7 @@ fn run_command<S: Source, K: Sink>(
         Command::Duplex => run_lines(Duplex::new(alloc), source, sink),
         Command::Fragments => run_lines(Fragments::new(alloc), source, sink),
         Command::Soft => run_soft(source, sink),
+        Command::Sample { count } => run_sample(count, sink),
     }
 }
 

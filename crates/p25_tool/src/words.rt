@@ -1,10 +1,15 @@
 ghost use Rattle.std.specs.Prelude.{◌≡◌, ℕ, ◌≤◌, List, [], length, take, IfSome};
-ghost use Rattle.p25_tool.specs.Words.{IsSoundCommand, one_word_command, status_in, three_word_command, two_word_command};
+ghost use Rattle.p25_tool.specs.Words.{IsSoundCommand, build_of, one_word_command, sample_of, status_in, three_word_command, two_word_command};
+ghost use Rattle.p25_script.specs.Values.{number_below};
 
 use super::command::Command;
+use p25_line::number_value;
 use p25_status::Status;
 use p25_text::nac_value;
 use std::marker::Model;
+
+// The most sample units of a call.
+const SAMPLE_MOST: u64 = 10_000;
 
 // A word of at most 16 octets.
 #[derive(Drop)]
@@ -127,16 +132,47 @@ fn one_word(word: &[u8]) -> Option<Command>
 }
 
 // The command of two words.
-fn two_words(word: &[u8], status: &[u8]) -> Option<Command>
-    ensures { result ≡ two_word_command word.now status.now }
+fn two_words(word: &[u8], value: &[u8]) -> Option<Command>
+    ensures command { result ≡ two_word_command word.now value.now }
+    ensures sound { IfSome result IsSoundCommand }
 {
-    if word != b"build".as_slice() {
-        return None;
+    if word == b"build".as_slice() {
+        build_command(value)
+    } else if word == b"sample".as_slice() {
+        sample_command(value)
+    } else {
+        None
     }
+}
+
+// The command `build` with a status symbol.
+fn build_command(status: &[u8]) -> Option<Command>
+    ensures command { result ≡ build_of (status_in status.now) }
+    ensures sound { IfSome result IsSoundCommand }
+{
     match status_value(status) {
         Some(status) => Some(Command::Build { status }),
         None => None,
     }
+}
+
+// The command `sample` with a number.
+fn sample_command(count: &[u8]) -> Option<Command>
+    ensures command { result ≡ sample_of (number_below 10001 count.now) }
+    ensures sound { IfSome result IsSoundCommand }
+{
+    match count_value(count) {
+        Some(0) | None => None,
+        Some(count) => Some(Command::Sample { count }),
+    }
+}
+
+// The number of at most 10,000 that a word is.
+fn count_value(word: &[u8]) -> Option<u64>
+    ensures number { result ≡ number_below 10001 word.now }
+    ensures most { IfSome result (λ count. count ≤ 10000) }
+{
+    number_value(word, SAMPLE_MOST)
 }
 
 // The command of three words.

@@ -18,6 +18,10 @@ fn words_name_a_command(rt: HostRuntime) -> Result<(), Fail> {
         Some(Command::Build { status })
     );
     assert_eq!(rt;
+        words_of(&[b"sample", b"10000"]).command(),
+        Some(Command::Sample { count: 10_000 })
+    );
+    assert_eq!(rt;
         words_of(&[b"bridge", b"29a", b"2"]).command(),
         Some(Command::Bridge { nac: 0x29A, status })
     );

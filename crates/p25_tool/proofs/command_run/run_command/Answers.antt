@@ -1,4 +1,4 @@
-use Rattle.std.proofs.Common.{◌≡◌, sym, subst}
+use Rattle.std.proofs.Common.{◌≡◌, ◌∙◌, ap, sym, subst}
 use Rattle.p25_work.specs.Futures.{Future}
 use Rattle.p25_tool.specs.declared.command.Command.{Command}
 use Rattle.p25_tool.specs.Commands.{ChangedParts, changed_reporting}
@@ -12,6 +12,8 @@ use Rattle.p25_tool.specs.Runs.{command_future}
 use Rattle.p25_tool.proofs.CommandsLaws.{AreAlike, bridge-alike, build-alike, check-alike, repair-alike, show-alike, stations-alike, calls-alike, fragments-alike, soft-alike}
 use Rattle.p25_tool.proofs.DuplexCommandLaws.{duplex-alike}
 use Rattle.p25_tool.specs.FragmentRules.{fragment_rules}
+use Rattle.p25_work.specs.Runs.{all_written}
+use Rattle.p25_tool.proofs.SamplingLaws.{sample-some}
 use Rattle.p25_tool.proofs.RunsLaws.{worked-alike, all_written-alike}
 use Rattle.p25_tool.proofs.command_run.run_command.Goals as goal
 
@@ -104,3 +106,8 @@ returns-in-Soft-clause-worked g c = worked-alike _ _ _ _ _ _ _ (alike-to _ _ _ c
 
 pub returns-in-Soft-clause-quiet : goal.returns-in-Soft-clause-quiet
 returns-in-Soft-clause-quiet g c = λ input told none. c.run_soft.ensures.quiet input told (all_written-alike _ _ (alike-to _ _ _ c.in-Soft.is soft-alike) input none)
+
+pub returns-in-Sample-clause-quiet : goal.returns-in-Sample-clause-quiet
+returns-in-Sample-clause-quiet g c =
+    λ input told none.
+    absurd (sample-some c.in-Sample.count input (ap (λ (x : Command). all_written (command_future x) input) (sym c.in-Sample.is) ∙ none))

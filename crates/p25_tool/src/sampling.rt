@@ -1,0 +1,48 @@
+//! The work of `sample`: a line that tells of sample units.
+
+ghost use Rattle.std.specs.Prelude.{◌≡◌, ◌≢◌, ℕ, ◌≤◌, Option, List};
+ghost use Rattle.p25_io.specs.Faults.{Rose};
+ghost use Rattle.p25_work.specs.Runs.{Worked};
+ghost use Rattle.p25_vectors.specs.Samples.{flips_of};
+ghost use Rattle.p25_tool.specs.Outputs.{sample_line};
+ghost use Rattle.p25_tool.specs.Runs.{command_future};
+ghost use Rattle.p25_tool.specs.declared.command.Command.TheVariants.{Sample};
+
+use p25_io::Sink;
+use p25_line::Line;
+use p25_vectors::{SampleReport, sample};
+use p25_work::{Ending, WorkEnd};
+
+// Writes the line that tells of the first sample units. No source is read.
+pub(crate) fn run_sample<K: Sink>(count: u64, sink: &mut K) -> WorkEnd
+    requires some { 1 ≤ count }
+    requires most { count ≤ 10000 }
+    ensures worked { (told : Option (List ℕ)) → Worked told told (K.written sink.old) (K.written sink.new) (command_future (Sample count)) result }
+    ensures unread { result ≢ WorkEnd.ReadFault }
+    ensures later { K.faults sink.old ≤ K.faults sink.new }
+    ensures write_fault { result ≡ WorkEnd.WriteFault → Rose (K.faults sink.old) (K.faults sink.new) }
+{
+    let mut line = Line::new();
+    put_sample_line(&sample(count), &mut line);
+    match sink.write(line.octets()) {
+        Ok(()) => WorkEnd::Ended(Ending::Done),
+        Err(_) => WorkEnd::WriteFault,
+    }
+}
+
+// Sets `out` to the line of a report.
+#[tactic(auto, using(p25_line::proofs::DecimalLaws::decimal_short))]
+fn put_sample_line(report: &SampleReport, out: &mut Line)
+    requires flips { report.now.flips ≡ flips_of report.now.units }
+    requires exact { report.now.exact ≡ report.now.units }
+    ensures { out.new ≡ sample_line report.now.units }
+{
+    out.clear();
+    out.put(b"units=");
+    out.put_number(report.units);
+    out.put(b" flips=");
+    out.put_number(report.flips);
+    out.put(b" exact=");
+    out.put_number(report.exact);
+    out.put(b"\n");
+}
