@@ -1,6 +1,7 @@
 //! Values from outside: through `run`, read in pieces of 1, of 2, of 7 and of all octets, and as scripts of the stations' world.
 
 mod calls;
+mod duplex;
 mod packets;
 mod refusals;
 mod script;
