@@ -4,6 +4,7 @@ mod calls;
 mod damaged;
 mod drawn;
 mod fragments;
+mod duplex;
 mod packets;
 mod refusals;
 mod samples;

@@ -18,6 +18,7 @@ use Rattle.p25_duplex.specs.declared.side.Side.TheVariants.{A, B}
 use Rattle.p25_duplex.specs.Sides.{side_word}
 use Rattle.p25_duplex.specs.declared.event.DuplexEvent.{DuplexEvent}
 use Rattle.p25_duplex.specs.declared.event.DuplexEvent.TheVariants.{Send, Timeout, Reopen, Deliver}
+use Rattle.p25_duplex.specs.DuplexRuns.{IsDuplexEvent}
 use Rattle.p25_tool.specs.DuplexLines.{IsDuplexScripted, delivery_to, direction_word, duplex_by_words, duplex_event_of, duplex_starts, duplex_text, duplex_words, event_behind, event_by_start, event_of_side, hearer_named, message_or_fault, start_named, start_word}
 use Rattle.p25_tool.specs.declared.duplex_lines.DuplexStart.{DuplexStart}
 use Rattle.p25_tool.specs.declared.duplex_lines.DuplexStart.TheVariants.{Acts, Delivery}
@@ -134,6 +135,18 @@ from_words line (Ok (first ∷ others)) event same found =
 is-line_of : (line : List ℕ) (event : DuplexEvent) → duplex_event_of line ≡ Ok event → IsLineOf line event
 unfolding duplex_event_of
 is-line_of line event found = from_words line (words_or_fault line) event refl found
+
+-- and the laws of the duplex world speak of it
+is-event : (event : DuplexEvent) → IsDuplexScripted event → IsDuplexEvent event
+unfolding IsDuplexEvent
+is-event (Send side message) fits = fits
+is-event (Timeout side) fits = tt
+is-event (Reopen side) fits = tt
+is-event (Deliver to places) fits = tt
+
+pub read-event : (line : List ℕ) (result : Result DuplexEvent LineFault) → result ≡ duplex_event_of line → IfOk result (λ event. IsDuplexEvent event)
+read-event line (Err fault) same = tt
+read-event line (Ok event) same = is-event event (is-line_of line event (sym same)).fits
 
 -- the two, as the reader tells them
 pub read-facts : (line : List ℕ) (result : Result DuplexEvent LineFault) → result ≡ duplex_event_of line → (IfOk result (λ event. duplex_text event ≡ line)) × (IfOk result (λ event. IsDuplexScripted event))

@@ -2,6 +2,7 @@
 
 ghost use Rattle.std.specs.Prelude.{◌≡◌, ◌≤◌, [], ◌∷◌, Ok, IfOk, length};
 ghost use Rattle.p25_line.specs.Words.{WordsAnswer};
+ghost use Rattle.p25_duplex.specs.DuplexRuns.{IsDuplexEvent};
 ghost use Rattle.p25_duplex.specs.declared.event.DuplexEvent.{DuplexEvent as event_type};
 ghost use Rattle.p25_tool.specs.DuplexLines.{IsDuplexScripted, direction_word, duplex_event_of, duplex_text, event_behind, hearer_named, start_named, start_word};
 
@@ -66,11 +67,12 @@ fn direction(to: Side) -> &'static [u8]
 /// where it is not too long, is accepted. The first of these causes that applies is answered: Long, above 8,192 octets; Form,
 /// not one or more words of octets 21 to 7E hex with single spaces between them; Kind, the first word is none of `a`, `b` and
 /// `deliver`; Key, the second word is none that may stand there, or the number of words is not that of the kind; Value, the
-/// message or the places are not of their form.
+/// message or the places are not of their form. The laws of the duplex world speak of each event that is read.
 pub fn read_duplex_event(line: &[u8]) -> Result<DuplexEvent, LineFault>
     ensures event { result ≡ duplex_event_of line.now }
     ensures text { IfOk result (λ event. duplex_text event ≡ line.now) }
     ensures fits { IfOk result (λ event. IsDuplexScripted event) }
+    ensures kept { IfOk result (λ event. IsDuplexEvent event) }
     ensures each { (event : event_type) → IsDuplexScripted event → length line.now ≤ 8192 → duplex_text event ≡ line.now → result ≡ Ok event }
 {
     read_whole(line)

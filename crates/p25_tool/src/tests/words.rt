@@ -13,6 +13,7 @@ fn words_name_a_command(rt: HostRuntime) -> Result<(), Fail> {
     assert_eq!(rt; words_of(&[b"show"]).command(), Some(Command::Show));
     assert_eq!(rt; words_of(&[b"calls"]).command(), Some(Command::Calls));
     assert_eq!(rt; words_of(&[b"stations"]).command(), Some(Command::Stations));
+    assert_eq!(rt; words_of(&[b"duplex"]).command(), Some(Command::Duplex));
     assert_eq!(rt;
         words_of(&[b"build", b"2"]).command(),
         Some(Command::Build { status })

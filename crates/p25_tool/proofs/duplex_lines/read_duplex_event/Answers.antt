@@ -1,6 +1,6 @@
 use Rattle.std.proofs.Common.{◌≤◌, length, sym, ap, subst, ◌∙◌}
 use Rattle.p25_tool.specs.DuplexLines.{duplex_event_of}
-use Rattle.p25_tool.proofs.DuplexLineLaws.{event_of-text, read-facts}
+use Rattle.p25_tool.proofs.DuplexLineLaws.{event_of-text, read-event, read-facts}
 use Rattle.p25_tool.proofs.duplex_lines.read_duplex_event.Goals as goal
 
 pub returns-clause-text : goal.returns-clause-text
@@ -8,6 +8,9 @@ returns-clause-text c = (read-facts c.args.line.now c.read_whole.result c.read_w
 
 pub returns-clause-fits : goal.returns-clause-fits
 returns-clause-fits c = (read-facts c.args.line.now c.read_whole.result c.read_whole.ensures).1
+
+pub returns-clause-kept : goal.returns-clause-kept
+returns-clause-kept c = read-event c.args.line.now c.read_whole.result c.read_whole.ensures
 
 pub returns-clause-each : goal.returns-clause-each
 returns-clause-each c event fits short text =

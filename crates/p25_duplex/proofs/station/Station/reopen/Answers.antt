@@ -16,8 +16,8 @@ use Rattle.p25_duplex.proofs.station.Station.reopen.Goals as goal
 use Rattle.p25_duplex.proofs.station.Station.reopen.Goals.{then-not-is_opening, else-not-is_opening}
 
 -- the station after an answer of its sender
-sound-after : (t : StationState) (delivered : ℕ) (again : Bool) (s : Sending) (given answer : Reopen) → again ≡ is_opening t.sender.outstanding → s ≡ (reopened t.sender).0 → given ≡ (reopened t.sender).1 → given ≡ answer → IsSoundStation t →
-    IsSoundStation (after_reopening t delivered again (s, answer)).0
+sound-after : (t : StationState) (delivered : ℕ) (again : Bool) (s : Sending) (given answer : Reopen) → again ≡ is_opening t.sender.outstanding → s ≡ (reopened t.sender).0 → given ≡ (reopened t.sender).1 → given ≡ answer →
+    IsSoundStation t → IsSoundStation (after_reopening t delivered again (s, answer)).0
 sound-after t delivered again s given answer a state is same sound =
     sound-apart (λ (x : Sending × Reopen). own_world (after_reopening t delivered again x).0) (reopened t.sender) s given answer state is same
     (subst (λ (b : Bool). IsSoundStation (after_reopening t delivered b (reopened t.sender)).0) (sym a) (reopening-keeps t delivered sound))
