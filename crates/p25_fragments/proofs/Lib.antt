@@ -11,3 +11,4 @@ pub mod FollowsLaws
 pub mod LongStepLaws
 pub mod LongRunLaws
 pub mod InnerRunLaws
+pub mod MarksLaws

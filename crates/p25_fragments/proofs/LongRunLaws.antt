@@ -1,6 +1,5 @@
 -- A clean run keeps the long messages matched to the link, and refuses no part. One event after the other.
 use Rattle.std.proofs.Common.{◌≡◌, ◌≢◌, ℕ, ◌≤◌, Bool, true, false, List, [], ◌∷◌, ◌++◌, length, Option, Some, refl, ap, sym, subst, ◌∙◌, arith, append_assoc}
-use Rattle.std.proofs.lemmas.List.{length-map}
 use Rattle.p25_stations.specs.declared.sender_state.Outstanding.{Outstanding}
 use Rattle.p25_stations.specs.declared.sender_state.Outstanding.TheVariants.{Nothing, Message, Opening}
 use Rattle.p25_world.specs.Link.{Session, empty_session, first_link}
@@ -25,8 +24,8 @@ use Rattle.p25_fragments.proofs.JoinLaws.{joined-none}
 use Rattle.p25_fragments.proofs.OfferSteps.{offered-down, beside}
 use Rattle.p25_fragments.proofs.OfferedLaws.{offered-to}
 use Rattle.p25_fragments.proofs.InnerStepLaws.{inner-step}
-use Rattle.p25_fragments.proofs.MatchLaws.{mark_of, not_yet, IsIdleLong, MatchesBy, matches-at, matches-from, Follows, sessions-orderly}
-use Rattle.p25_fragments.proofs.FollowsLaws.{FollowsStep, marks-count}
+use Rattle.p25_fragments.proofs.MatchLaws.{not_yet, IsIdleLong, MatchesBy, matches-at, matches-from, Follows, sessions-orderly}
+use Rattle.p25_fragments.proofs.FollowsLaws.{FollowsStep}
 use Rattle.p25_fragments.proofs.LongStepLaws.{inner-follows}
 
 -- A long message is offered.
@@ -169,11 +168,3 @@ long-orderly events are clean = sessions-orderly (long_run first_long events) (f
 
 pub long-unrefused : (events : List LongEvent) → AreLongEvents events → IsCleanLongRun events → AreUnrefused (long_steps_of first_long events)
 long-unrefused events are clean = (from-first events are clean).unrefused
-
--- a mark of the inner world for each mark
-pub long-marked : (events : List LongEvent) → AreLongEvents events → IsCleanLongRun events → length (long_run first_long events).marks ≡ length (long_run first_long events).inner.marks
-long-marked events are clean =
-    let f = (from-first events are clean).follows in
-    let w = long_run first_long events in
-    let own : length w.marks ≡ length f.long.ended = sym (length-map w.marks mark_of) ∙ ap length f.long.marks_are ∙ marks-count first_mark f.long.ended in
-    own ∙ f.long.ended_count ∙ sym (marks-count first_mark f.link.ended) ∙ ap (λ (x : WorldState). length x.marks) (sym f.world.is)

@@ -1,7 +1,7 @@
 //! Lines that are refused, and scripts with what comes of them.
 
 use super::{long_closing_text, long_step_text, read_long_event};
-use p25_fragments::{LongEvent, LongWorld};
+use p25_fragments::{LongEvent, LongStep, LongWorld, Then};
 use p25_line::{Line, LineFault};
 use std::process::Abort;
 use std::test::Fail;
@@ -66,77 +66,8 @@ fn play(rt: &impl Abort, world: &mut LongWorld, rows: &[Row], closing: &[u8]) ->
 }
 
 #[test]
-fn two_parts(rt: HostRuntime) -> Result<(), Fail> {
-    let mut long = [b'0'; 5 + 1_002];
-    long[..5].copy_from_slice(b"long ");
-    let mut delivered = [b'0'; 28 + 1_002 + 1];
-    delivered[..28].copy_from_slice(b"data delivered ns=0 message=");
-    delivered[1_030] = b'\n';
-    let mut whole = [b'0'; 14 + 1_002 + 1];
-    whole[..14].copy_from_slice(b"whole message=");
-    whole[1_016] = b'\n';
-    let rows: [Row; 5] = [
-        (
-            &long,
-            b"long taken parts=2\n",
-            b"send taken ns=0 blocks=32\n",
-        ),
-        (b"deliver data -", &delivered, b"part 0\n"),
-        (
-            b"deliver answer -",
-            b"answer acknowledged ns=0\n",
-            b"send taken ns=1 blocks=1\n",
-        ),
-        (
-            b"deliver data -",
-            b"data delivered ns=1 message=8100\n",
-            &whole,
-        ),
-        (
-            b"deliver answer -",
-            b"answer acknowledged ns=1\n",
-            b"long acknowledged\n",
-        ),
-    ];
-    let mut world = LongWorld::new(rt.alloc());
-    play(
-        &rt,
-        &mut world,
-        &rows,
-        b"taken=1 whole=1 acknowledged=1 false=0",
-    )
-}
-
-#[test]
-fn one_part_and_busy(rt: HostRuntime) -> Result<(), Fail> {
-    let rows: [Row; 3] = [
-        (
-            b"long -",
-            b"long taken parts=1\n",
-            b"send taken ns=0 blocks=1\n",
-        ),
-        (b"long -", b"", b"long busy\n"),
-        (
-            b"deliver data -",
-            b"data delivered ns=0 message=80\n",
-            b"whole message=-\n",
-        ),
-    ];
-    let mut world = LongWorld::new(rt.alloc());
-    play(
-        &rt,
-        &mut world,
-        &rows,
-        b"taken=1 whole=1 acknowledged=0 false=0",
-    )
-}
-
-#[test]
 fn down_and_another_session(rt: HostRuntime) -> Result<(), Fail> {
     let mut world = LongWorld::new(rt.alloc());
-    for _tries in 0..17 {
-        world.step(&read_long_event(b"timeout")?)?;
-    }
     let rows: [Row; 1] = [(
         b"long -",
         b"long taken parts=1\n",
@@ -162,4 +93,16 @@ fn down_and_another_session(rt: HostRuntime) -> Result<(), Fail> {
         &rows,
         b"taken=1 whole=0 acknowledged=0 false=0 sessions=2",
     )
+}
+
+#[test]
+fn a_part_that_is_refused(rt: HostRuntime) {
+    let step = LongStep {
+        first: None,
+        then: Then::Refused,
+    };
+    let mut out = Line::new();
+    let mut behind = Line::new();
+    long_step_text(&step, &mut out, &mut behind);
+    assert_eq!(rt; behind.octets(), b"part refused\n".as_slice());
 }
