@@ -6,6 +6,7 @@ mod drawn;
 mod packets;
 mod refusals;
 mod script;
+mod stations;
 mod voice;
 mod world;
 
