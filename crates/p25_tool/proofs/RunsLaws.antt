@@ -13,7 +13,8 @@ use Rattle.p25_work.specs.declared.ending.Ending.TheVariants.{Done, Found, BadLi
 use Rattle.p25_work.specs.declared.ending.WorkEnd.{WorkEnd}
 use Rattle.p25_work.specs.declared.ending.WorkEnd.TheVariants.{Ended, ReadFault, WriteFault, TooLong as InputTooLong, Memory as NoMemory}
 use Rattle.p25_work.proofs.LinesLaws.{Contains-none}
-use Rattle.p25_work.proofs.RunsLaws.{Worked-same, all_written-same, ended-input, first-take, told-parts}
+use Rattle.p25_work.proofs.RunsLaws.{ended-input, first-take, told-parts}
+use Rattle.p25_work.proofs.SameLaws.{Worked-same, all_written-same}
 use Rattle.p25_tool.specs.declared.command.Command.{Command}
 use Rattle.p25_tool.specs.declared.command.Command.TheVariants.{Show, Check, Repair, Bridge, Build, Calls, Soft, Stations, Duplex, Fragments, Sample}
 use Rattle.p25_tool.specs.declared.outcome.Outcome.{Outcome}
