@@ -9,3 +9,4 @@ pub mod CleanLaws
 pub mod TriesLaws
 pub mod FalsePassLaws
 pub mod AtOnceLaws
+pub mod StepListsLaws

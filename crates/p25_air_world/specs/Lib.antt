@@ -5,3 +5,4 @@ pub mod Runs
 pub mod Links
 pub mod RunLaws
 pub mod Inside
+pub mod StepLists

@@ -18,6 +18,7 @@
 mod laws;
 mod mark;
 mod step;
+mod step_laws;
 mod world;
 
 pub use laws::{
@@ -25,4 +26,5 @@ pub use laws::{
     world_facts,
 };
 pub use step::{Event, Step, StepKind, Way};
+pub use step_laws::steps_tell_lists;
 pub use world::World;

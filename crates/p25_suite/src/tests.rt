@@ -4,6 +4,7 @@ mod calls;
 mod packets;
 mod refusals;
 mod script;
+mod stations;
 mod voice;
 mod world;
 

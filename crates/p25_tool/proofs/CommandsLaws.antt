@@ -1,5 +1,5 @@
 -- What the work of each command writes from the first octet on is what the command is defined to write.
-use Rattle.std.proofs.Common.{◌≡◌, ℕ, ◌+◌, Bool, true, false, cond, List, [], ◌∷◌, ◌++◌, Option, Some, None, refl, ap, ap₂, ◌∙◌, arith, append-nil}
+use Rattle.std.proofs.Common.{◌≡◌, ℕ, ◌+◌, Bool, true, false, cond, List, [], ◌∷◌, ◌++◌, map, Option, Some, None, refl, ap, ap₂, ◌∙◌, arith, append-nil}
 use Rattle.std.specs.List.{concat, flat_map}
 use Rattle.p25_bits.specs.Bits.{octet_bits}
 use Rattle.p25_status.specs.declared.symbols.Status.{Status}
@@ -8,19 +8,26 @@ use Rattle.p25_text.specs.Grammar.{read_line_of}
 use Rattle.p25_units.specs.UnitParts.{UnitParts}
 use Rattle.p25_work.specs.declared.ending.Ending.{Ending}
 use Rattle.p25_work.specs.Futures.{Future}
-use Rattle.p25_work.specs.Lines.{closing_by, lines_in, read_of, refusal_in}
-use Rattle.p25_work.specs.LineRules.{texts_of}
+use Rattle.p25_work.specs.Lines.{closing_by, lines_in, read_of, refusal_in, texts_before}
+use Rattle.p25_work.specs.LineRules.{machine_behind, texts_of}
 use Rattle.p25_work.specs.LineWorks.{first_line, line_future}
 use Rattle.p25_work.proofs.RulesLaws.{first_line-ends, first_line-pauses, first_line-writes}
 use Rattle.p25_tool.specs.declared.build.Build.{Build}
-use Rattle.p25_tool.specs.declared.command.Command.TheVariants.{Show as ShowIt, Check as CheckIt, Repair as RepairIt, Bridge as BridgeIt, Build as BuildIt, Calls as CallsIt}
+use Rattle.p25_tool.specs.declared.command.Command.TheVariants.{Show as ShowIt, Check as CheckIt, Repair as RepairIt, Bridge as BridgeIt, Build as BuildIt, Stations as StationsIt, Calls as CallsIt}
 use Rattle.p25_tool.specs.declared.reports.show.Show.{Show}
 use Rattle.p25_tool.specs.declared.reports.check.Check.{Check}
 use Rattle.p25_tool.specs.declared.reports.changed.Change.TheVariants.{Repaired, Bridged}
 use Rattle.p25_tool.specs.Buildings.{build_rules}
 use Rattle.p25_calls.specs.Taking.{fresh_caller}
+use Rattle.p25_air_world.specs.Runs.{steps_of, world_run}
+use Rattle.p25_air_world.specs.Steps.{world_step}
+use Rattle.p25_air_world.specs.WorldState.{WorldState, first_world}
+use Rattle.p25_air_world.specs.declared.step.Event.{Event}
+use Rattle.p25_air_world.specs.declared.step.Step.{Step}
+use Rattle.p25_script.specs.Script.{event_of}
+use Rattle.p25_tool.specs.StationRules.{station_rules, told_step}
 use Rattle.p25_tool.specs.Commands.{CallsParts, calls_reporting, changed_reporting, check_reporting, show_reporting}
-use Rattle.p25_tool.specs.Outputs.{check_ending, check_line, ending_by, faults_in, faulty, image_octets, units_in}
+use Rattle.p25_tool.specs.Outputs.{check_ending, check_line, closing_line, ending_by, faults_in, faulty, image_octets, step_line, units_in}
 use Rattle.p25_tool.specs.Recordings.{fresh, recording_future}
 use Rattle.p25_tool.specs.Runs.{command_future}
 use Rattle.p25_tool.proofs.CallReportsLaws.{reported-calls}
@@ -107,4 +114,33 @@ calls-alike report empty = record {
   writes = λ is octets. reported-calls is report (octet_bits octets) empty;
   ends = λ is octets. refl;
   pauses = λ is octets. refl;
+}
+
+-- the lines of steps, one after the other, and the world behind them
+told : (events : List Event) (world : WorldState) → texts_of told_step world events ≡ map step_line (steps_of world events)
+unfolding texts_of steps_of
+told [] world = refl
+told (event ∷ events) world = ap (λ (ts : List (List ℕ)). step_line (world_step world event).1 ∷ ts) (told events (world_step world event).0)
+
+run_behind : (events : List Event) (world : WorldState) → machine_behind told_step world events ≡ world_run world events
+unfolding machine_behind world_run
+run_behind [] world = refl
+run_behind (event ∷ events) world = run_behind events (world_step world event).0
+
+concat_lines : (steps : List Step) → concat (map step_line steps) ≡ flat_map step_line steps
+concat_lines [] = refl
+concat_lines (step ∷ steps) = ap (λ (zs : List ℕ). step_line step ++ zs) (concat_lines steps)
+
+pub stations-alike : AreAlike (line_future station_rules (first_line first_world)) (command_future StationsIt)
+stations-alike = record {
+  writes = λ is octets.
+      let lines = lines_in is [] octets in
+      let events = read_of event_of lines in
+      first_line-writes event_of told_step closing_line true first_world is octets
+      ∙ ap₂ (λ (zs : List ℕ) (w : WorldState). zs ++ closing_by is (refusal_in event_of 1 lines) (closing_line w))
+      (ap concat (told events first_world) ∙ concat_lines (steps_of first_world events)) (run_behind events first_world);
+  ends = λ is octets. first_line-ends event_of told_step closing_line true first_world is octets;
+  pauses = λ is octets.
+      first_line-pauses event_of told_step closing_line true first_world is octets
+      ∙ ap texts_before (told (read_of event_of (lines_in is [] octets)) first_world);
 }

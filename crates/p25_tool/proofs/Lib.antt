@@ -5,3 +5,4 @@ pub mod WordsLaws
 pub mod CallReportsLaws
 pub mod CommandsLaws
 pub mod RunsLaws
+pub mod ScriptsLaws

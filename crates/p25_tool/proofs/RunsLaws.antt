@@ -1,6 +1,6 @@
 -- What is said of the work of one future is said of another that writes and ends alike; and the outcome of work on an input
 -- without faults.
-use Rattle.std.proofs.Common.{◌≡◌, ℕ, ◌-◌, ◌<◌, ◌≤◌, Bool, true, false, cond, nat_lt, List, [], ◌++◌, length, take, Option, Some, refl, ap, sym, subst, ◌∙◌, arith, append-nil, length-append, inl, inr}
+use Rattle.std.proofs.Common.{◌≡◌, ℕ, ◌-◌, ◌<◌, ◌≤◌, Bool, true, false, cond, nat_lt, List, [], ◌++◌, length, take, Option, Some, refl, ap, sym, subst, ◌∙◌, arith, append-nil, length-append, ◌⊎◌, inl, inr}
 use Rattle.std.specs.Prelude.{IfSome}
 use Rattle.std.proofs.lemmas.List.{take_all, take-append-le}
 use Rattle.std.proofs.lemmas.Bool.{cases_lt}
@@ -15,10 +15,11 @@ use Rattle.p25_work.specs.declared.ending.WorkEnd.TheVariants.{Ended, ReadFault,
 use Rattle.p25_work.proofs.LinesLaws.{Contains-none}
 use Rattle.p25_work.proofs.RunsLaws.{Worked-same, all_written-same, ended-input, first-take, told-parts}
 use Rattle.p25_tool.specs.declared.command.Command.{Command}
+use Rattle.p25_tool.specs.declared.command.Command.TheVariants.{Show, Check, Repair, Bridge, Build, Stations, Calls}
 use Rattle.p25_tool.specs.declared.outcome.Outcome.{Outcome}
 use Rattle.p25_tool.specs.declared.outcome.Outcome.TheVariants.{TooLong, Memory}
 use Rattle.p25_tool.specs.Outcomes.{ending_outcome, work_outcome}
-use Rattle.p25_tool.specs.Outputs.{ending_by}
+use Rattle.p25_tool.specs.Outputs.{CanWantMemory, ending_by}
 use Rattle.p25_tool.specs.Runs.{answer_of, command_future, ending_or}
 use Rattle.p25_tool.proofs.CommandsLaws.{AreAlike}
 
@@ -94,27 +95,33 @@ module _ (command : Command) (input : List ℕ) where
         answer-long TooLong (omega (arith, is.many, ap length parts.1, length-append octets rest))
         (ap (λ (xs : List ℕ). ending_or (ending_by command false xs) TooLong) same ∙ ap (λ (end : Option Ending). ending_or end TooLong) is.ends)
 
--- no command wants memory
-never-wanting : (command : Command) (told left first last : Option (List ℕ)) → Worked told left first last (command_future command) NoMemory → ⊥
-never-wanting command told left first last worked = Contains-none worked.meets.text worked.meets.pauses
+-- where memory is wanting, the command is one that takes it
+pub wanting-command : (command : Command) (told left first last : Option (List ℕ)) → Worked told left first last (command_future command) NoMemory → CanWantMemory command
+wanting-command Show told left first last worked = Contains-none worked.meets.text worked.meets.pauses
+wanting-command Check told left first last worked = Contains-none worked.meets.text worked.meets.pauses
+wanting-command Repair told left first last worked = Contains-none worked.meets.text worked.meets.pauses
+wanting-command (Bridge nac status) told left first last worked = Contains-none worked.meets.text worked.meets.pauses
+wanting-command (Build status) told left first last worked = Contains-none worked.meets.text worked.meets.pauses
+wanting-command Stations told left first last worked = tt
+wanting-command Calls told left first last worked = Contains-none worked.meets.text worked.meets.pauses
 
 ending-memory : (ending : Ending) → ending_outcome ending ≡ Memory → ⊥
 ending-memory Done is = cc
 ending-memory (Found faults) is = cc
 ending-memory (BadLine line fault) is = cc
 
-pub never-memory : (command : Command) (told left first last : Option (List ℕ)) (end : WorkEnd) → Worked told left first last (command_future command) end → work_outcome end ≡ Memory → ⊥
-never-memory command told left first last (Ended ending) worked is = ending-memory ending is
-never-memory command told left first last ReadFault worked is = cc
-never-memory command told left first last WriteFault worked is = cc
-never-memory command told left first last InputTooLong worked is = cc
-never-memory command told left first last NoMemory worked is = never-wanting command told left first last worked
+pub memory-command : (command : Command) (told left first last : Option (List ℕ)) (end : WorkEnd) → Worked told left first last (command_future command) end → work_outcome end ≡ Memory → CanWantMemory command
+memory-command command told left first last (Ended ending) worked is = absurd (ending-memory ending is)
+memory-command command told left first last ReadFault worked is = cc
+memory-command command told left first last WriteFault worked is = cc
+memory-command command told left first last InputTooLong worked is = cc
+memory-command command told left first last NoMemory worked is = wanting-command command told left first last worked
 
--- without a fault of the source or of the sink the outcome is the answer for the input
+-- without a fault of the source or of the sink the outcome is the answer for the input, or memory was wanting
 pub answer-without-faults : (command : Command) (told left first last : Option (List ℕ)) (end : WorkEnd) → Worked told left first last (command_future command) end → (end ≡ ReadFault → ⊥) → (end ≡ WriteFault → ⊥)
-    → (input : List ℕ) → told ≡ Some input → work_outcome end ≡ answer_of command input
-answer-without-faults command told left first last (Ended ending) worked read write input is_told = answer-final command input told left first last worked.octets worked.taken is_told ending worked.meets
+    → (input : List ℕ) → told ≡ Some input → (work_outcome end ≡ answer_of command input) ⊎ ((work_outcome end ≡ Memory) × CanWantMemory command)
+answer-without-faults command told left first last (Ended ending) worked read write input is_told = inl (answer-final command input told left first last worked.octets worked.taken is_told ending worked.meets)
 answer-without-faults command told left first last ReadFault worked read write input is_told = absurd (read refl)
 answer-without-faults command told left first last WriteFault worked read write input is_told = absurd (write refl)
-answer-without-faults command told left first last InputTooLong worked read write input is_told = answer-too_long command input told left first last worked.octets worked.taken is_told worked.meets
-answer-without-faults command told left first last NoMemory worked read write input is_told = absurd (never-wanting command told left first last worked)
+answer-without-faults command told left first last InputTooLong worked read write input is_told = inl (answer-too_long command input told left first last worked.octets worked.taken is_told worked.meets)
+answer-without-faults command told left first last NoMemory worked read write input is_told = inr (refl, wanting-command command told left first last worked)

@@ -5,5 +5,7 @@ pub mod Recordings
 pub mod Outputs
 pub mod Commands
 pub mod Buildings
+pub mod StationRules
+pub mod Scripts
 pub mod LongLines
 pub mod Runs

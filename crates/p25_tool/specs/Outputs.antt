@@ -1,5 +1,5 @@
 -- What each command writes for its input, and how a call ends by its input.
-use Rattle.std.specs.Prelude.{ℕ, ◌+◌, ◌/◌, Bool, cond, nat_eq, List, [], ◌∷◌, ◌++◌, length, take, drop, replicate, codes, decimal, Option, Some, None}
+use Rattle.std.specs.Prelude.{ℕ, ◌+◌, ◌/◌, Bool, cond, nat_eq, List, [], ◌∷◌, ◌++◌, length, map, take, drop, replicate, codes, decimal, Option, Some, None}
 use Rattle.std.specs.List.{flat_map}
 use Rattle.p25_bits.specs.Bits.{octet_bits}
 use Rattle.p25_bits.specs.Numbers.{octets_from}
@@ -18,9 +18,14 @@ use Rattle.p25_calls.specs.CallTexts.{call_text_of}
 use Rattle.p25_calls.specs.declared.call.Call.{Call}
 use Rattle.p25_work.specs.declared.ending.Ending.{Ending}
 use Rattle.p25_work.specs.declared.ending.Ending.TheVariants.{Done, Found}
-use Rattle.p25_work.specs.Lines.{lines_ending, lines_in, read_of, refusal_in}
+use Rattle.p25_air_world.specs.Runs.{steps_of, world_run}
+use Rattle.p25_air_world.specs.WorldState.{WorldState, first_world}
+use Rattle.p25_air_world.specs.declared.step.Step.{Step}
+use Rattle.p25_script.specs.Script.{event_of}
+use Rattle.p25_script.specs.StepTexts.{closing_text_of, step_text_of}
+use Rattle.p25_work.specs.Lines.{closing_by, lines_ending, lines_in, read_of, refusal_in, texts_before}
 use Rattle.p25_tool.specs.declared.command.Command.{Command}
-use Rattle.p25_tool.specs.declared.command.Command.TheVariants.{Show, Check, Repair, Bridge, Build, Calls}
+use Rattle.p25_tool.specs.declared.command.Command.TheVariants.{Show, Check, Repair, Bridge, Build, Stations, Calls}
 
 -- the octets that bits fill, most significant bit first
 abbrev pub whole_octets : List Bool → List ℕ
@@ -72,6 +77,13 @@ filled_frame status unit = record { unit = unit; statuses = replicate (frame_len
 abbrev pub image_octets : Status → UnitParts → List ℕ
 image_octets status unit = whole_octets (image_of (filled_frame status unit))
 
+-- the text of a step, and the text that closes a run, each with the end of its line
+abbrev pub step_line : Step → List ℕ
+step_line step = step_text_of step ++ 10 ∷ []
+
+abbrev pub closing_line : WorldState → List ℕ
+closing_line world = closing_text_of world ++ 10 ∷ []
+
 -- what a command writes for the octets of its input, whether they are all or more may come
 abbrev pub output_by : Command → Bool → List ℕ → List ℕ
 output_by Show ended octets = flat_map shown (items_by ended 0 (octet_bits octets))
@@ -82,6 +94,10 @@ output_by Repair ended octets = whole_octets (changed_bits repaired (items_by en
 output_by (Bridge nac status) ended octets =
     whole_octets (changed_bits (λ item raw. bridged nac status item []) (items_by ended 0 (octet_bits octets)) (octet_bits octets))
 output_by (Build status) ended octets = flat_map (image_octets status) (read_of read_line_of (lines_in ended [] octets))
+output_by Stations ended octets =
+    let lines = lines_in ended [] octets in
+    let events = read_of event_of lines in
+    flat_map step_line (steps_of first_world events) ++ closing_by ended (refusal_in event_of 1 lines) (closing_line (world_run first_world events))
 output_by Calls ended octets =
     let calls = calls_by ended (items_by ended 0 (octet_bits octets)) in flat_map call_line calls ++ cond ended (calls_line (length calls)) []
 
@@ -92,8 +108,15 @@ ending_by Check ended octets = cond ended (Some (check_ending (faults_in (items_
 ending_by Repair ended octets = cond ended (Some Done) None
 ending_by (Bridge nac status) ended octets = cond ended (Some Done) None
 ending_by (Build status) ended octets = lines_ending ended (refusal_in read_line_of 1 (lines_in ended [] octets))
+ending_by Stations ended octets = lines_ending ended (refusal_in event_of 1 (lines_in ended [] octets))
 ending_by Calls ended octets = cond ended (Some Done) None
 
--- behind which texts of a command memory may be wanting, by the octets of its input: no command takes memory
+-- behind which texts of a command memory may be wanting, by the octets of its input: before each step of a script
 abbrev pub pauses_by : Command → Bool → List ℕ → List (List ℕ)
+pauses_by Stations ended octets = texts_before (map step_line (steps_of first_world (read_of event_of (lines_in ended [] octets))))
 pauses_by command ended octets = []
+
+-- the commands that take memory
+abbrev pub CanWantMemory : Command → Type 0
+CanWantMemory Stations = Unit {0}
+CanWantMemory command = ⊥

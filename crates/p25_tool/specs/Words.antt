@@ -6,7 +6,7 @@ use Rattle.p25_status.specs.Status.{status_at_number}
 use Rattle.p25_status.specs.declared.symbols.Status.{Status}
 use Rattle.p25_text.specs.Values.{nac_in}
 use Rattle.p25_tool.specs.declared.command.Command.{Command}
-use Rattle.p25_tool.specs.declared.command.Command.TheVariants.{Show, Check, Repair, Bridge, Build, Calls}
+use Rattle.p25_tool.specs.declared.command.Command.TheVariants.{Show, Check, Repair, Bridge, Build, Stations, Calls}
 
 -- the words after one more: its first 16 octets behind the others, or nothing where four are held
 abbrev pub added : List (List ℕ) → List ℕ → List (List ℕ)
@@ -26,7 +26,8 @@ abbrev pub one_word_command : List ℕ → Option Command
 one_word_command word =
     cond (bytes_eq word (codes "show")) (Some Show)
     (cond (bytes_eq word (codes "check")) (Some Check)
-    (cond (bytes_eq word (codes "repair")) (Some Repair) (cond (bytes_eq word (codes "calls")) (Some Calls) None)))
+    (cond (bytes_eq word (codes "repair")) (Some Repair)
+    (cond (bytes_eq word (codes "stations")) (Some Stations) (cond (bytes_eq word (codes "calls")) (Some Calls) None))))
 
 -- `build` with a status symbol, where it is one
 abbrev pub build_of : Option Status → Option Command
@@ -62,4 +63,5 @@ IsSoundCommand Check = Unit {0}
 IsSoundCommand Repair = Unit {0}
 IsSoundCommand (Bridge nac status) = nac < 4096
 IsSoundCommand (Build status) = Unit {0}
+IsSoundCommand Stations = Unit {0}
 IsSoundCommand Calls = Unit {0}

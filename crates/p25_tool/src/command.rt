@@ -15,4 +15,6 @@ pub enum Command {
     Calls,
     /// The units that lines of text describe, with this status symbol everywhere.
     Build { status: Status },
+    /// The steps that the lines of a script are, one a line, and a last line that tells of the world behind them.
+    Stations,
 }

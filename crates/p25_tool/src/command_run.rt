@@ -1,14 +1,16 @@
 //! The call that the program makes.
 
-ghost use Rattle.std.specs.Prelude.{◌≡◌, ◌≢◌, ℕ, ◌≤◌, ◌↔◌, List, [], None, Some, IfSome};
+ghost use Rattle.std.specs.Prelude.{◌≡◌, ℕ, ◌≤◌, ◌↔◌, ◌⊎◌, List, [], None, Some, IfSome};
 ghost use Rattle.p25_io.specs.Faults.{Rose};
 ghost use Rattle.p25_work.specs.Runs.{Worked, all_written};
 ghost use Rattle.p25_work.specs.LineWorks.{first_line, line_future};
-ghost use Rattle.p25_tool.specs.Buildings.{build_rules};
+ghost use Rattle.p25_tool.specs.Outputs.{CanWantMemory};
 ghost use Rattle.p25_tool.specs.Recordings.{fresh, recording_future};
 ghost use Rattle.p25_tool.specs.Runs.{Ran, answer_of, command_future};
+ghost use Rattle.p25_tool.specs.Scripts.{HasRun, IsScriptOf};
 ghost use Rattle.p25_tool.specs.Words.{IsSoundCommand, command_of};
 ghost use Rattle.p25_tool.specs.declared.command.Command.{Command};
+ghost use Rattle.p25_air_world.specs.declared.step.Event.{Event as event_type};
 
 use super::build::Build;
 use super::command::Command;
@@ -16,10 +18,10 @@ use super::outcome::{Outcome, outcome_of};
 use super::recording::Recording;
 use super::report::Report;
 use super::reports::{Calls, Change, Changed, Check, Show};
+use super::stations::Stations;
 use super::words::Words;
 use p25_io::{Sink, Source};
-use p25_status::Status;
-use p25_work::{LineWork, WorkEnd, work};
+use p25_work::{LineMachine, LineWork, WorkEnd, work};
 use std::alloc::Global;
 
 /// Does what the words say: reads the source to its end, at most 16,777,216 octets, and writes the answer to the sink.
@@ -29,6 +31,9 @@ use std::alloc::Global;
 /// that is refused, a write fault. What the octets taken so far decide is written before the next read. So after a read
 /// fault or an input that is too long the sink holds what the octets before decide, in whole octets and without a last line
 /// of a check; after a refused line what the lines before ask for; and after a write fault a beginning of the output.
+///
+/// `stations` alone takes memory, for each line that is accepted, before its step is made. Where there is not enough the outcome
+/// is `Memory`, and the sink holds the steps before, without the closing line.
 pub fn run<S: Source, K: Sink>(
     alloc: Global,
     words: &Words,
@@ -45,24 +50,33 @@ pub fn run<S: Source, K: Sink>(
         → all_written (command_future command) input ≡ [] → sink.new ≡ sink.old }
     ensures complete { (command : Command) (input : List ℕ) → command_of words.now ≡ Some command → S.left source.old ≡ Some input
         → ¬ Rose (S.faults source.old) (S.faults source.new) → ¬ Rose (K.faults sink.old) (K.faults sink.new)
-        → result ≡ answer_of command input }
+        → (result ≡ answer_of command input) ⊎ ((result ≡ Outcome.Memory) × CanWantMemory command) }
+
+    // What comes of a script of the stations.
+    ensures stations { (input : List ℕ) (events : List event_type) → command_of words.now ≡ Some Command.Stations → S.left source.old ≡ Some input
+        → IsScriptOf input events → ¬ Rose (S.faults source.old) (S.faults source.new) → ¬ Rose (K.faults sink.old) (K.faults sink.new)
+        → HasRun (K.written sink.old) (K.written sink.new) events result }
 
     // Why it was refused.
     ensures source_later { S.faults source.old ≤ S.faults source.new }
     ensures sink_later { K.faults sink.old ≤ K.faults sink.new }
     ensures read_fault { result ≡ Outcome.ReadFault → Rose (S.faults source.old) (S.faults source.new) }
     ensures write_fault { result ≡ Outcome.WriteFault → Rose (K.faults sink.old) (K.faults sink.new) }
-    ensures memory { result ≢ Outcome.Memory }
+    ensures memory { result ≡ Outcome.Memory → IfSome (command_of words.now) CanWantMemory }
 {
-    let _ = alloc;
     match words.command() {
         None => Outcome::Usage,
-        Some(command) => outcome_of(run_command(command, source, sink)),
+        Some(command) => outcome_of(run_command(alloc, command, source, sink)),
     }
 }
 
 // The work of a command.
-fn run_command<S: Source, K: Sink>(command: Command, source: &mut S, sink: &mut K) -> WorkEnd
+fn run_command<S: Source, K: Sink>(
+    alloc: Global,
+    command: Command,
+    source: &mut S,
+    sink: &mut K,
+) -> WorkEnd
     requires { IsSoundCommand command }
     ensures worked { Worked (S.left source.old) (S.left source.new) (K.written sink.old) (K.written sink.new) (command_future command) result }
     ensures quiet { (input : List ℕ) → S.left source.old ≡ Some input → all_written (command_future command) input ≡ [] → sink.new ≡ sink.old }
@@ -78,7 +92,8 @@ fn run_command<S: Source, K: Sink>(command: Command, source: &mut S, sink: &mut 
         Command::Bridge { nac, status } => {
             run_report(Changed::new(Change::Bridged { nac, status }), source, sink)
         }
-        Command::Build { status } => run_build(status, source, sink),
+        Command::Build { status } => run_lines(Build::new(status), source, sink),
+        Command::Stations => run_lines(Stations::new(alloc), source, sink),
         Command::Calls => run_report(Calls::new(), source, sink),
     }
 }
@@ -104,15 +119,21 @@ fn run_report<R: Report + Drop, S: Source, K: Sink>(
     work(&mut recording, source, sink)
 }
 
-// The work of `build`.
-fn run_build<S: Source, K: Sink>(status: Status, source: &mut S, sink: &mut K) -> WorkEnd
-    ensures worked { Worked (S.left source.old) (S.left source.new) (K.written sink.old) (K.written sink.new) (line_future build_rules (first_line (record { status = status }))) result }
-    ensures quiet { (input : List ℕ) → S.left source.old ≡ Some input → all_written (line_future build_rules (first_line (record { status = status }))) input ≡ [] → sink.new ≡ sink.old }
+// The work of a machine on the lines of its input.
+fn run_lines<M: LineMachine + Drop, S: Source, K: Sink>(
+    machine: M,
+    source: &mut S,
+    sink: &mut K,
+) -> WorkEnd
+    ensures worked { Worked (S.left source.old) (S.left source.new) (K.written sink.old) (K.written sink.new)
+        (line_future M.rules (first_line machine)) result }
+    ensures quiet { (input : List ℕ) → S.left source.old ≡ Some input → all_written (line_future M.rules (first_line machine)) input ≡ []
+        → sink.new ≡ sink.old }
     ensures source_later { S.faults source.old ≤ S.faults source.new }
     ensures sink_later { K.faults sink.old ≤ K.faults sink.new }
     ensures read_fault { result ≡ WorkEnd.ReadFault → Rose (S.faults source.old) (S.faults source.new) }
     ensures write_fault { result ≡ WorkEnd.WriteFault → Rose (K.faults sink.old) (K.faults sink.new) }
 {
-    let mut lines = LineWork::new(Build::new(status));
+    let mut lines = LineWork::new(machine);
     work(&mut lines, source, sink)
 }

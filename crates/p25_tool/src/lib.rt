@@ -10,8 +10,9 @@
 //!
 //! A recording is a list of bits, each octet's most significant bit first. It falls into items that lie end to end and
 //! cover every bit. What a command writes for the octets of its input is `output_by`: `show` and `check` the texts of items,
-//! `repair` and `bridge` their bits, `calls` the texts of calls, `build` the images of the units that lines describe. What stands after each way
-//! to end is `Ran`. `outcome_text` and `outcome_status` are what the program makes of the outcome of a call.
+//! `repair` and `bridge` their bits, `calls` the texts of calls, `build` the images of the units that lines describe, `stations`
+//! the steps of the events that lines tell of. What stands after each way to end is `Ran`. `outcome_text` and
+//! `outcome_status` are what the program makes of the outcome of a call.
 #![tactic(auto)]
 
 mod build;
@@ -21,6 +22,7 @@ mod outcome;
 mod recording;
 mod report;
 mod reports;
+mod stations;
 mod words;
 
 pub use command::Command;

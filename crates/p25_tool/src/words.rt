@@ -111,6 +111,8 @@ fn one_word(word: &[u8]) -> Option<Command>
         Some(Command::Check)
     } else if word == b"repair".as_slice() {
         Some(Command::Repair)
+    } else if word == b"stations".as_slice() {
+        Some(Command::Stations)
     } else if word == b"calls".as_slice() {
         Some(Command::Calls)
     } else {

@@ -304,12 +304,14 @@ module _ {M : Type 0} (rules : LineRules M) where
         → Progress (line_future rules (line_working machine line lines behind phase)) (octet ∷ []) [] (line_future rules (line_working machine more lines behind phase))
     step-octet octet more other same =
         reading (λ p. Progress (line_future rules (line_working machine line lines behind p)) (octet ∷ []) [] (line_future rules (line_working machine more lines behind p)))
-        (subst (λ (l : List ℕ). Progress (line_future rules (line_working machine line lines behind Reading)) (octet ∷ []) [] (line_future rules (line_working machine l lines behind Reading))) (sym same) (working-octet machine line lines behind octet other))
+        (subst (λ (l : List ℕ). Progress (line_future rules (line_working machine line lines behind Reading)) (octet ∷ []) [] (line_future rules (line_working machine l lines behind Reading)))
+        (sym same) (working-octet machine line lines behind octet other))
 
     pub step-full : ((m : M) (l : List ℕ) → 8192 < length l → rules.answer m l ≡ Err Long) → (octet : ℕ) → octet ≢ 10 → 8192 < length line
         → Progress (line_future rules (line_working machine line lines behind phase)) (octet ∷ []) [] (line_future rules (line_working machine line lines behind phase))
     step-full too_long octet other long =
-        reading (λ p. Progress (line_future rules (line_working machine line lines behind p)) (octet ∷ []) [] (line_future rules (line_working machine line lines behind p))) (working-full too_long machine line lines behind octet other long)
+        reading (λ p. Progress (line_future rules (line_working machine line lines behind p)) (octet ∷ []) [] (line_future rules (line_working machine line lines behind p)))
+        (working-full too_long machine line lines behind octet other long)
 
     pub step-finish : 0 < length line → IsClosed (line_future rules (line_working machine line lines behind phase)) (line_future rules (line_working machine line lines behind ReadyLast))
     step-finish some =

@@ -78,7 +78,8 @@ closes_with Closed ended = false
 unfoldable pub line_future : {M : Type 0} → LineRules M → LineWorking M → Future
 line_future rules work = record {
   writes = λ ended more. work.behind ++ lines_written rules (closes_with work.phase ended) work.machine (lines_left work.phase work.line ended more);
-  ends = λ ended more. lines_ending (ends_with work.phase ended) (lines_refusal rules (work.lines + 1) work.machine (lines_left work.phase work.line ended more));
+  ends = λ ended more.
+      lines_ending (ends_with work.phase ended) (lines_refusal rules (work.lines + 1) work.machine (lines_left work.phase work.line ended more));
   pauses = λ ended more. cond rules.wants (each_behind work.behind (lines_before rules work.machine (lines_left work.phase work.line ended more))) [];
 }
 

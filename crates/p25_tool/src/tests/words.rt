@@ -11,6 +11,7 @@ use std::test::Fail;
 fn words_name_a_command(rt: HostRuntime) -> Result<(), Fail> {
     let status = Status::new(2).ok_or("2 is a status symbol")?;
     assert_eq!(rt; words_of(&[b"show"]).command(), Some(Command::Show));
+    assert_eq!(rt; words_of(&[b"stations"]).command(), Some(Command::Stations));
     assert_eq!(rt; words_of(&[b"calls"]).command(), Some(Command::Calls));
     assert_eq!(rt;
         words_of(&[b"build", b"2"]).command(),

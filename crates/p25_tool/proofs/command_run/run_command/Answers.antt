@@ -2,9 +2,13 @@ use Rattle.std.proofs.Common.{◌≡◌, sym, subst}
 use Rattle.p25_work.specs.Futures.{Future}
 use Rattle.p25_tool.specs.declared.command.Command.{Command}
 use Rattle.p25_tool.specs.Commands.{ChangedParts, changed_reporting}
+use Rattle.p25_work.specs.LineRules.{LineRules}
+use Rattle.p25_work.specs.LineWorks.{first_line, line_future}
+use Rattle.p25_tool.specs.Buildings.{build_rules}
+use Rattle.p25_tool.specs.StationRules.{station_rules}
 use Rattle.p25_tool.specs.Recordings.{fresh, recording_future}
 use Rattle.p25_tool.specs.Runs.{command_future}
-use Rattle.p25_tool.proofs.CommandsLaws.{AreAlike, bridge-alike, build-alike, calls-alike, check-alike, repair-alike, show-alike}
+use Rattle.p25_tool.proofs.CommandsLaws.{AreAlike, bridge-alike, build-alike, calls-alike, check-alike, repair-alike, show-alike, stations-alike}
 use Rattle.p25_tool.proofs.RunsLaws.{worked-alike, all_written-alike}
 use Rattle.p25_tool.proofs.command_run.run_command.Goals as goal
 
@@ -44,11 +48,29 @@ returns-in-Bridge-clause-quiet g c =
     λ input told none.
     c.run_report-in-Bridge.ensures.quiet input told (all_written-alike _ _ (changed-alike _ _ _ _ c.new-in-Bridge.ensures c.in-Bridge.is (bridge-alike c.in-Bridge.nac c.in-Bridge.status)) input none)
 
+-- the same of the rules of a machine that is the one named
+lines-alike : {M : Type 0} (rules : LineRules M) (made named : M) (command asked : Command) → made ≡ named → asked ≡ command → AreAlike (line_future rules (first_line named)) (command_future command)
+    → AreAlike (line_future rules (first_line made)) (command_future asked)
+lines-alike rules made named command asked same is alike =
+    subst (λ (x : _). AreAlike (line_future rules (first_line x)) (command_future asked)) (sym same) (alike-to (line_future rules (first_line named)) command asked is alike)
+
 pub returns-in-Build-clause-worked : goal.returns-in-Build-clause-worked
-returns-in-Build-clause-worked g c = worked-alike _ _ _ _ _ _ _ (alike-to _ _ _ c.in-Build.is (build-alike c.in-Build.status)) c.run_build.ensures.worked
+returns-in-Build-clause-worked g c =
+    worked-alike _ _ _ _ _ _ _ (lines-alike build_rules _ _ _ _ c.new-in-Build.ensures c.in-Build.is (build-alike c.in-Build.status)) c.run_lines.ensures.worked
 
 pub returns-in-Build-clause-quiet : goal.returns-in-Build-clause-quiet
-returns-in-Build-clause-quiet g c = λ input told none. c.run_build.ensures.quiet input told (all_written-alike _ _ (alike-to _ _ _ c.in-Build.is (build-alike c.in-Build.status)) input none)
+returns-in-Build-clause-quiet g c =
+    λ input told none.
+    c.run_lines.ensures.quiet input told (all_written-alike _ _ (lines-alike build_rules _ _ _ _ c.new-in-Build.ensures c.in-Build.is (build-alike c.in-Build.status)) input none)
+
+pub returns-in-Stations-clause-worked : goal.returns-in-Stations-clause-worked
+returns-in-Stations-clause-worked g c =
+    worked-alike _ _ _ _ _ _ _ (lines-alike station_rules _ _ _ _ c.new-in-Stations.ensures c.in-Stations.is stations-alike) c.run_lines-in-Stations.ensures.worked
+
+pub returns-in-Stations-clause-quiet : goal.returns-in-Stations-clause-quiet
+returns-in-Stations-clause-quiet g c =
+    λ input told none.
+    c.run_lines-in-Stations.ensures.quiet input told (all_written-alike _ _ (lines-alike station_rules _ _ _ _ c.new-in-Stations.ensures c.in-Stations.is stations-alike) input none)
 
 pub returns-in-Calls-clause-worked : goal.returns-in-Calls-clause-worked
 returns-in-Calls-clause-worked g c = worked-alike _ _ _ _ _ _ _ (alike-to _ _ _ c.in-Calls.is (calls-alike _ c.new-in-Calls.ensures)) c.run_report-in-Calls.ensures.worked
