@@ -4,4 +4,5 @@ pub mod CallLaws
 pub mod TakingLaws
 pub mod ClosedLaws
 pub mod LieLaws
+pub mod AnswersLaws
 pub mod CallerSteps

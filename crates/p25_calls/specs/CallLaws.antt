@@ -1,12 +1,12 @@
 -- What makes the definition of calls believable, and what a caller answers: laws over all units and items.
-use Rattle.std.specs.Prelude.{◌≡◌, ℕ, ◌+◌, Bool, true, false, List, [], ◌∷◌, ◌++◌, flat_map}
+use Rattle.std.specs.Prelude.{◌≡◌, ℕ, ◌+◌, Bool, true, false, List, [], ◌∷◌, ◌++◌, flat_map, option_to_list}
 use Rattle.p25_units.specs.Items.{covered, place_of}
 use Rattle.p25_units.specs.declared.item.Item.{Item}
 use Rattle.p25_calls.specs.declared.seen.UnitSeen.{UnitSeen}
 use Rattle.p25_calls.specs.Seen.{is_break}
 use Rattle.p25_calls.specs.Runs.{Run, closed_runs, last_unit, runs_of, units_in}
 use Rattle.p25_calls.specs.Calls.{calls_by}
-use Rattle.p25_calls.specs.Taking.{answers_by, fresh_caller}
+use Rattle.p25_calls.specs.Taking.{answer_to, answers_by, behind_items, fresh_caller, open_call}
 
 -- the runs of some units are these units, in order
 abbrev pub RunsJoin : Type 0
@@ -37,3 +37,13 @@ LieFrom at (item ∷ items) = (place_of item ≡ at) × LieFrom (at + covered it
 -- all calls, and without it those that no further item can change
 abbrev pub AnswersAreCalls : Type 0
 AnswersAreCalls = (ended : Bool) (items : List Item) → LieFrom 0 items → answers_by ended fresh_caller items ≡ calls_by ended items
+
+-- so an item is answered by the call that it closes
+abbrev pub EachIsClosed : Type 0
+EachIsClosed =
+    (before : List Item) (item : Item) → LieFrom 0 (before ++ item ∷ [])
+    → calls_by false (before ++ item ∷ []) ≡ calls_by false before ++ option_to_list (answer_to (behind_items fresh_caller before) item)
+
+-- and at the end the call is answered that is open behind the items
+abbrev pub LastIsOpen : Type 0
+LastIsOpen = (items : List Item) → LieFrom 0 items → calls_by true items ≡ calls_by false items ++ option_to_list (open_call (behind_items fresh_caller items))

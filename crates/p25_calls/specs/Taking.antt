@@ -103,6 +103,11 @@ unfoldable pub answers_by : Bool → CallerParts → List Item → List Call
 answers_by ended caller [] = cond ended (option_to_list (open_call caller)) []
 answers_by ended caller (item ∷ items) = option_to_list (answer_to caller item) ++ answers_by ended (behind_item caller item) items
 
+-- what a caller holds behind items
+unfoldable pub behind_items : CallerParts → List Item → CallerParts
+behind_items caller [] = caller
+behind_items caller (item ∷ items) = behind_items (behind_item caller item) items
+
 -- the run that is open ends where the last item does at the latest, and has no more units than items were taken
 pub record IsPending (reached taken : ℕ) (call : Call) : Type 0 where
   pub before : call.place + call.bits ≤ reached

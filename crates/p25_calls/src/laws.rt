@@ -1,6 +1,6 @@
 //! The laws of calls. The body is empty: the function states what is proved.
 
-ghost use Rattle.p25_calls.specs.CallLaws.{AnswersAreCalls, BreakBetween, ClosedStay, NoBreakInside, RunsJoin};
+ghost use Rattle.p25_calls.specs.CallLaws.{AnswersAreCalls, BreakBetween, ClosedStay, EachIsClosed, LastIsOpen, NoBreakInside, RunsJoin};
 
 /// Does nothing: its contract is what calls are, and that a caller answers them.
 ///
@@ -9,10 +9,13 @@ ghost use Rattle.p25_calls.specs.CallLaws.{AnswersAreCalls, BreakBetween, Closed
 /// - `closed`: a run that is closed stays one, whatever units come later.
 /// - `answers`: what a new caller answers to items that lie end to end from place 0 on, and at the end, are their calls; without
 ///   the answer at the end they are those that no further item can change.
+/// - `each`, `last`: so an item is answered by the call that it closes, and the end by the call that is open.
 pub fn call_laws()
     ensures join { RunsJoin }
     ensures inside { NoBreakInside }
     ensures between { BreakBetween }
     ensures closed { ClosedStay }
     ensures answers { AnswersAreCalls }
+    ensures each { EachIsClosed }
+    ensures last { LastIsOpen }
 {}

@@ -1,4 +1,5 @@
 use Rattle.p25_calls.proofs.ClosedLaws.{closed-stay}
+use Rattle.p25_calls.proofs.AnswersLaws.{each-closed, last-open}
 use Rattle.p25_calls.proofs.DividedLaws.{break-between, no_break-inside, runs-join}
 use Rattle.p25_calls.proofs.TakingLaws.{answers-are-calls}
 use Rattle.p25_calls.proofs.laws.call_laws.Goals as goal
@@ -17,3 +18,9 @@ returns-clause-closed c = closed-stay
 
 pub returns-clause-answers : goal.returns-clause-answers
 returns-clause-answers c = answers-are-calls
+
+pub returns-clause-each : goal.returns-clause-each
+returns-clause-each c = each-closed
+
+pub returns-clause-last : goal.returns-clause-last
+returns-clause-last c = last-open
