@@ -28,7 +28,18 @@ pub struct SampleUnit {
     pub flips: u32,
 }
 
-/// The sample units from the first one on.
+/// The sample units from the first one on. This project's rule of them:
+///
+/// - A draw replaces a state below 2^32, which starts at 0, by 1664525 times it plus 1013904223, modulo 2^32; the number drawn is
+///   the new state by 65,536, and an octet is a number drawn modulo 256.
+/// - Of each unit are drawn, in this order: its network access code, modulo 4,096; its status symbol, modulo 4, the same
+///   everywhere; its fields, octet by octet in the order of sending, of a packet with blocks first their number, 1 and a
+///   number modulo 4, and then the LLID; and its damage.
+/// - The damage is how many first bits are inverted: of the sync, modulo 5; of the identifier, modulo 12; then how many inner
+///   words of the coded field are inverted whole, modulo 9, 4, 7 and 5 of a header, a terminator with link control, voice with
+///   link control and voice with encryption sync; then of each later inner word, modulo 4 in a Golay word and 2 in a Hamming
+///   word; then of each low speed word, modulo 3; of the header block and each half-rate block of a packet, modulo 3, and of each
+///   three-quarter-rate block, modulo 2.
 #[derive(Drop)]
 pub struct Sampler {
     draws: Draws,
@@ -37,7 +48,6 @@ pub struct Sampler {
 
 impl Model for Sampler {
     ghost use Rattle.std.specs.Prelude.{◌≡◌, ◌≤◌, ℕ};
-    ghost use Rattle.p25_vectors.specs.Damage.{damage_counts, damage_draws};
     ghost use Rattle.p25_vectors.specs.Samples.{state_before};
 
     ghost Value = { ℕ };
@@ -58,8 +68,9 @@ impl Sampler {
         }
     }
 
-    /// Answers the next unit and sets `bits` to its damaged bits, as they are sent. Fewer than 10,000 units were given. The
-    /// damaged bits lie within radius of the frame's, and read as the frame.
+    /// Answers the next unit, with its undamaged frame and how many bits are inverted in it, and sets `bits` to its damaged
+    /// bits as they are sent, first to last. They lie within radius of the frame's own, and read as the frame. Fewer than
+    /// 10,000 units were given.
     pub fn next(&mut self, bits: &mut BitBuf) -> SampleUnit
         requires { self.old < 10000 }
         ensures given { self.new ≡ self.old + 1 }
