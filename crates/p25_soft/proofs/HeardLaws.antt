@@ -19,7 +19,7 @@ use Rattle.p25_units.specs.Readings.{reading_from}
 use Rattle.p25_units.proofs.ItemsLaws.{covered-unit_item_of, place_of-unit_item_of, unit_item_of-some}
 use Rattle.p25_units.proofs.NeedsLaws.{IsIdentified-from, head_need-bad, head_need-good, kind_need-packet, packet_need-short, packet_need-long}
 use Rattle.p25_units.proofs.PacketNeedLaws.{length_need-is, need_of-packet_alone}
-use Rattle.p25_units.proofs.ReadSteps.{IsUnitAt-from}
+use Rattle.p25_units.proofs.UnitPlaceLaws.{IsUnitAt-from}
 use Rattle.p25_soft.specs.Levels.{hard_bits}
 use Rattle.p25_soft.specs.Softened.{IsHeard, IsReadFrom, blocks_replaced, blocks_to_follow, softened, softened_count, softened_packet, told_blocks}
 

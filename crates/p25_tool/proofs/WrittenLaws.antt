@@ -6,6 +6,7 @@ use Rattle.p25_io.specs.Octets.{Appended}
 use Rattle.p25_line.specs.declared.fault.LineFault.{LineFault}
 use Rattle.p25_text.specs.Grammar.{read_line_of}
 use Rattle.p25_script.specs.Script.{event_of}
+use Rattle.p25_long_script.specs.LongScript.{long_event_of}
 use Rattle.p25_work.specs.Lines.{lines_ending, lines_in, refusal_in}
 use Rattle.p25_work.proofs.RulesLaws.{refusal_in-err, refusal_in-nil, refusal_in-ok}
 use Rattle.p25_work.specs.Runs.{IsFinal, Worked, input_most}
@@ -14,7 +15,8 @@ use Rattle.p25_work.specs.declared.ending.Ending.TheVariants.{BadLine}
 use Rattle.p25_work.specs.declared.ending.WorkEnd.{WorkEnd}
 use Rattle.p25_work.specs.declared.ending.WorkEnd.TheVariants.{Ended, ReadFault, WriteFault, TooLong, Memory}
 use Rattle.p25_tool.specs.declared.command.Command.{Command}
-use Rattle.p25_tool.specs.declared.command.Command.TheVariants.{Show, Check, Repair, Bridge, Build, Stations}
+use Rattle.p25_tool.specs.declared.command.Command.TheVariants.{Show, Check, Repair, Bridge, Calls, Soft, Build, Stations, Fragments, Duplex, Sample}
+use Rattle.p25_tool.specs.DuplexLines.{duplex_event_of}
 use Rattle.p25_tool.specs.Outcomes.{ending_outcome, work_outcome}
 use Rattle.p25_tool.specs.Outputs.{ending_by, output_by}
 use Rattle.p25_tool.specs.Runs.{command_future}
@@ -40,14 +42,20 @@ module _ {E : Type 0} (read : List ℕ → Result E LineFault) where
       by_refusal None none same = cc same
       by_refusal (Some other) some same = refused-line 1 lines ending (some ∙ same) end
 
--- while more octets may come, nothing else ends a call
-not-before_end : (command : Command) (octets : List ℕ) (ending : Ending) → ending_by command false octets ≡ Some ending → HasEnded (ending_outcome ending) → ⊥
-not-before_end Show octets ending is end = cc is
-not-before_end Check octets ending is end = cc is
-not-before_end Repair octets ending is end = cc is
-not-before_end (Bridge nac status) octets ending is end = cc is
-not-before_end (Build status) octets ending is end = lines-go_on read_line_of (lines_in false [] octets) ending is end
-not-before_end Stations octets ending is end = lines-go_on event_of (lines_in false [] octets) ending is end
+-- while more octets may come, nothing else ends a call but of `sample`, which looks at no octet
+before_end : (command : Command) (octets input : List ℕ) (ending : Ending) → ending_by command false octets ≡ Some ending → HasEnded (ending_outcome ending)
+    → output_by command false octets ≡ output_by command true input
+before_end Show octets input ending is end = absurd (cc is)
+before_end Check octets input ending is end = absurd (cc is)
+before_end Repair octets input ending is end = absurd (cc is)
+before_end (Bridge nac status) octets input ending is end = absurd (cc is)
+before_end Calls octets input ending is end = absurd (cc is)
+before_end Soft octets input ending is end = absurd (cc is)
+before_end (Build status) octets input ending is end = absurd (lines-go_on read_line_of (lines_in false [] octets) ending is end)
+before_end Stations octets input ending is end = absurd (lines-go_on event_of (lines_in false [] octets) ending is end)
+before_end Fragments octets input ending is end = absurd (lines-go_on long_event_of (lines_in false [] octets) ending is end)
+before_end Duplex octets input ending is end = absurd (lines-go_on duplex_event_of (lines_in false [] octets) ending is end)
+before_end (Sample count) octets input ending is end = refl
 
 module _ (command : Command) (input written : List ℕ) (last : Option (List ℕ)) where
   wrote-all : (ending : Ending) (octets : List ℕ) → HasEnded (ending_outcome ending) → IsFinal (Some input) (Some written) last (command_future command) octets ending → last ≡ Some (written ++ output_by command true input)
@@ -59,7 +67,8 @@ module _ (command : Command) (input written : List ℕ) (last : Option (List ℕ
           let few : length octets ≤ input_most = (all refl).0 in
           let same : input ≡ octets = (all refl).1 in
           wrote.written ∙ ap (λ (xs : List ℕ). Some (written ++ output_by command true xs)) (take_all input_most octets few ∙ sym same)
-      by_end false all ends wrote = absurd (not-before_end command (take input_most octets) ending ends end)
+      by_end false all ends wrote =
+          wrote.written ∙ ap (λ (xs : List ℕ). Some (written ++ xs)) (before_end command (take input_most octets) input ending ends end)
 
   by-work_end : (left : Option (List ℕ)) (end : WorkEnd) → HasEnded (work_outcome end) → Worked (Some input) left (Some written) last (command_future command) end → last ≡ Some (written ++ output_by command true input)
   by-work_end left (Ended ending) is worked = wrote-all ending worked.octets is worked.meets
