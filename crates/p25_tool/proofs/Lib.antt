@@ -15,5 +15,6 @@ pub mod DuplexReadSteps
 pub mod DuplexLineLaws
 pub mod DuplexCommandLaws
 pub mod SoftLevelsLaws
+pub mod SoftItemLaws
 pub mod SoftRecordingsLaws
 pub mod SoftHearingLaws

@@ -64,7 +64,7 @@ const ROWS: [Row; 6] = [
         "a block at an odd place stays as it is",
         CONFIRMED,
         1,
-        &[(165, 96), (166, 96), (167, 96)],
+        &[(164, 96), (165, 0)],
         b"gap at=0 bits=1\nbroken at=1 bits=576 nac=293 duid=c fields=block.0\ngap at=577 bits=7\n",
         false,
     ),
