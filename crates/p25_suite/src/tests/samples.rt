@@ -1,23 +1,26 @@
 //! Sample units: the line that tells of them, the numbers that are refused, and each unit read from its damaged bits.
 
-ghost use Rattle.std.specs.Prelude.{◌≡◌, Ok, length};
+ghost use Rattle.std.specs.Prelude.{◌≡◌, ◌≤◌, Ok, length};
 ghost use Rattle.p25_units.specs.Needs.{need_of};
 ghost use Rattle.p25_units.specs.Readings.{unit_reading_of};
 ghost use Rattle.p25_units.specs.Units.{IsSoundFrame};
-ghost use Rattle.p25_units.specs.WithinRadius.{IsWithinRadius};
 ghost use Rattle.p25_units.specs.declared.needs.Need.TheVariants.{Length};
 
 use super::words_of;
 use p25_bits::BitBuf;
 use p25_io::{MemorySource, SliceSink, SteadySource};
 use p25_tool::{Outcome, run};
-use p25_units::{Frame, Need, fixes, image, need, read_unit};
+use p25_units::{Frame, Need, fixes, frame_length, image, need, read_unit};
 use p25_vectors::{SampleUnit, Sampler};
 
 // The word behind `sample`, what is written, and how the call ends.
 const CALLS: [(&[u8], &[u8], Outcome); 8] = [
     (b"1", b"units=1 flips=8 exact=1\n", Outcome::Done),
-    (b"1000", b"units=1000 flips=39735 exact=1000\n", Outcome::Done),
+    (
+        b"1000",
+        b"units=1000 flips=39735 exact=1000\n",
+        Outcome::Done,
+    ),
     (b"0", b"", Outcome::Usage),
     (b"01", b"", Outcome::Usage),
     (b"10001", b"", Outcome::Usage),
@@ -29,9 +32,10 @@ const CALLS: [(&[u8], &[u8], Outcome); 8] = [
 // Twice each, from a source that fails at its first read.
 #[test]
 fn calls_read_nothing(rt: HostRuntime) {
+    let fails = [1];
     for (number, text, outcome) in CALLS {
         for _time in 0..2_u8 {
-            let mut source = MemorySource::new(b"octets", 4, &[1]);
+            let mut source = MemorySource::new(b"octets", 4, &fails);
             let mut room = [0; 64];
             let mut sink = SliceSink::new(&mut room, &[]);
             let words = words_of(&[b"sample", number]);
@@ -44,18 +48,23 @@ fn calls_read_nothing(rt: HostRuntime) {
 
 #[test]
 fn a_failed_write_ends_the_call(rt: HostRuntime) {
+    let fails = [1];
     let mut source = SteadySource::new(b"", 1);
     let mut room = [0; 64];
-    let mut sink = SliceSink::new(&mut room, &[1]);
+    let mut sink = SliceSink::new(&mut room, &fails);
     let words = words_of(&[b"sample", b"1"]);
-    assert_eq!(rt; run(rt.alloc(), &words, &mut source, &mut sink), Outcome::WriteFault);
+    assert_eq!(rt;
+        run(rt.alloc(), &words, &mut source, &mut sink),
+        Outcome::WriteFault
+    );
 }
 
 // The first unit, shown as a recording.
 #[test]
 fn the_first_unit_is_shown(rt: HostRuntime) {
+    let mut sampler = Sampler::new();
     let mut bits = BitBuf::new();
-    Sampler::new().next(&mut bits);
+    let _unit = sampler.next(&mut bits);
     let mut octets = [0; 18];
     if bits.len() == 144 {
         bits.take_numbers(0, 8, &mut octets);
@@ -83,32 +92,50 @@ fn same_image(a: &Frame, b: &Frame) -> bool
     first.len() == second.len() && BitBuf::distance(&first, &second) == 0
 }
 
-// Whether damaged bits read as a unit's frame, with as many fixes as bits are inverted.
+// Whether a frame that was read is a unit's, with as many fixes as bits are inverted.
+fn is_unit(read: &Frame, unit: &SampleUnit, bits: &BitBuf) -> bool
+    requires first { IsSoundFrame read.now }
+    requires second { IsSoundFrame unit.now.frame }
+{
+    if frame_length(&read.unit) > bits.len() {
+        return false;
+    }
+    same_image(read, &unit.frame) && fixes(bits, 0, read) == unit.flips
+}
+
+// Whether damaged bits read as a unit's frame.
 fn reads_again(unit: &SampleUnit, bits: &BitBuf) -> bool
     requires sound { IsSoundFrame unit.now.frame }
-    requires within { IsWithinRadius unit.now.frame bits.now }
     requires length { need_of bits.now ≡ Length (length bits.now) }
     requires read { unit_reading_of bits.now ≡ Ok unit.now.frame }
 {
-    let Need::Length(count) = need(bits, 0) else {
-        return false;
-    };
-    let Ok(read) = read_unit(bits, 0, count) else {
-        return false;
-    };
-    same_image(&read, &unit.frame) && fixes(bits, 0, &read) == unit.flips
+    match need(bits, 0) {
+        Need::Length(count) => match read_unit(bits, 0, count) {
+            Ok(read) => is_unit(&read, unit, bits),
+            Err(_) => false,
+        },
+        _ => false,
+    }
 }
 
-// The first thousand units.
-#[test]
-fn units_are_read(rt: HostRuntime) {
+// How many bits are inverted of the first units, where each reads as itself; else none.
+fn flips_read(units: u32) -> u64
+    requires { units ≤ 10000 }
+{
     let mut sampler = Sampler::new();
     let mut bits = BitBuf::new();
     let mut flips = 0;
-    for number in 0..1_000_u32 {
+    for _given in 0..units {
         let unit = sampler.next(&mut bits);
-        assert!(rt; reads_again(&unit, &bits), "unit {number}");
-        flips += unit.flips;
+        if !reads_again(&unit, &bits) {
+            return 0;
+        }
+        flips += u64::from(unit.flips);
     }
-    assert_eq!(rt; flips, 39_735);
+    flips
+}
+
+#[test]
+fn units_are_read(rt: HostRuntime) {
+    assert_eq!(rt; flips_read(1_000), 39_735);
 }
