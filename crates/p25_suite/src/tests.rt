@@ -3,14 +3,14 @@
 mod calls;
 mod damaged;
 mod drawn;
-mod fragments;
 mod duplex;
+mod fragments;
 mod packets;
 mod refusals;
 mod samples;
 mod script;
-mod stations;
 mod soft;
+mod stations;
 mod voice;
 mod world;
 

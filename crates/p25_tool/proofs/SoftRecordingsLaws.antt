@@ -31,7 +31,6 @@ use Rattle.p25_tool.specs.SoftLevels.{filled, grouped, item_softened, octet_leve
 use Rattle.p25_tool.specs.Softs.{IsHeardAmong, IsHolding, PutSoftItem, SoftParts, first_level, is_even_packet, item_levels, soft_future, soft_future_by, soft_written}
 use Rattle.p25_tool.proofs.OctetsLaws.{whole_octets-append, whole_octets-few}
 use Rattle.p25_tool.proofs.SoftLevelsLaws.{filled-whole, grouped-ungrouped, grouped-whole, length-filled, length-grouped, scanned-append, scanned-split, ungrouped, ungrouped-none}
-
 use Rattle.p25_tool.proofs.SoftItemLaws.{changed-none, gone-there, holding-next, length-held, place-given, written-given}
 
 -- a level comes

@@ -39,6 +39,7 @@ duplex_event_long line long = rw (is_more 8192 (length line) long) refl
 
 pub duplex_long : (d : DuplexState) (line : List ℕ) → 8192 < length line → duplex_rules.answer d line ≡ Err Long
 duplex_long d line long = ap (answer_from told_duplex d) (duplex_event_long line long)
+
 long_event_long : (line : List ℕ) → 8192 < length line → long_event_of line ≡ Err Long
 unfolding long_event_of words_or_fault
 long_event_long line long = rw (is_more 8192 (length line) long) refl
