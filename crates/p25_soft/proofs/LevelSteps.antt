@@ -23,13 +23,23 @@ pub hard-10 : (level : ℤ) → FitsSigned w8 level → int_le (pos 64) (to_z w8
     → int_le (negsuc 63) (to_z w8 (of_z w8 level)) ≡ true → 2 ≡ hard_dibit level
 unfolding hard_dibit
 hard-10 level fits one two three =
-    sym (cond-false (int_le (pos 64) level) 1 _ (test_of (pos 64) level false fits one) ∙ cond-false (int_le (pos 0) level) 0 _ (test_of (pos 0) level false fits two) ∙ cond-true (int_le (negsuc 63) level) 2 3 (test_of (negsuc 63) level true fits three))
+    sym
+    (
+    cond-false (int_le (pos 64) level) 1 _ (test_of (pos 64) level false fits one)
+    ∙ cond-false (int_le (pos 0) level) 0 _ (test_of (pos 0) level false fits two)
+    ∙ cond-true (int_le (negsuc 63) level) 2 3 (test_of (negsuc 63) level true fits three)
+    )
 
 pub hard-11 : (level : ℤ) → FitsSigned w8 level → int_le (pos 64) (to_z w8 (of_z w8 level)) ≡ false → int_le (pos 0) (to_z w8 (of_z w8 level)) ≡ false
     → int_le (negsuc 63) (to_z w8 (of_z w8 level)) ≡ false → 3 ≡ hard_dibit level
 unfolding hard_dibit
 hard-11 level fits one two three =
-    sym (cond-false (int_le (pos 64) level) 1 _ (test_of (pos 64) level false fits one) ∙ cond-false (int_le (pos 0) level) 0 _ (test_of (pos 0) level false fits two) ∙ cond-false (int_le (negsuc 63) level) 2 3 (test_of (negsuc 63) level false fits three))
+    sym
+    (
+    cond-false (int_le (pos 64) level) 1 _ (test_of (pos 64) level false fits one)
+    ∙ cond-false (int_le (pos 0) level) 0 _ (test_of (pos 0) level false fits two)
+    ∙ cond-false (int_le (negsuc 63) level) 2 3 (test_of (negsuc 63) level false fits three)
+    )
 
 -- two levels are at most 255 apart
 pub apart-le : (level nominal : ℤ) → FitsSigned w8 level → FitsSigned w8 nominal → unsigned_abs (level -ℤ nominal) ≤ 255

@@ -5,5 +5,6 @@ pub mod WordsLaws
 pub mod CommandsLaws
 pub mod RunsLaws
 pub mod SoftLevelsLaws
+pub mod SoftItemLaws
 pub mod SoftRecordingsLaws
 pub mod SoftHearingLaws

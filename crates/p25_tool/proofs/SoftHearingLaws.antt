@@ -1,5 +1,5 @@
 -- What a scanner holds after one more level: the bits of the last group behind those that it held, where the level fills one.
-use Rattle.std.proofs.Common.{◌≡◌, ◌≢◌, ℕ, ◌+◌, ◌-◌, ◌*◌, ◌/◌, ◌%◌, ◌^◌, ◌<◌, ◌≤◌, Bool, true, false, List, [], ◌∷◌, ◌++◌, length, drop, map, get_or, refl, ap, ap₂, sym, ◌∙◌, arith, append_assoc, append-nil, length-append, ℤ, pos}
+use Rattle.std.proofs.Common.{◌≡◌, ◌≢◌, ℕ, ◌+◌, ◌-◌, ◌*◌, ◌%◌, ◌^◌, ◌<◌, ◌≤◌, Bool, true, false, List, [], ◌∷◌, ◌++◌, length, drop, map, get_or, refl, ap, ap₂, sym, ◌∙◌, arith, length-append, ℤ, pos}
 use Rattle.std.proofs.lemmas.List.{drop-append-le}
 use Rattle.p25_bits.specs.Bits.{bits_of, part}
 use Rattle.p25_bits.specs.Numbers.{number_bits}
@@ -67,7 +67,8 @@ four-levels (a ∷ b ∷ c ∷ d ∷ []) long = refl
 four-levels (a ∷ b ∷ c ∷ d ∷ e ∷ levels) long = absurd (omega arith)
 
 -- the bits of four levels
-pub group-bits : (levels : List ℤ) (a b c d octet : ℕ) → length levels ≡ 4 → a ≡ hard_dibit (get_or levels 0 (pos 0)) → b ≡ hard_dibit (get_or levels 1 (pos 0)) → c ≡ hard_dibit (get_or levels 2 (pos 0)) → d ≡ hard_dibit (get_or levels 3 (pos 0))
+pub group-bits : (levels : List ℤ) (a b c d octet : ℕ) → length levels ≡ 4 → a ≡ hard_dibit (get_or levels 0 (pos 0)) → b ≡ hard_dibit (get_or levels 1 (pos 0))
+    → c ≡ hard_dibit (get_or levels 2 (pos 0)) → d ≡ hard_dibit (get_or levels 3 (pos 0))
     → b < 4 → c < 4 → d < 4 → octet ≡ 64 * a + 16 * b + 4 * c + d → bits_of 8 octet ≡ hard_bits levels
 unfolding hard_bits
 group-bits levels a b c d octet long ha hb hc hd fb fc fd is =

@@ -1,10 +1,8 @@
 -- Levels in whole groups of four: what is scanned of levels that are joined, and the bits of those of whole groups.
-use Rattle.std.proofs.Common.{◌≡◌, ◌≢◌, ℕ, ◌+◌, ◌-◌, ◌*◌, ◌/◌, ◌%◌, ◌<◌, ◌≤◌, inl, inr, Bool, true, false, List, [], ◌∷◌, ◌++◌, length, take, drop, map, replicate, refl, ap, ap₂, sym, ◌∙◌, arith, append_assoc, append-nil, length-append, length-drop, ℤ, pos}
+use Rattle.std.proofs.Common.{◌≡◌, ◌≢◌, ◌+◌, ◌-◌, ◌*◌, ◌/◌, ◌%◌, ◌<◌, ◌≤◌, Bool, true, false, List, [], ◌∷◌, ◌++◌, length, take, drop, replicate, refl, ap, ap₂, sym, ◌∙◌, arith, append_assoc, append-nil, length-append, length-drop, ℤ, pos}
 use Rattle.std.proofs.Math.Seq.{take-append-add}
-use Rattle.std.proofs.lemmas.List.{take-append-drop, length-take-le, length-replicate, take_all, drop-append-le, take-append-le, nil_from_length, drop_at, drop_all}
+use Rattle.std.proofs.lemmas.List.{take-append-drop, length-take-le, length-replicate, take_all, take-append-le, drop_all}
 use Rattle.p25_bits.specs.Bits.{part}
-use Rattle.p25_soft.specs.Levels.{hard_bits}
-use Rattle.p25_soft.proofs.HardBitsLaws.{hard_bits-append, length-hard_bits}
 use Rattle.p25_tool.specs.SoftLevels.{filled, grouped, scanned}
 
 -- what is scanned of whole groups and others behind them

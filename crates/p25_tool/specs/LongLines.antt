@@ -1,6 +1,6 @@
 -- Lines that are too long are refused: the laws of the machines over lines.
-use Rattle.std.specs.Prelude.{◌≡◌, ℕ, ◌<◌, nat_lt, true, List, length, Err}
-use Rattle.std.proofs.Common.{refl, ap, arith}
+use Rattle.std.specs.Prelude.{◌≡◌, ℕ, ◌<◌, List, length, Err}
+use Rattle.std.proofs.Common.{refl, ap}
 use Rattle.p25_line.specs.declared.fault.LineFault.TheVariants.{Long}
 use Rattle.p25_line.specs.Words.{words_or_fault}
 use Rattle.p25_text.specs.Grammar.{read_line_of}

@@ -1,5 +1,5 @@
 -- The levels of a soft recording, and the bits of its items.
-use Rattle.std.specs.Prelude.{ℕ, ◌+◌, ◌-◌, ◌*◌, ◌/◌, ◌%◌, Bool, false, ◌&&◌, cond, nat_eq, List, ◌++◌, length, take, replicate, ℤ, pos}
+use Rattle.std.specs.Prelude.{ℕ, ◌-◌, ◌*◌, ◌/◌, ◌%◌, Bool, cond, nat_eq, List, ◌++◌, length, take, replicate, ℤ, pos}
 use Rattle.std.specs.Int.{w8, cast_signed}
 use Rattle.p25_bits.specs.Bits.{part}
 use Rattle.p25_soft.specs.Softened.{softened}

@@ -1,5 +1,5 @@
 -- The work of `soft`: what it still writes, for any levels that may still come.
-use Rattle.std.specs.Prelude.{◌≡◌, ℕ, ◌+◌, ◌-◌, ◌*◌, ◌/◌, ◌%◌, ◌≤◌, Bool, true, false, ◌&&◌, cond, nat_eq, List, [], ◌++◌, length, drop, map, ℤ, Option, Some, None}
+use Rattle.std.specs.Prelude.{◌≡◌, ℕ, ◌+◌, ◌-◌, ◌*◌, ◌/◌, ◌%◌, ◌≤◌, Bool, true, false, ◌&&◌, cond, nat_eq, List, [], ◌++◌, length, drop, map, ℤ, Some, None}
 use Rattle.p25_bits.specs.Bits.{part}
 use Rattle.p25_units.specs.Items.{covered, place_of}
 use Rattle.p25_units.specs.declared.item.Item.{Item}
@@ -12,7 +12,7 @@ use Rattle.p25_work.specs.Futures.{Future}
 use Rattle.p25_work.specs.declared.ending.Ending.TheVariants.{Done}
 use Rattle.p25_tool.specs.Commands.{unfilled}
 use Rattle.p25_tool.specs.Outputs.{changed_bits, whole_octets}
-use Rattle.p25_tool.specs.SoftLevels.{filled, grouped, item_softened, octet_level, scanned}
+use Rattle.p25_tool.specs.SoftLevels.{grouped, item_softened, octet_level, scanned}
 
 -- the bits that a scanner holds, the levels from that of a whole group before them on, and the bits that are kept back
 pub record SoftParts : Type 0 where

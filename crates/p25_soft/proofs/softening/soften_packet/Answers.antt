@@ -22,7 +22,8 @@ returns-clause-bits c =
     c.unweave.ensures.plain
     c.unweave.ensures.statuses
     c.told_blocks-blocks.ensures.value
-    (softened_plain-from fields levels n c.len-2.result plain c.new-softened.result c.append.new.self c.append_blocks-count.new.out c.append-2.new.self c.new-softened.ensures c.append.ensures.list c.append_blocks-count.ensures.list c.len-2.ensures.value c.append-2.ensures.list)
+    (softened_plain-from fields levels n c.len-2.result plain c.new-softened.result c.append.new.self c.append_blocks-count.new.out c.append-2.new.self
+    c.new-softened.ensures c.append.ensures.list c.append_blocks-count.ensures.list c.len-2.ensures.value c.append-2.ensures.list)
     c.weave.ensures.list
 
 pub returns-clause-kept : goal.returns-clause-kept

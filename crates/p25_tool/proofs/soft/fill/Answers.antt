@@ -1,4 +1,4 @@
-use Rattle.std.proofs.Common.{◌≡◌, ◌≢◌, ℕ, ◌+◌, ◌-◌, ◌*◌, ◌/◌, ◌%◌, ◌^◌, ◌<◌, [], ◌∷◌, ◌++◌, List, length, replicate, refl, ap, sym, ◌∙◌, arith, append_assoc, append-nil, length-append, ℤ, pos}
+use Rattle.std.proofs.Common.{◌≡◌, ◌≢◌, ◌+◌, ◌-◌, ◌%◌, ◌^◌, ◌<◌, [], ◌∷◌, ◌++◌, List, length, replicate, refl, ap, sym, ◌∙◌, arith, append_assoc, append-nil, length-append, ℤ, pos}
 use Rattle.std.proofs.lemmas.List.{replicate-append-replicate}
 use Rattle.p25_stream.specs.Scan.{Scan, given}
 use Rattle.p25_tool.specs.SoftLevels.{filled}

@@ -1,9 +1,9 @@
-use Rattle.std.proofs.Common.{◌≡◌, ◌≢◌, ℕ, ◌-◌, ◌%◌, ◌<◌, [], ◌∷◌, ◌++◌, List, length, ap, ap₂, sym, subst, ◌∙◌, arith, ℤ, to_z, of_z, w8}
+use Rattle.std.proofs.Common.{◌≡◌, ◌≢◌, ◌-◌, ◌%◌, [], ◌∷◌, ◌++◌, List, length, ap, ap₂, sym, subst, ◌∙◌, arith, ℤ, to_z, of_z, w8}
 use Rattle.p25_bits.specs.Bits.{bits_of, part}
 use Rattle.p25_soft.specs.Levels.{hard_bits}
 use Rattle.p25_tool.specs.Softs.{IsHolding}
 use Rattle.p25_tool.proofs.SoftLevelsLaws.{length-grouped}
-use Rattle.p25_tool.proofs.SoftRecordingsLaws.{length-held}
+use Rattle.p25_tool.proofs.SoftItemLaws.{length-held}
 use Rattle.p25_tool.proofs.SoftHearingLaws.{holding-group, holding-open}
 use Rattle.p25_tool.proofs.soft.hear.Goals as goal
 

@@ -3,7 +3,7 @@ use Rattle.p25_bits.specs.Bits.{part}
 use Rattle.p25_units.specs.Items.{place_of}
 use Rattle.p25_soft.specs.Softened.{softened}
 use Rattle.p25_tool.specs.Softs.{first_level, is_even_packet}
-use Rattle.p25_tool.proofs.SoftRecordingsLaws.{softened-even, softened-uneven}
+use Rattle.p25_tool.proofs.SoftItemLaws.{softened-even, softened-uneven}
 use Rattle.p25_tool.proofs.soft.soften_item.Goals as goal
 
 pub returns-then-not-is_even_packet-clause-list : goal.returns-then-not-is_even_packet-clause-list

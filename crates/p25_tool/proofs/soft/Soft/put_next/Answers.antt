@@ -1,4 +1,4 @@
-use Rattle.std.proofs.Common.{◌≡◌, ◌++◌, ◌+◌, ◌-◌, ◌^◌, ◌<◌, ◌≤◌, [], List, Bool, Option, Some, drop, subst, sym, arith, ℕ, ℤ}
+use Rattle.std.proofs.Common.{◌≡◌, ◌++◌, ◌+◌, ◌-◌, [], List, Bool, Option, Some, drop, subst, sym, arith, ℕ, ℤ}
 use Rattle.std.specs.Prelude.{MatchOption}
 use Rattle.p25_units.specs.declared.item.Item.{Item}
 use Rattle.p25_units.specs.Items.{covered, place_of}
@@ -8,7 +8,8 @@ use Rattle.p25_tool.specs.Outputs.{whole_octets}
 use Rattle.p25_tool.specs.SoftLevels.{item_softened}
 use Rattle.p25_tool.specs.Softs.{IsHolding, PutSoftItem, SoftParts, first_level}
 use Rattle.p25_tool.proofs.SoftLevelsLaws.{length-grouped}
-use Rattle.p25_tool.proofs.SoftRecordingsLaws.{PutSoftItem-from, gone-given, heard-given, holding-next, length-held, place-given, step-size}
+use Rattle.p25_tool.proofs.SoftItemLaws.{gone-given, heard-given, holding-next, length-held, place-given}
+use Rattle.p25_tool.proofs.SoftRecordingsLaws.{PutSoftItem-from, step-size}
 use Rattle.p25_tool.proofs.soft.Soft.put_next.Goals as goal
 
 -- what a scanner gave

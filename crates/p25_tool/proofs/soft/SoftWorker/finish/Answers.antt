@@ -1,4 +1,4 @@
-use Rattle.std.proofs.Common.{◌≡◌, ◌+◌, ◌^◌, ◌<◌, true, false, [], length, refl, ap, subst, sym, ◌∙◌, arith}
+use Rattle.std.proofs.Common.{◌≡◌, ◌+◌, ◌^◌, ◌<◌, false, [], length, refl, ap, subst, sym, ◌∙◌, arith}
 use Rattle.p25_stream.specs.Scan.{Scan, given}
 use Rattle.p25_work.specs.Futures.{IsClosed}
 use Rattle.p25_tool.specs.Softs.{SoftParts, first_level, soft_future}
@@ -21,8 +21,7 @@ pub invariant_of-self : goal.invariant_of-self
 invariant_of-self c =
     let s = c.self.inside in
     let few : first_level s.scanner.place + length s.levels < 2 ^ 28 = subst (λ (r : SoftParts). first_level r.scan.place + length r.levels < 2 ^ 28) (sym c.self.view_is) c.requires.few in
-    let place = ap (λ (t : Scan). t.place) c.finish.ensures in
-    (
+    let place = ap (λ (t : Scan). t.place) c.finish.ensures in (
       holding-finish c.fill.new.scanner c.finish.new.self c.fill.new.levels c.fill.ensures.holding c.fill.ensures.full c.finish.ensures,
       c.self.invariant.1,
       omega (arith, few, place, c.fill.ensures.place, c.fill.ensures.few),

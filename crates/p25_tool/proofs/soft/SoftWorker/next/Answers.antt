@@ -1,7 +1,7 @@
-use Rattle.std.proofs.Common.{◌≡◌, ◌+◌, ◌≤◌, ◌<◌, [], length, refl, sym, subst, arith}
+use Rattle.std.proofs.Common.{◌≡◌, ◌<◌, [], length, refl, subst, arith}
 use Rattle.p25_stream.specs.Scan.{given}
 use Rattle.p25_work.specs.Futures.{NextPiece}
-use Rattle.p25_tool.specs.Softs.{IsHolding, SoftParts, first_level, soft_future}
+use Rattle.p25_tool.specs.Softs.{IsHolding, SoftParts}
 use Rattle.p25_tool.proofs.SoftRecordingsLaws.{step-idle, step-item, step-size}
 use Rattle.p25_tool.proofs.soft.SoftWorker.next.Goals as goal
 

@@ -1,4 +1,4 @@
-use Rattle.std.proofs.Common.{rules, ◌≡◌, ◌+◌, ◌^◌, ◌<◌, false, [], ◌∷◌, ◌++◌, length, refl, ap, subst, sym, ◌∙◌, arith, length-append, FitsSigned, to_z, of_z, w8}
+use Rattle.std.proofs.Common.{rules, ◌≡◌, ◌+◌, ◌^◌, ◌<◌, false, [], ◌∷◌, length, refl, ap, subst, sym, ◌∙◌, arith, length-append, FitsSigned, to_z, of_z, w8}
 use Rattle.std.proofs.lemmas.Int.{to_z-of_z}
 use Rattle.p25_stream.specs.Scan.{given}
 use Rattle.p25_work.specs.Futures.{Progress}
@@ -19,8 +19,7 @@ hear-requires-clause-holding c = c.self.invariant.0
 pub invariant_of-self : goal.invariant_of-self
 invariant_of-self c =
     let s = c.self.inside in
-    let few : first_level s.scanner.place + length s.levels < 2 ^ 28 = subst (λ (r : SoftParts). first_level r.scan.place + length r.levels < 2 ^ 28) (sym c.self.view_is) c.requires.few in
-    (
+    let few : first_level s.scanner.place + length s.levels < 2 ^ 28 = subst (λ (r : SoftParts). first_level r.scan.place + length r.levels < 2 ^ 28) (sym c.self.view_is) c.requires.few in (
       c.hear.ensures.holding,
       c.self.invariant.1,
       omega (arith, few, c.hear.ensures.place, ap length c.hear.ensures.list, length-append s.levels (to_z w8 (of_z w8 c.cast_signed.result) ∷ [])),
