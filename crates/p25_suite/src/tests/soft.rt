@@ -1,6 +1,8 @@
 //! Soft recordings: units built from lines, their levels changed, and what `soft` and `show` make of them in pieces of 1, of 3 and of
 //! all octets.
 
+ghost use Rattle.std.specs.Prelude.{◌≡◌, length};
+
 use super::{build, words_of};
 use p25_io::{MemorySource, SliceSink, SteadySource};
 use p25_tool::{Outcome, run};
@@ -99,7 +101,9 @@ fn dibit_of(level: u8) -> u8 {
 }
 
 // Puts so many bits 0 before octets.
-fn shifted(octets: &[u8; 128], shift: usize) -> [u8; 128] {
+fn shifted(octets: &[u8; 128], shift: usize) -> [u8; 128]
+    ensures { length result ≡ 128 }
+{
     let mut out = [0; 128];
     for place in 0..1024 {
         if place >= shift && shift < 8 {
@@ -112,7 +116,9 @@ fn shifted(octets: &[u8; 128], shift: usize) -> [u8; 128] {
 }
 
 // The octets of the levels of octets.
-fn levels_of(octets: &[u8; 128]) -> [u8; 512] {
+fn levels_of(octets: &[u8; 128]) -> [u8; 512]
+    ensures { length result ≡ 512 }
+{
     let mut levels = [0; 512];
     for i in 0..512 {
         levels[i] = level_of((octets[i / 4] >> (6 - 2 * (i % 4))) & 3);
@@ -121,7 +127,9 @@ fn levels_of(octets: &[u8; 128]) -> [u8; 512] {
 }
 
 // The octets of the dibits that levels are nearest to.
-fn hard_of(levels: &[u8; 512]) -> [u8; 128] {
+fn hard_of(levels: &[u8; 512]) -> [u8; 128]
+    ensures { length result ≡ 128 }
+{
     let mut octets = [0; 128];
     for i in 0..512 {
         octets[i / 4] |= dibit_of(levels[i]) << (6 - 2 * (i % 4));
@@ -147,7 +155,7 @@ fn does(alloc: Global, word: &[u8], input: &[u8], output: &[u8]) -> bool {
 // Whether a row holds. A voice unit is broken by six words of zeros behind its identifier.
 fn holds(alloc: Global, row: &Row) -> bool {
     let mut room = [0; 128];
-    let size = build(alloc, b"0", row.1, &mut room) + row.2.min(1);
+    let size = build(alloc, b"0", row.1, &mut room).min(128) + row.2.min(1);
     if size > 128 || size < 20 {
         return false;
     }
@@ -164,9 +172,14 @@ fn holds(alloc: Global, row: &Row) -> bool {
         }
     }
     let hard = hard_of(&levels);
-    let output = if row.5 { &sent } else { &hard };
-    does(alloc, b"show", &hard[..size], row.4)
-        && does(alloc, b"soft", &levels[..4 * size], &output[..size])
+    if !does(alloc, b"show", &hard[..size], row.4) {
+        return false;
+    }
+    if row.5 {
+        does(alloc, b"soft", &levels[..4 * size], &sent[..size])
+    } else {
+        does(alloc, b"soft", &levels[..4 * size], &hard[..size])
+    }
 }
 
 #[test]
@@ -182,7 +195,9 @@ const TERMINATOR: [u8; 18] = [
 ];
 
 // The levels of a terminator.
-fn terminator_levels() -> [u8; 512] {
+fn terminator_levels() -> [u8; 512]
+    ensures { length result ≡ 512 }
+{
     let mut octets = [0; 128];
     octets[..18].copy_from_slice(&TERMINATOR);
     levels_of(&octets)
@@ -211,6 +226,10 @@ fn a_read_fails(rt: HostRuntime) {
         let mut sink = SliceSink::new(&mut room, &[]);
         let outcome = run(rt.alloc(), &words_of(&[b"soft"]), &mut source, &mut sink);
         assert_eq!(rt; outcome, Outcome::ReadFault, "failing at {call}");
-        assert_eq!(rt; sink.written(), &TERMINATOR[..count], "failing at {call}");
+        assert_eq!(rt;
+            sink.written(),
+            &TERMINATOR[..count.min(18)],
+            "failing at {call}"
+        );
     }
 }
