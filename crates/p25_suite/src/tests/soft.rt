@@ -203,32 +203,41 @@ fn terminator_levels() -> [u8; 512]
     levels_of(&octets)
 }
 
+// Whether `soft` makes such octets of so many of its levels.
+fn comes_of(alloc: Global, count: usize, output: &[u8]) -> bool {
+    let levels = terminator_levels();
+    does(alloc, b"soft", &levels[..count.min(512)], output)
+}
+
+// Whether a read of 75 of its levels that fails ends the call, behind so many octets.
+fn ends_at_a_fault(alloc: Global, call: u64, count: usize) -> bool {
+    let levels = terminator_levels();
+    let some = levels.len().min(75);
+    let fails = [call];
+    let mut source = MemorySource::new(&levels[..some], 1, &fails);
+    let mut room = [0; 32];
+    let mut sink = SliceSink::new(&mut room, &[]);
+    run(alloc, &words_of(&[b"soft"]), &mut source, &mut sink) == Outcome::ReadFault
+        && sink.written() == &TERMINATOR[..count.min(18)]
+}
+
 #[test]
 fn a_terminator_and_its_first_levels(rt: HostRuntime) {
-    let levels = terminator_levels();
-    assert!(rt; does(rt.alloc(), b"soft", &levels[..72], &TERMINATOR));
+    assert!(rt; comes_of(rt.alloc(), 72, &TERMINATOR));
     // The last group is filled by the dibit 00.
     let mut filled = TERMINATOR;
     filled[17] = 0;
-    assert!(rt; does(rt.alloc(), b"soft", &levels[..70], &filled));
-    assert!(rt; does(rt.alloc(), b"soft", &[], &[]));
+    assert!(rt; comes_of(rt.alloc(), 70, &filled));
+    assert!(rt; comes_of(rt.alloc(), 0, &[]));
 }
 
 // Behind a read fault only what whole groups of four levels decide is written, and nothing is filled.
 #[test]
 fn a_read_fails(rt: HostRuntime) {
-    let levels = terminator_levels();
     // Rows: the read that fails, and how many octets are written before.
     for (call, count) in [(1, 0), (71, 0), (72, 0), (73, 18), (75, 18)] {
-        let fails = [call];
-        let mut source = MemorySource::new(&levels[..75], 1, &fails);
-        let mut room = [0; 32];
-        let mut sink = SliceSink::new(&mut room, &[]);
-        let outcome = run(rt.alloc(), &words_of(&[b"soft"]), &mut source, &mut sink);
-        assert_eq!(rt; outcome, Outcome::ReadFault, "failing at {call}");
-        assert_eq!(rt;
-            sink.written(),
-            &TERMINATOR[..count.min(18)],
+        assert!(rt;
+            ends_at_a_fault(rt.alloc(), call, count),
             "failing at {call}"
         );
     }
