@@ -8,28 +8,49 @@ use p25_io::{MemorySource, SliceSink, SteadySource};
 use p25_tool::{Outcome, run};
 use std::alloc::Global;
 
+// What `soft` writes of a unit.
+#[derive(Drop)]
+enum Output {
+    // The bits as they were sent.
+    Sent,
+
+    // The bits of the dibits that the levels are nearest to.
+    Hard,
+
+    // The octets that were sent, but for those at some places.
+    Other(&'static [(usize, u8)]),
+}
+
 // A unit: what its row shows, its line, how many bits 0 stand before it, which levels become which octets, what `show` writes of the
-// hard bits, and whether the output is the bits as they were sent.
+// hard bits, and what `soft` writes.
 type Row = (
     &'static str,
     &'static [u8],
     usize,
     &'static [(usize, u8)],
     &'static [u8],
-    bool,
+    Output,
 );
 
 const CONFIRMED: &[u8] =
     b"confirmed nac=293 head=56c00000000181000800 blocks=00:00000000000000000000000000000000";
 
-const ROWS: [Row; 6] = [
+const ROWS: [Row; 7] = [
     (
         "a block is read from its levels",
         CONFIRMED,
         0,
         &[(164, 255), (165, 0)],
         b"broken at=0 bits=576 nac=293 duid=c fields=block.0\n",
-        true,
+        Output::Sent,
+    ),
+    (
+        "a block whose nearest path fails too becomes that path",
+        CONFIRMED,
+        0,
+        &[(164, 224), (165, 32)],
+        b"broken at=0 bits=576 nac=293 duid=c fields=block.0\n",
+        Output::Other(&[(41, 0x82), (48, 0xC8)]),
     ),
     (
         "only the block that fails is read from its levels",
@@ -37,7 +58,7 @@ const ROWS: [Row; 6] = [
         0,
         &[(265, 255), (266, 0)],
         b"broken at=0 bits=720 nac=293 duid=c fields=block.1\n",
-        true,
+        Output::Sent,
     ),
     (
         "both blocks of a packet whose CRC fails are read from their levels",
@@ -52,7 +73,7 @@ const ROWS: [Row; 6] = [
             (285, 255),
         ],
         b"broken at=0 bits=720 nac=293 duid=c fields=packet_crc\n",
-        true,
+        Output::Sent,
     ),
     (
         "a block behind two bits is read from its levels",
@@ -60,7 +81,7 @@ const ROWS: [Row; 6] = [
         2,
         &[(165, 255), (166, 0)],
         b"gap at=0 bits=2\nbroken at=2 bits=576 nac=293 duid=c fields=block.0\ngap at=578 bits=6\n",
-        true,
+        Output::Sent,
     ),
     (
         "a block at an odd place stays as it is",
@@ -68,7 +89,7 @@ const ROWS: [Row; 6] = [
         1,
         &[(164, 96), (165, 0)],
         b"gap at=0 bits=1\nbroken at=1 bits=576 nac=293 duid=c fields=block.0\ngap at=577 bits=7\n",
-        false,
+        Output::Hard,
     ),
     (
         "a broken voice unit stays as it is",
@@ -76,7 +97,7 @@ const ROWS: [Row; 6] = [
         0,
         &[],
         b"broken at=0 bits=432 nac=293 duid=f fields=link_control\n",
-        false,
+        Output::Hard,
     ),
 ];
 
@@ -152,6 +173,25 @@ fn does(alloc: Global, word: &[u8], input: &[u8], output: &[u8]) -> bool {
     true
 }
 
+// What `soft` writes, from the octets that were sent and those that are nearest.
+fn written(output: &Output, sent: &[u8; 128], hard: &[u8; 128]) -> [u8; 128]
+    ensures { length result ≡ 128 }
+{
+    match output {
+        Output::Sent => *sent,
+        Output::Hard => *hard,
+        Output::Other(changed) => {
+            let mut octets = *sent;
+            for (place, octet) in *changed {
+                if *place < 128 {
+                    octets[*place] = *octet;
+                }
+            }
+            octets
+        }
+    }
+}
+
 // Whether a row holds. A voice unit is broken by six words of zeros behind its identifier.
 fn holds(alloc: Global, row: &Row) -> bool {
     let mut room = [0; 128];
@@ -175,11 +215,8 @@ fn holds(alloc: Global, row: &Row) -> bool {
     if !does(alloc, b"show", &hard[..size], row.4) {
         return false;
     }
-    if row.5 {
-        does(alloc, b"soft", &levels[..4 * size], &sent[..size])
-    } else {
-        does(alloc, b"soft", &levels[..4 * size], &hard[..size])
-    }
+    let output = written(&row.5, &sent, &hard);
+    does(alloc, b"soft", &levels[..4 * size], &output[..size])
 }
 
 #[test]
