@@ -1,6 +1,6 @@
 //! Values computed apart from this code, and each call once.
 
-use super::{Line, LineFault, WordList, hex_value, number_value, words_of};
+use super::{Line, LineFault, WordList, comma_part, hex_value, is_dash, number_value, words_of};
 use std::test::Fail;
 
 #[test]
@@ -66,6 +66,27 @@ fn values_of_words(rt: HostRuntime) {
     ];
     for (word, most, number) in rows {
         assert_eq!(rt; number_value(word, most), number);
+    }
+}
+
+// The part of a word that begins at a place, and whether the part is `-`.
+#[test]
+fn parts_of_lists(rt: HostRuntime) {
+    let rows: [(&[u8], usize, &[u8], bool); 8] = [
+        (b"3,14,15", 0, b"3", false),
+        (b"3,14,15", 2, b"14", false),
+        (b"3,14,15", 5, b"15", false),
+        (b"3,", 2, b"", false),
+        (b",3", 0, b"", false),
+        (b"", 0, b"", false),
+        (b"-", 0, b"-", true),
+        (b"--", 0, b"--", false),
+    ];
+    for (word, start, part, dash) in rows {
+        assert!(rt; start <= word.len());
+        let found = comma_part(word, start);
+        assert_eq!(rt; found, part);
+        assert_eq!(rt; is_dash(found), dash);
     }
 }
 
