@@ -11,7 +11,7 @@ use Rattle.p25_calls.specs.declared.seen.UnitSeen.{UnitSeen}
 use Rattle.p25_calls.specs.Seen.{is_link_unit, is_terminator, is_voice, unit_end, unit_of, whole_unit, broken_unit}
 use Rattle.p25_calls.specs.Calls.{call_of}
 use Rattle.p25_calls.specs.Taking.{IsPending, broken_off, call_of_one, ended_call, extended, goes_on, if_linked, pending_run, run_with, terminated}
-use Rattle.p25_calls.proofs.TakingLaws.{alone-end, alone-nac}
+use Rattle.p25_calls.proofs.LastRunLaws.{alone-end, alone-nac}
 
 -- a unit ends where its item does
 some-same : (a b : UnitSeen) → ◌≡◌ {A = Option UnitSeen} (Some a) (Some b) → a ≡ b

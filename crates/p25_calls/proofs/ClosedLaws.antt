@@ -6,7 +6,7 @@ use Rattle.p25_calls.specs.Seen.{is_break, is_terminator}
 use Rattle.p25_calls.specs.Runs.{Run, closed_runs, last_of, last_unit, run_from, runs_of, units_in, with_unit}
 use Rattle.p25_calls.specs.CallLaws.{ClosedStay}
 use Rattle.p25_calls.proofs.RunsLaws.{runs_of-begins, runs_of-run, with_unit-break, with_unit-joins}
-use Rattle.p25_calls.proofs.TakingLaws.{cut-terminator}
+use Rattle.p25_calls.proofs.EndedLaws.{cut-terminator}
 
 -- some runs begin with the closed ones of others
 record Stay (runs all : List Run) : Type 0 where

@@ -1,6 +1,8 @@
 pub mod RunsLaws
 pub mod DividedLaws
 pub mod CallLaws
+pub mod LastRunLaws
+pub mod EndedLaws
 pub mod TakingLaws
 pub mod ClosedLaws
 pub mod LieLaws

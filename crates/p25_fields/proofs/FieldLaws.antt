@@ -16,7 +16,7 @@ use Rattle.p25_link.proofs.SymbolsLaws.{length-symbol_bits, symbols_in-symbol_bi
 use Rattle.p25_fields.specs.Layouts.{Layout, places_from, sent_in, field_bits}
 use Rattle.p25_fields.specs.Written.{Encodes, IsWritten}
 use Rattle.p25_fields.specs.Within.{HasField}
-use Rattle.p25_fields.proofs.SymbolsSteps.{room_at, symbols_in-take}
+use Rattle.p25_fields.proofs.SymbolsLaws.{room_at, symbols_in-take}
 
 -- places a step apart
 pub places_from-suc : (at step count : ℕ) → places_from at step (suc count) ≡ at ∷ places_from (at + step) step count

@@ -1,5 +1,5 @@
-pub mod SymbolsSteps
-pub mod ReadSteps
+pub mod SymbolsLaws
+pub mod ReadLaws
 pub mod WrittenLaws
 pub mod WithinLaws
 pub mod FieldLaws

@@ -20,8 +20,8 @@ use Rattle.p25_link.specs.Symbols.{symbols_in}
 use Rattle.p25_link.proofs.SymbolsLaws.{length-symbols_in}
 use Rattle.p25_fields.specs.Layouts.{Layout, marks_of, received_in, outer_word_of, field_reading_of, sent_in}
 use Rattle.p25_fields.specs.Within.{HasField, IsFieldNear, lost_symbols, HasCodes}
-use Rattle.p25_fields.proofs.ReadSteps.{marks_of-some, marks_of-none}
-use Rattle.p25_fields.proofs.SymbolsSteps.{one_more}
+use Rattle.p25_fields.proofs.ReadLaws.{marks_of-some, marks_of-none}
+use Rattle.p25_fields.proofs.SymbolsLaws.{one_more}
 
 -- an inner word gives as many symbols or marks as it carries
 pub length-marks_of : (each : ℕ) (word : Option (List Bool)) → length (marks_of each word) ≡ each

@@ -14,7 +14,7 @@ use Rattle.p25_link.specs.Symbols.{symbol_bits}
 use Rattle.p25_fields.specs.Layouts.{field_bits}
 use Rattle.p25_fields.specs.Written.{Encodes, IsPut, IsWritten}
 use Rattle.p25_link.proofs.SymbolsLaws.{length-symbol_bits}
-use Rattle.p25_fields.proofs.SymbolsSteps.{one_more, room_at}
+use Rattle.p25_fields.proofs.SymbolsLaws.{one_more, room_at}
 
 -- a word that was put as the number that it writes
 pub word_put : (old new word : List Bool) (width value n : ℕ) → new ≡ old ++ bits_of width value → width ≡ n → length word ≡ n → value ≡ field_of word → new ≡ old ++ word

@@ -4,3 +4,7 @@ pub mod HexLaws
 pub mod ValuesSteps
 pub mod JoinLaws
 pub mod DecimalLaws
+pub mod CommaPartLaws
+pub mod CommaListLaws
+pub mod CommaReadLaws
+pub mod CommaWriteLaws

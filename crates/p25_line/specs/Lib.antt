@@ -1,3 +1,4 @@
 pub mod Marks
 pub mod Words
 pub mod Values
+pub mod CommaLists

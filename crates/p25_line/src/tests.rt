@@ -1,6 +1,7 @@
 //! Values computed apart from this code, and each call once.
 
-use super::{Line, LineFault, WordList, hex_value, number_value, words_of};
+use super::{Line, LineFault, WordList, comma_part, hex_value, is_dash, number_value, words_of};
+use std::process::Abort;
 use std::test::Fail;
 
 #[test]
@@ -19,23 +20,29 @@ fn line_of_pieces(rt: HostRuntime) {
     );
 }
 
+// A line has so many words, or is refused.
+fn has_words(rt: &impl Abort, line: &[u8], answer: Result<(), LineFault>, count: usize) {
+    let mut words = WordList::new();
+    assert_eq!(rt; words_of(line, &mut words), answer);
+    assert_eq!(rt; words.count(), count);
+}
+
+const LINES: [(&[u8], Result<(), LineFault>, usize); 6] = [
+    (b"tdu nac=293", Ok(()), 2),
+    (b"a b c d e f g h i j k l m n o p q r", Ok(()), 18),
+    (b"tdu  nac=293", Err(LineFault::Form), 0),
+    (b"tdu ", Err(LineFault::Form), 0),
+    (b"", Err(LineFault::Form), 0),
+    (b"tdu\tnac=293", Err(LineFault::Form), 0),
+];
+
 #[test]
 fn words_of_lines(rt: HostRuntime) {
     let long = [b'a'; 8_193];
-    let rows: [(&[u8], Result<(), LineFault>, usize); 8] = [
-        (b"tdu nac=293", Ok(()), 2),
-        (b"a b c d e f g h i j k l m n o p q r", Ok(()), 18),
-        (&long[..8_192], Ok(()), 1),
-        (&long, Err(LineFault::Long), 0),
-        (b"tdu  nac=293", Err(LineFault::Form), 0),
-        (b"tdu ", Err(LineFault::Form), 0),
-        (b"", Err(LineFault::Form), 0),
-        (b"tdu\tnac=293", Err(LineFault::Form), 0),
-    ];
-    for (line, answer, count) in rows {
-        let mut words = WordList::new();
-        assert_eq!(rt; words_of(line, &mut words), answer);
-        assert_eq!(rt; words.count(), count);
+    has_words(&rt, &long[..8_192], Ok(()), 1);
+    has_words(&rt, &long, Err(LineFault::Long), 0);
+    for (line, answer, count) in &LINES {
+        has_words(&rt, line, *answer, *count);
     }
 }
 
@@ -49,6 +56,15 @@ fn second_word(rt: HostRuntime) -> Result<(), Fail> {
     Ok(())
 }
 
+const NUMBERS: [(&[u8], u64, Option<u64>); 6] = [
+    (b"10001", 10_000, None),
+    (b"10000", 10_000, Some(10_000)),
+    (b"007", 10_000, None),
+    (b"0", 10_000, Some(0)),
+    (b"+7", 10_000, None),
+    (b"18446744073709551616", 18_446_744_073_709_551_615, None),
+];
+
 #[test]
 fn values_of_words(rt: HostRuntime) {
     let mut octets = [7];
@@ -56,31 +72,46 @@ fn values_of_words(rt: HostRuntime) {
     assert_eq!(rt; octets, [7]);
     assert_eq!(rt; hex_value(b"0a", &mut octets), true);
     assert_eq!(rt; octets, [10]);
-    let rows: [(&[u8], u64, Option<u64>); 6] = [
-        (b"10001", 10_000, None),
-        (b"10000", 10_000, Some(10_000)),
-        (b"007", 10_000, None),
-        (b"0", 10_000, Some(0)),
-        (b"+7", 10_000, None),
-        (b"18446744073709551616", 18_446_744_073_709_551_615, None),
-    ];
-    for (word, most, number) in rows {
-        assert_eq!(rt; number_value(word, most), number);
+    for (word, most, number) in &NUMBERS {
+        assert_eq!(rt; number_value(word, *most), *number);
     }
 }
 
+// A word, a place in it, the part that begins there, and whether that part is `-`.
+const PARTS: [(&[u8], usize, &[u8], bool); 8] = [
+    (b"3,14,15", 0, b"3", false),
+    (b"3,14,15", 2, b"14", false),
+    (b"3,14,15", 5, b"15", false),
+    (b"3,", 2, b"", false),
+    (b",3", 0, b"", false),
+    (b"", 0, b"", false),
+    (b"-", 0, b"-", true),
+    (b"--", 0, b"--", false),
+];
+
+#[test]
+fn parts_of_lists(rt: HostRuntime) {
+    for (word, start, part, dash) in &PARTS {
+        assert!(rt; *start <= word.len());
+        let found = comma_part(word, *start);
+        assert_eq!(rt; found, *part);
+        assert_eq!(rt; is_dash(found), *dash);
+    }
+}
+
+const FAULTS: [(LineFault, &str); 5] = [
+    (LineFault::Long, "long"),
+    (LineFault::Form, "form"),
+    (LineFault::Kind, "kind"),
+    (LineFault::Key, "key"),
+    (LineFault::Value, "value"),
+];
+
 #[test]
 fn fault_words(rt: HostRuntime) -> Result<(), Fail> {
-    let rows = [
-        (LineFault::Long, "long"),
-        (LineFault::Form, "form"),
-        (LineFault::Kind, "kind"),
-        (LineFault::Key, "key"),
-        (LineFault::Value, "value"),
-    ];
-    for (fault, word) in rows {
+    for (fault, word) in &FAULTS {
         let text = format!(in rt.alloc(); "{fault}")?;
-        assert_eq!(rt; text.as_str(), word);
+        assert_eq!(rt; text.as_str(), *word);
     }
     Ok(())
 }

@@ -2,7 +2,7 @@
 
 ghost use Rattle.std.specs.Prelude.{◌≡◌, ◌/◌, ◌<◌, ◌≤◌, false, length};
 ghost use Rattle.std.specs.Str.{bytes_eq};
-ghost use Rattle.p25_script.specs.CommaLists.{dash};
+ghost use Rattle.p25_line.specs.CommaLists.{dash};
 ghost use Rattle.p25_long_script.specs.LongScript.{long_message_in};
 
 use p25_fragments::LongMessage;

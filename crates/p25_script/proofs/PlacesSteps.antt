@@ -3,9 +3,9 @@ use Rattle.std.proofs.Common.{◌≡◌, ℕ, ◌<◌, true, false, List, [], �
 use Rattle.std.specs.Option.{option_map}
 use Rattle.std.specs.Str.{bytes_eq}
 use Rattle.std.proofs.lemmas.Bool.{cases_Bool, cond-true, cond-false}
-use Rattle.p25_script.specs.CommaLists.{dash, items_in, parts_from}
+use Rattle.p25_line.specs.CommaLists.{dash, entries_in, parts_from}
 use Rattle.p25_script.specs.Values.{is_ascending, place_in, places_in, where_ascending}
-use Rattle.p25_script.proofs.CommaSteps.{ItemsSoFar, ItemsSoFar-end, ItemsSoFar-more, list_in-parts}
+use Rattle.p25_line.proofs.CommaReadLaws.{EntriesSoFar, EntriesSoFar-end, EntriesSoFar-more, list_in-parts}
 use Rattle.p25_script.proofs.PlacesLaws.{is_ascending-more, next_place}
 
 -- whatever follows a place that is too low, the places do not ascend
@@ -20,15 +20,15 @@ not_ascending done place (Some items) low =
       | inr failed ↦ cond-false (is_ascending all) (Some all) None failed
     ]
 
-pub places_in-low : (word part : List ℕ) (start next : ℕ) (done : List ℕ) (place : ℕ) → bytes_eq word dash ≡ false → ItemsSoFar place_in word start done
+pub places_in-low : (word part : List ℕ) (start next : ℕ) (done : List ℕ) (place : ℕ) → bytes_eq word dash ≡ false → EntriesSoFar place_in word start done
     → parts_from word start ≡ part ∷ parts_from word next → place_in part ≡ Some place → place < next_place done → places_in word ≡ None
 places_in-low word part start next done place other so_far parts found low =
-    ap where_ascending (list_in-parts place_in word other ∙ ItemsSoFar-more place_in word part start next done place so_far parts found)
-    ∙ not_ascending done place (items_in place_in (parts_from word next)) low
+    ap where_ascending (list_in-parts place_in word other ∙ EntriesSoFar-more place_in word part start next done place so_far parts found)
+    ∙ not_ascending done place (entries_in place_in (parts_from word next)) low
 
 -- where no part is left, the places are those that were read
-pub places_in-end : (word : List ℕ) (start : ℕ) (done : List ℕ) → bytes_eq word dash ≡ false → ItemsSoFar place_in word start done → length word < start
+pub places_in-end : (word : List ℕ) (start : ℕ) (done : List ℕ) → bytes_eq word dash ≡ false → EntriesSoFar place_in word start done → length word < start
     → is_ascending done ≡ true → places_in word ≡ Some done
 places_in-end word start done other so_far past ascending =
-    ap where_ascending (list_in-parts place_in word other ∙ ItemsSoFar-end place_in word start done so_far past)
+    ap where_ascending (list_in-parts place_in word other ∙ EntriesSoFar-end place_in word start done so_far past)
     ∙ cond-true (is_ascending done) (Some done) None ascending

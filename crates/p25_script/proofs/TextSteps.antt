@@ -8,9 +8,9 @@ use Rattle.std.proofs.lemmas.Option.{get_or_from_slice_get}
 use Rattle.p25_bits.specs.Numbers.{joined_below, octets_from}
 use Rattle.p25_bits.proofs.NumbersLaws.{joined_below-more, length-numbers_from}
 use Rattle.p25_packet_blocks.specs.FlagOctets.{flag_octets}
-use Rattle.p25_script.specs.CommaLists.{comma_text}
+use Rattle.p25_line.specs.CommaLists.{comma_text}
 use Rattle.p25_script.specs.StepTexts.{serial_at}
-use Rattle.p25_script.proofs.CommaSteps.{join-more}
+use Rattle.p25_line.proofs.CommaWriteLaws.{join-more}
 
 -- the octets of flags stand first in what a selective retry carries
 pub flags-front : (flags : List Bool) → take (length flags / 8) (flag_octets flags) ≡ octets_from (length flags / 8) flags

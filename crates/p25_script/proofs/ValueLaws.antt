@@ -18,9 +18,9 @@ use Rattle.p25_line.proofs.HexLaws.{list_all-encode_lower, octets_of-encode_lowe
 use Rattle.p25_line.proofs.JoinLaws.{Lacks}
 use Rattle.p25_text.proofs.WordLaws.{digits-printed}
 use Rattle.p25_air_world.specs.Sound.{IsMessage}
-use Rattle.p25_script.specs.CommaLists.{comma_text, dash, list_in}
+use Rattle.p25_line.specs.CommaLists.{comma_text, dash, list_in}
 use Rattle.p25_script.specs.Values.{ArePlaces, has_digits_up_to, is_ascending, message_in, message_text, number_below, octets_up_to, place_in, places_in, places_text, where_ascending}
-use Rattle.p25_script.proofs.CommaListLaws.{AllFit, ItemLaws, list_in-text, text-list_in}
+use Rattle.p25_line.proofs.CommaListLaws.{AllFit, EntryLaws, list_in-text, text-list_in}
 use Rattle.p25_script.proofs.PlacesLaws.{increasing-is_ascending, is_ascending-increasing}
 
 -- ---- messages
@@ -221,7 +221,7 @@ pub place_in-decimal : (place : ℕ) → place < 25920 → place_in (decimal pla
 place_in-decimal place below = number_below-decimal 25920 place below (omega arith)
 
 -- what each place keeps
-pub place_laws : ItemLaws decimal place_in (λ place. place < 25920) all_ascii_digits
+pub place_laws : EntryLaws decimal place_in (λ place. place < 25920) all_ascii_digits
 place_laws = record {
   lacks = digits-comma;
   written = λ place below. decimal-digits place (omega (arith, below));

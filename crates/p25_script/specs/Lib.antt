@@ -1,4 +1,3 @@
-pub mod CommaLists
 pub mod Values
 pub mod Script
 pub mod StepTexts

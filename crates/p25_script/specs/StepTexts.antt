@@ -7,7 +7,7 @@ use Rattle.p25_air_world.specs.WorldState.{WorldState}
 use Rattle.p25_air_world.specs.declared.step.Step.{Step}
 use Rattle.p25_air_world.specs.declared.step.StepKind.{StepKind}
 use Rattle.p25_air_world.specs.declared.step.StepKind.TheVariants.{Taken, Busy, OfferDown, Resent, Idle, TimeoutDown, Reopened, Up, Nothing, Lost, Ignored, Delivered, SynHeard, Again, Kept, RefusedCrc, RefusedOrder, Acknowledged, LinkOpened, Retry, Repeat, AnswerDown}
-use Rattle.p25_script.specs.CommaLists.{comma_text}
+use Rattle.p25_line.specs.CommaLists.{comma_text}
 use Rattle.p25_script.specs.Script.{way_word}
 use Rattle.p25_script.specs.Values.{message_text}
 

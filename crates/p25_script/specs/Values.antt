@@ -5,7 +5,7 @@ use Rattle.std.specs.List.Sorted.{IsStrictlyIncreasing}
 use Rattle.std.specs.Str.{bytes_eq}
 use Rattle.hex.specs.Hex.{encode_lower}
 use Rattle.p25_line.specs.Values.{is_lower_digit, octets_of}
-use Rattle.p25_script.specs.CommaLists.{dash, list_in, list_text}
+use Rattle.p25_line.specs.CommaLists.{dash, list_in, list_text}
 
 -- ---- messages
 

@@ -16,13 +16,10 @@
 #![tactic(auto)]
 
 mod closing;
-mod comma_lists;
 mod laws;
 mod names;
 mod read;
 mod steps;
-#[cfg(test)]
-mod tests;
 mod values;
 
 pub use closing::{closing_text, put_count, put_sessions};

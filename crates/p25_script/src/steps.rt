@@ -2,7 +2,7 @@
 
 ghost use Rattle.std.specs.Prelude.{◌≡◌, ◌+◌, ◌*◌, ◌<◌, ◌≤◌, Bool, true, ◌++◌, [], ◌∷◌, length, cond, codes, decimal};
 ghost use Rattle.p25_air_world.specs.declared.step.StepKind.TheVariants.{Taken, Retry};
-ghost use Rattle.p25_script.specs.CommaLists.{comma_text};
+ghost use Rattle.p25_line.specs.CommaLists.{comma_text};
 ghost use Rattle.p25_script.specs.StepTexts.{flags_text, kind_text, serials_of, step_text_of};
 ghost use Rattle.p25_script.specs.Script.{way_word};
 ghost use Rattle.p25_script.specs.Values.{message_text};

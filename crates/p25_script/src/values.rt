@@ -2,11 +2,10 @@
 
 ghost use Rattle.std.specs.Prelude.{◌≡◌, ◌/◌, ◌<◌, ◌≤◌, false, length, IfSome};
 ghost use Rattle.std.specs.Str.{bytes_eq};
-ghost use Rattle.p25_script.specs.CommaLists.{dash};
+ghost use Rattle.p25_line.specs.CommaLists.{dash};
 ghost use Rattle.p25_script.specs.Values.{message_in, place_in, places_in};
 
-use super::comma_lists::{comma_part, is_dash};
-use p25_line::{hex_value, number_value};
+use p25_line::{comma_part, hex_value, is_dash, number_value};
 use p25_messages::{Flips, Message};
 
 /// The number of octets of the longest message.

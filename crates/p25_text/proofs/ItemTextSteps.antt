@@ -4,7 +4,7 @@ use Rattle.std.proofs.lemmas.List.{map_push}
 use Rattle.p25_status.specs.Status.{status_number}
 use Rattle.p25_status.specs.declared.symbols.Status.{Status}
 use Rattle.p25_text.specs.ItemTexts.{status_digits}
-use Rattle.p25_text.proofs.CommaSteps.{take-read}
+use Rattle.p25_line.proofs.CommaWriteLaws.{take-read}
 
 pub status_digits-none : (statuses : List Status) → status_digits (take 0 statuses) ≡ []
 unfolding status_digits

@@ -1,7 +1,5 @@
 pub mod ValueLaws
 pub mod WordLaws
-pub mod CommaListLaws
-pub mod CommaSteps
 pub mod OptionLaws
 pub mod PacketValueLaws
 pub mod PacketLaws
@@ -9,4 +7,4 @@ pub mod VoiceLaws
 pub mod GrammarLaws
 pub mod ReadLaws
 pub mod ItemTextSteps
-pub mod WriteSteps
+pub mod WriteLaws

@@ -2,7 +2,7 @@
 use Rattle.std.proofs.Common.{◌≡◌, ℕ, ◌==◌, Bool, true, cond, List, length, Option, Some, None, inl, inr, refl, sym, ap, ◌∙◌}
 use Rattle.std.specs.Option.{option_and_then, option_map}
 use Rattle.std.proofs.lemmas.Bool.{cases_Bool, cond-true, cond-false, eqb-true}
-use Rattle.p25_text.specs.CommaLists.{counted}
+use Rattle.p25_line.specs.CommaLists.{counted}
 
 -- a value was changed
 pub option_map-found : {X Y : Type 0} (change : X → Y) (value : Option X) (result : Y) → option_map change value ≡ Some result → (x : X) × (value ≡ Some x) × (change x ≡ result)

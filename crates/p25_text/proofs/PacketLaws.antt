@@ -19,13 +19,13 @@ use Rattle.p25_packet_blocks.specs.Heads.{head_blocks, head_format}
 use Rattle.p25_packet_blocks.specs.Kinds.{IsPlainFormat}
 use Rattle.p25_packet_blocks.specs.Sendable.{IsHead, IsSendable, IsSendableConfirmed, IsSendablePlain}
 use Rattle.p25_packet_blocks.proofs.HeadLaws.{head_blocks-lt}
-use Rattle.p25_text.specs.CommaLists.{counted, list_in, list_text}
+use Rattle.p25_line.specs.CommaLists.{counted, dash, list_in, list_text}
 use Rattle.p25_text.specs.Names.{other_keys}
 use Rattle.p25_text.specs.Packets.{confirmed_from, confirmed_in, confirmed_of, head_in, packet_kind, packet_values, plain_from, plain_in, plain_of, slot_in, slot_text}
-use Rattle.p25_text.specs.Values.{dash, octets_in, octets_or_none, octets_text}
+use Rattle.p25_text.specs.Values.{octets_in, octets_or_none, octets_text}
 use Rattle.p25_text.specs.declared.names.UnitKind.{UnitKind}
 use Rattle.p25_text.specs.declared.names.UnitKind.TheVariants.{Confirmed as ConfirmedKind, Plain as PlainKind, Response as ResponseKind}
-use Rattle.p25_text.proofs.CommaListLaws.{AllFit, list_in-text, text-list_in}
+use Rattle.p25_line.proofs.CommaListLaws.{AllFit, list_in-text, text-list_in}
 use Rattle.p25_text.proofs.OptionLaws.{cond-found, counted-found, option_and_then-found, option_map-found}
 use Rattle.p25_text.proofs.PacketValueLaws.{IsGoodSlot, AllFit-slots, slots-AllFit, slots-printed, slots-size, slot_laws}
 use Rattle.p25_text.proofs.ValueLaws.{octets_in-encode_lower, octets_in-text, octets_or_none-text, text-octets_or_none}

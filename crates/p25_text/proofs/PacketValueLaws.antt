@@ -16,10 +16,10 @@ use Rattle.p25_packet_blocks.specs.declared.block.Block.{Block}
 use Rattle.p25_packet_blocks.specs.declared.block.Slot.{Slot}
 use Rattle.p25_packet_blocks.specs.declared.block.Slot.TheVariants.{Good, Bad}
 use Rattle.p25_packet_blocks.specs.Sendable.{AreDataBlocks, IsDataBlock}
-use Rattle.p25_text.specs.CommaLists.{comma_text, list_text}
+use Rattle.p25_line.specs.CommaLists.{comma_text, list_text}
 use Rattle.p25_text.specs.Packets.{block_from, block_in, block_text, slot_in, slot_text}
 use Rattle.p25_text.specs.Values.{octets_in}
-use Rattle.p25_text.proofs.CommaListLaws.{AllFit, ItemLaws}
+use Rattle.p25_line.proofs.CommaListLaws.{AllFit, EntryLaws}
 use Rattle.p25_text.proofs.ValueLaws.{octets_in-encode_lower, octets_in-text, one_octet}
 use Rattle.p25_text.proofs.WordLaws.{all-also, length-join, size_of}
 
@@ -136,7 +136,7 @@ slot_made text (Some block) slot same found =
     let facts = text-block_in text block same in
     (ap slot_text (sym is) ∙ facts.0, (block, sym is, facts.1))
 
-pub slot_laws : ItemLaws slot_text slot_in IsGoodSlot are_marks
+pub slot_laws : EntryLaws slot_text slot_in IsGoodSlot are_marks
 slot_laws = record {
   lacks = marks-comma;
   written = slot-marks;

@@ -1,6 +1,6 @@
 -- Unit lines: the line of a unit, and the unit of a line.
 use Rattle.std.specs.Option.{option_map}
-use Rattle.std.specs.Prelude.{ℕ, ◌<◌, nat_eq, cond, List, [], ◌∷◌, ◌++◌, length, drop, Option, Some, None, Result, Ok, Err}
+use Rattle.std.specs.Prelude.{ℕ, nat_eq, cond, List, [], ◌∷◌, ◌++◌, length, drop, Option, Some, None, Result, Ok, Err}
 use Rattle.std.specs.List.{join_with_byte, starts_with}
 use Rattle.p25_line.specs.Words.{words_or_fault}
 use Rattle.p25_line.specs.declared.fault.LineFault.{LineFault}

@@ -8,7 +8,7 @@ use Rattle.p25_status.specs.declared.symbols.Status.{Status}
 use Rattle.p25_units.specs.Units.{frame_length_of}
 use Rattle.p25_units.specs.declared.item.Item.{Item}
 use Rattle.p25_units.specs.declared.item.Item.TheVariants.{Whole, Broken, NoUnit, Gap, Cut}
-use Rattle.p25_text.specs.CommaLists.{comma_text}
+use Rattle.p25_line.specs.CommaLists.{comma_text}
 use Rattle.p25_text.specs.Grammar.{text_of}
 use Rattle.p25_text.specs.Values.{three_digits}
 

@@ -3,6 +3,7 @@ use Rattle.std.specs.Prelude.{ℕ, ◌+◌, ◌*◌, ◌/◌, ◌%◌, ◌==◌,
 use Rattle.std.specs.List.{list_all}
 use Rattle.std.specs.Str.{bytes_eq}
 use Rattle.hex.specs.Hex.{encode_lower}
+use Rattle.p25_line.specs.CommaLists.{dash}
 use Rattle.p25_line.specs.Values.{is_lower_digit, octets_of}
 use Rattle.p25_text.specs.Names.{key_text}
 use Rattle.p25_text.specs.declared.names.UnitKey.{UnitKey}
@@ -28,10 +29,6 @@ nac_in word = number_in (octets_in 2 (48 ∷ word))
 -- a space, a key and its value, two digits for each octet
 abbrev pub field_text : UnitKey → List ℕ → List ℕ
 field_text key octets = 32 ∷ key_text key ++ encode_lower octets
-
--- `-`, which stands for no octets and for no blocks
-abbrev pub dash : List ℕ
-dash = 45 ∷ []
 
 -- the text of octets of which there may be none
 abbrev pub octets_text : List ℕ → List ℕ

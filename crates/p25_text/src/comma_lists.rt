@@ -1,27 +1,3 @@
-//! Words that are lists, with commas between their parts.
+//! Words that are lists, as `p25_line` reads them.
 
-ghost use Rattle.std.specs.Prelude.{◌≡◌, ◌+◌, ◌≤◌, ◌∷◌, length};
-ghost use Rattle.std.specs.Str.{bytes_eq};
-ghost use Rattle.p25_text.specs.CommaLists.{parts_from};
-ghost use Rattle.p25_text.specs.Values.{dash};
-
-/// Answers whether a word is `-`, which stands for nothing.
-pub fn is_dash(word: &[u8]) -> bool
-    ensures { result ≡ bytes_eq word.now dash }
-{
-    matches!(word, b"-")
-}
-
-/// Answers the part of a word that begins at `start`: up to the next comma, or to the end.
-pub fn comma_part(word: &[u8], start: usize) -> &[u8]
-    requires { start ≤ length word.now }
-    ensures within { start + length result.now ≤ length word.now }
-    ensures parts { parts_from word.now start ≡ result.now ∷ parts_from word.now (start + length result.now + 1) }
-{
-    for i in start..word.len() {
-        if word[i] == b',' {
-            return &word[start..i];
-        }
-    }
-    &word[start..]
-}
+pub use p25_line::{comma_part, is_dash};

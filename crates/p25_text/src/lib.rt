@@ -28,15 +28,11 @@
 #![tactic(auto)]
 
 mod comma_lists;
-#[cfg(test)]
-mod item_tests;
 mod items;
 mod names;
 mod packet_texts;
 mod packets;
 mod read;
-#[cfg(test)]
-mod tests;
 mod values;
 mod voice_texts;
 mod voices;

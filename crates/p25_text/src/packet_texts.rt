@@ -1,7 +1,7 @@
 //! The lines of packets.
 
 ghost use Rattle.std.specs.Prelude.{◌≡◌, ◌+◌, ◌≤◌, ◌++◌, length};
-ghost use Rattle.p25_text.specs.CommaLists.{list_text};
+ghost use Rattle.p25_line.specs.CommaLists.{list_text};
 ghost use Rattle.p25_text.specs.Grammar.{text_of};
 ghost use Rattle.p25_text.specs.Packets.{block_text, packet_kind, slot_text};
 ghost use Rattle.p25_text.specs.Values.{octets_text};

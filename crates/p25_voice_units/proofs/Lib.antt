@@ -3,7 +3,7 @@ pub mod LengthsLaws
 pub mod SendableLaws
 pub mod ImageSteps
 pub mod KindsLaws
-pub mod ReadSteps
+pub mod ReadLaws
 pub mod RowsLaws
 pub mod FieldRowsLaws
 pub mod FormLaws

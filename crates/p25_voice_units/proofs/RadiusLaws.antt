@@ -31,7 +31,7 @@ use Rattle.p25_voice_units.specs.Readings.{frame_places, low_places, frame_in, v
 use Rattle.p25_voice_units.specs.Sendable.{IsVoiceFrame, IsSpeech, IsSendableVoice}
 use Rattle.p25_voice_units.specs.WithinRadius.{AreLowWithin, IsVoiceWithin, received_voice, IsVoiceWithinByWords}
 use Rattle.p25_voice_units.proofs.KindsLaws.{reading-header, reading-end, reading-link1, reading-link2, reading-end_link, link1_whole, link1_parts, link2_whole, link2_parts}
-use Rattle.p25_voice_units.proofs.ReadSteps.{nine_frames}
+use Rattle.p25_voice_units.proofs.ReadLaws.{nine_frames}
 use Rattle.p25_voice_units.proofs.FieldCodesLaws.{header_codes, link_codes, sync_codes, end_link_codes, header_there, link_there, end_link_there}
 
 -- a low speed word with at most two wrong bits is read as its octet

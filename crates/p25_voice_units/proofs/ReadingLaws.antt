@@ -24,7 +24,7 @@ use Rattle.p25_voice_units.specs.Lengths.{voice_duid}
 use Rattle.p25_voice_units.specs.Readings.{frame_places, low_places, frame_in, voice_in, low_in, header_in, link_in, sync_in, header_from, link1_from, link1_in, link2_from, link2_in, end_link_from, voice_reading_of}
 use Rattle.p25_voice_units.specs.Sendable.{IsVoiceFrame, IsSpeech, IsSendableVoice}
 use Rattle.p25_voice_units.proofs.KindsLaws.{reading-header, reading-end, reading-link1, reading-link2, reading-end_link}
-use Rattle.p25_voice_units.proofs.ReadSteps.{nine_frames}
+use Rattle.p25_voice_units.proofs.ReadLaws.{nine_frames}
 
 -- words of symbols keep what their types keep
 nine_octets : (bits : List Bool) → AreNineOctets (numbers_from 8 9 bits)

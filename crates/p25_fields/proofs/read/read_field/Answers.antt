@@ -4,8 +4,8 @@ use Rattle.p25_bits.specs.Bits.{part}
 use Rattle.p25_code.specs.Marks.{marked}
 use Rattle.p25_code.specs.Readings.{word_read}
 use Rattle.p25_fields.specs.Layouts.{field_layout, marks_of}
-use Rattle.p25_fields.proofs.SymbolsSteps.{length_group, room_at}
-use Rattle.p25_fields.proofs.ReadSteps.{cut_long, outer_read, marked_before, marked_next, marked_whole}
+use Rattle.p25_fields.proofs.SymbolsLaws.{length_group, room_at}
+use Rattle.p25_fields.proofs.ReadLaws.{cut_long, outer_read, marked_before, marked_next, marked_whole}
 use Rattle.p25_fields.proofs.read.read_field.Goals as goal
 
 pub loop-i-init : goal.loop-i-init

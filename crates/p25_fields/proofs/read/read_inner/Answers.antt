@@ -2,7 +2,7 @@ use Rattle.std.proofs.Common.{◌≡◌, ◌≤◌, true, false, length, take, r
 use Rattle.p25_bits.specs.Bits.{part}
 use Rattle.p25_bits.proofs.PartLaws.{length-part}
 use Rattle.p25_link.specs.Symbols.{symbols_in}
-use Rattle.p25_fields.proofs.ReadSteps.{bits_taken, inner_found, inner_beyond}
+use Rattle.p25_fields.proofs.ReadLaws.{bits_taken, inner_found, inner_beyond}
 use Rattle.p25_fields.proofs.read.read_inner.Goals as goal
 
 pub returns-in-Found : goal.returns-in-Found

@@ -1,7 +1,7 @@
 use Rattle.std.proofs.Common.{sym, ap, ◌∙◌, arith}
 use Rattle.p25_bits.specs.Bits.{bits_of}
 use Rattle.p25_link.proofs.SymbolsLaws.{symbol_bits-nil}
-use Rattle.p25_fields.proofs.SymbolsSteps.{bits_set, length_group}
+use Rattle.p25_fields.proofs.SymbolsLaws.{bits_set, length_group}
 use Rattle.p25_fields.proofs.symbols.fill_bits.Goals as goal
 
 pub loop-i-init : goal.loop-i-init

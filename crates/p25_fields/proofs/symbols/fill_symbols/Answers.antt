@@ -1,6 +1,6 @@
 use Rattle.std.proofs.Common.{sym, arith}
 use Rattle.p25_link.proofs.SymbolsLaws.{symbols_in-none}
-use Rattle.p25_fields.proofs.SymbolsSteps.{symbol_set}
+use Rattle.p25_fields.proofs.SymbolsLaws.{symbol_set}
 use Rattle.p25_fields.proofs.symbols.fill_symbols.Goals as goal
 
 pub loop-i-init : goal.loop-i-init

@@ -1,5 +1,5 @@
 use Rattle.std.proofs.Common.{◌<◌, ◌^◌, subst, ◌∙◌}
-use Rattle.p25_fields.proofs.SymbolsSteps.{symbol_made}
+use Rattle.p25_fields.proofs.SymbolsLaws.{symbol_made}
 use Rattle.p25_fields.proofs.symbols.symbol_of.Goals as goal
 
 pub returns : goal.returns

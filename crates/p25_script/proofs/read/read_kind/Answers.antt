@@ -1,5 +1,5 @@
 use Rattle.std.proofs.Common.{arith}
-use Rattle.p25_script.proofs.ReadSteps.{short_word}
+use Rattle.p25_script.proofs.ReadLaws.{short_word}
 use Rattle.p25_script.proofs.read.read_kind.Goals as goal
 
 pub read_delivery-requires : goal.read_delivery-requires

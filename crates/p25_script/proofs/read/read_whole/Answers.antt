@@ -1,4 +1,4 @@
-use Rattle.p25_script.proofs.ReadSteps.{refused-answer}
+use Rattle.p25_script.proofs.ReadLaws.{refused-answer}
 use Rattle.p25_script.proofs.read.read_whole.Goals as goal
 
 pub returns-in-Err : goal.returns-in-Err

@@ -1,6 +1,6 @@
 use Rattle.std.proofs.Common.{◌≤◌, sym, ◌∙◌, arith}
 use Rattle.p25_script.specs.Script.{word_count}
-use Rattle.p25_script.proofs.ReadSteps.{line_short, right_count, some_place, words_lie, wrong_count, wrong_kind}
+use Rattle.p25_script.proofs.ReadLaws.{line_short, right_count, some_place, words_lie, wrong_count, wrong_kind}
 use Rattle.p25_script.proofs.read.read_words.Goals as goal
 
 pub word-requires-clause-held : goal.word-requires-clause-held

@@ -1,5 +1,5 @@
 use Rattle.std.proofs.Common.{codes, decimal}
-use Rattle.p25_script.specs.CommaLists.{comma_text}
+use Rattle.p25_line.specs.CommaLists.{comma_text}
 use Rattle.p25_script.specs.StepTexts.{kind_text, serials_of}
 use Rattle.p25_script.proofs.TextSteps.{put-six}
 use Rattle.p25_script.proofs.steps.put_retry.Goals as goal

@@ -1,6 +1,6 @@
 use Rattle.std.proofs.Common.{◌≡◌, ◌+◌, ◌*◌, ◌≤◌, ◌++◌, length, decimal}
 use Rattle.p25_bits.specs.Numbers.{joined_below}
-use Rattle.p25_script.specs.CommaLists.{comma_text}
+use Rattle.p25_line.specs.CommaLists.{comma_text}
 use Rattle.p25_script.specs.StepTexts.{serial_at}
 use Rattle.p25_script.proofs.TextSteps.{stands}
 use Rattle.p25_script.proofs.steps.put_serials.Given as goal

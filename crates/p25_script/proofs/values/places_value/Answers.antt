@@ -1,6 +1,6 @@
 use Rattle.std.proofs.Common.{◌≡◌, ◌+◌, ◌<◌, ◌≤◌, [], ◌∷◌, ◌++◌, length, sym, ap, subst, ◌∙◌, arith}
 use Rattle.p25_script.specs.Values.{is_ascending, place_in}
-use Rattle.p25_script.proofs.CommaSteps.{ItemsSoFar, ItemsSoFar-more, ItemsSoFar-start}
+use Rattle.p25_line.proofs.CommaReadLaws.{EntriesSoFar, EntriesSoFar-more, EntriesSoFar-start}
 use Rattle.p25_script.proofs.PlacesLaws.{below_next, is_ascending-push, next_place, next_place-push}
 use Rattle.p25_script.proofs.PlacesSteps.{places_in-end, places_in-low}
 use Rattle.p25_script.proofs.values.places_value.Goals as goal
@@ -8,7 +8,7 @@ use Rattle.p25_script.proofs.values.places_value.Goals as goal
 pub loop-start-init : goal.loop-start-init
 loop-start-init c =
     let none = c.new-places.ensures in record {
-      so_far = subst (ItemsSoFar place_in c.args.word.now 0) (sym none) (ItemsSoFar-start place_in c.args.word.now);
+      so_far = subst (EntriesSoFar place_in c.args.word.now 0) (sym none) (EntriesSoFar-start place_in c.args.word.now);
       ascending = ap is_ascending none;
       least = sym (ap next_place none);
       low = omega arith;
@@ -34,9 +34,9 @@ loop-start-preserved c =
     let part = c.comma_part-part.result.now in
     let pushed : c.push.new.self ≡ places ++ place ∷ [] = c.push.ensures.list in
     let next : c.loop-start.start + length part + 1 ≡ c.loop-start.start + (length part + 1) = omega arith in
-    let more = ItemsSoFar-more place_in c.args.word.now part c.loop-start.start (c.loop-start.start + length part + 1) places place c.loop-start.invariant.so_far c.comma_part-part.ensures.parts (sym c.in-Some.ensures.place) in
+    let more = EntriesSoFar-more place_in c.args.word.now part c.loop-start.start (c.loop-start.start + length part + 1) places place c.loop-start.invariant.so_far c.comma_part-part.ensures.parts (sym c.in-Some.ensures.place) in
     let high : next_place places ≤ place = omega (arith, c.if-place-least.false, c.loop-start.invariant.least) in record {
-      so_far = subst (λ i. ItemsSoFar place_in c.args.word.now i c.push.new.self) next (subst (ItemsSoFar place_in c.args.word.now (c.loop-start.start + length part + 1)) (sym pushed) more);
+      so_far = subst (λ i. EntriesSoFar place_in c.args.word.now i c.push.new.self) next (subst (EntriesSoFar place_in c.args.word.now (c.loop-start.start + length part + 1)) (sym pushed) more);
       ascending = ap is_ascending pushed ∙ is_ascending-push places place c.loop-start.invariant.ascending high;
       least = sym (ap next_place pushed ∙ next_place-push places place);
       low = omega (arith, c.in-Some.ensures.below);

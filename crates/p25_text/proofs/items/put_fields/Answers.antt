@@ -1,6 +1,6 @@
 use Rattle.std.proofs.Common.{◌++◌, length, sym, ap, ◌∙◌, append-nil, arith}
 use Rattle.p25_text.specs.ItemTexts.{field_name}
-use Rattle.p25_text.proofs.CommaSteps.{comma_text-none, first-item, next-item}
+use Rattle.p25_line.proofs.CommaWriteLaws.{comma_text-none, first-entry, next-entry}
 use Rattle.p25_text.proofs.items.put_fields.Goals as goal
 use Rattle.p25_text.proofs.items.put_fields.Goals.{then-i-gt0, else-i-gt0}
 
@@ -13,12 +13,12 @@ loop-i-init c = record {
 pub loop-i-preserved : goal.loop-i-preserved
 loop-i-preserved c = elim c.if-i-gt0.branch [
   | then-i-gt0 w ↦ record {
-    text = next-item field_name c.args.fields.now c.loop-i.i c.get.result c.args.out.now c.loop-i.out c.put_field.new.out w.if-i-gt0.true c.get.ensures c.loop-i.invariant.text
+    text = next-entry field_name c.args.fields.now c.loop-i.i c.get.result c.args.out.now c.loop-i.out c.put_field.new.out w.if-i-gt0.true c.get.ensures c.loop-i.invariant.text
         (c.put_field.ensures.text ∙ ap (λ l. l ++ field_name c.get.result) (w.out-is ∙ w.put.ensures.list));
     short = omega (arith, ap length w.out-is, w.put.ensures.len, c.put_field.ensures.short, c.loop-i.invariant.short);
   }
   | else-i-gt0 w ↦ record {
-    text = first-item field_name c.args.fields.now c.loop-i.i c.get.result c.args.out.now c.loop-i.out c.put_field.new.out (omega arith) c.get.ensures c.loop-i.invariant.text
+    text = first-entry field_name c.args.fields.now c.loop-i.i c.get.result c.args.out.now c.loop-i.out c.put_field.new.out (omega arith) c.get.ensures c.loop-i.invariant.text
         (c.put_field.ensures.text ∙ ap (λ l. l ++ field_name c.get.result) w.out-is);
     short = omega (arith, ap length w.out-is, c.put_field.ensures.short, c.loop-i.invariant.short);
   }

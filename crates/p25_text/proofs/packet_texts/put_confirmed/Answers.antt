@@ -1,4 +1,4 @@
-use Rattle.p25_text.proofs.WriteSteps.{four_parts, text-confirmed}
+use Rattle.p25_text.proofs.WriteLaws.{four_parts, text-confirmed}
 use Rattle.p25_text.proofs.packet_texts.put_confirmed.Goals as goal
 
 pub returns-clause-text : goal.returns-clause-text

@@ -1,5 +1,5 @@
 use Rattle.std.proofs.Common.{◌≡◌, ◌+◌, ◌*◌, ◌≤◌, ◌++◌, length, take}
-use Rattle.p25_text.specs.CommaLists.{comma_text}
+use Rattle.p25_line.specs.CommaLists.{comma_text}
 use Rattle.p25_text.specs.Packets.{slot_text}
 use Rattle.p25_text.proofs.packet_texts.put_slots.Given as goal
 

@@ -1,5 +1,5 @@
 use Rattle.p25_voice_units.specs.declared.unit.VoiceUnit.TheVariants.{End}
-use Rattle.p25_text.proofs.WriteSteps.{voice-put}
+use Rattle.p25_text.proofs.WriteLaws.{voice-put}
 use Rattle.p25_text.proofs.voice_texts.put_end.Goals as goal
 
 pub returns-clause-text : goal.returns-clause-text

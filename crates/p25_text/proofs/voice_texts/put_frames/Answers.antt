@@ -5,7 +5,7 @@ use Rattle.hex.specs.Hex.{encode_lower}
 use Rattle.p25_text.specs.Names.{key_text}
 use Rattle.p25_text.specs.Voices.{frame_octets}
 use Rattle.p25_text.specs.declared.names.UnitKey.TheVariants.{Frames}
-use Rattle.p25_text.proofs.WriteSteps.{frames-none, next-frame}
+use Rattle.p25_text.proofs.WriteLaws.{frames-none, next-frame}
 use Rattle.p25_text.proofs.voice_texts.put_frames.Goals as goal
 
 pub loop-frame-init : goal.loop-frame-init

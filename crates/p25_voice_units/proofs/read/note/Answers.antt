@@ -1,5 +1,5 @@
 use Rattle.std.proofs.Common.{not, ap, ◌∙◌}
-use Rattle.p25_voice_units.proofs.ReadSteps.{noted, not_noted}
+use Rattle.p25_voice_units.proofs.ReadLaws.{noted, not_noted}
 use Rattle.p25_voice_units.proofs.read.note.Goals as goal
 
 pub returns-then-is_none-clause-list : goal.returns-then-is_none-clause-list

@@ -1,6 +1,6 @@
 use Rattle.std.proofs.Common.{rules, arith, ◌∙◌}
 use Rattle.p25_voice_units.specs.Readings.{frame_places}
-use Rattle.p25_voice_units.proofs.ReadSteps.{frames_next, frames_all}
+use Rattle.p25_voice_units.proofs.ReadLaws.{frames_next, frames_all}
 use Rattle.p25_voice_units.proofs.read.read_frames.Goals as goal
 
 pub loop-i-preserved : goal.loop-i-preserved

@@ -6,7 +6,7 @@ use Rattle.p25_voice_units.specs.Layouts.{header_rows}
 use Rattle.p25_voice_units.specs.FieldLayouts.{word_places, header_layout}
 use Rattle.p25_voice_units.specs.Readings.{header_in}
 use Rattle.p25_voice_units.proofs.CodesLaws.{header_code}
-use Rattle.p25_voice_units.proofs.ReadSteps.{part_some, part_none}
+use Rattle.p25_voice_units.proofs.ReadLaws.{part_some, part_none}
 use Rattle.p25_voice_units.proofs.read.read_header_word.Goals as goal
 
 pub returns-in-Some : goal.returns-in-Some

@@ -1,5 +1,5 @@
 use Rattle.p25_voice_units.specs.Readings.{low_places}
-use Rattle.p25_voice_units.proofs.ReadSteps.{low_taken, low_found, low_beyond}
+use Rattle.p25_voice_units.proofs.ReadLaws.{low_taken, low_found, low_beyond}
 use Rattle.p25_voice_units.proofs.read.read_low.Goals as goal
 
 pub returns-in-Found : goal.returns-in-Found

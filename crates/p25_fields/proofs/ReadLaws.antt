@@ -17,7 +17,7 @@ use Rattle.p25_code.proofs.MarkedLaws.{marked-plain}
 use Rattle.p25_gf64.specs.declared.symbol.Sym.{Sym}
 use Rattle.p25_link.specs.Symbols.{symbols_in}
 use Rattle.p25_fields.specs.Layouts.{Layout, marks_of, received_in, outer_word_of}
-use Rattle.p25_fields.proofs.SymbolsSteps.{one_more, symbols_in-take}
+use Rattle.p25_fields.proofs.SymbolsLaws.{one_more, symbols_in-take}
 
 -- a word that is read gives the symbols of its information
 pub marks_of-some : (each : ℕ) (word : List Bool) → marks_of each (Some word) ≡ map Some (symbols_in each word)

@@ -1,6 +1,6 @@
 use Rattle.std.proofs.Common.{refl, arith}
-use Rattle.p25_script.proofs.CommaSteps.{part-comma, part-last}
-use Rattle.p25_script.proofs.comma_lists.comma_part.Goals as goal
+use Rattle.p25_line.proofs.CommaPartLaws.{part-comma, part-last}
+use Rattle.p25_line.proofs.comma_lists.comma_part.Goals as goal
 
 pub returns-then-word-i-eq44-clause-parts : goal.returns-then-word-i-eq44-clause-parts
 returns-then-word-i-eq44-clause-parts c =

@@ -1,10 +1,10 @@
-//! Words that are lists, with commas between their parts.
+//! Words that are lists: entries with commas between them, or `-` where there is none.
 
 ghost use Rattle.std.specs.Prelude.{◌≡◌, ◌+◌, ◌≤◌, ◌∷◌, length};
 ghost use Rattle.std.specs.Str.{bytes_eq};
-ghost use Rattle.p25_script.specs.CommaLists.{dash, parts_from};
+ghost use Rattle.p25_line.specs.CommaLists.{dash, parts_from};
 
-/// Answers whether a word is `-`, which stands for none.
+/// Answers whether a word is `-`, which stands for nothing.
 pub fn is_dash(word: &[u8]) -> bool
     ensures { result ≡ bytes_eq word.now dash }
 {

@@ -12,7 +12,7 @@ use Rattle.p25_voice_units.specs.declared.unit.VoiceUnit.{VoiceUnit}
 use Rattle.p25_voice_units.specs.declared.voice.VoiceFrame.{VoiceFrame}
 use Rattle.p25_units.specs.UnitParts.{UnitParts}
 use Rattle.p25_units.specs.declared.unit.Body.TheVariants.{Voice, Packet}
-use Rattle.p25_text.specs.CommaLists.{list_text}
+use Rattle.p25_line.specs.CommaLists.{list_text}
 use Rattle.p25_text.specs.Grammar.{keyed, kind_of, text_of, values_of}
 use Rattle.p25_text.specs.Names.{key_text, keys_of, kind_word, other_keys}
 use Rattle.p25_text.specs.Packets.{packet_kind, slot_text}
@@ -22,7 +22,7 @@ use Rattle.p25_text.specs.declared.names.UnitKey.{UnitKey}
 use Rattle.p25_text.specs.declared.names.UnitKey.TheVariants.{Nac, Head, Blocks, Octets}
 use Rattle.p25_text.specs.declared.names.UnitKind.{UnitKind}
 use Rattle.p25_text.specs.declared.names.UnitKind.TheVariants.{Confirmed as ConfirmedKind, Plain as PlainKind, Response as ResponseKind}
-use Rattle.p25_text.proofs.CommaSteps.{take-read}
+use Rattle.p25_line.proofs.CommaWriteLaws.{take-read}
 
 -- keys with their values, a space before each
 abbrev pub tail_text : List UnitKey → List (List ℕ) → List ℕ

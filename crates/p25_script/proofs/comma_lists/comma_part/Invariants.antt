@@ -1,5 +1,0 @@
-use Rattle.p25_script.proofs.CommaSteps.{NoComma}
-use Rattle.p25_script.proofs.comma_lists.comma_part.Given as goal
-
-abbrev pub invariant-loop-i : goal.invariant-loop-i
-invariant-loop-i l = NoComma l.word l.start l.i
