@@ -10,22 +10,19 @@ use super::{
 };
 use p25_bits::BitBuf;
 use p25_status::{Field, Status, Statuses, weave};
-use std::test::Fail;
+use std::process::Abort;
 
 // The first bits of some words, the most significant bit first, and then bits 0.
 fn unit(words: &[u64], len: usize) -> BitBuf {
     let mut bits = BitBuf::new();
-    for place in 0..len {
-        if bits.len() < 704 {
-            let word = if place / 64 < words.len() {
-                words[place / 64]
-            } else {
-                0
-            };
-            bits.push((word >> (63 - place % 64)) & 1 == 1);
+    for i in 0..11 {
+        if bits.len() <= 640 {
+            bits.put_field(if i < words.len() { words[i] } else { 0 }, 64);
         }
     }
-    bits
+    let mut plain = BitBuf::new();
+    plain.append(&bits, 0, len.min(bits.len()));
+    plain
 }
 
 // A unit as it is sent, with the status symbol 0 throughout.
@@ -55,28 +52,41 @@ fn read_whole(plain: &BitBuf) -> Result<Packet, Field> {
     read_packet(plain)
 }
 
+// Asserts that a packet is written as the bits that it was read from.
+fn assert_written(rt: &impl Abort, nac: u16, packet: &Packet, plain: &BitBuf) {
+    assert!(rt; is_whole(packet));
+    assert!(rt; nac < 4096);
+    let mut written = BitBuf::new();
+    packet_image(nac, packet, &mut written);
+    assert!(rt; written.len() == plain.len());
+    assert_eq!(rt; BitBuf::distance(&written, plain), 0);
+}
+
+// Asserts the network access code and the header that a unit is read with as it is sent.
+fn assert_unit(rt: &impl Abort, nac: u16, head: PacketHead, bits: &BitBuf) {
+    assert!(rt; bits.len() >= 360);
+    match read_sent_head(bits, 0) {
+        Ok(sent_head) => assert!(rt; sent_head == head),
+        Err(_) => assert!(rt; false),
+    }
+    match read_packet_unit(bits) {
+        Ok((read_nac, read)) => assert!(rt; read_nac == nac && read.head() == head),
+        Err(_) => assert!(rt; false),
+    }
+}
+
 #[test]
-fn units_are_read_and_written(rt: HostRuntime) -> Result<(), Fail> {
+fn units_are_read_and_written(rt: HostRuntime) {
     for (nac, len, words) in UNITS {
         let plain = unit(words, len);
-        let packet = read_whole(&plain)?;
-        assert!(rt; is_whole(&packet));
-        assert!(rt; nac < 4096);
-        let mut written = BitBuf::new();
-        packet_image(nac, &packet, &mut written);
-        assert_eq!(rt; written.len(), len);
-        assert_eq!(rt; plain.len(), len);
-        for i in 0..len {
-            assert_eq!(rt; written.get(i), plain.get(i));
+        match read_whole(&plain) {
+            Ok(packet) => {
+                assert_written(&rt, nac, &packet, &plain);
+                assert_unit(&rt, nac, packet.head(), &sent(&plain));
+            }
+            Err(_) => assert!(rt; false),
         }
-        let bits = sent(&plain);
-        assert!(rt; bits.len() >= 360);
-        let (read_nac, read) = read_packet_unit(&bits)?;
-        assert_eq!(rt; read_nac, nac);
-        assert_eq!(rt; read.head(), packet.head());
-        assert_eq!(rt; read_sent_head(&bits, 0)?, packet.head());
     }
-    Ok(())
 }
 
 #[test]
@@ -95,43 +105,69 @@ fn damaged_units(rt: HostRuntime) {
 }
 
 #[test]
-fn parts_of_packets(rt: HostRuntime) {
-    let response = PacketHead::response(0x12_3456, 2, 0, 5, 0);
-    assert_eq!(rt;
-        response.0,
-        [0x23, 0x85, 0, 0x12, 0x34, 0x56, 0x80, 0, 0, 0]
-    );
-    assert_eq!(rt;
-        (response.class(), response.kind(), response.status()),
-        (2, 0, 5)
-    );
-    assert_eq!(rt; (response.format(), response.llid()), (0x03, 0x12_3456));
-    let plain = Plain::new(response, Octets::new());
-    assert_eq!(rt; plain.octets().len(), 0);
-    assert_eq!(rt; plain.head(), response);
+fn heads(rt: HostRuntime) {
+    // Rows: a header, its octets, and its format, number of blocks, pad, number and Syn.
+    let rows: [(PacketHead, [u8; 10], u8, u8, u8, u8, bool); 3] = [
+        (
+            PacketHead::response(0x12_3456, 2, 0, 5, 0),
+            [0x23, 0x85, 0, 0x12, 0x34, 0x56, 0x80, 0, 0, 0],
+            0x03,
+            0,
+            0,
+            0,
+            false,
+        ),
+        (
+            PacketHead::opening(1, 3),
+            [0x56, 0xC0, 0, 0, 0, 1, 0x80, 0, 0xB8, 0],
+            0x16,
+            0,
+            0,
+            3,
+            true,
+        ),
+        (
+            PacketHead::confirmed(1, false, 1, 10, 7),
+            [0x56, 0xC0, 0, 0, 0, 1, 0x01, 10, 0x78, 0],
+            0x16,
+            1,
+            10,
+            7,
+            false,
+        ),
+    ];
+    for (head, octets, format, blocks, pad, number, syn) in rows {
+        assert_eq!(rt; head.0, octets);
+        assert!(rt; head.format() == format && head.blocks() == blocks && head.pad() == pad);
+        assert!(rt; head.number() == number && head.syn() == syn);
+    }
+}
 
-    let opening = PacketHead::opening(1, 3);
-    assert_eq!(rt; opening.0, [0x56, 0xC0, 0, 0, 0, 1, 0x80, 0, 0xB8, 0]);
-    assert!(rt; opening.syn());
+#[test]
+fn a_response(rt: HostRuntime) {
+    let head = PacketHead::response(0x12_3456, 2, 0, 5, 0);
+    assert!(rt; head.class() == 2 && head.kind() == 0 && head.status() == 5);
+    assert!(rt; head.llid() == 0x12_3456 && head.is_full());
+    let plain = Plain::new(head, Octets::new());
+    assert!(rt; plain.head() == head && plain.octets().len() == 0);
+}
 
+#[test]
+fn a_confirmed_packet(rt: HostRuntime) {
     let head = PacketHead::confirmed(1, false, 1, 10, 7);
-    assert_eq!(rt; head.0, [0x56, 0xC0, 0, 0, 0, 1, 0x01, 10, 0x78, 0]);
-    assert_eq!(rt; (head.blocks(), head.pad(), head.number()), (1, 10, 7));
-    assert!(rt; !head.is_full());
     let mut slots = Slots::new();
     slots.push(Slot::Good(Block::new(127, [9; 16])));
-    let packet = Packet::Confirmed(Confirmed::new(head, slots));
-    assert!(rt; is_whole(&packet));
-    match packet {
-        Packet::Confirmed(packet) => match packet.slots().get(0) {
+    let packet = Confirmed::new(head, slots);
+    for i in 0..packet.slots().len() {
+        match packet.slots().get(i) {
             Slot::Good(block) => {
-                assert_eq!(rt; block.serial(), 127);
+                assert!(rt; block.serial() == 127);
                 assert_eq!(rt; *block.octets(), [9; 16]);
             }
-            Slot::Bad => {}
-        },
-        Packet::Plain(_) => {}
+            Slot::Bad => assert!(rt; false),
+        }
     }
+    assert!(rt; !head.is_full() && is_whole(&Packet::Confirmed(packet)));
 }
 
 // Octets that count up from 0.
@@ -145,30 +181,47 @@ fn counted(len: usize) -> Octets {
     octets
 }
 
+// The octets of 64 or 128 flags, of which these are set.
+fn flag_octets(count: usize, set: &[usize]) -> Octets {
+    let mut flags = if count == 64 {
+        Flags::new(64)
+    } else {
+        Flags::new(128)
+    };
+    for place in set {
+        if *place < flags.len() {
+            flags.set(*place, true);
+        }
+    }
+    flags_make(&flags)
+}
+
 #[test]
 fn flags_as_octets(rt: HostRuntime) {
-    let mut few = Flags::new(64);
-    few.set(1, true);
-    few.set(3, true);
-    few.set(63, true);
-    let octets = flags_make(&few);
-    assert_eq!(rt; octets.octets(), [0x50, 0, 0, 0, 0, 0, 0, 1].as_slice());
+    // Rows: the number of flags, those that are set, and the octets.
+    let rows: [(usize, &[usize], &[u8]); 2] = [
+        (64, &[1, 3, 63], &[0x50, 0, 0, 0, 0, 0, 0, 1]),
+        (
+            128,
+            &[64],
+            &[
+                0, 0, 0, 0, 0, 0, 0, 0, 0x80, 0, 0, 0, 0, 0, 0, 0, 0, 0, 0, 0,
+            ],
+        ),
+    ];
+    for (count, set, octets) in rows {
+        assert_eq!(rt; flag_octets(count, set).octets(), octets);
+    }
+}
 
-    let mut many = Flags::new(128);
-    many.set(64, true);
-    let octets = flags_make(&many);
-    assert_eq!(rt; octets.len(), 20);
-    assert_eq!(rt; octets.get(8), 0x80);
-    assert_eq!(rt; octets.get(16), 0);
-
+#[test]
+fn octets_as_flags(rt: HostRuntime) {
     // Rows: the number of octets, and the number of flags.
     let rows: [(usize, usize); 5] = [(8, 64), (20, 128), (0, 0), (9, 0), (16, 0)];
     for (len, count) in rows {
         match flags_read(&counted(len)) {
             Some(flags) => {
-                assert_eq!(rt; flags.len(), count);
-                assert!(rt; flags.get(15));
-                assert!(rt; !flags.get(16));
+                assert!(rt; flags.len() == count && flags.get(15) && !flags.get(16));
             }
             None => assert_eq!(rt; count, 0),
         }

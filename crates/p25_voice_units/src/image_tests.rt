@@ -6,7 +6,6 @@ use super::{Voice, VoiceFrame, VoiceUnit, voice_image, voice_length};
 use p25_bits::BitBuf;
 use p25_link::{EncryptionSync, HeaderWord, LinkControl};
 use std::process::Abort;
-use std::test::Fail;
 
 const MI: [u8; 9] = [0x12, 0x34, 0x56, 0x78, 0x9A, 0xBC, 0xDE, 0xF0, 0x0F];
 
@@ -175,8 +174,7 @@ fn counted_voice() -> Voice {
 fn assert_bits(rt: &impl Abort, plain: &BitBuf, words: &[u64]) {
     assert!(rt; plain.len().div_ceil(64) == words.len());
     for (i, word) in words.iter().enumerate() {
-        assert!(rt; i < 27);
-        assert!(rt; 64 * i < plain.len());
+        assert!(rt; i < 27 && 64 * i < plain.len());
         let width = (plain.len() - 64 * i).min(64);
         assert_eq!(rt; plain.field(64 * i, width as u32), *word);
     }
@@ -188,13 +186,13 @@ fn assert_image(rt: &impl Abort, nac: u16, unit: &VoiceUnit, words: &[u64]) {
     let mut plain = BitBuf::new();
     plain.push(true);
     voice_image(nac, unit, &mut plain);
-    assert_eq!(rt; unit.length(), plain.len());
     assert_eq!(rt; voice_length(unit.duid()), Some(plain.len()));
+    assert_eq!(rt; unit.length(), plain.len());
     assert_bits(rt, &plain, words);
 }
 
 #[test]
-fn headers_and_terminators(rt: HostRuntime) -> Result<(), Fail> {
+fn headers_and_terminators(rt: HostRuntime) {
     assert_image(
         &rt,
         0x293,
@@ -226,11 +224,10 @@ fn headers_and_terminators(rt: HostRuntime) -> Result<(), Fail> {
         &VoiceUnit::EndLink { link: LINK },
         &END_LINK_BITS,
     );
-    Ok(())
 }
 
 #[test]
-fn voice_with_link_control(rt: HostRuntime) -> Result<(), Fail> {
+fn voice_with_link_control(rt: HostRuntime) {
     assert_image(
         &rt,
         0x293,
@@ -251,11 +248,10 @@ fn voice_with_link_control(rt: HostRuntime) -> Result<(), Fail> {
         },
         &ONES_LINK_BITS,
     );
-    Ok(())
 }
 
 #[test]
-fn voice_with_encryption_sync(rt: HostRuntime) -> Result<(), Fail> {
+fn voice_with_encryption_sync(rt: HostRuntime) {
     let sync = EncryptionSync {
         mi: MI,
         algid: 0x81,
@@ -271,5 +267,4 @@ fn voice_with_encryption_sync(rt: HostRuntime) -> Result<(), Fail> {
         },
         &SYNC_BITS,
     );
-    Ok(())
 }

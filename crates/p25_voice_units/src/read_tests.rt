@@ -3,7 +3,7 @@
 use super::{Voice, VoiceFrame, VoiceUnit, read_voice, voice_fixes, voice_image, voice_length};
 use p25_bits::BitBuf;
 use p25_link::{EncryptionSync, HeaderWord, LinkControl};
-use p25_status::Field;
+use p25_status::{Field, FieldList};
 use std::process::Abort;
 
 // Bits that are inverted: so many from each of so many places, the first of which is `at`, a step apart.
@@ -53,13 +53,23 @@ fn spoil(bits: &mut BitBuf, all: &[Damage]) {
     }
 }
 
-// A unit is read as another after damage, with so many fixes.
+// Asserts that exactly these fields fail.
+fn assert_fields(rt: &impl Abort, failing: &FieldList, fields: &[Field]) {
+    assert_eq!(rt; failing.len(), fields.len());
+    for (i, field) in fields.iter().enumerate() {
+        assert!(rt; i < failing.len());
+        assert_eq!(rt; failing.get(i), *field);
+    }
+}
+
+// A unit is read as another after damage with so many fixes, or where there are fields, exactly these fail.
 fn assert_read_as(
     rt: &impl Abort,
     unit: &VoiceUnit,
     all: &[Damage],
     other: &VoiceUnit,
     fixes: u32,
+    fields: &[Field],
 ) {
     let mut image = BitBuf::new();
     voice_image(0x293, unit, &mut image);
@@ -68,35 +78,22 @@ fn assert_read_as(
     spoil(&mut plain, all);
     assert!(rt; plain.len() == image.len());
     match read_voice(unit.duid(), &plain) {
-        Ok(read) => assert!(rt; read == *other, "another unit, for {fixes} fixes"),
-        Err(_) => assert!(rt; false, "not read, for {fixes} fixes"),
+        Ok(read) => {
+            assert!(rt; read == *other && fields.len() == 0, "for {fixes} fixes");
+            assert_eq!(rt; voice_fixes(unit, &plain, &image), fixes);
+        }
+        Err(failing) => assert_fields(rt, &failing, fields),
     }
-    assert_eq!(rt; voice_fixes(unit, &plain, &image), fixes);
 }
 
 // A unit is read in spite of damage.
 fn assert_read(rt: &impl Abort, unit: &VoiceUnit, all: &[Damage], fixes: u32) {
-    assert_read_as(rt, unit, all, unit, fixes);
+    assert_read_as(rt, unit, all, unit, fixes, &[]);
 }
 
 // A unit is refused after damage, with these fields.
 fn assert_failing(rt: &impl Abort, unit: &VoiceUnit, all: &[Damage], fields: &[Field]) {
-    let mut image = BitBuf::new();
-    voice_image(0x293, unit, &mut image);
-    let mut plain = BitBuf::new();
-    plain.append(&image, 0, image.len());
-    spoil(&mut plain, all);
-    assert!(rt; plain.len() == image.len());
-    match read_voice(unit.duid(), &plain) {
-        Ok(_) => assert!(rt; false, "it is read"),
-        Err(failing) => {
-            assert_eq!(rt; failing.len(), fields.len());
-            for (i, field) in fields.iter().enumerate() {
-                assert!(rt; i < failing.len());
-                assert_eq!(rt; failing.get(i), *field);
-            }
-        }
-    }
+    assert_read_as(rt, unit, all, unit, 0, fields);
 }
 
 fn header(octet: u8) -> VoiceUnit {
@@ -255,5 +252,5 @@ fn terminators(rt: HostRuntime) {
 
 #[test]
 fn voice_is_answered_as_received(rt: HostRuntime) {
-    assert_read_as(&rt, &link1(0x35), &[run(1536, 4)], &link1(0xC5), 0);
+    assert_read_as(&rt, &link1(0x35), &[run(1536, 4)], &link1(0xC5), 0, &[]);
 }
