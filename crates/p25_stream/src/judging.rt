@@ -123,10 +123,22 @@ fn beginning_at_sync(held: &BitBuf, begun: Begun) -> Beginning
     }
 }
 
-// Notes, where two counts tell it, that the next eight places have no sync: mostly they have none where an octet has come.
+// Sets what is known once more bits have come, where the first item was not known before.
+#[inline]
+pub(crate) fn settle(beginning: &mut Beginning, held: &BitBuf)
+    requires was { WasBeginning beginning.old held.now }
+    requires unsettled { is_settled beginning.old ≡ false }
+    ensures { IsBeginning beginning.new held.now }
+{
+    if !beginning.waits(held.len()) && !passes_word(beginning, held) {
+        judge_more(beginning, held);
+    }
+}
+
+// Notes, where counts tell it, that the next 64 places have no sync: mostly they have none where eight octets have come.
 // Answers whether it did.
 #[inline]
-pub(crate) fn passes_eight(beginning: &mut Beginning, held: &BitBuf) -> bool
+fn passes_word(beginning: &mut Beginning, held: &BitBuf) -> bool
     requires { WasBeginning beginning.old held.now }
     ensures passed { result ≡ true → IsBeginning beginning.new held.now }
     ensures same { result ≡ false → beginning.new ≡ beginning.old }
@@ -134,19 +146,33 @@ pub(crate) fn passes_eight(beginning: &mut Beginning, held: &BitBuf) -> bool
     let Beginning::Searching(clear) = *beginning else {
         return false;
     };
-    if clear + AT_ONCE < GAP_MOST
-        && held.len() == clear + AT_ONCE + BEHIND
-        && none_of_eight(held.field(clear, (AT_ONCE + BEHIND) as u32))
-    {
-        *beginning = Beginning::Searching(clear + AT_ONCE);
+    if clear + 64 < GAP_MOST && held.len() == clear + 64 + BEHIND && none_of_word(held, clear) {
+        *beginning = Beginning::Searching(clear + 64);
         return true;
     }
     false
 }
 
-// Sets what is known once more bits have come, where the first item was not known before.
+// Whether counts of ones tell that none of the 64 places from one on has a sync.
+#[inline]
+fn none_of_word(held: &BitBuf, from: usize) -> bool
+    requires there { from + 111 ≤ length held.now }
+    requires before { from ≤ sync_place held.now }
+    ensures { result ≡ true → from + 64 ≤ sync_place held.now }
+{
+    // The number of bits held bounds every place below.
+    let _ = held.len();
+    for k in 0..8 {
+        if !none_of_eight(held.field(from + AT_ONCE * k, (BEHIND + AT_ONCE) as u32)) {
+            return false;
+        }
+    }
+    true
+}
+
+// The same by all that is there to be read, apart from the caller.
 #[inline(never)]
-pub(crate) fn judge_more(beginning: &mut Beginning, held: &BitBuf)
+fn judge_more(beginning: &mut Beginning, held: &BitBuf)
     requires was { WasBeginning beginning.old held.now }
     requires unsettled { is_settled beginning.old ≡ false }
     ensures { IsBeginning beginning.new held.now }

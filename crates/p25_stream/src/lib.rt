@@ -20,6 +20,7 @@
 //! `arrival_laws` where units that were sent are found again.
 #![tactic(auto)]
 
+mod arriving;
 mod beginning;
 mod judging;
 mod laws;
