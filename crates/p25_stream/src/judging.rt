@@ -130,15 +130,15 @@ pub(crate) fn settle(beginning: &mut Beginning, held: &BitBuf)
     requires unsettled { is_settled beginning.old ≡ false }
     ensures { IsBeginning beginning.new held.now }
 {
-    if !beginning.waits(held.len()) && !passes_word(beginning, held) {
+    if !beginning.waits(held.len()) && !passes(beginning, held) {
         judge_more(beginning, held);
     }
 }
 
-// Notes, where counts tell it, that the next 64 places have no sync: mostly they have none where eight octets have come.
-// Answers whether it did.
+// Notes, where counts tell it, that the places that can be judged now have no sync: mostly they have none where octets have
+// come. Answers whether it did.
 #[inline]
-fn passes_word(beginning: &mut Beginning, held: &BitBuf) -> bool
+fn passes(beginning: &mut Beginning, held: &BitBuf) -> bool
     requires { WasBeginning beginning.old held.now }
     ensures passed { result ≡ true → IsBeginning beginning.new held.now }
     ensures same { result ≡ false → beginning.new ≡ beginning.old }
@@ -146,23 +146,28 @@ fn passes_word(beginning: &mut Beginning, held: &BitBuf) -> bool
     let Beginning::Searching(clear) = *beginning else {
         return false;
     };
-    if clear + 64 < GAP_MOST && held.len() == clear + 64 + BEHIND && none_of_word(held, clear) {
-        *beginning = Beginning::Searching(clear + 64);
+    let places = held.len().saturating_sub(clear + BEHIND);
+    if places > 0
+        && places % AT_ONCE == 0
+        && clear + places < GAP_MOST
+        && none_of_many(held, clear, places / AT_ONCE)
+    {
+        *beginning = Beginning::Searching(clear + places);
         return true;
     }
     false
 }
 
-// Whether counts of ones tell that none of the 64 places from one on has a sync.
+// Whether counts of ones tell that none of the places from one on has a sync, eight times `count` of them.
 #[inline]
-fn none_of_word(held: &BitBuf, from: usize) -> bool
-    requires there { from + 111 ≤ length held.now }
+fn none_of_many(held: &BitBuf, from: usize, count: usize) -> bool
+    requires there { from + 8 * count + 47 ≤ length held.now }
     requires before { from ≤ sync_place held.now }
-    ensures { result ≡ true → from + 64 ≤ sync_place held.now }
+    ensures { result ≡ true → from + 8 * count ≤ sync_place held.now }
 {
     // The number of bits held bounds every place below.
     let _ = held.len();
-    for k in 0..8 {
+    for k in 0..count {
         if !none_of_eight(held.field(from + AT_ONCE * k, (BEHIND + AT_ONCE) as u32)) {
             return false;
         }

@@ -1,6 +1,6 @@
 use Rattle.std.proofs.Common.{◌+◌, ◌*◌, arith}
 use Rattle.p25_stream.proofs.JudgingSteps.{places-free}
-use Rattle.p25_stream.proofs.judging.none_of_word.Goals as goal
+use Rattle.p25_stream.proofs.judging.none_of_many.Goals as goal
 
 pub loop-k-preserved : goal.loop-k-preserved
 loop-k-preserved c =
