@@ -10,7 +10,7 @@ use Rattle.p25_units.specs.declared.needs.Need.TheVariants.{More, Length, NoLeng
 use Rattle.p25_units.proofs.NeedsLaws.{need_of-few, need_of-waits}
 use Rattle.p25_units.proofs.BegunLaws.{IsBegun-append}
 use Rattle.p25_stream.specs.Items.{sync_place, gap_of, gap_known, is_decided}
-use Rattle.p25_stream.specs.Beginnings.{Needs, HasNoUnit, IsSearched, IsKnownGap, is_settled, waits, IsBeginning}
+use Rattle.p25_stream.specs.Beginnings.{Needs, HasNoUnit, IsSearched, IsKnownGap, is_settled, waits, IsBeginning, WasBeginning}
 use Rattle.p25_stream.specs.declared.beginning.Beginning.{Beginning}
 use Rattle.p25_stream.specs.declared.beginning.Beginning.TheVariants.{Searching, Waiting, Gap, Ready, NoUnit}
 use Rattle.p25_stream.proofs.SyncPlaceLaws.{sync_place-synced, sync_place-all, sync_place-from, sync_place-append_far}
@@ -126,6 +126,11 @@ waits-stays (Waiting count begun) bits more is few = waits-more bits more count 
 waits-stays (Gap count) bits more is few = absurd (cc)
 waits-stays (Ready count begun) bits more is few = absurd (cc)
 waits-stays (NoUnit field) bits more is few = absurd (cc)
+
+pub was-stays : (beginning : Beginning) (bits : List Bool) → WasBeginning beginning bits → waits beginning (length bits) ≡ true → IsBeginning beginning bits
+was-stays beginning bits was few =
+    subst (λ (xs : List Bool). IsBeginning beginning xs) (sym was.is)
+    (waits-stays beginning was.before was.more was.known (ap (λ (xs : List Bool). waits beginning (length xs)) (sym was.is) ∙ few))
 
 -- the bits that a gap covers are known by the first place behind them with a sync, or by their number
 pub gap-before_sync : (bits : List Bool) (k : ℕ) → 0 < k → k < 4096 → k ≤ sync_place bits → k + 48 ≤ length bits → has_sync (drop k bits) ≡ true → IsKnownGap bits k

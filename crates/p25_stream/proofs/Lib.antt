@@ -3,6 +3,7 @@ pub mod ItemsLaws
 pub mod ItemLaws
 pub mod ArrivalLaws
 pub mod TerminatorLaws
+pub mod ArrivingLaws
 pub mod BeginningsLaws
 pub mod EarlySteps
 pub mod JudgingSteps

@@ -123,10 +123,22 @@ fn beginning_at_sync(held: &BitBuf, begun: Begun) -> Beginning
     }
 }
 
-// Notes, where two counts tell it, that the next eight places have no sync: mostly they have none where an octet has come.
-// Answers whether it did.
+// Sets what is known once more bits have come, where the first item was not known before.
 #[inline]
-pub(crate) fn passes_eight(beginning: &mut Beginning, held: &BitBuf) -> bool
+pub(crate) fn settle(beginning: &mut Beginning, held: &BitBuf)
+    requires was { WasBeginning beginning.old held.now }
+    requires unsettled { is_settled beginning.old ≡ false }
+    ensures { IsBeginning beginning.new held.now }
+{
+    if !beginning.waits(held.len()) && !passes(beginning, held) {
+        judge_more(beginning, held);
+    }
+}
+
+// Notes, where counts tell it, that the places that can be judged now have no sync: mostly they have none where octets have
+// come. Answers whether it did.
+#[inline]
+fn passes(beginning: &mut Beginning, held: &BitBuf) -> bool
     requires { WasBeginning beginning.old held.now }
     ensures passed { result ≡ true → IsBeginning beginning.new held.now }
     ensures same { result ≡ false → beginning.new ≡ beginning.old }
@@ -134,19 +146,38 @@ pub(crate) fn passes_eight(beginning: &mut Beginning, held: &BitBuf) -> bool
     let Beginning::Searching(clear) = *beginning else {
         return false;
     };
-    if clear + AT_ONCE < GAP_MOST
-        && held.len() == clear + AT_ONCE + BEHIND
-        && none_of_eight(held.field(clear, (AT_ONCE + BEHIND) as u32))
+    let places = held.len().saturating_sub(clear + BEHIND);
+    if places > 0
+        && places % AT_ONCE == 0
+        && clear + places < GAP_MOST
+        && none_of_many(held, clear, places / AT_ONCE)
     {
-        *beginning = Beginning::Searching(clear + AT_ONCE);
+        *beginning = Beginning::Searching(clear + places);
         return true;
     }
     false
 }
 
-// Sets what is known once more bits have come, where the first item was not known before.
+// Whether counts of ones tell that none of the places from one on has a sync, eight times `count` of them.
+#[inline]
+fn none_of_many(held: &BitBuf, from: usize, count: usize) -> bool
+    requires there { from + 8 * count + 47 ≤ length held.now }
+    requires before { from ≤ sync_place held.now }
+    ensures { result ≡ true → from + 8 * count ≤ sync_place held.now }
+{
+    // The number of bits held bounds every place below.
+    let _ = held.len();
+    for k in 0..count {
+        if !none_of_eight(held.field(from + AT_ONCE * k, (BEHIND + AT_ONCE) as u32)) {
+            return false;
+        }
+    }
+    true
+}
+
+// The same by all that is there to be read, apart from the caller.
 #[inline(never)]
-pub(crate) fn judge_more(beginning: &mut Beginning, held: &BitBuf)
+fn judge_more(beginning: &mut Beginning, held: &BitBuf)
     requires was { WasBeginning beginning.old held.now }
     requires unsettled { is_settled beginning.old ≡ false }
     ensures { IsBeginning beginning.new held.now }

@@ -6,10 +6,12 @@
 //! ```text
 //! let mut scanner = Scanner::new();
 //! let mut raw = BitBuf::new();
-//! for octet in octets {
-//!     scanner.push(octet);
+//! let mut room = BitBuf::new();
+//! let mut taken = 0;
+//! while taken < octets.len() {
+//!     taken += scanner.push_some(&octets[taken..]);
 //!     while let Some(item) = scanner.next(&mut raw) {
-//!         repair_item(&item, &mut raw);
+//!         repair_item(&item, &mut room, &mut raw);
 //!     }
 //! }
 //! scanner.finish();
@@ -20,6 +22,7 @@
 //! `arrival_laws` where units that were sent are found again.
 #![tactic(auto)]
 
+mod arriving;
 mod beginning;
 mod judging;
 mod laws;

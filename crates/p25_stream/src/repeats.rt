@@ -6,22 +6,33 @@ ghost use Rattle.p25_units.specs.Units.{IsSoundFrame, image_of};
 ghost use Rattle.p25_stream.specs.Repeats.{bridged, bridged_frame, is_whole_item, repaired};
 
 use p25_bits::BitBuf;
-use p25_units::{Frame, Item, Status, Statuses, image, image_as};
+use p25_status::weave;
+use p25_units::{Frame, Item, Status, Statuses, image_as, unit_image};
 
 /// Replaces the bits that an item covers by those of its frame where it is `Whole`, so that no wrong bit is left in its
 /// sync, its identifier and its code words; its status symbols and the bits without a code stay as received. The bits of
-/// every other item stay as they are.
-pub fn repair_item(item: &Item, raw: &mut BitBuf)
+/// every other item stay as they are. `room` takes the frame's bits without status symbols; what it holds before and behind
+/// the call means nothing.
+pub fn repair_item(item: &Item, room: &mut BitBuf, raw: &mut BitBuf)
     requires { IsSoundItem item.now }
     ensures { raw.new ≡ repaired item.now raw.old }
 {
     match item {
-        Item::Whole { frame, .. } => image(frame, raw),
+        Item::Whole { frame, .. } => repair_frame(frame, room, raw),
         Item::Broken { .. } => {}
         Item::NoUnit { .. } => {}
         Item::Gap { .. } => {}
         Item::Cut { .. } => {}
     }
+}
+
+// Sets `raw` to the bits of a frame as they are sent.
+fn repair_frame(frame: &Frame, room: &mut BitBuf, raw: &mut BitBuf)
+    requires { IsSoundFrame frame.now }
+    ensures { raw.new ≡ image_of frame.now }
+{
+    unit_image(&frame.unit, room);
+    weave(room, &frame.statuses, raw);
 }
 
 /// Sets `out` to the bits of a `Whole` item's frame, with another network access code and with one status symbol in place

@@ -1,12 +1,13 @@
 //! A scanner of bits that come octet by octet.
 
-ghost use Rattle.std.specs.Prelude.{◌≡◌, ◌+◌, ◌^◌, ◌<◌, ◌≤◌, ◌↔◌, ◌++◌, [], true, false, length, IsTrue, IfSome, MatchOption};
-ghost use Rattle.p25_bits.specs.Bits.{bits_of};
+ghost use Rattle.std.specs.Prelude.{◌≡◌, ◌+◌, ◌^◌, ◌<◌, ◌≤◌, ◌↔◌, ◌++◌, [], true, false, length, take, IsTrue, IfSome, MatchOption};
+ghost use Rattle.p25_bits.specs.Bits.{bits_of, octet_bits};
 ghost use Rattle.p25_stream.specs.Scan.{Gave, given};
 ghost use Rattle.p25_units.specs.Items.{IsSoundItem};
 
 use crate::beginning::Beginning;
-use crate::judging::{beginning_anew, judge_more, passes_eight, set_item};
+use crate::arriving::put_some;
+use crate::judging::{beginning_anew, set_item, settle};
 use p25_bits::BitBuf;
 use p25_units::Item;
 use std::marker::Model;
@@ -53,7 +54,6 @@ impl Scanner {
 
     /// Appends the bits of an octet, the most significant first. No item is left to give, the stream is not finished, and
     /// fewer than 2^60 bits were taken.
-    #[inline]
     pub fn push(&mut self, octet: u8)
         requires drained { given self.old ≡ [] }
         requires going { self.old.finished ≡ false }
@@ -61,11 +61,25 @@ impl Scanner {
         ensures { self.new ≡ record self.old { held = self.old.held ++ bits_of 8 octet } }
     {
         self.held.put_field(u64::from(octet), 8);
-        if !self.beginning.waits(self.held.len())
-            && !passes_eight(&mut self.beginning, &self.held)
-        {
-            judge_more(&mut self.beginning, &self.held);
-        }
+        settle(&mut self.beginning, &self.held);
+    }
+
+    /// Appends the bits of some octets, from the first of these on, and answers of how many: of eight where there are so many
+    /// and room for them, and else of one. No item is left to give, the stream is not finished, and fewer than 2^60 bits were
+    /// taken.
+    #[inline]
+    pub fn push_some(&mut self, octets: &[u8]) -> usize
+        requires some { 0 < length octets.now }
+        requires drained { given self.old ≡ [] }
+        requires going { self.old.finished ≡ false }
+        requires few { self.old.place + length self.old.held < 2 ^ 60 }
+        ensures bits { self.new ≡ record self.old { held = self.old.held ++ octet_bits (take result octets.now) } }
+        ensures some { 0 < result }
+        ensures there { result ≤ length octets.now }
+    {
+        let count = put_some(octets, &mut self.held);
+        settle(&mut self.beginning, &self.held);
+        count
     }
 
     /// Sets that no more bits come: what is held is divided to its end.

@@ -34,6 +34,22 @@ fn one_octet(rt: HostRuntime) {
     assert_eq!(rt; scanner.held(), 0);
 }
 
+#[test]
+fn octets_as_many_as_there_are(rt: HostRuntime) {
+    let mut scanner = Scanner::new();
+    let octets = [0; 9];
+    let mut taken = 0;
+    if scanner.is_drained() {
+        taken = scanner.push_some(&octets);
+    }
+    assert_eq!(rt; taken, 8);
+    assert_eq!(rt; scanner.held(), 64);
+    if taken < octets.len() && scanner.is_drained() {
+        assert_eq!(rt; scanner.push_some(&octets[taken..]), 1);
+    }
+    assert_eq!(rt; scanner.held(), 72);
+}
+
 // What a terminator carries: nothing of it fails.
 #[tactic(auto, unfolding(p25_units::specs::Units::IsWholeBody))]
 fn terminator() -> Body
@@ -54,6 +70,7 @@ fn a_terminator_sent_again(rt: HostRuntime) -> Result<(), Fail> {
         statuses,
     };
     let mut raw = BitBuf::new();
+    let mut room = BitBuf::new();
     let mut out = BitBuf::new();
     if frame_length(&frame.unit) == 72 * frame.statuses.len() {
         let item = Item::Whole {
@@ -61,7 +78,7 @@ fn a_terminator_sent_again(rt: HostRuntime) -> Result<(), Fail> {
             frame,
             fixes: 3,
         };
-        repair_item(&item, &mut raw);
+        repair_item(&item, &mut room, &mut raw);
         assert_eq!(rt; raw.len(), 144);
         assert!(rt; bridge_item(&item, 0x293, three, &mut out));
     }
@@ -71,7 +88,7 @@ fn a_terminator_sent_again(rt: HostRuntime) -> Result<(), Fail> {
         assert_eq!(rt; out.field(142, 2), 3);
     }
     let cut = Item::Cut { place: 7, have: 48 };
-    repair_item(&cut, &mut raw);
+    repair_item(&cut, &mut room, &mut raw);
     assert_eq!(rt; raw.len(), 144);
     assert!(rt; !bridge_item(&cut, 0x293, three, &mut out));
     Ok(())

@@ -60,30 +60,6 @@ fn drain<W: Worker, K: Sink>(
     }
 }
 
-// Hands one octet to the command and gathers what it gives.
-fn feed_octet<W: Worker, K: Sink>(
-    worker: &mut W,
-    octet: u8,
-    page: &mut Line,
-    piece: &mut Line,
-    sink: &mut K,
-) -> Result<(), Stop>
-    requires drained { W.IsDrained worker.old }
-    requires going { W.is_finished worker.old ≡ false }
-    requires few { W.size worker.old < 2 ^ 28 }
-    ensures moved { OnOk result (Moved K.written sink.old page.old (W.future worker.old) (octet ∷ []) sink.new page.new (W.future worker.new)) }
-    ensures drained { OnOk result (W.IsDrained worker.new) }
-    ensures idle { OnOk result (IsIdle false (W.future worker.new)) }
-    ensures stopped { IfErr result (λ stop. IsStopped K.written sink.old page.old (W.future worker.old) (octet ∷ []) stop sink.new) }
-    ensures going { W.is_finished worker.new ≡ false }
-    ensures size { W.size worker.new ≤ W.size worker.old + 8 }
-    ensures later { K.faults sink.old ≤ K.faults sink.new }
-    ensures cause { IfErr result (λ stop. stop ≡ Stop.Fault → Rose (K.faults sink.old) (K.faults sink.new)) }
-{
-    worker.push(octet);
-    drain(worker, page, piece, sink)
-}
-
 // Hands octets to the command, and writes all that it gives for them.
 fn feed<W: Worker, K: Sink>(
     worker: &mut W,
@@ -106,8 +82,10 @@ fn feed<W: Worker, K: Sink>(
     ensures later { K.faults sink.old ≤ K.faults sink.new }
     ensures cause { IfErr result (λ stop. stop ≡ Stop.Fault → Rose (K.faults sink.old) (K.faults sink.new)) }
 {
-    for octet in octets {
-        match feed_octet(worker, *octet, page, piece, sink) {
+    let mut done = 0;
+    while done < octets.len() {
+        done += worker.push_some(&octets[done..]);
+        match drain(worker, page, piece, sink) {
             Ok(()) => {}
             Err(stop) => return Err(stop),
         }

@@ -1,4 +1,4 @@
-//! The work on an input: octets are read in pieces from a source, handed one after the other to a command, and what the
+//! The work on an input: octets are read in pieces from a source, handed in their order to a command, and what the
 //! command gives for them is written to a sink in few pieces.
 //!
 //! A command is a `Worker`. Contracts see it by its `Future`: what it still writes, how the call ends, and behind which texts

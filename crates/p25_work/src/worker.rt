@@ -1,12 +1,12 @@
 //! What a command does with the octets of its input, one after the other, apart from reading and writing.
 
-ghost use Rattle.std.specs.Prelude.{◌≡◌, ℕ, ◌+◌, ◌^◌, ◌<◌, ◌≤◌, Bool, true, false, List, [], ◌∷◌};
+ghost use Rattle.std.specs.Prelude.{◌≡◌, ℕ, ◌+◌, ◌*◌, ◌^◌, ◌<◌, ◌≤◌, Bool, true, false, List, [], ◌∷◌, length, take};
 ghost use Rattle.p25_work.specs.Futures.{Future, Progress, IsClosed, IsIdle, NextPiece};
 
 use super::ending::{Ending, Refusal};
 use p25_line::Line;
 
-/// A command at work: octets go in one at a time, and what it writes for them comes out in pieces.
+/// A command at work: octets go in, and what it writes for them comes out in pieces.
 ///
 /// Contracts see what it is still to write, how it ends, and where memory may be wanting, for any octets that may still
 /// come (its `future`).
@@ -34,6 +34,23 @@ pub trait Worker {
         ensures moved { Progress (future self.old) (octet ∷ []) [] (future self.new) }
         ensures going { is_finished self.new ≡ false }
         ensures size { size self.new ≤ size self.old + 8 };
+
+    /// Takes some of the next octets of the input, from the first of these on, and answers how many: at least one, and more
+    /// where that is quicker.
+    fn push_some(&mut self, octets: &[u8]) -> usize
+        requires some { 0 < length octets.now }
+        requires drained { IsDrained self.old }
+        requires going { is_finished self.old ≡ false }
+        requires few { size self.old + 8 * length octets.now < 2 ^ 28 }
+        ensures some { 0 < result }
+        ensures there { result ≤ length octets.now }
+        ensures moved { Progress (future self.old) (take result octets.now) [] (future self.new) }
+        ensures going { is_finished self.new ≡ false }
+        ensures size { size self.new ≤ size self.old + 8 * result }
+    {
+        self.push(octets[0]);
+        1
+    }
 
     /// Is told that the input has ended.
     fn finish(&mut self)

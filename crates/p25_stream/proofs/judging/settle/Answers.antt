@@ -1,0 +1,21 @@
+use Rattle.std.proofs.Common.{Bool, List, ap, sym, subst, ◌∙◌}
+use Rattle.p25_stream.specs.Beginnings.{IsBeginning, is_settled, waits}
+use Rattle.p25_stream.specs.declared.beginning.Beginning.{Beginning}
+use Rattle.p25_stream.proofs.BeginningsLaws.{was-stays}
+use Rattle.p25_stream.proofs.judging.settle.Goals as goal
+use Rattle.p25_stream.proofs.judging.settle.Goals.{else-not-waits-via-then-not-waits+else-not-passes, else-not-waits-via-else-not-waits}
+
+pub judge_more-requires-clause-unsettled : goal.judge_more-requires-clause-unsettled
+judge_more-requires-clause-unsettled c = ap is_settled (c.passes.ensures.same c.if-not-passes.true) ∙ c.requires.unsettled
+
+pub returns-else-not-waits : goal.returns-else-not-waits
+returns-else-not-waits c =
+    let held = c.args.held.now in
+    let was = c.args.beginning.now in
+    elim c.else-not-waits.branch [
+      | else-not-waits-via-then-not-waits+else-not-passes w ↦
+        subst (λ (b : Beginning). IsBeginning b held) (sym w.beginning-is) (w.passes.ensures.passed w.if-not-passes.false)
+      | else-not-waits-via-else-not-waits w ↦
+        subst (λ (b : Beginning). IsBeginning b held) (sym w.beginning-is)
+            (was-stays was held c.requires.was (ap (waits was) (sym c.len.ensures.value) ∙ sym c.waits.ensures ∙ w.if-not-waits.false))
+    ]

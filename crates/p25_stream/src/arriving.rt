@@ -1,0 +1,61 @@
+//! Octets as they come, eight at once.
+
+ghost use Rattle.std.specs.Prelude.{◌≡◌, ◌+◌, ◌*◌, ◌<◌, ◌≤◌, ◌++◌, All, length, take};
+ghost use Rattle.p25_bits.specs.Bits.{octet_bits};
+
+use p25_bits::BitBuf;
+
+// The most bits that are held.
+const HELD_MOST: usize = 25_927;
+
+// Appends the bits of some octets, from the first on, and answers of how many: of eight where there are so many and room for
+// them, and else of one.
+#[inline]
+pub(crate) fn put_some(octets: &[u8], held: &mut BitBuf) -> usize
+    requires some { 0 < length octets.now }
+    requires room { length held.old < 25920 }
+    ensures list { held.new ≡ held.old ++ octet_bits (take result octets.now) }
+    ensures len { length held.new ≡ length held.old + 8 * result }
+    ensures most { length held.new ≤ 25927 }
+    ensures some { 0 < result }
+    ensures there { result ≤ length octets.now }
+{
+    if octets.len() < 8 || held.len() + 64 > HELD_MOST {
+        put_one(octets, held);
+        return 1;
+    }
+    put_eight(octets, held);
+    8
+}
+
+// Appends the bits of the first octet.
+fn put_one(octets: &[u8], held: &mut BitBuf)
+    requires some { 0 < length octets.now }
+    requires room { length held.old + 8 ≤ 25928 }
+    ensures list { held.new ≡ held.old ++ octet_bits (take 1 octets.now) }
+    ensures len { length held.new ≡ length held.old + 8 }
+{
+    held.put_field(u64::from(octets[0]), 8);
+}
+
+// Appends the bits of the first eight octets.
+#[inline]
+fn put_eight(octets: &[u8], held: &mut BitBuf)
+    requires some { 8 ≤ length octets.now }
+    requires room { length held.old + 64 ≤ 25928 }
+    ensures list { held.new ≡ held.old ++ octet_bits (take 8 octets.now) }
+    ensures len { length held.new ≡ length held.old + 64 }
+{
+    fit(octets);
+    let word = u64::from_be_bytes([
+        octets[0], octets[1], octets[2], octets[3], octets[4], octets[5], octets[6], octets[7],
+    ]);
+    held.put_field(word, 64);
+}
+
+// Does nothing: its contract says that octets fit.
+fn fit(octets: &[u8])
+    ensures { All (λ octet. octet < 256) octets.now }
+{
+    let _ = octets.len();
+}
