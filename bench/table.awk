@@ -1,5 +1,5 @@
 # Makes the rows of the table. Reads the figures wished for (`name|case|figure`) and then the lines of what was timed: of a call
-# `call|words|input|seconds|KiB|octets|COUNT UNITS`, and of a coder `program|name|case|tenths of a nanosecond|sum`.
+# `call|words|input|seconds|KiB|octets|COUNT UNITS|kind`, and of a coder `program|name|case|tenths of a nanosecond|sum`.
 BEGIN {
     FS = "|"
     mib = 1048576
@@ -31,16 +31,17 @@ function rate(count, seconds,   parts) {
     return parts[1] == 0 || seconds == 0 ? "" : sprintf("%.0f %s", parts[1] / seconds, parts[2])
 }
 
-# The row of a call: its seconds are those of 16 MiB, where its input is a recording.
-function row_of_call(   name, seconds, whole, speed) {
+# The row of a call: of a recording its seconds are those of 16 MiB, and its memory is to be small.
+function row_of_call(   name, seconds, whole, speed, large) {
     name = $2 "|" $3
     seconds = whole = $4
-    if ($6 >= mib) {
+    if ($8 == "recording") {
         whole = seconds * 16 * mib / $6
         speed = seconds > 0 ? sprintf("%.1f", $6 / seconds / 1000000) : ""
+        large = $5 > 4096 ? ", missed" : ""
     }
     printf("| `%s` | %s | %.2f s | %s | %s | %s | | | %s |\n",
-        $2, $3, whole, speed, rate($7, seconds), $5 ($5 > 4096 ? ", missed" : ""), wished(name, whole))
+        $2, $3, whole, speed, rate($7, seconds), $5 large, wished(name, whole))
 }
 
 # The row of a coder, beside the program that does the same.
