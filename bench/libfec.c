@@ -1,12 +1,13 @@
-/* Times libfec on the words that words.rt.txt and marks.rt.txt time: Reed-Solomon words over GF(64), and identifiers as
-   Reed-Solomon words of 63 symbols with 22 check symbols, which is how libfec can read them. The lines are of the same form. */
+/* Times libfec on the words that coders/words.rt.txt and coders/marks.rt.txt time: Reed-Solomon words over GF(64), and
+   identifiers as Reed-Solomon words of 63 symbols with 22 check symbols, which is how libfec can read them. The lines are of the
+   same form. */
 #include <fec.h>
 #include <stdint.h>
 #include <stdio.h>
 #include <string.h>
 #include <time.h>
 
-enum { ROUNDS = 600, WORDS = 64, LONGEST = 63 };
+enum { ROUNDS = 400, WORDS = 64, LONGEST = 63 };
 
 static uint64_t state = 0x9E3779B97F4A7C15u;
 
@@ -26,8 +27,8 @@ static uint64_t nanoseconds(void) {
 static unsigned char words[WORDS][LONGEST];
 static int marked[WORDS][LONGEST];
 
-/* Times `decode_rs_char` on the words of a row. */
-static void time_row(void *code, const char *name, int n, int k, int marks, int wrong) {
+/* Times `decode_rs_char` on the words of a row, of which so many symbols are marked. */
+static void time_row(void *code, const char *name, const char *label, int n, int marks) {
     uint64_t least = UINT64_MAX;
     unsigned found = 0;
     for (int round = 0; round < ROUNDS; round++) {
@@ -46,11 +47,7 @@ static void time_row(void *code, const char *name, int n, int k, int marks, int 
             least = time;
         }
     }
-    printf("%s %d %d ", name, n, k);
-    if (marks > 0) {
-        printf("marks %d ", marks);
-    }
-    printf("wrong %d %llu %u\n", wrong, (unsigned long long)(least * 10 / WORDS), found);
+    printf("%s|%s|%llu|%u\n", name, label, (unsigned long long)(least * 10 / WORDS), found);
 }
 
 /* Changes symbols of a word, of which the first so many are marked, to others; of an identifier bits are inverted. */
@@ -71,22 +68,29 @@ static void damage(int j, int n, int marks, int wrong, int bits) {
     }
 }
 
-/* Reed-Solomon words with so many marks, and so many wrong symbols beside them. */
-static void symbols(int n, int k, int marks, int wrong) {
+/* What is timed of a code: how many symbols are marked, how many more are wrong, and how that is called. */
+struct row {
+    int marks;
+    int wrong;
+    const char *label;
+};
+
+/* Reed-Solomon words. */
+static void symbols(const char *name, int n, int k, const struct row *row) {
     void *code = init_rs_char(6, 0x43, 1, 1, n - k, 63 - n);
     for (int j = 0; j < WORDS; j++) {
         for (int i = 0; i < k; i++) {
             words[j][i] = (unsigned char)((next() >> 20) % 64u);
         }
         encode_rs_char(code, words[j], words[j] + k);
-        damage(j, n, marks, wrong, 0);
+        damage(j, n, row->marks, row->wrong, 0);
     }
-    time_row(code, "rs", n, k, marks, wrong);
+    time_row(code, name, row->label, n, row->marks);
     free_rs_char(code);
 }
 
-/* Identifiers with so many wrong bits: multiples of the generator polynomial, a bit to a symbol. */
-static void identifiers(int wrong) {
+/* Identifiers: multiples of the generator polynomial, a bit to a symbol. */
+static void identifiers(const struct row *row) {
     void *code = init_rs_char(6, 0x43, 1, 1, 22, 0);
     for (int j = 0; j < WORDS; j++) {
         uint64_t word = 0;
@@ -98,30 +102,29 @@ static void identifiers(int wrong) {
         for (int i = 0; i < 63; i++) {
             words[j][i] = (unsigned char)(word >> (62 - i) & 1u);
         }
-        damage(j, 63, 0, wrong, 1);
+        damage(j, 63, 0, row->wrong, 1);
     }
-    time_row(code, "nid", 63, 16, 0, wrong);
+    time_row(code, "network identifier", row->label, 63, 0);
     free_rs_char(code);
 }
 
 int main(void) {
-    static const int codes[3][2] = {{36, 20}, {24, 12}, {24, 16}};
-    static const int wrong[3][5] = {{0, 1, 4, 8, 9}, {0, 1, 3, 6, 7}, {0, 1, 2, 4, 5}};
-    static const int bits[6] = {0, 1, 3, 11, 12, 21};
-    static const int marks[3][4][2] = {
-        {{1, 0}, {8, 0}, {8, 4}, {16, 0}}, {{1, 0}, {6, 0}, {6, 3}, {12, 0}}, {{1, 0}, {4, 0}, {4, 2}, {8, 0}}};
-    for (int c = 0; c < 3; c++) {
-        for (int i = 0; i < 5; i++) {
-            symbols(codes[c][0], codes[c][1], 0, wrong[c][i]);
-        }
+    static const struct row rows[3][9] = {
+        {{0, 0, "0"}, {0, 1, "1"}, {0, 4, "4"}, {0, 8, "8, the radius"}, {0, 9, "9, beyond"},
+         {1, 0, "1 marked"}, {8, 0, "8 marked"}, {8, 4, "8 marked, 4 more"}, {16, 0, "16 marked"}},
+        {{0, 0, "0"}, {0, 1, "1"}, {0, 3, "3"}, {0, 6, "6, the radius"}, {0, 7, "7, beyond"},
+         {1, 0, "1 marked"}, {6, 0, "6 marked"}, {6, 3, "6 marked, 3 more"}, {12, 0, "12 marked"}},
+        {{0, 0, "0"}, {0, 1, "1"}, {0, 2, "2"}, {0, 4, "4, the radius"}, {0, 5, "5, beyond"},
+         {1, 0, "1 marked"}, {4, 0, "4 marked"}, {4, 2, "4 marked, 2 more"}, {8, 0, "8 marked"}}};
+    static const struct row bits[5] = {
+        {0, 0, "0"}, {0, 1, "1"}, {0, 3, "3"}, {0, 11, "11, the radius"}, {0, 12, "12, beyond"}};
+    for (int i = 0; i < 9; i++) {
+        symbols("Reed-Solomon (36,20)", 36, 20, &rows[0][i]);
+        symbols("Reed-Solomon (24,12)", 24, 12, &rows[1][i]);
+        symbols("Reed-Solomon (24,16)", 24, 16, &rows[2][i]);
     }
-    for (int i = 0; i < 6; i++) {
-        identifiers(bits[i]);
-    }
-    for (int c = 0; c < 3; c++) {
-        for (int i = 0; i < 4; i++) {
-            symbols(codes[c][0], codes[c][1], marks[c][i][0], marks[c][i][1]);
-        }
+    for (int i = 0; i < 5; i++) {
+        identifiers(&bits[i]);
     }
     return 0;
 }
