@@ -2,9 +2,9 @@
 
 ghost use Rattle.std.specs.Prelude.{◌≤◌, length};
 
-use super::words_of;
-use crate::{Line, Outcome, run};
-use p25_io::{MemorySource, SliceSink, SteadySource};
+use super::called;
+use crate::{Line, Outcome};
+use p25_io::{MemorySource, SliceSink};
 
 // Three terminators, with 16 bits between the first two.
 const RECORDING: &[u8; 56] =
@@ -33,7 +33,7 @@ fn each_read_fails_in_turn(rt: HostRuntime) {
         let mut source = MemorySource::new(RECORDING, 1, &fails);
         let mut room = [0; 256];
         let mut sink = SliceSink::new(&mut room, &[]);
-        let outcome = run(rt.alloc(), &words_of(&[b"show"]), &mut source, &mut sink);
+        let outcome = called(rt.alloc(), &[b"show"], &mut source, &mut sink);
         assert_eq!(rt; outcome, Outcome::ReadFault, "failing at {call}");
         let count = decided(call - 1);
         assert_eq!(rt;
@@ -46,7 +46,7 @@ fn each_read_fails_in_turn(rt: HostRuntime) {
     let mut source = MemorySource::new(RECORDING, 1, &[58]);
     let mut room = [0; 256];
     let mut sink = SliceSink::new(&mut room, &[]);
-    let outcome = run(rt.alloc(), &words_of(&[b"show"]), &mut source, &mut sink);
+    let outcome = called(rt.alloc(), &[b"show"], &mut source, &mut sink);
     assert_eq!(rt; outcome, Outcome::Done);
     assert_eq!(rt; sink.written(), TEXT.as_slice());
 }
@@ -55,17 +55,17 @@ fn each_read_fails_in_turn(rt: HostRuntime) {
 fn each_write_fails_in_turn(rt: HostRuntime) {
     for (call, count) in [(1, 0), (2, 47), (3, 66), (4, 115)] {
         let fails = [call];
-        let mut source = SteadySource::new(RECORDING, 1);
+        let mut source = MemorySource::new(RECORDING, 1, &[]);
         let mut room = [0; 256];
         let mut sink = SliceSink::new(&mut room, &fails);
-        let outcome = run(rt.alloc(), &words_of(&[b"show"]), &mut source, &mut sink);
+        let outcome = called(rt.alloc(), &[b"show"], &mut source, &mut sink);
         assert_eq!(rt; outcome, Outcome::WriteFault, "failing at {call}");
         assert_eq!(rt; sink.written(), &TEXT[..count], "failing at {call}");
     }
-    let mut source = SteadySource::new(RECORDING, 1);
+    let mut source = MemorySource::new(RECORDING, 1, &[]);
     let mut room = [0; 256];
     let mut sink = SliceSink::new(&mut room, &[5]);
-    let outcome = run(rt.alloc(), &words_of(&[b"show"]), &mut source, &mut sink);
+    let outcome = called(rt.alloc(), &[b"show"], &mut source, &mut sink);
     assert_eq!(rt; outcome, Outcome::Done);
     assert_eq!(rt; sink.written(), TEXT.as_slice());
 }
@@ -112,10 +112,10 @@ fn put_item(label: &[u8], begin: usize, count: usize, out: &mut Line)
 #[test]
 fn a_recording_is_cut_off_behind_each_octet(rt: HostRuntime) {
     for octets in 0..57 {
-        let mut source = SteadySource::new(&RECORDING[..octets], 7);
+        let mut source = MemorySource::new(&RECORDING[..octets], 7, &[]);
         let mut room = [0; 256];
         let mut sink = SliceSink::new(&mut room, &[]);
-        let outcome = run(rt.alloc(), &words_of(&[b"show"]), &mut source, &mut sink);
+        let outcome = called(rt.alloc(), &[b"show"], &mut source, &mut sink);
         let mut text = Line::new();
         put_cut_text(octets, &mut text);
         assert_eq!(rt; outcome, Outcome::Done, "behind {octets}");
@@ -126,15 +126,10 @@ fn a_recording_is_cut_off_behind_each_octet(rt: HostRuntime) {
 // What the lines before a refused one ask for is written first.
 #[test]
 fn a_write_fault_comes_before_a_refused_line(rt: HostRuntime) {
-    let mut source = SteadySource::new(b"tdu nac=000\nfoo\n", 4_096);
+    let mut source = MemorySource::new(b"tdu nac=000\nfoo\n", 4_096, &[]);
     let mut room = [0; 64];
     let mut sink = SliceSink::new(&mut room, &[1]);
-    let outcome = run(
-        rt.alloc(),
-        &words_of(&[b"build", b"1"]),
-        &mut source,
-        &mut sink,
-    );
+    let outcome = called(rt.alloc(), &[b"build", b"1"], &mut source, &mut sink);
     assert_eq!(rt; outcome, Outcome::WriteFault);
 }
 
@@ -159,7 +154,7 @@ fn words_without_a_command_touch_nothing(rt: HostRuntime) {
     for words in NO_COMMANDS {
         let mut source = MemorySource::new(RECORDING, 7, &[1]);
         let mut sink = SliceSink::new(&mut [], &[1]);
-        let outcome = run(rt.alloc(), &words_of(words), &mut source, &mut sink);
+        let outcome = called(rt.alloc(), words, &mut source, &mut sink);
         assert_eq!(rt; outcome, Outcome::Usage, "{words:?}");
         assert_eq!(rt; source.rest().len(), 56, "{words:?}");
     }

@@ -1,8 +1,8 @@
 //! What each command writes, as a table of inputs, each read in pieces of 1, of 7 and of all octets.
 
-use super::words_of;
-use crate::{Outcome, run};
-use p25_io::{SliceSink, SteadySource};
+use super::called;
+use crate::Outcome;
+use p25_io::{MemorySource, SliceSink};
 use p25_line::LineFault;
 use std::alloc::Global;
 
@@ -240,12 +240,10 @@ const LINES: [Row; 9] = [
 fn holds(alloc: Global, row: &Row) -> bool {
     let (_, words, input, output, outcome) = *row;
     for piece in [1, 7, 4_096] {
-        let mut source = SteadySource::new(input, piece);
+        let mut source = MemorySource::new(input, piece, &[]);
         let mut room = [0; 256];
         let mut sink = SliceSink::new(&mut room, &[]);
-        if run(alloc, &words_of(words), &mut source, &mut sink) != outcome
-            || sink.written() != output
-        {
+        if called(alloc, words, &mut source, &mut sink) != outcome || sink.written() != output {
             return false;
         }
     }
@@ -272,15 +270,10 @@ fn a_long_line_is_refused(rt: HostRuntime) {
     let mut input = [b'x'; 8_205];
     input[..12].copy_from_slice(b"tdu nac=000\n");
     for (size, fault) in [(8_205, LineFault::Long), (8_204, LineFault::Kind)] {
-        let mut source = SteadySource::new(&input[..size], 1_000);
+        let mut source = MemorySource::new(&input[..size], 1_000, &[]);
         let mut room = [0; 64];
         let mut sink = SliceSink::new(&mut room, &[]);
-        let outcome = run(
-            rt.alloc(),
-            &words_of(&[b"build", b"1"]),
-            &mut source,
-            &mut sink,
-        );
+        let outcome = called(rt.alloc(), &[b"build", b"1"], &mut source, &mut sink);
         assert_eq!(rt; outcome, Outcome::BadLine { line: 2, fault });
         assert_eq!(rt; sink.written(), TERMINATOR);
     }

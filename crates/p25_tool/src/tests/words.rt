@@ -10,22 +10,21 @@ use std::test::Fail;
 #[test]
 fn words_name_a_command(rt: HostRuntime) -> Result<(), Fail> {
     let status = Status::new(2).ok_or("2 is a status symbol")?;
-    assert_eq!(rt; words_of(&[b"show"]).command(), Some(Command::Show));
-    assert_eq!(rt; words_of(&[b"calls"]).command(), Some(Command::Calls));
-    assert_eq!(rt; words_of(&[b"stations"]).command(), Some(Command::Stations));
-    assert_eq!(rt; words_of(&[b"duplex"]).command(), Some(Command::Duplex));
-    assert_eq!(rt;
-        words_of(&[b"build", b"2"]).command(),
-        Some(Command::Build { status })
-    );
-    assert_eq!(rt;
-        words_of(&[b"sample", b"10000"]).command(),
-        Some(Command::Sample { count: 10_000 })
-    );
-    assert_eq!(rt;
-        words_of(&[b"bridge", b"29a", b"2"]).command(),
-        Some(Command::Bridge { nac: 0x29A, status })
-    );
+    let rows: [(&[&[u8]], Command); 7] = [
+        (&[b"show"], Command::Show),
+        (&[b"calls"], Command::Calls),
+        (&[b"stations"], Command::Stations),
+        (&[b"duplex"], Command::Duplex),
+        (&[b"build", b"2"], Command::Build { status }),
+        (&[b"sample", b"10000"], Command::Sample { count: 10_000 }),
+        (
+            &[b"bridge", b"29a", b"2"],
+            Command::Bridge { nac: 0x29A, status },
+        ),
+    ];
+    for (words, command) in rows {
+        assert_eq!(rt; words_of(words).command(), Some(command));
+    }
     Ok(())
 }
 
