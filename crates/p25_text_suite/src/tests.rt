@@ -9,6 +9,7 @@ mod scripts;
 mod steps;
 
 use p25_line::Line;
+use p25_script::{Step, step_text};
 
 // The text of parts, each so many times.
 fn repeated(parts: &[(&[u8], usize)]) -> Line {
@@ -26,4 +27,11 @@ fn put_times(part: &[u8], count: usize, line: &mut Line) {
             line.put(part);
         }
     }
+}
+
+// Whether a step has this text.
+fn is_text_of(step: &Step, text: &[u8]) -> bool {
+    let mut line = Line::new();
+    step_text(step, &mut line);
+    line.octets() == text
 }

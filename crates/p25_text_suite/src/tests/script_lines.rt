@@ -1,9 +1,8 @@
 //! Lines of scripts, read and refused.
 
 use p25_line::LineFault;
-use p25_script::{Event, read_event};
+use p25_script::{Event, Way, read_event};
 use std::process::Abort;
-use std::test::Fail;
 
 // A line is refused with a fault.
 fn refused(rt: &impl Abort, line: &[u8], fault: LineFault) {
@@ -66,27 +65,31 @@ fn refused_values(rt: HostRuntime) {
     }
 }
 
+// Whether a line sends these octets.
+fn sends(line: &[u8], octets: &[u8]) -> bool {
+    match read_event(line) {
+        Ok(Event::Send(message)) => message.octets() == octets,
+        _ => false,
+    }
+}
+
+// Whether a line delivers what goes this way, with so many bits inverted.
+fn delivers(line: &[u8], to: Way, count: usize) -> bool {
+    match read_event(line) {
+        Ok(Event::ToReceiver(flips)) => to == Way::Packets && flips.len() == count,
+        Ok(Event::ToSender(flips)) => to == Way::Answers && flips.len() == count,
+        _ => false,
+    }
+}
+
 #[test]
-fn read_lines(rt: HostRuntime) -> Result<(), Fail> {
-    let Event::Send(message) = read_event(b"send 61ff")? else {
-        return Err("a message is sent".into());
-    };
-    assert_eq!(rt; message.octets(), b"a\xff".as_slice());
+fn read_lines(rt: HostRuntime) {
+    assert!(rt; sends(b"send 61ff", b"a\xff"));
     let mut long = [b'0'; 5 + 4_056];
     long[..5].copy_from_slice(b"send ");
-    let Event::Send(longest) = read_event(&long)? else {
-        return Err("the longest message is sent".into());
-    };
-    assert_eq!(rt; longest.octets().len(), 2_028);
-    let Event::ToReceiver(flips) = read_event(b"deliver data 0,9,25919")? else {
-        return Err("data is delivered".into());
-    };
-    assert_eq!(rt; flips.len(), 3);
-    let Event::ToSender(none) = read_event(b"deliver answer -")? else {
-        return Err("an answer is delivered".into());
-    };
-    assert_eq!(rt; none.len(), 0);
-    assert!(rt; matches!(read_event(b"timeout")?, Event::Timeout));
-    assert!(rt; matches!(read_event(b"reopen")?, Event::Reopen));
-    Ok(())
+    assert!(rt; sends(&long, &[0; 2_028]));
+    assert!(rt; delivers(b"deliver data 0,9,25919", Way::Packets, 3));
+    assert!(rt; delivers(b"deliver answer -", Way::Answers, 0));
+    assert!(rt; matches!(read_event(b"timeout"), Ok(Event::Timeout)));
+    assert!(rt; matches!(read_event(b"reopen"), Ok(Event::Reopen)));
 }

@@ -1,5 +1,6 @@
 //! The texts of steps.
 
+use super::is_text_of;
 use p25_line::Line;
 use p25_messages::Message;
 use p25_packet_blocks::Flags;
@@ -13,9 +14,7 @@ fn has_text(kind: StepKind, text: &[u8]) -> bool {
         kind,
         false_pass: false,
     };
-    let mut line = Line::new();
-    step_text(&step, &mut line);
-    line.octets() == text
+    is_text_of(&step, text)
 }
 
 const SENDING: [(StepKind, &[u8]); 8] = [
@@ -136,12 +135,7 @@ fn texts_of_messages(rt: HostRuntime) -> Result<(), Fail> {
         kind: StepKind::Delivered { number: 0, message },
         false_pass: true,
     };
-    let mut line = Line::new();
-    step_text(&step, &mut line);
-    assert_eq!(rt;
-        line.octets(),
-        b"data delivered ns=0 message=6163 false".as_slice()
-    );
+    assert!(rt; is_text_of(&step, b"data delivered ns=0 message=6163 false"));
     let longest = Message::new(&[255; 2_028]).ok_or("2,028 octets are a message")?;
     let step = Step {
         kind: StepKind::Delivered {
@@ -150,6 +144,7 @@ fn texts_of_messages(rt: HostRuntime) -> Result<(), Fail> {
         },
         false_pass: true,
     };
+    let mut line = Line::new();
     step_text(&step, &mut line);
     assert_eq!(rt; line.len(), 4_090);
     Ok(())

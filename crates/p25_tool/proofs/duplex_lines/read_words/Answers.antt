@@ -1,5 +1,5 @@
 use Rattle.std.proofs.Common.{◌≡◌, sym, ◌∙◌, arith}
-use Rattle.p25_script.proofs.ReadSteps.{line_short, short_word, some_place}
+use Rattle.p25_script.proofs.ReadLaws.{line_short, short_word, some_place}
 use Rattle.p25_tool.proofs.DuplexReadSteps.{other-words, three-words, two-words, wrong-start}
 use Rattle.p25_tool.proofs.duplex_lines.read_words.Goals as goal
 
