@@ -24,8 +24,6 @@ mod frame;
 mod item;
 mod laws;
 mod needs;
-#[cfg(test)]
-mod packet_tests;
 mod packets;
 mod read;
 mod scan;
@@ -34,8 +32,6 @@ mod terminators;
 #[cfg(test)]
 mod tests;
 mod unit;
-#[cfg(test)]
-mod voice_tests;
 
 pub use begun::Begun;
 pub use fixing::fixes;

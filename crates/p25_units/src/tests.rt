@@ -1,104 +1,154 @@
-//! Each call once, and needs at each number of bits, with terminators computed apart from this code.
+//! Units that a program apart from this code made: what they need at each number of bits, what they read as, damaged and not,
+//! and that they are written as the same bits.
 
-ghost use Rattle.std.specs.Prelude.{◌≡◌, ◌^◌, ◌<◌, length};
+ghost use Rattle.p25_units.specs.Items.{IsSoundItem};
 ghost use Rattle.p25_units.specs.Units.{IsSoundFrame};
 
+mod rows;
+
+use self::rows::{LARGEST, NEEDS, READINGS};
 use super::{
-    Begun, Body, Field, Frame, Item, Need, Status, Statuses, Unit, VoiceUnit, fixes, frame_length,
-    image, image_as, need, need_begun, read_unit, unit_item,
+    Begun, Field, FieldList, Frame, Item, Need, Status, Statuses, fixes, frame_length, image,
+    image_as, need, need_begun, read_unit, unit_item,
 };
 use p25_bits::BitBuf;
-use std::test::Fail;
+use p25_status::weave;
+use std::process::Abort;
 
-// A terminator with both status symbols 1: its sync, and its identifier in the two parts that are sent.
-fn terminator(sync: u64, before: u64, behind: u64) -> BitBuf
-    requires sync { sync < 2 ^ 48 }
-    requires before { before < 2 ^ 22 }
-    requires behind { behind < 2 ^ 42 }
-    ensures { length result ≡ 144 }
-{
-    let mut sent = BitBuf::new();
-    sent.put_field(sync, 48);
-    sent.put_field(before, 22);
-    sent.put_field(1, 2);
-    sent.put_field(behind, 42);
-    sent.put_field(0, 28);
-    sent.put_field(1, 2);
-    sent
+// The first bits of some words, of which the last goes on, with the status symbol 0 throughout.
+fn sent(words: &[u64], len: usize) -> BitBuf {
+    let mut plain = BitBuf::new();
+    for place in 0..len {
+        if plain.len() < 25_200 && words.len() > 0 {
+            let word = words[(place / 64).min(words.len() - 1)];
+            plain.push((word >> (63 - place % 64)) & 1 == 1);
+        }
+    }
+    let statuses = Statuses::filled(Status::default(), (plain.len() / 70).min(360));
+    let mut out = BitBuf::new();
+    if 70 * statuses.len() == plain.len() {
+        weave(&plain, &statuses, &mut out);
+    }
+    out
 }
 
-// A terminator's frame with two status symbols that are one.
-fn frame(nac: u16, status: Status) -> Frame
-    ensures { IsSoundFrame result }
-{
-    let mut statuses = Statuses::new();
-    statuses.push(status);
-    statuses.push(status);
-    Frame {
-        unit: Unit::new(nac % 4096, Body::Voice(VoiceUnit::End)),
-        statuses,
+// Asserts with how many bits of a unit what is needed.
+fn assert_needs(rt: &impl Abort, whole: &BitBuf, needs: &[(usize, Need)]) {
+    for (have, needed) in needs {
+        assert!(rt; *have <= whole.len());
+        let mut bits = BitBuf::new();
+        bits.append(whole, 0, *have);
+        assert_eq!(rt; need(&bits, 0), *needed);
     }
 }
 
 #[test]
 fn needs(rt: HostRuntime) {
-    // Rows: how many bits are there, and what they need.
-    let rows: [(usize, Need); 7] = [
-        (0, Need::More(48)),
-        (47, Need::More(48)),
-        (48, Need::More(114)),
-        (113, Need::More(114)),
-        (114, Need::More(144)),
-        (143, Need::More(144)),
-        (144, Need::Length(144)),
-    ];
-    let whole = terminator(0x5575_F5FF_77FF, 0xCD, 0x24C_2F74_ECAC);
-    for (have, needed) in rows {
-        if have <= whole.len() {
-            let mut bits = BitBuf::new();
-            bits.append(&whole, 0, have);
-            assert_eq!(rt; need(&bits, 0), needed);
+    for (words, len, needs) in NEEDS {
+        assert_needs(&rt, &sent(words, len), needs);
+    }
+}
+
+// A unit with some of its sent bits inverted.
+fn damaged(words: &[u64], len: usize, places: &[usize]) -> BitBuf {
+    let mut bits = sent(words, len);
+    for place in places {
+        if *place < bits.len() {
+            bits.flip(*place);
         }
     }
-    let five_wrong = terminator(0x5575_F5FF_77E0, 0xCD, 0x24C_2F74_ECAC);
-    assert_eq!(rt; need(&five_wrong, 0), Need::NoSync);
-    let far = terminator(0x5575_F5FF_77FF, 0xDA, 0x2D_4527_4B06);
-    assert_eq!(rt; need(&far, 0), Need::NoLength(Field::Nid));
+    bits
 }
 
-#[test]
-fn a_terminator_with_15_wrong_bits(rt: HostRuntime) -> Result<(), Fail> {
-    let bits = terminator(0x5575_F5FF_77F0, 0xCD, 0x24C_2F74_935C);
+// Asserts that exactly these fields fail.
+fn assert_failing(rt: &impl Abort, failing: &FieldList, fields: &[Field]) {
+    assert_eq!(rt; failing.len(), fields.len());
+    for (i, field) in fields.iter().enumerate() {
+        assert!(rt; i < failing.len());
+        assert_eq!(rt; failing.get(i), *field);
+    }
+}
+
+// Asserts that an item is whole with so many fixes, or that exactly these fields fail.
+fn assert_item(rt: &impl Abort, item: &Item, wrong: u32, fields: &[Field]) {
+    match item {
+        Item::Whole { fixes, .. } => assert!(rt; *fixes == wrong && fields.len() == 0),
+        Item::Broken {
+            fields: failing,
+            ..
+        } => assert_failing(rt, failing, fields),
+        _ => assert!(rt; false),
+    }
+}
+
+// The item of a unit that is all there.
+fn item_of(bits: &BitBuf) -> Item
+    ensures { IsSoundItem result }
+{
     let mut begun = Begun::new();
-    if need_begun(&bits, 0, &mut begun) == Need::Length(144) {
-        let item = unit_item(&bits, 0, 144, begun, 7);
-        assert_eq!(rt; item.place(), 7);
-        assert_eq!(rt; item.covered(), 144);
-        assert!(rt; matches!(item, Item::Whole { fixes: 15, .. }));
+    match need_begun(bits, 0, &mut begun) {
+        Need::Length(count) => unit_item(bits, 0, count, begun, 9),
+        _ => Item::Cut { place: 0, have: 0 },
     }
-    assert_eq!(rt; need(&bits, 0), Need::Length(144));
-    Ok(())
 }
 
 #[test]
-fn written_and_read_again(rt: HostRuntime) -> Result<(), Fail> {
-    let one = Status::new(1).ok_or("1 is a status symbol")?;
-    let sent = terminator(0x5575_F5FF_77FF, 0xCD, 0x24C_2F74_ECAC);
-    let written = frame(0, one);
+fn readings(rt: HostRuntime) {
+    for (words, len, places, wrong, fields) in READINGS {
+        let bits = damaged(words, len, places);
+        let item = item_of(&bits);
+        assert!(rt; item.place() == 9 && item.covered() == bits.len() as u64);
+        assert_item(&rt, &item, wrong, fields);
+    }
+}
+
+// Asserts that a frame is written as some bits.
+fn assert_written(rt: &impl Abort, frame: &Frame, bits: &BitBuf)
+    requires { IsSoundFrame frame.now }
+{
     let mut made = BitBuf::new();
-    image(&written, &mut made);
-    if made.len() == sent.len() {
-        assert_eq!(rt; BitBuf::distance(&made, &sent), 0);
+    image(frame, &mut made);
+    assert!(rt; made.len() == bits.len());
+    assert!(rt; BitBuf::distance(&made, bits) == 0 && fixes(bits, 0, frame) == 0);
+}
+
+// Asserts that a frame is written under another network access code with that code.
+fn assert_code(rt: &impl Abort, frame: &Frame)
+    requires { IsSoundFrame frame.now }
+{
+    let mut made = BitBuf::new();
+    image_as(frame, 0x123, &frame.statuses, &mut made);
+    assert!(rt; made.len() == frame_length(&frame.unit) && made.len() >= 60);
+    assert_eq!(rt; made.field(48, 12), 0x123);
+}
+
+#[test]
+fn written_as_they_were_read(rt: HostRuntime) {
+    for (words, len, _, _, fields) in READINGS {
+        let bits = sent(words, len);
+        match item_of(&bits) {
+            Item::Whole { frame, .. } => {
+                assert_written(&rt, &frame, &bits);
+                assert_code(&rt, &frame);
+            }
+            _ => assert!(rt; fields.len() > 0),
+        }
     }
-    if frame_length(&written.unit) <= sent.len() {
-        assert_eq!(rt; fixes(&sent, 0, &written), 0);
+}
+
+#[test]
+fn all_blocks_of_the_largest_packet_fail(rt: HostRuntime) {
+    let bits = sent(&LARGEST, 25_200);
+    match need(&bits, 0) {
+        Need::Length(count) => match read_unit(&bits, 0, count) {
+            Ok(_) => assert!(rt; false),
+            Err(fields) => {
+                assert_eq!(rt; fields.len(), 127);
+                for i in 0..fields.len() {
+                    assert_eq!(rt; fields.get(i), Field::Block(i as u8));
+                }
+            }
+        },
+        _ => assert!(rt; false),
     }
-    image_as(&written, 0x293, &written.statuses, &mut made);
-    if made.len() == 144 {
-        assert_eq!(rt; made.field(48, 12), 0x293);
-    }
-    if need(&sent, 0) == Need::Length(144) {
-        assert!(rt; read_unit(&sent, 0, 144).is_ok());
-    }
-    Ok(())
 }
