@@ -5,8 +5,8 @@ ghost use Rattle.p25_bits.specs.Bits.{bits_of, octet_bits};
 ghost use Rattle.p25_stream.specs.Scan.{Gave, given};
 ghost use Rattle.p25_units.specs.Items.{IsSoundItem};
 
-use crate::beginning::Beginning;
 use crate::arriving::put_some;
+use crate::beginning::Beginning;
 use crate::judging::{beginning_anew, set_item, settle};
 use p25_bits::BitBuf;
 use p25_units::Item;

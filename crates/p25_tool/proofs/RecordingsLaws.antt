@@ -2,7 +2,7 @@
 use Rattle.std.proofs.Common.{◌≡◌, ◌≢◌, ℕ, ◌+◌, Bool, true, false, cond, List, [], ◌∷◌, ◌++◌, take, drop, Some, None, Ok, refl, ap, ap₂, sym, subst, ◌∙◌, arith, append_assoc, append-nil}
 use Rattle.std.proofs.lemmas.List.{take-append-le, drop-append-le}
 use Rattle.p25_bits.specs.Bits.{bits_of, octet_bits}
-use Rattle.p25_bits.proofs.BitsLaws.{octet_bits-cons, octet_bits-nil}
+use Rattle.p25_bits.proofs.BitsLaws.{octet_bits-append, octet_bits-cons, octet_bits-nil}
 use Rattle.p25_units.specs.declared.item.Item.{Item}
 use Rattle.p25_units.specs.Items.{covered, place_of}
 use Rattle.p25_stream.specs.Items.{items_by, items_in}
@@ -23,20 +23,24 @@ gave-place before now item raw gave =
     let none : before.place + 0 ≡ before.place = omega arith in
     (item-covers before.finished before.place before.held [] item (given now) gave.items).1 ∙ none
 
+-- the bits of one octet
+pub octet_bits-one : (octet : ℕ) → octet_bits (octet ∷ []) ≡ bits_of 8 octet
+octet_bits-one octet = octet_bits-cons octet [] ∙ ap (λ (zs : List Bool). bits_of 8 octet ++ zs) octet_bits-nil ∙ append-nil (bits_of 8 octet)
+
 module _ {R : Type 0} (reporting : Reporting R) where
   -- what is held with octets that come
-  held-octet : (held : List Bool) (octet : ℕ) (more : List ℕ) → held ++ octet_bits (octet ∷ more) ≡ (held ++ bits_of 8 octet) ++ octet_bits more
-  held-octet held octet more = ap (λ (zs : List Bool). held ++ zs) (octet_bits-cons octet more) ∙ sym (append_assoc held (bits_of 8 octet) (octet_bits more))
+  held-octets : (held : List Bool) (octets more : List ℕ) → held ++ octet_bits (octets ++ more) ≡ (held ++ octet_bits octets) ++ octet_bits more
+  held-octets held octets more = ap (λ (zs : List Bool). held ++ zs) (octet_bits-append octets more) ∙ sym (append_assoc held (octet_bits octets) (octet_bits more))
 
   held-none : (held : List Bool) → held ++ octet_bits [] ≡ held
   held-none held = ap (λ (zs : List Bool). held ++ zs) octet_bits-nil ∙ append-nil held
 
-  -- an octet comes
-  pub future-push : (report : R) (scan next : Scan) (octet : ℕ) → next.place ≡ scan.place → next.held ≡ scan.held ++ bits_of 8 octet
-      → Progress (phase_future reporting report scan Reading) (octet ∷ []) [] (phase_future reporting report next Reading)
-  future-push report scan next octet place held = record {
-    writes = λ ended more. ap₂ (λ (p : ℕ) (bits : List Bool). bits_written reporting ended report p bits) (sym place) (held-octet scan.held octet more ∙ ap (λ (zs : List Bool). zs ++ octet_bits more) (sym held));
-    ends = λ ended more. ap₂ (λ (p : ℕ) (bits : List Bool). bits_ending reporting ended report p bits) (sym place) (held-octet scan.held octet more ∙ ap (λ (zs : List Bool). zs ++ octet_bits more) (sym held));
+  -- octets come
+  pub future-push : (report : R) (scan next : Scan) (octets : List ℕ) → next.place ≡ scan.place → next.held ≡ scan.held ++ octet_bits octets
+      → Progress (phase_future reporting report scan Reading) octets [] (phase_future reporting report next Reading)
+  future-push report scan next octets place held = record {
+    writes = λ ended more. ap₂ (λ (p : ℕ) (bits : List Bool). bits_written reporting ended report p bits) (sym place) (held-octets scan.held octets more ∙ ap (λ (zs : List Bool). zs ++ octet_bits more) (sym held));
+    ends = λ ended more. ap₂ (λ (p : ℕ) (bits : List Bool). bits_ending reporting ended report p bits) (sym place) (held-octets scan.held octets more ∙ ap (λ (zs : List Bool). zs ++ octet_bits more) (sym held));
     pauses = λ ended more pause is. absurd (Contains-none pause is);
   }
 
@@ -146,12 +150,12 @@ module _ {R : Type 0} (reporting : Reporting R) where
   is-closed Closed ended other = refl
 
   -- the steps of `push`, `finish`, `next` and `ending`
-  pub step-push : (report : R) (scan next : Scan) (phase : Phase) (octet : ℕ) → has_ended phase ≡ false → next ≡ record { place = scan.place; held = scan.held ++ bits_of 8 octet; finished = scan.finished }
-      → Progress (recording_future reporting (record { report = report; scan = scan; phase = phase })) (octet ∷ []) [] (recording_future reporting (record { report = report; scan = next; phase = phase }))
+  pub step-push : (report : R) (scan next : Scan) (phase : Phase) (octets : List ℕ) → has_ended phase ≡ false → next ≡ record { place = scan.place; held = scan.held ++ octet_bits octets; finished = scan.finished }
+      → Progress (recording_future reporting (record { report = report; scan = scan; phase = phase })) octets [] (recording_future reporting (record { report = report; scan = next; phase = phase }))
   unfolding recording_future
-  step-push report scan next phase octet going same =
-      subst (λ (p : Phase). Progress (phase_future reporting report scan p) (octet ∷ []) [] (phase_future reporting report next p)) (sym (is-reading phase going))
-      (future-push report scan next octet (ap (λ (s : Scan). s.place) same) (ap (λ (s : Scan). s.held) same))
+  step-push report scan next phase octets going same =
+      subst (λ (p : Phase). Progress (phase_future reporting report scan p) octets [] (phase_future reporting report next p)) (sym (is-reading phase going))
+      (future-push report scan next octets (ap (λ (s : Scan). s.place) same) (ap (λ (s : Scan). s.held) same))
 
   pub step-finish : (report : R) (scan next : Scan) (phase : Phase) → has_ended phase ≡ false → next ≡ record { place = scan.place; held = scan.held; finished = true }
       → IsClosed (recording_future reporting (record { report = report; scan = scan; phase = phase })) (recording_future reporting (record { report = report; scan = next; phase = Ended }))

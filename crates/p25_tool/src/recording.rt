@@ -114,6 +114,11 @@ impl<R: Report> Worker for Recording<R> {
         self.scanner.push(octet);
     }
 
+    fn push_some(&mut self, octets: &[u8]) -> usize {
+        let _ = &self.raw;
+        self.scanner.push_some(octets)
+    }
+
     fn finish(&mut self) {
         self.scanner.finish();
         self.phase = Phase::Ended;

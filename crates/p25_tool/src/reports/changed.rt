@@ -25,6 +25,8 @@ pub(crate) enum Change {
 #[derive(Drop)]
 pub(crate) struct Changed {
     change: Change,
+    // Where the bits of a frame are made: what it holds means nothing.
+    room: BitBuf,
     kept: BitBuf,
 }
 
@@ -47,6 +49,7 @@ impl Changed {
     {
         Changed {
             change,
+            room: BitBuf::new(),
             kept: BitBuf::new(),
         }
     }
@@ -60,7 +63,7 @@ impl Report for Changed {
     ghost counted = { λ report. 0 };
 
     fn put(&mut self, item: &Item, raw: &mut BitBuf, out: &mut Line) {
-        change_item(self.change, item, raw);
+        change_item(self.change, item, &mut self.room, raw);
         put_behind(&mut self.kept, raw, out);
     }
 
@@ -75,14 +78,14 @@ impl Report for Changed {
     }
 }
 
-// Changes the bits that an item covers.
-fn change_item(change: Change, item: &Item, raw: &mut BitBuf)
+// Changes the bits that an item covers. `room` takes bits that mean nothing.
+fn change_item(change: Change, item: &Item, room: &mut BitBuf, raw: &mut BitBuf)
     requires change { IsSoundChange change }
     requires item { IsSoundItem item.now }
     ensures { raw.new ≡ change_of change item.now raw.old }
 {
     match change {
-        Change::Repaired => repair_item(item, raw),
+        Change::Repaired => repair_item(item, room, raw),
         Change::Bridged { nac, status } => {
             raw.clear();
             let _ = bridge_item(item, nac, status, raw);
@@ -111,10 +114,23 @@ pub(crate) fn put_behind(kept: &mut BitBuf, bits: &BitBuf, out: &mut Line)
     kept.append(bits, bits.len() - rest, rest);
 }
 
-// Appends the octets that the bits from a place on fill.
+// Appends the octets that the bits from a place on fill, eight at once while there are so many.
 pub(crate) fn put_octets(bits: &BitBuf, at: usize, out: &mut Line)
     requires there { at ≤ length bits.now }
     requires room { length out.old ≤ 1 }
+    ensures { out.new ≡ out.old ++ whole_octets (drop at bits.now) }
+{
+    let words = (bits.len() - at) / 64;
+    for k in 0..words {
+        out.put(&bits.field(at + 64 * k, 64).to_be_bytes());
+    }
+    put_last_octets(bits, at + 64 * words, out);
+}
+
+// Appends the octets that the bits from a place on fill, one after the other.
+fn put_last_octets(bits: &BitBuf, at: usize, out: &mut Line)
+    requires there { at ≤ length bits.now }
+    requires room { length out.old ≤ 4096 }
     ensures { out.new ≡ out.old ++ whole_octets (drop at bits.now) }
 {
     let count = (bits.len() - at) / 8;

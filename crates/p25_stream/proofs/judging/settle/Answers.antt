@@ -14,8 +14,8 @@ returns-else-not-waits c =
     let was = c.args.beginning.now in
     elim c.else-not-waits.branch [
       | else-not-waits-via-then-not-waits+else-not-passes w ↦
-        subst (λ (b : Beginning). IsBeginning b held) (sym w.beginning-is) (w.passes.ensures.passed w.if-not-passes.false)
+          subst (λ (b : Beginning). IsBeginning b held) (sym w.beginning-is) (w.passes.ensures.passed w.if-not-passes.false)
       | else-not-waits-via-else-not-waits w ↦
-        subst (λ (b : Beginning). IsBeginning b held) (sym w.beginning-is)
-            (was-stays was held c.requires.was (ap (waits was) (sym c.len.ensures.value) ∙ sym c.waits.ensures ∙ w.if-not-waits.false))
+          subst (λ (b : Beginning). IsBeginning b held) (sym w.beginning-is)
+          (was-stays was held c.requires.was (ap (waits was) (sym c.len.ensures.value) ∙ sym c.waits.ensures ∙ w.if-not-waits.false))
     ]

@@ -24,8 +24,7 @@ invariant_of-self c =
     let inside = c.self.inside in
     let scan : Scan = record { place = inside.place; held = inside.held; finished = inside.finished } in
     let drained = subst (λ (s : Scan). given s ≡ []) (sym c.self.view_is) c.requires.drained in
-    let going = subst (λ (s : Scan). s.finished ≡ false) (sym c.self.view_is) c.requires.going in
-    (
+    let going = subst (λ (s : Scan). s.finished ≡ false) (sym c.self.view_is) c.requires.going in (
       c.settle.ensures,
       c.put_some-count.ensures.most,
       omega (arith, subst (λ (s : Scan). s.place + length s.held < 2 ^ 60) (sym c.self.view_is) c.requires.few, c.put_some-count.ensures.len, c.put_some-count.ensures.most),

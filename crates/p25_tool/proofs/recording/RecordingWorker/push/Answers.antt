@@ -1,10 +1,10 @@
-use Rattle.std.proofs.Common.{ℕ, ◌+◌, ◌^◌, ◌<◌, [], ◌∷◌, length, ap, subst, sym, ◌∙◌, arith, length-append}
+use Rattle.std.proofs.Common.{ℕ, ◌+◌, ◌^◌, ◌<◌, Bool, List, [], ◌∷◌, ◌++◌, length, ap, subst, sym, ◌∙◌, arith, length-append}
 use Rattle.p25_bits.specs.Bits.{bits_of}
 use Rattle.p25_bits.proofs.BitsLaws.{length-bits_of}
 use Rattle.p25_stream.specs.Scan.{Scan}
 use Rattle.p25_work.specs.Futures.{Progress}
 use Rattle.p25_tool.specs.Recordings.{RecordingParts, has_ended, recording_future}
-use Rattle.p25_tool.proofs.RecordingsLaws.{going-open, step-push}
+use Rattle.p25_tool.proofs.RecordingsLaws.{going-open, octet_bits-one, step-push}
 use Rattle.p25_tool.proofs.recording.RecordingWorker.push.Goals as goal
 
 pub invariant_of-self : goal.invariant_of-self
@@ -23,7 +23,8 @@ returns-clause-moved g c =
     let s = c.self.inside in
     let next : RecordingParts g.row.R.Denot = record { report = s.report; scan = c.push.new.self; phase = s.phase } in
     subst (λ (r : RecordingParts g.row.R.Denot). Progress (recording_future reporting r) (c.args.octet ∷ []) [] (recording_future reporting next)) c.self.view_is
-    (step-push reporting s.report s.scanner c.push.new.self s.phase c.args.octet (ap (λ (r : RecordingParts g.row.R.Denot). has_ended r.phase) c.self.view_is ∙ c.requires.going) c.push.ensures)
+    (step-push reporting s.report s.scanner c.push.new.self s.phase (c.args.octet ∷ []) (ap (λ (r : RecordingParts g.row.R.Denot). has_ended r.phase) c.self.view_is ∙ c.requires.going)
+    (c.push.ensures ∙ ap (λ (zs : List Bool). record { place = s.scanner.place; held = s.scanner.held ++ zs; finished = s.scanner.finished }) (sym (octet_bits-one c.args.octet))))
 
 pub returns-clause-size : goal.returns-clause-size
 returns-clause-size g c =
