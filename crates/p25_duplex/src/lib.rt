@@ -19,8 +19,6 @@ mod event;
 mod laws;
 mod side;
 mod station;
-#[cfg(test)]
-mod tests;
 mod texts;
 mod world;
 

@@ -27,8 +27,6 @@ mod long_sender;
 mod long_step;
 mod long_world;
 mod outgoing;
-#[cfg(test)]
-mod tests;
 
 pub use joiner::{Joined, Joiner};
 pub use laws::long_messages_come_whole;

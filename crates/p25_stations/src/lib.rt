@@ -28,8 +28,6 @@ mod receiver;
 mod sender;
 mod sender_state;
 mod sent;
-#[cfg(test)]
-mod tests;
 
 pub use laws::messages_read_back;
 pub use p25_messages::{Flips, Message, MessageList};

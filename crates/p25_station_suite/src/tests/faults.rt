@@ -1,0 +1,134 @@
+//! Each read and each write of a script fails in turn, the sink takes less than the text, and the script is cut off behind each of its
+//! octets.
+
+ghost use Rattle.std.specs.Prelude.{◌≤◌};
+
+use super::{Call, are_joined, calm, ends};
+use p25_io::SliceSink;
+use p25_line::LineFault;
+use p25_tool::Outcome;
+use std::alloc::Global;
+
+// A message that is sent, delivered and acknowledged, and what is written for it.
+const SCRIPT: &[u8; 42] = b"send 6162\ndeliver data -\ndeliver answer -\n";
+
+const TEXT: &[u8; 125] = b"send taken ns=0 blocks=1\ndata delivered ns=0 message=6162\n\
+    answer acknowledged ns=0\nsent=1 delivered=1 acknowledged=1 false=0\n";
+
+// How many octets of the text the lines that end within so many octets of the script ask for.
+fn decided(octets: usize) -> usize
+    ensures { result ≤ 125 }
+{
+    match octets {
+        0..=9 => 0,
+        10..=24 => 25,
+        25..=41 => 58,
+        _ => 83,
+    }
+}
+
+#[test]
+fn each_read_of_a_script_fails_in_turn(rt: HostRuntime) {
+    for read in 1..44_usize {
+        let call = Call {
+            failing_read: read as u64,
+            ..calm(b"stations", SCRIPT, 1)
+        };
+        let text = &TEXT[..decided(read - 1)];
+        assert!(rt;
+            ends(rt.alloc(), &call, Outcome::ReadFault, text),
+            "failing at {read}"
+        );
+    }
+    // No read is made behind the end.
+    let call = Call {
+        failing_read: 44,
+        ..calm(b"stations", SCRIPT, 1)
+    };
+    assert!(rt; ends(rt.alloc(), &call, Outcome::Done, TEXT));
+}
+
+#[test]
+fn each_write_of_a_script_fails_in_turn(rt: HostRuntime) {
+    for (write, count) in [(1, 0), (2, 25), (3, 58), (4, 83)] {
+        let call = Call {
+            failing_write: write,
+            ..calm(b"stations", SCRIPT, 1)
+        };
+        assert!(rt;
+            ends(rt.alloc(), &call, Outcome::WriteFault, &TEXT[..count]),
+            "failing at {write}"
+        );
+    }
+    let call = Call {
+        failing_write: 5,
+        ..calm(b"stations", SCRIPT, 1)
+    };
+    assert!(rt; ends(rt.alloc(), &call, Outcome::Done, TEXT));
+}
+
+// A sink that takes only so many octets takes the first ones.
+#[test]
+fn a_sink_may_take_less_than_the_text(rt: HostRuntime) {
+    for room in 0..125 {
+        let call = Call {
+            room,
+            ..calm(b"stations", SCRIPT, 7)
+        };
+        assert!(rt;
+            ends(rt.alloc(), &call, Outcome::WriteFault, &TEXT[..room]),
+            "room for {room}"
+        );
+    }
+}
+
+// How the script ends that is cut off behind so many octets: with the fault of its last line, if it has one.
+fn cut_fault(octets: usize) -> Option<LineFault> {
+    match octets {
+        1..=3 | 11..=16 | 26..=31 => Some(LineFault::Kind),
+        4 | 17 | 19..=22 | 32 | 34..=39 => Some(LineFault::Key),
+        5 | 18 | 23 | 33 | 40 => Some(LineFault::Form),
+        6 | 8 => Some(LineFault::Value),
+        _ => None,
+    }
+}
+
+// What is written for it where no line is refused, in octets of the text, and then its last line.
+fn cut_text(octets: usize) -> (usize, &'static [u8]) {
+    match octets {
+        0 => (0, b"sent=0 delivered=0 acknowledged=0 false=0\n"),
+        7..=10 => (25, b"sent=1 delivered=0 acknowledged=0 false=0\n"),
+        24..=25 => (58, b"sent=1 delivered=1 acknowledged=0 false=0\n"),
+        _ => (83, b"sent=1 delivered=1 acknowledged=1 false=0\n"),
+    }
+}
+
+// Whether the script that is cut off behind so many octets ends and is told as it should.
+fn is_cut_off(alloc: Global, octets: usize) -> bool {
+    let call = calm(b"stations", &SCRIPT[..octets.min(42)], 7);
+    if let Some(fault) = cut_fault(octets) {
+        let line = match octets {
+            0..=10 => 1,
+            11..=25 => 2,
+            _ => 3,
+        };
+        return ends(
+            alloc,
+            &call,
+            Outcome::BadLine { line, fault },
+            &TEXT[..decided(octets)],
+        );
+    }
+    let (count, closing) = cut_text(octets);
+    let mut room = [0; 125];
+    let mut text = SliceSink::new(&mut room, &[]);
+    are_joined(&[&TEXT[..count.min(125)], closing], &mut text)
+        && ends(alloc, &call, Outcome::Done, text.written())
+}
+
+#[test]
+fn a_script_is_cut_off_behind_each_octet(rt: HostRuntime) {
+    for octets in 0..43 {
+        assert!(rt; is_cut_off(rt.alloc(), octets), "behind {octets}");
+    }
+}
