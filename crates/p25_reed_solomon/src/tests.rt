@@ -21,6 +21,36 @@ fn symbols_of<const N: usize>(text: &str) -> [Sym; N] {
     symbols
 }
 
+// A word of the code is read.
+fn assert_read<const N: usize, const K: usize>(
+    rt: &impl Abort,
+    received: &str,
+    fixes: u32,
+    sent: &[Sym; N],
+)
+    requires { IsCode N K }
+{
+    let mut word = symbols_of::<N>(received);
+    assert_eq!(rt;
+        read_received::<Rs<N, K>>(&mut word),
+        Reading::Found { fixes },
+        "{received}"
+    );
+    assert_eq!(rt; word, *sent, "{received}");
+}
+
+// A word of the code is what its information is encoded to.
+fn assert_encoded<const N: usize, const K: usize>(rt: &impl Abort, sent: &[Sym; N])
+    requires { IsCode N K }
+{
+    let mut word = [Sym::default(); N];
+    assert_eq!(rt;
+        encode_then_read::<Rs<N, K>>(&sent[..K], &mut word),
+        Reading::Found { fixes: 0 }
+    );
+    assert_eq!(rt; word, *sent);
+}
+
 // A word of the code is read, and it is what its information is encoded to.
 fn assert_found<const N: usize, const K: usize>(
     rt: &impl Abort,
@@ -31,20 +61,8 @@ fn assert_found<const N: usize, const K: usize>(
     requires { IsCode N K }
 {
     let sent = symbols_of::<N>(sent);
-    let mut word = symbols_of::<N>(received);
-    assert_eq!(rt;
-        read_received::<Rs<N, K>>(&mut word),
-        Reading::Found { fixes },
-        "{received}"
-    );
-    assert_eq!(rt; word, sent, "{received}");
-    let mut word = symbols_of::<N>(received);
-    assert_eq!(rt;
-        encode_then_read::<Rs<N, K>>(&sent[..K], &mut word),
-        Reading::Found { fixes: 0 },
-        "{received}"
-    );
-    assert_eq!(rt; word, sent, "{received}");
+    assert_read::<N, K>(rt, received, fixes, &sent);
+    assert_encoded::<N, K>(rt, &sent);
 }
 
 // No word of the code is near enough: nothing is changed.
@@ -78,6 +96,39 @@ fn assert_radius<const N: usize, const K: usize>(rt: &impl Abort, radius: usize)
     assert_eq!(rt; word, [Sym::default(); N]);
 }
 
+// A word whose first symbols are other ones.
+fn with_wrong<const N: usize>(sent: &[Sym; N], count: usize) -> [Sym; N] {
+    let mut word = *sent;
+    for symbol in word.iter_mut().take(count) {
+        *symbol = symbol.add(Sym::ONE);
+    }
+    word
+}
+
+// So many marks behind the first places.
+fn marks_behind<const N: usize>(first: usize, count: usize) -> [bool; N] {
+    let mut erased = [false; N];
+    for gone in erased.iter_mut().skip(first).take(count) {
+        *gone = true;
+    }
+    erased
+}
+
+// A word so many of whose first symbols are wrong is read, some of which are marked.
+fn assert_marked<const N: usize, const K: usize>(
+    rt: &impl Abort,
+    sent: &[Sym; N],
+    marks: usize,
+    fixes: u32,
+)
+    requires { IsCode N K }
+{
+    let mut word = with_wrong::<N>(sent, fixes as usize);
+    let reading = read_marked::<Rs<N, K>>(&mut word, &marks_behind::<N>(0, marks));
+    assert_eq!(rt; reading, Reading::Found { fixes });
+    assert_eq!(rt; word, *sent);
+}
+
 // A word is read with so many marks, and as many wrong symbols behind them as there may be: each mark costs one, each wrong symbol
 // two.
 fn assert_marks<const N: usize, const K: usize>(rt: &impl Abort, sent: &str)
@@ -86,20 +137,7 @@ fn assert_marks<const N: usize, const K: usize>(rt: &impl Abort, sent: &str)
     let sent = symbols_of::<N>(sent);
     for marks in 0..N - K + 1 {
         for wrong in 0..(N - K - marks) / 2 + 1 {
-            let mut word = sent;
-            for symbol in word.iter_mut().take(marks + wrong) {
-                *symbol = symbol.add(Sym::ONE);
-            }
-            let mut erased = [false; N];
-            for gone in erased.iter_mut().take(marks) {
-                *gone = true;
-            }
-            let fixes = (marks + wrong) as u32;
-            assert_eq!(rt;
-                read_marked::<Rs<N, K>>(&mut word, &erased),
-                Reading::Found { fixes }
-            );
-            assert_eq!(rt; word, sent);
+            assert_marked::<N, K>(rt, &sent, marks, (marks + wrong) as u32);
         }
     }
 }
@@ -113,11 +151,7 @@ fn assert_too_few_marks<const N: usize, const K: usize>(rt: &impl Abort, receive
     let received = symbols_of::<N>(received);
     for marks in 0..N - K + 1 {
         let mut word = received;
-        let mut erased = [false; N];
-        for gone in erased.iter_mut().skip(K).take(marks) {
-            *gone = true;
-        }
-        let reading = read_marked::<Rs<N, K>>(&mut word, &erased);
+        let reading = read_marked::<Rs<N, K>>(&mut word, &marks_behind::<N>(K, marks));
         if marks < N - K {
             assert_eq!(rt; reading, Reading::Beyond);
             assert_eq!(rt; word, received);
