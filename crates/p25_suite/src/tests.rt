@@ -1,22 +1,21 @@
-//! Values from outside: through `run`, read in pieces of 1, of 2, of 7 and of all octets, and as scripts of the stations' world.
+//! Values from outside, through `run`: what each command over recordings and lines writes, and each refusal.
 
 mod calls;
 mod damaged;
 mod drawn;
-mod duplex;
-mod fragments;
+mod faults;
 mod packets;
 mod refusals;
+mod rows;
 mod samples;
-mod script;
+mod size;
 mod soft;
-mod stations;
 mod voice;
-mod world;
+mod words;
 
 ghost use Rattle.std.specs.Prelude.{◌≡◌, ◌<◌, length};
 
-use p25_io::{SliceSink, SteadySource};
+use p25_io::{MemorySource, SliceSink, SteadySource};
 use p25_line::Line;
 use p25_tool::{Outcome, Words, run};
 use std::alloc::Global;
@@ -28,6 +27,37 @@ fn words_of(list: &[&[u8]]) -> Words {
         words.add(word);
     }
     words
+}
+
+// A call: its words, its input, how many octets of it a read gives, the number of the read and of the write that fail,
+// none where it is 0.
+#[derive(Clone, Copy)]
+struct Call<'a> {
+    words: &'a [&'a [u8]],
+    input: &'a [u8],
+    piece: usize,
+    failing_read: u64,
+    failing_write: u64,
+}
+
+// A call of which nothing fails.
+fn calm<'a>(words: &'a [&'a [u8]], input: &'a [u8], piece: usize) -> Call<'a> {
+    Call {
+        words,
+        input,
+        piece,
+        failing_read: 0,
+        failing_write: 0,
+    }
+}
+
+// Whether a call ends so, and this is what it writes.
+fn ends(alloc: Global, call: &Call, outcome: Outcome, output: &[u8]) -> bool {
+    let (read_fails, write_fails) = ([call.failing_read], [call.failing_write]);
+    let mut source = MemorySource::new(call.input, call.piece.max(1), &read_fails);
+    let mut room = [0; 4_096];
+    let mut sink = SliceSink::new(&mut room, &write_fails);
+    run(alloc, &words_of(call.words), &mut source, &mut sink) == outcome && sink.written() == output
 }
 
 // Writes the images of the units of some lines, with one status symbol for all, and answers how many octets there are: none

@@ -43,6 +43,3 @@ pub use outcome::{Outcome, outcome_status, outcome_text};
 pub use p25_line::Line;
 pub use p25_long_script::read_long_event;
 pub use words::Words;
-
-#[cfg(test)]
-mod tests;

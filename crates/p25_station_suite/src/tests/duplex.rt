@@ -30,7 +30,7 @@ const B_RESENT: &[u8] =
 
 // The places where the identifiers of the access codes 293 and 292 hex differ, and those where the first transmissions of 6162 and of
 // 6163 hex do, stand in the rows.
-const ROWS: [Row; 8] = [
+const ROWS: [Row; 9] = [
     (
         "an empty script",
         &[b""],
@@ -67,6 +67,20 @@ const ROWS: [Row; 8] = [
                 a data delivered ns=0 message=62\na timeout sent ns=0 try=2\nb data again ack=0\n\
                 a answer acknowledged ns=0\nb timeout sent ns=0 try=2\na data again ack=0\nb answer acknowledged ns=0\n\
                 a sent=1 delivered=1 acknowledged=1\nb sent=1 delivered=1 acknowledged=1\nfalse=0\n",
+        ],
+    ),
+    (
+        "one side down and opened again",
+        &[
+            b"a send -\n",
+            A_TIMEOUTS,
+            b"a timeout\na reopen\ndeliver ab -\n",
+        ],
+        &[
+            b"a send taken ns=0 blocks=1\n",
+            A_RESENT,
+            b"a timeout down\na reopen sent ns=4\nb data opened ns=4\n",
+            b"a sent=1 delivered=0 acknowledged=0 sessions=2\nb sent=0 delivered=0 acknowledged=0\nfalse=0\n",
         ],
     ),
     (

@@ -3,10 +3,9 @@
 
 ghost use Rattle.std.specs.Prelude.{◌≤◌, ◌<◌, length};
 
-use super::{build, put_named, words_of, writes};
-use p25_io::{MemorySource, SliceSink, SteadySource};
+use super::{Call, build, calm, ends, put_named, writes};
 use p25_line::Line;
-use p25_tool::{Outcome, run};
+use p25_tool::Outcome;
 
 // A unit of the call: its line, whether nine voice frames of zeros end it, and what `show` says before it.
 pub type Part = (&'static [u8], bool, &'static [u8]);
@@ -125,14 +124,15 @@ fn calls_stand_after_a_read_fault(rt: HostRuntime) {
     let mut room = [0; 585];
     build(rt.alloc(), b"1", lines_of(4, false).octets(), &mut room);
     let rows: [(u64, &[u8]); 3] = [(532, b""), (585, b""), (586, WITH_HEADER)];
-    for (call, text) in rows {
-        let fails = [call];
-        let mut source = MemorySource::new(&room, 1, &fails);
-        let mut written = [0; 256];
-        let mut sink = SliceSink::new(&mut written, &[]);
-        let outcome = run(rt.alloc(), &words_of(&[b"calls"]), &mut source, &mut sink);
-        assert_eq!(rt; outcome, Outcome::ReadFault, "failing at {call}");
-        assert_eq!(rt; sink.written(), text, "failing at {call}");
+    for (failing_read, text) in rows {
+        let call = Call {
+            failing_read,
+            ..calm(&[b"calls"], &room, 1)
+        };
+        assert!(rt;
+            ends(rt.alloc(), &call, Outcome::ReadFault, text),
+            "failing at {failing_read}"
+        );
     }
 }
 
@@ -140,22 +140,20 @@ fn calls_stand_after_a_read_fault(rt: HostRuntime) {
 fn each_read_fails_in_turn(rt: HostRuntime) {
     let mut room = [0; 585];
     build(rt.alloc(), b"1", lines_of(4, false).octets(), &mut room);
-    for call in 1..588_usize {
-        let fails = [call as u64];
-        let mut source = MemorySource::new(&room, 1, &fails);
-        let mut text = [0; 2_048];
-        let mut sink = SliceSink::new(&mut text, &[]);
-        let outcome = run(rt.alloc(), &words_of(&[b"show"]), &mut source, &mut sink);
-        let (want, whole) = if call <= 586 {
-            (Outcome::ReadFault, whole_in(call - 1))
+    for read in 1..588_usize {
+        let call = Call {
+            failing_read: read as u64,
+            ..calm(&[b"show"], &room, 1)
+        };
+        let (outcome, whole) = if read <= 586 {
+            (Outcome::ReadFault, whole_in(read - 1))
         } else {
             (Outcome::Done, 4)
         };
-        assert_eq!(rt; outcome, want, "failing at {call}");
-        assert_eq!(rt;
-            sink.written(),
-            lines_of(whole, true).octets(),
-            "failing at {call}"
+        let text = lines_of(whole, true);
+        assert!(rt;
+            ends(rt.alloc(), &call, outcome, text.octets()),
+            "failing at {read}"
         );
     }
 }
@@ -164,22 +162,20 @@ fn each_read_fails_in_turn(rt: HostRuntime) {
 fn each_write_fails_in_turn(rt: HostRuntime) {
     let mut room = [0; 585];
     build(rt.alloc(), b"1", lines_of(4, false).octets(), &mut room);
-    for call in 1..6_usize {
-        let fails = [call as u64];
-        let mut source = SteadySource::new(&room, 1);
-        let mut text = [0; 2_048];
-        let mut sink = SliceSink::new(&mut text, &fails);
-        let outcome = run(rt.alloc(), &words_of(&[b"show"]), &mut source, &mut sink);
-        let want = if call <= 4 {
+    for write in 1..6_usize {
+        let call = Call {
+            failing_write: write as u64,
+            ..calm(&[b"show"], &room, 1)
+        };
+        let outcome = if write <= 4 {
             Outcome::WriteFault
         } else {
             Outcome::Done
         };
-        assert_eq!(rt; outcome, want, "failing at {call}");
-        assert_eq!(rt;
-            sink.written(),
-            lines_of(call - 1, true).octets(),
-            "failing at {call}"
+        let text = lines_of(write - 1, true);
+        assert!(rt;
+            ends(rt.alloc(), &call, outcome, text.octets()),
+            "failing at {write}"
         );
     }
 }
@@ -207,14 +203,10 @@ fn the_call_is_cut_off_behind_each_octet(rt: HostRuntime) {
     build(rt.alloc(), b"1", lines_of(4, false).octets(), &mut room);
     for size in 0..586_u16 {
         let front = room.get(..usize::from(size)).unwrap_or(&[]);
-        let mut source = SteadySource::new(front, 64);
-        let mut text = [0; 2_048];
-        let mut sink = SliceSink::new(&mut text, &[]);
-        let outcome = run(rt.alloc(), &words_of(&[b"show"]), &mut source, &mut sink);
-        assert_eq!(rt; outcome, Outcome::Done);
-        assert_eq!(rt;
-            sink.written(),
-            cut_off(size).octets(),
+        let call = calm(&[b"show"], front, 64);
+        let text = cut_off(size);
+        assert!(rt;
+            ends(rt.alloc(), &call, Outcome::Done, text.octets()),
             "cut off behind {size}"
         );
     }

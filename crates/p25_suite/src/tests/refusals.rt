@@ -1,9 +1,8 @@
 //! Lines that `build` refuses, behind a line that it takes.
 
-use super::words_of;
-use p25_io::{SliceSink, SteadySource};
+use super::{calm, ends};
 use p25_line::{Line, LineFault};
-use p25_tool::{Outcome, run};
+use p25_tool::Outcome;
 
 // A terminator of NAC 0 with both status symbols 1.
 const TERMINATOR: &[u8] =
@@ -56,16 +55,8 @@ fn second_lines_are_refused(rt: HostRuntime) {
             input.put(line);
         }
         input.put(b"\ntdu nac=000\n");
-        let mut source = SteadySource::new(input.octets(), 7);
-        let mut room = [0; 64];
-        let mut sink = SliceSink::new(&mut room, &[]);
-        let outcome = run(
-            rt.alloc(),
-            &words_of(&[b"build", b"1"]),
-            &mut source,
-            &mut sink,
-        );
-        assert_eq!(rt; outcome, Outcome::BadLine { line: 2, fault });
-        assert_eq!(rt; sink.written(), TERMINATOR);
+        let call = calm(&[b"build", b"1"], input.octets(), 7);
+        let refused = Outcome::BadLine { line: 2, fault };
+        assert!(rt; ends(rt.alloc(), &call, refused, TERMINATOR), "{line:?}");
     }
 }

@@ -1,9 +1,8 @@
 //! What each command writes, as a table of inputs, each read in pieces of 1, of 7 and of all octets.
 
-use super::called;
-use crate::Outcome;
-use p25_io::{MemorySource, SliceSink};
+use super::{calm, ends};
 use p25_line::LineFault;
+use p25_tool::Outcome;
 use std::alloc::Global;
 
 // A call: its words, its input, its output and its outcome.
@@ -238,16 +237,11 @@ const LINES: [Row; 9] = [
 
 // Whether a call ends and writes as its row says, whatever the reads.
 fn holds(alloc: Global, row: &Row) -> bool {
-    let (_, words, input, output, outcome) = *row;
+    let mut all = true;
     for piece in [1, 7, 4_096] {
-        let mut source = MemorySource::new(input, piece, &[]);
-        let mut room = [0; 256];
-        let mut sink = SliceSink::new(&mut room, &[]);
-        if called(alloc, words, &mut source, &mut sink) != outcome || sink.written() != output {
-            return false;
-        }
+        all = all && ends(alloc, &calm(row.1, row.2, piece), row.4, row.3);
     }
-    true
+    all
 }
 
 #[test]
@@ -270,11 +264,8 @@ fn a_long_line_is_refused(rt: HostRuntime) {
     let mut input = [b'x'; 8_205];
     input[..12].copy_from_slice(b"tdu nac=000\n");
     for (size, fault) in [(8_205, LineFault::Long), (8_204, LineFault::Kind)] {
-        let mut source = MemorySource::new(&input[..size], 1_000, &[]);
-        let mut room = [0; 64];
-        let mut sink = SliceSink::new(&mut room, &[]);
-        let outcome = called(rt.alloc(), &[b"build", b"1"], &mut source, &mut sink);
-        assert_eq!(rt; outcome, Outcome::BadLine { line: 2, fault });
-        assert_eq!(rt; sink.written(), TERMINATOR);
+        let call = calm(&[b"build", b"1"], &input[..size], 1_000);
+        let refused = Outcome::BadLine { line: 2, fault };
+        assert!(rt; ends(rt.alloc(), &call, refused, TERMINATOR), "{size}");
     }
 }

@@ -5,8 +5,8 @@ ghost use Rattle.p25_io.specs.Faults.{HasCause};
 ghost use Rattle.p25_io.specs.Octets.{Appended, AppendedFront};
 
 use super::words_of;
-use crate::{Outcome, run};
 use p25_io::{Failed, Sink, SteadySource};
+use p25_tool::{Outcome, run};
 use std::test::Fail;
 
 // Counts the ends of lines and the octets that are written to it.

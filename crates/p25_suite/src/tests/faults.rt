@@ -2,9 +2,11 @@
 
 ghost use Rattle.std.specs.Prelude.{◌≤◌, length};
 
-use super::called;
-use crate::{Line, Outcome};
+use super::{Call, calm, ends, words_of};
 use p25_io::{MemorySource, SliceSink};
+use p25_line::Line;
+use p25_tool::{Outcome, run};
+use std::alloc::Global;
 
 // Three terminators, with 16 bits between the first two.
 const RECORDING: &[u8; 56] =
@@ -28,46 +30,42 @@ fn decided(octets: usize) -> usize {
 
 #[test]
 fn each_read_fails_in_turn(rt: HostRuntime) {
-    for call in 1..58 {
-        let fails = [call as u64];
-        let mut source = MemorySource::new(RECORDING, 1, &fails);
-        let mut room = [0; 256];
-        let mut sink = SliceSink::new(&mut room, &[]);
-        let outcome = called(rt.alloc(), &[b"show"], &mut source, &mut sink);
-        assert_eq!(rt; outcome, Outcome::ReadFault, "failing at {call}");
-        let count = decided(call - 1);
-        assert_eq!(rt;
-            sink.written(),
-            &TEXT[..count.min(164)],
-            "failing at {call}"
+    for read in 1..58_usize {
+        let call = Call {
+            failing_read: read as u64,
+            ..calm(&[b"show"], RECORDING, 1)
+        };
+        let text = &TEXT[..decided(read - 1).min(164)];
+        assert!(rt;
+            ends(rt.alloc(), &call, Outcome::ReadFault, text),
+            "failing at {read}"
         );
     }
     // No read is made behind the end.
-    let mut source = MemorySource::new(RECORDING, 1, &[58]);
-    let mut room = [0; 256];
-    let mut sink = SliceSink::new(&mut room, &[]);
-    let outcome = called(rt.alloc(), &[b"show"], &mut source, &mut sink);
-    assert_eq!(rt; outcome, Outcome::Done);
-    assert_eq!(rt; sink.written(), TEXT.as_slice());
+    let call = Call {
+        failing_read: 58,
+        ..calm(&[b"show"], RECORDING, 1)
+    };
+    assert!(rt; ends(rt.alloc(), &call, Outcome::Done, TEXT));
 }
 
 #[test]
 fn each_write_fails_in_turn(rt: HostRuntime) {
-    for (call, count) in [(1, 0), (2, 47), (3, 66), (4, 115)] {
-        let fails = [call];
-        let mut source = MemorySource::new(RECORDING, 1, &[]);
-        let mut room = [0; 256];
-        let mut sink = SliceSink::new(&mut room, &fails);
-        let outcome = called(rt.alloc(), &[b"show"], &mut source, &mut sink);
-        assert_eq!(rt; outcome, Outcome::WriteFault, "failing at {call}");
-        assert_eq!(rt; sink.written(), &TEXT[..count], "failing at {call}");
+    for (write, count) in [(1, 0), (2, 47), (3, 66), (4, 115)] {
+        let call = Call {
+            failing_write: write,
+            ..calm(&[b"show"], RECORDING, 1)
+        };
+        assert!(rt;
+            ends(rt.alloc(), &call, Outcome::WriteFault, &TEXT[..count]),
+            "failing at {write}"
+        );
     }
-    let mut source = MemorySource::new(RECORDING, 1, &[]);
-    let mut room = [0; 256];
-    let mut sink = SliceSink::new(&mut room, &[5]);
-    let outcome = called(rt.alloc(), &[b"show"], &mut source, &mut sink);
-    assert_eq!(rt; outcome, Outcome::Done);
-    assert_eq!(rt; sink.written(), TEXT.as_slice());
+    let call = Call {
+        failing_write: 5,
+        ..calm(&[b"show"], RECORDING, 1)
+    };
+    assert!(rt; ends(rt.alloc(), &call, Outcome::Done, TEXT));
 }
 
 // The text of the recording cut off behind so many octets.
@@ -112,25 +110,24 @@ fn put_item(label: &[u8], begin: usize, count: usize, out: &mut Line)
 #[test]
 fn a_recording_is_cut_off_behind_each_octet(rt: HostRuntime) {
     for octets in 0..57 {
-        let mut source = MemorySource::new(&RECORDING[..octets], 7, &[]);
-        let mut room = [0; 256];
-        let mut sink = SliceSink::new(&mut room, &[]);
-        let outcome = called(rt.alloc(), &[b"show"], &mut source, &mut sink);
+        let call = calm(&[b"show"], &RECORDING[..octets], 7);
         let mut text = Line::new();
         put_cut_text(octets, &mut text);
-        assert_eq!(rt; outcome, Outcome::Done, "behind {octets}");
-        assert_eq!(rt; sink.written(), text.octets(), "behind {octets}");
+        assert!(rt;
+            ends(rt.alloc(), &call, Outcome::Done, text.octets()),
+            "behind {octets}"
+        );
     }
 }
 
 // What the lines before a refused one ask for is written first.
 #[test]
 fn a_write_fault_comes_before_a_refused_line(rt: HostRuntime) {
-    let mut source = MemorySource::new(b"tdu nac=000\nfoo\n", 4_096, &[]);
-    let mut room = [0; 64];
-    let mut sink = SliceSink::new(&mut room, &[1]);
-    let outcome = called(rt.alloc(), &[b"build", b"1"], &mut source, &mut sink);
-    assert_eq!(rt; outcome, Outcome::WriteFault);
+    let call = Call {
+        failing_write: 1,
+        ..calm(&[b"build", b"1"], b"tdu nac=000\nfoo\n", 4_096)
+    };
+    assert!(rt; ends(rt.alloc(), &call, Outcome::WriteFault, b""));
 }
 
 // Words that name no command touch nothing.
@@ -149,13 +146,17 @@ const NO_COMMANDS: [&[&[u8]]; 12] = [
     &[b"bridge", b"0000", b"0"],
 ];
 
+// Whether such words are refused, and no octet is read or written.
+fn is_usage(alloc: Global, words: &[&[u8]]) -> bool {
+    let mut source = MemorySource::new(RECORDING, 7, &[1]);
+    let mut sink = SliceSink::new(&mut [], &[1]);
+    run(alloc, &words_of(words), &mut source, &mut sink) == Outcome::Usage
+        && source.rest().len() == 56
+}
+
 #[test]
 fn words_without_a_command_touch_nothing(rt: HostRuntime) {
     for words in NO_COMMANDS {
-        let mut source = MemorySource::new(RECORDING, 7, &[1]);
-        let mut sink = SliceSink::new(&mut [], &[1]);
-        let outcome = called(rt.alloc(), words, &mut source, &mut sink);
-        assert_eq!(rt; outcome, Outcome::Usage, "{words:?}");
-        assert_eq!(rt; source.rest().len(), 56, "{words:?}");
+        assert!(rt; is_usage(rt.alloc(), words), "{words:?}");
     }
 }
