@@ -25,7 +25,7 @@ use Rattle.p25_packet_blocks.specs.Sendable.{IsSendable}
 use Rattle.p25_packet_blocks.specs.Within.{block_radius}
 use Rattle.p25_packet_blocks.proofs.PlacesLaws.{image_long}
 use Rattle.p25_air.specs.Air.{places_within, station_nac, station_status, transmission_of, with_flips, received_bits, ArrivesWithin}
-use Rattle.p25_air.proofs.AirSteps.{flipped-past, length-flipped}
+use Rattle.p25_air.proofs.AirLoopLaws.{flipped-past, length-flipped}
 
 -- Distances of parts.
 

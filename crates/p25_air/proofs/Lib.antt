@@ -1,3 +1,3 @@
-pub mod AirSteps
+pub mod AirLoopLaws
 pub mod AirLaws
 pub mod FewFlipsLaws

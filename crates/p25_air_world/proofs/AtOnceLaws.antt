@@ -22,7 +22,7 @@ use Rattle.p25_stations.specs.declared.receiver.Heard.{Heard as HeardAnswer}
 use Rattle.p25_stations.specs.declared.receiver.Heard.TheVariants.{Delivered as HeardDelivered, Opened as ReceiverOpened}
 use Rattle.p25_world.specs.Link.{first_link}
 use Rattle.p25_world.specs.AtOnce.{DeliversAtOnce, OpensAtOnce}
-use Rattle.p25_world.proofs.LinkSteps.{run-delivers}
+use Rattle.p25_world.proofs.LinkLaws.{run-delivers}
 use Rattle.p25_world.proofs.AtOnceLaws.{opens-down}
 use Rattle.p25_air_world.specs.declared.step.Event.{Event}
 use Rattle.p25_air_world.specs.declared.step.Event.TheVariants.{Send, Reopen, ToReceiver, ToSender}

@@ -5,7 +5,7 @@ use Rattle.p25_world.specs.Link.{Link, first_link, Happening, Data_heard, Answer
 use Rattle.p25_world.specs.Clean.{IsHeardOf, IsClean, IsCleanRun as IsCleanLink}
 use Rattle.p25_world.specs.Orderly.{AreOrderly, AreCounted}
 use Rattle.p25_world.specs.Facts.{LinkFacts}
-use Rattle.p25_world.proofs.LinkSteps.{sessions-orderly, facts-kept}
+use Rattle.p25_world.proofs.LinkLaws.{sessions-orderly, facts-kept}
 use Rattle.p25_world.proofs.CountLaws.{sessions-counted}
 use Rattle.p25_air.specs.declared.air.Carried.{Carried}
 use Rattle.p25_air.specs.declared.air.Carried.TheVariants.{Lost, Foreign, Heard}

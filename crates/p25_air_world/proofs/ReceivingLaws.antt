@@ -19,7 +19,7 @@ use Rattle.p25_stations.specs.ReceiverRules.{empty_places, keeping_full, keeping
 use Rattle.p25_stations.specs.declared.receiver.Heard.{Heard}
 use Rattle.p25_stations.specs.declared.receiver.Heard.TheVariants.{Delivered, Opened, Again, Kept, RefusedCrc, RefusedOrder, Ignored}
 use Rattle.p25_stations.proofs.PlacesLaws.{length-put_slots}
-use Rattle.p25_air.proofs.AirSteps.{blocks-few}
+use Rattle.p25_air.proofs.AirLoopLaws.{blocks-few}
 use Rattle.p25_air_world.specs.Sound.{IsFew}
 use Rattle.p25_air_world.proofs.SendableLaws.{short_response-sendable, retry_packet-sendable}
 

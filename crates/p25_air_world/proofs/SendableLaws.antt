@@ -19,7 +19,7 @@ use Rattle.p25_packet_blocks.proofs.ImageLaws.{AreOctets-checked_octets}
 use Rattle.p25_stations.specs.MessageBlocks.{block_count, pad_count, message_octets, message_block, message_blocks}
 use Rattle.p25_stations.specs.SentPackets.{good_slot, message_packet, wanted_slots, blocks_packet, opening_packet, short_response, retry_packet}
 use Rattle.p25_stations.proofs.MessageBlocksLaws.{length-message_octets}
-use Rattle.p25_stations.proofs.SentSteps.{wanted_slot, length-flag_octets}
+use Rattle.p25_stations.proofs.SentLaws.{wanted_slot, length-flag_octets}
 use Rattle.p25_world.proofs.HeadLaws.{confirmed_head-blocks, opening_head-blocks, response_head-format}
 use Rattle.p25_air_world.specs.Sound.{IsMessage}
 

@@ -8,7 +8,7 @@ use Rattle.p25_world.specs.Clean.{IsTrueTo, IsClean, IsCleanRun as IsCleanLink}
 use Rattle.p25_world.specs.Orderly.{AreOrderly}
 use Rattle.p25_world.specs.Facts.{LinkFacts}
 use Rattle.p25_world.proofs.PhaseLaws.{IsKept}
-use Rattle.p25_world.proofs.LinkSteps.{run-kept, first-kept, sessions-orderly, facts-kept}
+use Rattle.p25_world.proofs.LinkLaws.{run-kept, first-kept, sessions-orderly, facts-kept}
 use Rattle.p25_air.specs.declared.air.Carried.{Carried}
 use Rattle.p25_air.specs.declared.air.Carried.TheVariants.{Lost, Foreign, Heard}
 use Rattle.p25_air.specs.Air.{carried_of}

@@ -23,7 +23,7 @@ use Rattle.p25_world.proofs.SentLaws.{data-heard, opening-packet_heard, ack-hear
 use Rattle.p25_world.proofs.ReceiverLaws.{HearsNext, ignores, keeps, delivers, next-heard, last-heard, opening-is_heard}
 use Rattle.p25_world.proofs.SenderLaws.{IsSame, RetriesOf, HearsAnswer, goes_on, stays, HearsOpening, opens, waits, acks, acks-ack, acks-retry, message-answer, opening-answer, quiet-answer}
 use Rattle.p25_world.proofs.PhaseLaws.{IsQuietData, IsQuiet, IsWaitingAnswer, IsWaiting, IsArrived, IsOpeningAnswer, IsOpening, IsLinked, quiet, waiting, arrived, opening}
-use Rattle.p25_world.proofs.CallSteps.{newest}
+use Rattle.p25_world.proofs.CallLaws.{newest}
 
 -- an answer of the receiver in which nothing is delivered and no opening packet is heard
 unfoldable pub IsPlainHeard : Heard → Type 0

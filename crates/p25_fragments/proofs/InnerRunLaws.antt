@@ -28,7 +28,7 @@ use Rattle.p25_fragments.specs.LongReceivers.{delivered_to}
 use Rattle.p25_fragments.specs.LongState.{LongState}
 use Rattle.p25_fragments.specs.LongSteps.{unmoved, started, long_offered_beside, long_offered, next_offered, followed, then_of, after_acknowledged, after_delivered, after_kind, ended_when, has_ended, inner_happened, long_step}
 use Rattle.p25_fragments.specs.LongRuns.{long_run, long_steps_of, first_steps, next_steps, inner_steps, IsInnerRun}
-use Rattle.p25_fragments.proofs.OfferSteps.{offered-down, beside}
+use Rattle.p25_fragments.proofs.FirstOfferLaws.{offered-down, beside}
 
 -- the steps of the inner world in one step
 steps_in : LongStep → List Step

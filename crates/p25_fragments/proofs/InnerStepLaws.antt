@@ -21,7 +21,7 @@ use Rattle.p25_world.specs.Link.{after_timeout as link_timeout, after_reopening 
 use Rattle.p25_world.specs.Clean.{IsHeardOf, IsClean}
 use Rattle.p25_world.proofs.SenderLaws.{Resends, resent-of, timeout-of, reopen-cases, reopen-up}
 use Rattle.p25_world.proofs.PhaseLaws.{IsLinked, quiet, waiting, arrived, opening, IsKept}
-use Rattle.p25_world.proofs.LinkSteps.{happens-kept}
+use Rattle.p25_world.proofs.LinkLaws.{happens-kept}
 use Rattle.p25_air.specs.declared.air.Carried.{Carried}
 use Rattle.p25_air.specs.declared.air.Carried.TheVariants.{Lost as CarriedLost, Foreign, Heard}
 use Rattle.p25_air.specs.Air.{carried_of}

@@ -1,6 +1,6 @@
 pub mod PartsLaws
 pub mod SendLaws
-pub mod OfferSteps
+pub mod FirstOfferLaws
 pub mod HappenSteps
 pub mod JoinLaws
 pub mod HearingLaws

@@ -4,7 +4,7 @@ use Rattle.p25_stations.specs.declared.sender_state.Outstanding.{Outstanding}
 use Rattle.p25_stations.specs.declared.sender_state.Outstanding.TheVariants.{Nothing, Message, Opening}
 use Rattle.p25_world.specs.Link.{Session, empty_session, first_link}
 use Rattle.p25_world.specs.Orderly.{AreOrderly}
-use Rattle.p25_world.proofs.LinkSteps.{first-kept}
+use Rattle.p25_world.proofs.LinkLaws.{first-kept}
 use Rattle.p25_air_world.specs.declared.step.Event.{Event}
 use Rattle.p25_air_world.specs.declared.step.Event.TheVariants.{Send}
 use Rattle.p25_air_world.specs.declared.step.Step.{Step}
@@ -21,7 +21,7 @@ use Rattle.p25_fragments.specs.LongState.{LongState, first_long}
 use Rattle.p25_fragments.specs.LongSteps.{unmoved, started, long_offered_beside, long_offered, inner_happened, long_step}
 use Rattle.p25_fragments.specs.LongRuns.{IsNoOffer, IsLongEvent, AreLongEvents, long_run, long_steps_of, first_steps, next_steps, inner_steps, IsCleanLongRun, AreUnrefused, long_sessions_of}
 use Rattle.p25_fragments.proofs.JoinLaws.{joined-none}
-use Rattle.p25_fragments.proofs.OfferSteps.{offered-down, beside}
+use Rattle.p25_fragments.proofs.FirstOfferLaws.{offered-down, beside}
 use Rattle.p25_fragments.proofs.OfferedLaws.{offered-to}
 use Rattle.p25_fragments.proofs.InnerStepLaws.{inner-step}
 use Rattle.p25_fragments.proofs.MatchLaws.{not_yet, IsIdleLong, MatchesBy, matches-at, matches-from, Follows, sessions-orderly}

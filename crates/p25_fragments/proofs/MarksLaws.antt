@@ -41,7 +41,7 @@ use Rattle.p25_fragments.specs.LongSenders.{gone_on}
 use Rattle.p25_fragments.specs.LongState.{LongState, first_long}
 use Rattle.p25_fragments.specs.LongSteps.{started, long_offered_beside, long_offered, next_offered, followed, after_acknowledged, after_delivered, after_kind, present_long_mark, ended_when, has_ended, inner_happened, long_step}
 use Rattle.p25_fragments.specs.LongRuns.{long_run}
-use Rattle.p25_fragments.proofs.OfferSteps.{offered-down, beside}
+use Rattle.p25_fragments.proofs.FirstOfferLaws.{offered-down, beside}
 
 -- The marks of the inner world.
 

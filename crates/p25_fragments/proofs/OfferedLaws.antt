@@ -12,7 +12,7 @@ use Rattle.p25_world.specs.Link.{after_offer as link_offer}
 use Rattle.p25_world.specs.Clean.{IsClean}
 use Rattle.p25_world.proofs.SenderLaws.{offer-quiet}
 use Rattle.p25_world.proofs.PhaseLaws.{IsLinked, quiet, waiting, arrived, opening, IsKept}
-use Rattle.p25_world.proofs.LinkSteps.{happens-kept}
+use Rattle.p25_world.proofs.LinkLaws.{happens-kept}
 use Rattle.p25_air_world.specs.declared.step.Event.TheVariants.{Send}
 use Rattle.p25_air_world.specs.WorldState.{WorldState}
 use Rattle.p25_air_world.specs.Steps.{world_step}

@@ -1,4 +1,4 @@
 pub mod SymbolsLaws
 pub mod WordsLaws
-pub mod WordsSteps
+pub mod WordBitsLaws
 pub mod KindsLaws

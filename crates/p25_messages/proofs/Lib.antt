@@ -1,1 +1,1 @@
-pub mod MessageListSteps
+pub mod MessageListLaws

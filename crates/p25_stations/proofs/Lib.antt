@@ -2,6 +2,6 @@ pub mod ListLaws
 pub mod PlacesLaws
 pub mod MessageBlocksLaws
 pub mod AskedSteps
-pub mod SentSteps
+pub mod SentLaws
 pub mod ReceiverSteps
 pub mod CarriedLaws

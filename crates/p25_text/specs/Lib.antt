@@ -1,6 +1,5 @@
 pub mod Names
 pub mod Values
-pub mod CommaLists
 pub mod Packets
 pub mod Voices
 pub mod Grammar

@@ -27,7 +27,6 @@
 //! ```
 #![tactic(auto)]
 
-mod comma_lists;
 mod items;
 mod names;
 mod packet_texts;

@@ -3,8 +3,8 @@ pub mod SentLaws
 pub mod ReceiverLaws
 pub mod SenderLaws
 pub mod PhaseLaws
-pub mod CallSteps
-pub mod LinkSteps
+pub mod CallLaws
+pub mod LinkLaws
 pub mod FactsLaws
 pub mod CountLaws
 pub mod AtOnceLaws

@@ -1,5 +1,5 @@
 use Rattle.std.proofs.Common.{length, Some, refl, ap, sym, ◌∙◌, arith}
-use Rattle.p25_air.proofs.AirSteps.{with_flips-none, with_flips-more, flipped-past}
+use Rattle.p25_air.proofs.AirLoopLaws.{with_flips-none, with_flips-more, flipped-past}
 use Rattle.p25_air.proofs.air.invert.Goals as goal
 use Rattle.p25_air.proofs.air.invert.Goals.{then-place-len, else-place-len}
 

@@ -1,6 +1,6 @@
 use Rattle.std.proofs.Common.{◌≡◌, Bool, length, ◌&&◌, ◌+◌, drop, ap, sym, ◌∙◌, arith}
 use Rattle.p25_air.specs.Air.{are_true_slots}
-use Rattle.p25_air.proofs.AirSteps.{are_true_slots-lengths, are_true_slots-step}
+use Rattle.p25_air.proofs.AirLoopLaws.{are_true_slots-lengths, are_true_slots-step}
 use Rattle.p25_air.proofs.truth.are_true_slots.Goals as goal
 
 pub returns-then-len : goal.returns-then-len

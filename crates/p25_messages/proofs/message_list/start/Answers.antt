@@ -1,6 +1,6 @@
 use Rattle.std.proofs.Common.{◌≡◌, suc, ◌-◌, ◌<◌, length, ap, sym, ◌∙◌, arith}
 use Rattle.p25_messages.specs.MessageList.{start_before}
-use Rattle.p25_messages.proofs.MessageListSteps.{start_before-suc}
+use Rattle.p25_messages.proofs.MessageListLaws.{start_before-suc}
 use Rattle.p25_messages.proofs.message_list.start.Goals as goal
 
 pub returns-then-i-eq0 : goal.returns-then-i-eq0

@@ -2,7 +2,7 @@ use Rattle.std.proofs.Common.{ℕ, ◌∙◌, ap, false}
 use Rattle.p25_packet_blocks.specs.ConfirmedParts.{ConfirmedParts}
 use Rattle.p25_packet_blocks.specs.Heads.{confirmed_head}
 use Rattle.p25_packet_blocks.specs.declared.packet.Packet.TheVariants.{Confirmed}
-use Rattle.p25_stations.proofs.SentSteps.{blocks_packet-is}
+use Rattle.p25_stations.proofs.SentLaws.{blocks_packet-is}
 use Rattle.p25_stations.proofs.sent.blocks.Goals as goal
 
 pub returns : goal.returns

@@ -4,7 +4,7 @@ use Rattle.p25_packet_blocks.specs.ConfirmedParts.{ConfirmedParts}
 use Rattle.p25_packet_blocks.specs.declared.packet.Packet.TheVariants.{Confirmed}
 use Rattle.p25_stations.specs.MessageBlocks.{message_block}
 use Rattle.p25_stations.specs.SentPackets.{good_slot}
-use Rattle.p25_stations.proofs.SentSteps.{block_of_octets, slots_more, message_packet-is}
+use Rattle.p25_stations.proofs.SentLaws.{block_of_octets, slots_more, message_packet-is}
 use Rattle.p25_stations.proofs.sent.message.Goals as goal
 
 pub loop-serial-init : goal.loop-serial-init

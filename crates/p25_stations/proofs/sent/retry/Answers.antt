@@ -1,5 +1,5 @@
 use Rattle.std.proofs.Common.{◌≡◌, ◌<◌, ◌≤◌, ◌-◌, ◌*◌, ℕ, length, ap, sym, ◌∙◌, inr, arith}
-use Rattle.p25_stations.proofs.SentSteps.{length-flag_octets}
+use Rattle.p25_stations.proofs.SentLaws.{length-flag_octets}
 use Rattle.p25_stations.proofs.sent.retry.Goals as goal
 use Rattle.p25_stations.proofs.sent.retry.Goals.{then-len-le64, else-len-le64}
 

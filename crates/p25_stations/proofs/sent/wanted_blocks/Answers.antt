@@ -2,7 +2,7 @@ use Rattle.std.proofs.Common.{◌≡◌, ℕ, ◌∙◌, ap, length, true, false
 use Rattle.std.specs.Prelude.{slice_get}
 use Rattle.p25_bits.specs.Numbers.{joined_below}
 use Rattle.p25_stations.specs.SentPackets.{wanted_slots}
-use Rattle.p25_stations.proofs.SentSteps.{wanted_slot, block_of_octets, wanted_more, wanted_same}
+use Rattle.p25_stations.proofs.SentLaws.{wanted_slot, block_of_octets, wanted_more, wanted_same}
 use Rattle.p25_stations.proofs.sent.wanted_blocks.Goals as goal
 use Rattle.p25_stations.proofs.sent.wanted_blocks.Goals.{then-get, else-get}
 

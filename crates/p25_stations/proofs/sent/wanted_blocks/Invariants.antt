@@ -1,6 +1,6 @@
 use Rattle.std.proofs.Common.{◌≡◌, ◌≤◌, length}
 use Rattle.p25_bits.specs.Numbers.{joined_below}
-use Rattle.p25_stations.proofs.SentSteps.{wanted_slot}
+use Rattle.p25_stations.proofs.SentLaws.{wanted_slot}
 use Rattle.p25_stations.proofs.sent.wanted_blocks.Given as goal
 
 abbrev pub invariant-loop-serial : goal.invariant-loop-serial

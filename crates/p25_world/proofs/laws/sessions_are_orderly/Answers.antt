@@ -1,4 +1,4 @@
-use Rattle.p25_world.proofs.LinkSteps.{sessions-orderly}
+use Rattle.p25_world.proofs.LinkLaws.{sessions-orderly}
 use Rattle.p25_world.proofs.laws.sessions_are_orderly.Goals as goal
 
 pub returns : goal.returns

@@ -1,6 +1,6 @@
 use Rattle.std.proofs.Common.{ap, arith}
 use Rattle.p25_messages.specs.MessageList.{ListParts}
-use Rattle.p25_messages.proofs.MessageListSteps.{length-list, IsPiece, IsPiece-at}
+use Rattle.p25_messages.proofs.MessageListLaws.{length-list, IsPiece, IsPiece-at}
 use Rattle.p25_fragments.proofs.long_list.LongList.get.Goals as goal
 
 pub start-requires : goal.start-requires

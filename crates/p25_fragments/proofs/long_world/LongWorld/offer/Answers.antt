@@ -5,7 +5,7 @@ use Rattle.p25_fragments.specs.Inside.{state_of}
 use Rattle.p25_fragments.specs.LongState.{LongState, LongParts}
 use Rattle.p25_fragments.specs.SendingState.{LongSending}
 use Rattle.p25_fragments.specs.LongSteps.{started, long_offered}
-use Rattle.p25_fragments.proofs.OfferSteps.{offered-as, down-arm, busy-arm, taken-arm}
+use Rattle.p25_fragments.proofs.FirstOfferLaws.{offered-as, down-arm, busy-arm, taken-arm}
 use Rattle.p25_fragments.proofs.long_world.LongWorld.offer.Goals as goal
 
 -- what was offered is told of the state that the call began with

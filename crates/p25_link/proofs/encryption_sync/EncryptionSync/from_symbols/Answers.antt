@@ -2,7 +2,7 @@ use Rattle.std.proofs.Common.{ap, ◌∙◌, arith}
 use Rattle.p25_link.specs.Symbols.{symbol_bits}
 use Rattle.p25_link.specs.Words.{sync_symbols}
 use Rattle.p25_link.proofs.WordsLaws.{sync_symbols_back}
-use Rattle.p25_link.proofs.WordsSteps.{put_first, sync_taken}
+use Rattle.p25_link.proofs.WordBitsLaws.{put_first, sync_taken}
 use Rattle.p25_link.proofs.encryption_sync.EncryptionSync.from_symbols.Goals as goal
 
 made : goal.returns-clause-value

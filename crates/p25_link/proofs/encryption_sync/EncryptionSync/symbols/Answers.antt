@@ -2,7 +2,7 @@ use Rattle.std.proofs.Common.{◌++◌, ap, ◌∙◌, arith}
 use Rattle.p25_bits.specs.Bits.{bits_of, octet_bits}
 use Rattle.p25_link.specs.Words.{sync_of_symbols}
 use Rattle.p25_link.proofs.WordsLaws.{sync_back}
-use Rattle.p25_link.proofs.WordsSteps.{put_first, put_next, sync_put}
+use Rattle.p25_link.proofs.WordBitsLaws.{put_first, put_next, sync_put}
 use Rattle.p25_link.proofs.encryption_sync.EncryptionSync.symbols.Goals as goal
 
 made : goal.returns-clause-value

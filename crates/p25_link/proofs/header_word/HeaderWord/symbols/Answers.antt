@@ -2,7 +2,7 @@ use Rattle.std.proofs.Common.{◌++◌, ap, ◌∙◌, arith}
 use Rattle.p25_bits.specs.Bits.{bits_of, octet_bits}
 use Rattle.p25_link.specs.Words.{header_of_symbols}
 use Rattle.p25_link.proofs.WordsLaws.{header_back}
-use Rattle.p25_link.proofs.WordsSteps.{put_first, put_next, header_put}
+use Rattle.p25_link.proofs.WordBitsLaws.{put_first, put_next, header_put}
 use Rattle.p25_link.proofs.header_word.HeaderWord.symbols.Goals as goal
 
 made : goal.returns-clause-value

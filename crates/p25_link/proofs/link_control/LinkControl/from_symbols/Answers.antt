@@ -2,7 +2,7 @@ use Rattle.std.proofs.Common.{ap, ◌∙◌, arith}
 use Rattle.p25_link.specs.Symbols.{symbol_bits}
 use Rattle.p25_link.specs.Words.{link_symbols}
 use Rattle.p25_link.proofs.WordsLaws.{link_symbols_back}
-use Rattle.p25_link.proofs.WordsSteps.{put_first, link_taken}
+use Rattle.p25_link.proofs.WordBitsLaws.{put_first, link_taken}
 use Rattle.p25_link.proofs.link_control.LinkControl.from_symbols.Goals as goal
 
 made : goal.returns-clause-value

@@ -2,7 +2,7 @@ use Rattle.std.proofs.Common.{ap, ◌∙◌}
 use Rattle.p25_bits.specs.Bits.{octet_bits}
 use Rattle.p25_link.specs.Words.{link_of_symbols}
 use Rattle.p25_link.proofs.WordsLaws.{link_back}
-use Rattle.p25_link.proofs.WordsSteps.{put_first, link_put}
+use Rattle.p25_link.proofs.WordBitsLaws.{put_first, link_put}
 use Rattle.p25_link.proofs.link_control.LinkControl.symbols.Goals as goal
 
 made : goal.returns-clause-value

@@ -1,6 +1,6 @@
 use Rattle.std.proofs.Common.{length, ap, sym, ◌∙◌}
 use Rattle.p25_messages.specs.MessageList.{ListParts}
-use Rattle.p25_messages.proofs.MessageListSteps.{length-pieces_between}
+use Rattle.p25_messages.proofs.MessageListLaws.{length-pieces_between}
 use Rattle.p25_messages.proofs.message_list.MessageList.len.Goals as goal
 
 pub returns : goal.returns

@@ -1,6 +1,6 @@
 use Rattle.std.proofs.Common.{◌≡◌, ℕ, ◌+◌, List, [], ◌∷◌, ◌++◌, length, ap, ap₂, ◌∙◌}
 use Rattle.p25_messages.specs.MessageList.{ListParts, AreEnds}
-use Rattle.p25_messages.proofs.MessageListSteps.{pieces_between-push, AreEnds-push}
+use Rattle.p25_messages.proofs.MessageListLaws.{pieces_between-push, AreEnds-push}
 use Rattle.p25_messages.proofs.message_list.MessageList.push.Goals as goal
 
 pub invariant_of-self : goal.invariant_of-self

@@ -15,7 +15,8 @@ invariant_of-self g c =
     let held = ap (λ (t : Scan). length t.held) same ∙ length-append s.scanner.held (bits_of 8 c.args.octet) in
     let few : s.scanner.place + length s.scanner.held < 2 ^ 28 = subst (λ (r : RecordingParts g.row.R.Denot). r.scan.place + length r.scan.held < 2 ^ 28) (sym c.self.view_is) c.requires.few in
     let going = ap (λ (r : RecordingParts g.row.R.Denot). has_ended r.phase) c.self.view_is ∙ c.requires.going in
-    (ap (λ (t : Scan). t.finished) same ∙ c.self.invariant.0, omega (arith, place, c.self.invariant.1), omega (arith, place, held, length-bits_of 8 c.args.octet, few), λ is. absurd (going-open s.phase going is), subst (λ (at : ℕ). g.R.Report.HasReached s.report at) (sym place) c.self.invariant.4)
+    let reached = subst (λ (at : ℕ). g.R.Report.HasReached s.report at) (sym place) c.self.invariant.4 in
+    (ap (λ (t : Scan). t.finished) same ∙ c.self.invariant.0, omega (arith, place, c.self.invariant.1), omega (arith, place, held, length-bits_of 8 c.args.octet, few), λ is. absurd (going-open s.phase going is), reached)
 
 pub returns-clause-moved : goal.returns-clause-moved
 returns-clause-moved g c =

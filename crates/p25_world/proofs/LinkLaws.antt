@@ -26,7 +26,7 @@ use Rattle.p25_world.proofs.SentLaws.{data-heard, opening-packet_heard, ack-hear
 use Rattle.p25_world.proofs.ReceiverLaws.{HearsNext, ignores, keeps, delivers, next-heard, last-heard, opening-is_heard}
 use Rattle.p25_world.proofs.SenderLaws.{IsSame, RetriesOf, HearsAnswer, goes_on, stays, HearsOpening, opens, waits, acks, acks-ack, acks-retry, message-answer, opening-answer, quiet-answer}
 use Rattle.p25_world.proofs.PhaseLaws.{IsQuietData, IsQuiet, IsWaitingAnswer, IsWaiting, IsArrived, IsOpeningAnswer, IsOpening, IsLinked, quiet, waiting, arrived, opening, IsKept, orderly-linked, orderly-more}
-use Rattle.p25_world.proofs.CallSteps.{newest, quiet-same, waiting-sender, waiting-data, arrived-sender, arrived-data, opening-sender, offer-phase, timeout-phase, reopen-phase}
+use Rattle.p25_world.proofs.CallLaws.{newest, quiet-same, waiting-sender, waiting-data, arrived-sender, arrived-data, opening-sender, offer-phase, timeout-phase, reopen-phase}
 
 -- the receiver hears a packet
 
