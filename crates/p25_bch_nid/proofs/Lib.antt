@@ -1,3 +1,4 @@
+pub mod CheckLaws
 pub mod NidSteps
 pub mod NidReadingLaws
 pub mod NidWordLaws

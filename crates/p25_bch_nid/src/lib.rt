@@ -19,6 +19,7 @@
 #![tactic(auto)]
 
 mod bch63;
+mod checks;
 mod correction;
 mod laws;
 mod nid;

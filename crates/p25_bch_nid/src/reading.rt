@@ -6,16 +6,17 @@ ghost use Rattle.p25_bits.specs.Distance.{distance_of};
 ghost use Rattle.p25_bch_nid.specs.Bch63.{IsBch63};
 ghost use Rattle.p25_bch_nid.specs.NidReading.{IsNidReading, identifier_of_word, nid_reading_of};
 
-use crate::bch63::{Bch63, GENERATOR};
+use crate::bch63::Bch63;
+use crate::checks::is_clean;
 use crate::nid::Nid;
-use p25_bits::{number_of, number_remainder, put_number};
+use p25_bits::{number_of, put_number};
 use p25_code::{Reading, read_received};
 
 /// Answers the identifier of 64 received bits, the first bit highest: the NAC and the DUID with which the word of the BCH
 /// code (63,16) begins that lies within 11 bits of the first 63. `None` comes exactly where no word of the code lies so
 /// near. The last bit, P, is not looked at. TIA-102.BAAA, Network Identifier.
 ///
-/// A word without wrong bits is answered from its remainder by the generator.
+/// A word without wrong bits is answered from its check bits.
 pub fn read_nid(bits: u64) -> Option<Nid>
     ensures reading { IsNidReading (bits_of 64 bits) (option_map (λ nid. (nid.nac, nid.duid)) result) }
     ensures value { option_map (λ nid. (nid.nac, nid.duid)) result ≡ nid_reading_of (bits_of 64 bits) }
@@ -23,7 +24,7 @@ pub fn read_nid(bits: u64) -> Option<Nid>
         → option_map (λ nid. (nid.nac, nid.duid)) result ≡ Some (identifier_of_word word) }
 {
     let received = bits >> 1;
-    if number_remainder(received, GENERATOR, 47) == 0 {
+    if is_clean(received) {
         return identifier_in(received);
     }
     let mut word = [false; 63];

@@ -9,9 +9,8 @@ ghost use Rattle.p25_bch_nid.specs.Nid.{IsSent, parity_of};
 ghost use Rattle.p25_bch_nid.specs.NidReading.{nid_reading_of};
 ghost use Rattle.p25_bch_nid.specs.NidWord.{nid_word};
 
-use crate::bch63::GENERATOR;
+use crate::checks::check_bits;
 use crate::nid::Nid;
-use p25_bits::number_remainder;
 
 /// Answers the 64 bits of an identifier, the first bit highest: NAC 12, DUID 4, the 47 check bits of the BCH code
 /// (63,16), and P, which is 1 for DUID 5 and A hex and 0 for every other.
@@ -24,7 +23,7 @@ pub fn nid_bits(nid: &Nid) -> u64
 {
     let information = 16 * u64::from(nid.nac) + u64::from(nid.duid);
     let message = information << 47;
-    let word = message + number_remainder(message, GENERATOR, 47);
+    let word = message + check_bits(information);
     2 * word + parity(nid.duid)
 }
 

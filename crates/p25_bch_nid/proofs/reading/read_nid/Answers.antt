@@ -9,18 +9,18 @@ use Rattle.p25_bch_nid.specs.NidReading.{identifier_of_word}
 use Rattle.p25_bch_nid.proofs.ReadingLaws.{clean_reading, code_reading, is_reading, is_sent}
 use Rattle.p25_bch_nid.proofs.reading.read_nid.Goals as goal
 
-clean : goal.returns-then-number_remainder-eq0-clause-value
+clean : goal.returns-then-is_clean-clause-value
 clean c =
-    c.identifier_in.ensures ∙ sym (clean_reading c.args.bits (omega arith) (subst (IsRemainder generator 47 (c.args.bits / 2 ^ 1)) c.if-number_remainder-eq0.true c.number_remainder.ensures.is))
+    c.identifier_in.ensures ∙ sym (clean_reading c.args.bits (omega arith) (c.is_clean.ensures c.if-is_clean.true))
 
-pub returns-then-number_remainder-eq0-clause-value : goal.returns-then-number_remainder-eq0-clause-value
-returns-then-number_remainder-eq0-clause-value c = clean c
+pub returns-then-is_clean-clause-value : goal.returns-then-is_clean-clause-value
+returns-then-is_clean-clause-value c = clean c
 
-pub returns-then-number_remainder-eq0-clause-reading : goal.returns-then-number_remainder-eq0-clause-reading
-returns-then-number_remainder-eq0-clause-reading c = is_reading c.args.bits _ (clean c)
+pub returns-then-is_clean-clause-reading : goal.returns-then-is_clean-clause-reading
+returns-then-is_clean-clause-reading c = is_reading c.args.bits _ (clean c)
 
-pub returns-then-number_remainder-eq0-clause-sent : goal.returns-then-number_remainder-eq0-clause-sent
-returns-then-number_remainder-eq0-clause-sent c = is_sent c.args.bits _ (clean c)
+pub returns-then-is_clean-clause-sent : goal.returns-then-is_clean-clause-sent
+returns-then-is_clean-clause-sent c = is_sent c.args.bits _ (clean c)
 
 found : goal.returns-in-Found-clause-value
 unfolding word_read

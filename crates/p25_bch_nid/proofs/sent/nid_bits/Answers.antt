@@ -14,11 +14,12 @@ sent_of c =
     let fits : information * 2 ^ 47 < 18446744073709551616 = omega arith in
     let message : (16 * c.from.result + c.from-2.result) * 2 ^ 47 % 18446744073709551616 ≡ information * 2 ^ 47
     = ap₂ (λ m n. (16 * m + n) * 2 ^ 47 % 18446744073709551616) c.from.ensures c.from-2.ensures ∙ mod-eq_of_lt fits in
-    let is = subst (λ (n : ℕ). IsRemainder generator 47 n c.number_remainder.result) message c.number_remainder.ensures.is in
+    let same : 16 * c.from.result + c.from-2.result ≡ information = ap₂ (λ m n. 16 * m + n) c.from.ensures c.from-2.ensures in
+    let is = subst (λ (n : ℕ). IsRemainder generator 47 (n * 2 ^ 47) c.check_bits.result) same c.check_bits.ensures in
     subst
-    (λ (n : ℕ). IsSent nid.nac nid.duid (2 * (n + c.number_remainder.result) + c.parity.result))
+    (λ (n : ℕ). IsSent nid.nac nid.duid (2 * (n + c.check_bits.result) + c.parity.result))
     (sym message)
-    (IsSent-from_parts nid.nac nid.duid c.number_remainder.result c.parity.result small is.lower is.divisible c.parity.ensures)
+    (IsSent-from_parts nid.nac nid.duid c.check_bits.result c.parity.result small is.lower is.divisible c.parity.ensures)
 
 pub returns-clause-sent : goal.returns-clause-sent
 returns-clause-sent c = sent_of c
