@@ -1,8 +1,4 @@
-pub mod OctetsLaws
-pub mod ReportsLaws
-pub mod RecordingsLaws
 pub mod WordsLaws
-pub mod CallReportsLaws
 pub mod SamplingLaws
 pub mod CommandsLaws
 pub mod RunsLaws
@@ -14,7 +10,3 @@ pub mod WrittenLaws
 pub mod DuplexReadSteps
 pub mod DuplexLineLaws
 pub mod DuplexCommandLaws
-pub mod SoftLevelsLaws
-pub mod SoftItemLaws
-pub mod SoftRecordingsLaws
-pub mod SoftHearingLaws

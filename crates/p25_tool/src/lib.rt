@@ -24,14 +24,9 @@ mod command_run;
 mod duplex;
 mod duplex_lines;
 mod fragments;
-mod held_levels;
 mod laws;
 mod outcome;
-mod recording;
-mod report;
-mod reports;
 mod sampling;
-mod soft;
 mod stations;
 mod words;
 
