@@ -7,6 +7,4 @@ pub mod RecordedLaws
 pub mod BuiltLaws
 pub mod FoundLaws
 pub mod WrittenLaws
-pub mod DuplexReadSteps
-pub mod DuplexLineLaws
 pub mod DuplexCommandLaws

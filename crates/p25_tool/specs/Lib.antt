@@ -1,6 +1,5 @@
 pub mod Words
 pub mod Outcomes
-pub mod DuplexLines
 pub mod Outputs
 pub mod Buildings
 pub mod StationRules

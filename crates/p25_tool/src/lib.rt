@@ -22,7 +22,6 @@ mod build;
 mod command;
 mod command_run;
 mod duplex;
-mod duplex_lines;
 mod fragments;
 mod laws;
 mod outcome;
@@ -32,9 +31,9 @@ mod words;
 
 pub use command::Command;
 pub use command_run::run;
-pub use duplex_lines::read_duplex_event;
 pub use laws::{built_laws, found_laws, recorded_laws, written_laws};
 pub use outcome::{Outcome, outcome_status, outcome_text};
+pub use p25_duplex_script::read_duplex_event;
 pub use p25_line::Line;
 pub use p25_long_script::read_long_event;
 pub use words::Words;

@@ -4,7 +4,7 @@ ghost use Rattle.std.specs.Prelude.{◌≡◌, ◌≤◌, [], ◌∷◌, Ok, IfO
 ghost use Rattle.p25_line.specs.Words.{WordsAnswer};
 ghost use Rattle.p25_duplex.specs.DuplexRuns.{IsDuplexEvent};
 ghost use Rattle.p25_duplex.specs.declared.event.DuplexEvent.{DuplexEvent as event_type};
-ghost use Rattle.p25_tool.specs.DuplexLines.{IsDuplexScripted, direction_word, duplex_event_of, duplex_text, event_behind, hearer_named, start_named, start_word};
+ghost use Rattle.p25_duplex_script.specs.DuplexLines.{IsDuplexScripted, direction_word, duplex_event_of, duplex_text, event_behind, hearer_named, start_named, start_word};
 
 use p25_duplex::{DuplexEvent, Side};
 use p25_line::{LineFault, WordList, words_of};

@@ -1,7 +1,7 @@
 use Rattle.std.proofs.Common.{◌≤◌, length, sym, ap, subst, ◌∙◌}
-use Rattle.p25_tool.specs.DuplexLines.{duplex_event_of}
-use Rattle.p25_tool.proofs.DuplexLineLaws.{event_of-text, read-event, read-facts}
-use Rattle.p25_tool.proofs.duplex_lines.read_duplex_event.Goals as goal
+use Rattle.p25_duplex_script.specs.DuplexLines.{duplex_event_of}
+use Rattle.p25_duplex_script.proofs.DuplexLineLaws.{event_of-text, read-event, read-facts}
+use Rattle.p25_duplex_script.proofs.read.read_duplex_event.Goals as goal
 
 pub returns-clause-text : goal.returns-clause-text
 returns-clause-text c = (read-facts c.args.line.now c.read_whole.result c.read_whole.ensures).0

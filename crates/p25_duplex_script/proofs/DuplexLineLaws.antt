@@ -19,9 +19,9 @@ use Rattle.p25_duplex.specs.Sides.{side_word}
 use Rattle.p25_duplex.specs.declared.event.DuplexEvent.{DuplexEvent}
 use Rattle.p25_duplex.specs.declared.event.DuplexEvent.TheVariants.{Send, Timeout, Reopen, Deliver}
 use Rattle.p25_duplex.specs.DuplexRuns.{IsDuplexEvent}
-use Rattle.p25_tool.specs.DuplexLines.{IsDuplexScripted, delivery_to, direction_word, duplex_by_words, duplex_event_of, duplex_starts, duplex_text, duplex_words, event_behind, event_by_start, event_of_side, hearer_named, message_or_fault, start_named, start_word}
-use Rattle.p25_tool.specs.declared.duplex_lines.DuplexStart.{DuplexStart}
-use Rattle.p25_tool.specs.declared.duplex_lines.DuplexStart.TheVariants.{Acts, Delivery}
+use Rattle.p25_duplex_script.specs.DuplexLines.{IsDuplexScripted, delivery_to, direction_word, duplex_by_words, duplex_event_of, duplex_starts, duplex_text, duplex_words, event_behind, event_by_start, event_of_side, hearer_named, message_or_fault, start_named, start_word}
+use Rattle.p25_duplex_script.specs.declared.read.DuplexStart.{DuplexStart}
+use Rattle.p25_duplex_script.specs.declared.read.DuplexStart.TheVariants.{Acts, Delivery}
 
 -- ---- the line of an event is read as it
 

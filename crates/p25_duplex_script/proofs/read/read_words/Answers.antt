@@ -1,7 +1,7 @@
 use Rattle.std.proofs.Common.{◌≡◌, sym, ◌∙◌, arith}
 use Rattle.p25_script.proofs.ReadLaws.{line_short, short_word, some_place}
-use Rattle.p25_tool.proofs.DuplexReadSteps.{other-words, three-words, two-words, wrong-start}
-use Rattle.p25_tool.proofs.duplex_lines.read_words.Goals as goal
+use Rattle.p25_duplex_script.proofs.DuplexReadSteps.{other-words, three-words, two-words, wrong-start}
+use Rattle.p25_duplex_script.proofs.read.read_words.Goals as goal
 
 pub word-requires-clause-held : goal.word-requires-clause-held
 word-requires-clause-held c = some_place c.args.line.now c.args.words.now c.requires

@@ -10,9 +10,9 @@ use Rattle.p25_script.specs.declared.names.EventKind.{EventKind}
 use Rattle.p25_script.specs.declared.names.EventKind.TheVariants.{Send as SendLine, Timeout as TimeoutLine, Reopen as ReopenLine, Deliver as DeliverLine}
 use Rattle.p25_script.specs.Script.{event_named}
 use Rattle.p25_duplex.specs.declared.side.Side.{Side}
-use Rattle.p25_tool.specs.DuplexLines.{duplex_by_words, duplex_event_of, event_behind, event_by_start, event_of_side, start_named}
-use Rattle.p25_tool.specs.declared.duplex_lines.DuplexStart.{DuplexStart}
-use Rattle.p25_tool.specs.declared.duplex_lines.DuplexStart.TheVariants.{Acts, Delivery}
+use Rattle.p25_duplex_script.specs.DuplexLines.{duplex_by_words, duplex_event_of, event_behind, event_by_start, event_of_side, start_named}
+use Rattle.p25_duplex_script.specs.declared.read.DuplexStart.{DuplexStart}
+use Rattle.p25_duplex_script.specs.declared.read.DuplexStart.TheVariants.{Acts, Delivery}
 
 -- a line without words is refused with the fault that is answered
 

@@ -15,8 +15,8 @@ use Rattle.p25_duplex.specs.declared.side.Side.TheVariants.{A, B}
 use Rattle.p25_duplex.specs.Sides.{side_word}
 use Rattle.p25_duplex.specs.declared.event.DuplexEvent.{DuplexEvent}
 use Rattle.p25_duplex.specs.declared.event.DuplexEvent.TheVariants.{Send, Timeout, Reopen, Deliver}
-use Rattle.p25_tool.specs.declared.duplex_lines.DuplexStart.{DuplexStart}
-use Rattle.p25_tool.specs.declared.duplex_lines.DuplexStart.TheVariants.{Acts, Delivery}
+use Rattle.p25_duplex_script.specs.declared.read.DuplexStart.{DuplexStart}
+use Rattle.p25_duplex_script.specs.declared.read.DuplexStart.TheVariants.{Acts, Delivery}
 
 -- ---- the words of the lines
 
