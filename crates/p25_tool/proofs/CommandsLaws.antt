@@ -14,9 +14,9 @@ use Rattle.p25_work.specs.LineWorks.{first_line, line_future}
 use Rattle.p25_work.proofs.RulesLaws.{first_line-ends, first_line-pauses, first_line-writes}
 use Rattle.p25_tool.specs.declared.build.Build.{Build}
 use Rattle.p25_tool.specs.declared.command.Command.TheVariants.{Show as ShowIt, Check as CheckIt, Repair as RepairIt, Bridge as BridgeIt, Build as BuildIt, Stations as StationsIt, Calls as CallsIt, Fragments as FragmentsIt, Soft as SoftIt}
-use Rattle.p25_tool.specs.declared.reports.show.Show.{Show}
-use Rattle.p25_tool.specs.declared.reports.check.Check.{Check}
-use Rattle.p25_tool.specs.declared.reports.changed.Change.TheVariants.{Repaired, Bridged}
+use Rattle.p25_recordings.specs.declared.reports.show.Show.{Show}
+use Rattle.p25_recordings.specs.declared.reports.check.Check.{Check}
+use Rattle.p25_recordings.specs.declared.reports.changed.Change.TheVariants.{Repaired, Bridged}
 use Rattle.p25_tool.specs.Buildings.{build_rules}
 use Rattle.p25_air_world.specs.Runs.{steps_of, world_run}
 use Rattle.p25_air_world.specs.Steps.{world_step}
@@ -25,8 +25,9 @@ use Rattle.p25_air_world.specs.declared.step.Event.{Event}
 use Rattle.p25_air_world.specs.declared.step.Step.{Step}
 use Rattle.p25_script.specs.Script.{event_of}
 use Rattle.p25_tool.specs.StationRules.{station_rules, told_step}
-use Rattle.p25_tool.specs.Commands.{changed_reporting, check_reporting, show_reporting, CallsParts, calls_reporting}
-use Rattle.p25_tool.specs.Outputs.{check_ending, check_line, closing_line, ending_by, faults_in, faulty, image_octets, step_line, units_in, long_closing_line, soft_output}
+use Rattle.p25_recordings.specs.Commands.{changed_reporting, check_reporting, show_reporting, CallsParts, calls_reporting}
+use Rattle.p25_tool.specs.Outputs.{closing_line, ending_by, image_octets, step_line, long_closing_line}
+use Rattle.p25_recordings.specs.ItemOutputs.{check_ending, check_line, faults_in, faulty, units_in, soft_output}
 use Rattle.p25_calls.specs.Taking.{fresh_caller}
 use Rattle.p25_fragments.specs.LongState.{LongState, first_long}
 use Rattle.p25_fragments.specs.LongSteps.{long_step}
@@ -36,11 +37,11 @@ use Rattle.p25_fragments.specs.declared.long_step.LongStep.{LongStep}
 use Rattle.p25_long_script.specs.LongScript.{long_event_of}
 use Rattle.p25_long_script.specs.LongTexts.{long_step_text_of}
 use Rattle.p25_tool.specs.FragmentRules.{fragment_rules, told_long}
-use Rattle.p25_tool.specs.Softs.{fresh_soft, soft_future}
-use Rattle.p25_tool.specs.Recordings.{fresh, recording_future}
+use Rattle.p25_recordings.specs.Softs.{fresh_soft, soft_future}
+use Rattle.p25_recordings.specs.Recordings.{fresh, recording_future}
 use Rattle.p25_tool.specs.Runs.{command_future}
-use Rattle.p25_tool.proofs.CallReportsLaws.{reported-calls}
-use Rattle.p25_tool.proofs.ReportsLaws.{behind-check, reported-changed, reported-check, reported-show}
+use Rattle.p25_recordings.proofs.CallReportsLaws.{reported-calls}
+use Rattle.p25_recordings.proofs.ReportsLaws.{behind-check, reported-changed, reported-check, reported-show}
 
 -- two futures write and end alike, and memory may be wanting behind the same texts
 pub record AreAlike (f g : Future) : Type 0 where

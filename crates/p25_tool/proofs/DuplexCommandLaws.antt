@@ -11,7 +11,7 @@ use Rattle.p25_work.specs.LineRules.{machine_behind, texts_of}
 use Rattle.p25_work.specs.LineWorks.{first_line, line_future}
 use Rattle.p25_work.proofs.RulesLaws.{first_line-ends, first_line-pauses, first_line-writes}
 use Rattle.p25_tool.specs.declared.command.Command.TheVariants.{Duplex}
-use Rattle.p25_tool.specs.DuplexLines.{duplex_event_of}
+use Rattle.p25_duplex_script.specs.DuplexLines.{duplex_event_of}
 use Rattle.p25_tool.specs.DuplexRules.{duplex_rules, told_duplex}
 use Rattle.p25_tool.specs.Outputs.{duplex_closing_lines, duplex_step_line}
 use Rattle.p25_tool.specs.Runs.{command_future}

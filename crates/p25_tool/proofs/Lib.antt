@@ -1,8 +1,4 @@
-pub mod OctetsLaws
-pub mod ReportsLaws
-pub mod RecordingsLaws
 pub mod WordsLaws
-pub mod CallReportsLaws
 pub mod SamplingLaws
 pub mod CommandsLaws
 pub mod RunsLaws
@@ -11,10 +7,4 @@ pub mod RecordedLaws
 pub mod BuiltLaws
 pub mod FoundLaws
 pub mod WrittenLaws
-pub mod DuplexReadSteps
-pub mod DuplexLineLaws
 pub mod DuplexCommandLaws
-pub mod SoftLevelsLaws
-pub mod SoftItemLaws
-pub mod SoftRecordingsLaws
-pub mod SoftHearingLaws

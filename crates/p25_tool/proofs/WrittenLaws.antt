@@ -16,7 +16,7 @@ use Rattle.p25_work.specs.declared.ending.WorkEnd.{WorkEnd}
 use Rattle.p25_work.specs.declared.ending.WorkEnd.TheVariants.{Ended, ReadFault, WriteFault, TooLong, Memory}
 use Rattle.p25_tool.specs.declared.command.Command.{Command}
 use Rattle.p25_tool.specs.declared.command.Command.TheVariants.{Show, Check, Repair, Bridge, Calls, Soft, Build, Stations, Fragments, Duplex, Sample}
-use Rattle.p25_tool.specs.DuplexLines.{duplex_event_of}
+use Rattle.p25_duplex_script.specs.DuplexLines.{duplex_event_of}
 use Rattle.p25_tool.specs.Outcomes.{ending_outcome, work_outcome}
 use Rattle.p25_tool.specs.Outputs.{ending_by, output_by}
 use Rattle.p25_tool.specs.Runs.{command_future}

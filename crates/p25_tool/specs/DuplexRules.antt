@@ -4,7 +4,7 @@ use Rattle.p25_duplex.specs.declared.event.DuplexEvent.{DuplexEvent}
 use Rattle.p25_duplex.specs.DuplexState.{DuplexState}
 use Rattle.p25_duplex.specs.DuplexSteps.{duplex_step}
 use Rattle.p25_work.specs.LineRules.{LineRules, rules_by}
-use Rattle.p25_tool.specs.DuplexLines.{duplex_event_of}
+use Rattle.p25_duplex_script.specs.DuplexLines.{duplex_event_of}
 use Rattle.p25_tool.specs.Outputs.{duplex_closing_lines, duplex_step_line}
 
 -- the text of the step that an event is, and the world behind it

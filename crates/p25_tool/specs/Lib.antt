@@ -1,12 +1,6 @@
 pub mod Words
 pub mod Outcomes
-pub mod Reports
-pub mod Recordings
-pub mod DuplexLines
-pub mod SoftLevels
 pub mod Outputs
-pub mod Commands
-pub mod Softs
 pub mod Buildings
 pub mod StationRules
 pub mod DuplexRules

@@ -11,7 +11,7 @@ use Rattle.p25_work.specs.LineRules.{answer_from}
 use Rattle.p25_work.proofs.LinesLaws.{is_more}
 use Rattle.p25_tool.specs.declared.build.Build.{Build}
 use Rattle.p25_tool.specs.Buildings.{build_rules}
-use Rattle.p25_tool.specs.DuplexLines.{duplex_event_of}
+use Rattle.p25_duplex_script.specs.DuplexLines.{duplex_event_of}
 use Rattle.p25_tool.specs.DuplexRules.{duplex_rules, told_duplex}
 use Rattle.p25_tool.specs.Outputs.{image_octets}
 use Rattle.p25_tool.specs.StationRules.{station_rules, told_step}

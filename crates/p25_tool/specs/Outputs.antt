@@ -1,25 +1,18 @@
 -- What each command writes for its input, and how a call ends by its input.
-use Rattle.std.specs.Prelude.{ℕ, ◌+◌, ◌/◌, Bool, cond, nat_eq, List, [], ◌∷◌, ◌++◌, length, map, take, drop, replicate, codes, decimal, Option, Some, None}
+use Rattle.std.specs.Prelude.{ℕ, ◌+◌, ◌/◌, Bool, cond, List, [], ◌∷◌, ◌++◌, length, map, take, replicate, codes, decimal, Option, Some, None}
 use Rattle.std.specs.List.{flat_map}
 use Rattle.p25_bits.specs.Bits.{octet_bits}
-use Rattle.p25_bits.specs.Numbers.{octets_from}
 use Rattle.p25_status.specs.declared.symbols.Status.{Status}
 use Rattle.p25_units.specs.UnitParts.{UnitParts}
 use Rattle.p25_units.specs.Units.{frame_length_of, image_of}
-use Rattle.p25_units.specs.Items.{covered}
 use Rattle.p25_units.specs.declared.frame.Frame.{Frame}
-use Rattle.p25_units.specs.declared.item.Item.{Item}
 use Rattle.p25_stream.specs.Items.{items_by}
-use Rattle.p25_soft.specs.Levels.{hard_bits}
-use Rattle.p25_stream.specs.Repeats.{bridged, is_whole_item, repaired}
-use Rattle.p25_text.specs.ItemTexts.{item_text_of}
+use Rattle.p25_stream.specs.Repeats.{bridged, repaired}
 use Rattle.p25_text.specs.Grammar.{read_line_of}
 use Rattle.p25_calls.specs.Calls.{calls_by}
-use Rattle.p25_calls.specs.CallTexts.{call_text_of}
-use Rattle.p25_calls.specs.declared.call.Call.{Call}
 use Rattle.p25_vectors.specs.Samples.{flips_of}
 use Rattle.p25_work.specs.declared.ending.Ending.{Ending}
-use Rattle.p25_work.specs.declared.ending.Ending.TheVariants.{Done, Found}
+use Rattle.p25_work.specs.declared.ending.Ending.TheVariants.{Done}
 use Rattle.p25_air_world.specs.Runs.{steps_of, world_run}
 use Rattle.p25_air_world.specs.WorldState.{WorldState, first_world}
 use Rattle.p25_air_world.specs.declared.step.Step.{Step}
@@ -30,7 +23,7 @@ use Rattle.p25_duplex.specs.declared.event.DuplexStep.{DuplexStep}
 use Rattle.p25_duplex.specs.DuplexState.{DuplexState, first_duplex}
 use Rattle.p25_duplex.specs.DuplexRuns.{duplex_run, duplex_steps}
 use Rattle.p25_duplex.specs.DuplexTexts.{duplex_closing_of, duplex_step_text_of}
-use Rattle.p25_tool.specs.DuplexLines.{duplex_event_of}
+use Rattle.p25_duplex_script.specs.DuplexLines.{duplex_event_of}
 use Rattle.p25_work.specs.Lines.{closing_by, lines_ending, lines_in, read_of, refusal_in, texts_before}
 use Rattle.p25_tool.specs.declared.command.Command.{Command}
 use Rattle.p25_tool.specs.declared.command.Command.TheVariants.{Show, Check, Repair, Bridge, Build, Stations, Calls, Duplex, Fragments, Soft, Sample}
@@ -38,49 +31,7 @@ use Rattle.p25_fragments.specs.LongState.{LongState, first_long}
 use Rattle.p25_fragments.specs.LongRuns.{long_run, long_steps_of}
 use Rattle.p25_long_script.specs.LongScript.{long_event_of}
 use Rattle.p25_long_script.specs.LongTexts.{long_closing_text_of, long_step_text_of}
-use Rattle.p25_tool.specs.SoftLevels.{item_softened, octet_level, scanned}
-
--- the octets that bits fill, most significant bit first
-abbrev pub whole_octets : List Bool → List ℕ
-whole_octets bits = octets_from (length bits / 8) bits
-
--- the text of an item and the end of its line
-abbrev pub shown : Item → List ℕ
-shown item = item_text_of item ++ 10 ∷ []
-
--- the text of an item that is not a whole unit, and the end of its line
-abbrev pub faulty : Item → List ℕ
-faulty item = cond (is_whole_item item) [] (shown item)
-
--- how many items are whole units, and how many are not
-unfoldable pub units_in : List Item → ℕ
-units_in [] = 0
-units_in (item ∷ items) = cond (is_whole_item item) 1 0 + units_in items
-
-unfoldable pub faults_in : List Item → ℕ
-faults_in [] = 0
-faults_in (item ∷ items) = cond (is_whole_item item) 0 1 + faults_in items
-
--- the last line of a check
-abbrev pub check_line : ℕ → ℕ → List ℕ
-check_line units faults = codes "check units=" ++ decimal units ++ codes " faults=" ++ decimal faults ++ 10 ∷ []
-
--- how a check of some items ends
-abbrev pub check_ending : ℕ → Ending
-check_ending faults = cond (nat_eq faults 0) Done (Found faults)
-
--- the bits of items that lie end to end over some bits, each by a change of the bits that it covers
-unfoldable pub changed_bits : (Item → List Bool → List Bool) → List Item → List Bool → List Bool
-changed_bits change [] bits = []
-changed_bits change (item ∷ items) bits = change item (take (covered item) bits) ++ changed_bits change items (drop (covered item) bits)
-
--- the text of a call and the end of its line
-abbrev pub call_line : Call → List ℕ
-call_line call = call_text_of call ++ 10 ∷ []
-
--- how many calls there are
-abbrev pub calls_line : ℕ → List ℕ
-calls_line count = codes "calls=" ++ decimal count ++ 10 ∷ []
+use Rattle.p25_recordings.specs.ItemOutputs.{whole_octets, shown, faulty, units_in, faults_in, check_line, check_ending, changed_bits, call_line, calls_line, soft_output}
 
 -- the frame of a unit with one status symbol everywhere
 abbrev pub filled_frame : Status → UnitParts → Frame
@@ -107,13 +58,6 @@ duplex_closing_lines d = duplex_closing_of A d ++ 10 ∷ duplex_closing_of B d +
 -- the text that closes a run of long messages, with the end of its line
 abbrev pub long_closing_line : LongState → List ℕ
 long_closing_line world = long_closing_text_of world ++ 10 ∷ []
-
--- what `soft` writes for the octets of a soft recording, whether they are all or more may come: the bits of all items of the hard
--- bits of its levels, each broken packet that begins at an even place softened
-unfoldable pub soft_output : Bool → List ℕ → List ℕ
-soft_output ended octets =
-    let levels = scanned ended (map octet_level octets) in
-    whole_octets (changed_bits (item_softened 0 levels) (items_by ended 0 (hard_bits levels)) (hard_bits levels))
 
 -- the line that tells of the first sample units: how many there are, how many of their bits are inverted, and how many read as
 -- their own frames, which are all

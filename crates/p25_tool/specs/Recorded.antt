@@ -11,7 +11,8 @@ use Rattle.p25_stream.specs.Items.{items_of}
 use Rattle.p25_stream.specs.Repeats.{bridged_frame}
 use Rattle.p25_work.specs.declared.ending.Ending.TheVariants.{Done}
 use Rattle.p25_tool.specs.declared.command.Command.TheVariants.{Show, Check, Repair, Bridge}
-use Rattle.p25_tool.specs.Outputs.{check_line, ending_by, output_by, shown, whole_octets}
+use Rattle.p25_tool.specs.Outputs.{ending_by, output_by}
+use Rattle.p25_recordings.specs.ItemOutputs.{check_line, shown, whole_octets}
 
 -- octets are a recording of units: their bits are those of the units, end to end, each within radius of its image
 pub record IsRecording (arrivals : List Arrival) (octets : List ℕ) : Type 0 where

@@ -4,9 +4,9 @@ ghost use Rattle.std.specs.Prelude.{◌≡◌};
 ghost use Rattle.p25_units.specs.Units.{IsSendableBody};
 ghost use Rattle.p25_tool.specs.Outputs.{image_octets};
 
-use crate::reports::put_octets;
 use p25_bits::BitBuf;
 use p25_line::Line;
+use p25_recordings::put_octets;
 use p25_status::{Status, Statuses};
 use p25_text::read_line;
 use p25_units::{Frame, Unit, frame_length, image};

@@ -1,13 +1,13 @@
 use Rattle.std.proofs.Common.{◌≡◌, ◌∙◌, ap, sym, subst}
 use Rattle.p25_work.specs.Futures.{Future}
 use Rattle.p25_tool.specs.declared.command.Command.{Command}
-use Rattle.p25_tool.specs.Commands.{ChangedParts, changed_reporting}
+use Rattle.p25_recordings.specs.Commands.{ChangedParts, changed_reporting}
 use Rattle.p25_work.specs.LineRules.{LineRules}
 use Rattle.p25_work.specs.LineWorks.{first_line, line_future}
 use Rattle.p25_tool.specs.Buildings.{build_rules}
 use Rattle.p25_tool.specs.StationRules.{station_rules}
 use Rattle.p25_tool.specs.DuplexRules.{duplex_rules}
-use Rattle.p25_tool.specs.Recordings.{fresh, recording_future}
+use Rattle.p25_recordings.specs.Recordings.{fresh, recording_future}
 use Rattle.p25_tool.specs.Runs.{command_future}
 use Rattle.p25_tool.proofs.CommandsLaws.{AreAlike, bridge-alike, build-alike, check-alike, repair-alike, show-alike, stations-alike, calls-alike, fragments-alike, soft-alike}
 use Rattle.p25_tool.proofs.DuplexCommandLaws.{duplex-alike}

@@ -1,0 +1,154 @@
+-- The line of an event is read as that event, and a line that is read is the line of its event. By cases on what each step of the reading found.
+use Rattle.std.proofs.Common.{◌≡◌, ℕ, ◌<◌, ◌≤◌, ◌&&◌, true, List, [], ◌∷◌, length, Option, Some, None, Result, Ok, Err, refl, sym, ap, ap₂, subst, ◌∙◌, arith}
+use Rattle.std.specs.Prelude.{IfOk}
+use Rattle.std.specs.List.{join_with_byte, list_all}
+use Rattle.std.specs.Str.{bytes_eq}
+use Rattle.std.proofs.lemmas.Slice.Eq.{bytes_eq-Decides}
+use Rattle.p25_line.specs.Words.{is_word, words_or_fault}
+use Rattle.p25_line.specs.declared.fault.LineFault.{LineFault}
+use Rattle.p25_line.proofs.JoinLaws.{words_or_fault-join, Accepted-words}
+use Rattle.p25_text.proofs.WordLaws.{find-passes}
+use Rattle.p25_script.specs.declared.names.EventKind.{EventKind}
+use Rattle.p25_script.specs.declared.names.EventKind.TheVariants.{Send as SendLine, Timeout as TimeoutLine, Reopen as ReopenLine, Deliver as DeliverLine}
+use Rattle.p25_script.specs.Script.{event_kinds, event_named, event_word}
+use Rattle.p25_script.specs.Values.{message_in, places_in}
+use Rattle.p25_script.proofs.ValueLaws.{message-message_in, message-word, message_in-text, places-places_in, places-word, places_in-text}
+use Rattle.p25_duplex.specs.declared.side.Side.{Side}
+use Rattle.p25_duplex.specs.declared.side.Side.TheVariants.{A, B}
+use Rattle.p25_duplex.specs.Sides.{side_word}
+use Rattle.p25_duplex.specs.declared.event.DuplexEvent.{DuplexEvent}
+use Rattle.p25_duplex.specs.declared.event.DuplexEvent.TheVariants.{Send, Timeout, Reopen, Deliver}
+use Rattle.p25_duplex.specs.DuplexRuns.{IsDuplexEvent}
+use Rattle.p25_duplex_script.specs.DuplexLines.{IsDuplexScripted, delivery_to, direction_word, duplex_by_words, duplex_event_of, duplex_starts, duplex_text, duplex_words, event_behind, event_by_start, event_of_side, hearer_named, message_or_fault, start_named, start_word}
+use Rattle.p25_duplex_script.specs.declared.read.DuplexStart.{DuplexStart}
+use Rattle.p25_duplex_script.specs.declared.read.DuplexStart.TheVariants.{Acts, Delivery}
+
+-- ---- the line of an event is read as it
+
+-- the words of an event are words
+words-words : (event : DuplexEvent) → IsDuplexScripted event → list_all is_word (duplex_words event) ≡ true
+words-words (Send A message) fits = ap₂ ◌&&◌ (message-word message fits) refl
+words-words (Send B message) fits = ap₂ ◌&&◌ (message-word message fits) refl
+words-words (Timeout A) fits = refl
+words-words (Timeout B) fits = refl
+words-words (Reopen A) fits = refl
+words-words (Reopen B) fits = refl
+words-words (Deliver A places) fits = ap₂ ◌&&◌ (places-word places fits) refl
+words-words (Deliver B places) fits = ap₂ ◌&&◌ (places-word places fits) refl
+
+words-some : (event : DuplexEvent) → 0 < length (duplex_words event)
+words-some (Send side message) = omega arith
+words-some (Timeout side) = omega arith
+words-some (Reopen side) = omega arith
+words-some (Deliver to places) = omega arith
+
+-- and they are read as it
+by_words-words : (event : DuplexEvent) → IsDuplexScripted event → duplex_by_words (Ok (duplex_words event)) ≡ Ok event
+by_words-words (Send A message) fits = ap (message_or_fault A) (message_in-text message fits)
+by_words-words (Send B message) fits = ap (message_or_fault B) (message_in-text message fits)
+by_words-words (Timeout A) fits = refl
+by_words-words (Timeout B) fits = refl
+by_words-words (Reopen A) fits = refl
+by_words-words (Reopen B) fits = refl
+by_words-words (Deliver A places) fits = ap (delivery_to (Some A)) (places_in-text places fits)
+by_words-words (Deliver B places) fits = ap (delivery_to (Some B)) (places_in-text places fits)
+
+pub event_of-text : (event : DuplexEvent) → IsDuplexScripted event → length (duplex_text event) ≤ 8192 → duplex_event_of (duplex_text event) ≡ Ok event
+unfolding duplex_event_of duplex_text
+event_of-text event fits short = ap duplex_by_words (words_or_fault-join (duplex_words event) (words-some event) (words-words event fits) short) ∙ by_words-words event fits
+
+-- ---- a line that is read is the line of its event
+
+-- what was read from words
+abbrev ReadFrom : List (List ℕ) → DuplexEvent → Type 0
+ReadFrom words event = (duplex_words event ≡ words) × IsDuplexScripted event
+
+from_message : (side : Side) (word : List ℕ) (made : Option (List ℕ)) (event : DuplexEvent) → message_in word ≡ made → message_or_fault side made ≡ Ok event → ReadFrom (side_word side ∷ event_word SendLine ∷ word ∷ []) event
+from_message side word None event read found = cc found
+from_message side word (Some message) event read found =
+    let facts = message-message_in word message read in
+    let same : Send side message ≡ event = cc found in
+    subst (λ (e : DuplexEvent). ReadFrom (side_word side ∷ event_word SendLine ∷ word ∷ []) e) same (ap (λ w. side_word side ∷ event_word SendLine ∷ w ∷ []) facts.0, facts.1)
+
+from_kind : (side : Side) (kind : EventKind) (others : List (List ℕ)) (event : DuplexEvent) → event_of_side side (Some kind) others ≡ Ok event → ReadFrom (side_word side ∷ event_word kind ∷ others) event
+from_kind side SendLine [] event found = cc found
+from_kind side SendLine (word ∷ []) event found = from_message side word (message_in word) event refl found
+from_kind side SendLine (word ∷ next ∷ others) event found = cc found
+from_kind side TimeoutLine [] event found =
+    let same : Timeout side ≡ event = cc found in
+    subst (λ (e : DuplexEvent). ReadFrom (side_word side ∷ event_word TimeoutLine ∷ []) e) same (refl, tt)
+from_kind side TimeoutLine (word ∷ others) event found = cc found
+from_kind side ReopenLine [] event found =
+    let same : Reopen side ≡ event = cc found in
+    subst (λ (e : DuplexEvent). ReadFrom (side_word side ∷ event_word ReopenLine ∷ []) e) same (refl, tt)
+from_kind side ReopenLine (word ∷ others) event found = cc found
+from_kind side DeliverLine others event found = cc found
+
+from_side : (side : Side) (second : List ℕ) (others : List (List ℕ)) (kind : Option EventKind) (event : DuplexEvent) → event_named second ≡ kind → event_of_side side kind others ≡ Ok event →
+    ReadFrom (side_word side ∷ second ∷ others) event
+from_side side second others None event named found = cc found
+from_side side second others (Some kind) event named found =
+    let word = sym ((bytes_eq-Decides second (event_word kind)).0 (find-passes (λ k. bytes_eq second (event_word k)) event_kinds kind named)) in
+    let read = from_kind side kind others event found in
+    (read.0 ∙ ap (λ w. side_word side ∷ w ∷ others) word, read.1)
+
+from_delivery : (direction word : List ℕ) (to : Option Side) (made : Option (List ℕ)) (event : DuplexEvent) → hearer_named direction ≡ to → places_in word ≡ made → delivery_to to made ≡ Ok event →
+    ReadFrom (event_word DeliverLine ∷ direction ∷ word ∷ []) event
+from_delivery direction word None made event named read found = cc found
+from_delivery direction word (Some to) None event named read found = cc found
+from_delivery direction word (Some to) (Some places) event named read found =
+    let facts = places-places_in word places read in
+    let way = sym ((bytes_eq-Decides direction (direction_word to)).0 (find-passes (λ s. bytes_eq direction (direction_word s)) (A ∷ B ∷ []) to named)) in
+    let words : duplex_words (Deliver to places) ≡ event_word DeliverLine ∷ direction ∷ word ∷ [] = ap₂ (λ v w. event_word DeliverLine ∷ v ∷ w ∷ []) way facts.0 in
+    let same : Deliver to places ≡ event = cc found in
+    subst (λ (e : DuplexEvent). ReadFrom (event_word DeliverLine ∷ direction ∷ word ∷ []) e) same (words, facts.1)
+
+from_others : (start : DuplexStart) (others : List (List ℕ)) (event : DuplexEvent) → event_behind start others ≡ Ok event → ReadFrom (start_word start ∷ others) event
+from_others (Acts side) [] event found = cc found
+from_others (Acts side) (second ∷ others) event found = from_side side second others (event_named second) event refl found
+from_others Delivery [] event found = cc found
+from_others Delivery (direction ∷ []) event found = cc found
+from_others Delivery (direction ∷ word ∷ []) event found = from_delivery direction word (hearer_named direction) (places_in word) event refl refl found
+from_others Delivery (direction ∷ word ∷ next ∷ others) event found = cc found
+
+from_start : (first : List ℕ) (others : List (List ℕ)) (start : Option DuplexStart) (event : DuplexEvent) → start_named first ≡ start → event_by_start others start ≡ Ok event → ReadFrom (first ∷ others) event
+from_start first others None event named found = cc found
+from_start first others (Some start) event named found =
+    let word = sym ((bytes_eq-Decides first (start_word start)).0 (find-passes (λ s. bytes_eq first (start_word s)) duplex_starts start named)) in
+    let read = from_others start others event found in
+    (read.0 ∙ ap (λ w. w ∷ others) word, read.1)
+
+-- what a line that is read shows
+record IsLineOf (line : List ℕ) (event : DuplexEvent) : Type 0 where
+  pub text : duplex_text event ≡ line
+  pub fits : IsDuplexScripted event
+
+from_words : (line : List ℕ) (words : Result (List (List ℕ)) LineFault) (event : DuplexEvent) → words_or_fault line ≡ words → duplex_by_words words ≡ Ok event → IsLineOf line event
+unfolding duplex_text
+from_words line (Err fault) event same found = cc found
+from_words line (Ok []) event same found = cc found
+from_words line (Ok (first ∷ others)) event same found =
+    let read = from_start first others (start_named first) event refl found in
+    let accepted = Accepted-words line (first ∷ others) same in
+    record { text = ap (join_with_byte 32) read.0 ∙ accepted.join; fits = read.1 }
+
+is-line_of : (line : List ℕ) (event : DuplexEvent) → duplex_event_of line ≡ Ok event → IsLineOf line event
+unfolding duplex_event_of
+is-line_of line event found = from_words line (words_or_fault line) event refl found
+
+-- and the laws of the duplex world speak of it
+is-event : (event : DuplexEvent) → IsDuplexScripted event → IsDuplexEvent event
+unfolding IsDuplexEvent
+is-event (Send side message) fits = fits
+is-event (Timeout side) fits = tt
+is-event (Reopen side) fits = tt
+is-event (Deliver to places) fits = tt
+
+pub read-event : (line : List ℕ) (result : Result DuplexEvent LineFault) → result ≡ duplex_event_of line → IfOk result (λ event. IsDuplexEvent event)
+read-event line (Err fault) same = tt
+read-event line (Ok event) same = is-event event (is-line_of line event (sym same)).fits
+
+-- the two, as the reader tells them
+pub read-facts : (line : List ℕ) (result : Result DuplexEvent LineFault) → result ≡ duplex_event_of line → (IfOk result (λ event. duplex_text event ≡ line)) × (IfOk result (λ event. IsDuplexScripted event))
+read-facts line (Err fault) same = (tt, tt)
+read-facts line (Ok event) same = let facts = is-line_of line event (sym same) in (facts.text, facts.fits)

@@ -1,0 +1,2 @@
+pub mod DuplexReadSteps
+pub mod DuplexLineLaws

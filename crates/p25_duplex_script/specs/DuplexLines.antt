@@ -1,0 +1,104 @@
+-- Lines of a script of the duplex world: the line of an event, and the event of a line.
+use Rattle.std.specs.Prelude.{ℕ, List, [], ◌∷◌, codes, Option, Some, None, Result, Ok, Err}
+use Rattle.std.specs.List.{find, join_with_byte}
+use Rattle.std.specs.Str.{bytes_eq}
+use Rattle.p25_line.specs.Words.{words_or_fault}
+use Rattle.p25_line.specs.declared.fault.LineFault.{LineFault}
+use Rattle.p25_line.specs.declared.fault.LineFault.TheVariants.{Form, Key, Value, Kind as WrongKind}
+use Rattle.p25_air_world.specs.Sound.{IsMessage}
+use Rattle.p25_script.specs.Script.{event_word, event_named}
+use Rattle.p25_script.specs.Values.{ArePlaces, message_in, message_text, places_in, places_text}
+use Rattle.p25_script.specs.declared.names.EventKind.{EventKind}
+use Rattle.p25_script.specs.declared.names.EventKind.TheVariants.{Send as SendLine, Timeout as TimeoutLine, Reopen as ReopenLine, Deliver as DeliverLine}
+use Rattle.p25_duplex.specs.declared.side.Side.{Side}
+use Rattle.p25_duplex.specs.declared.side.Side.TheVariants.{A, B}
+use Rattle.p25_duplex.specs.Sides.{side_word}
+use Rattle.p25_duplex.specs.declared.event.DuplexEvent.{DuplexEvent}
+use Rattle.p25_duplex.specs.declared.event.DuplexEvent.TheVariants.{Send, Timeout, Reopen, Deliver}
+use Rattle.p25_duplex_script.specs.declared.read.DuplexStart.{DuplexStart}
+use Rattle.p25_duplex_script.specs.declared.read.DuplexStart.TheVariants.{Acts, Delivery}
+
+-- ---- the words of the lines
+
+-- the first word of a line: the letter of the side that acts, or that something is delivered
+abbrev pub start_word : DuplexStart → List ℕ
+start_word (Acts side) = side_word side
+start_word Delivery = event_word DeliverLine
+
+-- all first words
+abbrev pub duplex_starts : List DuplexStart
+duplex_starts = Acts A ∷ Acts B ∷ Delivery ∷ []
+
+-- what a first word names
+abbrev pub start_named : List ℕ → Option DuplexStart
+start_named word = find (λ start. bytes_eq word (start_word start)) duplex_starts
+
+-- the word for the direction to a side: from the other letter to its own
+abbrev pub direction_word : Side → List ℕ
+direction_word A = codes "ba"
+direction_word B = codes "ab"
+
+-- the side to which a word tells the direction
+abbrev pub hearer_named : List ℕ → Option Side
+hearer_named word = find (λ to. bytes_eq word (direction_word to)) (A ∷ B ∷ [])
+
+-- ---- the line of an event
+
+-- what a script can tell of: messages of at most 2,028 octets, and ascending places below 25,920
+abbrev pub IsDuplexScripted : DuplexEvent → Type 0
+IsDuplexScripted (Send side message) = IsMessage message
+IsDuplexScripted (Timeout side) = Unit {0}
+IsDuplexScripted (Reopen side) = Unit {0}
+IsDuplexScripted (Deliver to places) = ArePlaces places
+
+-- the words of an event
+abbrev pub duplex_words : DuplexEvent → List (List ℕ)
+duplex_words (Send side message) = side_word side ∷ event_word SendLine ∷ message_text message ∷ []
+duplex_words (Timeout side) = side_word side ∷ event_word TimeoutLine ∷ []
+duplex_words (Reopen side) = side_word side ∷ event_word ReopenLine ∷ []
+duplex_words (Deliver to places) = event_word DeliverLine ∷ direction_word to ∷ places_text places ∷ []
+
+-- the line of an event, without the end of the line
+unfoldable pub duplex_text : DuplexEvent → List ℕ
+duplex_text event = join_with_byte 32 (duplex_words event)
+
+-- ---- the event of a line
+
+-- the event of a message, or that the value is wrong
+abbrev pub message_or_fault : Side → Option (List ℕ) → Result DuplexEvent LineFault
+message_or_fault side (Some message) = Ok (Send side message)
+message_or_fault side None = Err Value
+
+-- an event of a side by the words behind its second
+abbrev pub event_of_side : Side → Option EventKind → List (List ℕ) → Result DuplexEvent LineFault
+event_of_side side (Some SendLine) (message ∷ []) = message_or_fault side (message_in message)
+event_of_side side (Some TimeoutLine) [] = Ok (Timeout side)
+event_of_side side (Some ReopenLine) [] = Ok (Reopen side)
+event_of_side side kind others = Err Key
+
+-- a delivery of a direction and of places, or which of them is wrong; the direction is a key, and is judged first
+abbrev pub delivery_to : Option Side → Option (List ℕ) → Result DuplexEvent LineFault
+delivery_to None places = Err Key
+delivery_to (Some to) None = Err Value
+delivery_to (Some to) (Some places) = Ok (Deliver to places)
+
+-- the event of the words behind the first, or the first cause for which they are refused
+abbrev pub event_behind : DuplexStart → List (List ℕ) → Result DuplexEvent LineFault
+event_behind (Acts side) (word ∷ others) = event_of_side side (event_named word) others
+event_behind Delivery (direction ∷ places ∷ []) = delivery_to (hearer_named direction) (places_in places)
+event_behind start others = Err Key
+
+-- and where the first word names something
+abbrev pub event_by_start : List (List ℕ) → Option DuplexStart → Result DuplexEvent LineFault
+event_by_start others (Some start) = event_behind start others
+event_by_start others None = Err WrongKind
+
+-- the event of the words of a line
+abbrev pub duplex_by_words : Result (List (List ℕ)) LineFault → Result DuplexEvent LineFault
+duplex_by_words (Ok (first ∷ others)) = event_by_start others (start_named first)
+duplex_by_words (Ok []) = Err Form
+duplex_by_words (Err fault) = Err fault
+
+-- the event of a line, or the first cause for which the line is refused: Long, Form, Kind, Key, Value
+unfoldable pub duplex_event_of : List ℕ → Result DuplexEvent LineFault
+duplex_event_of line = duplex_by_words (words_or_fault line)

@@ -1,0 +1,155 @@
+//! Events of the duplex world read from lines.
+
+ghost use Rattle.std.specs.Prelude.{◌≡◌, ◌≤◌, [], ◌∷◌, Ok, IfOk, length};
+ghost use Rattle.p25_line.specs.Words.{WordsAnswer};
+ghost use Rattle.p25_duplex.specs.DuplexRuns.{IsDuplexEvent};
+ghost use Rattle.p25_duplex.specs.declared.event.DuplexEvent.{DuplexEvent as event_type};
+ghost use Rattle.p25_duplex_script.specs.DuplexLines.{IsDuplexScripted, direction_word, duplex_event_of, duplex_text, event_behind, hearer_named, start_named, start_word};
+
+use p25_duplex::{DuplexEvent, Side};
+use p25_line::{LineFault, WordList, words_of};
+use p25_script::{EventKind, message_value, places_value};
+
+/// What the first word of a line tells.
+#[derive(Clone, Copy)]
+enum DuplexStart {
+    /// A side acts.
+    Acts(Side),
+    /// A transmission is delivered.
+    Delivery,
+}
+
+// All that a first word tells.
+const STARTS: [DuplexStart; 3] = [
+    DuplexStart::Acts(Side::A),
+    DuplexStart::Acts(Side::B),
+    DuplexStart::Delivery,
+];
+
+impl DuplexStart {
+    // Answers what a word tells. None comes exactly where it tells nothing.
+    fn named(word: &[u8]) -> Option<DuplexStart>
+        ensures { result ≡ start_named word.now }
+    {
+        STARTS.iter().copied().find(|start| word == start.word())
+    }
+
+    // Answers the word that tells it.
+    fn word(self) -> &'static [u8]
+        ensures { result.now ≡ start_word self }
+    {
+        match self {
+            DuplexStart::Acts(side) => side.word(),
+            DuplexStart::Delivery => EventKind::Deliver.word(),
+        }
+    }
+}
+
+// The side to which a word tells the direction.
+fn hearer(word: &[u8]) -> Option<Side>
+    ensures { result ≡ hearer_named word.now }
+{
+    let sides = [Side::A, Side::B];
+    sides.iter().copied().find(|to| word == direction(*to))
+}
+
+// The word for the direction to a side.
+fn direction(to: Side) -> &'static [u8]
+    ensures { result.now ≡ direction_word to }
+{
+    match to {
+        Side::A => b"ba",
+        Side::B => b"ab",
+    }
+}
+
+/// Answers the event whose line this is. Each line that is accepted is the line of its event, and the line of each event,
+/// where it is not too long, is accepted. The first of these causes that applies is answered: Long, above 8,192 octets; Form,
+/// not one or more words of octets 21 to 7E hex with single spaces between them; Kind, the first word is none of `a`, `b` and
+/// `deliver`; Key, the second word is none that may stand there, or the number of words is not that of the kind; Value, the
+/// message or the places are not of their form. The laws of the duplex world speak of each event that is read.
+pub fn read_duplex_event(line: &[u8]) -> Result<DuplexEvent, LineFault>
+    ensures event { result ≡ duplex_event_of line.now }
+    ensures text { IfOk result (λ event. duplex_text event ≡ line.now) }
+    ensures fits { IfOk result (λ event. IsDuplexScripted event) }
+    ensures kept { IfOk result (λ event. IsDuplexEvent event) }
+    ensures each { (event : event_type) → IsDuplexScripted event → length line.now ≤ 8192 → duplex_text event ≡ line.now → result ≡ Ok event }
+{
+    read_whole(line)
+}
+
+// The same, by the definition.
+fn read_whole(line: &[u8]) -> Result<DuplexEvent, LineFault>
+    ensures { result ≡ duplex_event_of line.now }
+{
+    let mut words = WordList::new();
+    match words_of(line, &mut words) {
+        Ok(()) => read_words(line, &words),
+        Err(fault) => Err(fault),
+    }
+}
+
+// The event of a line whose words were found.
+fn read_words(line: &[u8], words: &WordList) -> Result<DuplexEvent, LineFault>
+    requires { WordsAnswer line.now words.now (Ok tt) }
+    ensures { result ≡ duplex_event_of line.now }
+{
+    let Some(start) = DuplexStart::named(words.word(line, 0)) else {
+        return Err(LineFault::Kind);
+    };
+    match words.count() {
+        2 => read_two(start, words.word(line, 1)),
+        3 => read_three(start, words.word(line, 1), words.word(line, 2)),
+        _ => Err(LineFault::Key),
+    }
+}
+
+// The event of a line of two words.
+fn read_two(start: DuplexStart, second: &[u8]) -> Result<DuplexEvent, LineFault>
+    ensures { result ≡ event_behind start (second.now ∷ []) }
+{
+    match (start, EventKind::named(second)) {
+        (DuplexStart::Acts(side), Some(EventKind::Timeout)) => Ok(DuplexEvent::Timeout(side)),
+        (DuplexStart::Acts(side), Some(EventKind::Reopen)) => Ok(DuplexEvent::Reopen(side)),
+        _ => Err(LineFault::Key),
+    }
+}
+
+// The event of a line of three words.
+fn read_three(start: DuplexStart, second: &[u8], third: &[u8]) -> Result<DuplexEvent, LineFault>
+    requires { length third.now ≤ 8192 }
+    ensures { result ≡ event_behind start (second.now ∷ third.now ∷ []) }
+{
+    match start {
+        DuplexStart::Acts(side) => read_message(side, second, third),
+        DuplexStart::Delivery => read_delivery(second, third),
+    }
+}
+
+// The message that a side sends.
+fn read_message(side: Side, second: &[u8], message: &[u8]) -> Result<DuplexEvent, LineFault>
+    ensures { result ≡ event_behind (DuplexStart.Acts side) (second.now ∷ message.now ∷ []) }
+{
+    match EventKind::named(second) {
+        Some(EventKind::Send) => {}
+        _ => return Err(LineFault::Key),
+    }
+    match message_value(message) {
+        Some(message) => Ok(DuplexEvent::Send(side, message)),
+        None => Err(LineFault::Value),
+    }
+}
+
+// The delivery of a direction and of places.
+fn read_delivery(second: &[u8], places: &[u8]) -> Result<DuplexEvent, LineFault>
+    requires { length places.now ≤ 8192 }
+    ensures { result ≡ event_behind DuplexStart.Delivery (second.now ∷ places.now ∷ []) }
+{
+    let Some(to) = hearer(second) else {
+        return Err(LineFault::Key);
+    };
+    match places_value(places) {
+        Some(flips) => Ok(DuplexEvent::Deliver { to, flips }),
+        None => Err(LineFault::Value),
+    }
+}

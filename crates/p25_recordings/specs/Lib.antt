@@ -1,0 +1,6 @@
+pub mod Reports
+pub mod Recordings
+pub mod SoftLevels
+pub mod ItemOutputs
+pub mod Commands
+pub mod Softs

@@ -1,0 +1,12 @@
+//! The reports of the commands that read recordings.
+
+mod calls;
+mod changed;
+mod check;
+mod show;
+
+pub use calls::Calls;
+pub(crate) use changed::put_behind;
+pub use changed::{Change, Changed, put_octets};
+pub use check::Check;
+pub use show::Show;
