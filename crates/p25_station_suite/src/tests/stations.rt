@@ -1,8 +1,12 @@
 //! Scripts of messages: what each step of the world is, and the counts at the end.
 
-use super::{Row, calm, ends, tells};
-use p25_line::LineFault;
+use super::{Row, are_joined, calm, ends, tells};
+use p25_air_world::World;
+use p25_io::SliceSink;
+use p25_line::{Line, LineFault};
+use p25_script::{closing_text, read_event, step_text};
 use p25_tool::Outcome;
+use std::alloc::Global;
 
 // Fifteen timeouts, and what is written where message 0 is sent again at each.
 pub const TIMEOUTS: &[u8] =
@@ -191,10 +195,59 @@ const ROWS: [Row; 13] = [
     ),
 ];
 
+// Writes the text of the step that a world makes of a line, and answers whether there was one.
+fn is_told(world: &mut World, line: &[u8], told: &mut SliceSink) -> bool {
+    let mut out = Line::new();
+    let Ok(event) = read_event(line) else {
+        return false;
+    };
+    match world.step(&event) {
+        Ok(step) => {
+            step_text(&step, &mut out);
+            are_joined(&[out.octets(), b"\n"], told)
+        }
+        Err(_) => false,
+    }
+}
+
+// Writes the texts of the steps that a world makes of the lines of a script, and what closes its run.
+fn are_told(alloc: Global, script: &[u8], told: &mut SliceSink) -> bool {
+    let mut world = World::new(alloc);
+    let mut start = 0;
+    for i in 0..script.len() {
+        if script[i] == b'\n' && start <= i {
+            if !is_told(&mut world, &script[start..i], told) {
+                return false;
+            }
+            start = i + 1;
+        }
+    }
+    let mut out = Line::new();
+    closing_text(&world, &mut out);
+    are_joined(&[out.octets(), b"\n"], told)
+}
+
+// Whether a world that steps from line to line tells what stands in a row.
+fn steps_tell(alloc: Global, row: &Row) -> bool {
+    let (mut script_room, mut told_room, mut text_room) = ([0; 16_384], [0; 32_768], [0; 32_768]);
+    let mut script = SliceSink::new(&mut script_room, &[]);
+    let mut told = SliceSink::new(&mut told_room, &[]);
+    let mut text = SliceSink::new(&mut text_room, &[]);
+    let is_room = are_joined(row.1, &mut script) && are_joined(row.2, &mut text);
+    is_room && are_told(alloc, script.written(), &mut told) && told.written() == text.written()
+}
+
 #[test]
 fn scripts_of_messages(rt: HostRuntime) {
     for row in ROWS {
         assert!(rt; tells(rt.alloc(), b"stations", &row), "{}", row.0);
+    }
+}
+
+#[test]
+fn steps_of_a_world(rt: HostRuntime) {
+    for row in ROWS {
+        assert!(rt; steps_tell(rt.alloc(), &row), "{}", row.0);
     }
 }
 

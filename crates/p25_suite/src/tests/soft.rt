@@ -8,28 +8,16 @@ use p25_io::{MemorySource, SliceSink, SteadySource};
 use p25_tool::{Outcome, run};
 use std::alloc::Global;
 
-// What `soft` writes of a unit.
-#[derive(Drop)]
-enum Output {
-    // The bits as they were sent.
-    Sent,
-
-    // The bits of the dibits that the levels are nearest to.
-    Hard,
-
-    // The octets that were sent, but for those at some places.
-    Other(&'static [(usize, u8)]),
-}
-
 // A unit: what its row shows, its line, how many bits 0 stand before it, which levels become which octets, what `show` writes of the
-// hard bits, and what `soft` writes.
+// hard bits, whether the output is the bits as they were sent, and which octets of these it has otherwise.
 type Row = (
     &'static str,
     &'static [u8],
     usize,
     &'static [(usize, u8)],
     &'static [u8],
-    Output,
+    bool,
+    &'static [(usize, u8)],
 );
 
 const CONFIRMED: &[u8] =
@@ -42,7 +30,8 @@ const ROWS: [Row; 7] = [
         0,
         &[(164, 255), (165, 0)],
         b"broken at=0 bits=576 nac=293 duid=c fields=block.0\n",
-        Output::Sent,
+        true,
+        &[],
     ),
     (
         "a block whose nearest path fails too becomes that path",
@@ -50,7 +39,8 @@ const ROWS: [Row; 7] = [
         0,
         &[(164, 224), (165, 32)],
         b"broken at=0 bits=576 nac=293 duid=c fields=block.0\n",
-        Output::Other(&[(41, 0x82), (48, 0xC8)]),
+        true,
+        &[(41, 0x82), (48, 0xC8)],
     ),
     (
         "only the block that fails is read from its levels",
@@ -58,7 +48,8 @@ const ROWS: [Row; 7] = [
         0,
         &[(265, 255), (266, 0)],
         b"broken at=0 bits=720 nac=293 duid=c fields=block.1\n",
-        Output::Sent,
+        true,
+        &[],
     ),
     (
         "both blocks of a packet whose CRC fails are read from their levels",
@@ -73,7 +64,8 @@ const ROWS: [Row; 7] = [
             (285, 255),
         ],
         b"broken at=0 bits=720 nac=293 duid=c fields=packet_crc\n",
-        Output::Sent,
+        true,
+        &[],
     ),
     (
         "a block behind two bits is read from its levels",
@@ -81,7 +73,8 @@ const ROWS: [Row; 7] = [
         2,
         &[(165, 255), (166, 0)],
         b"gap at=0 bits=2\nbroken at=2 bits=576 nac=293 duid=c fields=block.0\ngap at=578 bits=6\n",
-        Output::Sent,
+        true,
+        &[],
     ),
     (
         "a block at an odd place stays as it is",
@@ -89,7 +82,8 @@ const ROWS: [Row; 7] = [
         1,
         &[(164, 96), (165, 0)],
         b"gap at=0 bits=1\nbroken at=1 bits=576 nac=293 duid=c fields=block.0\ngap at=577 bits=7\n",
-        Output::Hard,
+        false,
+        &[],
     ),
     (
         "a broken voice unit stays as it is",
@@ -97,7 +91,8 @@ const ROWS: [Row; 7] = [
         0,
         &[],
         b"broken at=0 bits=432 nac=293 duid=f fields=link_control\n",
-        Output::Hard,
+        false,
+        &[],
     ),
 ];
 
@@ -173,25 +168,6 @@ fn does(alloc: Global, word: &[u8], input: &[u8], output: &[u8]) -> bool {
     true
 }
 
-// What `soft` writes, from the octets that were sent and those that are nearest.
-fn written(output: &Output, sent: &[u8; 128], hard: &[u8; 128]) -> [u8; 128]
-    ensures { length result ≡ 128 }
-{
-    match output {
-        Output::Sent => *sent,
-        Output::Hard => *hard,
-        Output::Other(changed) => {
-            let mut octets = *sent;
-            for (place, octet) in *changed {
-                if *place < 128 {
-                    octets[*place] = *octet;
-                }
-            }
-            octets
-        }
-    }
-}
-
 // Whether a row holds. A voice unit is broken by six words of zeros behind its identifier.
 fn holds(alloc: Global, row: &Row) -> bool {
     let mut room = [0; 128];
@@ -199,7 +175,7 @@ fn holds(alloc: Global, row: &Row) -> bool {
     if size > 128 || size < 20 {
         return false;
     }
-    let sent = shifted(&room, row.2);
+    let mut sent = shifted(&room, row.2);
     let mut levels = levels_of(&sent);
     for (place, level) in row.3 {
         if let Some(octet) = levels.get_mut(*place) {
@@ -215,8 +191,16 @@ fn holds(alloc: Global, row: &Row) -> bool {
     if !does(alloc, b"show", &hard[..size], row.4) {
         return false;
     }
-    let output = written(&row.5, &sent, &hard);
-    does(alloc, b"soft", &levels[..4 * size], &output[..size])
+    for (place, octet) in row.6 {
+        if let Some(other) = sent.get_mut(*place) {
+            *other = *octet;
+        }
+    }
+    if row.5 {
+        does(alloc, b"soft", &levels[..4 * size], &sent[..size])
+    } else {
+        does(alloc, b"soft", &levels[..4 * size], &hard[..size])
+    }
 }
 
 #[test]
