@@ -155,7 +155,7 @@ pub fn set_unit_item(
         }
         Some(nid) => {
             if nid.duid == PACKET_DUID {
-                *item = packet_item(bits, at, count, &nid, &mut begun, place);
+                set_packet_item(bits, at, count, &nid, &mut begun, place, item);
             } else {
                 set_voice_item(bits, at, count, &nid, place, room, item);
             }
@@ -190,8 +190,27 @@ fn set_voice_item(
     }
 }
 
-// The item of a packet whose identifier was read. A packet takes room, so it is read apart from voice units.
+// Sets `item` to that of a packet whose identifier was read. A packet takes room, so it is read apart from voice units.
 #[inline(never)]
+fn set_packet_item(
+    bits: &BitBuf,
+    at: usize,
+    count: usize,
+    nid: &Nid,
+    begun: &mut Begun,
+    place: u64,
+    item: &mut Item,
+)
+    requires there { at ≤ length bits.now }
+    requires kind { kind_need nid.now.duid (drop at bits.now) ≡ Length count }
+    requires begun { IsBegun begun.old (drop at bits.now) }
+    ensures { item.new ≡ item_from place (nid.now.nac, nid.now.duid) (part at count bits.now)
+        (reading_from (Some (nid.now.nac, nid.now.duid)) (part at count bits.now)) }
+{
+    *item = packet_item(bits, at, count, nid, begun, place);
+}
+
+// The item of a packet whose identifier was read.
 fn packet_item(
     bits: &BitBuf,
     at: usize,

@@ -10,8 +10,8 @@ identify-requires-clause-there c =
     let is = IsUnitAt-from c.args.bits.now c.args.at c.args.count c.requires.there c.requires.needed in
     omega (arith, is.there, is.enough)
 
-pub packet_item-requires-clause-kind : goal.packet_item-requires-clause-kind
-packet_item-requires-clause-kind c =
+pub set_packet_item-requires-clause-kind : goal.set_packet_item-requires-clause-kind
+set_packet_item-requires-clause-kind c =
     kind-is c.args.bits.now c.args.at c.args.count (IsUnitAt-from c.args.bits.now c.args.at c.args.count c.requires.there c.requires.needed) c.in-Some.nid c.in-Some.ensures.value
 
 pub set_voice_item-requires-clause-kind : goal.set_voice_item-requires-clause-kind
@@ -26,7 +26,7 @@ returns-in-None-clause-item c =
 pub returns-then-nid-eq-PACKET_DUID-clause-item : goal.returns-then-nid-eq-PACKET_DUID-clause-item
 returns-then-nid-eq-PACKET_DUID-clause-item c =
     let is = IsUnitAt-from c.args.bits.now c.args.at c.args.count c.requires.there c.requires.needed in
-    item-is c.args.bits.now c.args.at c.args.count c.args.place is c.in-Some.nid c.in-Some.ensures.value c.packet_item.result c.packet_item.ensures
+    item-is c.args.bits.now c.args.at c.args.count c.args.place is c.in-Some.nid c.in-Some.ensures.value c.set_packet_item.new.item c.set_packet_item.ensures
 
 pub returns-else-nid-eq-PACKET_DUID-clause-item : goal.returns-else-nid-eq-PACKET_DUID-clause-item
 returns-else-nid-eq-PACKET_DUID-clause-item c =
