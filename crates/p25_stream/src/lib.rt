@@ -6,12 +6,11 @@
 //! ```text
 //! let mut scanner = Scanner::new();
 //! let mut raw = BitBuf::new();
-//! let mut room = BitBuf::new();
 //! let mut taken = 0;
 //! while taken < octets.len() {
 //!     taken += scanner.push_some(&octets[taken..]);
 //!     while let Some(item) = scanner.next(&mut raw) {
-//!         repair_item(&item, &mut room, &mut raw);
+//!         repair_item(&item, &mut raw);
 //!     }
 //! }
 //! scanner.finish();
@@ -33,5 +32,5 @@ mod tests;
 
 pub use laws::{arrival_laws, item_laws};
 pub use p25_units::Item;
-pub use repeats::{bridge_item, repair_item};
+pub use repeats::{bridge_item, repair_item, repair_item_in};
 pub use scanner::Scanner;

@@ -11,9 +11,17 @@ use p25_units::{Frame, Item, Status, Statuses, image_as, unit_image};
 
 /// Replaces the bits that an item covers by those of its frame where it is `Whole`, so that no wrong bit is left in its
 /// sync, its identifier and its code words; its status symbols and the bits without a code stay as received. The bits of
-/// every other item stay as they are. `room` takes the frame's bits without status symbols; what it holds before and behind
-/// the call means nothing.
-pub fn repair_item(item: &Item, room: &mut BitBuf, raw: &mut BitBuf)
+/// every other item stay as they are.
+pub fn repair_item(item: &Item, raw: &mut BitBuf)
+    requires { IsSoundItem item.now }
+    ensures { raw.new ≡ repaired item.now raw.old }
+{
+    repair_item_in(item, &mut BitBuf::new(), raw);
+}
+
+/// Does the same as `repair_item`. `room` takes the frame's bits without status symbols, so that no buffer has to be made; what
+/// it holds before and behind the call means nothing.
+pub fn repair_item_in(item: &Item, room: &mut BitBuf, raw: &mut BitBuf)
     requires { IsSoundItem item.now }
     ensures { raw.new ≡ repaired item.now raw.old }
 {

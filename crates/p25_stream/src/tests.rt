@@ -2,7 +2,7 @@
 
 ghost use Rattle.p25_units.specs.Units.{IsWholeBody};
 
-use super::{Item, Scanner, bridge_item, item_laws, repair_item};
+use super::{Item, Scanner, bridge_item, item_laws, repair_item, repair_item_in};
 use p25_bits::BitBuf;
 use p25_units::{Body, Frame, Status, Statuses, Unit, VoiceUnit, frame_length};
 use std::test::Fail;
@@ -78,7 +78,7 @@ fn a_terminator_sent_again(rt: HostRuntime) -> Result<(), Fail> {
             frame,
             fixes: 3,
         };
-        repair_item(&item, &mut room, &mut raw);
+        repair_item_in(&item, &mut room, &mut raw);
         assert_eq!(rt; raw.len(), 144);
         assert!(rt; bridge_item(&item, 0x293, three, &mut out));
     }
@@ -88,7 +88,7 @@ fn a_terminator_sent_again(rt: HostRuntime) -> Result<(), Fail> {
         assert_eq!(rt; out.field(142, 2), 3);
     }
     let cut = Item::Cut { place: 7, have: 48 };
-    repair_item(&cut, &mut room, &mut raw);
+    repair_item(&cut, &mut raw);
     assert_eq!(rt; raw.len(), 144);
     assert!(rt; !bridge_item(&cut, 0x293, three, &mut out));
     Ok(())

@@ -7,7 +7,7 @@ use crate::report::Report;
 use p25_bits::BitBuf;
 use p25_line::Line;
 use p25_status::Status;
-use p25_stream::{bridge_item, repair_item};
+use p25_stream::{bridge_item, repair_item_in};
 use p25_units::Item;
 use p25_work::Ending;
 use std::marker::Model;
@@ -85,7 +85,7 @@ fn change_item(change: Change, item: &Item, room: &mut BitBuf, raw: &mut BitBuf)
     ensures { raw.new ≡ change_of change item.now raw.old }
 {
     match change {
-        Change::Repaired => repair_item(item, room, raw),
+        Change::Repaired => repair_item_in(item, room, raw),
         Change::Bridged { nac, status } => {
             raw.clear();
             let _ = bridge_item(item, nac, status, raw);
