@@ -21,12 +21,11 @@ ghost use Rattle.std.specs.Prelude.{◌≡◌, ℕ, ◌^◌, ◌<◌};
 ghost use Rattle.p25_crc.specs.Checks.{IsCrc9, IsCrc16, IsCrc32};
 ghost use Rattle.p25_crc.specs.Values.{crc9_of, crc16_of, crc32_of};
 
-mod laws;
+pub mod laws;
 mod register;
 #[cfg(test)]
 mod tests;
 
-pub use laws::check_laws;
 use register::{Divisor, check_of, take_number, take_octets};
 
 /// The divisor of a confirmed block: x^9 + x^6 + x^4 + x^3 + 1.

@@ -3,20 +3,20 @@
 use Rattle.std.proofs.Common.{◌≡◌, ℕ, Bool, true, false, List, [], ◌∷◌, ◌++◌, Option, Some, None, refl, ap, sym, ◌∙◌, subst}
 use Rattle.std.specs.Prelude.{IfSome, if◌then◌else◌}
 use Rattle.p25_packet_blocks.specs.declared.packet.Packet.{Packet}
-use Rattle.p25_world.specs.Link.{Link, first_link, Happening, link_run}
-use Rattle.p25_world.specs.Clean.{IsTrueTo, IsClean, IsCleanRun as IsCleanLink}
-use Rattle.p25_world.specs.Orderly.{AreOrderly}
-use Rattle.p25_world.specs.Facts.{LinkFacts}
-use Rattle.p25_world.proofs.PhaseLaws.{IsKept}
-use Rattle.p25_world.proofs.LinkLaws.{run-kept, first-kept, sessions-orderly, facts-kept}
-use Rattle.p25_air.specs.declared.air.Carried.{Carried}
-use Rattle.p25_air.specs.declared.air.Carried.TheVariants.{Lost, Foreign, Heard}
-use Rattle.p25_air.specs.Air.{carried_of}
-use Rattle.p25_air.proofs.AirLaws.{air-true}
-use Rattle.p25_air_world.specs.Runs.{sessions_of}
-use Rattle.p25_air_world.proofs.WorldOfLaws.{sessions-world_of}
-use Rattle.p25_air_world.proofs.SimulationLaws.{link_run-append}
-use Rattle.p25_air_world.proofs.CleanLaws.{clean-append}
+use Rattle.p25_delivery.specs.Link.{Link, first_link, Happening, link_run}
+use Rattle.p25_delivery.specs.Clean.{IsTrueTo, IsClean, IsCleanRun as IsCleanLink}
+use Rattle.p25_delivery.specs.Orderly.{AreOrderly}
+use Rattle.p25_delivery.specs.Facts.{LinkFacts}
+use Rattle.p25_delivery.proofs.PhaseLaws.{IsKept}
+use Rattle.p25_delivery.proofs.LinkLaws.{run-kept, first-kept, sessions-orderly, facts-kept}
+use Rattle.p25_stations.specs.declared.air.Carried.{Carried}
+use Rattle.p25_stations.specs.declared.air.Carried.TheVariants.{Lost, Foreign, Heard}
+use Rattle.p25_stations.specs.Air.{carried_of}
+use Rattle.p25_stations.proofs.AirLaws.{air-true}
+use Rattle.p25_stations.specs.Runs.{sessions_of}
+use Rattle.p25_stations.proofs.WorldOfLaws.{sessions-world_of}
+use Rattle.p25_stations.proofs.SimulationLaws.{link_run-append}
+use Rattle.p25_stations.proofs.CleanLaws.{clean-append}
 use Rattle.p25_duplex.specs.declared.side.Side.{Side}
 use Rattle.p25_duplex.specs.declared.side.Side.TheVariants.{A, B}
 use Rattle.p25_duplex.specs.declared.event.DuplexEvent.{DuplexEvent}

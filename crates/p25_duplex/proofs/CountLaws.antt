@@ -2,9 +2,9 @@
 -- By the event, and what is carried.
 use Rattle.std.proofs.Common.{◌≡◌, ℕ, ◌+◌, ◌-◌, ◌^◌, min, Bool, true, false, List, [], ◌∷◌, Option, Some, None, refl, ap, sym, ◌∙◌, arith}
 use Rattle.p25_packet_blocks.specs.declared.packet.Packet.{Packet}
-use Rattle.p25_air.specs.declared.air.Carried.{Carried}
-use Rattle.p25_air.specs.declared.air.Carried.TheVariants.{Lost, Foreign, Heard}
-use Rattle.p25_air.specs.Air.{carried_of}
+use Rattle.p25_stations.specs.declared.air.Carried.{Carried}
+use Rattle.p25_stations.specs.declared.air.Carried.TheVariants.{Lost, Foreign, Heard}
+use Rattle.p25_stations.specs.Air.{carried_of}
 use Rattle.p25_duplex.specs.declared.side.Side.{Side}
 use Rattle.p25_duplex.specs.declared.side.Side.TheVariants.{A, B}
 use Rattle.p25_duplex.specs.declared.event.DuplexEvent.{DuplexEvent}

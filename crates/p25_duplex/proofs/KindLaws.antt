@@ -8,11 +8,11 @@ use Rattle.p25_packet_blocks.specs.declared.packet.Packet.TheVariants.{Confirmed
 use Rattle.p25_packet_blocks.specs.declared.head.PacketHead.{PacketHead}
 use Rattle.p25_packet_blocks.specs.Heads.{head_format, confirmed_head, response_head, opening_head}
 use Rattle.p25_packet_blocks.specs.Whole.{packet_head}
-use Rattle.p25_stations.specs.SentPackets.{message_packet, blocks_packet, opening_packet, short_response, ack_packet, retry_packet}
-use Rattle.p25_world.specs.Link.{Link}
-use Rattle.p25_world.specs.Clean.{IsTrueTo, IsHeardOf}
-use Rattle.p25_world.specs.Facts.{IsDataOf}
-use Rattle.p25_world.proofs.PhaseLaws.{IsQuietData, IsWaitingAnswer, IsOpeningAnswer, IsLinked, quiet, waiting, arrived, opening}
+use Rattle.p25_delivery.specs.SentPackets.{message_packet, blocks_packet, opening_packet, short_response, ack_packet, retry_packet}
+use Rattle.p25_delivery.specs.Link.{Link}
+use Rattle.p25_delivery.specs.Clean.{IsTrueTo, IsHeardOf}
+use Rattle.p25_delivery.specs.Facts.{IsDataOf}
+use Rattle.p25_delivery.proofs.PhaseLaws.{IsQuietData, IsWaitingAnswer, IsOpeningAnswer, IsLinked, quiet, waiting, arrived, opening}
 use Rattle.p25_duplex.specs.StationRules.{is_answer}
 use Rattle.p25_duplex.proofs.PairLaws.{IsOfEither}
 

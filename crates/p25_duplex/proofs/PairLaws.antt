@@ -3,26 +3,26 @@
 use Rattle.std.proofs.Common.{◌≡◌, ℕ, ◌+◌, false, List, [], ◌∷◌, ◌++◌, length, ◌⊎◌, inl, inr, Option, Some, None, refl, ap, sym, subst, arith, append_assoc}
 use Rattle.std.specs.Prelude.{IfSome}
 use Rattle.p25_packet_blocks.specs.declared.packet.Packet.{Packet}
-use Rattle.p25_stations.specs.SenderState.{Sending}
-use Rattle.p25_stations.specs.ReceiverState.{Receiving}
-use Rattle.p25_stations.specs.SenderRules.{offered, timed_out, sender_heard, reopened, is_opening}
-use Rattle.p25_stations.specs.ReceiverRules.{receiver_heard}
-use Rattle.p25_stations.specs.declared.sender_state.Outstanding.{Outstanding}
-use Rattle.p25_stations.specs.declared.sender_state.Outstanding.TheVariants.{Nothing, Message, Opening}
-use Rattle.p25_stations.specs.declared.sender.Offer.{Offer}
-use Rattle.p25_stations.specs.declared.sender.Offer.TheVariants.{Taken as OfferTaken, Busy as OfferBusy, Down as DownAtOffer}
-use Rattle.p25_stations.specs.declared.sender.Resend.{Resend}
-use Rattle.p25_stations.specs.declared.sender.Resend.TheVariants.{Sent, Idle as ResendIdle, Down as DownAtTimeout}
-use Rattle.p25_stations.specs.declared.sender.SenderHeard.{SenderHeard}
-use Rattle.p25_stations.specs.declared.sender.SenderHeard.TheVariants.{Acknowledged as HeardAck, Opened as SenderOpened, Retry as HeardRetry, Repeat as HeardRepeat, Ignored as SenderIgnored, Down as DownAtAnswer}
-use Rattle.p25_stations.specs.declared.sender.Reopen.{Reopen as ReopenAnswer}
-use Rattle.p25_stations.specs.declared.sender.Reopen.TheVariants.{Sent as ReopenSent, Up as ReopenUp}
-use Rattle.p25_stations.specs.declared.receiver.Heard.{Heard}
-use Rattle.p25_stations.specs.declared.receiver.Heard.TheVariants.{Delivered as HeardDelivered, Opened as ReceiverOpened, Again as HeardAgain, Kept as HeardKept, RefusedCrc as HeardCrc, RefusedOrder as HeardOrder, Ignored as ReceiverIgnored}
-use Rattle.p25_world.specs.Link.{Link, first_link, next_session}
-use Rattle.p25_world.specs.Link.{after_offer as link_offer, after_timeout as link_timeout, after_reopening as link_reopening, after_data as link_data, after_answer as link_answer}
-use Rattle.p25_air_world.specs.WorldState.{WorldState}
-use Rattle.p25_air_world.proofs.WorldOfLaws.{sent_in, delivered_in, acknowledged_in, marks_after, first_mark, session-ends}
+use Rattle.p25_delivery.specs.SenderState.{Sending}
+use Rattle.p25_delivery.specs.ReceiverState.{Receiving}
+use Rattle.p25_delivery.specs.SenderRules.{offered, timed_out, sender_heard, reopened, is_opening}
+use Rattle.p25_delivery.specs.ReceiverRules.{receiver_heard}
+use Rattle.p25_delivery.specs.declared.sender_state.Outstanding.{Outstanding}
+use Rattle.p25_delivery.specs.declared.sender_state.Outstanding.TheVariants.{Nothing, Message, Opening}
+use Rattle.p25_delivery.specs.declared.sender.Offer.{Offer}
+use Rattle.p25_delivery.specs.declared.sender.Offer.TheVariants.{Taken as OfferTaken, Busy as OfferBusy, Down as DownAtOffer}
+use Rattle.p25_delivery.specs.declared.sender.Resend.{Resend}
+use Rattle.p25_delivery.specs.declared.sender.Resend.TheVariants.{Sent, Idle as ResendIdle, Down as DownAtTimeout}
+use Rattle.p25_delivery.specs.declared.sender.SenderHeard.{SenderHeard}
+use Rattle.p25_delivery.specs.declared.sender.SenderHeard.TheVariants.{Acknowledged as HeardAck, Opened as SenderOpened, Retry as HeardRetry, Repeat as HeardRepeat, Ignored as SenderIgnored, Down as DownAtAnswer}
+use Rattle.p25_delivery.specs.declared.sender.Reopen.{Reopen as ReopenAnswer}
+use Rattle.p25_delivery.specs.declared.sender.Reopen.TheVariants.{Sent as ReopenSent, Up as ReopenUp}
+use Rattle.p25_delivery.specs.declared.receiver.Heard.{Heard}
+use Rattle.p25_delivery.specs.declared.receiver.Heard.TheVariants.{Delivered as HeardDelivered, Opened as ReceiverOpened, Again as HeardAgain, Kept as HeardKept, RefusedCrc as HeardCrc, RefusedOrder as HeardOrder, Ignored as ReceiverIgnored}
+use Rattle.p25_delivery.specs.Link.{Link, first_link, next_session}
+use Rattle.p25_delivery.specs.Link.{after_offer as link_offer, after_timeout as link_timeout, after_reopening as link_reopening, after_data as link_data, after_answer as link_answer}
+use Rattle.p25_stations.specs.WorldState.{WorldState}
+use Rattle.p25_stations.proofs.WorldOfLaws.{sent_in, delivered_in, acknowledged_in, marks_after, first_mark, session-ends}
 use Rattle.p25_duplex.specs.DuplexState.{StationState, first_station}
 use Rattle.p25_duplex.specs.StationRules.{after_offer, after_timeout, after_reopening, after_data, after_answer}
 

@@ -1,10 +1,10 @@
 -- Each step of the duplex world is what happens at the links of both sides. By the event, the side and what is carried.
 use Rattle.std.proofs.Common.{ℕ, Bool, true, false, List, Option, Some, None}
 use Rattle.p25_packet_blocks.specs.declared.packet.Packet.{Packet}
-use Rattle.p25_world.specs.Link.{Link, happens, link_run}
-use Rattle.p25_air.specs.declared.air.Carried.{Carried}
-use Rattle.p25_air.specs.declared.air.Carried.TheVariants.{Lost, Foreign, Heard}
-use Rattle.p25_air.specs.Air.{carried_of}
+use Rattle.p25_delivery.specs.Link.{Link, happens, link_run}
+use Rattle.p25_stations.specs.declared.air.Carried.{Carried}
+use Rattle.p25_stations.specs.declared.air.Carried.TheVariants.{Lost, Foreign, Heard}
+use Rattle.p25_stations.specs.Air.{carried_of}
 use Rattle.p25_duplex.specs.declared.side.Side.TheVariants.{A, B}
 use Rattle.p25_duplex.specs.declared.event.DuplexEvent.{DuplexEvent}
 use Rattle.p25_duplex.specs.declared.event.DuplexEvent.TheVariants.{Send, Timeout, Reopen, Deliver}

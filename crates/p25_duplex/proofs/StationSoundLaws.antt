@@ -1,28 +1,28 @@
--- Each call keeps a station sound: what p25_air_world says of its worlds, at a station as a world of its own.
+-- Each call keeps a station sound: what p25_stations says of its worlds, at a station as a world of its own.
 use Rattle.std.proofs.Common.{◌≡◌, ℕ, Bool, true, false, List, [], ◌∷◌, ◌++◌, length, Option, Some, sym, ◌∙◌, arith, length-append}
 use Rattle.p25_packet_blocks.specs.declared.packet.Packet.{Packet}
-use Rattle.p25_stations.specs.SenderState.{Sending}
-use Rattle.p25_stations.specs.ReceiverState.{Receiving}
-use Rattle.p25_stations.specs.SenderRules.{offered, timed_out, sender_heard, reopened, is_opening}
-use Rattle.p25_stations.specs.ReceiverRules.{receiver_heard}
-use Rattle.p25_stations.specs.declared.sender_state.Outstanding.{Outstanding}
-use Rattle.p25_stations.specs.declared.sender_state.Outstanding.TheVariants.{Nothing, Message, Opening}
-use Rattle.p25_stations.specs.declared.sender.Offer.{Offer}
-use Rattle.p25_stations.specs.declared.sender.Offer.TheVariants.{Taken as OfferTaken, Busy as OfferBusy, Down as DownAtOffer}
-use Rattle.p25_stations.specs.declared.sender.Resend.{Resend}
-use Rattle.p25_stations.specs.declared.sender.Resend.TheVariants.{Sent, Idle as ResendIdle, Down as DownAtTimeout}
-use Rattle.p25_stations.specs.declared.sender.SenderHeard.{SenderHeard}
-use Rattle.p25_stations.specs.declared.sender.SenderHeard.TheVariants.{Acknowledged as HeardAck, Opened as SenderOpened, Retry as HeardRetry, Repeat as HeardRepeat, Ignored as SenderIgnored, Down as DownAtAnswer}
-use Rattle.p25_stations.specs.declared.sender.Reopen.{Reopen as ReopenAnswer}
-use Rattle.p25_stations.specs.declared.sender.Reopen.TheVariants.{Sent as ReopenSent, Up as ReopenUp}
-use Rattle.p25_stations.specs.declared.receiver.Heard.{Heard}
-use Rattle.p25_stations.specs.declared.receiver.Heard.TheVariants.{Delivered as HeardDelivered, Opened as ReceiverOpened, Again as HeardAgain, Kept as HeardKept, RefusedCrc as HeardCrc, RefusedOrder as HeardOrder, Ignored as ReceiverIgnored}
-use Rattle.p25_air_world.specs.declared.mark.Mark.{Mark}
-use Rattle.p25_air_world.specs.WorldState.{WorldState}
-use Rattle.p25_air_world.specs.Sound.{IsMessage, IsCountedWith, IsSound}
-use Rattle.p25_air_world.specs.Steps.{present_mark, after_offer as world_offer, after_timeout as world_timeout, after_reopening as world_reopening, after_data as world_data, after_answer as world_answer}
-use Rattle.p25_air_world.proofs.SoundWorldsLaws.{counted-receiver}
-use Rattle.p25_air_world.proofs.SoundLaws.{first-sound, offer-sound, timeout-sound, reopen-sound, data-sound, answer-sound}
+use Rattle.p25_delivery.specs.SenderState.{Sending}
+use Rattle.p25_delivery.specs.ReceiverState.{Receiving}
+use Rattle.p25_delivery.specs.SenderRules.{offered, timed_out, sender_heard, reopened, is_opening}
+use Rattle.p25_delivery.specs.ReceiverRules.{receiver_heard}
+use Rattle.p25_delivery.specs.declared.sender_state.Outstanding.{Outstanding}
+use Rattle.p25_delivery.specs.declared.sender_state.Outstanding.TheVariants.{Nothing, Message, Opening}
+use Rattle.p25_delivery.specs.declared.sender.Offer.{Offer}
+use Rattle.p25_delivery.specs.declared.sender.Offer.TheVariants.{Taken as OfferTaken, Busy as OfferBusy, Down as DownAtOffer}
+use Rattle.p25_delivery.specs.declared.sender.Resend.{Resend}
+use Rattle.p25_delivery.specs.declared.sender.Resend.TheVariants.{Sent, Idle as ResendIdle, Down as DownAtTimeout}
+use Rattle.p25_delivery.specs.declared.sender.SenderHeard.{SenderHeard}
+use Rattle.p25_delivery.specs.declared.sender.SenderHeard.TheVariants.{Acknowledged as HeardAck, Opened as SenderOpened, Retry as HeardRetry, Repeat as HeardRepeat, Ignored as SenderIgnored, Down as DownAtAnswer}
+use Rattle.p25_delivery.specs.declared.sender.Reopen.{Reopen as ReopenAnswer}
+use Rattle.p25_delivery.specs.declared.sender.Reopen.TheVariants.{Sent as ReopenSent, Up as ReopenUp}
+use Rattle.p25_delivery.specs.declared.receiver.Heard.{Heard}
+use Rattle.p25_delivery.specs.declared.receiver.Heard.TheVariants.{Delivered as HeardDelivered, Opened as ReceiverOpened, Again as HeardAgain, Kept as HeardKept, RefusedCrc as HeardCrc, RefusedOrder as HeardOrder, Ignored as ReceiverIgnored}
+use Rattle.p25_stations.specs.declared.mark.Mark.{Mark}
+use Rattle.p25_stations.specs.WorldState.{WorldState}
+use Rattle.p25_stations.specs.Sound.{IsMessage, IsCountedWith, IsSound}
+use Rattle.p25_stations.specs.Steps.{present_mark, after_offer as world_offer, after_timeout as world_timeout, after_reopening as world_reopening, after_data as world_data, after_answer as world_answer}
+use Rattle.p25_stations.proofs.SoundWorldsLaws.{counted-receiver}
+use Rattle.p25_stations.proofs.SoundLaws.{first-sound, offer-sound, timeout-sound, reopen-sound, data-sound, answer-sound}
 use Rattle.p25_duplex.specs.DuplexState.{StationState, first_station}
 use Rattle.p25_duplex.specs.SoundStation.{own_world, IsSoundStation}
 use Rattle.p25_duplex.specs.StationRules.{after_offer, after_timeout, mark_of, after_reopening, after_data, after_answer}

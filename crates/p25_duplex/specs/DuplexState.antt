@@ -1,11 +1,11 @@
 -- What the duplex world keeps: two stations, each with a sender and a receiver.
 use Rattle.std.specs.Prelude.{ℕ, List, [], Option, None}
 use Rattle.p25_packet_blocks.specs.declared.packet.Packet.{Packet}
-use Rattle.p25_stations.specs.SenderState.{Sending}
-use Rattle.p25_stations.specs.ReceiverState.{Receiving}
-use Rattle.p25_stations.specs.SenderRules.{first_sending}
-use Rattle.p25_stations.specs.ReceiverRules.{first_receiving}
-use Rattle.p25_air_world.specs.declared.mark.Mark.{Mark}
+use Rattle.p25_delivery.specs.SenderState.{Sending}
+use Rattle.p25_delivery.specs.ReceiverState.{Receiving}
+use Rattle.p25_delivery.specs.SenderRules.{first_sending}
+use Rattle.p25_delivery.specs.ReceiverRules.{first_receiving}
+use Rattle.p25_stations.specs.declared.mark.Mark.{Mark}
 use Rattle.p25_duplex.specs.declared.side.Side.{Side}
 use Rattle.p25_duplex.specs.declared.side.Side.TheVariants.{A, B}
 use Rattle.p25_duplex.specs.Sides.{other_side}

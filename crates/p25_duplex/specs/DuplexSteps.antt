@@ -1,13 +1,13 @@
 -- What each event makes of the duplex world, and the step that it is.
 use Rattle.std.specs.Prelude.{ℕ, ◌+◌, ◌-◌, ◌^◌, Bool, true, false, min, List, length, Option, Some, None}
 use Rattle.p25_packet_blocks.specs.declared.packet.Packet.{Packet}
-use Rattle.p25_stations.specs.SenderRules.{offered, timed_out, reopened, is_opening}
-use Rattle.p25_air.specs.declared.air.Carried.{Carried}
-use Rattle.p25_air.specs.declared.air.Carried.TheVariants.{Lost as CarriedLost, Foreign, Heard}
-use Rattle.p25_air.specs.Air.{carried_of}
-use Rattle.p25_air_world.specs.declared.step.Way.TheVariants.{Packets}
-use Rattle.p25_air_world.specs.declared.step.StepKind.{StepKind}
-use Rattle.p25_air_world.specs.declared.step.StepKind.TheVariants.{Nothing, Lost, Ignored}
+use Rattle.p25_delivery.specs.SenderRules.{offered, timed_out, reopened, is_opening}
+use Rattle.p25_stations.specs.declared.air.Carried.{Carried}
+use Rattle.p25_stations.specs.declared.air.Carried.TheVariants.{Lost as CarriedLost, Foreign, Heard}
+use Rattle.p25_stations.specs.Air.{carried_of}
+use Rattle.p25_stations.specs.declared.step.Way.TheVariants.{Packets}
+use Rattle.p25_stations.specs.declared.step.StepKind.{StepKind}
+use Rattle.p25_stations.specs.declared.step.StepKind.TheVariants.{Nothing, Lost, Ignored}
 use Rattle.p25_duplex.specs.declared.side.Side.{Side}
 use Rattle.p25_duplex.specs.declared.event.DuplexEvent.{DuplexEvent}
 use Rattle.p25_duplex.specs.declared.event.DuplexEvent.TheVariants.{Send, Timeout, Reopen, Deliver}

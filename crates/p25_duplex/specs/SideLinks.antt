@@ -1,13 +1,13 @@
 -- The link of a side's messages in a run of the duplex world: what happens at its sender and at the other's receiver, as
--- p25_world says it.
+-- p25_delivery says it.
 use Rattle.std.specs.Prelude.{◌≡◌, ℕ, Bool, true, false, List, [], ◌∷◌, ◌++◌, Option, Some, None, IfSome}
 use Rattle.p25_packet_blocks.specs.declared.packet.Packet.{Packet}
-use Rattle.p25_world.specs.Link.{Link, first_link, Happening, Offering, Time_up, Opening_again, Data_heard, Answer_heard, link_run}
-use Rattle.p25_air.specs.declared.air.Carried.{Carried}
-use Rattle.p25_air.specs.declared.air.Carried.TheVariants.{Lost, Foreign, Heard}
-use Rattle.p25_air.specs.Air.{carried_of}
-use Rattle.p25_air_world.specs.WorldState.{WorldState}
-use Rattle.p25_air_world.specs.Runs.{sessions_of}
+use Rattle.p25_delivery.specs.Link.{Link, first_link, Happening, Offering, Time_up, Opening_again, Data_heard, Answer_heard, link_run}
+use Rattle.p25_stations.specs.declared.air.Carried.{Carried}
+use Rattle.p25_stations.specs.declared.air.Carried.TheVariants.{Lost, Foreign, Heard}
+use Rattle.p25_stations.specs.Air.{carried_of}
+use Rattle.p25_stations.specs.WorldState.{WorldState}
+use Rattle.p25_stations.specs.Runs.{sessions_of}
 use Rattle.p25_duplex.specs.declared.side.Side.{Side}
 use Rattle.p25_duplex.specs.declared.side.Side.TheVariants.{A, B}
 use Rattle.p25_duplex.specs.declared.event.DuplexEvent.{DuplexEvent}

@@ -1,6 +1,6 @@
 -- What every station of the duplex world keeps, whatever comes over the air.
-use Rattle.p25_air_world.specs.WorldState.{WorldState}
-use Rattle.p25_air_world.specs.Sound.{IsSound}
+use Rattle.p25_stations.specs.WorldState.{WorldState}
+use Rattle.p25_stations.specs.Sound.{IsSound}
 use Rattle.p25_duplex.specs.DuplexState.{StationState}
 
 -- a station as a world of its own: its newest transmission stands for data and for an answer

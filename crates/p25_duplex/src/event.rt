@@ -1,5 +1,5 @@
 use crate::side::Side;
-use p25_air_world::Step;
+use p25_stations::Step;
 use p25_messages::{Flips, Message};
 
 /// Something that happens at one of the two stations, or on the air between them.

@@ -2,8 +2,8 @@
 //! its own: its contract is the theorem.
 
 ghost use Rattle.std.specs.Prelude.{◌≡◌, List};
-ghost use Rattle.p25_world.specs.Orderly.{AreOrderly};
-ghost use Rattle.p25_world.specs.Facts.{LinkFacts};
+ghost use Rattle.p25_delivery.specs.Orderly.{AreOrderly};
+ghost use Rattle.p25_delivery.specs.Facts.{LinkFacts};
 ghost use Rattle.p25_duplex.specs.declared.side.Side.{Side as side_type};
 ghost use Rattle.p25_duplex.specs.declared.event.DuplexEvent.{DuplexEvent as event_type};
 ghost use Rattle.p25_duplex.specs.DuplexState.{first_duplex};

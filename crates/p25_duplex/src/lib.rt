@@ -16,14 +16,13 @@
 #![tactic(auto)]
 
 mod event;
-mod laws;
+pub mod laws;
 mod side;
 mod station;
 mod texts;
 mod world;
 
 pub use event::{DuplexEvent, DuplexStep};
-pub use laws::{both_directions_are_orderly, duplex_facts, false_passes_are_counted};
 pub use side::Side;
 pub use texts::{duplex_closing, duplex_step_text};
 pub use world::DuplexWorld;

@@ -2,12 +2,12 @@
 
 ghost use Rattle.std.specs.Prelude.{◌≡◌, ◌+◌, ◌<◌, ◌≤◌, length, OnOk, OnErr};
 ghost use Rattle.p25_packet_blocks.specs.Sendable.{AreOctets};
-ghost use Rattle.p25_air_world.specs.Sound.{IsMessage};
+ghost use Rattle.p25_stations.specs.Sound.{IsMessage};
 
-use p25_air_world::{Mark, StepKind, Way};
+use p25_stations::{Mark, StepKind, Way};
 use p25_messages::{Message, MessageList};
 use p25_packet_blocks::Packet;
-use p25_stations::{Heard, Offer, Receiver, Reopen, Resend, Sender, SenderHeard};
+use p25_delivery::{Heard, Offer, Receiver, Reopen, Resend, Sender, SenderHeard};
 use std::alloc::{AllocError, Global};
 use std::marker::Model;
 
@@ -118,8 +118,8 @@ fn fit(message: &Message)
 impl Station {
     ghost use Rattle.std.specs.Prelude.{Option, Some, None, IfSome};
     ghost use Rattle.p25_packet_blocks.specs.Sendable.{IsSendable};
-    ghost use Rattle.p25_stations.specs.SenderRules.{offered, timed_out, sender_heard, reopened, is_opening};
-    ghost use Rattle.p25_stations.specs.ReceiverRules.{receiver_heard};
+    ghost use Rattle.p25_delivery.specs.SenderRules.{offered, timed_out, sender_heard, reopened, is_opening};
+    ghost use Rattle.p25_delivery.specs.ReceiverRules.{receiver_heard};
     ghost use Rattle.p25_duplex.specs.StationRules.{after_offer, after_timeout, after_reopening, after_data, after_answer, is_answer, heard_as};
 
     // Offers a message to its sender.

@@ -7,8 +7,8 @@ ghost use Rattle.p25_duplex.specs.DuplexSteps.{duplex_step};
 use crate::event::{DuplexEvent, DuplexStep};
 use crate::side::Side;
 use crate::station::Station;
-use p25_air::{Carried, carry};
-use p25_air_world::{Step, StepKind, Way};
+use p25_stations::{Carried, carry};
+use p25_stations::{Step, StepKind, Way};
 use p25_messages::{Flips, Message, MessageList};
 use p25_packet_blocks::Packet;
 use std::alloc::{AllocError, Global};
@@ -141,7 +141,7 @@ fn quiet(side: Side, kind: StepKind) -> DuplexStep
 }
 
 impl DuplexWorld {
-    ghost use Rattle.p25_stations.specs.SenderRules.{offered, timed_out, reopened, is_opening};
+    ghost use Rattle.p25_delivery.specs.SenderRules.{offered, timed_out, reopened, is_opening};
     ghost use Rattle.p25_duplex.specs.DuplexState.{station_at, with_station, delivered_from};
     ghost use Rattle.p25_duplex.specs.StationRules.{after_offer, after_timeout, after_reopening, is_answer, heard_as};
     ghost use Rattle.p25_duplex.specs.DuplexSteps.{counted_when, delivered_to};

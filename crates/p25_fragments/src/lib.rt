@@ -18,7 +18,7 @@
 #![tactic(auto)]
 
 mod joiner;
-mod laws;
+pub mod laws;
 mod long_list;
 mod long_mark;
 mod long_message;
@@ -29,7 +29,6 @@ mod long_world;
 mod outgoing;
 
 pub use joiner::{Joined, Joiner};
-pub use laws::long_messages_come_whole;
 pub use long_list::LongList;
 pub use long_message::LongMessage;
 pub use long_step::{LongEvent, LongStep, Then};

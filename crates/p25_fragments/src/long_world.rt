@@ -8,7 +8,7 @@ use crate::long_message::LongMessage;
 use crate::long_receiver::LongReceiver;
 use crate::long_sender::{Following, LongSender};
 use crate::long_step::{LongEvent, LongStep, Then};
-use p25_air_world::{Event, StepKind, World};
+use p25_stations::{Event, StepKind, World};
 use std::alloc::{AllocError, Global};
 use std::marker::Model;
 
@@ -155,7 +155,7 @@ fn told(joined: Joined) -> Then
 
 impl LongWorld {
     ghost use Rattle.std.specs.Prelude.{◌-◌, min, vec_len, vec_capacity};
-    ghost use Rattle.p25_air_world.specs.Steps.{world_step};
+    ghost use Rattle.p25_stations.specs.Steps.{world_step};
     ghost use Rattle.p25_fragments.specs.LongSteps.{long_offered, inner_happened};
 
     // Offers a long message.

@@ -5,7 +5,7 @@ use Rattle.p25_bits.specs.Bits.{part}
 use Rattle.p25_bits.specs.Numbers.{joined_below}
 use Rattle.p25_trellis.specs.Nearest.{half_block, three_quarter_block}
 use Rattle.p25_crc.specs.Values.{crc9_of, crc16_of, crc32_of}
-use Rattle.p25_front.specs.Front.{unit_front}
+use Rattle.p25_unit_front.specs.Front.{unit_front}
 use Rattle.p25_packet_blocks.specs.declared.head.PacketHead.{PacketHead}
 use Rattle.p25_packet_blocks.specs.declared.block.Block.{Block}
 use Rattle.p25_packet_blocks.specs.declared.block.Slot.{Slot}

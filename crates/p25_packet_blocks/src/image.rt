@@ -2,7 +2,7 @@
 
 ghost use Rattle.std.specs.Prelude.{◌≡◌, ◌+◌, ◌*◌, ◌-◌, ◌<◌, ◌≤◌, ◌++◌, length, replicate, false, Ok};
 ghost use Rattle.p25_bits.specs.Numbers.{joined_below};
-ghost use Rattle.p25_front.specs.Front.{unit_front};
+ghost use Rattle.p25_unit_front.specs.Front.{unit_front};
 ghost use Rattle.p25_trellis.specs.Nearest.{half_block, three_quarter_block};
 ghost use Rattle.p25_packet_blocks.specs.declared.packet.Packet.TheVariants.{Confirmed as confirmed_packet, Plain as plain_packet};
 ghost use Rattle.p25_packet_blocks.specs.Heads.{head_blocks};
@@ -19,7 +19,7 @@ use arrayvec::ArrayVec;
 use p25_bch_nid::Nid;
 use p25_bits::BitBuf;
 use p25_crc::{crc9, crc16, crc32};
-use p25_front::put_front;
+use p25_unit_front::put_front;
 use p25_trellis::{Half, ThreeQuarter, encode_block};
 
 // The data unit identifier of a packet.

@@ -8,7 +8,7 @@ use crate::image::{PACKET_DUID, packet_length};
 use crate::packet::Packet;
 use crate::read::{head_in, read_packet_of_head};
 use p25_bits::BitBuf;
-use p25_front::read_identifier;
+use p25_unit_front::read_identifier;
 use p25_status::{Field, Statuses, is_sync, unweave};
 use p25_trellis::{Half, read_block};
 

@@ -3,7 +3,7 @@
 ghost use Rattle.std.specs.Prelude.{◌≡◌, ◌+◌, ◌<◌, ◌≤◌, ◌++◌, length, decimal};
 ghost use Rattle.p25_script.specs.StepTexts.{closing_text_of, sessions_text};
 
-use p25_air_world::World;
+use p25_stations::World;
 use p25_line::Line;
 
 /// Sets `out` to the text that closes a run, without the end of its line: how many messages were sent, delivered and

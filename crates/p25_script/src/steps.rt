@@ -1,14 +1,14 @@
 //! The texts of steps.
 
 ghost use Rattle.std.specs.Prelude.{◌≡◌, ◌+◌, ◌*◌, ◌<◌, ◌≤◌, Bool, true, ◌++◌, [], ◌∷◌, length, cond, codes, decimal};
-ghost use Rattle.p25_air_world.specs.declared.step.StepKind.TheVariants.{Taken, Retry};
+ghost use Rattle.p25_stations.specs.declared.step.StepKind.TheVariants.{Taken, Retry};
 ghost use Rattle.p25_line.specs.CommaLists.{comma_text};
 ghost use Rattle.p25_script.specs.StepTexts.{flags_text, kind_text, serials_of, step_text_of};
 ghost use Rattle.p25_script.specs.Script.{way_word};
 ghost use Rattle.p25_script.specs.Values.{message_text};
 
 use super::names::word_of_way;
-use p25_air_world::{Step, StepKind, Way};
+use p25_stations::{Step, StepKind, Way};
 use p25_line::Line;
 use p25_messages::Message;
 use p25_packet_blocks::{Flags, flags_make};

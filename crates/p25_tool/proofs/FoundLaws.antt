@@ -20,7 +20,7 @@ use Rattle.p25_stream.specs.Repeats.{repaired}
 use Rattle.p25_stream.proofs.ArrivalLaws.{covered-whole_of, frame_arrived-sound, unit-found}
 use Rattle.p25_stream.proofs.ItemLaws.{covered-items_of, whole-within}
 use Rattle.p25_stream.proofs.ItemsLaws.{covered-first_item, items_by-first}
-use Rattle.p25_recordings.specs.ItemOutputs.{changed_bits, shown}
+use Rattle.p25_recording_filters.specs.ItemOutputs.{changed_bits, shown}
 use Rattle.p25_tool.specs.Recorded.{RepairKeepsLength, RepairsEachUnit, ShowsEachUnit}
 use Rattle.p25_tool.proofs.RecordedLaws.{octet_bits-whole}
 

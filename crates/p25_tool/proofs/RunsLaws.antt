@@ -6,15 +6,15 @@ use Rattle.std.proofs.lemmas.List.{take_all, take-append-le}
 use Rattle.std.proofs.lemmas.Bool.{cases_lt}
 use Rattle.std.proofs.lemmas.Bool.Decides.{nat_tests}
 use Rattle.p25_io.specs.Octets.{Taken}
-use Rattle.p25_work.specs.Futures.{Future}
-use Rattle.p25_work.specs.Runs.{IsFinal, IsTooLong, Worked, all_written, input_most}
-use Rattle.p25_work.specs.declared.ending.Ending.{Ending}
-use Rattle.p25_work.specs.declared.ending.Ending.TheVariants.{Done, Found, BadLine}
-use Rattle.p25_work.specs.declared.ending.WorkEnd.{WorkEnd}
-use Rattle.p25_work.specs.declared.ending.WorkEnd.TheVariants.{Ended, ReadFault, WriteFault, TooLong as InputTooLong, Memory as NoMemory}
-use Rattle.p25_work.proofs.LinesLaws.{Contains-none}
-use Rattle.p25_work.proofs.RunsLaws.{ended-input, first-take, told-parts}
-use Rattle.p25_work.proofs.SameLaws.{Worked-same, all_written-same}
+use Rattle.p25_filter.specs.Futures.{Future}
+use Rattle.p25_filter.specs.Runs.{IsFinal, IsTooLong, Worked, all_written, input_most}
+use Rattle.p25_filter.specs.declared.ending.Ending.{Ending}
+use Rattle.p25_filter.specs.declared.ending.Ending.TheVariants.{Done, Found, BadLine}
+use Rattle.p25_filter.specs.declared.ending.WorkEnd.{WorkEnd}
+use Rattle.p25_filter.specs.declared.ending.WorkEnd.TheVariants.{Ended, ReadFault, WriteFault, TooLong as InputTooLong, Memory as NoMemory}
+use Rattle.p25_filter.proofs.LinesLaws.{Contains-none}
+use Rattle.p25_filter.proofs.RunsLaws.{ended-input, first-take, told-parts}
+use Rattle.p25_filter.proofs.SameLaws.{Worked-same, all_written-same}
 use Rattle.p25_tool.specs.declared.command.Command.{Command}
 use Rattle.p25_tool.specs.declared.command.Command.TheVariants.{Show, Check, Repair, Bridge, Build, Calls, Soft, Stations, Duplex, Fragments, Sample}
 use Rattle.p25_tool.specs.declared.outcome.Outcome.{Outcome}

@@ -2,9 +2,9 @@
 use Rattle.std.proofs.Common.{◌≡◌, ℕ, true, false, cond, nat_lt, List, [], length, Option, refl, sym, arith}
 use Rattle.p25_io.specs.Octets.{Appended, AppendedFront}
 use Rattle.p25_io.proofs.OctetsLaws.{AppendedFront-same, Taken-none}
-use Rattle.p25_work.specs.Runs.{Worked, all_written, input_most}
-use Rattle.p25_work.specs.declared.ending.Ending.TheVariants.{Done}
-use Rattle.p25_work.specs.declared.ending.WorkEnd.TheVariants.{Ended, WriteFault}
+use Rattle.p25_filter.specs.Runs.{Worked, all_written, input_most}
+use Rattle.p25_filter.specs.declared.ending.Ending.TheVariants.{Done}
+use Rattle.p25_filter.specs.declared.ending.WorkEnd.TheVariants.{Ended, WriteFault}
 use Rattle.p25_tool.specs.declared.command.Command.TheVariants.{Sample}
 use Rattle.p25_tool.specs.Outputs.{sample_line}
 use Rattle.p25_tool.specs.Runs.{command_future}

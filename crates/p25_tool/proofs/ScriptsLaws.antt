@@ -8,10 +8,10 @@ use Rattle.std.proofs.lemmas.Bool.Decides.{nat_tests}
 use Rattle.p25_io.specs.Octets.{Appended}
 use Rattle.p25_io.proofs.OctetsLaws.{Appended-same}
 use Rattle.p25_line.specs.declared.fault.LineFault.{LineFault}
-use Rattle.p25_air_world.specs.Runs.{AreEvents, IsEvent, steps_of, world_run}
-use Rattle.p25_air_world.specs.WorldState.{first_world}
-use Rattle.p25_air_world.specs.declared.step.Event.{Event}
-use Rattle.p25_air_world.proofs.CleanLaws.{run-orderly}
+use Rattle.p25_stations.specs.Runs.{AreEvents, IsEvent, steps_of, world_run}
+use Rattle.p25_stations.specs.WorldState.{first_world}
+use Rattle.p25_stations.specs.declared.step.Event.{Event}
+use Rattle.p25_stations.proofs.CleanLaws.{run-orderly}
 use Rattle.p25_script.specs.Script.{event_of}
 use Rattle.p25_script.proofs.ScriptLaws.{IsEvent-IsScripted, IsLineOf-event_of}
 use Rattle.p25_fragments.specs.LongState.{first_long}
@@ -19,17 +19,17 @@ use Rattle.p25_fragments.specs.LongRuns.{IsLongEvent, AreLongEvents, long_run, l
 use Rattle.p25_fragments.specs.declared.long_step.LongEvent.{LongEvent}
 use Rattle.p25_fragments.specs.declared.long_step.LongEvent.TheVariants.{Long, Inner}
 use Rattle.p25_fragments.proofs.LongRunLaws.{long-orderly, long-unrefused}
-use Rattle.p25_long_script.specs.LongScript.{IsLongScripted, long_event_of}
-use Rattle.p25_long_script.specs.LongTexts.{long_step_text_of}
-use Rattle.p25_long_script.proofs.LongScriptLaws.{IsLongLineOf-of}
-use Rattle.p25_work.specs.declared.ending.Ending.{Ending}
-use Rattle.p25_work.specs.declared.ending.Ending.TheVariants.{Done as EndDone, Found, BadLine}
-use Rattle.p25_work.specs.declared.ending.WorkEnd.{WorkEnd}
-use Rattle.p25_work.specs.declared.ending.WorkEnd.TheVariants.{Ended, ReadFault, WriteFault, TooLong, Memory as NoMemory}
-use Rattle.p25_work.specs.Lines.{closing_by, lines_ending, lines_in, read_of, refusal_in}
-use Rattle.p25_work.specs.Runs.{IsFinal, Worked, input_most}
-use Rattle.p25_work.proofs.RulesLaws.{read_of-nil, read_of-ok, refusal_in-err, refusal_in-nil, refusal_in-ok}
-use Rattle.p25_work.proofs.RunsLaws.{ended-input}
+use Rattle.p25_fragment_script.specs.LongScript.{IsLongScripted, long_event_of}
+use Rattle.p25_fragment_script.specs.LongTexts.{long_step_text_of}
+use Rattle.p25_fragment_script.proofs.LongScriptLaws.{IsLongLineOf-of}
+use Rattle.p25_filter.specs.declared.ending.Ending.{Ending}
+use Rattle.p25_filter.specs.declared.ending.Ending.TheVariants.{Done as EndDone, Found, BadLine}
+use Rattle.p25_filter.specs.declared.ending.WorkEnd.{WorkEnd}
+use Rattle.p25_filter.specs.declared.ending.WorkEnd.TheVariants.{Ended, ReadFault, WriteFault, TooLong, Memory as NoMemory}
+use Rattle.p25_filter.specs.Lines.{closing_by, lines_ending, lines_in, read_of, refusal_in}
+use Rattle.p25_filter.specs.Runs.{IsFinal, Worked, input_most}
+use Rattle.p25_filter.proofs.RulesLaws.{read_of-nil, read_of-ok, refusal_in-err, refusal_in-nil, refusal_in-ok}
+use Rattle.p25_filter.proofs.RunsLaws.{ended-input}
 use Rattle.p25_tool.specs.declared.command.Command.{Command}
 use Rattle.p25_tool.specs.declared.command.Command.TheVariants.{Stations, Fragments}
 use Rattle.p25_tool.specs.declared.outcome.Outcome.{Outcome}

@@ -6,14 +6,14 @@ use Rattle.p25_io.specs.Octets.{Appended}
 use Rattle.p25_line.specs.declared.fault.LineFault.{LineFault}
 use Rattle.p25_text.specs.Grammar.{read_line_of}
 use Rattle.p25_script.specs.Script.{event_of}
-use Rattle.p25_long_script.specs.LongScript.{long_event_of}
-use Rattle.p25_work.specs.Lines.{lines_ending, lines_in, refusal_in}
-use Rattle.p25_work.proofs.RulesLaws.{refusal_in-err, refusal_in-nil, refusal_in-ok}
-use Rattle.p25_work.specs.Runs.{IsFinal, Worked, input_most}
-use Rattle.p25_work.specs.declared.ending.Ending.{Ending}
-use Rattle.p25_work.specs.declared.ending.Ending.TheVariants.{BadLine}
-use Rattle.p25_work.specs.declared.ending.WorkEnd.{WorkEnd}
-use Rattle.p25_work.specs.declared.ending.WorkEnd.TheVariants.{Ended, ReadFault, WriteFault, TooLong, Memory}
+use Rattle.p25_fragment_script.specs.LongScript.{long_event_of}
+use Rattle.p25_filter.specs.Lines.{lines_ending, lines_in, refusal_in}
+use Rattle.p25_filter.proofs.RulesLaws.{refusal_in-err, refusal_in-nil, refusal_in-ok}
+use Rattle.p25_filter.specs.Runs.{IsFinal, Worked, input_most}
+use Rattle.p25_filter.specs.declared.ending.Ending.{Ending}
+use Rattle.p25_filter.specs.declared.ending.Ending.TheVariants.{BadLine}
+use Rattle.p25_filter.specs.declared.ending.WorkEnd.{WorkEnd}
+use Rattle.p25_filter.specs.declared.ending.WorkEnd.TheVariants.{Ended, ReadFault, WriteFault, TooLong, Memory}
 use Rattle.p25_tool.specs.declared.command.Command.{Command}
 use Rattle.p25_tool.specs.declared.command.Command.TheVariants.{Show, Check, Repair, Bridge, Calls, Soft, Build, Stations, Fragments, Duplex, Sample}
 use Rattle.p25_duplex_script.specs.DuplexLines.{duplex_event_of}

@@ -2,10 +2,10 @@
 use Rattle.std.specs.Prelude.{ℕ, List, [], ◌++◌, codes, decimal}
 use Rattle.p25_line.specs.declared.fault.LineFault.{LineFault}
 use Rattle.p25_line.specs.declared.fault.LineFault.TheVariants.{Long, Form, Kind, Key, Value}
-use Rattle.p25_work.specs.declared.ending.Ending.{Ending}
-use Rattle.p25_work.specs.declared.ending.Ending.TheVariants.{Done as EndDone, Found as EndFound, BadLine as EndBadLine}
-use Rattle.p25_work.specs.declared.ending.WorkEnd.{WorkEnd}
-use Rattle.p25_work.specs.declared.ending.WorkEnd.TheVariants.{Ended, ReadFault as ReadFailed, WriteFault as WriteFailed, TooLong as InputTooLong, Memory as NoMemory}
+use Rattle.p25_filter.specs.declared.ending.Ending.{Ending}
+use Rattle.p25_filter.specs.declared.ending.Ending.TheVariants.{Done as EndDone, Found as EndFound, BadLine as EndBadLine}
+use Rattle.p25_filter.specs.declared.ending.WorkEnd.{WorkEnd}
+use Rattle.p25_filter.specs.declared.ending.WorkEnd.TheVariants.{Ended, ReadFault as ReadFailed, WriteFault as WriteFailed, TooLong as InputTooLong, Memory as NoMemory}
 use Rattle.p25_tool.specs.declared.outcome.Outcome.{Outcome}
 use Rattle.p25_tool.specs.declared.outcome.Outcome.TheVariants.{Done, Usage, BadLine, ReadFault, WriteFault, Memory, TooLong, Found}
 

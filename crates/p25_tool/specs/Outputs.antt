@@ -11,11 +11,11 @@ use Rattle.p25_stream.specs.Repeats.{bridged, repaired}
 use Rattle.p25_text.specs.Grammar.{read_line_of}
 use Rattle.p25_calls.specs.Calls.{calls_by}
 use Rattle.p25_vectors.specs.Samples.{flips_of}
-use Rattle.p25_work.specs.declared.ending.Ending.{Ending}
-use Rattle.p25_work.specs.declared.ending.Ending.TheVariants.{Done}
-use Rattle.p25_air_world.specs.Runs.{steps_of, world_run}
-use Rattle.p25_air_world.specs.WorldState.{WorldState, first_world}
-use Rattle.p25_air_world.specs.declared.step.Step.{Step}
+use Rattle.p25_filter.specs.declared.ending.Ending.{Ending}
+use Rattle.p25_filter.specs.declared.ending.Ending.TheVariants.{Done}
+use Rattle.p25_stations.specs.Runs.{steps_of, world_run}
+use Rattle.p25_stations.specs.WorldState.{WorldState, first_world}
+use Rattle.p25_stations.specs.declared.step.Step.{Step}
 use Rattle.p25_script.specs.Script.{event_of}
 use Rattle.p25_script.specs.StepTexts.{closing_text_of, step_text_of}
 use Rattle.p25_duplex.specs.declared.side.Side.TheVariants.{A, B}
@@ -24,14 +24,14 @@ use Rattle.p25_duplex.specs.DuplexState.{DuplexState, first_duplex}
 use Rattle.p25_duplex.specs.DuplexRuns.{duplex_run, duplex_steps}
 use Rattle.p25_duplex.specs.DuplexTexts.{duplex_closing_of, duplex_step_text_of}
 use Rattle.p25_duplex_script.specs.DuplexLines.{duplex_event_of}
-use Rattle.p25_work.specs.Lines.{closing_by, lines_ending, lines_in, read_of, refusal_in, texts_before}
+use Rattle.p25_filter.specs.Lines.{closing_by, lines_ending, lines_in, read_of, refusal_in, texts_before}
 use Rattle.p25_tool.specs.declared.command.Command.{Command}
 use Rattle.p25_tool.specs.declared.command.Command.TheVariants.{Show, Check, Repair, Bridge, Build, Stations, Calls, Duplex, Fragments, Soft, Sample}
 use Rattle.p25_fragments.specs.LongState.{LongState, first_long}
 use Rattle.p25_fragments.specs.LongRuns.{long_run, long_steps_of}
-use Rattle.p25_long_script.specs.LongScript.{long_event_of}
-use Rattle.p25_long_script.specs.LongTexts.{long_closing_text_of, long_step_text_of}
-use Rattle.p25_recordings.specs.ItemOutputs.{whole_octets, shown, faulty, units_in, faults_in, check_line, check_ending, changed_bits, call_line, calls_line, soft_output}
+use Rattle.p25_fragment_script.specs.LongScript.{long_event_of}
+use Rattle.p25_fragment_script.specs.LongTexts.{long_closing_text_of, long_step_text_of}
+use Rattle.p25_recording_filters.specs.ItemOutputs.{whole_octets, shown, faulty, units_in, faults_in, check_line, check_ending, changed_bits, call_line, calls_line, soft_output}
 
 -- the frame of a unit with one status symbol everywhere
 abbrev pub filled_frame : Status → UnitParts → Frame

@@ -9,10 +9,10 @@ use Rattle.p25_units.specs.declared.item.Item.{Item}
 use Rattle.p25_stream.specs.Arrivals.{Arrival, IsHidden, IsNearArrival, bits_arrived, frame_arrived, whole_of, wholes_of}
 use Rattle.p25_stream.specs.Items.{items_of}
 use Rattle.p25_stream.specs.Repeats.{bridged_frame}
-use Rattle.p25_work.specs.declared.ending.Ending.TheVariants.{Done}
+use Rattle.p25_filter.specs.declared.ending.Ending.TheVariants.{Done}
 use Rattle.p25_tool.specs.declared.command.Command.TheVariants.{Show, Check, Repair, Bridge}
 use Rattle.p25_tool.specs.Outputs.{ending_by, output_by}
-use Rattle.p25_recordings.specs.ItemOutputs.{check_line, shown, whole_octets}
+use Rattle.p25_recording_filters.specs.ItemOutputs.{check_line, shown, whole_octets}
 
 -- octets are a recording of units: their bits are those of the units, end to end, each within radius of its image
 pub record IsRecording (arrivals : List Arrival) (octets : List ℕ) : Type 0 where

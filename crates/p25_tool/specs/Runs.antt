@@ -1,9 +1,9 @@
 -- What a call leaves, and how it answers an input without faults.
 use Rattle.std.specs.Prelude.{◌≡◌, ℕ, true, false, cond, nat_lt, List, length, take, Option, Some, None}
-use Rattle.p25_work.specs.Futures.{Future}
-use Rattle.p25_work.specs.Runs.{Worked, input_most}
-use Rattle.p25_work.specs.declared.ending.Ending.{Ending}
-use Rattle.p25_work.specs.declared.ending.WorkEnd.{WorkEnd}
+use Rattle.p25_filter.specs.Futures.{Future}
+use Rattle.p25_filter.specs.Runs.{Worked, input_most}
+use Rattle.p25_filter.specs.declared.ending.Ending.{Ending}
+use Rattle.p25_filter.specs.declared.ending.WorkEnd.{WorkEnd}
 use Rattle.p25_tool.specs.declared.command.Command.{Command}
 use Rattle.p25_tool.specs.declared.outcome.Outcome.{Outcome}
 use Rattle.p25_tool.specs.declared.outcome.Outcome.TheVariants.{TooLong}

@@ -2,18 +2,18 @@
 use Rattle.std.specs.Prelude.{◌≡◌, ℕ, ◌≤◌, ◌⊎◌, true, List, [], ◌++◌, length, map, Option, Ok}
 use Rattle.std.specs.List.{flat_map}
 use Rattle.p25_io.specs.Octets.{Appended}
-use Rattle.p25_world.specs.Orderly.{AreOrderly}
-use Rattle.p25_air_world.specs.Runs.{IsCleanRun, sessions_of, steps_of, world_run}
-use Rattle.p25_air_world.specs.WorldState.{first_world}
-use Rattle.p25_air_world.specs.declared.step.Event.{Event}
+use Rattle.p25_delivery.specs.Orderly.{AreOrderly}
+use Rattle.p25_stations.specs.Runs.{IsCleanRun, sessions_of, steps_of, world_run}
+use Rattle.p25_stations.specs.WorldState.{first_world}
+use Rattle.p25_stations.specs.declared.step.Event.{Event}
 use Rattle.p25_script.specs.Script.{event_of}
 use Rattle.p25_fragments.specs.LongState.{first_long}
 use Rattle.p25_fragments.specs.LongRuns.{AreUnrefused, IsCleanLongRun, long_run, long_sessions_of, long_steps_of}
 use Rattle.p25_fragments.specs.declared.long_step.LongEvent.{LongEvent}
-use Rattle.p25_long_script.specs.LongScript.{long_event_of}
-use Rattle.p25_long_script.specs.LongTexts.{long_step_text_of}
-use Rattle.p25_work.specs.Lines.{lines_in}
-use Rattle.p25_work.specs.Runs.{input_most}
+use Rattle.p25_fragment_script.specs.LongScript.{long_event_of}
+use Rattle.p25_fragment_script.specs.LongTexts.{long_step_text_of}
+use Rattle.p25_filter.specs.Lines.{lines_in}
+use Rattle.p25_filter.specs.Runs.{input_most}
 use Rattle.p25_tool.specs.declared.outcome.Outcome.{Outcome}
 use Rattle.p25_tool.specs.declared.outcome.Outcome.TheVariants.{Done, Memory}
 use Rattle.p25_tool.specs.Outputs.{closing_line, long_closing_line, step_line}

@@ -2,16 +2,16 @@
 
 ghost use Rattle.std.specs.Prelude.{◌≡◌, ℕ, ◌≤◌, ◌↔◌, ◌⊎◌, List, [], None, Some, IfSome};
 ghost use Rattle.p25_io.specs.Faults.{Rose};
-ghost use Rattle.p25_work.specs.Runs.{Worked, all_written};
-ghost use Rattle.p25_work.specs.LineWorks.{first_line, line_future};
+ghost use Rattle.p25_filter.specs.Runs.{Worked, all_written};
+ghost use Rattle.p25_filter.specs.LineWorks.{first_line, line_future};
 ghost use Rattle.p25_tool.specs.Outputs.{CanWantMemory};
-ghost use Rattle.p25_recordings.specs.Recordings.{fresh, recording_future};
-ghost use Rattle.p25_recordings.specs.Softs.{fresh_soft, soft_future};
+ghost use Rattle.p25_recording_filters.specs.Recordings.{fresh, recording_future};
+ghost use Rattle.p25_recording_filters.specs.Softs.{fresh_soft, soft_future};
 ghost use Rattle.p25_tool.specs.Runs.{Ran, answer_of, command_future};
 ghost use Rattle.p25_tool.specs.Scripts.{HasLongRun, HasRun, IsLongScriptOf, IsScriptOf};
 ghost use Rattle.p25_tool.specs.Words.{IsSoundCommand, command_of};
 ghost use Rattle.p25_tool.specs.declared.command.Command.{Command};
-ghost use Rattle.p25_air_world.specs.declared.step.Event.{Event as event_type};
+ghost use Rattle.p25_stations.specs.declared.step.Event.{Event as event_type};
 ghost use Rattle.p25_fragments.specs.declared.long_step.LongEvent.{LongEvent as long_event_type};
 
 use super::build::Build;
@@ -23,8 +23,8 @@ use super::sampling::run_sample;
 use super::stations::Stations;
 use super::words::Words;
 use p25_io::{Sink, Source};
-use p25_recordings::{Calls, Change, Changed, Check, Recording, Report, Show, Soft};
-use p25_work::{LineMachine, LineWork, WorkEnd, work};
+use p25_recording_filters::{Calls, Change, Changed, Check, Recording, Report, Show, Soft};
+use p25_filter::{LineMachine, LineWork, WorkEnd, work};
 use std::alloc::Global;
 
 /// Does what the words say: reads the source to its end, at most 16,777,216 octets, and writes the answer to the sink.

@@ -8,7 +8,7 @@ use p25_duplex::{DuplexStep, DuplexWorld, Side, duplex_closing, duplex_step_text
 use p25_duplex_script::read_duplex_event;
 use p25_line::Line;
 use p25_script::put_count;
-use p25_work::{LineMachine, LineRefusal};
+use p25_filter::{LineMachine, LineRefusal};
 use std::alloc::Global;
 use std::marker::Model;
 

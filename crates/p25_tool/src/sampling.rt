@@ -2,7 +2,7 @@
 
 ghost use Rattle.std.specs.Prelude.{◌≡◌, ◌≢◌, ℕ, ◌≤◌, Option, List};
 ghost use Rattle.p25_io.specs.Faults.{Rose};
-ghost use Rattle.p25_work.specs.Runs.{Worked};
+ghost use Rattle.p25_filter.specs.Runs.{Worked};
 ghost use Rattle.p25_vectors.specs.Samples.{flips_of};
 ghost use Rattle.p25_tool.specs.Outputs.{sample_line};
 ghost use Rattle.p25_tool.specs.Runs.{command_future};
@@ -11,7 +11,7 @@ ghost use Rattle.p25_tool.specs.declared.command.Command.TheVariants.{Sample};
 use p25_io::Sink;
 use p25_line::Line;
 use p25_vectors::{SampleReport, sample};
-use p25_work::{Ending, WorkEnd};
+use p25_filter::{Ending, WorkEnd};
 
 // Writes the line that tells of the first sample units. No source is read.
 pub(crate) fn run_sample<K: Sink>(count: u64, sink: &mut K) -> WorkEnd

@@ -10,8 +10,8 @@ use Rattle.p25_bits.proofs.NumbersLaws.{each_below-zero, each_below-suc}
 use Rattle.p25_bits.proofs.DistanceLaws.{distance_of-same, distance_by-append}
 use Rattle.p25_status.specs.Woven.{plain_of}
 use Rattle.p25_status.proofs.WovenLaws.{length-plain_of}
-use Rattle.p25_front.specs.Front.{unit_front, front_of, front_fixes_of}
-use Rattle.p25_front.proofs.FrontLaws.{front_of-plain_of}
+use Rattle.p25_unit_front.specs.Front.{unit_front, front_of, front_fixes_of}
+use Rattle.p25_unit_front.proofs.FrontLaws.{front_of-plain_of}
 use Rattle.p25_voice_units.specs.declared.unit.VoiceUnit.{VoiceUnit}
 use Rattle.p25_voice_units.specs.declared.unit.VoiceUnit.TheVariants.{End}
 use Rattle.p25_voice_units.specs.Fixes.{voice_looked, bits_at, voice_fixes_of}

@@ -6,7 +6,7 @@ use Rattle.p25_bits.specs.Bits.{part}
 use Rattle.p25_status.specs.Woven.{plain_of, statuses_of}
 use Rattle.p25_status.specs.declared.fields.Field.{Field}
 use Rattle.p25_status.specs.declared.symbols.Status.{Status}
-use Rattle.p25_front.specs.Front.{front_fixes_of}
+use Rattle.p25_unit_front.specs.Front.{front_fixes_of}
 use Rattle.p25_voice_units.specs.declared.unit.VoiceUnit.{VoiceUnit}
 use Rattle.p25_voice_units.specs.Lengths.{voice_duid}
 use Rattle.p25_voice_units.specs.Readings.{voice_reading_of}

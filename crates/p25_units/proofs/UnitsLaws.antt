@@ -4,8 +4,8 @@ use Rattle.std.specs.Option.{unwrap_or}
 use Rattle.p25_status.specs.Woven.{plain_of, statuses_of}
 use Rattle.std.proofs.lemmas.List.{take_at}
 use Rattle.p25_status.proofs.WovenLaws.{length-woven, plain_of-woven, statuses_of-woven}
-use Rattle.p25_front.specs.Front.{unit_front, front_of}
-use Rattle.p25_front.proofs.FrontLaws.{length-unit_front, front_of-plain_of}
+use Rattle.p25_unit_front.specs.Front.{unit_front, front_of}
+use Rattle.p25_unit_front.proofs.FrontLaws.{length-unit_front, front_of-plain_of}
 use Rattle.p25_voice_units.specs.declared.unit.VoiceUnit.{VoiceUnit}
 use Rattle.p25_voice_units.specs.declared.unit.VoiceUnit.TheVariants.{Header, Link1, Link2, End, EndLink}
 use Rattle.p25_voice_units.specs.Images.{voice_body, voice_image_of}

@@ -4,7 +4,7 @@ use Rattle.std.specs.Prelude.{ℕ, Bool, true, false, cond, nat_eq, nat_lt, List
 use Rattle.p25_status.specs.Sync.{has_sync}
 use Rattle.p25_status.specs.declared.fields.Field.{Field}
 use Rattle.p25_status.specs.declared.fields.Field.TheVariants.{Nid, Duid}
-use Rattle.p25_front.specs.Front.{identifier_of}
+use Rattle.p25_unit_front.specs.Front.{identifier_of}
 use Rattle.p25_voice_units.specs.Lengths.{voice_length_of}
 use Rattle.p25_packet_blocks.specs.declared.head.PacketHead.{PacketHead}
 use Rattle.p25_packet_blocks.specs.Heads.{head_blocks}

@@ -3,7 +3,7 @@ use Rattle.std.specs.Prelude.{◌≡◌, ◌≤◌, Bool, List, length, take}
 use Rattle.p25_bits.specs.Distance.{distance_of}
 use Rattle.p25_status.specs.Sync.{sync_slack}
 use Rattle.p25_status.specs.Woven.{plain_of, statuses_of}
-use Rattle.p25_front.specs.Front.{identifier_bits}
+use Rattle.p25_unit_front.specs.Front.{identifier_bits}
 use Rattle.p25_voice_units.specs.WithinRadius.{IsVoiceWithin, received_voice}
 use Rattle.p25_packet_blocks.specs.Within.{AreBlocksWithin}
 use Rattle.p25_units.specs.UnitParts.{UnitParts}

@@ -17,7 +17,7 @@ ghost use Rattle.p25_voice_units.specs.Sendable.{IsSendableVoice};
 use crate::frame::Frame;
 use crate::unit::{Body, Unit};
 use p25_bits::BitBuf;
-use p25_front::front_fixes;
+use p25_unit_front::front_fixes;
 use p25_packet_blocks::{Packet, packet_image, packet_length};
 use p25_status::{Statuses, unweave};
 use p25_voice_units::{VoiceUnit, voice_fixes, voice_image};

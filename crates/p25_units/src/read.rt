@@ -17,7 +17,7 @@ use crate::packets::{one_field, read_packet_body};
 use crate::unit::{Body, PACKET_DUID, Unit};
 use p25_bch_nid::Nid;
 use p25_bits::BitBuf;
-use p25_front::read_identifier;
+use p25_unit_front::read_identifier;
 use p25_status::{Field, FieldList, Statuses, unweave};
 use p25_voice_units::read_voice;
 

@@ -13,8 +13,8 @@ use Rattle.p25_bits.proofs.NumbersLaws.{numbers_from-take, each_below-zero, each
 use Rattle.p25_status.specs.Woven.{plain_of, statuses_of}
 use Rattle.p25_status.specs.declared.symbols.Status.{Status}
 use Rattle.p25_status.proofs.WovenLaws.{length-woven, plain_of-woven, statuses_of-woven}
-use Rattle.p25_front.specs.Front.{front_of, identifier_bits}
-use Rattle.p25_front.proofs.FrontLaws.{front_of-plain_of}
+use Rattle.p25_unit_front.specs.Front.{front_of, identifier_bits}
+use Rattle.p25_unit_front.proofs.FrontLaws.{front_of-plain_of}
 use Rattle.p25_voice_units.specs.declared.voice.VoiceFrame.{VoiceFrame}
 use Rattle.p25_voice_units.specs.declared.unit.VoiceUnit.{VoiceUnit}
 use Rattle.p25_voice_units.specs.declared.unit.VoiceUnit.TheVariants.{Header, Link1, Link2, End, EndLink}
@@ -28,7 +28,7 @@ use Rattle.p25_units.specs.Fixes.{body_looked}
 use Rattle.p25_voice_units.specs.Readings.{frame_places, frame_in, low_places, voice_in}
 use Rattle.p25_voice_units.specs.Sendable.{IsSendableVoice}
 use Rattle.p25_voice_units.proofs.RadiusLaws.{within_from_words, received_itself}
-use Rattle.p25_fields.specs.Layouts.{places_from}
+use Rattle.p25_coded_fields.specs.Layouts.{places_from}
 use Rattle.p25_packet_blocks.specs.Image.{packet_image_of}
 use Rattle.p25_units.specs.Needs.{need_of}
 use Rattle.p25_units.specs.Readings.{unit_reading_of}

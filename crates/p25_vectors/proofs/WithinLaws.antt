@@ -10,8 +10,8 @@ use Rattle.p25_bits.specs.Distance.{distance_of}
 use Rattle.p25_bits.specs.Numbers.{each_below}
 use Rattle.p25_bits.proofs.DistanceLaws.{distance_of-sym}
 use Rattle.p25_bits.proofs.NumbersLaws.{length-each_below, get_or-each_below}
-use Rattle.p25_fields.specs.Layouts.{Layout, places_from}
-use Rattle.p25_fields.specs.Within.{lost_symbols}
+use Rattle.p25_coded_fields.specs.Layouts.{Layout, places_from}
+use Rattle.p25_coded_fields.specs.Within.{lost_symbols}
 use Rattle.p25_voice_units.specs.declared.unit.VoiceUnit.{VoiceUnit}
 use Rattle.p25_voice_units.specs.declared.unit.VoiceUnit.TheVariants.{Header, Link1, Link2, End, EndLink}
 use Rattle.p25_voice_units.specs.FieldLayouts.{word_places, header_layout, link_layout, sync_layout, end_link_layout}

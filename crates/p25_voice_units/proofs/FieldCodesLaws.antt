@@ -11,9 +11,9 @@ use Rattle.p25_hamming.specs.Hamming10.{IsHamming10}
 use Rattle.p25_hamming.specs.Hamming10Laws.{hamming10_is_code}
 use Rattle.p25_hamming.specs.Hamming10Readings.{hamming10_reading_of, hamming10_reads_as}
 use Rattle.p25_reed_solomon.specs.Words.{IsWord}
-use Rattle.p25_fields.specs.Layouts.{places_from}
-use Rattle.p25_fields.specs.Within.{HasCodes}
-use Rattle.p25_fields.proofs.CodesLaws.{layout_codes, all_end}
+use Rattle.p25_coded_fields.specs.Layouts.{places_from}
+use Rattle.p25_coded_fields.specs.Within.{HasCodes}
+use Rattle.p25_coded_fields.proofs.CodesLaws.{layout_codes, all_end}
 use Rattle.p25_voice_units.specs.Layouts.{header_rows, link_rows, end_link_rows}
 use Rattle.p25_voice_units.specs.FieldLayouts.{word_places, header_layout, link_layout, sync_layout, end_link_layout}
 use Rattle.p25_voice_units.proofs.CodesLaws.{header_code, link_code, sync_code}

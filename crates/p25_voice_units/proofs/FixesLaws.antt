@@ -11,7 +11,7 @@ use Rattle.p25_bits.specs.Bits.{field_of, part}
 use Rattle.p25_bits.specs.Distance.{distance_of}
 use Rattle.p25_bits.proofs.DistanceLaws.{distance_by-append, distance_by-le, distance_by-nil, ones-xor}
 use Rattle.p25_bits.proofs.PartLaws.{length-part}
-use Rattle.p25_fields.proofs.SymbolsLaws.{one_more}
+use Rattle.p25_coded_fields.proofs.SymbolsLaws.{one_more}
 use Rattle.p25_voice_units.specs.Fixes.{wide, bits_at}
 
 -- no place

@@ -22,9 +22,9 @@ use Rattle.p25_link.specs.declared.encryption_sync.EncryptionSync.{EncryptionSyn
 use Rattle.p25_link.specs.declared.header_word.HeaderWord.{HeaderWord}
 use Rattle.p25_link.specs.Words.{header_symbols, link_symbols, sync_symbols}
 use Rattle.p25_link.proofs.WordsLaws.{length-header_symbols, length-link_symbols, length-sync_symbols}
-use Rattle.p25_fields.specs.Layouts.{places_from}
-use Rattle.p25_fields.specs.Within.{HasField}
-use Rattle.p25_front.specs.Front.{unit_front}
+use Rattle.p25_coded_fields.specs.Layouts.{places_from}
+use Rattle.p25_coded_fields.specs.Within.{HasField}
+use Rattle.p25_unit_front.specs.Front.{unit_front}
 use Rattle.p25_voice_units.specs.declared.voice.VoiceFrame.{VoiceFrame}
 use Rattle.p25_voice_units.specs.declared.unit.VoiceUnit.{VoiceUnit}
 use Rattle.p25_voice_units.specs.declared.unit.VoiceUnit.TheVariants.{Header, Link1, Link2, End, EndLink}

@@ -5,7 +5,7 @@ use Rattle.p25_status.specs.declared.fields.Field.{Field}
 use Rattle.p25_voice_units.specs.declared.unit.VoiceUnit.{VoiceUnit}
 use Rattle.p25_voice_units.specs.declared.unit.VoiceUnit.TheVariants.{End}
 use Rattle.p25_voice_units.specs.FieldLayouts.{end_link_layout}
-use Rattle.p25_front.specs.Front.{unit_front}
+use Rattle.p25_unit_front.specs.Front.{unit_front}
 use Rattle.p25_voice_units.specs.Images.{piece_bits, rows_bits, voice_body, voice_image_of}
 use Rattle.p25_voice_units.specs.Lengths.{voice_length_of}
 use Rattle.p25_voice_units.specs.declared.unit.VoiceUnit.TheVariants.{Link1, Link2}

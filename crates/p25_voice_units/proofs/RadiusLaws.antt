@@ -17,7 +17,7 @@ use Rattle.p25_hamming.specs.Lsd16Laws.{lsd16_is_code}
 use Rattle.p25_hamming.specs.Lsd16Readings.{lsd16_reading_of, lsd16_reads_as}
 use Rattle.p25_link.specs.Words.{header_of_symbols, header_symbols, link_of_symbols, link_symbols, sync_of_symbols, sync_symbols}
 use Rattle.p25_link.proofs.WordsLaws.{header_back, link_back, sync_back}
-use Rattle.p25_fields.proofs.WithinLaws.{field_within, near_from_lost, near_itself}
+use Rattle.p25_coded_fields.proofs.WithinLaws.{field_within, near_from_lost, near_itself}
 use Rattle.p25_voice_units.specs.declared.layout.Piece.TheVariants.{Nulls}
 use Rattle.p25_voice_units.specs.declared.unit.VoiceUnit.{VoiceUnit}
 use Rattle.p25_voice_units.specs.declared.unit.VoiceUnit.TheVariants.{Header, Link1, Link2, End, EndLink}

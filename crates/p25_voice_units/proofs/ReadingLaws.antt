@@ -15,7 +15,7 @@ use Rattle.p25_link.specs.declared.encryption_sync.EncryptionSync.{EncryptionSyn
 use Rattle.p25_link.specs.declared.header_word.HeaderWord.{HeaderWord}
 use Rattle.p25_link.specs.declared.link_control.LinkControl.{LinkControl}
 use Rattle.p25_status.specs.declared.fields.Field.{Field}
-use Rattle.p25_fields.specs.Layouts.{field_reading_of}
+use Rattle.p25_coded_fields.specs.Layouts.{field_reading_of}
 use Rattle.p25_voice_units.specs.declared.unit.VoiceUnit.{VoiceUnit}
 use Rattle.p25_voice_units.specs.declared.unit.VoiceUnit.TheVariants.{Header, Link1, Link2, End, EndLink}
 use Rattle.p25_voice_units.specs.Layouts.{link_rows}

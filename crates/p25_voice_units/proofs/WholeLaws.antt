@@ -20,8 +20,8 @@ use Rattle.p25_link.specs.declared.encryption_sync.EncryptionSync.{EncryptionSyn
 use Rattle.p25_link.specs.declared.header_word.HeaderWord.{HeaderWord}
 use Rattle.p25_link.specs.declared.link_control.LinkControl.{LinkControl}
 use Rattle.p25_link.proofs.WordsLaws.{header_symbols_back, link_symbols_back, sync_symbols_back}
-use Rattle.p25_fields.specs.Layouts.{field_reading_of}
-use Rattle.p25_fields.proofs.CodesLaws.{near_from_reading, field_information}
+use Rattle.p25_coded_fields.specs.Layouts.{field_reading_of}
+use Rattle.p25_coded_fields.proofs.CodesLaws.{near_from_reading, field_information}
 use Rattle.p25_voice_units.specs.declared.layout.Piece.TheVariants.{Nulls}
 use Rattle.p25_voice_units.specs.declared.unit.VoiceUnit.{VoiceUnit}
 use Rattle.p25_voice_units.specs.declared.unit.VoiceUnit.TheVariants.{Header, Link1, Link2, End, EndLink}

@@ -5,7 +5,7 @@ use Rattle.p25_golay.specs.Golay18Readings.{golay18_reading_of}
 use Rattle.p25_golay.specs.Golay24Readings.{golay24_reading_of}
 use Rattle.p25_hamming.specs.Hamming10Readings.{hamming10_reading_of}
 use Rattle.p25_reed_solomon.specs.RsReadings.{rs_marked_reading_of}
-use Rattle.p25_fields.specs.Layouts.{Layout, field_layout, places_from}
+use Rattle.p25_coded_fields.specs.Layouts.{Layout, field_layout, places_from}
 use Rattle.p25_voice_units.specs.declared.layout.Piece.{Piece}
 use Rattle.p25_voice_units.specs.declared.layout.Piece.TheVariants.{Words, Frame, LowSpeed, Nulls}
 use Rattle.p25_voice_units.specs.Layouts.{header_rows, link_rows, end_link_rows}

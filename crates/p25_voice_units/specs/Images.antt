@@ -11,8 +11,8 @@ use Rattle.p25_golay.specs.Golay18Laws.{short_rows as golay18_rows}
 use Rattle.p25_golay.specs.Golay24Laws.{check_rows as golay24_rows}
 use Rattle.p25_reed_solomon.specs.Encoding.{rs_word}
 use Rattle.p25_link.specs.Words.{header_symbols, link_symbols, sync_symbols}
-use Rattle.p25_fields.specs.Layouts.{field_bits}
-use Rattle.p25_front.specs.Front.{unit_front}
+use Rattle.p25_coded_fields.specs.Layouts.{field_bits}
+use Rattle.p25_unit_front.specs.Front.{unit_front}
 use Rattle.p25_voice_units.specs.declared.layout.Piece.{Piece}
 use Rattle.p25_voice_units.specs.declared.layout.Piece.TheVariants.{Words, Frame, LowSpeed, Nulls}
 use Rattle.p25_voice_units.specs.declared.voice.VoiceFrame.{VoiceFrame}

@@ -8,8 +8,8 @@ use Rattle.p25_golay.specs.Golay18.{IsGolay18}
 use Rattle.p25_golay.specs.Golay24.{IsGolay24}
 use Rattle.p25_reed_solomon.specs.Words.{IsWord}
 use Rattle.p25_link.specs.Words.{header_symbols, link_symbols, sync_symbols}
-use Rattle.p25_fields.specs.Within.{HasField}
-use Rattle.p25_front.specs.Front.{IsFront}
+use Rattle.p25_coded_fields.specs.Within.{HasField}
+use Rattle.p25_unit_front.specs.Front.{IsFront}
 use Rattle.p25_voice_units.specs.declared.layout.Piece.{Piece}
 use Rattle.p25_voice_units.specs.declared.layout.Piece.TheVariants.{Words, Frame, LowSpeed, Nulls}
 use Rattle.p25_voice_units.specs.declared.voice.VoiceFrame.{VoiceFrame}

@@ -8,7 +8,7 @@ use Rattle.p25_link.specs.Words.{header_of_symbols, link_of_symbols, sync_of_sym
 use Rattle.p25_link.specs.declared.encryption_sync.EncryptionSync.{EncryptionSync}
 use Rattle.p25_link.specs.declared.header_word.HeaderWord.{HeaderWord}
 use Rattle.p25_link.specs.declared.link_control.LinkControl.{LinkControl}
-use Rattle.p25_fields.specs.Layouts.{Layout, field_reading_of}
+use Rattle.p25_coded_fields.specs.Layouts.{Layout, field_reading_of}
 use Rattle.p25_status.specs.declared.fields.Field.{Field}
 use Rattle.p25_status.specs.declared.fields.Field.TheVariants.{HeaderWord as HeaderField, LinkControl as LinkField, EncryptionSync as SyncField, LowSpeed1, LowSpeed2}
 use Rattle.p25_voice_units.specs.declared.layout.Piece.{Piece}

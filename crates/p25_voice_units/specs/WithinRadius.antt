@@ -2,8 +2,8 @@
 use Rattle.std.specs.Prelude.{ℕ, ◌≤◌, Bool, List, All}
 use Rattle.p25_bits.specs.Bits.{part}
 use Rattle.p25_bits.specs.Distance.{distance_of}
-use Rattle.p25_fields.specs.Layouts.{Layout}
-use Rattle.p25_fields.specs.Within.{IsFieldNear, lost_symbols}
+use Rattle.p25_coded_fields.specs.Layouts.{Layout}
+use Rattle.p25_coded_fields.specs.Within.{IsFieldNear, lost_symbols}
 use Rattle.p25_voice_units.specs.declared.unit.VoiceUnit.{VoiceUnit}
 use Rattle.p25_voice_units.specs.declared.unit.VoiceUnit.TheVariants.{Header, Link1, Link2, End, EndLink}
 use Rattle.p25_voice_units.specs.Layouts.{link_rows}

@@ -2,7 +2,7 @@
 
 ghost use Rattle.std.specs.Prelude.{All, ◌≡◌, ◌+◌, ◌*◌, ◌/◌, ◌<◌, ◌≤◌, ◌++◌, Bool, List, Ok, Some, true, length, sum_by};
 ghost use Rattle.std.specs.List.{list_all};
-ghost use Rattle.p25_fields.specs.Written.{Encodes};
+ghost use Rattle.p25_coded_fields.specs.Written.{Encodes};
 ghost use Rattle.p25_bits.specs.Bits.{bits_of, octet_bits};
 ghost use Rattle.p25_voice_units.specs.declared.unit.VoiceUnit.TheVariants.{Header as header_unit, Link1 as link1_unit, Link2 as link2_unit, End as end_unit, EndLink as end_link_unit};
 ghost use Rattle.p25_voice_units.specs.Images.{piece_bits, rows_bits, contents, lsd16_word, voice_body, voice_image_of};
@@ -18,8 +18,8 @@ use crate::voice::{Voice, VoiceFrame};
 use p25_bch_nid::Nid;
 use p25_bits::{BitBuf, number_of, put_number};
 use p25_code::BlockCode;
-use p25_fields::put_field;
-use p25_front::put_front;
+use p25_coded_fields::put_field;
+use p25_unit_front::put_front;
 use p25_gf64::Sym;
 use p25_golay::{Golay18, Golay24};
 use p25_hamming::{Hamming10, Lsd16};

@@ -1,8 +1,5 @@
 //! Where the parts of voice units stand behind their front, without status symbols. TIA-102.BAAA, Voice Data Units.
 
-ghost use Rattle.std.specs.Prelude.{◌≡◌};
-ghost use Rattle.p25_voice_units.specs.Layouts.{header_rows, link_rows, end_rows, end_link_rows};
-
 /// What stands at a place of a voice unit.
 #[derive(Clone, Copy, Debug, PartialEq, Eq)]
 pub enum Piece {
@@ -49,11 +46,3 @@ pub const END_LINK_ROWS: [(usize, Piece); 2] = [
     (112, Piece::Words(0, 12)),
     (400, Piece::Nulls(20)),
 ];
-
-/// Does nothing: its contract is that the layouts are those of the definitions.
-pub fn layouts()
-    ensures header { HEADER_ROWS ≡ header_rows }
-    ensures link { LINK_ROWS ≡ link_rows }
-    ensures end { END_ROWS ≡ end_rows }
-    ensures end_link { END_LINK_ROWS ≡ end_link_rows }
-{}

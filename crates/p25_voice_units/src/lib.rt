@@ -32,10 +32,9 @@ mod fixes;
 mod image;
 #[cfg(test)]
 mod image_tests;
-mod laws;
+pub mod laws;
 mod layout;
 mod places;
-mod radius;
 mod read;
 #[cfg(test)]
 mod read_tests;
@@ -44,10 +43,8 @@ mod voice;
 
 pub use fixes::voice_fixes;
 pub use image::voice_image;
-pub use laws::image_laws;
-pub use layout::{END_LINK_ROWS, END_ROWS, HEADER_ROWS, LINK_ROWS, Piece, layouts};
-pub use places::{END_LINK_WORDS, HEADER_WORDS, LINK_WORDS, LOW_WORDS, part_places};
-pub use radius::radius_laws;
+pub use layout::{END_LINK_ROWS, END_ROWS, HEADER_ROWS, LINK_ROWS, Piece};
+pub use places::{END_LINK_WORDS, HEADER_WORDS, LINK_WORDS, LOW_WORDS};
 pub use read::read_voice;
 pub use unit::{VoiceUnit, voice_length};
 pub use voice::{Voice, VoiceFrame};

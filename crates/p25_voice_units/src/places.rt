@@ -1,10 +1,5 @@
 //! The places of the parts of voice units that are read, by the layouts. TIA-102.BAAA, Voice Data Units.
 
-ghost use Rattle.std.specs.Prelude.{◌≡◌};
-ghost use Rattle.p25_voice_units.specs.Layouts.{header_rows, link_rows, end_link_rows};
-ghost use Rattle.p25_voice_units.specs.FieldLayouts.{word_places};
-ghost use Rattle.p25_voice_units.specs.Readings.{frame_places, low_places};
-
 /// The places of the Golay (18,6) words of a header.
 pub const HEADER_WORDS: [usize; 36] = [
     112, 130, 148, 166, 184, 202, 220, 238, 256, 274, 292, 310, 328, 346, 364, 382, 400, 418, 436,
@@ -27,12 +22,3 @@ pub const LOW_WORDS: [usize; 2] = [1504, 1520];
 
 /// The places of the voice frames of a unit with voice.
 pub(crate) const FRAMES: [usize; 9] = [112, 256, 440, 624, 808, 992, 1176, 1360, 1536];
-
-/// Does nothing: its contract is that the places are those of the layouts.
-pub fn part_places()
-    ensures header { HEADER_WORDS ≡ word_places 18 header_rows }
-    ensures link { LINK_WORDS ≡ word_places 10 link_rows }
-    ensures end_link { END_LINK_WORDS ≡ word_places 24 end_link_rows }
-    ensures low { LOW_WORDS ≡ low_places link_rows }
-    ensures frames { FRAMES ≡ frame_places link_rows }
-{}

@@ -3,7 +3,7 @@
 ghost use Rattle.std.specs.Prelude.{◌≡◌, ◌+◌, ◌*◌, ◌/◌, ◌<◌, ◌≤◌, [], ◌∷◌, ◌++◌, All, Some, length};
 ghost use Rattle.p25_reed_solomon.specs.Words.{IsCode};
 ghost use Rattle.p25_reed_solomon.specs.RsReadings.{rs_marked_reading_of};
-ghost use Rattle.p25_fields.specs.Layouts.{Layout, field_layout, field_reading_of};
+ghost use Rattle.p25_coded_fields.specs.Layouts.{Layout, field_layout, field_reading_of};
 ghost use Rattle.p25_voice_units.specs.FieldLayouts.{header_layout, link_layout, sync_layout, end_link_layout};
 ghost use Rattle.p25_voice_units.specs.Layouts.{link_rows};
 ghost use Rattle.p25_voice_units.specs.Lengths.{voice_length_of};
@@ -14,7 +14,7 @@ use crate::unit::VoiceUnit;
 use crate::voice::{Voice, VoiceFrame};
 use p25_bits::{BitBuf, number_of, put_number};
 use p25_code::{BlockCode, Reading, read_received};
-use p25_fields::read_field;
+use p25_coded_fields::read_field;
 use p25_gf64::Sym;
 use p25_golay::{Golay18, Golay24};
 use p25_hamming::{Hamming10, Lsd16};

@@ -1,6 +1,6 @@
 use Rattle.std.proofs.Common.{◌≡◌, ◌⊎◌, ℕ, List, Option, Some, sym, subst, ◌∙◌}
 use Rattle.std.specs.Prelude.{IfSome}
-use Rattle.p25_work.specs.Runs.{Worked}
+use Rattle.p25_filter.specs.Runs.{Worked}
 use Rattle.p25_tool.specs.declared.command.Command.{Command}
 use Rattle.p25_tool.specs.declared.command.Command.TheVariants.{Stations, Fragments}
 use Rattle.p25_tool.specs.declared.outcome.Outcome.{Outcome}

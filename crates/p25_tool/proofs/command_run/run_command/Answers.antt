@@ -1,18 +1,18 @@
 use Rattle.std.proofs.Common.{◌≡◌, ◌∙◌, ap, sym, subst}
-use Rattle.p25_work.specs.Futures.{Future}
+use Rattle.p25_filter.specs.Futures.{Future}
 use Rattle.p25_tool.specs.declared.command.Command.{Command}
-use Rattle.p25_recordings.specs.Commands.{ChangedParts, changed_reporting}
-use Rattle.p25_work.specs.LineRules.{LineRules}
-use Rattle.p25_work.specs.LineWorks.{first_line, line_future}
+use Rattle.p25_recording_filters.specs.Commands.{ChangedParts, changed_reporting}
+use Rattle.p25_filter.specs.LineRules.{LineRules}
+use Rattle.p25_filter.specs.LineWorks.{first_line, line_future}
 use Rattle.p25_tool.specs.Buildings.{build_rules}
 use Rattle.p25_tool.specs.StationRules.{station_rules}
 use Rattle.p25_tool.specs.DuplexRules.{duplex_rules}
-use Rattle.p25_recordings.specs.Recordings.{fresh, recording_future}
+use Rattle.p25_recording_filters.specs.Recordings.{fresh, recording_future}
 use Rattle.p25_tool.specs.Runs.{command_future}
 use Rattle.p25_tool.proofs.CommandsLaws.{AreAlike, bridge-alike, build-alike, check-alike, repair-alike, show-alike, stations-alike, calls-alike, fragments-alike, soft-alike}
 use Rattle.p25_tool.proofs.DuplexCommandLaws.{duplex-alike}
 use Rattle.p25_tool.specs.FragmentRules.{fragment_rules}
-use Rattle.p25_work.specs.Runs.{all_written}
+use Rattle.p25_filter.specs.Runs.{all_written}
 use Rattle.p25_tool.proofs.SamplingLaws.{sample-some}
 use Rattle.p25_tool.proofs.RunsLaws.{worked-alike, all_written-alike}
 use Rattle.p25_tool.proofs.command_run.run_command.Goals as goal

@@ -1,7 +1,7 @@
 use Rattle.std.proofs.Common.{subst, sym, false, refl}
-use Rattle.p25_work.specs.Futures.{IsIdle}
-use Rattle.p25_work.specs.LineWorks.{LineWorking, first_line, line_future}
-use Rattle.p25_work.proofs.LineWorksLaws.{step-idle}
+use Rattle.p25_filter.specs.Futures.{IsIdle}
+use Rattle.p25_filter.specs.LineWorks.{LineWorking, first_line, line_future}
+use Rattle.p25_filter.proofs.LineWorksLaws.{step-idle}
 use Rattle.p25_tool.proofs.command_run.run_lines.Goals as goal
 
 pub work-requires-clause-idle : goal.work-requires-clause-idle

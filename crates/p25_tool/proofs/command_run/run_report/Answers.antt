@@ -1,9 +1,9 @@
 use Rattle.std.proofs.Common.{◌≡◌, subst, sym, false, []}
 use Rattle.p25_stream.specs.Scan.{given}
-use Rattle.p25_work.specs.Futures.{IsIdle}
-use Rattle.p25_recordings.specs.declared.recording.Phase.TheVariants.{Ended}
-use Rattle.p25_recordings.specs.Recordings.{RecordingParts, recording_future}
-use Rattle.p25_recordings.proofs.RecordingsLaws.{fresh-idle, fresh-none}
+use Rattle.p25_filter.specs.Futures.{IsIdle}
+use Rattle.p25_recording_filters.specs.declared.recording.Phase.TheVariants.{Ended}
+use Rattle.p25_recording_filters.specs.Recordings.{RecordingParts, recording_future}
+use Rattle.p25_recording_filters.proofs.RecordingsLaws.{fresh-idle, fresh-none}
 use Rattle.p25_tool.proofs.command_run.run_report.Goals as goal
 
 pub work-requires-clause-drained : goal.work-requires-clause-drained

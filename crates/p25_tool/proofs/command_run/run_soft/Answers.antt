@@ -1,8 +1,8 @@
 use Rattle.std.proofs.Common.{◌≡◌, subst, sym, false, [], refl, arith}
 use Rattle.p25_stream.specs.Scan.{given}
-use Rattle.p25_work.specs.Futures.{IsIdle}
-use Rattle.p25_recordings.specs.Softs.{SoftParts, fresh_soft, soft_future}
-use Rattle.p25_recordings.proofs.SoftRecordingsLaws.{fresh-none, holding-fresh, step-idle}
+use Rattle.p25_filter.specs.Futures.{IsIdle}
+use Rattle.p25_recording_filters.specs.Softs.{SoftParts, fresh_soft, soft_future}
+use Rattle.p25_recording_filters.proofs.SoftRecordingsLaws.{fresh-none, holding-fresh, step-idle}
 use Rattle.p25_tool.proofs.command_run.run_soft.Goals as goal
 
 pub work-requires-clause-drained : goal.work-requires-clause-drained

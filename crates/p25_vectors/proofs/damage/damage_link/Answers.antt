@@ -5,7 +5,7 @@ use Rattle.p25_voice_units.specs.Fixes.{link_looked, wide}
 use Rattle.p25_voice_units.specs.FieldLayouts.{word_places}
 use Rattle.p25_voice_units.specs.Layouts.{link_rows}
 use Rattle.p25_voice_units.specs.Readings.{low_places}
-use Rattle.p25_fields.specs.Layouts.{places_from}
+use Rattle.p25_coded_fields.specs.Layouts.{places_from}
 use Rattle.p25_vectors.specs.Damage.{damaged, field_counts, field_draws, word_counts}
 use Rattle.p25_vectors.proofs.CountsLaws.{length-word_counts, damaged-both}
 use Rattle.p25_vectors.proofs.damage.damage_link.Goals as goal

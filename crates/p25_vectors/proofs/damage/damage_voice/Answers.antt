@@ -1,6 +1,6 @@
 use Rattle.std.proofs.Common.{◌≡◌, ℕ, List, length, sum, Bool, refl, ap, sym, ◌∙◌}
 use Rattle.p25_vectors.specs.Draws.{state_after}
-use Rattle.p25_fields.specs.Layouts.{places_from}
+use Rattle.p25_coded_fields.specs.Layouts.{places_from}
 use Rattle.p25_voice_units.specs.declared.unit.VoiceUnit.{VoiceUnit}
 use Rattle.p25_voice_units.specs.declared.unit.VoiceUnit.TheVariants.{Header, Link1, Link2, End, EndLink}
 use Rattle.p25_voice_units.specs.FieldLayouts.{word_places}

@@ -1,6 +1,6 @@
 use Rattle.std.proofs.Common.{◌+◌, length, refl, ap₂, sym, ◌∙◌}
-use Rattle.p25_fields.specs.Layouts.{places_from}
-use Rattle.p25_fields.proofs.CodesLaws.{all_end}
+use Rattle.p25_coded_fields.specs.Layouts.{places_from}
+use Rattle.p25_coded_fields.proofs.CodesLaws.{all_end}
 use Rattle.p25_voice_units.specs.Fixes.{link_looked}
 use Rattle.p25_voice_units.specs.Layouts.{link_rows}
 use Rattle.p25_voice_units.specs.FieldLayouts.{word_places}

@@ -1,6 +1,6 @@
 use Rattle.std.proofs.Common.{length, ap, sym, ◌∙◌, arith}
 use Rattle.p25_bits.specs.Distance.{distance_by}
-use Rattle.p25_fields.specs.Layouts.{places_from}
+use Rattle.p25_coded_fields.specs.Layouts.{places_from}
 use Rattle.p25_voice_units.specs.Fixes.{bits_at, voice_looked, voice_fixes_of}
 use Rattle.p25_voice_units.specs.FieldLayouts.{word_places}
 use Rattle.p25_voice_units.specs.Lengths.{voice_duid}

@@ -1,7 +1,7 @@
 use Rattle.std.proofs.Common.{length, refl, arith}
 use Rattle.p25_link.specs.Words.{header_of_symbols}
-use Rattle.p25_fields.specs.Layouts.{places_from, field_reading_of}
-use Rattle.p25_fields.proofs.CodesLaws.{all_end}
+use Rattle.p25_coded_fields.specs.Layouts.{places_from, field_reading_of}
+use Rattle.p25_coded_fields.proofs.CodesLaws.{all_end}
 use Rattle.p25_voice_units.specs.Layouts.{header_rows}
 use Rattle.p25_voice_units.specs.FieldLayouts.{word_places, header_layout}
 use Rattle.p25_voice_units.specs.Readings.{header_in}

@@ -1,10 +1,10 @@
 use Rattle.std.proofs.Common.{◌≡◌, ℕ, ◌+◌, arith}
 use Rattle.p25_packet_blocks.specs.declared.packet.Packet.{Packet}
-use Rattle.p25_stations.specs.SenderState.{Sending}
-use Rattle.p25_stations.specs.SenderRules.{sender_heard}
-use Rattle.p25_stations.specs.declared.sender.SenderHeard.{SenderHeard}
-use Rattle.p25_stations.specs.declared.sender.SenderHeard.TheVariants.{Acknowledged, Opened, Retry, Repeat, Ignored, Down}
-use Rattle.p25_air_world.proofs.SoundWorldsLaws.{sound-apart, sound-counts}
+use Rattle.p25_delivery.specs.SenderState.{Sending}
+use Rattle.p25_delivery.specs.SenderRules.{sender_heard}
+use Rattle.p25_delivery.specs.declared.sender.SenderHeard.{SenderHeard}
+use Rattle.p25_delivery.specs.declared.sender.SenderHeard.TheVariants.{Acknowledged, Opened, Retry, Repeat, Ignored, Down}
+use Rattle.p25_stations.proofs.SoundWorldsLaws.{sound-apart, sound-counts}
 use Rattle.p25_duplex.specs.DuplexState.{StationState}
 use Rattle.p25_duplex.specs.Inside.{station_of}
 use Rattle.p25_duplex.specs.SoundStation.{own_world, IsSoundStation}

@@ -1,11 +1,11 @@
 use Rattle.std.proofs.Common.{◌≡◌, ℕ, List, Some, sym, subst}
 use Rattle.p25_packet_blocks.specs.declared.packet.Packet.{Packet}
-use Rattle.p25_stations.specs.ReceiverState.{Receiving}
-use Rattle.p25_stations.specs.ReceiverRules.{receiver_heard}
-use Rattle.p25_stations.specs.declared.receiver.Heard.{Heard}
-use Rattle.p25_stations.specs.declared.receiver.Heard.TheVariants.{Delivered, Opened, Again, Kept, RefusedCrc, RefusedOrder, Ignored}
-use Rattle.p25_air_world.specs.declared.step.StepKind.{StepKind}
-use Rattle.p25_air_world.proofs.SoundWorldsLaws.{sound-apart}
+use Rattle.p25_delivery.specs.ReceiverState.{Receiving}
+use Rattle.p25_delivery.specs.ReceiverRules.{receiver_heard}
+use Rattle.p25_delivery.specs.declared.receiver.Heard.{Heard}
+use Rattle.p25_delivery.specs.declared.receiver.Heard.TheVariants.{Delivered, Opened, Again, Kept, RefusedCrc, RefusedOrder, Ignored}
+use Rattle.p25_stations.specs.declared.step.StepKind.{StepKind}
+use Rattle.p25_stations.proofs.SoundWorldsLaws.{sound-apart}
 use Rattle.p25_duplex.specs.declared.station.Station.TheInside.{Inside}
 use Rattle.p25_duplex.specs.DuplexState.{StationState}
 use Rattle.p25_duplex.specs.Inside.{station_of}

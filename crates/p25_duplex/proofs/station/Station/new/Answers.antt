@@ -1,9 +1,9 @@
 use Rattle.std.proofs.Common.{List, [], ℕ, None, ap, ap₂, sym, subst, ◌∙◌}
-use Rattle.p25_stations.specs.SenderState.{Sending}
-use Rattle.p25_stations.specs.ReceiverState.{Receiving}
-use Rattle.p25_stations.specs.SenderRules.{first_sending}
-use Rattle.p25_stations.specs.ReceiverRules.{first_receiving}
-use Rattle.p25_air_world.specs.declared.mark.Mark.{Mark}
+use Rattle.p25_delivery.specs.SenderState.{Sending}
+use Rattle.p25_delivery.specs.ReceiverState.{Receiving}
+use Rattle.p25_delivery.specs.SenderRules.{first_sending}
+use Rattle.p25_delivery.specs.ReceiverRules.{first_receiving}
+use Rattle.p25_stations.specs.declared.mark.Mark.{Mark}
 use Rattle.p25_duplex.specs.DuplexState.{StationState}
 use Rattle.p25_duplex.specs.SoundStation.{IsSoundStation}
 use Rattle.p25_duplex.proofs.StationSoundLaws.{first-keeps}

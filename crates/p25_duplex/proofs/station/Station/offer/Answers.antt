@@ -1,9 +1,9 @@
 use Rattle.std.proofs.Common.{List, ℕ, sym, subst}
-use Rattle.p25_stations.specs.SenderState.{Sending}
-use Rattle.p25_stations.specs.SenderRules.{offered}
-use Rattle.p25_stations.specs.declared.sender.Offer.{Offer}
-use Rattle.p25_stations.specs.declared.sender.Offer.TheVariants.{Taken, Busy, Down}
-use Rattle.p25_air_world.proofs.SoundWorldsLaws.{sound-apart}
+use Rattle.p25_delivery.specs.SenderState.{Sending}
+use Rattle.p25_delivery.specs.SenderRules.{offered}
+use Rattle.p25_delivery.specs.declared.sender.Offer.{Offer}
+use Rattle.p25_delivery.specs.declared.sender.Offer.TheVariants.{Taken, Busy, Down}
+use Rattle.p25_stations.proofs.SoundWorldsLaws.{sound-apart}
 use Rattle.p25_duplex.specs.Inside.{station_of}
 use Rattle.p25_duplex.specs.SoundStation.{own_world, IsSoundStation}
 use Rattle.p25_duplex.specs.StationRules.{after_offer}

@@ -1,11 +1,11 @@
 use Rattle.std.proofs.Common.{◌≡◌, List, ℕ, [], ◌∷◌, ◌++◌, Bool, true, false, Some, refl, ap, sym, subst, ◌∙◌}
 use Rattle.p25_packet_blocks.specs.declared.packet.Packet.{Packet}
-use Rattle.p25_stations.specs.SenderState.{Sending}
-use Rattle.p25_stations.specs.SenderRules.{reopened, is_opening}
-use Rattle.p25_stations.specs.declared.sender.Reopen.{Reopen}
-use Rattle.p25_stations.specs.declared.sender.Reopen.TheVariants.{Sent, Up}
-use Rattle.p25_air_world.specs.declared.mark.Mark.{Mark}
-use Rattle.p25_air_world.proofs.SoundWorldsLaws.{sound-apart}
+use Rattle.p25_delivery.specs.SenderState.{Sending}
+use Rattle.p25_delivery.specs.SenderRules.{reopened, is_opening}
+use Rattle.p25_delivery.specs.declared.sender.Reopen.{Reopen}
+use Rattle.p25_delivery.specs.declared.sender.Reopen.TheVariants.{Sent, Up}
+use Rattle.p25_stations.specs.declared.mark.Mark.{Mark}
+use Rattle.p25_stations.proofs.SoundWorldsLaws.{sound-apart}
 use Rattle.p25_duplex.specs.declared.station.Station.TheInside.{Inside}
 use Rattle.p25_duplex.specs.DuplexState.{StationState}
 use Rattle.p25_duplex.specs.Inside.{station_of}

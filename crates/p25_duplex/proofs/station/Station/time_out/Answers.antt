@@ -1,8 +1,8 @@
-use Rattle.p25_stations.specs.SenderState.{Sending}
-use Rattle.p25_stations.specs.SenderRules.{timed_out}
-use Rattle.p25_stations.specs.declared.sender.Resend.{Resend}
-use Rattle.p25_stations.specs.declared.sender.Resend.TheVariants.{Sent, Idle, Down}
-use Rattle.p25_air_world.proofs.SoundWorldsLaws.{sound-apart}
+use Rattle.p25_delivery.specs.SenderState.{Sending}
+use Rattle.p25_delivery.specs.SenderRules.{timed_out}
+use Rattle.p25_delivery.specs.declared.sender.Resend.{Resend}
+use Rattle.p25_delivery.specs.declared.sender.Resend.TheVariants.{Sent, Idle, Down}
+use Rattle.p25_stations.proofs.SoundWorldsLaws.{sound-apart}
 use Rattle.p25_duplex.specs.Inside.{station_of}
 use Rattle.p25_duplex.specs.SoundStation.{own_world}
 use Rattle.p25_duplex.specs.StationRules.{after_timeout}

@@ -2,7 +2,7 @@ use Rattle.std.proofs.Common.{Option, subst}
 use Rattle.std.specs.Prelude.{IfSome}
 use Rattle.p25_packet_blocks.specs.declared.packet.Packet.{Packet}
 use Rattle.p25_packet_blocks.specs.Sendable.{IsSendable}
-use Rattle.p25_air.proofs.AirLaws.{sendable-whole}
+use Rattle.p25_stations.proofs.AirLaws.{sendable-whole}
 use Rattle.p25_duplex.proofs.world.DuplexWorld.deliver.Goals as goal
 
 pub carry-carried-requires : goal.carry-carried-requires

@@ -1,0 +1,17 @@
+pub mod ListLaws
+pub mod PlacesLaws
+pub mod MessageBlocksLaws
+pub mod AskedSteps
+pub mod SentPacketsLaws
+pub mod ReceiverSteps
+pub mod CarriedLaws
+pub mod HeadLaws
+pub mod SentLaws
+pub mod ReceiverLaws
+pub mod SenderLaws
+pub mod PhaseLaws
+pub mod CallLaws
+pub mod LinkLaws
+pub mod FactsLaws
+pub mod CountLaws
+pub mod AtOnceLaws

@@ -1,0 +1,14 @@
+pub mod MessageBlocks
+pub mod Places
+pub mod Carried
+pub mod SenderState
+pub mod ReceiverState
+pub mod SentPackets
+pub mod Asked
+pub mod SenderRules
+pub mod ReceiverRules
+pub mod Link
+pub mod Clean
+pub mod Orderly
+pub mod Facts
+pub mod AtOnce

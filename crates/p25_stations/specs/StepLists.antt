@@ -1,0 +1,28 @@
+-- The messages that steps tell of.
+use Rattle.std.specs.Prelude.{ℕ, List, [], ◌∷◌, ◌++◌}
+use Rattle.p25_stations.specs.declared.step.Event.{Event}
+use Rattle.p25_stations.specs.declared.step.Event.TheVariants.{Send}
+use Rattle.p25_stations.specs.declared.step.Step.{Step}
+use Rattle.p25_stations.specs.declared.step.StepKind.{StepKind}
+use Rattle.p25_stations.specs.declared.step.StepKind.TheVariants.{Taken, Delivered}
+
+-- the message of a Delivered step, and none of any other
+abbrev pub delivered_by : StepKind → List (List ℕ)
+delivered_by (Delivered number message) = message ∷ []
+delivered_by kind = []
+
+-- the message of an event whose step is Taken, and none of any other
+abbrev pub sent_by : Event → StepKind → List (List ℕ)
+sent_by (Send message) (Taken number blocks) = message ∷ []
+sent_by event kind = []
+
+-- the messages of the Delivered steps, in order
+unfoldable pub delivered_in : List Step → List (List ℕ)
+delivered_in [] = []
+delivered_in (step ∷ steps) = delivered_by step.kind ++ delivered_in steps
+
+-- the messages of the events whose steps are Taken, in order
+unfoldable pub sent_in : List Event → List Step → List (List ℕ)
+sent_in [] steps = []
+sent_in events [] = []
+sent_in (event ∷ events) (step ∷ steps) = sent_by event step.kind ++ sent_in events steps
