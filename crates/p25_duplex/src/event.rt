@@ -1,6 +1,6 @@
 use crate::side::Side;
-use p25_stations::Step;
 use p25_messages::{Flips, Message};
+use p25_stations::Step;
 
 /// Something that happens at one of the two stations, or on the air between them.
 #[derive(Drop)]

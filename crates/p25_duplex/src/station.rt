@@ -4,10 +4,10 @@ ghost use Rattle.std.specs.Prelude.{◌≡◌, ◌+◌, ◌<◌, ◌≤◌, leng
 ghost use Rattle.p25_packet_blocks.specs.Sendable.{AreOctets};
 ghost use Rattle.p25_stations.specs.Sound.{IsMessage};
 
-use p25_stations::{Mark, StepKind, Way};
+use p25_delivery::{Heard, Offer, Receiver, Reopen, Resend, Sender, SenderHeard};
 use p25_messages::{Message, MessageList};
 use p25_packet_blocks::Packet;
-use p25_delivery::{Heard, Offer, Receiver, Reopen, Resend, Sender, SenderHeard};
+use p25_stations::{Mark, StepKind, Way};
 use std::alloc::{AllocError, Global};
 use std::marker::Model;
 

@@ -7,10 +7,9 @@ ghost use Rattle.p25_duplex.specs.DuplexSteps.{duplex_step};
 use crate::event::{DuplexEvent, DuplexStep};
 use crate::side::Side;
 use crate::station::Station;
-use p25_stations::{Carried, carry};
-use p25_stations::{Step, StepKind, Way};
 use p25_messages::{Flips, Message, MessageList};
 use p25_packet_blocks::Packet;
+use p25_stations::{Carried, Step, StepKind, Way, carry};
 use std::alloc::{AllocError, Global};
 use std::marker::Model;
 

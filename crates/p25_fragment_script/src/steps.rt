@@ -5,10 +5,10 @@ ghost use Rattle.p25_script.specs.StepTexts.{step_text_of};
 ghost use Rattle.p25_script.specs.Values.{message_text};
 ghost use Rattle.p25_fragment_script.specs.LongTexts.{ended_line, first_line_of, line_before, line_behind, long_step_text_of};
 
-use p25_stations::Step;
 use p25_fragments::{LongMessage, LongStep, Then};
 use p25_line::Line;
 use p25_script::{put_count, put_octets, step_text};
+use p25_stations::Step;
 
 /// Sets `out` and `behind` to the two pieces of the text of a step, one behind the other: its lines, each with its end. A long
 /// message that is taken is told before the step of its part 0; all else is told behind the step of the inner world.

@@ -19,8 +19,8 @@ use arrayvec::ArrayVec;
 use p25_bch_nid::Nid;
 use p25_bits::BitBuf;
 use p25_crc::{crc9, crc16, crc32};
-use p25_unit_front::put_front;
 use p25_trellis::{Half, ThreeQuarter, encode_block};
+use p25_unit_front::put_front;
 
 // The data unit identifier of a packet.
 pub(crate) const PACKET_DUID: u8 = 12;

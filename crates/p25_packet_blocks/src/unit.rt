@@ -8,9 +8,9 @@ use crate::image::{PACKET_DUID, packet_length};
 use crate::packet::Packet;
 use crate::read::{head_in, read_packet_of_head};
 use p25_bits::BitBuf;
-use p25_unit_front::read_identifier;
 use p25_status::{Field, Statuses, is_sync, unweave};
 use p25_trellis::{Half, read_block};
+use p25_unit_front::read_identifier;
 
 // Sets `header` to the bits of the header block of the unit whose sent bits begin at a place.
 fn take_header(bits: &BitBuf, at: usize, header: &mut BitBuf)

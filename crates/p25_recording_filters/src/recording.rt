@@ -6,11 +6,11 @@ ghost use Rattle.p25_recording_filters.specs.Recordings.{fresh, IsClosing, PutIt
 
 use crate::report::Report;
 use p25_bits::BitBuf;
+use p25_filter::{Ending, Refusal, Worker};
 use p25_line::Line;
 use p25_stream::Scanner;
 use p25_stream::laws::item_laws;
 use p25_units::Item;
-use p25_filter::{Ending, Refusal, Worker};
 use std::marker::Model;
 
 // How far the work has come.

@@ -5,9 +5,9 @@ ghost use Rattle.p25_units.specs.Items.{IsSoundItem, covered, place_of};
 ghost use Rattle.p25_recording_filters.specs.Reports.{Reporting};
 
 use p25_bits::BitBuf;
+use p25_filter::Ending;
 use p25_line::Line;
 use p25_units::Item;
-use p25_filter::Ending;
 
 /// What a command writes of the items of a recording, one after the other.
 pub trait Report {

@@ -13,11 +13,11 @@ ghost use Rattle.p25_recording_filters.specs.Softs.{IsHeardAmong, IsHolding, Put
 use crate::held_levels::HeldLevels;
 use crate::reports::put_behind;
 use p25_bits::BitBuf;
+use p25_filter::{Ending, Refusal, Worker};
 use p25_line::Line;
 use p25_soft::{hard, soften};
-use p25_stream::{Item, Scanner};
 use p25_stream::laws::item_laws;
-use p25_filter::{Ending, Refusal, Worker};
+use p25_stream::{Item, Scanner};
 use std::marker::Model;
 
 // The data unit identifier of a packet.

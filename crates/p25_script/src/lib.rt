@@ -24,8 +24,8 @@ mod values;
 
 pub use closing::{closing_text, put_count, put_sessions};
 pub use names::EventKind;
-pub use p25_stations::{Event, Step, StepKind, Way, World};
 pub use p25_line::{Line, LineFault};
+pub use p25_stations::{Event, Step, StepKind, Way, World};
 pub use read::read_event;
 pub use steps::{put_octets, step_text};
 pub use values::{message_value, places_value};

@@ -8,10 +8,10 @@ ghost use Rattle.p25_script.specs.Script.{way_word};
 ghost use Rattle.p25_script.specs.Values.{message_text};
 
 use super::names::word_of_way;
-use p25_stations::{Step, StepKind, Way};
 use p25_line::Line;
 use p25_messages::Message;
 use p25_packet_blocks::{Flags, flags_make};
+use p25_stations::{Step, StepKind, Way};
 use p25_text::put_field;
 
 /// Sets `out` to the text of a step, without the end of its line. The texts of deliveries begin with `data` or `answer`; that

@@ -7,8 +7,8 @@ ghost use Rattle.p25_trellis.specs.Trellis.{IsFirstLeastReading};
 ghost use Rattle.p25_soft.specs.Levels.{bits_deviation, hard_bits, nominal_levels};
 ghost use Rattle.p25_soft.specs.SoftPaths.{soft_cost, soft_octets, soft_path};
 
-use p25_trellis::{Half, Rate, ThreeQuarter};
 use p25_trellis::laws::{nearest_laws, paths_apart};
+use p25_trellis::{Half, Rate, ThreeQuarter};
 
 /// Does nothing: its contract is what levels read as.
 ///

@@ -10,9 +10,9 @@ ghost use Rattle.p25_stations.specs.Air.{transmission_of, with_flips, received_b
 
 use crate::truth::is_true_to;
 use p25_bits::BitBuf;
+use p25_delivery::NAC;
 use p25_messages::Flips;
 use p25_packet_blocks::{Packet, packet_image, read_packet_unit};
-use p25_delivery::NAC;
 use p25_status::{Field, PLAIN_BLOCK_LENGTH, Status, Statuses, weave};
 
 /// What comes of a transmission.

@@ -23,7 +23,7 @@ ghost use Rattle.p25_stations.specs.declared.air.Carried.TheVariants.{Heard as h
 ghost use Rattle.p25_stations.specs.Air.{is_true_to, carried_of, ArrivesWithin, places_within};
 ghost use Rattle.p25_stations.specs.StepLists.{delivered_in, sent_in};
 
-use p25_packet_blocks::packet_radius;
+use p25_packet_blocks::laws::packet_radius;
 
 /// **Theorem.** Its clause says that after every list of events without a false pass each session is orderly: what was
 /// delivered is the beginning of what was sent, each message once, every message that was acknowledged was delivered, and

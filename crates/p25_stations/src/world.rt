@@ -3,12 +3,12 @@ ghost use Rattle.p25_packet_blocks.specs.Sendable.{AreOctets};
 ghost use Rattle.p25_stations.specs.Sound.{IsMessage};
 ghost use Rattle.p25_stations.specs.Steps.{world_step};
 
+use crate::air::{Carried, carry};
 use crate::mark::Mark;
 use crate::step::{Event, Step, StepKind, Way};
-use p25_stations::{Carried, carry};
+use p25_delivery::{Heard, Offer, Receiver, Reopen, Resend, Sender, SenderHeard};
 use p25_messages::{Flips, Message, MessageList};
 use p25_packet_blocks::Packet;
-use p25_delivery::{Heard, Offer, Receiver, Reopen, Resend, Sender, SenderHeard};
 use std::alloc::{AllocError, Global};
 use std::marker::Model;
 

@@ -5,12 +5,12 @@ ghost use Rattle.p25_units.specs.Units.{IsSendableBody};
 ghost use Rattle.p25_tool.specs.Outputs.{image_octets};
 
 use p25_bits::BitBuf;
+use p25_filter::{LineMachine, LineRefusal};
 use p25_line::Line;
 use p25_recording_filters::put_octets;
 use p25_status::{Status, Statuses};
 use p25_text::read_line;
 use p25_units::{Frame, Unit, frame_length, image};
-use p25_filter::{LineMachine, LineRefusal};
 
 // The units that the lines of an input describe, with one status symbol everywhere.
 #[derive(Drop)]

@@ -22,9 +22,9 @@ use super::outcome::{Outcome, outcome_of};
 use super::sampling::run_sample;
 use super::stations::Stations;
 use super::words::Words;
+use p25_filter::{LineMachine, LineWork, WorkEnd, work};
 use p25_io::{Sink, Source};
 use p25_recording_filters::{Calls, Change, Changed, Check, Recording, Report, Show, Soft};
-use p25_filter::{LineMachine, LineWork, WorkEnd, work};
 use std::alloc::Global;
 
 /// Does what the words say: reads the source to its end, at most 16,777,216 octets, and writes the answer to the sink.

@@ -33,6 +33,6 @@ pub use command::Command;
 pub use command_run::run;
 pub use outcome::{Outcome, outcome_status, outcome_text};
 pub use p25_duplex_script::read_duplex_event;
-pub use p25_line::Line;
 pub use p25_fragment_script::read_long_event;
+pub use p25_line::Line;
 pub use words::Words;

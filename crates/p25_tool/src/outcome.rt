@@ -1,8 +1,8 @@
 ghost use Rattle.std.specs.Prelude.{◌≡◌, ◌+◌, ◌≤◌, ◌++◌, length, codes, decimal};
 ghost use Rattle.p25_tool.specs.Outcomes.{ending_outcome, fault_word, line_of, status_of, work_outcome};
 
-use p25_line::{Line, LineFault};
 use p25_filter::{Ending, WorkEnd};
+use p25_line::{Line, LineFault};
 
 /// How a call ended.
 #[derive(Clone, Copy, Debug, PartialEq, Eq)]

@@ -8,10 +8,10 @@ ghost use Rattle.p25_tool.specs.Outputs.{sample_line};
 ghost use Rattle.p25_tool.specs.Runs.{command_future};
 ghost use Rattle.p25_tool.specs.declared.command.Command.TheVariants.{Sample};
 
+use p25_filter::{Ending, WorkEnd};
 use p25_io::Sink;
 use p25_line::Line;
 use p25_vectors::{SampleReport, sample};
-use p25_filter::{Ending, WorkEnd};
 
 // Writes the line that tells of the first sample units. No source is read.
 pub(crate) fn run_sample<K: Sink>(count: u64, sink: &mut K) -> WorkEnd

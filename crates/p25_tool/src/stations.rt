@@ -4,9 +4,9 @@ ghost use Rattle.std.specs.Prelude.{◌≡◌};
 ghost use Rattle.p25_stations.specs.WorldState.{first_world};
 ghost use Rattle.p25_tool.specs.Outputs.{step_line};
 
+use p25_filter::{LineMachine, LineRefusal};
 use p25_line::Line;
 use p25_script::{Step, World, closing_text, read_event, step_text};
-use p25_filter::{LineMachine, LineRefusal};
 use std::alloc::Global;
 use std::marker::Model;
 

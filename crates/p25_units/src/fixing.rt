@@ -17,9 +17,9 @@ ghost use Rattle.p25_voice_units.specs.Sendable.{IsSendableVoice};
 use crate::frame::Frame;
 use crate::unit::{Body, Unit};
 use p25_bits::BitBuf;
-use p25_unit_front::front_fixes;
 use p25_packet_blocks::{Packet, packet_image, packet_length};
 use p25_status::{Statuses, unweave};
+use p25_unit_front::front_fixes;
 use p25_voice_units::{VoiceUnit, voice_fixes, voice_image};
 
 // Where the header block of a packet begins in a unit without status symbols. The blocks to follow touch it.

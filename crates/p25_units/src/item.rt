@@ -16,8 +16,8 @@ use crate::read::read_identified;
 use crate::unit::{Body, PACKET_DUID, Unit};
 use p25_bch_nid::Nid;
 use p25_bits::BitBuf;
-use p25_unit_front::front_fixes;
 use p25_status::{Field, FieldList, Statuses, unweave};
+use p25_unit_front::front_fixes;
 use p25_voice_units::{VoiceUnit, read_voice};
 
 /// A stretch of a stream. Places count bits from the beginning of the stream.

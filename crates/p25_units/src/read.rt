@@ -17,8 +17,8 @@ use crate::packets::{one_field, read_packet_body};
 use crate::unit::{Body, PACKET_DUID, Unit};
 use p25_bch_nid::Nid;
 use p25_bits::BitBuf;
-use p25_unit_front::read_identifier;
 use p25_status::{Field, FieldList, Statuses, unweave};
+use p25_unit_front::read_identifier;
 use p25_voice_units::read_voice;
 
 /// Answers the frame that the `count` sent bits from place `at` on read as, where `need` answers that length there. The

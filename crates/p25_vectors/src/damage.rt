@@ -17,9 +17,8 @@ use crate::draws::Draws;
 use p25_bits::BitBuf;
 use p25_packet_blocks::Packet;
 use p25_units::Body;
-use p25_voice_units::{
-    END_LINK_WORDS, HEADER_WORDS, LINK_WORDS, LOW_WORDS, VoiceUnit, part_places,
-};
+use p25_voice_units::laws::part_places;
+use p25_voice_units::{END_LINK_WORDS, HEADER_WORDS, LINK_WORDS, LOW_WORDS, VoiceUnit};
 
 // Inverts so many bits from a place on.
 fn invert(at: usize, count: usize, bits: &mut BitBuf)

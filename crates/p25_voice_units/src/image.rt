@@ -19,12 +19,12 @@ use p25_bch_nid::Nid;
 use p25_bits::{BitBuf, number_of, put_number};
 use p25_code::BlockCode;
 use p25_coded_fields::put_field;
-use p25_unit_front::put_front;
 use p25_gf64::Sym;
 use p25_golay::{Golay18, Golay24};
 use p25_hamming::{Hamming10, Lsd16};
 use p25_link::{EncryptionSync, HeaderWord, LinkControl};
 use p25_reed_solomon::Rs;
+use p25_unit_front::put_front;
 
 // Appends the octets of a voice frame.
 fn put_frame(octets: &[u8; 18], out: &mut BitBuf)

@@ -5,9 +5,9 @@ ghost use Rattle.p25_recording_filters.specs.ItemOutputs.{call_line, calls_line}
 use crate::report::Report;
 use p25_bits::BitBuf;
 use p25_calls::{Call, Caller, call_text};
+use p25_filter::Ending;
 use p25_line::Line;
 use p25_units::Item;
-use p25_filter::Ending;
 use std::marker::Model;
 
 /// The text of each call, and at the end how many there were.

@@ -5,11 +5,11 @@ ghost use Rattle.p25_recording_filters.specs.ItemOutputs.{whole_octets};
 
 use crate::report::Report;
 use p25_bits::BitBuf;
+use p25_filter::Ending;
 use p25_line::Line;
 use p25_status::Status;
 use p25_stream::{bridge_item, repair_item_in};
 use p25_units::Item;
-use p25_filter::Ending;
 use std::marker::Model;
 
 /// How the bits of a recording are changed.

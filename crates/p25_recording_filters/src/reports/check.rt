@@ -4,9 +4,9 @@ ghost use Rattle.p25_recording_filters.specs.ItemOutputs.{check_line};
 use super::show::put_item_line;
 use crate::report::Report;
 use p25_bits::BitBuf;
+use p25_filter::Ending;
 use p25_line::Line;
 use p25_units::Item;
-use p25_filter::Ending;
 use std::marker::Model;
 
 /// The text of each item that is not a whole unit, and at the end how many units and others there were.

@@ -4,10 +4,10 @@ ghost use Rattle.p25_recording_filters.specs.ItemOutputs.{shown};
 
 use crate::report::Report;
 use p25_bits::BitBuf;
+use p25_filter::Ending;
 use p25_line::Line;
 use p25_text::item_text;
 use p25_units::Item;
-use p25_filter::Ending;
 
 /// The text of each item, one a line.
 #[derive(Drop)]
