@@ -16,14 +16,11 @@ use crate::head::PacketHead;
 use crate::octets::append;
 use crate::packet::{Confirmed, Packet, Plain};
 use arrayvec::ArrayVec;
-use p25_bch_nid::Nid;
+use p25_bch_nid::{Nid, PDU};
 use p25_bits::BitBuf;
 use p25_crc::{crc9, crc16, crc32};
 use p25_trellis::{Half, ThreeQuarter, encode_block};
 use p25_unit_front::put_front;
-
-// The data unit identifier of a packet.
-pub(crate) const PACKET_DUID: u8 = 12;
 
 /// Answers the length of the unit of a packet as it is sent, by the blocks to follow of its header: 112 bits, 196 for each
 /// block and the header block, filled to a multiple of 70, and two status bits for each 70.
@@ -59,7 +56,7 @@ fn put_packet_front(nac: u16, out: &mut BitBuf)
     ensures list { out.new ≡ out.old ++ unit_front nac 12 }
     ensures len { length out.new ≡ length out.old + 112 }
 {
-    match Nid::new(nac, PACKET_DUID) {
+    match Nid::new(nac, PDU) {
         Some(nid) => put_front(&nid, out),
         None => unreachable!(),
     }

@@ -4,9 +4,10 @@ ghost use Rattle.std.specs.Prelude.{◌≡◌, ◌+◌, ◌*◌, ◌≤◌, leng
 ghost use Rattle.p25_packet_blocks.specs.UnitReading.{sent_header_bits, sent_head_of, sent_packet_of, packet_unit_of};
 
 use crate::head::PacketHead;
-use crate::image::{PACKET_DUID, packet_length};
+use crate::image::packet_length;
 use crate::packet::Packet;
 use crate::read::{head_in, read_packet_of_head};
+use p25_bch_nid::PDU;
 use p25_bits::BitBuf;
 use p25_status::{Field, Statuses, is_sync, unweave};
 use p25_trellis::{Half, read_block};
@@ -72,7 +73,7 @@ pub fn read_packet_unit(bits: &BitBuf) -> Result<(u16, Packet), Field>
         Some(nid) => nid,
         None => return Err(Field::Nid),
     };
-    if nid.duid != PACKET_DUID {
+    if nid.duid != PDU {
         return Err(Field::Duid);
     }
     let packet = read_sent_packet(bits)?;

@@ -12,6 +12,7 @@ ghost use Rattle.p25_recording_filters.specs.Softs.{IsHeardAmong, IsHolding, Put
 
 use crate::held_levels::HeldLevels;
 use crate::reports::put_behind;
+use p25_bch_nid::PDU;
 use p25_bits::BitBuf;
 use p25_filter::{Ending, Filter, Refusal};
 use p25_line::Line;
@@ -19,9 +20,6 @@ use p25_soft::{hard, soften};
 use p25_stream::laws::item_laws;
 use p25_stream::{Item, Scanner};
 use std::marker::Model;
-
-// The data unit identifier of a packet.
-const PACKET_DUID: u8 = 0xC;
 
 // The level with which the last group of four is filled.
 const FILLER: i8 = 32;
@@ -102,7 +100,7 @@ fn is_even_packet(item: &Item) -> bool
     ensures { result ≡ is_even_packet item.now }
 {
     match item {
-        Item::Broken { place, duid, .. } => *duid == PACKET_DUID && *place % 2 == 0,
+        Item::Broken { place, duid, .. } => *duid == PDU && *place % 2 == 0,
         _ => false,
     }
 }

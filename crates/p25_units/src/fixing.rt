@@ -17,16 +17,10 @@ ghost use Rattle.p25_voice_units.specs.Sendable.{IsSendableVoice};
 use crate::frame::Frame;
 use crate::unit::{Body, Unit};
 use p25_bits::BitBuf;
-use p25_packet_blocks::{Packet, packet_image, packet_length};
-use p25_status::{Statuses, unweave};
+use p25_packet_blocks::{BLOCK_LENGTH, HEADER_AT, Packet, packet_image, packet_length};
+use p25_status::{PLAIN_BLOCK_LENGTH, SENT_BLOCK_LENGTH, Statuses, unweave};
 use p25_unit_front::front_fixes;
 use p25_voice_units::{VoiceUnit, voice_fixes, voice_image};
-
-// Where the header block of a packet begins in a unit without status symbols. The blocks to follow touch it.
-const BLOCKS_AT: usize = 112;
-
-// How many bits a block of a packet has.
-const BLOCK_LENGTH: usize = 196;
 
 /// Answers in how many looked-at places the sent bits from place `at` on differ from the image of a frame: of its sync, of
 /// the first 63 bits of its identifier, and of its code words and blocks. A sound frame's bits are there.
@@ -66,7 +60,7 @@ fn voice_unit_fixes(bits: &BitBuf, at: usize, nac: u16, voice: &VoiceUnit) -> u3
     unweave(
         bits,
         at,
-        voice.length() / 70 * 72,
+        voice.length() / PLAIN_BLOCK_LENGTH * SENT_BLOCK_LENGTH,
         &mut plain,
         &mut Statuses::new(),
     );
@@ -123,7 +117,7 @@ fn packet_fixes(bits: &BitBuf, at: usize, nac: u16, packet: &Packet) -> u32
     let mut image = BitBuf::new();
     packet_image(nac, packet, &mut image);
     let count = BLOCK_LENGTH * (1 + usize::from(head.blocks()));
-    part_distance(&plain, &image, BLOCKS_AT, count)
+    part_distance(&plain, &image, HEADER_AT, count)
 }
 
 // In how many of the `count` places from `at` on two lists differ.

@@ -13,8 +13,8 @@ use crate::begun::Begun;
 use crate::fixing::{coded_fixes, fixes};
 use crate::frame::{Frame, frame_length};
 use crate::read::read_identified;
-use crate::unit::{Body, PACKET_DUID, Unit};
-use p25_bch_nid::Nid;
+use crate::unit::{Body, Unit};
+use p25_bch_nid::{Nid, PDU};
 use p25_bits::BitBuf;
 use p25_status::{Field, FieldList, Statuses, unweave};
 use p25_unit_front::front_fixes;
@@ -154,7 +154,7 @@ pub fn set_unit_item(
             };
         }
         Some(nid) => {
-            if nid.duid == PACKET_DUID {
+            if nid.duid == PDU {
                 set_packet_item(bits, at, count, &nid, &mut begun, place, item);
             } else {
                 set_voice_item(bits, at, count, &nid, place, room, item);

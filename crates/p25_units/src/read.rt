@@ -14,8 +14,8 @@ ghost use Rattle.p25_voice_units.specs.Readings.{voice_reading_of};
 use crate::begun::Begun;
 use crate::frame::Frame;
 use crate::packets::{one_field, read_packet_body};
-use crate::unit::{Body, PACKET_DUID, Unit};
-use p25_bch_nid::Nid;
+use crate::unit::{Body, Unit};
+use p25_bch_nid::{Nid, PDU};
 use p25_bits::BitBuf;
 use p25_status::{Field, FieldList, Statuses, unweave};
 use p25_unit_front::read_identifier;
@@ -80,7 +80,7 @@ fn read_body(
 {
     let mut plain = BitBuf::new();
     unweave(bits, at, count, &mut plain, statuses);
-    if duid == PACKET_DUID {
+    if duid == PDU {
         let head = begun.read_head(bits, at);
         return read_packet_body(head, &plain);
     }

@@ -12,6 +12,7 @@ ghost use Rattle.p25_voice_units.specs.Readings.{frame_in, voice_in, low_places,
 use crate::places::{END_LINK_WORDS, FRAMES, HEADER_WORDS, LINK_WORDS, LOW_WORDS};
 use crate::unit::VoiceUnit;
 use crate::voice::{Voice, VoiceFrame};
+use p25_bch_nid::{HDU, LDU1, LDU2, TDU, TDULC};
 use p25_bits::{BitBuf, number_of, put_number};
 use p25_code::{BlockCode, Reading, read_received};
 use p25_coded_fields::read_field;
@@ -250,11 +251,11 @@ pub fn read_voice(duid: u8, plain: &BitBuf) -> Result<VoiceUnit, FieldList>
     ensures { result ≡ voice_reading_of duid plain.now }
 {
     match duid {
-        0 => read_header(plain),
-        3 => Ok(VoiceUnit::End),
-        5 => read_link1(plain),
-        10 => read_link2(plain),
-        15 => read_end_link(plain),
+        HDU => read_header(plain),
+        TDU => Ok(VoiceUnit::End),
+        LDU1 => read_link1(plain),
+        LDU2 => read_link2(plain),
+        TDULC => read_end_link(plain),
         _ => Err(FieldList::new()),
     }
 }
