@@ -15,10 +15,12 @@ use crate::block::{Block, Slot};
 use crate::head::PacketHead;
 use crate::octets::append;
 use crate::packet::{Confirmed, Packet, Plain};
+use crate::read::{BLOCK_LENGTH, HEADER_AT};
 use arrayvec::ArrayVec;
 use p25_bch_nid::{Nid, PDU};
 use p25_bits::BitBuf;
 use p25_crc::{crc9, crc16, crc32};
+use p25_status::{PLAIN_BLOCK_LENGTH, SENT_BLOCK_LENGTH};
 use p25_trellis::{Half, ThreeQuarter, encode_block};
 use p25_unit_front::put_front;
 
@@ -29,7 +31,7 @@ pub fn packet_length(head: &PacketHead) -> usize
     ensures least { 360 ≤ result }
     ensures most { result ≤ 25920 }
 {
-    72 * parts(head)
+    SENT_BLOCK_LENGTH * parts(head)
 }
 
 // How many times 70 bits the unit of a packet fills.
@@ -39,7 +41,8 @@ fn parts(head: &PacketHead) -> usize
     ensures least { 5 ≤ result }
     ensures most { result ≤ 360 }
 {
-    (112 + 196 * (1 + usize::from(head.blocks())) + 69) / 70
+    (HEADER_AT + BLOCK_LENGTH * (1 + usize::from(head.blocks())) + PLAIN_BLOCK_LENGTH - 1)
+        / PLAIN_BLOCK_LENGTH
 }
 
 // Does nothing: its contract says that octets fit.
@@ -167,5 +170,5 @@ pub fn packet_image(nac: u16, packet: &Packet, out: &mut BitBuf)
     put_packet_front(nac, out);
     put_header(&head, out);
     put_body(packet, out);
-    put_nulls(70 * parts(&head) - out.len(), out);
+    put_nulls(PLAIN_BLOCK_LENGTH * parts(&head) - out.len(), out);
 }

@@ -9,7 +9,7 @@ use crate::packet::Packet;
 use crate::read::{head_in, read_packet_of_head};
 use p25_bch_nid::PDU;
 use p25_bits::BitBuf;
-use p25_status::{Field, Statuses, is_sync, unweave};
+use p25_status::{Field, PLAIN_BLOCK_LENGTH, SENT_BLOCK_LENGTH, Statuses, is_sync, unweave};
 use p25_trellis::{Half, read_block};
 use p25_unit_front::read_identifier;
 
@@ -23,9 +23,9 @@ fn take_header(bits: &BitBuf, at: usize, header: &mut BitBuf)
     let _ = bits.len();
     header.clear();
     header.append(bits, at + 114, 28);
-    header.append(bits, at + 144, 70);
-    header.append(bits, at + 216, 70);
-    header.append(bits, at + 288, 28);
+    header.append(bits, at + 2 * SENT_BLOCK_LENGTH, PLAIN_BLOCK_LENGTH);
+    header.append(bits, at + 3 * SENT_BLOCK_LENGTH, PLAIN_BLOCK_LENGTH);
+    header.append(bits, at + 4 * SENT_BLOCK_LENGTH, 28);
 }
 
 /// Answers the header of the packet whose unit as it is sent begins at place `at`. The 316 bits with its front and its header
