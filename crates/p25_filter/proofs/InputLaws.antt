@@ -71,7 +71,7 @@ module _ {K : Type 0} (written : K → Option (List ℕ)) where
   all_stopped-after first second third page kept xs ys a b (Ok done) moved stopped = tt
   all_stopped-after first second third page kept xs ys a b (Err stop) moved stopped = stopped-after first second third page kept xs ys a b stop moved stopped
 
-  -- a move behind a move, of an answer
+  -- a move after a move, of an answer
   pub all_moved-after : (first second third : K) (page kept last xs ys : List ℕ) (a b c : Future) (result : Result (Unit {0}) Stop)
       → Moved written first page a xs second kept b → OnOk result (Moved written second kept b ys third last c)
       → OnOk result (Moved written first page a (xs ++ ys) third last c)

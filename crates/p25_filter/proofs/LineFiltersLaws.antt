@@ -108,7 +108,7 @@ module _ {M : Type 0} (rules : LineRules M) where
   unfolding lines_before
   lines_before-nil machine = refl
 
-  -- the texts behind which memory may be wanting
+  -- the texts after which memory may be wanting
   abbrev pauses_of : List ℕ → M → List (List ℕ) → List (List ℕ)
   pauses_of behind machine lines = cond rules.wants (each_behind behind (lines_before rules machine lines)) []
 
@@ -155,7 +155,7 @@ module _ {M : Type 0} (rules : LineRules M) where
             (subst (λ (ts : List (List ℕ)). Contains (cond rules.wants (each_behind behind ts) []) pause) (sym same) is);
       }
 
-  -- the input ends: behind a line that has begun, or none
+  -- the input ends: after a line that has begun, or none
   working-finish : (machine : M) (line : List ℕ) (lines : ℕ) (behind : List ℕ) → 0 < length line
       → IsClosed (line_future rules (line_filtering machine line lines behind Reading)) (line_future rules (line_filtering machine line lines behind ReadyLast))
   unfolding line_future lines_in

@@ -1,4 +1,4 @@
--- What is said of the work of one future holds of that of another that writes and ends alike, and behind whose same texts memory may
+-- What is said of the work of one future holds of that of another that writes and ends alike, and after whose same texts memory may
 -- be wanting: by cases on the end.
 use Rattle.std.proofs.Common.{◌≡◌, ℕ, Bool, true, false, cond, nat_lt, List, ◌++◌, length, take, Option, sym, subst, ◌∙◌}
 use Rattle.std.specs.Prelude.{Contains}

@@ -74,7 +74,7 @@ closes_with ReadyLast ended = true
 closes_with Closing ended = true
 closes_with Closed ended = false
 
--- what is still written, how the call ends, and behind which texts memory may be wanting
+-- what is still written, how the call ends, and after which texts memory may be wanting
 unfoldable pub line_future : {M : Type 0} → LineRules M → LineFiltering M → Future
 line_future rules work = record {
   writes = λ ended more. work.behind ++ lines_written rules (closes_with work.phase ended) work.machine (lines_left work.phase work.line ended more);

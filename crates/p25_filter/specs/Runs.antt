@@ -42,7 +42,7 @@ pub record IsTooLong (first last : Option (List ℕ)) (future : Future) (octets 
 pub record IsWriteFault (left first last : Option (List ℕ)) (future : Future) (octets : List ℕ) : Type 0 where
   pub front : (rest : List ℕ) → left ≡ Some rest → AppendedFront first (all_written future (octets ++ rest)) last
 
--- memory was wanting: what is written is a text behind which it may be, by the octets taken, which are all or more may come;
+-- memory was wanting: what is written is a text after which it may be, by the octets taken, which are all or more may come;
 -- no octet past the most is looked at
 pub record IsMemory (told first last : Option (List ℕ)) (future : Future) (octets : List ℕ) : Type 0 where
   pub ended : Bool

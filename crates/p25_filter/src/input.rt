@@ -16,7 +16,7 @@ use p25_line::Line;
 // The most octets of an input.
 const INPUT_MOST: usize = 16_777_216;
 
-// Writes the page, behind which there is no further piece.
+// Writes the page, after which there is no further piece.
 fn refused<K: Sink>(refusal: Refusal, page: &mut Line, sink: &mut K) -> Stop
     ensures refused { result ≡ Stop.Refused refusal → Appended (K.written sink.old) page.old (K.written sink.new) }
     ensures fault { result ≡ Stop.Fault

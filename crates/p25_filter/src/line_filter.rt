@@ -28,7 +28,7 @@ pub(crate) enum LinePhase {
     Closed,
 }
 
-/// A command that takes the lines of its input one after the other. Each line ends with an LF, and octets behind the last LF
+/// A command that takes the lines of its input one after the other. Each line ends with an LF, and octets after the last LF
 /// are a last line. The first line that is refused ends the call, with its number, counted from 1.
 #[derive(Drop)]
 pub struct LineFilter<M: LineMachine> {

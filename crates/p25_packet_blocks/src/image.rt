@@ -45,7 +45,7 @@ fn parts(head: &PacketHead) -> usize
         / PLAIN_BLOCK_LENGTH
 }
 
-// Does nothing: its contract says that octets fit.
+// Its contract says that octets fit.
 fn fit(octets: &[u8])
     ensures { AreOctets octets.now }
 {

@@ -58,7 +58,7 @@ fn read_sent_packet(bits: &BitBuf) -> Result<Packet, Field>
 }
 
 /// Answers the network access code and the packet of the unit that begins at place 0, as it is sent, with its status symbols.
-/// There are at least 360 bits, as many as the shortest unit has; bits behind the unit are not looked at. In this order Sync
+/// There are at least 360 bits, as many as the shortest unit has; bits after the unit are not looked at. In this order Sync
 /// comes exactly where more than four bits of the sync are wrong, Nid exactly where no identifier lies within 11 bits, Duid
 /// exactly where the DUID is not C, PacketHeader exactly where the header CRC does not agree, Length exactly where the header
 /// asks for more bits than there are, and Format and PacketCrc as in `read_packet`. TIA-102.BAAA, Packet Data.

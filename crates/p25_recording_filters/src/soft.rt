@@ -119,8 +119,8 @@ fn soften_item(item: &Item, levels: &HeldLevels, raw: &mut BitBuf)
     let _ = soften(item, levels.part(at, count), raw);
 }
 
-// Sets `out` to the octets that an item's bits, softened, fill behind those kept back, and lets the levels go before the group
-// of the place behind it.
+// Sets `out` to the octets that an item's bits, softened, fill after those kept back, and lets the levels go before the group
+// of the place after it.
 fn put_item(
     item: &Item,
     levels: &mut HeldLevels,

@@ -22,7 +22,7 @@ use Rattle.p25_soft.specs.SoftPaths.{soft_block}
 unfoldable pub sent_dibit : ℕ → ℕ
 sent_dibit d = d + d / 35
 
--- the levels of the block at place j behind the header block, whose dibits are those from 154 + 98·j on
+-- the levels of the block at place j after the header block, whose dibits are those from 154 + 98·j on
 unfoldable pub block_levels : List ℤ → ℕ → List ℤ
 block_levels levels j = each_below 98 (λ i. slice_index_or levels (sent_dibit (154 + 98 * j + i)) (pos 0))
 

@@ -64,7 +64,7 @@ fn fails_block(fields: &FieldList, j: u8) -> bool
     false
 }
 
-// The levels of the block at a place behind the header block.
+// The levels of the block at a place after the header block.
 fn levels_of(levels: &[i8], j: usize) -> [i8; BLOCK_LEVELS]
     requires place { j ≤ 126 }
     requires there { sent_dibit (154 + 98 * j + 97) < length levels.now }

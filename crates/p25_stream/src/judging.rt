@@ -200,7 +200,7 @@ fn beginning_after(beginning: Beginning, held: &BitBuf) -> Beginning
     }
 }
 
-// The same at a sync behind which so many bits were waited for.
+// The same at a sync after which so many bits were waited for.
 fn beginning_waiting(held: &BitBuf, count: usize, begun: Begun) -> Beginning
     requires { WasBeginning (Beginning.Waiting count begun) held.now }
     ensures { IsBeginning result held.now }

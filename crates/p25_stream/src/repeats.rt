@@ -20,7 +20,7 @@ pub fn repair_item(item: &Item, raw: &mut BitBuf)
 }
 
 /// Does the same as `repair_item`. `room` takes the frame's bits without status symbols, so that no buffer has to be made; what
-/// it holds before and behind the call means nothing.
+/// it holds before and after the call means nothing.
 pub fn repair_item_in(item: &Item, room: &mut BitBuf, raw: &mut BitBuf)
     requires { IsSoundItem item.now }
     ensures { raw.new ≡ repaired item.now raw.old }

@@ -17,7 +17,7 @@ use Rattle.p25_tool.specs.Outputs.{duplex_closing_lines, duplex_step_line}
 use Rattle.p25_tool.specs.Runs.{command_future}
 use Rattle.p25_tool.proofs.CommandsLaws.{AreAlike}
 
--- the lines of steps, one after the other, and the world behind them
+-- the lines of steps, one after the other, and the world after them
 told : (events : List DuplexEvent) (d : DuplexState) → texts_of told_duplex d events ≡ map duplex_step_line (duplex_steps d events)
 unfolding texts_of duplex_steps
 told [] d = refl

@@ -1,4 +1,4 @@
--- What the commands write of a recording of units that were sent one behind the other, each damaged within radius: each unit as it
+-- What the commands write of a recording of units that were sent one after the other, each damaged within radius: each unit as it
 -- was sent, with the voice frames and the status symbols that came.
 use Rattle.std.specs.Prelude.{◌≡◌, ℕ, ◌<◌, Bool, true, false, List, [], ◌++◌, length, map, All, Some, ◌⊎◌}
 use Rattle.std.specs.List.{flat_map}

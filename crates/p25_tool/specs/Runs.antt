@@ -10,7 +10,7 @@ use Rattle.p25_tool.specs.declared.outcome.Outcome.TheVariants.{TooLong}
 use Rattle.p25_tool.specs.Outcomes.{ending_outcome, filter_outcome}
 use Rattle.p25_tool.specs.Outputs.{ending_by, output_by, pauses_by}
 
--- what a command writes, how it ends, and behind which texts memory may be wanting, for the octets of an input
+-- what a command writes, how it ends, and after which texts memory may be wanting, for the octets of an input
 abbrev pub command_future : Command → Future
 command_future command = record { writes = output_by command; ends = ending_by command; pauses = pauses_by command }
 

@@ -23,7 +23,7 @@ pub record IsScriptOf (input : List ℕ) (events : List Event) : Type 0 where
   pub short : length input ≤ input_most
   pub lines : map event_of (lines_in true [] input) ≡ map (λ event. Ok event) events
 
--- the lines that tell of a run: its steps, and the world behind them
+-- the lines that tell of a run: its steps, and the world after them
 abbrev pub script_text : List Event → List ℕ
 script_text events = flat_map step_line (steps_of first_world events) ++ closing_line (world_run first_world events)
 

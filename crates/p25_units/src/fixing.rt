@@ -32,7 +32,7 @@ pub fn fixes(bits: &BitBuf, at: usize, frame: &Frame) -> u32
     front_fixes(bits, at, &frame.unit.identifier()) + body_fixes(bits, at, &frame.unit)
 }
 
-// The same of the looked-at places behind the front.
+// The same of the looked-at places after the front.
 fn body_fixes(bits: &BitBuf, at: usize, unit: &Unit) -> u32
     requires there { at + frame_length_of unit.now ≤ length bits.now }
     requires whole { IsWholeBody unit.now.body }
@@ -67,7 +67,7 @@ fn voice_unit_fixes(bits: &BitBuf, at: usize, nac: u16, voice: &VoiceUnit) -> u3
     coded_fixes(nac, voice, &plain)
 }
 
-// The same of a voice unit whose bits without status symbols are there. Behind the front of a terminator stand no words.
+// The same of a voice unit whose bits without status symbols are there. After the front of a terminator stand no words.
 pub(crate) fn coded_fixes(nac: u16, voice: &VoiceUnit, plain: &BitBuf) -> u32
     requires nac { nac ≤ 4095 }
     requires long { voice_length_of (voice_duid voice.now) ≡ Some (length plain.now) }

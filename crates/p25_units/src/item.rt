@@ -48,7 +48,7 @@ pub enum Item {
         place: u64,
         length: u32,
     },
-    /// A sync with too few bits behind it.
+    /// A sync with too few bits after it.
     Cut {
         place: u64,
         have: u32,
@@ -129,7 +129,7 @@ pub fn unit_item(bits: &BitBuf, at: usize, count: usize, begun: Begun, place: u6
 
 /// Sets `item` to the item that `unit_item` answers. An item is large: set in place it is not moved, and where a voice unit
 /// follows a voice unit, only that is written. `room` takes the unit's bits without status symbols; what it holds before and
-/// behind the call means nothing.
+/// after the call means nothing.
 pub fn set_unit_item(
     bits: &BitBuf,
     at: usize,

@@ -152,7 +152,7 @@ module _ (size radius state : ℕ) (place : ℕ → ℕ) (bits : List Bool) wher
         ap₂ (λ (a b : ℕ). a + b) is.1 counted ∙ sym (sum_by_push (λ (x : ℕ). x) counts last) ∙ sym (ap sum (word_counts-more i size radius 0 state)),
       )
 
--- Words behind words.
+-- Words after words.
 
 pub damaged-both : (words more : List (ℕ × ℕ)) (counts others : List ℕ) (bits middle last : List Bool) → length counts ≡ length words
     → middle ≡ damaged words counts bits → last ≡ damaged more others middle → last ≡ damaged (words ++ more) (counts ++ others) bits

@@ -25,7 +25,7 @@ const PARITY_INVERTED: &[u8] =
 const ELEVEN_WRONG: &[u8] =
     b"\x55\x75\xF5\xFF\x77\xFF\xFF\xE3\x35\x93\x0B\xDD\x3B\x2B\x00\x00\x00\x01";
 
-// A sync, and behind it 64 bits that differ from each BCH word in 21 places at least.
+// A sync, and after it 64 bits that differ from each BCH word in 21 places at least.
 const NID_BEYOND: &[u8] =
     b"\x55\x75\xF5\xFF\x77\xFF\x00\x03\x69\x0B\x51\x49\xD2\xC1\x80\x00\x00\x01";
 

@@ -180,7 +180,7 @@ pub(super) const NEEDS: [(&[u64], usize, &[(usize, Need)]); 14] = [
     (&TERMINATOR, 140, &TERMINATOR_NEEDS),
     (&NO_SYNC, 140, &[(144, Need::NoSync)]),
     (&FAR, 140, &[(144, Need::NoLength(Field::Nid))]),
-    // with one bit less, with all, and with more behind
+    // with one bit less, with all, and with more after
     (
         &TERMINATOR,
         210,

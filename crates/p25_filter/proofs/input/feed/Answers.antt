@@ -6,7 +6,7 @@ use Rattle.p25_filter.proofs.FuturesLaws.{Moved-push, Moved-trans, Moved-flush, 
 use Rattle.p25_filter.proofs.InputLaws.{stopped-after, stopped-fault}
 use Rattle.p25_filter.proofs.input.feed.Goals as goal
 
--- the first octets, and some of those behind them
+-- the first octets, and some of those after them
 more_taken : (octets : List ℕ) (done count : ℕ) → (take done octets ++ take count (take (length octets - done) (drop done octets))) ++ [] ≡ take (done + count) octets
 more_taken octets done count =
     let all : length (drop done octets) ≤ length octets - done = omega (arith, length-drop done octets) in
