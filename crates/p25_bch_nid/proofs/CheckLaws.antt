@@ -26,7 +26,7 @@ times_x-is number r is =
       | inr high ↦ subst is_at (sym high) (remainder_reduced generator 47 number r 0 generator_degree digit is (ltb-false (2 * r + 0) (2 ^ 47) high))
     ]
 
--- the same times a power of x
+-- a remainder times a power of x
 times_power : ℕ → ℕ → ℕ
 times_power zero r = r
 times_power (suc k) r = times_x (times_power k r)

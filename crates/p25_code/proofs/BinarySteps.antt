@@ -191,7 +191,7 @@ uncorrected columns sum radius old new long e is = record {
   none_within = record { farther = λ word w. is.farther word (w.long ∙ sym long) (change_from columns old word long w.long w.passes ∙ sym e) };
 }
 
--- the same of lists that are known to begin so
+-- a correction of lists that are known to begin so
 pub of_parts : (columns columns' : List ℕ) (sum budget : ℕ) (old old' new : List Bool) (answer answer' : Option ℕ) → columns ≡ columns' → old ≡ old' → answer ≡ answer' → IsCorrection columns' sum budget old' new answer'
     → IsCorrection columns sum budget old new answer
 of_parts columns columns' sum budget old old' new answer answer' e f g is =

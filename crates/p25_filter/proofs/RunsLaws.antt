@@ -206,7 +206,7 @@ nothing-stopped written first third future fed more (Refused (Ended ending)) few
           absurd (omega (arith, ap length none, long))
     ]
 
--- the same at the end of the input
+-- at the end of the input, where nothing more is written
 pub nothing-ended : {K : Type 0} (written : K → Option (List ℕ)) (first third : K) (now : Future) (stop : Stop) → EndsBy written first now stop third → now.writes true [] ≡ [] → third ≡ first
 unfolding EndsBy
 nothing-ended written first third now Fault cut none = absurd (omega (arith, ap length none, cut.1))

@@ -90,7 +90,7 @@ pub record IsPaused {K : Type 0} (written : K → Option (List ℕ)) (first : K)
   pub begins : (ended : Bool) (more : List ℕ) → (rest : List ℕ) × (gathered ++ before.writes ended (octets ++ more) ≡ text ++ rest)
   pub touched : (last ≡ first) ⊎ (0 < length text)
 
--- the same where the input ended
+-- memory was wanting after the input ended: what was written is a text after which it may be
 pub record IsPausedAtEnd {K : Type 0} (written : K → Option (List ℕ)) (first : K) (before : Future) (last : K) : Type 0 where
   pub text : List ℕ
   pub appended : Appended (written first) text (written last)

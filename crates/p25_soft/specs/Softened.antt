@@ -62,7 +62,7 @@ unfoldable pub told_blocks : Result PacketHead Field → ℕ
 told_blocks (Ok head) = head_blocks head
 told_blocks (Err field) = 0
 
--- that of the packet whose sent bits these are
+-- how many blocks follow in the packet whose sent bits these are
 unfoldable pub blocks_to_follow : List Bool → ℕ
 blocks_to_follow sent = told_blocks (sent_head_of sent)
 

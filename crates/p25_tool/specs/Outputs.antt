@@ -48,7 +48,7 @@ step_line step = step_text_of step ++ 10 ∷ []
 abbrev pub closing_line : WorldState → List ℕ
 closing_line world = closing_text_of world ++ 10 ∷ []
 
--- the same of a step of both stations, and of what closes their run: a line of each side, and one with the number of false passes
+-- the line of a step of both stations, and the lines that close their run: one of each side, and one with the number of false passes
 abbrev pub duplex_step_line : DuplexStep → List ℕ
 duplex_step_line step = duplex_step_text_of step ++ 10 ∷ []
 

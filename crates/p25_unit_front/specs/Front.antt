@@ -13,7 +13,7 @@ use Rattle.p25_bch_nid.specs.NidWord.{nid_word}
 unfoldable pub unit_front : ℕ → ℕ → List Bool
 unit_front nac duid = sync_bits ++ nid_word nac duid
 
--- the same by places: bits 0 to 47 are the sync, bits 48 to 110 the word of the BCH code that begins with NAC and DUID, and
+-- the front of a unit by places: bits 0 to 47 are the sync, bits 48 to 110 the word of the BCH code that begins with NAC and DUID, and
 -- bit 111 is P
 pub record IsFront (nac duid : ℕ) (bits : List Bool) : Type 0 where
   pub long : length bits ≡ 112

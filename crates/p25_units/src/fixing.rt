@@ -32,7 +32,7 @@ pub fn fixes(bits: &BitBuf, at: usize, frame: &Frame) -> u32
     front_fixes(bits, at, &frame.unit.identifier()) + body_fixes(bits, at, &frame.unit)
 }
 
-// The same of the looked-at places after the front.
+// Counts the wrong bits at the places after the front that a reader looks at.
 fn body_fixes(bits: &BitBuf, at: usize, unit: &Unit) -> u32
     requires there { at + frame_length_of unit.now ≤ length bits.now }
     requires whole { IsWholeBody unit.now.body }
@@ -47,7 +47,7 @@ fn body_fixes(bits: &BitBuf, at: usize, unit: &Unit) -> u32
     }
 }
 
-// The same of a voice unit.
+// Counts the wrong bits of a voice unit after its front.
 fn voice_unit_fixes(bits: &BitBuf, at: usize, nac: u16, voice: &VoiceUnit) -> u32
     requires there { at + sent_length (body_length (voice_in voice.now)) ≤ length bits.now }
     requires nac { nac ≤ 4095 }
@@ -67,7 +67,7 @@ fn voice_unit_fixes(bits: &BitBuf, at: usize, nac: u16, voice: &VoiceUnit) -> u3
     coded_fixes(nac, voice, &plain)
 }
 
-// The same of a voice unit whose bits without status symbols are there. After the front of a terminator stand no words.
+// Counts them by the unit's bits without status symbols. After the front of a terminator stand no words.
 pub(crate) fn coded_fixes(nac: u16, voice: &VoiceUnit, plain: &BitBuf) -> u32
     requires nac { nac ≤ 4095 }
     requires long { voice_length_of (voice_duid voice.now) ≡ Some (length plain.now) }
@@ -81,7 +81,7 @@ pub(crate) fn coded_fixes(nac: u16, voice: &VoiceUnit, plain: &BitBuf) -> u32
     }
 }
 
-// The same, by the bits that are sent for it. They take room, so they are made apart from the caller.
+// Counts them by the bits that are sent for the unit. They take room, so they are made apart from the caller.
 #[inline(never)]
 fn word_fixes(nac: u16, voice: &VoiceUnit, plain: &BitBuf) -> u32
     requires nac { nac ≤ 4095 }
@@ -95,7 +95,7 @@ fn word_fixes(nac: u16, voice: &VoiceUnit, plain: &BitBuf) -> u32
     voice_fixes(voice, plain, &image)
 }
 
-// The same of a packet.
+// Counts the wrong bits of a packet after its front.
 fn packet_fixes(bits: &BitBuf, at: usize, nac: u16, packet: &Packet) -> u32
     requires there { at + packet_sent_length (head_blocks (packet_head packet.now)) ≤ length bits.now }
     requires nac { nac ≤ 4095 }

@@ -36,7 +36,7 @@ pub fn read_unit(bits: &BitBuf, at: usize, count: usize) -> Result<Frame, FieldL
     }
 }
 
-// The same, where the identifier was read and `begun` holds what else was. A frame is large: made apart from its caller, it
+// Reads a unit whose identifier was read; `begun` holds what else was. A frame is large: made apart from its caller, it
 // is copied at once.
 #[inline(never)]
 pub(crate) fn read_identified(

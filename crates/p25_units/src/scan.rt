@@ -31,7 +31,8 @@ pub fn need(bits: &BitBuf, at: usize) -> Need
     need_begun(bits, at, &mut Begun::new())
 }
 
-/// The same, where `begun` holds what was read at this place before. Replaces it by what has been read now.
+/// Answers what the bits from place `at` on need, where `begun` holds what was read at this place before. Replaces it by what has
+/// been read now.
 pub fn need_begun(bits: &BitBuf, at: usize, begun: &mut Begun) -> Need
     requires there { at ≤ length bits.now }
     requires begun { IsBegun begun.old (drop at bits.now) }

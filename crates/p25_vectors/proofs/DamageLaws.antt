@@ -135,7 +135,7 @@ AreApart-cons from at size words first rest = record { behind = behind; apart = 
     apart zero (suc k) less h = rest.behind k (omega arith)
     apart (suc i) (suc k) less h = rest.apart i k (omega arith) (omega arith)
 
--- the same of words after another place, and of the words after the first
+-- words that lie apart after a place: so do those after the first
 AreApart-tail : (from : ℕ) (word : ℕ × ℕ) (words : List (ℕ × ℕ)) → AreApart from (word ∷ words) → AreApart (word.0 + word.1) words
 AreApart-tail from word words is = record {
   behind = λ k h. is.apart 0 (suc k) (omega arith) (omega arith);

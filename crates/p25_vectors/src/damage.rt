@@ -106,7 +106,7 @@ fn damage_words(
     flips
 }
 
-// The same of the inner words of a coded field, where a draw says how many are inverted whole, at most so many.
+// Damages the inner words of a coded field, where a draw says how many are inverted whole, at most so many.
 fn damage_field(
     places: &[usize],
     words: Words,
@@ -130,7 +130,7 @@ fn damage_field(
     damage_words(places, words, whole, draws, bits)
 }
 
-// The same of the inner words and the low speed words of a unit with voice.
+// Damages the inner words and the low speed words of an LDU.
 fn damage_link(most: usize, draws: &mut Draws, bits: &mut BitBuf) -> u32
     requires most { most ≤ 24 }
     requires long { length bits.old ≡ 1680 }
@@ -145,7 +145,7 @@ fn damage_link(most: usize, draws: &mut Draws, bits: &mut BitBuf) -> u32
     field + damage_words(&LOW_WORDS, LOW_SPEED, 0, draws, bits)
 }
 
-// The same of the words of a voice unit after its front.
+// Damages the words of a voice unit after its front.
 fn damage_voice(voice: &VoiceUnit, draws: &mut Draws, bits: &mut BitBuf) -> u32
     requires { length bits.old ≡ body_length (voice_in voice.now) }
     ensures list { bits.new ≡ damaged (voice_looked voice.now) (body_counts (voice_in voice.now) draws.old) bits.old }
@@ -182,7 +182,7 @@ fn damage_blocks(count: usize, radius: usize, draws: &mut Draws, bits: &mut BitB
     flips
 }
 
-// The same of all blocks of a packet.
+// Damages all blocks of a packet.
 fn damage_packet(packet: &Packet, draws: &mut Draws, bits: &mut BitBuf) -> u32
     requires { length bits.old ≡ body_length (packet_in packet.now) }
     ensures list { bits.new ≡ damaged (packet_looked (head_blocks (packet_head packet.now)))
@@ -222,7 +222,7 @@ pub(crate) fn damage(body: &Body, draws: &mut Draws, bits: &mut BitBuf) -> u32
     sync + identifier + damage_body(body, draws, bits)
 }
 
-// The same after the front.
+// Damages what stands after the front.
 fn damage_body(body: &Body, draws: &mut Draws, bits: &mut BitBuf) -> u32
     requires { length bits.old ≡ body_length body.now }
     ensures list { bits.new ≡ damaged (body_looked body.now) (body_counts body.now draws.old) bits.old }

@@ -41,7 +41,7 @@ pub record IsLinkWithinByWords (most : ℕ) (layout : Layout) (sent received : L
   pub field : lost_symbols 1 layout sent received ≤ most
   pub low : AreLowWithin sent received
 
--- the same of each kind, where more is asked: the symbols that are lost are at most the radius of the outer code
+-- bits within radius of a unit's own, where more is asked than has to be: the symbols that are lost are at most the radius of the outer code
 unfoldable pub IsVoiceWithinByWords : VoiceUnit → List Bool → List Bool → Type 0
 IsVoiceWithinByWords (Header word) sent received = lost_symbols 3 header_layout sent received ≤ 8
 IsVoiceWithinByWords (Link1 link low voice) sent received = IsLinkWithinByWords 6 link_layout sent received

@@ -26,7 +26,7 @@ pub fn voice_fixes(unit: &VoiceUnit, received: &BitBuf, image: &BitBuf) -> u32
     }
 }
 
-// The same for a unit with voice.
+// Counts the wrong bits of the words of an LDU.
 fn link_fixes(received: &BitBuf, image: &BitBuf) -> u32
     requires received { 1680 ≤ length received.now }
     requires image { 1680 ≤ length image.now }

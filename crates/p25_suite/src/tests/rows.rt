@@ -18,7 +18,7 @@ type Row = (
 const TERMINATOR: &[u8] =
     b"\x55\x75\xF5\xFF\x77\xFF\x00\x03\x35\x93\x0B\xDD\x3B\x2B\x00\x00\x00\x01";
 
-// The same with the bit P of its identifier inverted, and with its first 11 identifier bits inverted.
+// A terminator with the bit P of its identifier inverted, and one with its first 11 identifier bits inverted.
 const PARITY_INVERTED: &[u8] =
     b"\x55\x75\xF5\xFF\x77\xFF\x00\x03\x35\x93\x0B\xDD\x3B\x2B\x40\x00\x00\x01";
 

@@ -113,7 +113,7 @@ const RESPONSE_NEEDS: [(usize, Need); 5] = [
     (360, Need::Length(360)),
 ];
 
-// The same for the confirmed packet of one block.
+// What the first bits of the confirmed packet of one block need.
 const CONFIRMED_NEEDS: [(usize, Need); 5] = [
     (47, Need::More(48)),
     (315, Need::More(316)),
