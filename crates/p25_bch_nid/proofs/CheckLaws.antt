@@ -8,7 +8,7 @@ use Rattle.std.proofs.lemmas.Nat.{xor_comm, xor_lt}
 use Rattle.p25_bits.specs.Divisible.{IsDivisible, IsRemainder}
 use Rattle.p25_bits.proofs.DivisibleLaws.{IsDivisible-sum, IsRemainder-lower, remainder_kept, remainder_reduced, remainder_from_divisible, xor_apart}
 use Rattle.p25_gf64.specs.ProductLaws.{all_below, all_below_at}
-use Rattle.p25_bch_nid.specs.Bch63Forms.{generator_degree}
+use Rattle.p25_bch_nid.specs.Bch63FormLaws.{generator_degree}
 use Rattle.p25_bch_nid.specs.Nid.{generator}
 use Rattle.p25_bch_nid.specs.declared.checks.TheConstants.{REMAINDERS}
 

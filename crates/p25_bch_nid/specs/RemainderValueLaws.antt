@@ -14,7 +14,7 @@ use Rattle.p25_code.proofs.RemainderLaws.{power_remainder, remainders, IsRemaind
 use Rattle.p25_gf64.specs.Field.{Field, power}
 use Rattle.p25_gf64.proofs.FieldLaws.{add_zero, zero_add, mul_comm, mul_one, one_mul, mul_zero, zero_mul}
 use Rattle.p25_gf64.proofs.PowerLaws.{power-zero, power-one, power-suc}
-use Rattle.p25_bch_nid.specs.BitValues.{bit_coefficient, bit_value, bit_value-append, bit_value-sum, bit_value-nil, bit_value-cons}
+use Rattle.p25_bch_nid.specs.BitValueLaws.{bit_coefficient, bit_value, bit_value-append, bit_value-sum, bit_value-nil, bit_value-cons}
 
 module _ {F : Type 0} (K : Field F) (x : F) where
   open K use {zero as 𝟘, one as 𝟙, add as ◌⊕◌, mul as ◌⊗◌}

@@ -21,8 +21,8 @@ use Rattle.p25_algebra.specs.Sums.{AreApart}
 use Rattle.p25_algebra.specs.Series.{coefficient}
 use Rattle.p25_algebra.proofs.SumLaws.{sum_same}
 use Rattle.p25_bch_nid.specs.Nid.{generator}
-use Rattle.p25_bch_nid.specs.BitValues.{bit_coefficient, bit_value, bit_value-nil, bit_value-cons, bit_value-square, bit_value-places, no_coefficient}
-use Rattle.p25_bch_nid.specs.RemainderValues.{number_value, number_value-zero, word_value}
+use Rattle.p25_bch_nid.specs.BitValueLaws.{bit_coefficient, bit_value, bit_value-nil, bit_value-cons, bit_value-square, bit_value-places, no_coefficient}
+use Rattle.p25_bch_nid.specs.RemainderValueLaws.{number_value, number_value-zero, word_value}
 use Rattle.p25_reed_solomon.specs.Words.{value_of}
 use Rattle.p25_bch_nid.specs.Bch63.{IsBch63, symbols_of}
 

@@ -9,7 +9,7 @@ use Rattle.p25_gf64.specs.declared.symbol.Sym.{Sym}
 use Rattle.p25_gf64.specs.Symbol.{number}
 use Rattle.p25_gf64.specs.Gf64.{gf64}
 use Rattle.p25_gf64.proofs.SymbolLaws.{number_zero, number_one, same_from_eq}
-use Rattle.p25_bch_nid.specs.BitValues.{bit_coefficient}
+use Rattle.p25_bch_nid.specs.BitValueLaws.{bit_coefficient}
 use Rattle.p25_reed_solomon.specs.Words.{IsCode, IsWord, same_symbols}
 use Rattle.p25_reed_solomon.specs.DistanceLaws.{same_symbols-same}
 use Rattle.p25_bch_nid.specs.Bch63.{IsBch63, symbols_of}
