@@ -13,7 +13,7 @@ ghost use Rattle.p25_voice_units.specs.Readings.{voice_reading_of};
 
 use crate::begun::Begun;
 use crate::frame::Frame;
-use crate::packets::{one_field, read_packet_body};
+use crate::packets::read_packet_body;
 use crate::unit::{Body, Unit};
 use p25_bch_nid::{Nid, PDU};
 use p25_bits::BitBuf;
@@ -31,7 +31,7 @@ pub fn read_unit(bits: &BitBuf, at: usize, count: usize) -> Result<Frame, FieldL
     ensures some { IfErr result (λ fields. 0 < length fields) }
 {
     match read_identifier(bits, at) {
-        None => Err(one_field(Field::Nid)),
+        None => Err(FieldList::one(Field::Nid)),
         Some(nid) => read_identified(bits, at, count, &nid, &mut Begun::new()),
     }
 }

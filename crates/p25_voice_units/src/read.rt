@@ -155,15 +155,6 @@ fn failing_of<T>(
     fields
 }
 
-// A list of one field.
-fn one_field(field: Field) -> FieldList
-    ensures { result ≡ field ∷ [] }
-{
-    let mut fields = FieldList::new();
-    fields.push(field);
-    fields
-}
-
 // A header.
 fn read_header(plain: &BitBuf) -> Result<VoiceUnit, FieldList>
     requires { 770 ≤ length plain.now }
@@ -171,7 +162,7 @@ fn read_header(plain: &BitBuf) -> Result<VoiceUnit, FieldList>
 {
     match read_header_word(plain) {
         Some(word) => Ok(VoiceUnit::Header(word)),
-        None => Err(one_field(Field::HeaderWord)),
+        None => Err(FieldList::one(Field::HeaderWord)),
     }
 }
 
@@ -234,7 +225,7 @@ fn read_tdulc(plain: &BitBuf) -> Result<VoiceUnit, FieldList>
 {
     match read_end_control(plain) {
         Some(link) => Ok(VoiceUnit::EndLink { link }),
-        None => Err(one_field(Field::LinkControl)),
+        None => Err(FieldList::one(Field::LinkControl)),
     }
 }
 

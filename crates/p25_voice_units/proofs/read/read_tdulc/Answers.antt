@@ -8,4 +8,4 @@ returns-in-Some c = ap tdulc_from (sym c.in-Some.is ∙ c.read_end_control.ensur
 
 pub returns-in-None : goal.returns-in-None
 unfolding tdulc_from
-returns-in-None c = ap Err c.one_field.ensures ∙ ap tdulc_from (sym c.in-None.is ∙ c.read_end_control.ensures)
+returns-in-None c = ap Err c.one.ensures ∙ ap tdulc_from (sym c.in-None.is ∙ c.read_end_control.ensures)
