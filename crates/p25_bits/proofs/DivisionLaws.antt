@@ -13,7 +13,7 @@ added_twice : (a b c : ℕ) → bit_xor (bit_xor a b) (bit_xor b c) ≡ bit_xor 
 added_twice a b c = xor_assoc a b (bit_xor b c) ∙ ap (bit_xor a) (sym (xor_assoc b b c) ∙ ap (λ n. bit_xor n c) (xor_self b) ∙ xor_zero_l c)
 
 -- the sum of two numbers times a power of two
-xor_times_power : (a b k : ℕ) → bit_xor (a * 2 ^ k) (b * 2 ^ k) ≡ bit_xor a b * 2 ^ k
+pub xor_times_power : (a b k : ℕ) → bit_xor (a * 2 ^ k) (b * 2 ^ k) ≡ bit_xor a b * 2 ^ k
 xor_times_power a b k =
     let left : a * 2 ^ k ≡ a * 2 ^ k + 0 = omega arith in
     let right : b * 2 ^ k ≡ b * 2 ^ k + 0 = omega arith in
