@@ -26,6 +26,8 @@
 mod count_sink;
 mod failed;
 mod memory_source;
+mod pair;
+mod port;
 mod read_source;
 mod sink;
 mod slice_sink;
@@ -36,6 +38,8 @@ mod write_sink;
 pub use count_sink::CountSink;
 pub use failed::Failed;
 pub use memory_source::MemorySource;
+pub use pair::Pair;
+pub use port::Port;
 pub use read_source::ReadSource;
 pub use sink::Sink;
 pub use slice_sink::SliceSink;
