@@ -6,5 +6,7 @@ pub mod Octets
 pub mod Pairs
 pub mod SliceSink
 pub mod SteadySource
+pub mod Tapes
 -- laws of impls: nothing to believe
 pub mod PairLaws
+pub mod TapeLaws

@@ -20,7 +20,9 @@
 //!   say what a terminal, a pipe or a file holds; [`CountSink`] keeps a number alone.
 //! - Each fault raises a count, which never falls and stands still at 2^64 - 1. A call fails only where its count
 //!   rose, so that no answer `Failed` comes without a fault.
-//! - No call takes memory.
+//! - A [`Port`] is both, and tells the order of its calls. [`Pair`] is the port of a source and a sink, and [`Tape`] one in
+//!   memory that keeps every call.
+//! - No call takes memory, but for those of [`Tape`].
 #![tactic(auto)]
 
 mod count_sink;
@@ -33,6 +35,7 @@ mod sink;
 mod slice_sink;
 mod source;
 mod steady_source;
+mod tape;
 mod write_sink;
 
 pub use count_sink::CountSink;
@@ -45,6 +48,7 @@ pub use sink::Sink;
 pub use slice_sink::SliceSink;
 pub use source::Source;
 pub use steady_source::SteadySource;
+pub use tape::{Call, Tape};
 pub use write_sink::WriteSink;
 
 #[cfg(test)]
