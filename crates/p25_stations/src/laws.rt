@@ -13,7 +13,6 @@ ghost use Rattle.p25_stations.specs.declared.step.Event.TheVariants.{Send, Reope
 ghost use Rattle.p25_delivery.specs.declared.step_kind.StepKind.TheVariants.{Taken, Reopened, Delivered, SynHeard, Acknowledged, LinkOpened};
 ghost use Rattle.p25_stations.specs.WorldState.{WorldState, first_world};
 ghost use Rattle.p25_delivery.specs.SoundHalves.{IsMessage};
-ghost use Rattle.p25_stations.specs.Sound.{IsSound};
 ghost use Rattle.p25_stations.specs.Steps.{world_step};
 ghost use Rattle.p25_stations.specs.Runs.{IsEvent, AreEvents, world_run, steps_of, IsCleanRun};
 ghost use Rattle.p25_stations.specs.RunLaws.{IsWithin, AreWithin, IsTwiceDamaged, true_step, tries_in};
@@ -22,7 +21,7 @@ ghost use Rattle.p25_packet_blocks.specs.Sendable.{IsSendable};
 ghost use Rattle.p25_delivery.specs.Clean.{IsTrueTo};
 ghost use Rattle.p25_stations.specs.declared.air.Carried.TheVariants.{Heard as heard_packet};
 ghost use Rattle.p25_stations.specs.Air.{is_true_to, carried_of, ArrivesWithin, places_within};
-ghost use Rattle.p25_stations.specs.StepLists.{delivered_in, sent_in};
+ghost use Rattle.p25_stations.specs.StepLists.{delivered_in, sent_in, acknowledged_in};
 
 use p25_packet_blocks::laws::packet_radius;
 
@@ -100,8 +99,10 @@ pub fn air_is_true()
 }
 
 /// **Theorem.** Its clauses say that the steps of every run tell its lists. The messages of the Delivered steps, in order,
-/// are those delivered, and the messages of the events whose step is Taken are those sent.
+/// are those delivered, the messages of the events whose step is Taken are those sent, and the number of the Acknowledged
+/// steps is that of the messages acknowledged.
 pub fn steps_tell_lists()
     ensures delivered { (events : List event_type) → (world_run first_world events).link.inbound.received ≡ delivered_in (steps_of first_world events) }
     ensures sent { (events : List event_type) → (world_run first_world events).link.outbound.sent ≡ sent_in events (steps_of first_world events) }
+    ensures acknowledged { (events : List event_type) → (world_run first_world events).link.outbound.acknowledged ≡ acknowledged_in (steps_of first_world events) }
 {}

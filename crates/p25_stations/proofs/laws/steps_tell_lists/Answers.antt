@@ -1,5 +1,5 @@
 use Rattle.p25_stations.specs.WorldState.{first_world}
-use Rattle.p25_stations.proofs.StepListsLaws.{run-delivered, run-sent}
+use Rattle.p25_stations.proofs.StepListsLaws.{run-delivered, run-sent, run-acknowledged}
 use Rattle.p25_stations.proofs.laws.steps_tell_lists.Goals as goal
 
 pub returns-clause-delivered : goal.returns-clause-delivered
@@ -7,3 +7,6 @@ returns-clause-delivered c events = run-delivered events first_world
 
 pub returns-clause-sent : goal.returns-clause-sent
 returns-clause-sent c events = run-sent events first_world
+
+pub returns-clause-acknowledged : goal.returns-clause-acknowledged
+returns-clause-acknowledged c events = run-acknowledged events first_world
