@@ -9,9 +9,7 @@ pub mod HeadLaws
 pub mod SentLaws
 pub mod ReceiverLaws
 pub mod SenderLaws
-pub mod PhaseLaws
-pub mod CallLaws
-pub mod LinkLaws
-pub mod FactsLaws
-pub mod CountLaws
-pub mod AtOnceLaws
+pub mod SendableLaws
+pub mod SendingLaws
+pub mod ReceivingLaws
+pub mod HalfLaws
