@@ -153,7 +153,6 @@ fn quiet(kind: StepKind) -> Step
 }
 
 // Makes a packet the newest transmission of its direction, where there is one.
-#[tactic(auto, unfolding(Rattle.p25_delivery.specs.Link.newest_after))]
 fn keep(newest: &mut Option<Packet>, packet: Option<Packet>)
     ensures { newest.new ≡ newest_after packet newest.old }
 {
