@@ -2,6 +2,7 @@ pub mod AirLoopLaws
 pub mod AirLaws
 pub mod FewFlipsLaws
 pub mod StepLaws
+pub mod NewestLaws
 pub mod SoundLaws
 pub mod CleanLaws
 pub mod TriesLaws

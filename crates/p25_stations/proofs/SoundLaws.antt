@@ -1,18 +1,19 @@
 -- Every step keeps what the halves of a world keep, and its newest transmissions can be sent. By what happens at the link.
-use Rattle.std.proofs.Common.{ℕ, Bool, List, [], ◌∷◌, length, Option, Some, None}
+use Rattle.std.proofs.Common.{ℕ, Bool, List, [], ◌∷◌, length, Option}
 use Rattle.std.specs.Prelude.{IfSome}
 use Rattle.p25_packet_blocks.specs.declared.packet.Packet.{Packet}
 use Rattle.p25_packet_blocks.specs.Sendable.{IsSendable}
 use Rattle.p25_delivery.specs.declared.step_kind.StepKind.{StepKind}
 use Rattle.p25_delivery.specs.Halves.{Outgoing, Incoming}
 use Rattle.p25_delivery.specs.SoundHalves.{IsMessage, IsOutgoing, IsIncoming}
-use Rattle.p25_delivery.specs.Link.{Link, Happening, Offering, Time_up, Opening_again, Data_heard, Answer_heard, newest_after, with_outbound, with_inbound, happens}
+use Rattle.p25_delivery.specs.Link.{Link, Happening, Offering, Time_up, Opening_again, Data_heard, Answer_heard, with_outbound, with_inbound, happens}
 use Rattle.p25_delivery.proofs.HalfLaws.{KeepsOutgoing, KeepsIncoming, offer-keeps, timeout-keeps, reopen-keeps, data-keeps, answer-keeps, first-outgoing, first-incoming}
 use Rattle.p25_stations.specs.declared.step.Event.{Event}
 use Rattle.p25_stations.specs.declared.step.Step.{Step}
 use Rattle.p25_stations.specs.WorldState.{WorldState, first_world}
 use Rattle.p25_stations.specs.Steps.{world_step}
 use Rattle.p25_stations.specs.Runs.{IsEvent, AreEvents, world_run}
+use Rattle.p25_stations.proofs.NewestLaws.{newest-sendable}
 use Rattle.p25_stations.proofs.StepLaws.{HasHappen, offers, is_late, opens, brings_data, brings_answer, Does, rests, does, step-does}
 
 -- a link with sound halves, whose newest transmissions can be sent
@@ -21,11 +22,6 @@ pub record IsSoundLink (w : Link) : Type 0 where
   pub inbound : IsIncoming w.inbound
   pub packet_sent : IfSome w.packet_sent IsSendable
   pub answer : IfSome w.answer IsSendable
-
-newest-sendable : (packet newest : Option Packet) → IfSome packet IsSendable → IfSome newest IsSendable → IfSome (newest_after packet newest) IsSendable
-unfolding newest_after
-newest-sendable (Some packet) newest a b = a
-newest-sendable None newest a b = b
 
 outbound-sound : (w : Link) (x : Outgoing × (StepKind × Option Packet)) → KeepsOutgoing x → IsSoundLink w → IsSoundLink (with_outbound w x).0
 unfolding with_outbound
