@@ -77,15 +77,19 @@ within-step reads w way newest packet flips e sendable within =
     let arrives = subst (λ (n : Option Packet). IfSome n (λ sent. ArrivesWithin sent flips)) e within in
     ap (λ (n : Option Packet). delivered w way n flips) e ∙ ap (carried w way) (air-within reads packet flips can arrives)
 
-data-step : ReadsWithin → (w : WorldState) (packet : Packet) (flips : List ℕ) → IsSoundLink w.link → w.link.packet_sent ≡ Some packet → IsWithin w (ToReceiver flips) →
-    world_step w (ToReceiver flips) ≡ quiet_step w (with_inbound w.link (after_data w.link.inbound (receiver_heard w.link.inbound.receiver packet)))
+data-step : ReadsWithin → (w : WorldState) (packet : Packet) (flips : List ℕ) (x : Receiving × HeardAnswer) → IsSoundLink w.link → w.link.packet_sent ≡ Some packet → IsWithin w (ToReceiver flips) →
+    receiver_heard w.link.inbound.receiver packet ≡ x →
+    world_step w (ToReceiver flips) ≡ quiet_step w (with_inbound w.link (after_data w.link.inbound x))
 unfolding world_step newest_by heard_by happens IsWithin
-data-step reads w packet flips sound e within = within-step reads w Packets w.link.packet_sent packet flips e sound.packet_sent within
+data-step reads w packet flips x sound e within h =
+    within-step reads w Packets w.link.packet_sent packet flips e sound.packet_sent within ∙ ap (λ (y : Receiving × HeardAnswer). quiet_step w (with_inbound w.link (after_data w.link.inbound y))) h
 
-answer-step : ReadsWithin → (w : WorldState) (packet : Packet) (flips : List ℕ) → IsSoundLink w.link → w.link.answer ≡ Some packet → IsWithin w (ToSender flips) →
-    world_step w (ToSender flips) ≡ quiet_step w (with_outbound w.link (after_answer w.link.outbound (sender_heard w.link.outbound.sender packet)))
+answer-step : ReadsWithin → (w : WorldState) (packet : Packet) (flips : List ℕ) (x : Sending × SenderHeard) → IsSoundLink w.link → w.link.answer ≡ Some packet → IsWithin w (ToSender flips) →
+    sender_heard w.link.outbound.sender packet ≡ x →
+    world_step w (ToSender flips) ≡ quiet_step w (with_outbound w.link (after_answer w.link.outbound x))
 unfolding world_step newest_by heard_by happens IsWithin
-answer-step reads w packet flips sound e within = within-step reads w Answers w.link.answer packet flips e sound.answer within
+answer-step reads w packet flips x sound e within h =
+    within-step reads w Answers w.link.answer packet flips e sound.answer within ∙ ap (λ (y : Sending × SenderHeard). quiet_step w (with_outbound w.link (after_answer w.link.outbound y))) h
 
 -- the events are those of any world
 to-receiver : (flips : List ℕ) → IsEvent (ToReceiver flips)
@@ -122,11 +126,11 @@ delivers reads w message first second sound is d within =
     let v_sound : IsSoundLink v.link = next-sound w v (Send message) (true_step (Taken number blocks)) one (send-event message is) sound in
     let v_within : IsWithin v (ToReceiver first) = subst (λ (p : WorldState). IsWithin p (ToReceiver first)) (ap (λ (p : WorldState × Step). p.0) one) (second-within w (Send message) (ToReceiver first) (ToSender second) within) in
     let two : world_step v (ToReceiver first) ≡ (u, true_step (Delivered number message))
-    = data-step reads v d.packet first v_sound refl v_within ∙ ap (λ (x : Receiving × HeardAnswer). quiet_step v (with_inbound v.link (after_data v.link.inbound x))) d.delivered in
+    = data-step reads v d.packet first (d.after, HeardDelivered number message d.answer) v_sound refl v_within d.delivered in
     let m = moments w v u (Send message) (ToReceiver first) (ToSender second) (true_step (Taken number blocks)) (true_step (Delivered number message)) one two within in
     let u_sound : IsSoundLink u.link = next-sound v u (ToReceiver first) (true_step (Delivered number message)) two (to-receiver first) v_sound in
     let three : world_step u (ToSender second) ≡ (t, true_step (Acknowledged number))
-    = answer-step reads u d.answer second u_sound refl m.second ∙ ap (λ (x : Sending × SenderHeard). quiet_step u (with_outbound u.link (after_answer u.link.outbound x))) d.acknowledged in
+    = answer-step reads u d.answer second (sending_after number, HeardAck number) u_sound refl m.second d.acknowledged in
     three-steps w v u t (Send message) (ToReceiver first) (ToSender second) (true_step (Taken number blocks)) (true_step (Delivered number message)) (true_step (Acknowledged number)) one two three
 
 -- A reopening.
@@ -169,12 +173,9 @@ opens reads w v first second sound o h within =
     let v_sound : IsSoundLink v.link = next-sound w v Reopen (true_step (Reopened number)) h.step reopen-event sound in
     let v_within : IsWithin v (ToReceiver first) = subst (λ (p : WorldState). IsWithin p (ToReceiver first)) (ap (λ (p : WorldState × Step). p.0) h.step) (second-within w Reopen (ToReceiver first) (ToSender second) within) in
     let two : world_step v (ToReceiver first) ≡ (u, true_step (SynHeard number))
-    = data-step reads v o.packet first v_sound h.newest v_within
-    ∙ ap (λ (x : Receiving × HeardAnswer). quiet_step v (with_inbound v.link (after_data v.link.inbound x))) (ap (λ (r : Receiving). receiver_heard r o.packet) h.receiver ∙ o.heard) in
+    = data-step reads v o.packet first (record { last = number; kept = None }, ReceiverOpened number o.answer) v_sound h.newest v_within (ap (λ (r : Receiving). receiver_heard r o.packet) h.receiver ∙ o.heard) in
     let m = moments w v u Reopen (ToReceiver first) (ToSender second) (true_step (Reopened number)) (true_step (SynHeard number)) h.step two within in
     let u_sound : IsSoundLink u.link = next-sound v u (ToReceiver first) (true_step (SynHeard number)) two (to-receiver first) v_sound in
     let three : world_step u (ToSender second) ≡ (t, true_step (LinkOpened number))
-    = answer-step reads u o.answer second u_sound refl m.second
-    ∙ ap (λ (x : Sending × SenderHeard). quiet_step u (with_outbound u.link (after_answer u.link.outbound x))) (ap (λ (s : Sending). sender_heard s o.answer) h.sender ∙ o.opened) in
+    = answer-step reads u o.answer second (sending_after number, SenderOpened number) u_sound refl m.second (ap (λ (s : Sending). sender_heard s o.answer) h.sender ∙ o.opened) in
     three-steps w v u t Reopen (ToReceiver first) (ToSender second) (true_step (Reopened number)) (true_step (SynHeard number)) (true_step (LinkOpened number)) h.step two three
-

@@ -61,8 +61,8 @@ run-between (event ∷ events) w =
 
 -- what every clean link keeps, a clean run keeps
 
-pub from-links : (P : Link → Type 0) → ((happenings : List Happening) → IsCleanLink first_link happenings → P (link_run first_link happenings)) → (events : List Event) → AreEvents events → IsCleanRun events → P (world_run first_world events).link
+pub from-links : (P : Link → Type 0) → ((happenings : List Happening) → IsCleanLink first_link happenings → P (link_run first_link happenings)) →
+    (events : List Event) → AreEvents events → IsCleanRun events → P (world_run first_world events).link
 from-links P law events are clean =
     let b = run-between events first_world in
     subst P (sym b.becomes) (law b.happenings (b.clean (are, clean)))
-

@@ -44,7 +44,8 @@ twice packet flips false_pass clean e sendable =
       | inr many ↦ omega arith
     ]
 
-delivered-twice : ReadsWithin → (w : WorldState) (way : Way) (newest : Option Packet) (flips : List ℕ) → IfSome newest IsSendable → (delivered w way newest flips).1.false_pass ≡ true → (packet : Packet) × (newest ≡ Some packet) × (2 ≤ places_within packet flips)
+delivered-twice : ReadsWithin → (w : WorldState) (way : Way) (newest : Option Packet) (flips : List ℕ) → IfSome newest IsSendable → (delivered w way newest flips).1.false_pass ≡ true →
+    (packet : Packet) × (newest ≡ Some packet) × (2 ≤ places_within packet flips)
 unfolding delivered
 delivered-twice reads w way None flips sendable e = absurd (false≢true e)
 delivered-twice reads w way (Some packet) flips sendable e =

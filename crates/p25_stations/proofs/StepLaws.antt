@@ -40,7 +40,8 @@ abbrev pub delivery : Way → List ℕ → Event
 delivery Packets flips = ToReceiver flips
 delivery Answers flips = ToSender flips
 
-brings : (link : Link) (way : Way) (flips : List ℕ) (sent packet : Packet) (false_pass : Bool) → newest_by way link ≡ Some sent → carried_of sent flips ≡ Heard packet false_pass → HasHappen link (delivery way flips) false_pass (heard_by way packet)
+brings : (link : Link) (way : Way) (flips : List ℕ) (sent packet : Packet) (false_pass : Bool) → newest_by way link ≡ Some sent → carried_of sent flips ≡ Heard packet false_pass →
+    HasHappen link (delivery way flips) false_pass (heard_by way packet)
 unfolding newest_by heard_by
 brings link Packets flips sent packet false_pass n e = brings_data flips sent packet false_pass n e
 brings link Answers flips sent packet false_pass n e = brings_answer flips sent packet false_pass n e

@@ -47,7 +47,8 @@ Tells tries x = tries_after tries x.1.0 ≡ x.0.sender.tries
 -- An offer.
 
 taken-tries : (o : Outgoing) (message : List ℕ) → o.sender.tries ≡ 0 → (x : Sending × Offer) →
-    x ≡ (record { next = o.sender.next; outstanding = Message message; tries = 1; down = false }, OfferTaken o.sender.next (block_count (length message)) (message_packet o.sender.next message)) → Tells o.sender.tries (after_offer o message x)
+    x ≡ (record { next = o.sender.next; outstanding = Message message; tries = 1; down = false }, OfferTaken o.sender.next (block_count (length message)) (message_packet o.sender.next message)) →
+    Tells o.sender.tries (after_offer o message x)
 unfolding after_offer
 taken-tries o message none x e = subst (λ (y : Sending × Offer). Tells o.sender.tries (after_offer o message y)) (sym e) (ap (λ (n : ℕ). n + 1) none)
 

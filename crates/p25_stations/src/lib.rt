@@ -24,7 +24,9 @@ mod truth;
 mod world;
 
 pub use air::{Carried, carry, transmit};
-pub use p25_delivery::{Heard, Offer, Receiver, Reopen, Resend, Sender, SenderHeard, StepKind, Way};
+pub use p25_delivery::{
+    Heard, Offer, Receiver, Reopen, Resend, Sender, SenderHeard, StepKind, Way,
+};
 pub use p25_messages::{Flips, Message, MessageList};
 pub use step::{Event, Step};
 pub use world::World;

@@ -1,3 +1,5 @@
+//! The events of a world, and its steps.
+
 ghost use Rattle.std.specs.Prelude.{◌≡◌, false};
 
 use p25_delivery::StepKind;
