@@ -13,3 +13,4 @@ pub mod SendableLaws
 pub mod SendingLaws
 pub mod ReceivingLaws
 pub mod HalfLaws
+pub mod SessionLaws
