@@ -14,3 +14,6 @@ pub mod SendingLaws
 pub mod ReceivingLaws
 pub mod HalfLaws
 pub mod SessionLaws
+pub mod EndedLaws
+pub mod PhaseLaws
+pub mod CallLaws
