@@ -9,14 +9,14 @@ use Rattle.p25_delivery.specs.SenderState.{Sending}
 use Rattle.p25_delivery.specs.ReceiverState.{Keeping, Receiving}
 use Rattle.p25_delivery.specs.SenderRules.{offered, timed_out, opening_number, reopened, is_opening}
 use Rattle.p25_delivery.specs.declared.sender_state.Outstanding.{Outstanding}
-use Rattle.p25_delivery.specs.declared.sender_state.Outstanding.TheVariants.{Nothing, Message, Opening}
+use Rattle.p25_delivery.specs.declared.sender_state.Outstanding.TheVariants.{Message, Opening}
 use Rattle.p25_delivery.specs.declared.sender.Offer.{Offer}
 use Rattle.p25_delivery.specs.declared.sender.Offer.TheVariants.{Busy, Down as OfferDown}
 use Rattle.p25_delivery.specs.declared.sender.Resend.{Resend}
 use Rattle.p25_delivery.specs.declared.sender.Resend.TheVariants.{Sent, Idle, Down as ResendDown}
 use Rattle.p25_delivery.specs.declared.sender.Reopen.{Reopen}
 use Rattle.p25_delivery.specs.HalfRules.{after_offer, after_timeout, after_reopening}
-use Rattle.p25_delivery.specs.Link.{Link, Session, present_mark, present_session, first_number, newest_after, with_outbound}
+use Rattle.p25_delivery.specs.Link.{Link, Session, present_session, first_number, newest_after, with_outbound}
 use Rattle.p25_delivery.specs.Facts.{IsDataOf, KeepsOf}
 use Rattle.p25_delivery.proofs.SenderLaws.{IsSame, Resends, offer-quiet, offer-message, offer-opening, timeout-message, timeout-opening, timeout-quiet, reopen-cases, reopen-up}
 use Rattle.p25_delivery.proofs.SessionLaws.{with_sent, one_sent, IsMarked, marked, present-sent, present-marked, number-marked}

@@ -17,3 +17,7 @@ pub mod SessionLaws
 pub mod EndedLaws
 pub mod PhaseLaws
 pub mod CallLaws
+pub mod AtOnceLaws
+pub mod FactsLaws
+pub mod LinkLaws
+pub mod CountLaws

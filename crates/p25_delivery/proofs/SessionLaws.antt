@@ -1,13 +1,13 @@
 -- The sessions of a link: what one more message does to them, and what a mark does. By the parts of lists between marks that lie
 -- within them.
-use Rattle.std.proofs.Common.{◌≡◌, ℕ, ◌+◌, ◌*◌, ◌-◌, ◌%◌, ◌≤◌, List, [], ◌∷◌, ◌++◌, length, refl, ap, ap₂, sym, ◌∙◌, subst, arith, append-nil, length-append}
+use Rattle.std.proofs.Common.{◌≡◌, ℕ, ◌+◌, ◌-◌, ◌%◌, ◌≤◌, List, [], ◌∷◌, ◌++◌, length, refl, ap, ap₂, sym, ◌∙◌, subst, arith, length-append}
 use Rattle.std.specs.Prelude.{All}
 use Rattle.std.proofs.lemmas.List.{drop-append-le, drop_all}
-use Rattle.std.proofs.lemmas.List.Elements.{All-head, All-tail, All-push, All-weaker}
+use Rattle.std.proofs.lemmas.List.Elements.{All-nil, All-head, All-tail, All-push, All-weaker}
 use Rattle.p25_bits.specs.Bits.{part}
 use Rattle.p25_bits.proofs.PartLaws.{part_left, drop-is_part}
 use Rattle.p25_delivery.specs.declared.mark.Mark.{Mark}
-use Rattle.p25_delivery.specs.Link.{Link, Session, empty_session, first_mark, present_mark, session_between, sessions_from, sessions_of, last_mark, present_session, first_number}
+use Rattle.p25_delivery.specs.Link.{Link, first_link, Session, empty_session, first_mark, present_mark, session_between, sessions_from, sessions_of, last_mark, present_session, first_number}
 
 -- one more message sent, delivered, or acknowledged
 abbrev pub with_sent : Session → List ℕ → Session
@@ -170,6 +170,11 @@ divided-acknowledged P w h = divided-more P w (one_acknowledged w) (record { sen
 
 pub divided-marked : (P : Session → Type 0) (w : Link) → IsDivided P w → P (present_session w) → IsDivided P (marked w)
 divided-marked P w h p =
-    let limit = present_mark w in
-    (All-push (IsWithin limit) w.outbound.marks limit h.0 (record { sent = omega arith; delivered = omega arith; acknowledged = omega arith }),
-    subst (All P) (sym (ended-more_marks first_mark limit w.outbound.marks w)) (All-push P (ended_sessions w) (present_session w) h.1 p))
+    let limit = present_mark w in (
+      All-push (IsWithin limit) w.outbound.marks limit h.0 (record { sent = omega arith; delivered = omega arith; acknowledged = omega arith }),
+      subst (All P) (sym (ended-more_marks first_mark limit w.outbound.marks w)) (All-push P (ended_sessions w) (present_session w) h.1 p),
+    )
+
+pub first-divided : (P : Session → Type 0) → IsDivided P first_link
+unfolding ended_from
+first-divided P = (All-nil (IsWithin first_mark), All-nil P)
