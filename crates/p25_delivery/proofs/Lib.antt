@@ -13,3 +13,11 @@ pub mod SendableLaws
 pub mod SendingLaws
 pub mod ReceivingLaws
 pub mod HalfLaws
+pub mod SessionLaws
+pub mod EndedLaws
+pub mod PhaseLaws
+pub mod CallLaws
+pub mod AtOnceLaws
+pub mod FactsLaws
+pub mod LinkLaws
+pub mod CountLaws
