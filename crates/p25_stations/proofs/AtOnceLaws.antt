@@ -26,6 +26,8 @@ use Rattle.p25_delivery.specs.HalfRules.{after_offer, after_reopening, after_dat
 use Rattle.p25_delivery.specs.Link.{Link, first_link, Happening, newest_after, with_outbound, with_inbound, happens, link_run}
 use Rattle.p25_delivery.specs.Clean.{IsCleanRun as IsCleanLink}
 use Rattle.p25_delivery.specs.AtOnce.{DeliversAtOnce, OpensAtOnce}
+use Rattle.p25_delivery.proofs.LinkLaws.{run-delivers}
+use Rattle.p25_delivery.proofs.AtOnceLaws.{opens-down}
 use Rattle.p25_stations.specs.declared.step.Event.{Event}
 use Rattle.p25_stations.specs.declared.step.Event.TheVariants.{Send, Reopen, ToReceiver, ToSender}
 use Rattle.p25_stations.specs.declared.step.Step.{Step}
@@ -133,6 +135,19 @@ delivers reads w message first second sound is d within =
     = answer-step reads u d.answer second (sending_after number, HeardAck number) u_sound refl m.second d.acknowledged in
     three-steps w v u t (Send message) (ToReceiver first) (ToSender second) (true_step (Taken number blocks)) (true_step (Delivered number message)) (true_step (Acknowledged number)) one two three
 
+pub run-delivers_within : ReadsWithin → (events : List Event) (message first second : List ℕ) → AreEvents events → (world_run first_world events).false_passes ≡ 0 → IsMessage message →
+    (world_run first_world events).link.outbound.sender.outstanding ≡ Nothing →
+    AreWithin (world_run first_world events) (Send message ∷ ToReceiver first ∷ ToSender second ∷ []) →
+    steps_of (world_run first_world events) (Send message ∷ ToReceiver first ∷ ToSender second ∷ []) ≡
+    true_step (Taken (world_run first_world events).link.outbound.sender.next (block_count (length message))) ∷ true_step (Delivered (world_run first_world events).link.outbound.sender.next message) ∷
+    true_step (Acknowledged (world_run first_world events).link.outbound.sender.next) ∷ []
+run-delivers_within reads events message first second are none is quiet within =
+    let w = world_run first_world events in
+    let at_once = from-links (λ (link : Link). link.outbound.sender.outstanding ≡ Nothing → DeliversAtOnce link.outbound.sender link.inbound.receiver message)
+    (λ (happenings : List Happening) (clean : IsCleanLink first_link happenings) (nothing : (link_run first_link happenings).outbound.sender.outstanding ≡ Nothing). run-delivers happenings message clean nothing is.short)
+    events are (clean-from_none events none) in
+    delivers reads w message first second (run-sound events first_world are first-sound) is (at_once quiet) within
+
 -- A reopening.
 
 -- the world after it, whether a message is given up or not
@@ -179,3 +194,17 @@ opens reads w v first second sound o h within =
     let three : world_step u (ToSender second) ≡ (t, true_step (LinkOpened number))
     = answer-step reads u o.answer second (sending_after number, SenderOpened number) u_sound refl m.second (ap (λ (s : Sending). sender_heard s o.answer) h.sender ∙ o.opened) in
     three-steps w v u t Reopen (ToReceiver first) (ToSender second) (true_step (Reopened number)) (true_step (SynHeard number)) (true_step (LinkOpened number)) h.step two three
+
+pub run-opens_within : ReadsWithin → (events : List Event) (first second : List ℕ) → AreEvents events → (world_run first_world events).link.outbound.sender.down ≡ true →
+    AreWithin (world_run first_world events) (Reopen ∷ ToReceiver first ∷ ToSender second ∷ []) →
+    (let s = (world_run first_world events).link.outbound.sender in
+    steps_of (world_run first_world events) (Reopen ∷ ToReceiver first ∷ ToSender second ∷ []) ≡
+    true_step (Reopened (opening_number s.outstanding s.next)) ∷ true_step (SynHeard (opening_number s.outstanding s.next)) ∷ true_step (LinkOpened (opening_number s.outstanding s.next)) ∷ [])
+run-opens_within reads events first second are down within =
+    let w = world_run first_world events in
+    let s = w.link.outbound.sender in
+    let sound = run-sound events first_world are first-sound in
+    let o = opens-down s w.link.inbound.receiver sound.outbound.sender down in
+    let h = after-opening w (is_opening s.outstanding) o.waits o.number o.packet refl o.sent in
+    let steps = opens reads w (reopened_world w (is_opening s.outstanding) (o.waits, ReopenSent o.number o.packet)).0 first second sound o h within in
+    steps ∙ ap (λ (n : ℕ). true_step (Reopened n) ∷ true_step (SynHeard n) ∷ true_step (LinkOpened n) ∷ []) (number-is s o.waits o.number o.packet down o.sent)

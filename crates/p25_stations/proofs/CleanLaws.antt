@@ -6,6 +6,8 @@ use Rattle.p25_delivery.specs.Link.{Link, first_link, Happening, happens, link_r
 use Rattle.p25_delivery.specs.Clean.{IsHeardOf, IsClean, IsCleanRun as IsCleanLink}
 use Rattle.p25_delivery.specs.Orderly.{AreOrderly, AreCounted}
 use Rattle.p25_delivery.specs.Facts.{LinkFacts}
+use Rattle.p25_delivery.proofs.LinkLaws.{sessions-orderly, facts-kept}
+use Rattle.p25_delivery.proofs.CountLaws.{sessions-counted}
 use Rattle.p25_stations.specs.declared.air.Carried.TheVariants.{Heard}
 use Rattle.p25_stations.specs.declared.step.Event.{Event}
 use Rattle.p25_stations.specs.declared.step.Step.{Step}
@@ -66,3 +68,16 @@ pub from-links : (P : Link → Type 0) → ((happenings : List Happening) → Is
 from-links P law events are clean =
     let b = run-between events first_world in
     subst P (sym b.becomes) (law b.happenings (b.clean (are, clean)))
+
+pub run-facts : (events : List Event) → AreEvents events → IsCleanRun events → LinkFacts (world_run first_world events).link
+run-facts = from-links LinkFacts facts-kept
+
+pub run-orderly : (events : List Event) → AreEvents events → IsCleanRun events → AreOrderly (sessions_of (world_run first_world events).link)
+run-orderly = from-links (λ (link : Link). AreOrderly (sessions_of link)) sessions-orderly
+
+-- and every run keeps what every link keeps
+
+pub run-counted : (events : List Event) → AreCounted (sessions_of (world_run first_world events).link)
+run-counted events =
+    let b = run-between events first_world in
+    subst (λ (link : Link). AreCounted (sessions_of link)) (sym b.becomes) (sessions-counted b.happenings)

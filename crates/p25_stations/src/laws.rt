@@ -25,6 +25,30 @@ ghost use Rattle.p25_stations.specs.StepLists.{delivered_in, sent_in, acknowledg
 
 use p25_packet_blocks::laws::packet_radius;
 
+/// **Theorem.** Its clause says that after every list of events without a false pass each session is orderly: what was
+/// delivered is the beginning of what was sent, each message once, every message that was acknowledged was delivered, and
+/// one at most was delivered that was not acknowledged.
+pub fn clean_runs_are_orderly()
+    ensures { (events : List event_type) → AreEvents events → IsCleanRun events →
+        AreOrderly (sessions_of (world_run first_world events).link) }
+{}
+
+/// **Theorem.** Its clause says that the link of a world keeps the facts that `LinkFacts` names while no step was a false
+/// pass.
+pub fn world_facts()
+    ensures { (events : List event_type) → AreEvents events → IsCleanRun events → LinkFacts (world_run first_world events).link }
+{}
+
+/// **Theorem.** Its clauses say what every run keeps, clean or not. In each session what was acknowledged was sent, and
+/// one message at most was sent that was not acknowledged. A message or an opening packet is sent 16 times at most. And no
+/// step was a false pass exactly where none is counted.
+pub fn runs_are_counted()
+    ensures sessions { (events : List event_type) → AreCounted (sessions_of (world_run first_world events).link) }
+    ensures tries { (events : List event_type) → AreEvents events → tries_in 0 (steps_of first_world events) ≤ 16 }
+    ensures clean { (events : List event_type) → (world_run first_world events).false_passes ≡ 0 → IsCleanRun events }
+    ensures none { (events : List event_type) → IsCleanRun events → (world_run first_world events).false_passes ≡ 0 }
+{}
+
 /// **Theorem.** Its clauses say which deliveries are no false passes, after any list of events: those within radius,
 /// and those of which at most one bit comes inverted.
 pub fn damage_within_radius()
@@ -34,6 +58,28 @@ pub fn damage_within_radius()
     ensures twice { (events : List event_type) (event : event_type) → AreEvents events →
         (world_step (world_run first_world events) event).1.false_pass ≡ true →
         IsTwiceDamaged (world_run first_world events) event }
+{
+    packet_radius();
+}
+
+/// **Theorem.** Its clauses say what comes of deliveries within radius. After a clean run, where nothing is outstanding,
+/// a message is taken, delivered and acknowledged. After any run a sender that is down opens the link again.
+pub fn deliveries_within_radius()
+    ensures delivered { (events : List event_type) (message first second : List ℕ) → AreEvents events →
+        (world_run first_world events).false_passes ≡ 0 → IsMessage message →
+        (world_run first_world events).link.outbound.sender.outstanding ≡ Nothing →
+        AreWithin (world_run first_world events) (Send message ∷ ToReceiver first ∷ ToSender second ∷ []) →
+        (let number = (world_run first_world events).link.outbound.sender.next in
+        steps_of (world_run first_world events) (Send message ∷ ToReceiver first ∷ ToSender second ∷ []) ≡
+        true_step (Taken number (block_count (length message))) ∷ true_step (Delivered number message) ∷
+        true_step (Acknowledged number) ∷ []) }
+    ensures opened { (events : List event_type) (first second : List ℕ) → AreEvents events →
+        (world_run first_world events).link.outbound.sender.down ≡ true →
+        AreWithin (world_run first_world events) (Reopen ∷ ToReceiver first ∷ ToSender second ∷ []) →
+        (let sender = (world_run first_world events).link.outbound.sender in
+        let number = opening_number sender.outstanding sender.next in
+        steps_of (world_run first_world events) (Reopen ∷ ToReceiver first ∷ ToSender second ∷ []) ≡
+        true_step (Reopened number) ∷ true_step (SynHeard number) ∷ true_step (LinkOpened number) ∷ []) }
 {
     packet_radius();
 }
