@@ -9,7 +9,7 @@ use Rattle.p25_delivery.specs.MessageBlocks.{block_count}
 use Rattle.p25_delivery.specs.SentPackets.{opening_packet}
 use Rattle.p25_delivery.specs.SenderState.{Sending}
 use Rattle.p25_delivery.specs.ReceiverState.{Receiving}
-use Rattle.p25_delivery.specs.SenderRules.{sending_after, offered, sender_heard, opening_number, reopened, is_opening}
+use Rattle.p25_delivery.specs.SenderRules.{sending_after, sender_heard, opening_number, reopened, is_opening}
 use Rattle.p25_delivery.specs.ReceiverRules.{receiver_heard}
 use Rattle.p25_delivery.specs.declared.sender_state.Outstanding.TheVariants.{Nothing, Opening}
 use Rattle.p25_delivery.specs.declared.sender.Offer.{Offer}

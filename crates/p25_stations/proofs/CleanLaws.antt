@@ -2,7 +2,7 @@
 -- after the other; so the laws of links are laws of the world.
 use Rattle.std.proofs.Common.{◌≡◌, Bool, false, List, [], ◌∷◌, ℕ, Option, Some, refl, ap, sym, subst, ◌∙◌}
 use Rattle.p25_packet_blocks.specs.declared.packet.Packet.{Packet}
-use Rattle.p25_delivery.specs.Link.{Link, first_link, Happening, happens, link_run, sessions_of}
+use Rattle.p25_delivery.specs.Link.{Link, first_link, Happening, link_run, sessions_of}
 use Rattle.p25_delivery.specs.Clean.{IsHeardOf, IsClean, IsCleanRun as IsCleanLink}
 use Rattle.p25_delivery.specs.Orderly.{AreOrderly, AreCounted}
 use Rattle.p25_delivery.specs.Facts.{LinkFacts}

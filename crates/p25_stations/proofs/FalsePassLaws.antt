@@ -10,7 +10,7 @@ use Rattle.p25_stations.specs.declared.air.Carried.{Carried}
 use Rattle.p25_stations.specs.declared.step.Event.{Event}
 use Rattle.p25_stations.specs.declared.step.Event.TheVariants.{Send, Timeout, Reopen, ToReceiver, ToSender}
 use Rattle.p25_stations.specs.declared.step.Step.{Step}
-use Rattle.p25_stations.specs.Air.{places_within, carried_of, ArrivesWithin}
+use Rattle.p25_stations.specs.Air.{places_within, ArrivesWithin}
 use Rattle.p25_stations.specs.WorldState.{WorldState, first_world}
 use Rattle.p25_stations.specs.Steps.{counted_when, newest_by, carried, delivered, world_step}
 use Rattle.p25_stations.specs.Runs.{world_run, steps_of, AreClean, IsCleanRun}

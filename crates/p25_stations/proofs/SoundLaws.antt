@@ -1,12 +1,12 @@
 -- Every step keeps what the halves of a world keep, and its newest transmissions can be sent. By what happens at the link.
-use Rattle.std.proofs.Common.{ℕ, Bool, List, [], ◌∷◌, length, Option}
+use Rattle.std.proofs.Common.{Bool, List, [], ◌∷◌, length, Option}
 use Rattle.std.specs.Prelude.{IfSome}
 use Rattle.p25_packet_blocks.specs.declared.packet.Packet.{Packet}
 use Rattle.p25_packet_blocks.specs.Sendable.{IsSendable}
 use Rattle.p25_delivery.specs.declared.step_kind.StepKind.{StepKind}
 use Rattle.p25_delivery.specs.Halves.{Outgoing, Incoming}
-use Rattle.p25_delivery.specs.SoundHalves.{IsMessage, IsOutgoing, IsIncoming}
-use Rattle.p25_delivery.specs.Link.{Link, Happening, Offering, Time_up, Opening_again, Data_heard, Answer_heard, with_outbound, with_inbound, happens}
+use Rattle.p25_delivery.specs.SoundHalves.{IsOutgoing, IsIncoming}
+use Rattle.p25_delivery.specs.Link.{Link, Happening, with_outbound, with_inbound, happens}
 use Rattle.p25_delivery.proofs.HalfLaws.{KeepsOutgoing, KeepsIncoming, offer-keeps, timeout-keeps, reopen-keeps, data-keeps, answer-keeps, first-outgoing, first-incoming}
 use Rattle.p25_stations.specs.declared.step.Event.{Event}
 use Rattle.p25_stations.specs.declared.step.Step.{Step}

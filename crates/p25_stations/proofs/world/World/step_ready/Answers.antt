@@ -1,5 +1,5 @@
 use Rattle.std.proofs.Common.{rules}
-use Rattle.p25_delivery.specs.Link.{with_outbound, with_inbound, happens}
+use Rattle.p25_delivery.specs.Link.{with_outbound, happens}
 use Rattle.p25_stations.specs.Steps.{world_step}
 use Rattle.p25_stations.proofs.NewestLaws.{kept-sendable}
 use Rattle.p25_stations.proofs.world.World.step_ready.Goals as goal
