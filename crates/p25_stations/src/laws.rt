@@ -11,7 +11,7 @@ ghost use Rattle.p25_delivery.specs.Facts.{LinkFacts};
 ghost use Rattle.p25_stations.specs.declared.step.Event.{Event as event_type};
 ghost use Rattle.p25_stations.specs.declared.step.Event.TheVariants.{Send, Reopen, ToReceiver, ToSender};
 ghost use Rattle.p25_delivery.specs.declared.step_kind.StepKind.TheVariants.{Taken, Reopened, Delivered, SynHeard, Acknowledged, LinkOpened};
-ghost use Rattle.p25_stations.specs.WorldState.{WorldState, first_world};
+ghost use Rattle.p25_stations.specs.WorldState.{first_world};
 ghost use Rattle.p25_delivery.specs.SoundHalves.{IsMessage};
 ghost use Rattle.p25_stations.specs.Steps.{world_step};
 ghost use Rattle.p25_stations.specs.Runs.{AreEvents, world_run, steps_of, IsCleanRun};

@@ -24,7 +24,6 @@ pub struct World {
 }
 
 impl Model for World {
-    ghost use Rattle.std.specs.Prelude.{min};
     ghost use Rattle.p25_stations.specs.WorldState.{WorldParts};
 
     ghost Value = { WorldParts };
