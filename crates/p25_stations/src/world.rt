@@ -112,20 +112,12 @@ impl World {
     {
         match event {
             Event::Send(message) => {
-                let (kind, packet) = self.outbound.offer(message);
-                keep(&mut self.packet_sent, packet);
-                Step::quiet(kind)
+                Step::quiet(keep(&mut self.packet_sent, self.outbound.offer(message)))
             }
-            Event::Timeout => {
-                let (kind, packet) = self.outbound.time_out();
-                keep(&mut self.packet_sent, packet);
-                Step::quiet(kind)
-            }
+            Event::Timeout => Step::quiet(keep(&mut self.packet_sent, self.outbound.time_out())),
             Event::Reopen => {
                 let delivered = self.inbound.received().len() as u64;
-                let (kind, packet) = self.outbound.reopen(delivered);
-                keep(&mut self.packet_sent, packet);
-                Step::quiet(kind)
+                Step::quiet(keep(&mut self.packet_sent, self.outbound.reopen(delivered)))
             }
             Event::ToReceiver(flips) => self.deliver(Way::Packets, flips),
             Event::ToSender(flips) => self.deliver(Way::Answers, flips),
@@ -144,13 +136,16 @@ impl World {
     }
 }
 
-// Makes a packet the newest transmission of its direction, where there is one.
-fn keep(newest: &mut Option<Packet>, packet: Option<Packet>)
-    ensures { newest.new ≡ newest_after packet newest.old }
+// Makes what a call of a half sends the newest transmission of its direction, and answers what happened.
+fn keep(newest: &mut Option<Packet>, called: (StepKind, Option<Packet>)) -> StepKind
+    ensures newest { newest.new ≡ newest_after called.1 newest.old }
+    ensures kind { result ≡ called.0 }
 {
-    if packet.is_some() {
-        *newest = packet;
+    let (kind, sent) = called;
+    if sent.is_some() {
+        *newest = sent;
     }
+    kind
 }
 
 impl World {
@@ -166,16 +161,8 @@ impl World {
         ensures spare { self.old.spare ≤ self.new.spare + 1 }
     {
         match way {
-            Way::Packets => {
-                let (kind, answer) = self.inbound.hear(packet);
-                keep(&mut self.answer, answer);
-                kind
-            }
-            Way::Answers => {
-                let (kind, packet) = self.outbound.hear(packet);
-                keep(&mut self.packet_sent, packet);
-                kind
-            }
+            Way::Packets => keep(&mut self.answer, self.inbound.hear(packet)),
+            Way::Answers => keep(&mut self.packet_sent, self.outbound.hear(packet)),
         }
     }
 

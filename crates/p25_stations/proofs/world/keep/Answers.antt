@@ -15,7 +15,7 @@ stays (Some packet) newest e = cc
 stays None newest e = refl
 
 pub returns-then-is_some : goal.returns-then-is_some
-returns-then-is_some c = sent c.args.packet c.args.newest.now (sym c.is_some.ensures ∙ c.if-is_some.true)
+returns-then-is_some c = record { newest = sent c.args.called.1 c.args.newest.now (sym c.is_some.ensures ∙ c.if-is_some.true); kind = refl }
 
 pub returns-else-is_some : goal.returns-else-is_some
-returns-else-is_some c = stays c.args.packet c.args.newest.now (sym c.is_some.ensures ∙ c.if-is_some.false)
+returns-else-is_some c = record { newest = stays c.args.called.1 c.args.newest.now (sym c.is_some.ensures ∙ c.if-is_some.false); kind = refl }

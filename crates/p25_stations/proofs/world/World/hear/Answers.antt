@@ -5,11 +5,11 @@ use Rattle.p25_stations.proofs.NewestLaws.{kept-sendable}
 use Rattle.p25_stations.proofs.world.World.hear.Goals as goal
 
 pub invariant_of-self : goal.invariant_of-self
-invariant_of-self c = record { packet_sent = c.self.invariant.packet_sent; answer = kept-sendable c.keep.new.newest c.hear-kind.result.1 c.self.inside.answer c.keep.ensures c.hear-kind.ensures.sendable c.self.invariant.answer }
+invariant_of-self c = record { packet_sent = c.self.invariant.packet_sent; answer = kept-sendable c.keep.new.newest c.hear.result.1 c.self.inside.answer c.keep.ensures.newest c.hear.ensures.sendable c.self.invariant.answer }
 
 pub invariant_of-self-in-Answers : goal.invariant_of-self-in-Answers
 invariant_of-self-in-Answers c =
-    let sent = kept-sendable c.keep-in-Answers.new.newest c.hear-kind-in-Answers.result.1 c.self.inside.packet_sent c.keep-in-Answers.ensures c.hear-kind-in-Answers.ensures.sendable c.self.invariant.packet_sent in
+    let sent = kept-sendable c.keep-in-Answers.new.newest c.hear-in-Answers.result.1 c.self.inside.packet_sent c.keep-in-Answers.ensures.newest c.hear-in-Answers.ensures.sendable c.self.invariant.packet_sent in
     record { packet_sent = sent; answer = c.self.invariant.answer }
 
 pub returns-in-Packets-clause-link : goal.returns-in-Packets-clause-link
