@@ -112,10 +112,12 @@ taken last b s w message q short = record {
 }
 
 -- a message is outstanding, or the opening packet is: the link stays as it was
-held : (w : Link) (message : List ℕ) → (offered w.outbound.sender message ≡ (w.outbound.sender, Busy)) ⊎ (offered w.outbound.sender message ≡ (w.outbound.sender, OfferDown)) → IsLinkedNow w → AfterOffer w message (offered w.outbound.sender message)
-unfolding AfterOffer with_outbound after_offer newest_after
-held w message (inl e) k = subst (AfterOffer w message) (sym e) k
-held w message (inr e) k = subst (AfterOffer w message) (sym e) k
+pub offer-held : (P : Link → Type 0) (w : Link) (message : List ℕ) →
+    (offered w.outbound.sender message ≡ (w.outbound.sender, Busy)) ⊎ (offered w.outbound.sender message ≡ (w.outbound.sender, OfferDown)) → P w →
+    P (with_outbound w (after_offer w.outbound message (offered w.outbound.sender message))).0
+unfolding with_outbound after_offer newest_after
+offer-held P w message (inl e) p = subst (λ (x : Sending × Offer). P (with_outbound w (after_offer w.outbound message x)).0) (sym e) p
+offer-held P w message (inr e) p = subst (λ (x : Sending × Offer). P (with_outbound w (after_offer w.outbound message x)).0) (sym e) p
 
 pub offer-phase : (w : Link) (message : List ℕ) → IsMarked w → IsLinkedNow w → length message ≤ 2028 → IsLinkedNow (with_outbound w (after_offer w.outbound message (offered w.outbound.sender message))).0
 unfolding AfterOffer with_outbound after_offer newest_after
@@ -124,8 +126,8 @@ offer-phase w message m (quiet last q) short =
     let now : Session → Type 0 = λ (s : Session). IsBusy ((last + 1) % 8) message (first_number w) s (link_of_data (one_sent w message) sender (message_packet w.outbound.sender.next message)) in
     subst (AfterOffer w message) (sym (offer-quiet w.outbound.sender message q.up q.outstanding))
     (busy ((last + 1) % 8) message (subst now (sym (present-sent w message m)) (taken last (first_number w) (present_session w) w message q short)))
-offer-phase w message m (busy number other h) short = held w message (offer-message w.outbound.sender message other h.outstanding) (busy number other h)
-offer-phase w message m (opening number h) short = held w message (offer-opening w.outbound.sender message number h.outstanding) (opening number h)
+offer-phase w message m (busy number other h) short = offer-held IsLinkedNow w message (offer-message w.outbound.sender message other h.outstanding) (busy number other h)
+offer-phase w message m (opening number h) short = offer-held IsLinkedNow w message (offer-opening w.outbound.sender message number h.outstanding) (opening number h)
 
 -- time is up
 

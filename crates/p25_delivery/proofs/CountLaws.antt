@@ -12,7 +12,7 @@ use Rattle.p25_delivery.specs.ReceiverRules.{receiver_heard}
 use Rattle.p25_delivery.specs.declared.sender_state.Outstanding.{Outstanding}
 use Rattle.p25_delivery.specs.declared.sender_state.Outstanding.TheVariants.{Nothing, Message, Opening}
 use Rattle.p25_delivery.specs.declared.sender.Offer.{Offer}
-use Rattle.p25_delivery.specs.declared.sender.Offer.TheVariants.{Taken, Busy, Down as OfferDown}
+use Rattle.p25_delivery.specs.declared.sender.Offer.TheVariants.{Taken, Down as OfferDown}
 use Rattle.p25_delivery.specs.declared.sender.Resend.{Resend}
 use Rattle.p25_delivery.specs.declared.sender.Resend.TheVariants.{Sent, Idle, Down as ResendDown}
 use Rattle.p25_delivery.specs.declared.sender.SenderHeard.{SenderHeard}
@@ -26,6 +26,7 @@ use Rattle.p25_delivery.specs.Orderly.{IsCounted, AreCounted}
 use Rattle.p25_delivery.proofs.SenderLaws.{IsSame, Resends, resent-of, timeout-of, Stays, HearsAnswer, goes_on, stays, HearsOpening, opens, waits, offer-message, offer-opening, reopen-cases, message-answer, opening-answer, quiet-answer}
 use Rattle.p25_delivery.proofs.SessionLaws.{IsMarked, IsDivided, ended_sessions, sessions-split, present-sent, present-acknowledged, present-marked, first-divided}
 use Rattle.p25_delivery.proofs.EndedLaws.{happens-divided}
+use Rattle.p25_delivery.proofs.CallLaws.{offer-held}
 
 -- the numbers sent and acknowledged, by what is outstanding
 unfoldable CountsBy : Outstanding → ℕ → ℕ → Type 0
@@ -60,13 +61,10 @@ unfolding offered offered_beside
 offer-nothing s message o =
     let taken : Sending × Offer = (record { next = s.next; outstanding = Message message; tries = 1; down = false }, Taken s.next (block_count (length message)) (message_packet s.next message)) in
     let is : offered_beside s.outstanding s message ≡ taken = ap (λ (out : Outstanding). offered_beside out s message) o in
-    elim s.down as (λ (b : Bool). (cond b (s, OfferDown) (offered_beside s.outstanding s message) ≡ (s, OfferDown)) ⊎ (cond b (s, OfferDown) (offered_beside s.outstanding s message) ≡ taken)) [ true ↦ inl refl | false ↦ inr is ]
-
--- a message or the opening packet is outstanding
-held : (w : Link) (message : List ℕ) → (offered w.outbound.sender message ≡ (w.outbound.sender, Busy)) ⊎ (offered w.outbound.sender message ≡ (w.outbound.sender, OfferDown)) → HasCounts w → AfterOffer w message (offered w.outbound.sender message)
-unfolding AfterOffer with_outbound after_offer
-held w message (inl e) h = subst (AfterOffer w message) (sym e) h
-held w message (inr e) h = subst (AfterOffer w message) (sym e) h
+    elim s.down as (λ (b : Bool). (cond b (s, OfferDown) (offered_beside s.outstanding s message) ≡ (s, OfferDown)) ⊎ (cond b (s, OfferDown) (offered_beside s.outstanding s message) ≡ taken)) [
+      | true ↦ inl refl
+      | false ↦ inr is
+    ]
 
 offer-counts : (w : Link) (message : List ℕ) (out : Outstanding) → w.outbound.sender.outstanding ≡ out → IsMarked w → HasCounts w → AfterOffer w message (offered w.outbound.sender message)
 unfolding AfterOffer with_outbound after_offer CountsBy
@@ -79,8 +77,8 @@ offer-counts w message Nothing o m h =
           let now : length (s.sent ++ message ∷ []) ≡ s.acknowledged + 1 = omega (arith, was, length-append s.sent (message ∷ [])) in
           subst (AfterOffer w message) (sym e) (subst (CountsIn (Message message)) (sym (present-sent w message m)) now))
     ]
-offer-counts w message (Message other) o m h = held w message (offer-message w.outbound.sender message other o) h
-offer-counts w message (Opening number) o m h = held w message (offer-opening w.outbound.sender message number o) h
+offer-counts w message (Message other) o m h = offer-held HasCounts w message (offer-message w.outbound.sender message other o) h
+offer-counts w message (Opening number) o m h = offer-held HasCounts w message (offer-opening w.outbound.sender message number o) h
 
 -- a timeout
 

@@ -22,13 +22,13 @@ use Rattle.p25_delivery.specs.declared.receiver.Heard.{Heard as HeardAnswer}
 use Rattle.p25_delivery.specs.declared.receiver.Heard.TheVariants.{Delivered as HeardDelivered, Opened as ReceiverOpened, Again as HeardAgain, Kept as HeardKept, RefusedCrc as HeardCrc, RefusedOrder as HeardOrder, Ignored as ReceiverIgnored}
 use Rattle.p25_delivery.specs.declared.step_kind.StepKind.{StepKind}
 use Rattle.p25_delivery.specs.Halves.{Outgoing, Incoming, first_outgoing, first_incoming}
-use Rattle.p25_delivery.specs.SoundHalves.{IsMessage, IsMessageIn, IsCountedWith, IsOutgoing, IsIncoming}
+use Rattle.p25_delivery.specs.SoundHalves.{IsMessage, IsMessageIn, IsCountedWith, IsOutgoing, IsReceiving, IsIncoming}
 use Rattle.p25_delivery.specs.HalfRules.{mark_of, after_offer, after_timeout, after_reopening, after_data, after_answer}
 use Rattle.p25_delivery.specs.Facts.{IsDataOf}
 use Rattle.p25_delivery.proofs.SenderLaws.{IsSame, Resends, Stays, HearsAnswer, goes_on, stays, HearsOpening, opens, waits, offer-quiet, offer-message, offer-opening, timeout-message, timeout-opening, timeout-quiet, reopen-cases, reopen-up, message-answer, opening-answer, quiet-answer}
 use Rattle.p25_delivery.proofs.SendableLaws.{message_packet-sendable, blocks_packet-sendable, opening_packet-sendable}
 use Rattle.p25_delivery.proofs.SendingLaws.{after-sending, timeout-sending, heard-sending}
-use Rattle.p25_delivery.proofs.ReceivingLaws.{AnswersSendable, IsReceiving, receiver-soundly}
+use Rattle.p25_delivery.proofs.ReceivingLaws.{AnswersSendable, receiver-soundly}
 
 -- a call's half is sound, and its packet can be sent
 abbrev pub KeepsOutgoing : Outgoing × (StepKind × Option Packet) → Type 0
@@ -147,8 +147,8 @@ offer-keeps o message is sound = offer-by o message o.sender.outstanding refl is
 
 -- A timeout.
 
-resends-keeps : (P : Packet → Type 0) (o : Outgoing) (out : Outstanding) (x : Sending × Resend) → IsHeldUp out → o.sender.outstanding ≡ out → ((packet : Packet) → P packet → IsSendable packet) → Resends P o.sender x → IsSending x.0 → IsOutgoing o →
-    KeepsOutgoing (after_timeout o x)
+resends-keeps : (P : Packet → Type 0) (o : Outgoing) (out : Outstanding) (x : Sending × Resend) → IsHeldUp out → o.sender.outstanding ≡ out → ((packet : Packet) → P packet → IsSendable packet) → Resends P o.sender x →
+    IsSending x.0 → IsOutgoing o → KeepsOutgoing (after_timeout o x)
 unfolding after_timeout
 resends-keeps P o out (s, Sent number tries packet) up e can again sending sound = (same-outgoing o s out up e again.0 sending sound, can packet again.1)
 resends-keeps P o out (s, ResendIdle) up e can again sending sound = (same-outgoing o s out up e again.0 sending sound, tt)
@@ -225,17 +225,17 @@ reopen-keeps o delivered sound = reopen-by o delivered o.sender.outstanding refl
 
 heard-keeps : (i : Incoming) (x : Receiving × HeardAnswer) → IsReceiving x.0 → AnswersSendable x.1 → KeepsIncoming (after_data i x)
 unfolding after_data
-heard-keeps i (r, HeardDelivered number message answer) h a = (record { last = h.last; kept = h.kept }, a)
-heard-keeps i (r, ReceiverOpened number answer) h a = (record { last = h.last; kept = h.kept }, a)
-heard-keeps i (r, HeardAgain number answer) h a = (record { last = h.last; kept = h.kept }, a)
-heard-keeps i (r, HeardKept number flags answer) h a = (record { last = h.last; kept = h.kept }, a)
-heard-keeps i (r, HeardCrc number answer) h a = (record { last = h.last; kept = h.kept }, a)
-heard-keeps i (r, HeardOrder last answer) h a = (record { last = h.last; kept = h.kept }, a)
-heard-keeps i (r, ReceiverIgnored) h a = (record { last = h.last; kept = h.kept }, tt)
+heard-keeps i (r, HeardDelivered number message answer) h a = (h, a)
+heard-keeps i (r, ReceiverOpened number answer) h a = (h, a)
+heard-keeps i (r, HeardAgain number answer) h a = (h, a)
+heard-keeps i (r, HeardKept number flags answer) h a = (h, a)
+heard-keeps i (r, HeardCrc number answer) h a = (h, a)
+heard-keeps i (r, HeardOrder last answer) h a = (h, a)
+heard-keeps i (r, ReceiverIgnored) h a = (h, tt)
 
 pub data-keeps : (i : Incoming) (packet : Packet) → IsIncoming i → KeepsIncoming (after_data i (receiver_heard i.receiver packet))
 data-keeps i packet sound =
-    let h = receiver-soundly i.receiver packet (record { last = sound.last; kept = sound.kept }) in
+    let h = receiver-soundly i.receiver packet sound in
     heard-keeps i (receiver_heard i.receiver packet) h.0 h.1
 
 -- An answer that the sender hears.
@@ -259,7 +259,8 @@ stays-keeps o message (s, HeardRepeat number tries packet) e stay sending sound 
 stays-keeps o message (s, SenderIgnored) e stay sending sound = (same-outgoing o s (Message message) (up-message message) e stay.0 sending sound, tt)
 stays-keeps o message (s, DownAtAnswer) e stay sending sound = (same-outgoing o s (Message message) (up-message message) e stay.0 sending sound, tt)
 
-message-keeps : (o : Outgoing) (message : List ℕ) (packet : Packet) (x : Sending × SenderHeard) → o.sender.outstanding ≡ Message message → HearsAnswer o.sender message packet x → IsSending x.0 → IsOutgoing o → KeepsOutgoing (after_answer o x)
+message-keeps : (o : Outgoing) (message : List ℕ) (packet : Packet) (x : Sending × SenderHeard) → o.sender.outstanding ≡ Message message → HearsAnswer o.sender message packet x → IsSending x.0 →
+    IsOutgoing o → KeepsOutgoing (after_answer o x)
 unfolding after_answer
 message-keeps o message packet x e (goes_on a is) sending sound =
     subst (λ (y : Sending × SenderHeard). KeepsOutgoing (after_answer o y)) (sym is) (acknowledged-keeps o (message-counted o message (counted-at o (Message message) e sound)), tt)

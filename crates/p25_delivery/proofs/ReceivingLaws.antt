@@ -19,7 +19,7 @@ use Rattle.p25_delivery.specs.ReceiverRules.{empty_places, keeping_full, keeping
 use Rattle.p25_delivery.specs.declared.receiver.Heard.{Heard}
 use Rattle.p25_delivery.specs.declared.receiver.Heard.TheVariants.{Delivered, Opened, Again, Kept, RefusedCrc, RefusedOrder, Ignored}
 use Rattle.p25_delivery.proofs.PlacesLaws.{length-put_slots}
-use Rattle.p25_delivery.specs.SoundHalves.{IsFew, IsIncoming}
+use Rattle.p25_delivery.specs.SoundHalves.{IsFew, IsReceiving}
 use Rattle.p25_delivery.proofs.HeadLaws.{blocks-few}
 use Rattle.p25_delivery.proofs.SendableLaws.{short_response-sendable, retry_packet-sendable}
 
@@ -32,11 +32,6 @@ AnswersSendable (Kept number flags answer) = IsSendable answer
 AnswersSendable (RefusedCrc number answer) = IsSendable answer
 AnswersSendable (RefusedOrder last answer) = IsSendable answer
 AnswersSendable Ignored = Unit {0}
-
--- what every receiver keeps
-pub record IsReceiving (r : Receiving) : Type 0 where
-  pub last : r.last < 8
-  pub kept : IfSome r.kept IsFew
 
 abbrev pub HearsSoundly : Receiving × Heard → Type 0
 HearsSoundly x = IsReceiving x.0 × AnswersSendable x.1
@@ -138,8 +133,6 @@ receiver-soundly r (Confirmed packet) h =
     = elim (head_syn packet.head) as (λ (b : Bool). HearsSoundly (cond b opening more)) [ true ↦ opening-soundly r packet.head h | false ↦ data-soundly r packet h ] in
     elim (eqb (head_llid packet.head) station_llid) as (λ (b : Bool). HearsSoundly (cond b (cond (head_syn packet.head) opening more) (r, Ignored))) [ true ↦ ours | false ↦ (h, tt) ]
 
--- What a receiving half keeps, whatever was delivered to it.
-pub hears-incoming : (r s : Receiving) (packet : Packet) (received : List (List ℕ)) → s ≡ (receiver_heard r packet).0 → r.last < 8 → IfSome r.kept IsFew → IsIncoming (record { receiver = s; received = received })
-hears-incoming r s packet received e last kept =
-    let heard : IsReceiving s = subst IsReceiving (sym e) (receiver-soundly r packet (record { last = last; kept = kept })).0 in
-    record { last = heard.last; kept = heard.kept }
+-- what is kept by a receiver that heard a packet
+pub hears-soundly : (r s : Receiving) (packet : Packet) → s ≡ (receiver_heard r packet).0 → IsReceiving r → IsReceiving s
+hears-soundly r s packet e h = subst IsReceiving (sym e) (receiver-soundly r packet h).0

@@ -85,31 +85,29 @@ sessions-split w = sessions-from first_mark w.outbound.marks w
 
 -- they stay where the lists grow
 
-ended-more_sent : (limit from : Mark) (marks : List Mark) (sent received more : List (List ℕ)) → limit.sent ≤ length sent → IsWithin limit from → All (IsWithin limit) marks → ended_from from marks (sent ++ more) received ≡ ended_from from marks sent received
-unfolding ended_from
-ended-more_sent limit from [] sent received more l here all = refl
-ended-more_sent limit from (to ∷ marks) sent received more l here all =
-    let next = All-head (IsWithin limit) to marks all in
-    ap₂ (λ (xs : List (List ℕ)) (rest : List Session). record { sent = xs; delivered = part from.delivered (to.delivered - from.delivered) received; acknowledged = to.acknowledged - from.acknowledged } ∷ rest)
-    (part_left from.sent (to.sent - from.sent) sent more (omega (arith, here.sent, next.sent, l)))
-    (ended-more_sent limit to marks sent received more l next (All-tail (IsWithin limit) to marks all))
+-- a list has the parts of another, and may have more
+abbrev Extends : List (List ℕ) → List (List ℕ) → Type 0
+Extends xs ys = (at count : ℕ) → at + count ≤ length xs → part at count ys ≡ part at count xs
 
-ended-more_received : (limit from : Mark) (marks : List Mark) (sent received more : List (List ℕ)) → limit.delivered ≤ length received → IsWithin limit from → All (IsWithin limit) marks →
-    ended_from from marks sent (received ++ more) ≡ ended_from from marks sent received
+ended-more : (limit from : Mark) (marks : List Mark) (sent received more_sent more_received : List (List ℕ)) → limit.sent ≤ length sent → limit.delivered ≤ length received →
+    Extends sent more_sent → Extends received more_received → IsWithin limit from → All (IsWithin limit) marks →
+    ended_from from marks more_sent more_received ≡ ended_from from marks sent received
 unfolding ended_from
-ended-more_received limit from [] sent received more l here all = refl
-ended-more_received limit from (to ∷ marks) sent received more l here all =
+ended-more limit from [] sent received more_sent more_received s r e f here all = refl
+ended-more limit from (to ∷ marks) sent received more_sent more_received s r e f here all =
     let next = All-head (IsWithin limit) to marks all in
-    ap₂ (λ (xs : List (List ℕ)) (rest : List Session). record { sent = part from.sent (to.sent - from.sent) sent; delivered = xs; acknowledged = to.acknowledged - from.acknowledged } ∷ rest)
-    (part_left from.delivered (to.delivered - from.delivered) received more (omega (arith, here.delivered, next.delivered, l)))
-    (ended-more_received limit to marks sent received more l next (All-tail (IsWithin limit) to marks all))
+    let session : List (List ℕ) → List (List ℕ) → Session = λ (xs ys : List (List ℕ)). record { sent = xs; delivered = ys; acknowledged = to.acknowledged - from.acknowledged } in
+    ap₂ (λ (x : Session) (rest : List Session). x ∷ rest)
+    (ap₂ session (e from.sent (to.sent - from.sent) (omega (arith, here.sent, next.sent, s))) (f from.delivered (to.delivered - from.delivered) (omega (arith, here.delivered, next.delivered, r))))
+    (ended-more limit to marks sent received more_sent more_received s r e f next (All-tail (IsWithin limit) to marks all))
 
 -- and a mark ends one more
 
-ended-more_marks : (from to : Mark) (marks : List Mark) (w : Link) → ended_from from (marks ++ to ∷ []) w.outbound.sent w.inbound.received ≡ ended_from from marks w.outbound.sent w.inbound.received ++ session_between (last_mark from marks) to w ∷ []
+ended-marked : (from to : Mark) (marks : List Mark) (w : Link) → ended_from from (marks ++ to ∷ []) w.outbound.sent w.inbound.received ≡ ended_from from marks w.outbound.sent w.inbound.received ++
+    session_between (last_mark from marks) to w ∷ []
 unfolding ended_from last_mark
-ended-more_marks from to [] w = refl
-ended-more_marks from to (mark ∷ marks) w = ap (λ (xs : List Session). session_between from mark w ∷ xs) (ended-more_marks mark to marks w)
+ended-marked from to [] w = refl
+ended-marked from to (mark ∷ marks) w = ap (λ (xs : List Session). session_between from mark w ∷ xs) (ended-marked mark to marks w)
 
 -- The present session, with one more message.
 
@@ -157,13 +155,15 @@ pub divided-sent : (P : Session → Type 0) (w : Link) (message : List ℕ) → 
 divided-sent P w message h =
     let limit = present_mark w in
     divided-more P w (one_sent w message) (record { sent = omega (arith, length-append w.outbound.sent (message ∷ [])); delivered = omega arith; acknowledged = omega arith })
-    (ended-more_sent limit first_mark w.outbound.marks w.outbound.sent w.inbound.received (message ∷ []) (omega arith) (first-within limit) h.0) refl h
+    (ended-more limit first_mark w.outbound.marks w.outbound.sent w.inbound.received (w.outbound.sent ++ message ∷ []) w.inbound.received (omega arith) (omega arith)
+    (λ (at count : ℕ) (fits : at + count ≤ length w.outbound.sent). part_left at count w.outbound.sent (message ∷ []) fits) (λ (at count : ℕ) (fits : at + count ≤ length w.inbound.received). refl) (first-within limit) h.0) refl h
 
 pub divided-delivered : (P : Session → Type 0) (w : Link) (message : List ℕ) → IsDivided P w → IsDivided P (one_delivered w message)
 divided-delivered P w message h =
     let limit = present_mark w in
     divided-more P w (one_delivered w message) (record { sent = omega arith; delivered = omega (arith, length-append w.inbound.received (message ∷ [])); acknowledged = omega arith })
-    (ended-more_received limit first_mark w.outbound.marks w.outbound.sent w.inbound.received (message ∷ []) (omega arith) (first-within limit) h.0) refl h
+    (ended-more limit first_mark w.outbound.marks w.outbound.sent w.inbound.received w.outbound.sent (w.inbound.received ++ message ∷ []) (omega arith) (omega arith)
+    (λ (at count : ℕ) (fits : at + count ≤ length w.outbound.sent). refl) (λ (at count : ℕ) (fits : at + count ≤ length w.inbound.received). part_left at count w.inbound.received (message ∷ []) fits) (first-within limit) h.0) refl h
 
 pub divided-acknowledged : (P : Session → Type 0) (w : Link) → IsDivided P w → IsDivided P (one_acknowledged w)
 divided-acknowledged P w h = divided-more P w (one_acknowledged w) (record { sent = omega arith; delivered = omega arith; acknowledged = omega arith }) refl refl h
@@ -172,7 +172,7 @@ pub divided-marked : (P : Session → Type 0) (w : Link) → IsDivided P w → P
 divided-marked P w h p =
     let limit = present_mark w in (
       All-push (IsWithin limit) w.outbound.marks limit h.0 (record { sent = omega arith; delivered = omega arith; acknowledged = omega arith }),
-      subst (All P) (sym (ended-more_marks first_mark limit w.outbound.marks w)) (All-push P (ended_sessions w) (present_session w) h.1 p),
+      subst (All P) (sym (ended-marked first_mark limit w.outbound.marks w)) (All-push P (ended_sessions w) (present_session w) h.1 p),
     )
 
 pub first-divided : (P : Session → Type 0) → IsDivided P first_link

@@ -8,35 +8,35 @@ use Rattle.p25_delivery.specs.declared.step_kind.StepKind.{StepKind}
 use Rattle.p25_delivery.specs.Halves.{Incoming}
 use Rattle.p25_delivery.specs.HalvesInside.{incoming_of}
 use Rattle.p25_delivery.specs.SoundHalves.{IsIncoming}
-use Rattle.p25_delivery.proofs.ReceivingLaws.{AnswersSendable, receiver-soundly, hears-incoming}
+use Rattle.p25_delivery.proofs.ReceivingLaws.{AnswersSendable, receiver-soundly, hears-soundly}
 use Rattle.p25_delivery.proofs.inbound.Inbound.hear.Goals as goal
 use Rattle.p25_delivery.proofs.inbound.Inbound.hear.Goals.{in-Delivered, in-Opened, in-Again, in-Kept, in-RefusedCrc, in-RefusedOrder}
 
 -- the answer to a packet that is heard can be sent
 sendable : (i : Incoming) (packet : Packet) (given answer : Heard) → given ≡ (receiver_heard i.receiver packet).1 → given ≡ answer → IsIncoming i → AnswersSendable answer
 sendable i packet given answer is same sound =
-    subst AnswersSendable same (subst AnswersSendable (sym is) (receiver-soundly i.receiver packet (record { last = sound.last; kept = sound.kept })).1)
+    subst AnswersSendable same (subst AnswersSendable (sym is) (receiver-soundly i.receiver packet sound).1)
 
 pub invariant_of-self : goal.invariant_of-self
-invariant_of-self c = hears-incoming c.self.inside.receiver c.hear.new.self c.args.packet.now c.push.new.self.list c.hear.ensures.state c.self.invariant.last c.self.invariant.kept
+invariant_of-self c = hears-soundly c.self.inside.receiver c.hear.new.self c.args.packet.now c.hear.ensures.state c.self.invariant
 
 pub invariant_of-self-in-Opened : goal.invariant_of-self-in-Opened
-invariant_of-self-in-Opened c = hears-incoming c.self.inside.receiver c.hear.new.self c.args.packet.now c.self.inside.received.list c.hear.ensures.state c.self.invariant.last c.self.invariant.kept
+invariant_of-self-in-Opened c = hears-soundly c.self.inside.receiver c.hear.new.self c.args.packet.now c.hear.ensures.state c.self.invariant
 
 pub invariant_of-self-in-Again : goal.invariant_of-self-in-Again
-invariant_of-self-in-Again c = hears-incoming c.self.inside.receiver c.hear.new.self c.args.packet.now c.self.inside.received.list c.hear.ensures.state c.self.invariant.last c.self.invariant.kept
+invariant_of-self-in-Again c = hears-soundly c.self.inside.receiver c.hear.new.self c.args.packet.now c.hear.ensures.state c.self.invariant
 
 pub invariant_of-self-in-Kept : goal.invariant_of-self-in-Kept
-invariant_of-self-in-Kept c = hears-incoming c.self.inside.receiver c.hear.new.self c.args.packet.now c.self.inside.received.list c.hear.ensures.state c.self.invariant.last c.self.invariant.kept
+invariant_of-self-in-Kept c = hears-soundly c.self.inside.receiver c.hear.new.self c.args.packet.now c.hear.ensures.state c.self.invariant
 
 pub invariant_of-self-in-RefusedCrc : goal.invariant_of-self-in-RefusedCrc
-invariant_of-self-in-RefusedCrc c = hears-incoming c.self.inside.receiver c.hear.new.self c.args.packet.now c.self.inside.received.list c.hear.ensures.state c.self.invariant.last c.self.invariant.kept
+invariant_of-self-in-RefusedCrc c = hears-soundly c.self.inside.receiver c.hear.new.self c.args.packet.now c.hear.ensures.state c.self.invariant
 
 pub invariant_of-self-in-RefusedOrder : goal.invariant_of-self-in-RefusedOrder
-invariant_of-self-in-RefusedOrder c = hears-incoming c.self.inside.receiver c.hear.new.self c.args.packet.now c.self.inside.received.list c.hear.ensures.state c.self.invariant.last c.self.invariant.kept
+invariant_of-self-in-RefusedOrder c = hears-soundly c.self.inside.receiver c.hear.new.self c.args.packet.now c.hear.ensures.state c.self.invariant
 
 pub invariant_of-self-in-Ignored : goal.invariant_of-self-in-Ignored
-invariant_of-self-in-Ignored c = hears-incoming c.self.inside.receiver c.hear.new.self c.args.packet.now c.self.inside.received.list c.hear.ensures.state c.self.invariant.last c.self.invariant.kept
+invariant_of-self-in-Ignored c = hears-soundly c.self.inside.receiver c.hear.new.self c.args.packet.now c.hear.ensures.state c.self.invariant
 
 pub returns-clause-sendable : goal.returns-clause-sendable
 returns-clause-sendable c =
