@@ -6,4 +6,3 @@ pub mod StationRules
 pub mod DuplexSteps
 pub mod DuplexRuns
 pub mod SideLinks
-pub mod DuplexTexts
