@@ -2,4 +2,3 @@ pub mod Sides
 pub mod DuplexState
 pub mod DuplexSteps
 pub mod DuplexRuns
-pub mod DuplexTexts

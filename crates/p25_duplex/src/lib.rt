@@ -19,10 +19,8 @@ mod event;
 pub mod laws;
 mod side;
 mod station;
-mod texts;
 mod world;
 
 pub use event::{DuplexEvent, DuplexStep};
 pub use side::Side;
-pub use texts::{duplex_closing, duplex_step_text};
 pub use world::DuplexWorld;
