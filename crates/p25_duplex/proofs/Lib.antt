@@ -1,4 +1,3 @@
-pub mod StationSoundLaws
 pub mod PairLaws
 pub mod SimulationLaws
 pub mod KindLaws

@@ -29,11 +29,11 @@ abbrev pub after_receiving : StationState → Link × StepKind → StationState 
 after_receiving own (link, kind) = (record own { inbound = link.inbound; newest = link.answer }, kind)
 
 -- an answer is a packet of format 03 hex; every other is data
-unfoldable pub is_answer : Packet → Bool
+abbrev pub is_answer : Packet → Bool
 is_answer packet = eqb (head_format (packet_head packet)) 3
 
 -- a station hears a packet: an answer by its half that sends, data by its half that receives
-unfoldable pub heard_as : Bool → StationState → StationState → Packet → StationState × StepKind
+abbrev pub heard_as : Bool → StationState → StationState → Packet → StationState × StepKind
 heard_as true own other packet = after_sending own (happens (link_between own other) (Answer_heard packet))
 heard_as false own other packet = after_receiving own (happens (link_between other own) (Data_heard packet))
 
@@ -42,13 +42,13 @@ abbrev pub station_told : Bool → StationState × StepKind → StationState × 
 station_told false_pass (station, kind) = (station, record { kind = kind; false_pass = false_pass })
 
 -- what is carried comes to a station
-unfoldable pub carried_to : StationState → StationState → Carried → StationState × Step
+abbrev pub carried_to : StationState → StationState → Carried → StationState × Step
 carried_to own other (CarriedLost field) = station_told false (own, Lost Packets field)
 carried_to own other Foreign = station_told false (own, Ignored Packets)
 carried_to own other (Heard packet false_pass) = station_told false_pass (heard_as (is_answer packet) own other packet)
 
 -- the newest transmission of the other station is delivered to a station, where there is one
-unfoldable pub delivered_to : StationState → StationState → Option Packet → List ℕ → StationState × Step
+abbrev pub delivered_to : StationState → StationState → Option Packet → List ℕ → StationState × Step
 delivered_to own other None flips = station_told false (own, Nothing Packets)
 delivered_to own other (Some packet) flips = carried_to own other (carried_of packet flips)
 
@@ -60,7 +60,7 @@ side_of (Reopen side) = side
 side_of (Deliver to flips) = to
 
 -- what an event makes of the station at which it happens, beside the other, and the step of that station
-unfoldable pub station_step : StationState → StationState → DuplexEvent → StationState × Step
+abbrev pub station_step : StationState → StationState → DuplexEvent → StationState × Step
 station_step own other (Send side message) = station_told false (after_sending own (happens (link_between own other) (Offering message)))
 station_step own other (Timeout side) = station_told false (after_sending own (happens (link_between own other) Time_up))
 station_step own other (Reopen side) = station_told false (after_sending own (happens (link_between own other) Opening_again))

@@ -28,6 +28,9 @@ impl Model for Station {
 
     ghost Value = { StationParts };
 
+    ghost use Rattle.std.specs.Prelude.{IfSome};
+    ghost use Rattle.p25_packet_blocks.specs.Sendable.{IsSendable};
+
     ghost view = { λ t. record {
         state = record { outbound = t.outbound.half; inbound = t.inbound.half; newest = t.newest };
         spare = min t.outbound.spare t.inbound.spare } };
@@ -78,14 +81,13 @@ impl Station {
 
 impl Station {
     ghost use Rattle.p25_delivery.specs.Link.{newest_after};
-    ghost use Rattle.p25_duplex.specs.DuplexSteps.{is_answer, heard_as, station_told, delivered_to, station_step};
+    ghost use Rattle.p25_duplex.specs.DuplexSteps.{delivered_to, station_step};
 
     // Answers the step that an event of this station is, beside the other station, and has it happen. There is room for it.
-    #[tactic(auto, unfolding(crate::specs::DuplexSteps::station_step))]
+    #[tactic(auto, unfolding(p25_delivery::specs::Link::happens, p25_delivery::specs::Link::with_outbound))]
     pub(crate) fn step(&mut self, event: &DuplexEvent, other: &Station) -> Step
         requires { 0 < self.old.spare }
-        ensures state { self.new.state ≡ (station_step self.old.state other.now.state event.now).0 }
-        ensures step { result ≡ (station_step self.old.state other.now.state event.now).1 }
+        ensures { (self.new.state, result) ≡ station_step self.old.state other.now.state event.now }
     {
         match event {
             DuplexEvent::Send(_, message) => {
@@ -106,7 +108,7 @@ impl Station {
     }
 
     // Makes the packet of a call the newest transmission, where there is one, and answers what happened as a step.
-    #[tactic(auto, unfolding(Rattle::p25_delivery::specs::Link::newest_after))]
+    #[tactic(auto, unfolding(p25_delivery::specs::Link::newest_after))]
     fn told(&mut self, done: (StepKind, Option<Packet>), false_pass: bool) -> Step
         requires { IfSome done.1 IsSendable }
         ensures state { self.new.state ≡ record self.old.state { newest = newest_after done.1 self.old.state.newest } }
@@ -119,29 +121,12 @@ impl Station {
         Step { kind, false_pass }
     }
 
-    // Hears a packet: an answer by its half that sends, data by its half that receives.
-    #[tactic(auto, unfolding(crate::specs::DuplexSteps::heard_as, crate::specs::DuplexSteps::is_answer))]
-    fn hear(&mut self, other: &Station, packet: &Packet, false_pass: bool) -> Step
-        requires { 0 < self.old.spare }
-        ensures state { self.new.state ≡ (heard_as (is_answer packet.now) self.old.state other.now.state packet.now).0 }
-        ensures step { result ≡
-            (station_told false_pass (heard_as (is_answer packet.now) self.old.state other.now.state packet.now)).1 }
-    {
-        if packet.head().format() == RESPONSE_FORMAT {
-            let done = self.outbound.hear(packet);
-            self.told(done, false_pass)
-        } else {
-            let done = self.inbound.hear(packet);
-            self.told(done, false_pass)
-        }
-    }
-
-    // Delivers the newest transmission of the other station.
-    #[tactic(auto, unfolding(crate::specs::DuplexSteps::delivered_to, crate::specs::DuplexSteps::carried_to))]
+    // Delivers the newest transmission of the other station. An answer is heard by the half that sends, data by the half that
+    // receives.
+    #[tactic(auto, unfolding(p25_delivery::specs::Link::happens, p25_delivery::specs::Link::with_outbound, p25_delivery::specs::Link::with_inbound))]
     fn deliver(&mut self, other: &Station, flips: &Flips) -> Step
         requires { 0 < self.old.spare }
-        ensures state { self.new.state ≡ (delivered_to self.old.state other.now.state other.now.state.newest flips.now).0 }
-        ensures step { result ≡ (delivered_to self.old.state other.now.state other.now.state.newest flips.now).1 }
+        ensures { (self.new.state, result) ≡ delivered_to self.old.state other.now.state other.now.state.newest flips.now }
     {
         let way = Way::Packets;
         let carried = match &other.newest {
@@ -151,7 +136,15 @@ impl Station {
         match carried {
             Carried::Lost(field) => quiet(StepKind::Lost { way, field }),
             Carried::Foreign => quiet(StepKind::Ignored { way }),
-            Carried::Heard { packet, false_pass } => self.hear(other, &packet, false_pass),
+            Carried::Heard { packet, false_pass } => {
+                if packet.head().format() == RESPONSE_FORMAT {
+                    let done = self.outbound.hear(&packet);
+                    self.told(done, false_pass)
+                } else {
+                    let done = self.inbound.hear(&packet);
+                    self.told(done, false_pass)
+                }
+            }
         }
     }
 }

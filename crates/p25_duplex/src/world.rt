@@ -1,12 +1,15 @@
 //! The two stations of the duplex world, and the air between them.
 
 ghost use Rattle.std.specs.Prelude.{◌≡◌, ◌+◌, ◌<◌, ◌≤◌, length, OnOk, OnErr, IfOk};
-ghost use Rattle.p25_duplex.specs.DuplexSteps.{duplex_step};
+ghost use Rattle.p25_stations.specs.Steps.{counted_when};
+ghost use Rattle.p25_duplex.specs.Sides.{other_side};
+ghost use Rattle.p25_duplex.specs.DuplexSteps.{station_step, duplex_step};
 
 use crate::event::{DuplexEvent, DuplexStep};
 use crate::side::Side;
 use crate::station::Station;
 use p25_messages::MessageList;
+use p25_stations::Step;
 use std::alloc::{AllocError, Global};
 use std::marker::Model;
 
@@ -30,7 +33,7 @@ impl Model for DuplexWorld {
 }
 
 impl DuplexWorld {
-    ghost use Rattle.p25_duplex.specs.DuplexState.{first_duplex, station_at, link_at};
+    ghost use Rattle.p25_duplex.specs.DuplexState.{first_duplex, station_at, with_station, link_at};
 
     /// Answers a world before its first step: nothing was sent, and both receivers wait for the first message. It takes no
     /// memory.
@@ -89,6 +92,20 @@ impl DuplexWorld {
         self.false_passes
     }
 
+    // Has an event happen at the station of a side, and answers that station's step. There is room for it.
+    fn act(&mut self, side: Side, event: &DuplexEvent) -> Step
+        requires { 0 < self.old.spare }
+        ensures state { let x = station_step (station_at side self.old.state) (station_at (other_side side) self.old.state) event.now in
+            self.new.state ≡ with_station side x.0 self.old.state }
+        ensures step { let x = station_step (station_at side self.old.state) (station_at (other_side side) self.old.state) event.now in
+            result ≡ x.1 }
+    {
+        match side {
+            Side::A => self.a.step(event, &self.b),
+            Side::B => self.b.step(event, &self.a),
+        }
+    }
+
     // Answers the step that an event is, and has it happen. There is room for it, and it takes no memory.
     #[tactic(auto, unfolding(crate::specs::DuplexSteps::duplex_step))]
     fn step_ready(&mut self, event: &DuplexEvent) -> DuplexStep
@@ -96,13 +113,8 @@ impl DuplexWorld {
         ensures { (self.new.state, result) ≡ duplex_step self.old.state event.now }
     {
         let side = event.side();
-        let step = match side {
-            Side::A => self.a.step(event, &self.b),
-            Side::B => self.b.step(event, &self.a),
-        };
-        if step.false_pass {
-            self.false_passes = self.false_passes.saturating_add(1);
-        }
+        let step = self.act(side, event);
+        self.false_passes = counted(self.false_passes, step.false_pass);
         DuplexStep { side, step }
     }
 
@@ -116,5 +128,17 @@ impl DuplexWorld {
         self.a.reserve()?;
         self.b.reserve()?;
         Ok(self.step_ready(event))
+    }
+}
+
+// So many false passes, and one more where it is one.
+#[tactic(auto, unfolding(p25_stations::specs::Steps::counted_when))]
+fn counted(false_passes: u64, false_pass: bool) -> u64
+    ensures { result ≡ counted_when false_pass false_passes }
+{
+    if false_pass {
+        false_passes.saturating_add(1)
+    } else {
+        false_passes
     }
 }
