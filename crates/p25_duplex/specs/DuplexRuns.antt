@@ -46,17 +46,18 @@ abbrev pub answer_in : Option Packet → Option Packet
 answer_in None = None
 answer_in (Some packet) = if is_answer packet then Some packet else None
 
--- the newest transmission of one of these kinds that a side's direction carried in a run
-unfoldable pub newest_in : (Option Packet → Option Packet) → Side → DuplexState → List DuplexEvent → Option Packet
-newest_in kind side d [] = kind (station_at side d).newest
-newest_in kind side d (event ∷ events) =
-    newest_after (newest_in kind side (duplex_step d event).0 events) (kind (station_at side d).newest)
+-- the newest transmission of one of these kinds that a side's direction carried up to the end of a run, by that before the run
+unfoldable pub newest_in : (Option Packet → Option Packet) → Side → Option Packet → DuplexState → List DuplexEvent → Option Packet
+newest_in kind side newest d [] = newest
+newest_in kind side newest d (event ∷ events) =
+    let next = (duplex_step d event).0 in
+    newest_in kind side (newest_after (kind (station_at side next).newest) newest) next events
 
 -- the link of a side's messages after a list of events, with the newest data that the side's direction carried, and the newest
 -- answer that the other's carried
 abbrev pub link_after : Side → List DuplexEvent → Link
 link_after side events =
     record (link_at side (duplex_run first_duplex events)) {
-      packet_sent = newest_in data_in side first_duplex events;
-      answer = newest_in answer_in (other_side side) first_duplex events;
+      packet_sent = newest_in data_in side None first_duplex events;
+      answer = newest_in answer_in (other_side side) None first_duplex events;
     }
