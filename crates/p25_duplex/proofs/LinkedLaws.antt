@@ -105,25 +105,13 @@ stays mine its n m l = (rests mine its n l.0, rests its mine m l.1)
 
 -- What a station sends then is the newest transmission of its direction: data at its own link, an answer at the other's.
 
-data-newest : (sent : Option Packet) (packet : Packet) (b : Bool) → b ≡ false → newest_after (if b then None else Some packet) sent ≡ Some packet
-unfolding newest_after
-data-newest sent packet true e = cc
-data-newest sent packet false e = refl
+-- what a direction carried as data, or as answers, after a packet that is an answer or not
 
-data-no_answer : (answer : Option Packet) (packet : Packet) (b : Bool) → b ≡ false → newest_after (if b then Some packet else None) answer ≡ answer
-unfolding newest_after
-data-no_answer answer packet true e = cc
-data-no_answer answer packet false e = refl
+abbrev as_data : Option Packet → Packet → Bool → Option Packet
+as_data sent packet answer = newest_after (if answer then None else Some packet) sent
 
-answer-newest : (answer : Option Packet) (packet : Packet) (b : Bool) → b ≡ true → newest_after (if b then Some packet else None) answer ≡ Some packet
-unfolding newest_after
-answer-newest answer packet true e = refl
-answer-newest answer packet false e = cc
-
-answer-no_data : (sent : Option Packet) (packet : Packet) (b : Bool) → b ≡ true → newest_after (if b then None else Some packet) sent ≡ sent
-unfolding newest_after
-answer-no_data sent packet true e = refl
-answer-no_data sent packet false e = cc
+abbrev as_answer : Option Packet → Packet → Bool → Option Packet
+as_answer newest packet answer = newest_after (if answer then Some packet else None) newest
 
 sends : (mine its : StationState) (n m : Newest) (x : Outgoing × (StepKind × Option Packet)) → AreLinks mine its n m → IsRunLink (with_outbound (linked mine its n) x).0 →
     AreFollowed (record mine { outbound = x.0; newest = newest_after x.1.1 mine.newest }) its n m
@@ -135,8 +123,8 @@ sends mine its n m (o, (kind, Some packet)) l r =
     let after : StationState = record mine { outbound = o; newest = Some packet } in
     let now : Newest = record n { sent = Some packet } in
     let kind_is = sent-data (linked after its now) packet (run-facts _ r) refl in
-    (follows after its n now (data-newest n.sent packet (is_answer packet) kind_is) l.0.answer_is r,
-    follows its after m m l.1.data_is (data-no_answer m.answer packet (is_answer packet) kind_is) l.1.runs)
+    (follows after its n now (ap (as_data n.sent packet) kind_is) l.0.answer_is r,
+    follows its after m m l.1.data_is (ap (as_answer m.answer packet) kind_is) l.1.runs)
 
 answers : (mine its : StationState) (n m : Newest) (x : Incoming × (StepKind × Option Packet)) → AreLinks mine its n m → IsRunLink (with_inbound (linked its mine m) x).0 →
     AreFollowed (record mine { inbound = x.0; newest = newest_after x.1.1 mine.newest }) its n m
@@ -148,23 +136,25 @@ answers mine its n m (i, (kind, Some packet)) l r =
     let after : StationState = record mine { inbound = i; newest = Some packet } in
     let now : Newest = record m { answer = Some packet } in
     let kind_is = answered-answer (linked its after now) packet (run-facts _ r) refl in
-    (follows after its n n (answer-no_data n.sent packet (is_answer packet) kind_is) l.0.answer_is l.0.runs,
-    follows its after m now l.1.data_is (answer-newest m.answer packet (is_answer packet) kind_is) r)
+    (follows after its n n (ap (as_data n.sent packet) kind_is) l.0.answer_is l.0.runs,
+    follows its after m now l.1.data_is (ap (as_answer m.answer packet) kind_is) r)
 
 -- A station hears a packet that is true to what the other sent: to the newest data of the other's link, or to the newest answer of
 -- its own.
 
 heard-data : (own other : StationState) (n : Newest) (sent packet : Packet) → IsLinkOf own other n → own.newest ≡ Some sent → IsTrueTo sent packet → IsData packet → IsHeardOf n.sent packet
+unfolding newest_after
 heard-data own other n sent packet l e t kind_is = record {
   sent = sent;
-  newest_is = sym l.data_is ∙ ap (λ (o : Option Packet). newest_after (data_in o) n.sent) e ∙ data-newest n.sent sent (is_answer sent) (true-kind sent packet t ∙ kind_is);
+  newest_is = sym l.data_is ∙ ap (λ (o : Option Packet). newest_after (data_in o) n.sent) e ∙ ap (as_data n.sent sent) (true-kind sent packet t ∙ kind_is);
   true_to = t;
 }
 
 heard-answer : (own other : StationState) (n : Newest) (sent packet : Packet) → IsLinkOf own other n → other.newest ≡ Some sent → IsTrueTo sent packet → IsAnswer packet → IsHeardOf n.answer packet
+unfolding newest_after
 heard-answer own other n sent packet l e t kind_is = record {
   sent = sent;
-  newest_is = sym l.answer_is ∙ ap (λ (o : Option Packet). newest_after (answer_in o) n.answer) e ∙ answer-newest n.answer sent (is_answer sent) (true-kind sent packet t ∙ kind_is);
+  newest_is = sym l.answer_is ∙ ap (λ (o : Option Packet). newest_after (answer_in o) n.answer) e ∙ ap (as_answer n.answer sent) (true-kind sent packet t ∙ kind_is);
   true_to = t;
 }
 
