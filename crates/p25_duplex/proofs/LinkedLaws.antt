@@ -19,7 +19,7 @@ use Rattle.p25_stations.proofs.AirLaws.{air-true}
 use Rattle.p25_duplex.specs.declared.event.DuplexEvent.{DuplexEvent}
 use Rattle.p25_duplex.specs.declared.event.DuplexEvent.TheVariants.{Send, Timeout, Reopen, Deliver}
 use Rattle.p25_duplex.specs.DuplexState.{StationState}
-use Rattle.p25_duplex.specs.DuplexSteps.{is_answer, heard_as, carried_to, delivered_to, station_step}
+use Rattle.p25_duplex.specs.DuplexSteps.{is_answer, heard_as, carried_at, delivered_at, station_step}
 use Rattle.p25_duplex.specs.DuplexRuns.{IsDuplexEvent, data_in, answer_in}
 use Rattle.p25_duplex.proofs.KindLaws.{IsData, IsAnswer, sent-data, answered-answer, true-kind}
 
@@ -122,9 +122,10 @@ sends mine its n m (o, (kind, None)) l r =
 sends mine its n m (o, (kind, Some packet)) l r =
     let after : StationState = record mine { outbound = o; newest = Some packet } in
     let now : Newest = record n { sent = Some packet } in
-    let kind_is = sent-data (linked after its now) packet (run-facts _ r) refl in
-    (follows after its n now (ap (as_data n.sent packet) kind_is) l.0.answer_is r,
-    follows its after m m l.1.data_is (ap (as_answer m.answer packet) kind_is) l.1.runs)
+    let kind_is = sent-data (linked after its now) packet (run-facts _ r) refl in (
+      follows after its n now (ap (as_data n.sent packet) kind_is) l.0.answer_is r,
+      follows its after m m l.1.data_is (ap (as_answer m.answer packet) kind_is) l.1.runs,
+    )
 
 answers : (mine its : StationState) (n m : Newest) (x : Incoming × (StepKind × Option Packet)) → AreLinks mine its n m → IsRunLink (with_inbound (linked its mine m) x).0 →
     AreFollowed (record mine { inbound = x.0; newest = newest_after x.1.1 mine.newest }) its n m
@@ -135,9 +136,10 @@ answers mine its n m (i, (kind, None)) l r =
 answers mine its n m (i, (kind, Some packet)) l r =
     let after : StationState = record mine { inbound = i; newest = Some packet } in
     let now : Newest = record m { answer = Some packet } in
-    let kind_is = answered-answer (linked its after now) packet (run-facts _ r) refl in
-    (follows after its n n (ap (as_data n.sent packet) kind_is) l.0.answer_is l.0.runs,
-    follows its after m now l.1.data_is (ap (as_answer m.answer packet) kind_is) r)
+    let kind_is = answered-answer (linked its after now) packet (run-facts _ r) refl in (
+      follows after its n n (ap (as_data n.sent packet) kind_is) l.0.answer_is l.0.runs,
+      follows its after m now l.1.data_is (ap (as_answer m.answer packet) kind_is) r,
+    )
 
 -- A station hears a packet that is true to what the other sent: to the newest data of the other's link, or to the newest answer of
 -- its own.
@@ -169,14 +171,14 @@ hears false mine its n m sent packet l e t b =
     answers mine its n m (after_data mine.inbound (receiver_heard mine.inbound.receiver packet)) l run
 
 carries : (mine its : StationState) (n m : Newest) (sent : Packet) (flips : List ℕ) (carried : Carried) → AreLinks mine its n m → its.newest ≡ Some sent → carried_of sent flips ≡ carried →
-    (carried_to mine its carried).1.false_pass ≡ false → AreFollowed (carried_to mine its carried).0 its n m
+    (carried_at mine its carried).1.false_pass ≡ false → AreFollowed (carried_at mine its carried).0 its n m
 carries mine its n m sent flips (Lost field) l e c f = stays mine its n m l
 carries mine its n m sent flips Foreign l e c f = stays mine its n m l
 carries mine its n m sent flips (Heard packet false_pass) l e c f =
     hears (is_answer packet) mine its n m sent packet l e (air-true sent flips packet (c ∙ ap (λ (b : Bool). Heard packet b) f)) refl
 
 delivers : (mine its : StationState) (n m : Newest) (newest : Option Packet) (flips : List ℕ) → AreLinks mine its n m → its.newest ≡ newest →
-    (delivered_to mine its newest flips).1.false_pass ≡ false → AreFollowed (delivered_to mine its newest flips).0 its n m
+    (delivered_at mine its newest flips).1.false_pass ≡ false → AreFollowed (delivered_at mine its newest flips).0 its n m
 delivers mine its n m None flips l e f = stays mine its n m l
 delivers mine its n m (Some sent) flips l e f = carries mine its n m sent flips (carried_of sent flips) l e refl f
 

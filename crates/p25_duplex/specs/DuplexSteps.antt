@@ -42,15 +42,15 @@ abbrev pub station_told : Bool → StationState × StepKind → StationState × 
 station_told false_pass (station, kind) = (station, record { kind = kind; false_pass = false_pass })
 
 -- what is carried comes to a station
-abbrev pub carried_to : StationState → StationState → Carried → StationState × Step
-carried_to own other (CarriedLost field) = station_told false (own, Lost Packets field)
-carried_to own other Foreign = station_told false (own, Ignored Packets)
-carried_to own other (Heard packet false_pass) = station_told false_pass (heard_as (is_answer packet) own other packet)
+abbrev pub carried_at : StationState → StationState → Carried → StationState × Step
+carried_at own other (CarriedLost field) = station_told false (own, Lost Packets field)
+carried_at own other Foreign = station_told false (own, Ignored Packets)
+carried_at own other (Heard packet false_pass) = station_told false_pass (heard_as (is_answer packet) own other packet)
 
 -- the newest transmission of the other station is delivered to a station, where there is one
-abbrev pub delivered_to : StationState → StationState → Option Packet → List ℕ → StationState × Step
-delivered_to own other None flips = station_told false (own, Nothing Packets)
-delivered_to own other (Some packet) flips = carried_to own other (carried_of packet flips)
+abbrev pub delivered_at : StationState → StationState → Option Packet → List ℕ → StationState × Step
+delivered_at own other None flips = station_told false (own, Nothing Packets)
+delivered_at own other (Some packet) flips = carried_at own other (carried_of packet flips)
 
 -- the side at which an event happens: that which acts or hears
 abbrev pub side_of : DuplexEvent → Side
@@ -64,7 +64,7 @@ abbrev pub station_step : StationState → StationState → DuplexEvent → Stat
 station_step own other (Send side message) = station_told false (after_sending own (happens (link_between own other) (Offering message)))
 station_step own other (Timeout side) = station_told false (after_sending own (happens (link_between own other) Time_up))
 station_step own other (Reopen side) = station_told false (after_sending own (happens (link_between own other) Opening_again))
-station_step own other (Deliver to flips) = delivered_to own other other.newest flips
+station_step own other (Deliver to flips) = delivered_at own other other.newest flips
 
 -- a duplex world after the step of a station of it
 abbrev pub after_step : Side → DuplexState → StationState × Step → DuplexState × DuplexStep

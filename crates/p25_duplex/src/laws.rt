@@ -30,10 +30,10 @@ pub fn duplex_facts()
         LinkFacts (link_after side events) }
     ensures newest_data { (events : List event_type) (side : side_type) →
         IfSome (data_in (link_at side (duplex_run first_duplex events)).packet_sent)
-            (λ packet. (link_after side events).packet_sent ≡ Some packet) }
+        (λ packet. (link_after side events).packet_sent ≡ Some packet) }
     ensures newest_answer { (events : List event_type) (side : side_type) →
         IfSome (answer_in (link_at side (duplex_run first_duplex events)).answer)
-            (λ packet. (link_after side events).answer ≡ Some packet) }
+        (λ packet. (link_after side events).answer ≡ Some packet) }
 {}
 
 /// **Theorem.** Its clauses say that no step of a run was a false pass exactly where none is counted.

@@ -32,8 +32,9 @@ impl Model for Station {
     ghost use Rattle.p25_packet_blocks.specs.Sendable.{IsSendable};
 
     ghost view = { λ t. record {
-        state = record { outbound = t.outbound.half; inbound = t.inbound.half; newest = t.newest };
-        spare = min t.outbound.spare t.inbound.spare } };
+      state = record { outbound = t.outbound.half; inbound = t.inbound.half; newest = t.newest };
+      spare = min t.outbound.spare t.inbound.spare;
+    } };
 
     ghost invariant = { λ t. IfSome t.newest IsSendable };
 }
@@ -81,7 +82,7 @@ impl Station {
 
 impl Station {
     ghost use Rattle.p25_delivery.specs.Link.{newest_after};
-    ghost use Rattle.p25_duplex.specs.DuplexSteps.{delivered_to, station_step};
+    ghost use Rattle.p25_duplex.specs.DuplexSteps.{delivered_at, station_step};
 
     // Answers the step that an event of this station is, beside the other station, and has it happen. There is room for it.
     #[tactic(auto, unfolding(p25_delivery::specs::Link::happens, p25_delivery::specs::Link::with_outbound))]
@@ -126,7 +127,7 @@ impl Station {
     #[tactic(auto, unfolding(p25_delivery::specs::Link::happens, p25_delivery::specs::Link::with_outbound, p25_delivery::specs::Link::with_inbound))]
     fn deliver(&mut self, other: &Station, flips: &Flips) -> Step
         requires { 0 < self.old.spare }
-        ensures { (self.new.state, result) ≡ delivered_to self.old.state other.now.state other.now.state.newest flips.now }
+        ensures { (self.new.state, result) ≡ delivered_at self.old.state other.now.state other.now.state.newest flips.now }
     {
         let way = Way::Packets;
         let carried = match &other.newest {

@@ -28,8 +28,9 @@ impl Model for DuplexWorld {
     ghost Value = { DuplexParts };
 
     ghost view = { λ w. record {
-        state = record { a = w.a.state; b = w.b.state; false_passes = w.false_passes };
-        spare = min w.a.spare w.b.spare } };
+      state = record { a = w.a.state; b = w.b.state; false_passes = w.false_passes };
+      spare = min w.a.spare w.b.spare;
+    } };
 }
 
 impl DuplexWorld {
