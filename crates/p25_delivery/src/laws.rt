@@ -1,6 +1,6 @@
 //! The theorems on the machine and on a link of two such stations. No function here makes a call: its contract is the theorem.
 
-ghost use Rattle.std.specs.Prelude.{◌≡◌, ℕ, List, length, Some, ◌≤◌, true, [], ◌∷◌, ◌++◌};
+ghost use Rattle.std.specs.Prelude.{◌≡◌, ℕ, ◌+◌, ◌%◌, ◌≤◌, true, List, length, Some};
 ghost use Rattle.p25_packet_blocks.specs.declared.block.Slot.{Slot};
 ghost use Rattle.p25_delivery.specs.MessageBlocks.{block_count, pad_count, message_octets, unpadded};
 ghost use Rattle.p25_delivery.specs.Carried.{CarriesMessage, read_back};
