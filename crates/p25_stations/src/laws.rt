@@ -1,7 +1,7 @@
 //! What the air keeps, what every run of the world keeps, and what every run without a false pass. Each function makes no call
 //! of its own: its contract is the theorem.
 
-ghost use Rattle.std.specs.Prelude.{◌≡◌, ℕ, ◌≤◌, true, false, List, [], ◌∷◌, ◌++◌, length, None, ◌<◌, ◌↔◌};
+ghost use Rattle.std.specs.Prelude.{◌≡◌, ℕ, ◌≤◌, true, false, List, [], ◌∷◌, length, ◌<◌, ◌↔◌};
 ghost use Rattle.p25_delivery.specs.MessageBlocks.{block_count};
 ghost use Rattle.p25_delivery.specs.SenderRules.{opening_number};
 ghost use Rattle.p25_delivery.specs.declared.sender_state.Outstanding.TheVariants.{Nothing};
@@ -13,42 +13,17 @@ ghost use Rattle.p25_stations.specs.declared.step.Event.TheVariants.{Send, Reope
 ghost use Rattle.p25_delivery.specs.declared.step_kind.StepKind.TheVariants.{Taken, Reopened, Delivered, SynHeard, Acknowledged, LinkOpened};
 ghost use Rattle.p25_stations.specs.WorldState.{WorldState, first_world};
 ghost use Rattle.p25_delivery.specs.SoundHalves.{IsMessage};
-ghost use Rattle.p25_stations.specs.Sound.{IsSound};
 ghost use Rattle.p25_stations.specs.Steps.{world_step};
-ghost use Rattle.p25_stations.specs.Runs.{IsEvent, AreEvents, world_run, steps_of, IsCleanRun};
+ghost use Rattle.p25_stations.specs.Runs.{AreEvents, world_run, steps_of, IsCleanRun};
 ghost use Rattle.p25_stations.specs.RunLaws.{IsWithin, AreWithin, IsTwiceDamaged, true_step, tries_in};
 ghost use Rattle.p25_packet_blocks.specs.declared.packet.Packet.{Packet as packet_type};
 ghost use Rattle.p25_packet_blocks.specs.Sendable.{IsSendable};
 ghost use Rattle.p25_delivery.specs.Clean.{IsTrueTo};
 ghost use Rattle.p25_stations.specs.declared.air.Carried.TheVariants.{Heard as heard_packet};
 ghost use Rattle.p25_stations.specs.Air.{is_true_to, carried_of, ArrivesWithin, places_within};
-ghost use Rattle.p25_stations.specs.StepLists.{delivered_in, sent_in};
+ghost use Rattle.p25_stations.specs.StepLists.{delivered_in, sent_in, acknowledged_in};
 
 use p25_packet_blocks::laws::packet_radius;
-
-/// **Theorem.** Its clause says that after every list of events without a false pass each session is orderly: what was
-/// delivered is the beginning of what was sent, each message once, every message that was acknowledged was delivered, and
-/// one at most was delivered that was not acknowledged.
-pub fn clean_runs_are_orderly()
-    ensures { (events : List event_type) → AreEvents events → IsCleanRun events →
-        AreOrderly (sessions_of (world_run first_world events).link) }
-{}
-
-/// **Theorem.** Its clause says that the link of a world keeps the facts that `LinkFacts` names while no step was a false
-/// pass.
-pub fn world_facts()
-    ensures { (events : List event_type) → AreEvents events → IsCleanRun events → LinkFacts (world_run first_world events).link }
-{}
-
-/// **Theorem.** Its clauses say what every run keeps, clean or not. In each session what was acknowledged was sent, and
-/// one message at most was sent that was not acknowledged. A message or an opening packet is sent 16 times at most. And no
-/// step was a false pass exactly where none is counted.
-pub fn runs_are_counted()
-    ensures sessions { (events : List event_type) → AreCounted (sessions_of (world_run first_world events).link) }
-    ensures tries { (events : List event_type) → AreEvents events → tries_in 0 (steps_of first_world events) ≤ 16 }
-    ensures clean { (events : List event_type) → (world_run first_world events).false_passes ≡ 0 → IsCleanRun events }
-    ensures none { (events : List event_type) → IsCleanRun events → (world_run first_world events).false_passes ≡ 0 }
-{}
 
 /// **Theorem.** Its clauses say which deliveries are no false passes, after any list of events: those within radius,
 /// and those of which at most one bit comes inverted.
@@ -59,27 +34,6 @@ pub fn damage_within_radius()
     ensures twice { (events : List event_type) (event : event_type) → AreEvents events →
         (world_step (world_run first_world events) event).1.false_pass ≡ true →
         IsTwiceDamaged (world_run first_world events) event }
-{
-    packet_radius();
-}
-
-/// **Theorem.** Its clauses say what comes of deliveries within radius. After a clean run, where nothing is outstanding,
-/// a message is taken, delivered and acknowledged. After any run a sender that is down opens the link again.
-pub fn deliveries_within_radius()
-    ensures delivered { (events : List event_type) (message first second : List ℕ) → AreEvents events →
-        (world_run first_world events).false_passes ≡ 0 → IsMessage message →
-        (world_run first_world events).link.outbound.sender.outstanding ≡ Nothing →
-        AreWithin (world_run first_world events) (Send message ∷ ToReceiver first ∷ ToSender second ∷ []) →
-        (let number = (world_run first_world events).link.outbound.sender.next in
-        steps_of (world_run first_world events) (Send message ∷ ToReceiver first ∷ ToSender second ∷ []) ≡
-        true_step (Taken number (block_count (length message))) ∷ true_step (Delivered number message) ∷
-        true_step (Acknowledged number) ∷ []) }
-    ensures opened { (events : List event_type) (first second : List ℕ) → AreEvents events →
-        (world_run first_world events).link.outbound.sender.down ≡ true →
-        AreWithin (world_run first_world events) (Reopen ∷ ToReceiver first ∷ ToSender second ∷ []) →
-        (let number = opening_number (world_run first_world events).link.outbound.sender.outstanding (world_run first_world events).link.outbound.sender.next in
-        steps_of (world_run first_world events) (Reopen ∷ ToReceiver first ∷ ToSender second ∷ []) ≡
-        true_step (Reopened number) ∷ true_step (SynHeard number) ∷ true_step (LinkOpened number) ∷ []) }
 {
     packet_radius();
 }
@@ -100,8 +54,13 @@ pub fn air_is_true()
 }
 
 /// **Theorem.** Its clauses say that the steps of every run tell its lists. The messages of the Delivered steps, in order,
-/// are those delivered, and the messages of the events whose step is Taken are those sent.
+/// are those delivered, the messages of the events whose step is Taken are those sent, and the number of the Acknowledged
+/// steps is that of the messages acknowledged.
 pub fn steps_tell_lists()
-    ensures delivered { (events : List event_type) → (world_run first_world events).link.inbound.received ≡ delivered_in (steps_of first_world events) }
-    ensures sent { (events : List event_type) → (world_run first_world events).link.outbound.sent ≡ sent_in events (steps_of first_world events) }
+    ensures delivered { (events : List event_type) →
+        (world_run first_world events).link.inbound.received ≡ delivered_in (steps_of first_world events) }
+    ensures sent { (events : List event_type) →
+        (world_run first_world events).link.outbound.sent ≡ sent_in events (steps_of first_world events) }
+    ensures acknowledged { (events : List event_type) →
+        (world_run first_world events).link.outbound.acknowledged ≡ acknowledged_in (steps_of first_world events) }
 {}
