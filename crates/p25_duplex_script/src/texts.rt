@@ -1,11 +1,9 @@
 //! The texts of steps of the duplex world, and the text that closes a run.
 
 ghost use Rattle.std.specs.Prelude.{◌≡◌, ◌≤◌, length};
-ghost use Rattle.p25_duplex.specs.DuplexTexts.{duplex_closing_of, duplex_step_text_of};
+ghost use Rattle.p25_duplex_script.specs.DuplexTexts.{duplex_closing_of, duplex_step_text_of};
 
-use crate::event::DuplexStep;
-use crate::side::Side;
-use crate::world::DuplexWorld;
+use p25_duplex::{DuplexStep, DuplexWorld, Side};
 use p25_line::Line;
 use p25_script::{put_count, put_sessions, step_text};
 
