@@ -1,6 +1,6 @@
 use Rattle.p25_stations.specs.WorldState.{first_world}
 use Rattle.p25_stations.proofs.StepListsLaws.{run-delivered, run-sent}
-use Rattle.p25_stations.proofs.step_laws.steps_tell_lists.Goals as goal
+use Rattle.p25_stations.proofs.laws.steps_tell_lists.Goals as goal
 
 pub returns-clause-delivered : goal.returns-clause-delivered
 returns-clause-delivered c events = run-delivered events first_world
