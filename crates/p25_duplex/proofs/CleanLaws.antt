@@ -13,7 +13,7 @@ use Rattle.p25_stations.specs.declared.air.Carried.{Carried}
 use Rattle.p25_stations.specs.declared.air.Carried.TheVariants.{Lost, Foreign, Heard}
 use Rattle.p25_stations.specs.Air.{carried_of}
 use Rattle.p25_stations.proofs.AirLaws.{air-true}
-use Rattle.p25_stations.specs.Runs.{sessions_of}
+use Rattle.p25_delivery.specs.Link.{sessions_of}
 use Rattle.p25_stations.proofs.WorldOfLaws.{sessions-world_of}
 use Rattle.p25_stations.proofs.SimulationLaws.{link_run-append}
 use Rattle.p25_stations.proofs.CleanLaws.{clean-append}

@@ -17,7 +17,7 @@ use Rattle.p25_delivery.specs.declared.sender.Reopen.{Reopen as ReopenAnswer}
 use Rattle.p25_delivery.specs.declared.sender.Reopen.TheVariants.{Sent as ReopenSent, Up as ReopenUp}
 use Rattle.p25_delivery.specs.declared.receiver.Heard.{Heard}
 use Rattle.p25_delivery.specs.declared.receiver.Heard.TheVariants.{Delivered as HeardDelivered, Opened as ReceiverOpened, Again as HeardAgain, Kept as HeardKept, RefusedCrc as HeardCrc, RefusedOrder as HeardOrder, Ignored as ReceiverIgnored}
-use Rattle.p25_stations.specs.declared.mark.Mark.{Mark}
+use Rattle.p25_delivery.specs.declared.mark.Mark.{Mark}
 use Rattle.p25_stations.specs.WorldState.{WorldState}
 use Rattle.p25_stations.specs.Sound.{IsMessage, IsCountedWith, IsSound}
 use Rattle.p25_stations.specs.Steps.{present_mark, after_offer as world_offer, after_timeout as world_timeout, after_reopening as world_reopening, after_data as world_data, after_answer as world_answer}

@@ -2,9 +2,9 @@
 use Rattle.std.specs.Prelude.{◌≡◌, false, List, [], ◌∷◌, Option, Some, None, if◌then◌else◌}
 use Rattle.p25_packet_blocks.specs.declared.packet.Packet.{Packet}
 use Rattle.p25_delivery.specs.Link.{Session}
-use Rattle.p25_stations.specs.Sound.{IsMessage}
+use Rattle.p25_delivery.specs.SoundHalves.{IsMessage}
 use Rattle.p25_stations.specs.WorldState.{WorldState}
-use Rattle.p25_stations.specs.Runs.{sessions_of}
+use Rattle.p25_delivery.specs.Link.{sessions_of}
 use Rattle.p25_duplex.specs.declared.side.Side.{Side}
 use Rattle.p25_duplex.specs.declared.event.DuplexEvent.{DuplexEvent}
 use Rattle.p25_duplex.specs.declared.event.DuplexEvent.TheVariants.{Send, Timeout, Reopen, Deliver}

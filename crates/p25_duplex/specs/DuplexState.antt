@@ -5,7 +5,7 @@ use Rattle.p25_delivery.specs.SenderState.{Sending}
 use Rattle.p25_delivery.specs.ReceiverState.{Receiving}
 use Rattle.p25_delivery.specs.SenderRules.{first_sending}
 use Rattle.p25_delivery.specs.ReceiverRules.{first_receiving}
-use Rattle.p25_stations.specs.declared.mark.Mark.{Mark}
+use Rattle.p25_delivery.specs.declared.mark.Mark.{Mark}
 use Rattle.p25_duplex.specs.declared.side.Side.{Side}
 use Rattle.p25_duplex.specs.declared.side.Side.TheVariants.{A, B}
 use Rattle.p25_duplex.specs.Sides.{other_side}

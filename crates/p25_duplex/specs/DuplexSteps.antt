@@ -5,9 +5,9 @@ use Rattle.p25_delivery.specs.SenderRules.{offered, timed_out, reopened, is_open
 use Rattle.p25_stations.specs.declared.air.Carried.{Carried}
 use Rattle.p25_stations.specs.declared.air.Carried.TheVariants.{Lost as CarriedLost, Foreign, Heard}
 use Rattle.p25_stations.specs.Air.{carried_of}
-use Rattle.p25_stations.specs.declared.step.Way.TheVariants.{Packets}
-use Rattle.p25_stations.specs.declared.step.StepKind.{StepKind}
-use Rattle.p25_stations.specs.declared.step.StepKind.TheVariants.{Nothing, Lost, Ignored}
+use Rattle.p25_delivery.specs.declared.step_kind.Way.TheVariants.{Packets}
+use Rattle.p25_delivery.specs.declared.step_kind.StepKind.{StepKind}
+use Rattle.p25_delivery.specs.declared.step_kind.StepKind.TheVariants.{Nothing, Lost, Ignored}
 use Rattle.p25_duplex.specs.declared.side.Side.{Side}
 use Rattle.p25_duplex.specs.declared.event.DuplexEvent.{DuplexEvent}
 use Rattle.p25_duplex.specs.declared.event.DuplexEvent.TheVariants.{Send, Timeout, Reopen, Deliver}

@@ -7,7 +7,7 @@ use Rattle.p25_stations.specs.declared.air.Carried.{Carried}
 use Rattle.p25_stations.specs.declared.air.Carried.TheVariants.{Lost, Foreign, Heard}
 use Rattle.p25_stations.specs.Air.{carried_of}
 use Rattle.p25_stations.specs.WorldState.{WorldState}
-use Rattle.p25_stations.specs.Runs.{sessions_of}
+use Rattle.p25_delivery.specs.Link.{sessions_of}
 use Rattle.p25_duplex.specs.declared.side.Side.{Side}
 use Rattle.p25_duplex.specs.declared.side.Side.TheVariants.{A, B}
 use Rattle.p25_duplex.specs.declared.event.DuplexEvent.{DuplexEvent}

@@ -17,10 +17,10 @@ use Rattle.p25_delivery.specs.declared.sender.Reopen.{Reopen as ReopenAnswer}
 use Rattle.p25_delivery.specs.declared.sender.Reopen.TheVariants.{Sent as ReopenSent, Up as ReopenUp}
 use Rattle.p25_delivery.specs.declared.receiver.Heard.{Heard}
 use Rattle.p25_delivery.specs.declared.receiver.Heard.TheVariants.{Delivered as HeardDelivered, Opened as ReceiverOpened, Again as HeardAgain, Kept as HeardKept, RefusedCrc as HeardCrc, RefusedOrder as HeardOrder, Ignored as ReceiverIgnored}
-use Rattle.p25_stations.specs.declared.mark.Mark.{Mark}
-use Rattle.p25_stations.specs.declared.step.Way.TheVariants.{Packets, Answers}
-use Rattle.p25_stations.specs.declared.step.StepKind.{StepKind}
-use Rattle.p25_stations.specs.declared.step.StepKind.TheVariants.{Taken, Busy, OfferDown, Resent, Idle, TimeoutDown, Reopened, Up, Ignored, Delivered, SynHeard, Again, Kept, RefusedCrc, RefusedOrder, Acknowledged, LinkOpened, Retry, Repeat, AnswerDown}
+use Rattle.p25_delivery.specs.declared.mark.Mark.{Mark}
+use Rattle.p25_delivery.specs.declared.step_kind.Way.TheVariants.{Packets, Answers}
+use Rattle.p25_delivery.specs.declared.step_kind.StepKind.{StepKind}
+use Rattle.p25_delivery.specs.declared.step_kind.StepKind.TheVariants.{Taken, Busy, OfferDown, Resent, Idle, TimeoutDown, Reopened, Up, Ignored, Delivered, SynHeard, Again, Kept, RefusedCrc, RefusedOrder, Acknowledged, LinkOpened, Retry, Repeat, AnswerDown}
 use Rattle.p25_duplex.specs.DuplexState.{StationState}
 
 -- a message was offered: where it is taken it was sent, and its packet is the newest of the station's direction

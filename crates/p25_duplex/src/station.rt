@@ -2,7 +2,7 @@
 
 ghost use Rattle.std.specs.Prelude.{◌≡◌, ◌+◌, ◌<◌, ◌≤◌, length, OnOk, OnErr};
 ghost use Rattle.p25_packet_blocks.specs.Sendable.{AreOctets};
-ghost use Rattle.p25_stations.specs.Sound.{IsMessage};
+ghost use Rattle.p25_delivery.specs.SoundHalves.{IsMessage};
 
 use p25_delivery::{Heard, Offer, Receiver, Reopen, Resend, Sender, SenderHeard};
 use p25_messages::{Message, MessageList};

@@ -27,10 +27,11 @@ use Rattle.p25_delivery.proofs.AtOnceLaws.{opens-down}
 use Rattle.p25_stations.specs.declared.step.Event.{Event}
 use Rattle.p25_stations.specs.declared.step.Event.TheVariants.{Send, Reopen, ToReceiver, ToSender}
 use Rattle.p25_stations.specs.declared.step.Step.{Step}
-use Rattle.p25_stations.specs.declared.step.StepKind.TheVariants.{Taken, Reopened, Delivered, SynHeard, Acknowledged, LinkOpened}
+use Rattle.p25_delivery.specs.declared.step_kind.StepKind.TheVariants.{Taken, Reopened, Delivered, SynHeard, Acknowledged, LinkOpened}
 use Rattle.p25_stations.specs.Air.{ArrivesWithin}
 use Rattle.p25_stations.specs.WorldState.{WorldState, first_world}
-use Rattle.p25_stations.specs.Sound.{IsMessage, IsSound}
+use Rattle.p25_delivery.specs.SoundHalves.{IsMessage}
+use Rattle.p25_stations.specs.Sound.{IsSound}
 use Rattle.p25_stations.specs.Steps.{quiet_step, after_offer, after_reopening, after_data, after_answer, counted_when, data_carried, data_delivered, answer_carried, answer_delivered, world_step}
 use Rattle.p25_stations.specs.Runs.{IsEvent, AreEvents, world_run, steps_of}
 use Rattle.p25_stations.specs.Links.{happenings_in, link_of}

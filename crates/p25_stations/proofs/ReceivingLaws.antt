@@ -20,7 +20,7 @@ use Rattle.p25_delivery.specs.declared.receiver.Heard.{Heard}
 use Rattle.p25_delivery.specs.declared.receiver.Heard.TheVariants.{Delivered, Opened, Again, Kept, RefusedCrc, RefusedOrder, Ignored}
 use Rattle.p25_delivery.proofs.PlacesLaws.{length-put_slots}
 use Rattle.p25_stations.proofs.AirLoopLaws.{blocks-few}
-use Rattle.p25_stations.specs.Sound.{IsFew}
+use Rattle.p25_delivery.specs.SoundHalves.{IsFew}
 use Rattle.p25_stations.proofs.SendableLaws.{short_response-sendable, retry_packet-sendable}
 
 -- the answer, where there is one, can be sent

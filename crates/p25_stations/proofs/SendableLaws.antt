@@ -21,7 +21,7 @@ use Rattle.p25_delivery.specs.SentPackets.{good_slot, message_packet, wanted_slo
 use Rattle.p25_delivery.proofs.MessageBlocksLaws.{length-message_octets}
 use Rattle.p25_delivery.proofs.SentPacketsLaws.{wanted_slot, length-flag_octets}
 use Rattle.p25_delivery.proofs.HeadLaws.{confirmed_head-blocks, opening_head-blocks, response_head-format}
-use Rattle.p25_stations.specs.Sound.{IsMessage}
+use Rattle.p25_delivery.specs.SoundHalves.{IsMessage}
 
 -- Headers.
 

@@ -19,7 +19,7 @@ use Rattle.p25_delivery.specs.declared.receiver.Heard.{Heard as HeardAnswer}
 use Rattle.p25_delivery.specs.declared.receiver.Heard.TheVariants.{Delivered as HeardDelivered, Opened as ReceiverOpened, Again as HeardAgain, Kept as HeardKept, RefusedCrc as HeardCrc, RefusedOrder as HeardOrder, Ignored as ReceiverIgnored}
 use Rattle.p25_delivery.specs.Facts.{IsDataOf}
 use Rattle.p25_delivery.proofs.SenderLaws.{Resends, Stays, HearsAnswer, goes_on, stays, HearsOpening, opens, waits, offer-quiet, offer-message, offer-opening, timeout-message, timeout-opening, timeout-quiet, reopen-cases, reopen-up, message-answer, opening-answer, quiet-answer}
-use Rattle.p25_stations.specs.declared.mark.Mark.{Mark}
+use Rattle.p25_delivery.specs.declared.mark.Mark.{Mark}
 use Rattle.p25_stations.specs.declared.air.Carried.{Carried}
 use Rattle.p25_stations.specs.declared.air.Carried.TheVariants.{Lost as CarriedLost, Foreign, Heard}
 use Rattle.p25_stations.specs.declared.step.Event.{Event}

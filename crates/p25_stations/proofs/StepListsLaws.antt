@@ -20,7 +20,7 @@ use Rattle.p25_stations.specs.declared.air.Carried.{Carried}
 use Rattle.p25_stations.specs.declared.air.Carried.TheVariants.{Lost as CarriedLost, Foreign, Heard}
 use Rattle.p25_stations.specs.declared.step.Event.{Event}
 use Rattle.p25_stations.specs.declared.step.Event.TheVariants.{Send, Timeout, Reopen, ToReceiver, ToSender}
-use Rattle.p25_stations.specs.declared.step.StepKind.{StepKind}
+use Rattle.p25_delivery.specs.declared.step_kind.StepKind.{StepKind}
 use Rattle.p25_stations.specs.Runs.{steps_of, world_run}
 use Rattle.p25_stations.specs.StepLists.{delivered_by, delivered_in, sent_by, sent_in}
 use Rattle.p25_stations.specs.Steps.{after_answer, after_data, after_offer, after_reopening, after_timeout, answer_carried, answer_delivered, counted_when, data_carried, data_delivered, heard_step, world_step}

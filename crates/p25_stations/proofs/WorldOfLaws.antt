@@ -8,7 +8,7 @@ use Rattle.std.proofs.lemmas.List.Sums.{sum_by-append, sum_by-cons}
 use Rattle.p25_bits.specs.Bits.{part}
 use Rattle.p25_bits.proofs.PartLaws.{part_joined, part_last}
 use Rattle.p25_delivery.specs.Link.{Session, Link, first_link}
-use Rattle.p25_stations.specs.declared.mark.Mark.{Mark}
+use Rattle.p25_delivery.specs.declared.mark.Mark.{Mark}
 use Rattle.p25_stations.specs.WorldState.{WorldState, first_world}
 use Rattle.p25_stations.specs.Steps.{present_mark}
 use Rattle.p25_stations.specs.Runs.{sessions_from, sessions_of}

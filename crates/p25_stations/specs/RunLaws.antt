@@ -3,8 +3,8 @@ use Rattle.std.specs.Prelude.{◌≡◌, ℕ, ◌+◌, ◌≤◌, false, List, [
 use Rattle.p25_packet_blocks.specs.declared.packet.Packet.{Packet}
 use Rattle.p25_stations.specs.declared.step.Event.{Event}
 use Rattle.p25_stations.specs.declared.step.Event.TheVariants.{Send, Timeout, Reopen, ToReceiver, ToSender}
-use Rattle.p25_stations.specs.declared.step.StepKind.{StepKind}
-use Rattle.p25_stations.specs.declared.step.StepKind.TheVariants.{Taken, Busy, OfferDown, Resent, Idle, TimeoutDown, Reopened, Up, Nothing, Lost, Ignored, Delivered, SynHeard, Again, Kept, RefusedCrc, RefusedOrder, Acknowledged, LinkOpened, Retry, Repeat, AnswerDown}
+use Rattle.p25_delivery.specs.declared.step_kind.StepKind.{StepKind}
+use Rattle.p25_delivery.specs.declared.step_kind.StepKind.TheVariants.{Taken, Busy, OfferDown, Resent, Idle, TimeoutDown, Reopened, Up, Nothing, Lost, Ignored, Delivered, SynHeard, Again, Kept, RefusedCrc, RefusedOrder, Acknowledged, LinkOpened, Retry, Repeat, AnswerDown}
 use Rattle.p25_stations.specs.declared.step.Step.{Step}
 use Rattle.p25_stations.specs.Air.{ArrivesWithin, places_within}
 use Rattle.p25_stations.specs.WorldState.{WorldState}
@@ -15,8 +15,8 @@ unfoldable pub IsWithin : WorldState → Event → Type 0
 IsWithin w (Send message) = Unit {0}
 IsWithin w Timeout = Unit {0}
 IsWithin w Reopen = Unit {0}
-IsWithin w (ToReceiver flips) = IfSome w.packet_sent (λ packet. ArrivesWithin packet flips)
-IsWithin w (ToSender flips) = IfSome w.answer (λ packet. ArrivesWithin packet flips)
+IsWithin w (ToReceiver flips) = IfSome w.link.packet_sent (λ packet. ArrivesWithin packet flips)
+IsWithin w (ToSender flips) = IfSome w.link.answer (λ packet. ArrivesWithin packet flips)
 
 -- each event of a list, at its moment
 unfoldable pub AreWithin : WorldState → List Event → Type 0
@@ -28,8 +28,8 @@ unfoldable pub IsTwiceDamaged : WorldState → Event → Type 0
 IsTwiceDamaged w (Send message) = ⊥
 IsTwiceDamaged w Timeout = ⊥
 IsTwiceDamaged w Reopen = ⊥
-IsTwiceDamaged w (ToReceiver flips) = (packet : Packet) × (w.packet_sent ≡ Some packet) × (2 ≤ places_within packet flips)
-IsTwiceDamaged w (ToSender flips) = (packet : Packet) × (w.answer ≡ Some packet) × (2 ≤ places_within packet flips)
+IsTwiceDamaged w (ToReceiver flips) = (packet : Packet) × (w.link.packet_sent ≡ Some packet) × (2 ≤ places_within packet flips)
+IsTwiceDamaged w (ToSender flips) = (packet : Packet) × (w.link.answer ≡ Some packet) × (2 ≤ places_within packet flips)
 
 -- a step that is no false pass
 abbrev pub true_step : StepKind → Step
@@ -61,7 +61,7 @@ tries_after tries (Retry number wanted again) = tries + 1
 tries_after tries (Repeat number again) = tries + 1
 tries_after tries AnswerDown = tries
 
--- the number of transmissions since the last step that ended or began a count: of all steps that send one, those behind the
+-- the number of transmissions since the last step that ended or began a count: of all steps that send one, those after the
 -- last Acknowledged or LinkOpened, or from the last Reopened on
 unfoldable pub tries_in : ℕ → List Step → ℕ
 tries_in tries [] = tries

@@ -4,7 +4,7 @@ use Rattle.p25_delivery.specs.ReceiverState.{Receiving}
 use Rattle.p25_delivery.specs.ReceiverRules.{receiver_heard}
 use Rattle.p25_delivery.specs.declared.receiver.Heard.{Heard}
 use Rattle.p25_delivery.specs.declared.receiver.Heard.TheVariants.{Delivered, Opened, Again, Kept, RefusedCrc, RefusedOrder, Ignored}
-use Rattle.p25_stations.specs.declared.step.StepKind.{StepKind}
+use Rattle.p25_delivery.specs.declared.step_kind.StepKind.{StepKind}
 use Rattle.p25_stations.proofs.SoundWorldsLaws.{sound-apart}
 use Rattle.p25_duplex.specs.declared.station.Station.TheInside.{Inside}
 use Rattle.p25_duplex.specs.DuplexState.{StationState}

@@ -4,7 +4,7 @@ use Rattle.p25_delivery.specs.ReceiverState.{Receiving}
 use Rattle.p25_delivery.specs.ReceiverRules.{receiver_heard}
 use Rattle.p25_delivery.specs.declared.receiver.Heard.{Heard}
 use Rattle.p25_delivery.specs.declared.receiver.Heard.TheVariants.{Delivered, Opened, Again, Kept, RefusedCrc, RefusedOrder, Ignored}
-use Rattle.p25_stations.specs.declared.step.StepKind.{StepKind}
+use Rattle.p25_delivery.specs.declared.step_kind.StepKind.{StepKind}
 use Rattle.p25_stations.specs.declared.world.World.TheInside.{Inside}
 use Rattle.p25_stations.specs.Inside.{state_of}
 use Rattle.p25_stations.specs.WorldState.{WorldState}

@@ -3,7 +3,7 @@ use Rattle.p25_delivery.specs.SenderState.{Sending}
 use Rattle.p25_delivery.specs.ReceiverState.{Receiving}
 use Rattle.p25_delivery.specs.SenderRules.{first_sending}
 use Rattle.p25_delivery.specs.ReceiverRules.{first_receiving}
-use Rattle.p25_stations.specs.declared.mark.Mark.{Mark}
+use Rattle.p25_delivery.specs.declared.mark.Mark.{Mark}
 use Rattle.p25_stations.specs.WorldState.{WorldState}
 use Rattle.p25_stations.specs.Sound.{IsSound}
 use Rattle.p25_stations.proofs.SoundLaws.{first-sound}

@@ -4,7 +4,7 @@ use Rattle.p25_delivery.specs.SenderState.{Sending}
 use Rattle.p25_delivery.specs.SenderRules.{reopened, is_opening}
 use Rattle.p25_delivery.specs.declared.sender.Reopen.{Reopen}
 use Rattle.p25_delivery.specs.declared.sender.Reopen.TheVariants.{Sent, Up}
-use Rattle.p25_stations.specs.declared.mark.Mark.{Mark}
+use Rattle.p25_delivery.specs.declared.mark.Mark.{Mark}
 use Rattle.p25_stations.specs.declared.world.World.TheInside.{Inside}
 use Rattle.p25_stations.specs.Inside.{state_of}
 use Rattle.p25_stations.specs.WorldState.{WorldState}
