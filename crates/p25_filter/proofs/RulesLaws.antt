@@ -6,8 +6,8 @@ use Rattle.p25_filter.specs.declared.ending.Ending.{Ending}
 use Rattle.p25_filter.specs.declared.ending.Ending.TheVariants.{BadLine}
 use Rattle.p25_filter.specs.Lines.{closing_by, each_behind, lines_ending, lines_in, read_of, refusal_in, texts_before}
 use Rattle.p25_filter.specs.LineRules.{answer_from, LineRules, lines_before, lines_refusal, lines_written, machine_behind, rules_by, texts_of}
-use Rattle.p25_filter.specs.LineWorks.{first_line, line_future}
-use Rattle.p25_filter.proofs.LineWorksLaws.{lines_before-err, lines_before-nil, lines_before-ok, lines_refusal-err, lines_refusal-nil, lines_refusal-ok, lines_written-err, lines_written-nil, lines_written-ok}
+use Rattle.p25_filter.specs.LineFilters.{first_line, line_future}
+use Rattle.p25_filter.proofs.LineFiltersLaws.{lines_before-err, lines_before-nil, lines_before-ok, lines_refusal-err, lines_refusal-nil, lines_refusal-ok, lines_written-err, lines_written-nil, lines_written-ok}
 
 -- texts behind an empty one are those texts
 pub each_behind-none : (texts : List (List ℕ)) → each_behind [] texts ≡ texts

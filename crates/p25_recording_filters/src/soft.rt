@@ -13,7 +13,7 @@ ghost use Rattle.p25_recording_filters.specs.Softs.{IsHeardAmong, IsHolding, Put
 use crate::held_levels::HeldLevels;
 use crate::reports::put_behind;
 use p25_bits::BitBuf;
-use p25_filter::{Ending, Refusal, Worker};
+use p25_filter::{Ending, Filter, Refusal};
 use p25_line::Line;
 use p25_soft::{hard, soften};
 use p25_stream::laws::item_laws;
@@ -26,7 +26,7 @@ const PACKET_DUID: u8 = 0xC;
 // The level with which the last group of four is filled.
 const FILLER: i8 = 32;
 
-/// A recording of levels at work: a worker that gives the bits of its items, in which failing blocks of packets are read from
+/// A recording of levels at work: a filter that gives the bits of its items, in which failing blocks of packets are read from
 /// the levels. At most seven bits that do not fill an octet are kept back.
 #[derive(Drop)]
 pub struct Soft {
@@ -172,7 +172,7 @@ impl Soft {
     }
 }
 
-impl Worker for Soft {
+impl Filter for Soft {
     ghost use Rattle.std.specs.Prelude.{◌≡◌, ◌+◌, [], length};
     ghost use Rattle.p25_stream.specs.Scan.{given};
     ghost use Rattle.p25_recording_filters.specs.Softs.{first_level, soft_future};

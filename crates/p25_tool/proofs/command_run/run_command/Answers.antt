@@ -3,7 +3,7 @@ use Rattle.p25_filter.specs.Futures.{Future}
 use Rattle.p25_tool.specs.declared.command.Command.{Command}
 use Rattle.p25_recording_filters.specs.Commands.{ChangedParts, changed_reporting}
 use Rattle.p25_filter.specs.LineRules.{LineRules}
-use Rattle.p25_filter.specs.LineWorks.{first_line, line_future}
+use Rattle.p25_filter.specs.LineFilters.{first_line, line_future}
 use Rattle.p25_tool.specs.Buildings.{build_rules}
 use Rattle.p25_tool.specs.StationRules.{station_rules}
 use Rattle.p25_tool.specs.DuplexRules.{duplex_rules}
