@@ -1,7 +1,7 @@
 use Rattle.std.proofs.Common.{◌≡◌, List, [], ◌∷◌, ◌++◌, ℕ, ◌*◌, ◌-◌, ◌≤◌, length, ap, ap₂, take, drop, ◌∙◌, arith}
-use Rattle.p25_fragments.specs.LongMessages.{part_mark, part_of}
-use Rattle.p25_fragments.proofs.PartsLaws.{take-least}
-use Rattle.p25_fragments.proofs.long_message.LongMessage.part.Goals as goal
+use Rattle.p25_messages.specs.LongMessages.{part_mark, part_of}
+use Rattle.p25_messages.proofs.PartsLaws.{take-least}
+use Rattle.p25_messages.proofs.long_message.LongMessage.part.Goals as goal
 
 pub returns : goal.returns
 unfolding part_of

@@ -1,37 +1,27 @@
-ghost use Rattle.std.specs.Prelude.{◌≡◌, ◌+◌, ◌<◌, ◌≤◌, ◌↔◌, List, length, IsSome, IfSome};
-ghost use Rattle.p25_fragments.specs.LongMessages.{part_count, part_mark, part_of};
+ghost use Rattle.std.specs.Prelude.{◌≡◌, ◌+◌, ◌<◌, ◌≤◌, length};
+ghost use Rattle.p25_messages.specs.LongMessages.{part_count, part_mark, part_of};
 
+use crate::message::{Message, MessageOf};
+use crate::message_list::MessageListOf;
 use arrayvec::ArrayVec;
-use p25_messages::Message;
-use std::marker::Model;
 
 /// The number of octets of the longest long message: eight parts of 500.
-pub(crate) const MOST_OCTETS: usize = 4000;
+pub const MOST_LONG: usize = 4000;
 
 /// The number of octets in each part but the last, beside its first octet.
-pub(crate) const PART_OCTETS: usize = 500;
+pub const PART_OCTETS: usize = 500;
+
+/// What the first octet of the last part has beside its number.
+pub const LAST_PART: u8 = 0x80;
 
 // The number of octets of the longest part, with its first octet.
 const MOST_PART: usize = 501;
 
-/// What the first octet of the last part has beside its number.
-pub(crate) const LAST: u8 = 0x80;
+/// A long message: a list of at most 4,000 octets, which is sent in parts, each a message.
+pub type LongMessage = MessageOf<MOST_LONG>;
 
-/// A long message: a list of at most 4,000 octets.
-#[derive(Debug, PartialEq, Eq, Drop)]
-pub struct LongMessage {
-    items: ArrayVec<u8, MOST_OCTETS>,
-}
-
-impl Model for LongMessage {
-    ghost use Rattle.std.specs.Prelude.{ℕ, List};
-
-    ghost Value = { List ℕ };
-
-    ghost view = { λ s. s.items.items };
-
-    ghost inverse = { λ octets. record { items = record { items = octets } } };
-}
+/// A list of long messages.
+pub type LongList = MessageListOf<MOST_LONG>;
 
 // The first octet of a part, of so many parts.
 fn mark_of(count: u8, number: u8) -> u8
@@ -40,31 +30,13 @@ fn mark_of(count: u8, number: u8) -> u8
     ensures { result ≡ part_mark count number }
 {
     if number + 1 == count {
-        number + LAST
+        number + LAST_PART
     } else {
         number
     }
 }
 
 impl LongMessage {
-    /// Answers the long message of these octets, or None exactly where there are more than 4,000.
-    pub fn new(octets: &[u8]) -> Option<LongMessage>
-        ensures fits { IsSome result ↔ (length octets.now ≤ 4000) }
-        ensures message { IfSome result (λ message. message ≡ octets.now) }
-    {
-        Some(LongMessage {
-            items: ArrayVec::try_from(octets).ok()?,
-        })
-    }
-
-    /// Answers the octets of the message, in order.
-    pub fn octets(&self) -> &[u8]
-        ensures octets { result.now ≡ self.now }
-        ensures most { length result.now ≤ 4000 }
-    {
-        self.items.as_slice()
-    }
-
     /// Answers the number of parts, 1 to 8: as many as carry 500 octets each, and one for a message of no octets.
     pub fn parts(&self) -> u8
         ensures parts { result ≡ part_count (length self.now) }
