@@ -19,7 +19,7 @@ use Rattle.p25_fragments.specs.declared.joiner.Joined.TheVariants.{Whole as Join
 use Rattle.p25_fragments.specs.declared.long_sender.Following.{Following}
 use Rattle.p25_fragments.specs.declared.long_sender.Following.TheVariants.{Part as PartFollows, Finished as AllFinished}
 use Rattle.p25_fragments.specs.declared.long_step.Then.TheVariants.{Refused}
-use Rattle.p25_fragments.specs.LongMessages.{part_count, part_of}
+use Rattle.p25_messages.specs.LongMessages.{part_count, part_of}
 use Rattle.p25_fragments.specs.JoiningState.{Joining, first_joining}
 use Rattle.p25_fragments.specs.Joining.{message_taken}
 use Rattle.p25_fragments.specs.SendingState.{LongSending}

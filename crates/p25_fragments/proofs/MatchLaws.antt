@@ -11,7 +11,7 @@ use Rattle.p25_stations.specs.Runs.{sessions_from, sessions_of}
 use Rattle.p25_stations.proofs.WorldOfLaws.{sent_in, delivered_in, acknowledged_in, marks_after, first_mark, world_of, sessions-world_of}
 use Rattle.p25_fragments.specs.declared.long_mark.LongMark.{LongMark}
 use Rattle.p25_fragments.specs.declared.outgoing.Outgoing.{Outgoing}
-use Rattle.p25_fragments.specs.LongMessages.{part_count, part_of}
+use Rattle.p25_messages.specs.LongMessages.{part_count, part_of}
 use Rattle.p25_fragments.specs.JoiningState.{Joining, first_joining}
 use Rattle.p25_fragments.specs.SendingState.{LongSending}
 use Rattle.p25_fragments.specs.ReceivingState.{LongReceiving}

@@ -22,7 +22,7 @@ use Rattle.p25_duplex.specs.declared.side.Side.TheVariants.{A, B}
 use Rattle.p25_duplex.specs.declared.event.DuplexStep.{DuplexStep}
 use Rattle.p25_duplex.specs.DuplexState.{DuplexState, first_duplex}
 use Rattle.p25_duplex.specs.DuplexRuns.{duplex_run, duplex_steps}
-use Rattle.p25_duplex.specs.DuplexTexts.{duplex_closing_of, duplex_step_text_of}
+use Rattle.p25_duplex_script.specs.DuplexTexts.{duplex_closing_of, duplex_step_text_of}
 use Rattle.p25_duplex_script.specs.DuplexLines.{duplex_event_of}
 use Rattle.p25_filter.specs.Lines.{closing_by, lines_ending, lines_in, read_of, refusal_in, texts_before}
 use Rattle.p25_tool.specs.declared.command.Command.{Command}
