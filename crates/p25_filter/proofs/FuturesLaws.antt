@@ -1,6 +1,6 @@
 -- How a command's work goes on: moves follow one another, a piece is gathered, a page is written. Each law joins the two
 -- equations of what is written, and adds up the texts.
-use Rattle.std.proofs.Common.{◌≡◌, ℕ, Bool, List, [], ◌++◌, refl, ap, sym, subst, ◌∙◌, append_assoc, append-nil}
+use Rattle.std.proofs.Common.{ℕ, List, [], ◌++◌, refl, ap, sym, subst, ◌∙◌, append_assoc, append-nil}
 use Rattle.std.specs.Prelude.{Contains}
 use Rattle.p25_io.specs.Events.{Event}
 use Rattle.p25_filter.specs.Futures.{Future, Progress, IsRefused, IsPausing, Moved, IsCutOff, IsEnded, IsPaused}

@@ -1,11 +1,11 @@
 -- The order in a live run of events: a read only while more octets may come and all that is decided is written, and nothing after
 -- a fault.
-use Rattle.std.proofs.Common.{◌≡◌, ℕ, ◌<◌, false, List, [], ◌∷◌, ◌++◌, length, take, refl, ap, sym, subst, ◌∙◌, arith}
+use Rattle.std.proofs.Common.{◌≡◌, ℕ, false, List, [], ◌∷◌, ◌++◌, take, refl, sym, subst, ◌∙◌}
 use Rattle.p25_io.specs.Events.{Event, Read, ReadFailed, Wrote, WriteFailed}
 use Rattle.p25_filter.specs.declared.ending.FilterEnd.{FilterEnd}
 use Rattle.p25_filter.specs.declared.ending.FilterEnd.TheVariants.{Ended, ReadFault, WriteFault, TooLong, Memory}
 use Rattle.p25_filter.specs.Futures.{Future}
-use Rattle.p25_filter.specs.Traces.{Broken, EndsAs, Going, IsFinalAt, IsLive, IsMemoryAt, IsRun, MayCome, Over, Phase, Standing, after_all, at_first, standing_after, standing_at}
+use Rattle.p25_filter.specs.Traces.{Broken, EndsAs, Going, IsLive, IsRun, Over, Standing, after_all, at_first, standing_after, standing_at}
 use Rattle.p25_filter.proofs.TracesLaws.{IsLive-parts, after_all-append}
 
 pub no_read-ahead : (future : Future) (before after : List Event) (first second : List ℕ) → IsLive future at_first (before ++ Read first ∷ Read second ∷ after)

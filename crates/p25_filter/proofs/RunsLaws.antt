@@ -1,6 +1,6 @@
 -- What stands when the work between a source and a sink ends, by the events that they went through: what was taken, what was
 -- written, and what the end says of both.
-use Rattle.std.proofs.Common.{◌≡◌, ℕ, ◌+◌, ◌-◌, ◌<◌, ◌≤◌, Bool, true, false, cond, nat_lt, zero, suc, List, [], ◌∷◌, ◌++◌, length, take, Option, Some, None, refl, ap, sym, subst, ◌∙◌, arith, append_assoc, append-nil, length-append}
+use Rattle.std.proofs.Common.{◌≡◌, ℕ, ◌+◌, ◌<◌, ◌≤◌, Bool, true, false, cond, nat_lt, zero, suc, List, [], ◌∷◌, ◌++◌, length, take, Option, Some, None, refl, ap, sym, subst, ◌∙◌, arith, append-nil, length-append}
 use Rattle.std.specs.Prelude.{Contains, IfSome}
 use Rattle.std.proofs.lemmas.List.{take_all}
 use Rattle.std.proofs.lemmas.Bool.Decides.{nat_tests}
@@ -15,7 +15,7 @@ use Rattle.p25_filter.specs.declared.ending.FilterEnd.{FilterEnd}
 use Rattle.p25_filter.specs.declared.ending.FilterEnd.TheVariants.{Ended, ReadFault, WriteFault, TooLong, Memory}
 use Rattle.p25_filter.specs.Futures.{Future}
 use Rattle.p25_filter.specs.Runs.{Filtered, IsFinal, IsMemory, IsReadFault, IsWriteFault, Meets, all_written, input_most, read_most}
-use Rattle.p25_filter.specs.Traces.{Broken, EndsAs, Going, IsDecided, IsFinalAt, IsLive, IsMemoryAt, IsRun, IsSettled, MayCome, Over, Phase, Standing, after_all, at_first, standing_after, standing_at}
+use Rattle.p25_filter.specs.Traces.{Broken, Going, IsDecided, IsFinalAt, IsLive, IsMemoryAt, IsRun, IsSettled, Over, Phase, Standing, after_all, at_first, standing_after, standing_at}
 use Rattle.p25_filter.specs.Writes.{Begins}
 use Rattle.p25_filter.proofs.TracesLaws.{IsLive-parts, after_all-append}
 pub use Rattle.p25_filter.proofs.TracesLaws.{first-take}

@@ -1,5 +1,5 @@
 -- Live runs of events: how one goes on, read after read and write after write, and how it ends.
-use Rattle.std.proofs.Common.{◌≡◌, ℕ, ◌+◌, ◌-◌, ◌<◌, ◌≤◌, Bool, false, true, List, [], ◌∷◌, ◌++◌, length, take, drop, min, Some, None, refl, ap, sym, subst, ◌∙◌, arith, append_assoc, append-nil, length-append, length-take, length-drop}
+use Rattle.std.proofs.Common.{◌≡◌, ℕ, ◌+◌, ◌-◌, ◌<◌, ◌≤◌, Bool, false, true, List, [], ◌∷◌, ◌++◌, length, take, drop, min, None, refl, ap, sym, subst, ◌∙◌, arith, append_assoc, append-nil, length-take}
 use Rattle.std.specs.Prelude.{Contains}
 use Rattle.std.proofs.lemmas.List.{take-append-drop}
 use Rattle.std.proofs.Math.Seq.{take-add, take-append-add}
@@ -12,9 +12,9 @@ use Rattle.p25_filter.specs.declared.ending.Stop.TheVariants.{Fault, Refused}
 use Rattle.p25_filter.specs.Endings.{end_of}
 use Rattle.p25_filter.specs.Futures.{EndsBy, Future, IsIdle, IsStopped, Moved, Progress}
 use Rattle.p25_filter.specs.Runs.{input_most, read_most}
-use Rattle.p25_filter.specs.Traces.{EndsAs, Going, IsDecided, IsLive, IsRun, IsSettled, MayCome, Over, Broken, Phase, Standing, after_all, at_first, phase_by, standing_after, standing_at}
+use Rattle.p25_filter.specs.Traces.{EndsAs, Going, IsDecided, IsLive, IsRun, IsSettled, Over, Broken, Phase, Standing, after_all, at_first, standing_after, standing_at}
 use Rattle.p25_filter.specs.Writes.{AreSome, Begins, CutShort, Written, joined, writes_of}
-use Rattle.p25_filter.proofs.WritesLaws.{Begins-part, Begins-same}
+use Rattle.p25_filter.proofs.WritesLaws.{Begins-part}
 
 -- the first octets of an input and so many more
 pub first-take : (octets more : List ℕ) → length octets ≤ input_most → take input_most (octets ++ more) ≡ octets ++ take (input_most - length octets) more

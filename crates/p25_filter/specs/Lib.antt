@@ -8,3 +8,4 @@ pub mod Orders
 pub mod Lines
 pub mod LineRules
 pub mod LineFilters
+pub mod Echoes

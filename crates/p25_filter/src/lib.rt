@@ -26,3 +26,6 @@ pub use filter::Filter;
 pub use input::{run_filter, run_on};
 pub use line_filter::LineFilter;
 pub use line_machine::{LineMachine, LineRefusal};
+
+#[cfg(test)]
+mod tests;

@@ -1,6 +1,6 @@
 use Rattle.std.proofs.Common.{◌≡◌, ◌<◌, ◌≤◌, ℕ, ◌-◌, List, [], ◌++◌, length, take, min, ap, sym, subst, ◌∙◌, arith, length-append, length-take}
 use Rattle.p25_filter.specs.declared.ending.FilterEnd.{FilterEnd}
-use Rattle.p25_filter.specs.Futures.{IsStopped, Moved}
+use Rattle.p25_filter.specs.Futures.{Moved}
 use Rattle.p25_filter.specs.Runs.{input_most}
 use Rattle.p25_filter.specs.Traces.{Going, standing_at}
 use Rattle.p25_filter.proofs.InputLaws.{on-blank_page}

@@ -1,4 +1,4 @@
-use Rattle.std.proofs.Common.{◌<◌, ℕ, List, Result, Ok, Err, ap, length, subst, sym, arith}
+use Rattle.std.proofs.Common.{◌<◌, ℕ, List, Result, Ok, Err, ap, length, subst, arith}
 use Rattle.std.specs.Prelude.{OnErr}
 use Rattle.p25_filter.specs.Writes.{CutShort, Written}
 use Rattle.p25_filter.proofs.WritesLaws.{CutShort-one, Written-one}
