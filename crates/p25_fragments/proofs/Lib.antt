@@ -1,13 +1,2 @@
-pub mod SendLaws
-pub mod FirstOfferLaws
-pub mod HappenSteps
-pub mod JoinLaws
-pub mod HearingLaws
-pub mod InnerStepLaws
-pub mod MatchLaws
-pub mod OfferedLaws
-pub mod FollowsLaws
-pub mod LongStepLaws
-pub mod LongRunLaws
-pub mod InnerRunLaws
-pub mod MarksLaws
+pub mod KindLaws
+pub mod OfferLaws
