@@ -2,7 +2,7 @@
 use Rattle.std.specs.Prelude.{◌≡◌, ℕ, ◌+◌, ◌<◌, ◌≤◌, false, List, length, IfSome}
 use Rattle.p25_packet_blocks.specs.Sendable.{AreOctets}
 use Rattle.p25_delivery.specs.SenderState.{IsSending}
-use Rattle.p25_delivery.specs.ReceiverState.{Keeping}
+use Rattle.p25_delivery.specs.ReceiverState.{Keeping, Receiving}
 use Rattle.p25_delivery.specs.declared.sender_state.Outstanding.{Outstanding}
 use Rattle.p25_delivery.specs.declared.sender_state.Outstanding.TheVariants.{Nothing, Message, Opening}
 use Rattle.p25_delivery.specs.Halves.{Outgoing, Incoming}
@@ -36,7 +36,10 @@ pub record IsOutgoing (o : Outgoing) : Type 0 where
   pub message : IsMessageIn o.sender.outstanding
   pub counted : IsCountedWith o.sender.outstanding o
 
--- what every receiving half keeps
-pub record IsIncoming (i : Incoming) : Type 0 where
-  pub last : i.receiver.last < 8
-  pub kept : IfSome i.receiver.kept IsFew
+-- what every receiver keeps, and so every receiving half
+pub record IsReceiving (r : Receiving) : Type 0 where
+  pub last : r.last < 8
+  pub kept : IfSome r.kept IsFew
+
+abbrev pub IsIncoming : Incoming → Type 0
+IsIncoming i = IsReceiving i.receiver

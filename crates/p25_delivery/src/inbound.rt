@@ -52,8 +52,8 @@ impl Inbound {
         &self.received
     }
 
-    /// Makes room for 1 to 16 more messages. Answers AllocError exactly where there is not enough memory, which comes only
-    /// where there was no such room; what it keeps stays as it was, and no room is lost.
+    /// Makes room for 1 to 16 more calls. Answers AllocError exactly where there is not enough memory, which comes only where
+    /// there was no such room; what it keeps stays as it was, and no room is lost.
     pub fn reserve(&mut self, calls: u32) -> Result<(), AllocError>
         requires some { 0 < calls }
         requires most { calls ≤ 16 }
@@ -65,8 +65,8 @@ impl Inbound {
         self.received.reserve(calls)
     }
 
-    /// Has its receiver hear a packet, and answers what happened, and the answer that becomes the newest transmission of its
-    /// direction, where there is one. There is room for a message.
+    /// Answers what comes of a packet that its receiver hears, and the response to send, where there is one: it becomes the
+    /// newest transmission. There is room for a call.
     #[tactic(auto, unfolding(crate::specs::HalfRules::after_data))]
     pub fn hear(&mut self, packet: &Packet) -> (StepKind, Option<Packet>)
         requires { 0 < self.old.spare }

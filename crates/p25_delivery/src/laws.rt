@@ -1,6 +1,6 @@
-//! The theorems on the machine and on a link of two such stations. No function here makes a call: its contract is the theorem.
+//! The theorems on messages and on a link of two stations. No function here makes a call: its contract is the theorem.
 
-ghost use Rattle.std.specs.Prelude.{◌≡◌, ℕ, List, length, Some, ◌≤◌, true, [], ◌∷◌, ◌++◌};
+ghost use Rattle.std.specs.Prelude.{◌≡◌, ℕ, ◌+◌, ◌%◌, ◌≤◌, true, List, length, Some};
 ghost use Rattle.p25_packet_blocks.specs.declared.block.Slot.{Slot};
 ghost use Rattle.p25_delivery.specs.MessageBlocks.{block_count, pad_count, message_octets, unpadded};
 ghost use Rattle.p25_delivery.specs.Carried.{CarriesMessage, read_back};
@@ -30,9 +30,9 @@ pub fn sessions_are_orderly()
         AreOrderly (sessions_of (link_run first_link events)) }
 {}
 
-/// **Theorem.** Its clause says which facts a link keeps in every such run: what was sent, delivered and acknowledged,
-/// V(R) and the number of the outstanding message, and what the newest transmission of each direction is. The number of the first
-/// message of a session is one more than that of the packet that opens it.
+/// **Theorem.** Its clauses say which facts a link keeps in every such run: what was sent, delivered and acknowledged, V(R)
+/// and the number of the outstanding message, and what the newest transmission of each direction is; and that the number of the
+/// first message of a session is one more than that of the packet that opens it.
 pub fn facts_are_kept()
     ensures facts { (events : List Happening) → IsCleanRun first_link events → LinkFacts (link_run first_link events) }
     ensures first { (events : List Happening) → IsCleanRun first_link events → (number : ℕ) →

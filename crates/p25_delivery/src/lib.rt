@@ -18,8 +18,9 @@
 //! ```
 //!
 //! Contracts see a sender as `Sending` and a receiver as `Receiving`, and each call as a function of `SenderRules` or
-//! `ReceiverRules` that gives the state after it and its answer. `laws` has the promise of the two stations, over every run
-//! of a link in which what is heard is true to what was sent.
+//! `ReceiverRules` that gives the state after it and its answer; and the halves as `Outgoing` and `Incoming`, each call by its
+//! rule in `HalfRules`. `laws` has the promise of a link of two halves, over every run in which what is heard is true to what
+//! was sent.
 #![tactic(auto)]
 
 mod asked;

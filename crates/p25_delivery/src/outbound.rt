@@ -15,8 +15,7 @@ use std::marker::Model;
 /// The half of a station that sends: its sender, the messages that it sent, how many of them were acknowledged, and the ends
 /// of their sessions before the present one.
 ///
-/// Each call of its sender answers what happened, and the packet that becomes the newest transmission of its direction, where
-/// there is one.
+/// Each call answers what happened, and the packet to send, where there is one: it becomes the newest transmission.
 #[derive(Drop)]
 pub struct Outbound {
     sender: Sender,
@@ -68,7 +67,7 @@ impl Outbound {
         self.acknowledged
     }
 
-    /// Answers the number of sessions of its messages: one more than it gave messages up.
+    /// Answers the number of sessions of its messages: one more than the number of messages that were given up.
     pub fn sessions(&self) -> u64
         ensures { result ≡ length self.now.half.marks + 1 }
     {
@@ -108,7 +107,8 @@ impl Outbound {
     ghost use Rattle.p25_delivery.specs.SenderRules.{offered, timed_out, sender_heard, reopened, is_opening};
     ghost use Rattle.p25_delivery.specs.HalfRules.{after_offer, after_timeout, after_reopening, after_answer};
 
-    /// Offers a message to its sender. There is room for it.
+    /// Answers what comes of a message that is offered to its sender: where nothing is outstanding it is taken, and its packet is
+    /// to be sent. There is room for a call.
     #[tactic(auto, unfolding(crate::specs::HalfRules::after_offer))]
     pub fn offer(&mut self, message: &Message) -> (StepKind, Option<Packet>)
         requires { 0 < self.old.spare }
@@ -132,7 +132,8 @@ impl Outbound {
         }
     }
 
-    /// Tells its sender that its time is up.
+    /// Answers what comes of a timeout: what is outstanding is to be sent again, or the sender is down once 16 transmissions were
+    /// made. It needs no room.
     #[tactic(auto, unfolding(crate::specs::HalfRules::after_timeout))]
     pub fn time_out(&mut self) -> (StepKind, Option<Packet>)
         ensures half { self.new.half ≡ (after_timeout self.old.half (timed_out self.old.half.sender)).0 }
@@ -151,7 +152,8 @@ impl Outbound {
         }
     }
 
-    /// Has its sender open its session again, while so many of its messages were delivered. There is room for it.
+    /// Answers what comes of a reopening while so many of its messages were delivered: where the sender is down, the opening
+    /// packet is to be sent, and the session of a message that is given up ends. There is room for a call.
     #[tactic(auto, unfolding(crate::specs::HalfRules::after_reopening))]
     pub fn reopen(&mut self, delivered: u64) -> (StepKind, Option<Packet>)
         requires { 0 < self.old.spare }
@@ -180,7 +182,7 @@ impl Outbound {
         }
     }
 
-    /// Has its sender hear a packet.
+    /// Answers what comes of a packet that its sender hears. It needs no room.
     #[tactic(auto, unfolding(crate::specs::HalfRules::after_answer))]
     pub fn hear(&mut self, packet: &Packet) -> (StepKind, Option<Packet>)
         ensures half { self.new.half ≡ (after_answer self.old.half (sender_heard self.old.half.sender packet.now)).0 }
