@@ -39,7 +39,6 @@ mod step_kind;
 pub use inbound::Inbound;
 pub use mark::Mark;
 pub use outbound::Outbound;
-pub use p25_messages::{Flips, Message, MessageList};
 pub use receiver::{Heard, Receiver};
 pub use sender::{Offer, Reopen, Resend, Sender, SenderHeard};
 pub use sender_state::Outstanding;

@@ -1,7 +1,7 @@
 //! What the air keeps, what every run of the world keeps, and what every run without a false pass. Each function makes no call
 //! of its own: its contract is the theorem.
 
-ghost use Rattle.std.specs.Prelude.{◌≡◌, ℕ, ◌≤◌, true, false, List, [], ◌∷◌, ◌++◌, length, None, ◌<◌, ◌↔◌};
+ghost use Rattle.std.specs.Prelude.{◌≡◌, ℕ, ◌≤◌, true, false, List, [], ◌∷◌, length, ◌<◌, ◌↔◌};
 ghost use Rattle.p25_delivery.specs.MessageBlocks.{block_count};
 ghost use Rattle.p25_delivery.specs.SenderRules.{opening_number};
 ghost use Rattle.p25_delivery.specs.declared.sender_state.Outstanding.TheVariants.{Nothing};
@@ -11,18 +11,17 @@ ghost use Rattle.p25_delivery.specs.Facts.{LinkFacts};
 ghost use Rattle.p25_stations.specs.declared.step.Event.{Event as event_type};
 ghost use Rattle.p25_stations.specs.declared.step.Event.TheVariants.{Send, Reopen, ToReceiver, ToSender};
 ghost use Rattle.p25_delivery.specs.declared.step_kind.StepKind.TheVariants.{Taken, Reopened, Delivered, SynHeard, Acknowledged, LinkOpened};
-ghost use Rattle.p25_stations.specs.WorldState.{WorldState, first_world};
+ghost use Rattle.p25_stations.specs.WorldState.{first_world};
 ghost use Rattle.p25_delivery.specs.SoundHalves.{IsMessage};
-ghost use Rattle.p25_stations.specs.Sound.{IsSound};
 ghost use Rattle.p25_stations.specs.Steps.{world_step};
-ghost use Rattle.p25_stations.specs.Runs.{IsEvent, AreEvents, world_run, steps_of, IsCleanRun};
+ghost use Rattle.p25_stations.specs.Runs.{AreEvents, world_run, steps_of, IsCleanRun};
 ghost use Rattle.p25_stations.specs.RunLaws.{IsWithin, AreWithin, IsTwiceDamaged, true_step, tries_in};
 ghost use Rattle.p25_packet_blocks.specs.declared.packet.Packet.{Packet as packet_type};
 ghost use Rattle.p25_packet_blocks.specs.Sendable.{IsSendable};
 ghost use Rattle.p25_delivery.specs.Clean.{IsTrueTo};
 ghost use Rattle.p25_stations.specs.declared.air.Carried.TheVariants.{Heard as heard_packet};
 ghost use Rattle.p25_stations.specs.Air.{is_true_to, carried_of, ArrivesWithin, places_within};
-ghost use Rattle.p25_stations.specs.StepLists.{delivered_in, sent_in};
+ghost use Rattle.p25_stations.specs.StepLists.{delivered_in, sent_in, acknowledged_in};
 
 use p25_packet_blocks::laws::packet_radius;
 
@@ -77,7 +76,8 @@ pub fn deliveries_within_radius()
     ensures opened { (events : List event_type) (first second : List ℕ) → AreEvents events →
         (world_run first_world events).link.outbound.sender.down ≡ true →
         AreWithin (world_run first_world events) (Reopen ∷ ToReceiver first ∷ ToSender second ∷ []) →
-        (let number = opening_number (world_run first_world events).link.outbound.sender.outstanding (world_run first_world events).link.outbound.sender.next in
+        (let sender = (world_run first_world events).link.outbound.sender in
+        let number = opening_number sender.outstanding sender.next in
         steps_of (world_run first_world events) (Reopen ∷ ToReceiver first ∷ ToSender second ∷ []) ≡
         true_step (Reopened number) ∷ true_step (SynHeard number) ∷ true_step (LinkOpened number) ∷ []) }
 {
@@ -100,8 +100,13 @@ pub fn air_is_true()
 }
 
 /// **Theorem.** Its clauses say that the steps of every run tell its lists. The messages of the Delivered steps, in order,
-/// are those delivered, and the messages of the events whose step is Taken are those sent.
+/// are those delivered, the messages of the events whose step is Taken are those sent, and the number of the Acknowledged
+/// steps is that of the messages acknowledged.
 pub fn steps_tell_lists()
-    ensures delivered { (events : List event_type) → (world_run first_world events).link.inbound.received ≡ delivered_in (steps_of first_world events) }
-    ensures sent { (events : List event_type) → (world_run first_world events).link.outbound.sent ≡ sent_in events (steps_of first_world events) }
+    ensures delivered { (events : List event_type) →
+        (world_run first_world events).link.inbound.received ≡ delivered_in (steps_of first_world events) }
+    ensures sent { (events : List event_type) →
+        (world_run first_world events).link.outbound.sent ≡ sent_in events (steps_of first_world events) }
+    ensures acknowledged { (events : List event_type) →
+        (world_run first_world events).link.outbound.acknowledged ≡ acknowledged_in (steps_of first_world events) }
 {}

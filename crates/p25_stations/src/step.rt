@@ -1,3 +1,7 @@
+//! The events of a world, and its steps.
+
+ghost use Rattle.std.specs.Prelude.{◌≡◌, false};
+
 use p25_delivery::StepKind;
 use p25_messages::{Flips, Message};
 
@@ -23,4 +27,16 @@ pub struct Step {
     pub kind: StepKind,
     /// Whether it is a delivery that reads as another packet than the one that was sent.
     pub false_pass: bool,
+}
+
+impl Step {
+    /// Answers a step of a kind that is no false pass: it is no delivery, or nothing was heard in it.
+    pub fn quiet(kind: StepKind) -> Step
+        ensures { result ≡ record { kind = kind; false_pass = false } }
+    {
+        Step {
+            kind,
+            false_pass: false,
+        }
+    }
 }

@@ -1,4 +1,7 @@
-ghost use Rattle.std.specs.Prelude.{◌≡◌, ◌+◌, ◌<◌, ◌≤◌, false, length, OnOk, OnErr, IfOk};
+//! The world of two stations: each step of it, and what it keeps.
+
+ghost use Rattle.std.specs.Prelude.{◌≡◌, ◌+◌, ◌<◌, ◌≤◌, length, OnOk, OnErr, IfOk, IfSome};
+ghost use Rattle.p25_packet_blocks.specs.Sendable.{IsSendable};
 ghost use Rattle.p25_delivery.specs.Link.{newest_after};
 ghost use Rattle.p25_stations.specs.Steps.{world_step};
 
@@ -21,7 +24,6 @@ pub struct World {
 }
 
 impl Model for World {
-    ghost use Rattle.std.specs.Prelude.{min};
     ghost use Rattle.p25_stations.specs.WorldState.{WorldParts};
 
     ghost Value = { WorldParts };
@@ -110,20 +112,12 @@ impl World {
     {
         match event {
             Event::Send(message) => {
-                let (kind, packet) = self.outbound.offer(message);
-                keep(&mut self.packet_sent, packet);
-                quiet(kind)
+                Step::quiet(keep(&mut self.packet_sent, self.outbound.offer(message)))
             }
-            Event::Timeout => {
-                let (kind, packet) = self.outbound.time_out();
-                keep(&mut self.packet_sent, packet);
-                quiet(kind)
-            }
+            Event::Timeout => Step::quiet(keep(&mut self.packet_sent, self.outbound.time_out())),
             Event::Reopen => {
                 let delivered = self.inbound.received().len() as u64;
-                let (kind, packet) = self.outbound.reopen(delivered);
-                keep(&mut self.packet_sent, packet);
-                quiet(kind)
+                Step::quiet(keep(&mut self.packet_sent, self.outbound.reopen(delivered)))
             }
             Event::ToReceiver(flips) => self.deliver(Way::Packets, flips),
             Event::ToSender(flips) => self.deliver(Way::Answers, flips),
@@ -142,29 +136,21 @@ impl World {
     }
 }
 
-// A step that is no delivery, or in which nothing is heard.
-fn quiet(kind: StepKind) -> Step
-    ensures { result ≡ record { kind = kind; false_pass = false } }
+// Makes what a call of a half sends the newest transmission of its direction, and answers what happened.
+fn keep(newest: &mut Option<Packet>, called: (StepKind, Option<Packet>)) -> StepKind
+    ensures newest { newest.new ≡ newest_after called.1 newest.old }
+    ensures kind { result ≡ called.0 }
 {
-    Step {
-        kind,
-        false_pass: false,
+    let (kind, sent) = called;
+    if sent.is_some() {
+        *newest = sent;
     }
-}
-
-// Makes a packet the newest transmission of its direction, where there is one.
-#[tactic(auto, unfolding(Rattle.p25_delivery.specs.Link.newest_after))]
-fn keep(newest: &mut Option<Packet>, packet: Option<Packet>)
-    ensures { newest.new ≡ newest_after packet newest.old }
-{
-    if packet.is_some() {
-        *newest = packet;
-    }
+    kind
 }
 
 impl World {
-    ghost use Rattle.p25_delivery.specs.Link.{happens, newest_after};
-    ghost use Rattle.p25_stations.specs.Steps.{counted_when, heard_by, newest_by, carried, delivered};
+    ghost use Rattle.p25_delivery.specs.Link.{happens};
+    ghost use Rattle.p25_stations.specs.Steps.{heard_by, newest_by, delivered};
 
     // Has a station hear a packet that came that way.
     fn hear(&mut self, way: Way, packet: &Packet) -> StepKind
@@ -175,37 +161,38 @@ impl World {
         ensures spare { self.old.spare ≤ self.new.spare + 1 }
     {
         match way {
-            Way::Packets => {
-                let (kind, answer) = self.inbound.hear(packet);
-                keep(&mut self.answer, answer);
-                kind
-            }
-            Way::Answers => {
-                let (kind, packet) = self.outbound.hear(packet);
-                keep(&mut self.packet_sent, packet);
-                kind
-            }
+            Way::Packets => keep(&mut self.answer, self.inbound.hear(packet)),
+            Way::Answers => keep(&mut self.packet_sent, self.outbound.hear(packet)),
+        }
+    }
+
+    // The newest transmission of a way.
+    #[tactic(auto, unfolding(crate::specs::Steps::newest_by))]
+    fn newest(&self, way: Way) -> &Option<Packet>
+        ensures newest { result.now ≡ newest_by way self.now.state.link }
+        ensures sendable { IfSome result.now IsSendable }
+    {
+        match way {
+            Way::Packets => &self.packet_sent,
+            Way::Answers => &self.answer,
         }
     }
 
     // Delivers the newest transmission of a way.
+    #[tactic(auto, unfolding(crate::specs::Steps::delivered, crate::specs::Steps::carried, crate::specs::Steps::counted_when))]
     fn deliver(&mut self, way: Way, flips: &Flips) -> Step
         requires { 0 < self.old.spare }
         ensures state { self.new.state ≡ (delivered self.old.state way (newest_by way self.old.state.link) flips.now).0 }
         ensures step { result ≡ (delivered self.old.state way (newest_by way self.old.state.link) flips.now).1 }
         ensures spare { self.old.spare ≤ self.new.spare + 1 }
     {
-        let newest = match way {
-            Way::Packets => &self.packet_sent,
-            Way::Answers => &self.answer,
-        };
-        let carried = match newest {
-            None => return quiet(StepKind::Nothing { way }),
+        let carried = match self.newest(way) {
+            None => return Step::quiet(StepKind::Nothing { way }),
             Some(packet) => carry(packet, flips),
         };
         match carried {
-            Carried::Lost(field) => quiet(StepKind::Lost { way, field }),
-            Carried::Foreign => quiet(StepKind::Ignored { way }),
+            Carried::Lost(field) => Step::quiet(StepKind::Lost { way, field }),
+            Carried::Foreign => Step::quiet(StepKind::Ignored { way }),
             Carried::Heard { packet, false_pass } => {
                 let kind = self.hear(way, &packet);
                 if false_pass {

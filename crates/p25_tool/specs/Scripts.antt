@@ -3,7 +3,8 @@ use Rattle.std.specs.Prelude.{◌≡◌, ℕ, ◌≤◌, ◌⊎◌, true, List, 
 use Rattle.std.specs.List.{flat_map}
 use Rattle.p25_io.specs.Octets.{Appended}
 use Rattle.p25_delivery.specs.Orderly.{AreOrderly}
-use Rattle.p25_stations.specs.Runs.{IsCleanRun, sessions_of, steps_of, world_run}
+use Rattle.p25_delivery.specs.Link.{sessions_of}
+use Rattle.p25_stations.specs.Runs.{IsCleanRun, steps_of, world_run}
 use Rattle.p25_stations.specs.WorldState.{first_world}
 use Rattle.p25_stations.specs.declared.step.Event.{Event}
 use Rattle.p25_script.specs.Script.{event_of}
@@ -33,7 +34,7 @@ script_text events = flat_map step_line (steps_of first_world events) ++ closing
 pub record HasRun (first last : Option (List ℕ)) (events : List Event) (outcome : Outcome) : Type 0 where
   pub ended : (outcome ≡ Done) ⊎ (outcome ≡ Memory)
   pub wrote : outcome ≡ Done → Appended first (script_text events) last
-  pub orderly : IsCleanRun events → AreOrderly (sessions_of (world_run first_world events))
+  pub orderly : IsCleanRun events → AreOrderly (sessions_of (world_run first_world events).link)
 
 -- the same of events of long messages
 pub record IsLongScriptOf (input : List ℕ) (events : List LongEvent) : Type 0 where
