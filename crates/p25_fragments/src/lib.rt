@@ -18,7 +18,6 @@
 #![tactic(auto)]
 
 mod joiner;
-pub mod laws;
 mod long_step;
 mod long_world;
 mod outgoing;
