@@ -1,3 +1,6 @@
 pub mod KindLaws
 pub mod OfferLaws
 pub mod MoveLaws
+pub mod CleanMoveLaws
+pub mod JoinLaws
+pub mod MatchLaws

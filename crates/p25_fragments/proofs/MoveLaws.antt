@@ -1,4 +1,4 @@
--- What each step of the inner world does to its link, by the kind of the step: to what is outstanding, to V(R), and to the lists. By
+-- What happens at a link, but an offer, does to it, by the kind of the step: to what is outstanding, to V(R), and to the lists. By
 -- the rules of the stations, each answer in turn.
 use Rattle.std.proofs.Common.{◌≡◌, ℕ, ◌+◌, ◌%◌, ◌⊎◌, inl, inr, Bool, true, false, cond, eqb, List, [], ◌∷◌, ◌++◌, length, Option, Some, None, refl, ap, sym, subst, ◌∙◌}
 use Rattle.std.proofs.lemmas.Bool.{cond-true, cond-false}
@@ -60,33 +60,15 @@ IsSameIn v w = outstanding_in w ≡ outstanding_in v
 abbrev pub HasSameLast : Link → Link → Type 0
 HasSameLast v w = w.inbound.receiver.last ≡ v.inbound.receiver.last
 
-pub data Moves (v : Link) (x : Link × StepKind) : Type 0 where
-  moves_nothing : IsPlainKind x.1 → IsSameIn v x.0 → HasSameLast v x.0 → lists_of x.0 ≡ lists_of v → Moves v x
-  sends : (message : List ℕ) → IsPlainKind x.1 → outstanding_in v ≡ Nothing → outstanding_in x.0 ≡ Message message → lists_of x.0 ≡ one_sent (lists_of v) message → Moves v x
+-- what a call that offers no message does
+pub data Moves (v : Link) (happening : Happening) (x : Link × StepKind) : Type 0 where
+  moves_nothing : IsPlainKind x.1 → IsSameIn v x.0 → HasSameLast v x.0 → lists_of x.0 ≡ lists_of v → Moves v happening x
   ends : (number : ℕ) → IsPlainKind x.1 → v.outbound.sender.down ≡ true → is_opening (outstanding_in v) ≡ false → opening_number (outstanding_in v) v.outbound.sender.next ≡ number → outstanding_in x.0 ≡ Opening number → HasSameLast v x.0 →
-      lists_of x.0 ≡ marked (lists_of v) → Moves v x
-  delivers : (number : ℕ) (message : List ℕ) → x.1 ≡ Delivered number message → IsSameIn v x.0 → lists_of x.0 ≡ one_delivered (lists_of v) message → Moves v x
-  hears_opening : (number : ℕ) → x.1 ≡ SynHeard number → IsSameIn v x.0 → lists_of x.0 ≡ lists_of v → Moves v x
-  acknowledges : (number : ℕ) (message : List ℕ) → x.1 ≡ Acknowledged number → outstanding_in v ≡ Message message → outstanding_in x.0 ≡ Nothing → x.0.outbound.sender.down ≡ false → lists_of x.0 ≡ one_acknowledged (lists_of v) → Moves v x
-  opens_link : (number : ℕ) → IsPlainKind x.1 → outstanding_in v ≡ Opening number → outstanding_in x.0 ≡ Nothing → x.0.outbound.sender.next ≡ (number + 1) % 8 → HasSameLast v x.0 → lists_of x.0 ≡ lists_of v → Moves v x
-
--- A message is offered.
-
-offer-by : (v : Link) (message : List ℕ) (x : Sending × Offer) → Type 0
-offer-by v message x = Moves v (with_outbound v (after_offer v.outbound message x))
-
-offer-beside : (v : Link) (message : List ℕ) (out : Outstanding) → outstanding_in v ≡ out → offer-by v message (offered_beside out v.outbound.sender message)
-unfolding offer-by offered_beside with_outbound after_offer newest_after IsPlainKind
-offer-beside v message Nothing o = sends message tt o refl refl
-offer-beside v message (Message other) o = moves_nothing tt refl refl refl
-offer-beside v message (Opening number) o = moves_nothing tt refl refl refl
-
-offer-moves : (v : Link) (message : List ℕ) → offer-by v message (offered v.outbound.sender message)
-unfolding offered offer-by with_outbound after_offer newest_after IsPlainKind
-offer-moves v message =
-    let s = v.outbound.sender in
-    let beside = offered_beside s.outstanding s message in
-    elim s.down as (λ (b : Bool). offer-by v message (cond b (s, DownAtOffer) beside)) [ true ↦ moves_nothing tt refl refl refl | false ↦ offer-beside v message s.outstanding refl ]
+      lists_of x.0 ≡ marked (lists_of v) → Moves v happening x
+  delivers : (number : ℕ) (message : List ℕ) → x.1 ≡ Delivered number message → IsSameIn v x.0 → lists_of x.0 ≡ one_delivered (lists_of v) message → Moves v happening x
+  hears_opening : (number : ℕ) (packet : ConfirmedParts) → happening ≡ Data_heard (Confirmed packet) → head_syn packet.head ≡ true → x.1 ≡ SynHeard number → IsSameIn v x.0 → lists_of x.0 ≡ lists_of v → Moves v happening x
+  acknowledges : (number : ℕ) (message : List ℕ) → x.1 ≡ Acknowledged number → outstanding_in v ≡ Message message → outstanding_in x.0 ≡ Nothing → x.0.outbound.sender.down ≡ false → lists_of x.0 ≡ one_acknowledged (lists_of v) → Moves v happening x
+  opens_link : (number : ℕ) → IsPlainKind x.1 → outstanding_in v ≡ Opening number → outstanding_in x.0 ≡ Nothing → x.0.outbound.sender.next ≡ (number + 1) % 8 → HasSameLast v x.0 → lists_of x.0 ≡ lists_of v → Moves v happening x
 
 -- Time is up.
 
@@ -99,7 +81,7 @@ timed-with s (Opening number) = resent-of (λ packet. Unit {0}) s number _ tt
 timed-same : (s : Sending) → (timed_out s).0.outstanding ≡ s.outstanding
 timed-same s = (timeout-of (λ packet. Unit {0}) s s.outstanding refl (timed-with s s.outstanding)).0.outstanding
 
-timeout-by : (v : Link) (x : Sending × Resend) → x.0.outstanding ≡ outstanding_in v → Moves v (with_outbound v (after_timeout v.outbound x))
+timeout-by : (v : Link) (x : Sending × Resend) → x.0.outstanding ≡ outstanding_in v → Moves v Time_up (with_outbound v (after_timeout v.outbound x))
 unfolding with_outbound after_timeout newest_after IsPlainKind
 timeout-by v (s, Sent number tries packet) o = moves_nothing tt o refl refl
 timeout-by v (s, ResendIdle) o = moves_nothing tt o refl refl
@@ -108,7 +90,7 @@ timeout-by v (s, DownAtTimeout) o = moves_nothing tt o refl refl
 -- The session is opened again.
 
 ReopensBy : Link → Outstanding → Sending × ReopenAnswer → Type 0
-ReopensBy v out x = Moves v (with_outbound v (after_reopening v.outbound (length v.inbound.received) (is_opening out) x))
+ReopensBy v out x = Moves v Opening_again (with_outbound v (after_reopening v.outbound (length v.inbound.received) (is_opening out) x))
 
 -- where the opening packet is sent
 opening-sent : (v : Link) (out : Outstanding) (number : ℕ) (s : Sending) → outstanding_in v ≡ out → v.outbound.sender.down ≡ true → opening_number out v.outbound.sender.next ≡ number → s.outstanding ≡ Opening number →
@@ -137,96 +119,111 @@ reopen-moves v =
     ] in
     by s.down refl
 
--- The receiver hears a packet.
+-- The receiver hears a packet, which is no opening packet.
 
-HearsBy : Link → Receiving × HeardAnswer → Type 0
-HearsBy v x = Moves v (with_inbound v (after_data v.inbound x))
+HearsBy : Link → Happening → Receiving × HeardAnswer → Type 0
+HearsBy v happening x = Moves v happening (with_inbound v (after_data v.inbound x))
 
-hears-nothing : (v : Link) → HearsBy v (v.inbound.receiver, ReceiverIgnored)
+hears-nothing : (v : Link) (h : Happening) → HearsBy v h (v.inbound.receiver, ReceiverIgnored)
 unfolding HearsBy with_inbound after_data newest_after IsPlainKind
-hears-nothing v = moves_nothing tt refl refl refl
+hears-nothing v h = moves_nothing tt refl refl refl
 
-hears-finished : (v : Link) (number : ℕ) (found : Option (List ℕ)) → HearsBy v (finished v.inbound.receiver number found)
+hears-finished : (v : Link) (h : Happening) (number : ℕ) (found : Option (List ℕ)) → HearsBy v h (finished v.inbound.receiver number found)
 unfolding HearsBy finished with_inbound after_data newest_after IsPlainKind
-hears-finished v number None = moves_nothing tt refl refl refl
-hears-finished v number (Some message) = delivers number message refl refl refl
+hears-finished v h number None = moves_nothing tt refl refl refl
+hears-finished v h number (Some message) = delivers number message refl refl refl
 
-hears-completed : (v : Link) (number : ℕ) (kept : Keeping) (found : Option (List ℕ)) → HearsBy v (completed v.inbound.receiver number kept found)
+hears-completed : (v : Link) (h : Happening) (number : ℕ) (kept : Keeping) (found : Option (List ℕ)) → HearsBy v h (completed v.inbound.receiver number kept found)
 unfolding HearsBy completed with_inbound after_data newest_after IsPlainKind
-hears-completed v number kept None = moves_nothing tt refl refl refl
-hears-completed v number kept (Some octets) = hears-finished v number (unpadded octets kept.pad)
+hears-completed v h number kept None = moves_nothing tt refl refl refl
+hears-completed v h number kept (Some octets) = hears-finished v h number (unpadded octets kept.pad)
 
-hears-filled : (v : Link) (packet : ConfirmedParts) (kept : Option Keeping) → HearsBy v (filled v.inbound.receiver packet kept)
+hears-filled : (v : Link) (h : Happening) (packet : ConfirmedParts) (kept : Option Keeping) → HearsBy v h (filled v.inbound.receiver packet kept)
 unfolding filled
-hears-filled v packet None = hears-nothing v
-hears-filled v packet (Some kept) =
+hears-filled v h packet None = hears-nothing v h
+hears-filled v h packet (Some kept) =
     let places = put_slots kept.places packet.slots in
-    hears-completed v (head_number packet.head) (record { places = places; pad = kept.pad }) (all_octets places)
+    hears-completed v h (head_number packet.head) (record { places = places; pad = kept.pad }) (all_octets places)
 
-hears-data : (v : Link) (packet : ConfirmedParts) → HearsBy v (data_heard v.inbound.receiver packet)
+hears-data : (v : Link) (h : Happening) (packet : ConfirmedParts) → HearsBy v h (data_heard v.inbound.receiver packet)
 unfolding HearsBy data_heard with_inbound after_data newest_after IsPlainKind
-hears-data v packet =
+hears-data v h packet =
     let r = v.inbound.receiver in
     let next = filled r packet (keeping_for r.kept packet.head) in
     let other : Receiving × HeardAnswer = (r, RefusedOrder r.last (order_nack_packet r.last)) in
     let again : Receiving × HeardAnswer = (r, Again r.last (ack_packet r.last)) in
     let is_next = eqb (head_number packet.head) ((r.last + 1) % 8) in
-    let new : HearsBy v (cond is_next next other) = elim is_next as (λ (b : Bool). HearsBy v (cond b next other)) [ true ↦ hears-filled v packet (keeping_for r.kept packet.head) | false ↦ moves_nothing tt refl refl refl ] in
-    elim (eqb (head_number packet.head) r.last) as (λ (b : Bool). HearsBy v (cond b again (cond is_next next other))) [ true ↦ moves_nothing tt refl refl refl | false ↦ new ]
+    let new : HearsBy v h (cond is_next next other)
+    = elim is_next as (λ (b : Bool). HearsBy v h (cond b next other)) [ true ↦ hears-filled v h packet (keeping_for r.kept packet.head) | false ↦ moves_nothing tt refl refl refl ] in
+    elim (eqb (head_number packet.head) r.last) as (λ (b : Bool). HearsBy v h (cond b again (cond is_next next other))) [ true ↦ moves_nothing tt refl refl refl | false ↦ new ]
 
-hears-syn : (v : Link) (head : PacketHead) → HearsBy v (opening_heard v.inbound.receiver head)
+-- Or one that is.
+hears-syn : (v : Link) (packet : ConfirmedParts) → head_syn packet.head ≡ true → HearsBy v (Data_heard (Confirmed packet)) (opening_heard v.inbound.receiver packet.head)
 unfolding HearsBy opening_heard with_inbound after_data newest_after IsPlainKind
-hears-syn v head =
+hears-syn v packet syn =
     let r = v.inbound.receiver in
-    let number = head_number head in
+    let number = head_number packet.head in
     let opened : Receiving × HeardAnswer = (record { last = number; kept = None }, ReceiverOpened number (ack_packet number)) in
-    elim (eqb (head_blocks head) 0) as (λ (b : Bool). HearsBy v (cond b opened (r, ReceiverIgnored))) [ true ↦ hears_opening number refl refl refl | false ↦ hears-nothing v ]
+    elim (eqb (head_blocks packet.head) 0) as (λ (b : Bool). HearsBy v (Data_heard (Confirmed packet)) (cond b opened (r, ReceiverIgnored))) [
+      | true ↦ hears_opening number packet refl syn refl refl refl
+      | false ↦ hears-nothing v (Data_heard (Confirmed packet))
+    ]
 
-hears-moves : (v : Link) (packet : Packet) → HearsBy v (receiver_heard v.inbound.receiver packet)
+hears-moves : (v : Link) (packet : Packet) → HearsBy v (Data_heard packet) (receiver_heard v.inbound.receiver packet)
 unfolding receiver_heard
-hears-moves v (Plain packet) = hears-nothing v
+hears-moves v (Plain packet) = hears-nothing v (Data_heard (Plain packet))
 hears-moves v (Confirmed packet) =
+    let h = Data_heard (Confirmed packet) in
     let r = v.inbound.receiver in
     let syn = opening_heard r packet.head in
     let more = data_heard r packet in
-    let ours : HearsBy v (cond (head_syn packet.head) syn more) = elim (head_syn packet.head) as (λ (b : Bool). HearsBy v (cond b syn more)) [ true ↦ hears-syn v packet.head | false ↦ hears-data v packet ] in
-    elim (eqb (head_llid packet.head) station_llid) as (λ (b : Bool). HearsBy v (cond b (cond (head_syn packet.head) syn more) (r, ReceiverIgnored))) [ true ↦ ours | false ↦ hears-nothing v ]
+    let by : (b : Bool) → head_syn packet.head ≡ b → HearsBy v h (cond b syn more)
+    = λ (b : Bool). elim b as (λ (c : Bool). head_syn packet.head ≡ c → HearsBy v h (cond c syn more)) [
+      | true ↦ λ (e : head_syn packet.head ≡ true). hears-syn v packet e
+      | false ↦ λ (e : head_syn packet.head ≡ false). hears-data v h packet
+    ] in
+    elim (eqb (head_llid packet.head) station_llid) as (λ (b : Bool). HearsBy v h (cond b (cond (head_syn packet.head) syn more) (r, ReceiverIgnored))) [ true ↦ by (head_syn packet.head) refl | false ↦ hears-nothing v h ]
 
 -- The sender hears an answer.
 
-AnswersBy : Link → Sending × SenderHeard → Type 0
-AnswersBy v x = Moves v (with_outbound v (after_answer v.outbound x))
+AnswersBy : Link → Packet → Sending × SenderHeard → Type 0
+AnswersBy v packet x = Moves v (Answer_heard packet) (with_outbound v (after_answer v.outbound x))
 
-answer-same : (v : Link) (number : ℕ) (message : List ℕ) (x : Sending × SenderHeard) → x.0.outstanding ≡ outstanding_in v → RetriesOf number message x.1 → AnswersBy v x
+answer-same : (v : Link) (packet : Packet) (number : ℕ) (message : List ℕ) (x : Sending × SenderHeard) → x.0.outstanding ≡ outstanding_in v → RetriesOf number message x.1 → AnswersBy v packet x
 unfolding AnswersBy with_outbound after_answer newest_after IsPlainKind
-answer-same v number message (s, HeardAck n) o r = absurd r
-answer-same v number message (s, SenderOpened n) o r = absurd r
-answer-same v number message (s, Retry n wanted tries packet) o r = moves_nothing tt o refl refl
-answer-same v number message (s, Repeat n tries packet) o r = moves_nothing tt o refl refl
-answer-same v number message (s, SenderIgnored) o r = moves_nothing tt o refl refl
-answer-same v number message (s, DownAtAnswer) o r = moves_nothing tt o refl refl
+answer-same v packet number message (s, HeardAck n) o r = absurd r
+answer-same v packet number message (s, SenderOpened n) o r = absurd r
+answer-same v packet number message (s, Retry n wanted tries again) o r = moves_nothing tt o refl refl
+answer-same v packet number message (s, Repeat n tries again) o r = moves_nothing tt o refl refl
+answer-same v packet number message (s, SenderIgnored) o r = moves_nothing tt o refl refl
+answer-same v packet number message (s, DownAtAnswer) o r = moves_nothing tt o refl refl
 
-answer-message : (v : Link) (message : List ℕ) (packet : Packet) (x : Sending × SenderHeard) → outstanding_in v ≡ Message message → HearsAnswer v.outbound.sender message packet x → AnswersBy v x
+answer-message : (v : Link) (message : List ℕ) (packet : Packet) (x : Sending × SenderHeard) → outstanding_in v ≡ Message message → HearsAnswer v.outbound.sender message packet x → AnswersBy v packet x
 unfolding AnswersBy with_outbound after_answer newest_after
-answer-message v message packet x o (goes_on a e) = subst (AnswersBy v) (sym e) (acknowledges v.outbound.sender.next message refl o refl refl refl)
-answer-message v message packet x o (stays s) = answer-same v v.outbound.sender.next message x s.0.outstanding s.1
+answer-message v message packet x o (goes_on a e) = subst (AnswersBy v packet) (sym e) (acknowledges v.outbound.sender.next message refl o refl refl refl)
+answer-message v message packet x o (stays s) = answer-same v packet v.outbound.sender.next message x s.0.outstanding s.1
 
-answer-opening : (v : Link) (number : ℕ) (packet : Packet) (x : Sending × SenderHeard) → outstanding_in v ≡ Opening number → HearsOpening v.outbound.sender number packet x → AnswersBy v x
+answer-opening : (v : Link) (number : ℕ) (packet : Packet) (x : Sending × SenderHeard) → outstanding_in v ≡ Opening number → HearsOpening v.outbound.sender number packet x → AnswersBy v packet x
 unfolding AnswersBy with_outbound after_answer newest_after IsPlainKind
-answer-opening v number packet x o (opens a e) = subst (AnswersBy v) (sym e) (opens_link number tt o refl refl refl refl)
-answer-opening v number packet x o (waits e) = subst (AnswersBy v) (sym e) (moves_nothing tt refl refl refl)
+answer-opening v number packet x o (opens a e) = subst (AnswersBy v packet) (sym e) (opens_link number tt o refl refl refl refl)
+answer-opening v number packet x o (waits e) = subst (AnswersBy v packet) (sym e) (moves_nothing tt refl refl refl)
 
-answer-by : (v : Link) (packet : Packet) (out : Outstanding) → outstanding_in v ≡ out → AnswersBy v (sender_heard v.outbound.sender packet)
+answer-by : (v : Link) (packet : Packet) (out : Outstanding) → outstanding_in v ≡ out → AnswersBy v packet (sender_heard v.outbound.sender packet)
 unfolding AnswersBy with_outbound after_answer newest_after IsPlainKind
-answer-by v packet Nothing o = subst (AnswersBy v) (sym (quiet-answer v.outbound.sender packet o)) (moves_nothing tt refl refl refl)
+answer-by v packet Nothing o = subst (AnswersBy v packet) (sym (quiet-answer v.outbound.sender packet o)) (moves_nothing tt refl refl refl)
 answer-by v packet (Message message) o = answer-message v message packet _ o (message-answer v.outbound.sender message packet o)
 answer-by v packet (Opening number) o = answer-opening v number packet _ o (opening-answer v.outbound.sender number packet o)
 
--- Whatever happens.
-pub happens-moves : (v : Link) (happening : Happening) → Moves v (happens v happening)
-unfolding happens offer-by ReopensBy HearsBy AnswersBy
-happens-moves v (Offering message) = offer-moves v message
-happens-moves v Time_up = timeout-by v (timed_out v.outbound.sender) (timed-same v.outbound.sender)
-happens-moves v Opening_again = reopen-moves v
-happens-moves v (Data_heard packet) = hears-moves v packet
-happens-moves v (Answer_heard packet) = answer-by v packet (outstanding_in v) refl
+-- Whatever happens, but an offer.
+
+unfoldable pub IsNoOffering : Happening → Type 0
+IsNoOffering (Offering message) = ⊥
+IsNoOffering other = Unit {0}
+
+pub happens-moves : (v : Link) (happening : Happening) → IsNoOffering happening → Moves v happening (happens v happening)
+unfolding IsNoOffering happens ReopensBy HearsBy AnswersBy
+happens-moves v (Offering message) is = absurd is
+happens-moves v Time_up is = timeout-by v (timed_out v.outbound.sender) (timed-same v.outbound.sender)
+happens-moves v Opening_again is = reopen-moves v
+happens-moves v (Data_heard packet) is = hears-moves v packet
+happens-moves v (Answer_heard packet) is = answer-by v packet (outstanding_in v) refl
