@@ -4,3 +4,4 @@ pub mod MoveLaws
 pub mod CleanMoveLaws
 pub mod JoinLaws
 pub mod MatchLaws
+pub mod FollowsLaws
