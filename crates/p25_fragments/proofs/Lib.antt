@@ -5,3 +5,4 @@ pub mod CleanMoveLaws
 pub mod JoinLaws
 pub mod MatchLaws
 pub mod FollowsLaws
+pub mod LongStepLaws

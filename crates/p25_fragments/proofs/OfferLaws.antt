@@ -2,6 +2,8 @@
 use Rattle.std.proofs.Common.{◌≡◌, ℕ, Bool, true, false, List, [], ◌∷◌, ◌++◌, length, Some, None, ap, ap₂, sym, subst, refl, ◌∙◌}
 use Rattle.std.proofs.lemmas.Bool.{cond-true, cond-false}
 use Rattle.p25_messages.specs.LongMessages.{part_of}
+use Rattle.p25_delivery.specs.MessageBlocks.{block_count}
+use Rattle.p25_delivery.specs.SentPackets.{message_packet}
 use Rattle.p25_delivery.specs.SenderState.{Sending}
 use Rattle.p25_delivery.specs.SenderRules.{offered_beside, offered}
 use Rattle.p25_delivery.specs.declared.sender_state.Outstanding.{Outstanding}
@@ -10,7 +12,7 @@ use Rattle.p25_delivery.specs.declared.sender.Offer.{Offer}
 use Rattle.p25_delivery.specs.declared.sender.Offer.TheVariants.{Taken as OfferTaken, Busy as OfferBusy, Down as DownAtOffer}
 use Rattle.p25_delivery.specs.declared.step_kind.StepKind.TheVariants.{Taken, Busy as BusyAtOffer, OfferDown}
 use Rattle.p25_delivery.specs.HalfRules.{after_offer}
-use Rattle.p25_delivery.specs.Link.{newest_after, with_outbound, happens}
+use Rattle.p25_delivery.specs.Link.{Link, newest_after, with_outbound, happens}
 use Rattle.p25_delivery.proofs.SenderLaws.{offer-quiet}
 use Rattle.p25_stations.specs.declared.step.Event.TheVariants.{Send}
 use Rattle.p25_stations.specs.declared.step.Step.{Step}
@@ -49,6 +51,19 @@ send-opening : (w : WorldState) (message : List ℕ) (number : ℕ) → w.link.o
 unfolding with_outbound after_offer newest_after offered_beside
 send-opening w message number d o = step-of w message _ (offered-up w.link.outbound.sender message (Opening number) d o)
 
+-- a link whose sender has a message outstanding, which is sent
+abbrev pub sending_link : Link → List ℕ → Link
+sending_link v message =
+    record v {
+      outbound = record v.outbound { sender = record { next = v.outbound.sender.next; outstanding = Message message; tries = 1; down = false }; sent = v.outbound.sent ++ message ∷ [] };
+      packet_sent = Some (message_packet v.outbound.sender.next message);
+    }
+
+pub send-taken : (w : WorldState) (message : List ℕ) → w.link.outbound.sender.down ≡ false → w.link.outbound.sender.outstanding ≡ Nothing →
+    world_step w (Send message) ≡ (record w { link = sending_link w.link message }, true_step (Taken w.link.outbound.sender.next (block_count (length message))))
+unfolding with_outbound after_offer newest_after
+send-taken w message d o = step-of w message _ (offer-quiet w.link.outbound.sender message d o)
+
 -- what a long message is told, by the inner world and its step after the offer
 pub data OfferedAs (w : LongState) (message : List ℕ) (x : WorldState × Step) : Type 0 where
   told_down : x ≡ (w.inner, true_step OfferDown) → long_offered w message ≡ unmoved w Down → OfferedAs w message x
@@ -64,14 +79,10 @@ long-down : (w : LongState) (message : List ℕ) → w.inner.link.outbound.sende
 unfolding long_offered
 long-down w message d = cond-true w.inner.link.outbound.sender.down _ _ d
 
-taken-kind : (w : WorldState) (message : List ℕ) → w.link.outbound.sender.down ≡ false → w.link.outbound.sender.outstanding ≡ Nothing → (number : ℕ) × (blocks : ℕ) × ((world_step w (Send message)).1.kind ≡ Taken number blocks)
-unfolding with_outbound after_offer
-taken-kind w message d o = (_, _, ap (λ (x : WorldState × Step). x.1.kind) (step-of w message _ (offer-quiet w.link.outbound.sender message d o)))
-
 told-by : (w : LongState) (message : List ℕ) (down : Bool) (out : Outstanding) → w.inner.link.outbound.sender.down ≡ down → w.inner.link.outbound.sender.outstanding ≡ out → OfferedAs w message (world_step w.inner (Send (part_of message 0)))
 unfolding long_offered_beside
 told-by w message true out d o = told_down (send-down w.inner (part_of message 0) d) (long-down w message d)
-told-by w message false Nothing d o = let k = taken-kind w.inner (part_of message 0) d o in told_taken k.0 k.1 k.2 d o (beside w message Nothing d o)
+told-by w message false Nothing d o = told_taken _ _ (ap (λ (x : WorldState × Step). x.1.kind) (send-taken w.inner (part_of message 0) d o)) d o (beside w message Nothing d o)
 told-by w message false (Message part) d o = told_busy (send-message w.inner (part_of message 0) part d o) (beside w message (Message part) d o)
 told-by w message false (Opening number) d o = told_busy (send-opening w.inner (part_of message 0) number d o) (beside w message (Opening number) d o)
 
