@@ -2,7 +2,6 @@
 use Rattle.std.proofs.Common.{◌≡◌, ℕ, ◌+◌, ◌%◌, inl, inr, true, false, List, [], ◌∷◌, ◌++◌, length, take, get_or, refl, ap, sym, subst, ◌∙◌, arith, length-append}
 use Rattle.std.proofs.Math.Seq.{get_or-append_seam}
 use Rattle.std.proofs.lemmas.List.{take_all}
-use Rattle.p25_packet_blocks.specs.declared.packet.Packet.{Packet}
 use Rattle.p25_packet_blocks.specs.declared.packet.Packet.TheVariants.{Confirmed}
 use Rattle.p25_packet_blocks.specs.ConfirmedParts.{ConfirmedParts}
 use Rattle.p25_packet_blocks.specs.Heads.{head_syn}
@@ -15,7 +14,7 @@ use Rattle.p25_delivery.specs.Facts.{IsDataOf, OpeningFacts, SentBy, SessionFact
 use Rattle.p25_delivery.proofs.SentLaws.{data-heard}
 use Rattle.p25_delivery.proofs.CallLaws.{newest}
 use Rattle.p25_delivery.proofs.SessionLaws.{with_delivered, with_acknowledged, one_delivered, one_acknowledged, present-delivered, present-acknowledged}
-use Rattle.p25_delivery.proofs.PhaseLaws.{IsWaiting, IsArrived, IsLinked, quiet, busy, opening, IsKept}
+use Rattle.p25_delivery.proofs.PhaseLaws.{IsLinked, quiet, busy, opening, IsKept}
 use Rattle.p25_delivery.proofs.FactsLaws.{facts-linked}
 use Rattle.p25_fragments.proofs.MoveLaws.{lists_of, outstanding_in, IsSameIn, HasSameLast}
 

@@ -6,3 +6,6 @@ pub mod JoinLaws
 pub mod MatchLaws
 pub mod FollowsLaws
 pub mod LongStepLaws
+pub mod LongRunLaws
+pub mod InnerRunLaws
+pub mod MarksLaws

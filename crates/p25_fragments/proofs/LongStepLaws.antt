@@ -1,20 +1,19 @@
 -- Each step of the inner world in a clean run keeps the long messages matched to the link, and refuses no part: also where a part is
 -- delivered, or acknowledged. By what was outstanding.
-use Rattle.std.proofs.Common.{◌≡◌, ◌≢◌, ℕ, ◌+◌, ◌*◌, ◌<◌, ◌≤◌, ◌⊎◌, inl, inr, Bool, true, false, List, [], ◌∷◌, ◌++◌, length, drop, Option, Some, None, refl, ap, ap₂, sym, subst, ◌∙◌, arith, length-append}
+use Rattle.std.proofs.Common.{◌≡◌, ℕ, ◌+◌, ◌*◌, ◌<◌, ◌≤◌, ◌⊎◌, inl, inr, Bool, true, false, List, [], ◌∷◌, ◌++◌, length, drop, Option, Some, None, refl, ap, ap₂, sym, subst, ◌∙◌, arith, length-append}
 use Rattle.std.specs.Prelude.{nat_lt}
 use Rattle.std.proofs.lemmas.Bool.{cond-true, cond-false}
 use Rattle.std.proofs.lemmas.Bool.Decides.{nat_tests}
 use Rattle.std.proofs.lemmas.List.{length-take}
 use Rattle.p25_messages.specs.LongMessages.{part_count, part_of}
-use Rattle.p25_delivery.specs.declared.sender_state.Outstanding.{Outstanding}
-use Rattle.p25_delivery.specs.declared.sender_state.Outstanding.TheVariants.{Nothing, Message, Opening}
+use Rattle.p25_delivery.specs.declared.sender_state.Outstanding.TheVariants.{Nothing, Message}
 use Rattle.p25_delivery.specs.declared.step_kind.StepKind.{StepKind}
-use Rattle.p25_delivery.specs.declared.step_kind.StepKind.TheVariants.{Acknowledged, Delivered, SynHeard}
-use Rattle.p25_delivery.specs.Link.{Link, Session, present_session, first_number, Happening, Offering, happens}
-use Rattle.p25_delivery.specs.Clean.{IsHeardOf, IsClean}
+use Rattle.p25_delivery.specs.declared.step_kind.StepKind.TheVariants.{Acknowledged, Delivered}
+use Rattle.p25_delivery.specs.Link.{Link, Session, present_session, first_number, Happening, Offering}
+use Rattle.p25_delivery.specs.Clean.{IsClean}
 use Rattle.p25_delivery.specs.Orderly.{IsOrderly}
 use Rattle.p25_delivery.proofs.LinkLaws.{happens-kept}
-use Rattle.p25_delivery.proofs.SessionLaws.{with_sent, one_sent, one_acknowledged, IsDivided, divided-sent, divided-delivered, divided-acknowledged, present-sent, present-delivered, present-acknowledged}
+use Rattle.p25_delivery.proofs.SessionLaws.{divided-delivered, divided-acknowledged, present-sent, present-delivered, present-acknowledged}
 use Rattle.p25_delivery.proofs.PhaseLaws.{IsKept}
 use Rattle.p25_stations.specs.declared.step.Event.TheVariants.{Send}
 use Rattle.p25_stations.specs.declared.step.Step.{Step}
@@ -24,13 +23,12 @@ use Rattle.p25_fragments.specs.declared.outgoing.Outgoing.{Outgoing}
 use Rattle.p25_fragments.specs.declared.joiner.Joined.{Joined}
 use Rattle.p25_fragments.specs.declared.joiner.Joined.TheVariants.{Whole as JoinedWhole, Part as JoinedPart}
 use Rattle.p25_fragments.specs.declared.long_step.Then.{Then}
-use Rattle.p25_fragments.specs.declared.long_step.Then.TheVariants.{Refused}
 use Rattle.p25_fragments.specs.Joining.{Joining, first_joining, message_taken}
 use Rattle.p25_fragments.specs.LongState.{LongState, long_link}
 use Rattle.p25_fragments.specs.LongSteps.{next_offered, after_acknowledged, after_delivered, after_kind, inner_happened}
 use Rattle.p25_fragments.proofs.JoinLaws.{joined_at, join-inner, join-last}
 use Rattle.p25_fragments.proofs.OfferLaws.{send-taken}
-use Rattle.p25_fragments.proofs.MoveLaws.{lists_of, outstanding_in, Moves, moves_nothing, ends, delivers, hears_opening, acknowledges, opens_link}
+use Rattle.p25_fragments.proofs.MoveLaws.{outstanding_in, Moves, moves_nothing, ends, delivers, hears_opening, acknowledges, opens_link}
 use Rattle.p25_fragments.proofs.CleanMoveLaws.{quiet-counts, IsDelivered, delivered-is, acknowledged-is, opened-is, away, no-message}
 use Rattle.p25_fragments.proofs.MatchLaws.{Came, not_yet, came_inner, came_last, IsPartOf, IsSendingLong, MatchesBy, matches-at, matches-from}
 use Rattle.p25_fragments.proofs.FollowsLaws.{present, Follows, FollowsStep, FollowsThen, on, nothing-follows, opened-follows, syn-follows, ended-follows}

@@ -1,8 +1,6 @@
 -- What happens at a link, but an offer, does to it, by the kind of the step: to what is outstanding, to V(R), and to the lists. By
 -- the rules of the stations, each answer in turn.
-use Rattle.std.proofs.Common.{◌≡◌, ℕ, ◌+◌, ◌%◌, ◌⊎◌, inl, inr, Bool, true, false, cond, eqb, List, [], ◌∷◌, ◌++◌, length, Option, Some, None, refl, ap, sym, subst, ◌∙◌}
-use Rattle.std.proofs.lemmas.Bool.{cond-true, cond-false}
-use Rattle.p25_packet_blocks.specs.declared.head.PacketHead.{PacketHead}
+use Rattle.std.proofs.Common.{◌≡◌, ℕ, ◌+◌, ◌%◌, Bool, true, false, cond, eqb, List, length, Option, Some, None, refl, ap, sym, subst, ◌∙◌}
 use Rattle.p25_packet_blocks.specs.declared.packet.Packet.{Packet}
 use Rattle.p25_packet_blocks.specs.declared.packet.Packet.TheVariants.{Confirmed, Plain}
 use Rattle.p25_packet_blocks.specs.ConfirmedParts.{ConfirmedParts}
@@ -12,12 +10,10 @@ use Rattle.p25_delivery.specs.Places.{put_slots, all_octets}
 use Rattle.p25_delivery.specs.SentPackets.{station_llid, ack_packet, order_nack_packet, opening_packet}
 use Rattle.p25_delivery.specs.SenderState.{Sending}
 use Rattle.p25_delivery.specs.ReceiverState.{Keeping, Receiving}
-use Rattle.p25_delivery.specs.SenderRules.{sending_after, offered_beside, offered, timed_out_with, timed_out, sender_heard, opening_number, reopened, is_opening}
+use Rattle.p25_delivery.specs.SenderRules.{timed_out_with, timed_out, sender_heard, opening_number, reopened, is_opening}
 use Rattle.p25_delivery.specs.ReceiverRules.{keeping_for, finished, completed, filled, opening_heard, data_heard, receiver_heard}
 use Rattle.p25_delivery.specs.declared.sender_state.Outstanding.{Outstanding}
 use Rattle.p25_delivery.specs.declared.sender_state.Outstanding.TheVariants.{Nothing, Message, Opening}
-use Rattle.p25_delivery.specs.declared.sender.Offer.{Offer}
-use Rattle.p25_delivery.specs.declared.sender.Offer.TheVariants.{Taken as OfferTaken, Busy as OfferBusy, Down as DownAtOffer}
 use Rattle.p25_delivery.specs.declared.sender.Resend.{Resend}
 use Rattle.p25_delivery.specs.declared.sender.Resend.TheVariants.{Sent, Idle as ResendIdle, Down as DownAtTimeout}
 use Rattle.p25_delivery.specs.declared.sender.SenderHeard.{SenderHeard}
@@ -25,14 +21,14 @@ use Rattle.p25_delivery.specs.declared.sender.SenderHeard.TheVariants.{Acknowled
 use Rattle.p25_delivery.specs.declared.sender.Reopen.{Reopen as ReopenAnswer}
 use Rattle.p25_delivery.specs.declared.sender.Reopen.TheVariants.{Sent as ReopenSent, Up as ReopenUp}
 use Rattle.p25_delivery.specs.declared.receiver.Heard.{Heard as HeardAnswer}
-use Rattle.p25_delivery.specs.declared.receiver.Heard.TheVariants.{Delivered as HeardDelivered, Opened as ReceiverOpened, Again, Kept, RefusedCrc, RefusedOrder, Ignored as ReceiverIgnored}
+use Rattle.p25_delivery.specs.declared.receiver.Heard.TheVariants.{Opened as ReceiverOpened, Again, RefusedOrder, Ignored as ReceiverIgnored}
 use Rattle.p25_delivery.specs.declared.step_kind.StepKind.{StepKind}
 use Rattle.p25_delivery.specs.declared.step_kind.StepKind.TheVariants.{Acknowledged, Delivered, SynHeard}
-use Rattle.p25_delivery.specs.Halves.{Outgoing, Incoming, first_outgoing, first_incoming}
-use Rattle.p25_delivery.specs.HalfRules.{after_offer, after_timeout, after_reopening, after_data, after_answer}
+use Rattle.p25_delivery.specs.Halves.{first_outgoing, first_incoming}
+use Rattle.p25_delivery.specs.HalfRules.{after_timeout, after_reopening, after_data, after_answer}
 use Rattle.p25_delivery.specs.Link.{Link, first_link, newest_after, with_outbound, with_inbound, Happening, Offering, Time_up, Opening_again, Data_heard, Answer_heard, happens}
-use Rattle.p25_delivery.proofs.SenderLaws.{Resends, resent-of, timeout-of, reopen-cases, HearsAnswer, goes_on, stays, HearsOpening, opens, waits, RetriesOf, message-answer, opening-answer, quiet-answer}
-use Rattle.p25_delivery.proofs.SessionLaws.{one_sent, one_delivered, one_acknowledged, marked}
+use Rattle.p25_delivery.proofs.SenderLaws.{Resends, resent-of, timeout-of, HearsAnswer, goes_on, stays, HearsOpening, opens, waits, RetriesOf, message-answer, opening-answer, quiet-answer}
+use Rattle.p25_delivery.proofs.SessionLaws.{one_delivered, one_acknowledged, marked}
 
 -- a step that means nothing for the long messages
 unfoldable pub IsPlainKind : StepKind → Type 0

@@ -9,7 +9,7 @@ use Rattle.p25_delivery.specs.SenderRules.{offered_beside, offered}
 use Rattle.p25_delivery.specs.declared.sender_state.Outstanding.{Outstanding}
 use Rattle.p25_delivery.specs.declared.sender_state.Outstanding.TheVariants.{Nothing, Message, Opening}
 use Rattle.p25_delivery.specs.declared.sender.Offer.{Offer}
-use Rattle.p25_delivery.specs.declared.sender.Offer.TheVariants.{Taken as OfferTaken, Busy as OfferBusy, Down as DownAtOffer}
+use Rattle.p25_delivery.specs.declared.sender.Offer.TheVariants.{Down as DownAtOffer}
 use Rattle.p25_delivery.specs.declared.step_kind.StepKind.TheVariants.{Taken, Busy as BusyAtOffer, OfferDown}
 use Rattle.p25_delivery.specs.HalfRules.{after_offer}
 use Rattle.p25_delivery.specs.Link.{Link, newest_after, with_outbound, happens}

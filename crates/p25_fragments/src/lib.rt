@@ -18,6 +18,7 @@
 #![tactic(auto)]
 
 mod joiner;
+pub mod laws;
 mod long_step;
 mod long_world;
 mod outgoing;
