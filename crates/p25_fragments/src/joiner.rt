@@ -1,6 +1,5 @@
 ghost use Rattle.std.specs.Prelude.{◌≡◌, ℕ, ◌%◌, ◌<◌, ◌≤◌, Bool, nat_le, List, length};
-ghost use Rattle.p25_fragments.specs.JoiningState.{first_joining};
-ghost use Rattle.p25_fragments.specs.Joining.{is_refused, part_taken, message_taken};
+ghost use Rattle.p25_fragments.specs.Joining.{first_joining, is_refused, part_taken, message_taken};
 
 use arrayvec::ArrayVec;
 use p25_messages::{LAST_PART, LongMessage, MOST_LONG, Message, PART_OCTETS};
@@ -27,7 +26,7 @@ pub struct Joiner {
 }
 
 impl Model for Joiner {
-    ghost use Rattle.p25_fragments.specs.JoiningState.{Joining, IsJoining};
+    ghost use Rattle.p25_fragments.specs.Joining.{Joining, IsJoining};
 
     ghost Value = { Joining };
 

@@ -19,9 +19,6 @@
 
 mod joiner;
 pub mod laws;
-mod long_mark;
-mod long_receiver;
-mod long_sender;
 mod long_step;
 mod long_world;
 mod outgoing;
