@@ -7,7 +7,7 @@ ghost use Rattle.p25_fragment_script.specs.LongTexts.{ended_line, first_line_of,
 
 use p25_fragments::{LongMessage, LongStep, Then};
 use p25_line::Line;
-use p25_script::{put_count, put_octets, step_text};
+use p25_script::{put_octets, step_text};
 use p25_stations::Step;
 
 /// Sets `out` and `behind` to the two pieces of the text of a step, one behind the other: its lines, each with its end. A long
@@ -79,7 +79,7 @@ fn put_line(label: &[u8], number: u64, out: &mut Line)
     ensures { out.new ≡ ended_line (label.now ++ decimal number) }
 {
     out.clear();
-    put_count(label, number, out);
+    out.put_labelled(label, number);
     out.put(b"\n");
 }
 

@@ -22,7 +22,7 @@ mod read;
 mod steps;
 mod values;
 
-pub use closing::{closing_text, put_count, put_sessions};
+pub use closing::{closing_text, put_sessions};
 pub use names::EventKind;
 pub use p25_line::{Line, LineFault};
 pub use p25_stations::{Event, Step, StepKind, Way, World};

@@ -20,7 +20,8 @@ use Rattle.p25_units.specs.Units.{IsSendableBody, IsSendableUnit}
 use Rattle.p25_text.specs.Grammar.{body_in, body_values, keyed, kind_of, or_value, read_kind, read_line_of, read_values, read_words, text_of, unit_from, unit_in, unit_words, values_behind, values_of}
 use Rattle.p25_text.specs.Names.{kind_named, kind_word, kinds, keys_of}
 use Rattle.p25_text.specs.Packets.{confirmed_in, packet_kind, packet_values, plain_in}
-use Rattle.p25_text.specs.Values.{nac_in, three_digits}
+use Rattle.p25_text.specs.Values.{nac_in}
+use Rattle.p25_line.specs.Values.{three_digits}
 use Rattle.p25_text.specs.Voices.{voice_in, voice_kind, voice_values}
 use Rattle.p25_text.specs.declared.names.UnitKind.{UnitKind}
 use Rattle.p25_text.specs.declared.names.UnitKind.TheVariants.{Hdu, Ldu1, Ldu2, Tdu, Tdulc, Confirmed, Plain, Response}

@@ -2,6 +2,7 @@
 use Rattle.std.specs.Option.{option_map}
 use Rattle.std.specs.Prelude.{ℕ, nat_eq, cond, List, [], ◌∷◌, ◌++◌, length, drop, Option, Some, None, Result, Ok, Err}
 use Rattle.std.specs.List.{join_with_byte, starts_with}
+use Rattle.p25_line.specs.Values.{three_digits}
 use Rattle.p25_line.specs.Words.{words_or_fault}
 use Rattle.p25_line.specs.declared.fault.LineFault.{LineFault}
 use Rattle.p25_line.specs.declared.fault.LineFault.TheVariants.{Form, Key, Value, Kind as WrongKind}
@@ -10,7 +11,7 @@ use Rattle.p25_units.specs.declared.unit.Body.{Body}
 use Rattle.p25_units.specs.declared.unit.Body.TheVariants.{Voice, Packet}
 use Rattle.p25_text.specs.Names.{kind_word, kind_named, keys_of, key_text}
 use Rattle.p25_text.specs.Packets.{confirmed_in, packet_kind, packet_values, plain_in}
-use Rattle.p25_text.specs.Values.{nac_in, three_digits, with_value}
+use Rattle.p25_text.specs.Values.{nac_in, with_value}
 use Rattle.p25_text.specs.Voices.{voice_in, voice_kind, voice_values}
 use Rattle.p25_text.specs.declared.names.UnitKey.{UnitKey}
 use Rattle.p25_text.specs.declared.names.UnitKind.{UnitKind}

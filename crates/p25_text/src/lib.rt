@@ -37,7 +37,7 @@ mod voice_texts;
 mod voices;
 mod write;
 
-pub use items::{item_text, put_field};
+pub use items::{item_text, put_field_name};
 pub use names::{UnitKey, UnitKind};
 pub use p25_line::{Line, LineFault};
 pub use read::read_line;

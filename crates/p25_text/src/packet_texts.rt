@@ -7,7 +7,7 @@ ghost use Rattle.p25_text.specs.Packets.{block_text, packet_kind, slot_text};
 ghost use Rattle.p25_text.specs.Values.{octets_text};
 
 use super::names::{UnitKey, UnitKind};
-use super::write::{put_field, put_key, put_start};
+use super::write::{put_key_value, put_key, put_start};
 use p25_line::Line;
 use p25_packet_blocks::{Block, Confirmed, Octets, Packet, Plain, Slot, Slots};
 use p25_units::Body;
@@ -31,7 +31,7 @@ fn put_confirmed(nac: u16, packet: &Confirmed, out: &mut Line)
     ensures short { length out.new ≤ length out.old + 4700 }
 {
     put_start(UnitKind::Confirmed, nac, out);
-    put_field(UnitKey::Head, &packet.head().0, out);
+    put_key_value(UnitKey::Head, &packet.head().0, out);
     put_key(UnitKey::Blocks, out);
     put_slots(packet.slots(), out);
 }
@@ -43,7 +43,7 @@ fn put_plain(nac: u16, packet: &Plain, out: &mut Line)
     ensures short { length out.new ≤ length out.old + 4700 }
 {
     put_start(plain_kind(packet), nac, out);
-    put_field(UnitKey::Head, &packet.head().0, out);
+    put_key_value(UnitKey::Head, &packet.head().0, out);
     put_key(UnitKey::Octets, out);
     put_octets(packet.octets(), out);
 }
