@@ -1,9 +1,9 @@
-//! The text of a call.
+//! The texts of calls.
 
-ghost use Rattle.std.specs.Prelude.{◌≡◌, ◌+◌, ◌<◌, ◌≤◌, ◌++◌, length, decimal};
-ghost use Rattle.p25_calls.specs.CallTexts.{algid_text, call_text_of, end_word, entry_word, link_text, nac_digits};
+ghost use Rattle.std.specs.Prelude.{◌≡◌, ◌+◌, ◌<◌, ◌≤◌, ◌++◌, length};
+ghost use Rattle.p25_text.specs.CallTexts.{algid_text, call_text_of, end_word, entry_word, link_text};
 
-use crate::call::{Call, CallEnd};
+use p25_calls::{Call, CallEnd};
 use p25_line::Line;
 use p25_link::LinkControl;
 
@@ -17,42 +17,20 @@ pub fn call_text(call: &Call, out: &mut Line)
     ensures short { length out.new ≤ 400 }
 {
     out.clear();
-    put_count(b"call at=", call.place, out);
-    put_count(b" bits=", call.bits, out);
+    out.put_labelled(b"call at=", call.place);
+    out.put_labelled(b" bits=", call.bits);
     out.put(b" nac=");
-    put_nac(call.nac, out);
+    out.put_three_digits(call.nac);
     out.put(b" entry=");
     put_entry(call.late, out);
     out.put(b" end=");
     put_end(call.end, out);
-    put_count(b" links=", u64::from(call.links), out);
-    put_count(b" broken=", u64::from(call.broken), out);
+    out.put_labelled(b" links=", u64::from(call.links));
+    out.put_labelled(b" broken=", u64::from(call.broken));
     out.put(b" lc=");
     put_link(&call.link, out);
     out.put(b" alg=");
     put_algid(call.algid, out);
-}
-
-// Appends a label and a number in decimal.
-#[tactic(auto, using(p25_line::proofs::DecimalLaws::decimal_short))]
-fn put_count(label: &[u8], number: u64, out: &mut Line)
-    requires { length out.old + length label.now + 20 ≤ 8192 }
-    ensures text { out.new ≡ out.old ++ label.now ++ decimal number }
-    ensures short { length out.new ≤ length out.old + length label.now + 20 }
-{
-    out.put(label);
-    out.put_number(number);
-}
-
-// Appends the three digits of a network access code.
-fn put_nac(nac: u16, out: &mut Line)
-    requires { length out.old + 3 ≤ 8192 }
-    ensures text { out.new ≡ out.old ++ nac_digits nac }
-    ensures len { length out.new ≡ length out.old + 3 }
-{
-    let mut digits = [0; 4];
-    let _ = hex::encode_to_slice(nac.to_be_bytes(), &mut digits);
-    out.put(&digits[1..]);
 }
 
 // Appends how a call was entered.
@@ -68,7 +46,7 @@ fn put_entry(late: bool, out: &mut Line)
     }
 }
 
-// Appends how it ends.
+// Appends how a call ends.
 fn put_end(end: CallEnd, out: &mut Line)
     requires { length out.old + 5 ≤ 8192 }
     ensures text { out.new ≡ out.old ++ end_word end }
@@ -81,7 +59,7 @@ fn put_end(end: CallEnd, out: &mut Line)
     }
 }
 
-// Appends its link control.
+// Appends the link control of a call.
 fn put_link(link: &Option<LinkControl>, out: &mut Line)
     requires { length out.old + 18 ≤ 8192 }
     ensures text { out.new ≡ out.old ++ link_text link.now }
@@ -93,7 +71,7 @@ fn put_link(link: &Option<LinkControl>, out: &mut Line)
     }
 }
 
-// Appends its algorithm.
+// Appends the algorithm of a call.
 fn put_algid(algid: Option<u8>, out: &mut Line)
     requires { length out.old + 4 ≤ 8192 }
     ensures text { out.new ≡ out.old ++ algid_text algid }
