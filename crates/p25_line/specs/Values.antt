@@ -1,5 +1,6 @@
 -- The octets and digits of values.
-use Rattle.std.specs.Prelude.{ℕ, ◌+◌, ◌*◌, ◌/◌, ◌%◌, ◌-◌, ◌<◌, ◌&&◌, ◌||◌, nat_le, nat_lt, Bool, cond, List, [], ◌∷◌, drop, All}
+use Rattle.std.specs.Prelude.{ℕ, zero, suc, ◌+◌, ◌*◌, ◌/◌, ◌%◌, ◌-◌, ◌<◌, ◌&&◌, ◌||◌, nat_le, nat_lt, Bool, cond, List, [], ◌∷◌, drop, All, Option, Some, None, decimal}
+use Rattle.std.specs.Str.{bytes_eq}
 use Rattle.hex.specs.Hex.{encode_lower}
 
 -- numbers below 256
@@ -23,3 +24,8 @@ octets_of (high ∷ low ∷ digits) = (16 * nibble_of high + nibble_of low) ∷ 
 -- the last three lower-case hexadecimal digits of a number below 65,536
 abbrev pub three_digits : ℕ → List ℕ
 three_digits number = drop 1 (encode_lower (number / 256 ∷ number % 256 ∷ []))
+
+-- the number below a bound whose decimal text a word is: no leading zero, and no sign
+unfoldable pub number_below : ℕ → List ℕ → Option ℕ
+number_below zero word = None
+number_below (suc number) word = cond (bytes_eq word (decimal number)) (Some number) (number_below number word)

@@ -1,5 +1,6 @@
 ghost use Rattle.std.specs.Prelude.{◌≡◌, ℕ, ◌+◌, ◌*◌, ◌<◌, ◌≤◌, List, [], ◌∷◌, ◌++◌, length, take, decimal};
 ghost use Rattle.hex.specs.Hex.{encode_lower};
+ghost use Rattle.p25_line.specs.Octets.{octets_text};
 ghost use Rattle.p25_line.specs.Values.{three_digits};
 
 use itoa::Buffer;
@@ -97,6 +98,19 @@ impl Line {
         let end = self.len + 2 * octets.len();
         let _ = hex::encode_to_slice(octets, &mut self.text[self.len..end]);
         self.len = end;
+    }
+
+    /// Appends octets in lower-case hexadecimal, two digits each, or `-` where there are none.
+    pub fn put_octets(&mut self, octets: &[u8])
+        requires { length self.old + 2 * length octets.now < 8192 }
+        ensures text { self.new ≡ self.old ++ octets_text octets.now }
+        ensures short { length self.new ≤ length self.old + 2 * length octets.now + 1 }
+    {
+        if octets.is_empty() {
+            self.put(b"-");
+        } else {
+            self.put_hex(octets);
+        }
     }
 
     /// Appends the last three digits of a number in lower-case hexadecimal.

@@ -3,9 +3,9 @@
 ghost use Rattle.std.specs.Prelude.{◌≡◌, ◌+◌, ◌*◌, ◌<◌, ◌≤◌, Bool, true, ◌++◌, [], ◌∷◌, length, cond, codes, decimal};
 ghost use Rattle.p25_delivery.specs.declared.step_kind.StepKind.TheVariants.{Taken, Retry};
 ghost use Rattle.p25_line.specs.CommaLists.{comma_text};
+ghost use Rattle.p25_line.specs.Octets.{octets_text};
 ghost use Rattle.p25_script.specs.StepTexts.{flags_text, kind_text, serials_of, step_text_of};
 ghost use Rattle.p25_script.specs.Script.{way_word};
-ghost use Rattle.p25_script.specs.Values.{message_text};
 
 use super::names::word_of_way;
 use p25_line::Line;
@@ -54,10 +54,22 @@ fn put_kind(kind: &StepKind, out: &mut Line)
         StepKind::SynHeard { number } => out.put_labelled(b"data opened ns=", u64::from(*number)),
         StepKind::Again { number } => out.put_labelled(b"data again ack=", u64::from(*number)),
         StepKind::Kept { number, flags } => put_kept(*number, flags, out),
-        StepKind::RefusedCrc { number } => out.put_labelled(b"data refused crc ns=", u64::from(*number)),
-        StepKind::RefusedOrder { last } => out.put_labelled(b"data refused order vr=", u64::from(*last)),
-        StepKind::Acknowledged { number } => out.put_labelled(b"answer acknowledged ns=", u64::from(*number)),
-        StepKind::LinkOpened { number } => out.put_labelled(b"answer opened ns=", u64::from(*number)),
+        StepKind::RefusedCrc { number } => out.put_labelled(
+            b"data refused crc ns=",
+            u64::from(*number),
+        ),
+        StepKind::RefusedOrder { last } => out.put_labelled(
+            b"data refused order vr=",
+            u64::from(*last),
+        ),
+        StepKind::Acknowledged { number } => out.put_labelled(
+            b"answer acknowledged ns=",
+            u64::from(*number),
+        ),
+        StepKind::LinkOpened { number } => out.put_labelled(
+            b"answer opened ns=",
+            u64::from(*number),
+        ),
         StepKind::Retry {
             number,
             wanted,
@@ -101,25 +113,12 @@ fn put_sent(label: &[u8], number: u8, tries: u8, out: &mut Line)
 // Appends the text of a message that was delivered.
 fn put_delivered(number: u8, message: &Message, out: &mut Line)
     requires { length out.old + 4150 ≤ 8192 }
-    ensures text { out.new ≡ out.old ++ codes "data delivered ns=" ++ decimal number ++ codes " message=" ++ message_text message.now }
+    ensures text { out.new ≡ out.old ++ codes "data delivered ns=" ++ decimal number ++ codes " message=" ++ octets_text message.now }
     ensures short { length out.new ≤ length out.old + 4150 }
 {
     out.put_labelled(b"data delivered ns=", u64::from(number));
     out.put(b" message=");
-    put_octets(message.octets(), out);
-}
-
-/// Appends octets, two lower-case hexadecimal digits each, or `-` where there are none.
-pub fn put_octets(octets: &[u8], out: &mut Line)
-    requires { length out.old + 2 * length octets.now < 8192 }
-    ensures text { out.new ≡ out.old ++ message_text octets.now }
-    ensures short { length out.new ≤ length out.old + 2 * length octets.now + 1 }
-{
-    if octets.is_empty() {
-        out.put(b"-");
-    } else {
-        out.put_hex(octets);
-    }
+    out.put_octets(message.octets());
 }
 
 // Appends the text of blocks that are kept.

@@ -16,7 +16,8 @@ use Rattle.p25_line.specs.CommaLists.{list_text}
 use Rattle.p25_text.specs.Grammar.{keyed, kind_of, text_of, values_of}
 use Rattle.p25_text.specs.Names.{key_text, keys_of, kind_word, other_keys}
 use Rattle.p25_text.specs.Packets.{packet_kind, slot_text}
-use Rattle.p25_text.specs.Values.{key_value_text, octets_text}
+use Rattle.p25_text.specs.Values.{key_value_text}
+use Rattle.p25_line.specs.Octets.{octets_text}
 use Rattle.p25_line.specs.Values.{three_digits}
 use Rattle.p25_text.specs.Voices.{frame_octets, voice_kind, voice_octets, voice_values}
 use Rattle.p25_text.specs.declared.names.UnitKey.{UnitKey}

@@ -26,11 +26,6 @@ nac_in word = number_in (octets_in 2 (48 ∷ word))
 abbrev pub key_value_text : UnitKey → List ℕ → List ℕ
 key_value_text key octets = 32 ∷ key_text key ++ encode_lower octets
 
--- the text of octets of which there may be none
-abbrev pub octets_text : List ℕ → List ℕ
-octets_text [] = dash
-octets_text (octet ∷ octets) = encode_lower (octet ∷ octets)
-
 -- the octets whose text a word is, where there are so many, maybe none
 abbrev pub octets_or_none : ℕ → List ℕ → Option (List ℕ)
 octets_or_none count word = cond (count == 0) (cond (bytes_eq word dash) (Some []) None) (octets_in count word)

@@ -7,7 +7,7 @@ ghost use Rattle.p25_text.specs.Voices.{frame_octets, pair_of};
 ghost use Rattle.p25_text.specs.declared.names.UnitKey.TheVariants.{Frames};
 
 use super::names::{UnitKey, UnitKind};
-use super::write::{put_key_value, put_key, put_start};
+use super::write::{put_key, put_key_value, put_start};
 use p25_line::Line;
 use p25_link::{EncryptionSync, HeaderWord, LinkControl};
 use p25_units::Body;
