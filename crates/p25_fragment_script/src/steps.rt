@@ -2,12 +2,12 @@
 
 ghost use Rattle.std.specs.Prelude.{◌≡◌, ◌+◌, ◌≤◌, ◌++◌, [], codes, decimal, length};
 ghost use Rattle.p25_script.specs.StepTexts.{step_text_of};
-ghost use Rattle.p25_script.specs.Values.{message_text};
+ghost use Rattle.p25_line.specs.Octets.{octets_text};
 ghost use Rattle.p25_fragment_script.specs.LongTexts.{ended_line, first_line_of, line_before, line_behind, long_step_text_of};
 
 use p25_fragments::{LongMessage, LongStep, Then};
 use p25_line::Line;
-use p25_script::{put_count, put_octets, step_text};
+use p25_script::step_text;
 use p25_stations::Step;
 
 /// Sets `out` and `behind` to the two pieces of the text of a step, one behind the other: its lines, each with its end. A long
@@ -79,16 +79,16 @@ fn put_line(label: &[u8], number: u64, out: &mut Line)
     ensures { out.new ≡ ended_line (label.now ++ decimal number) }
 {
     out.clear();
-    put_count(label, number, out);
+    out.put_labelled(label, number);
     out.put(b"\n");
 }
 
 // Sets `out` to the line of a long message that is whole.
 fn put_whole(message: &LongMessage, out: &mut Line)
-    ensures { out.new ≡ ended_line (codes "whole message=" ++ message_text message.now) }
+    ensures { out.new ≡ ended_line (codes "whole message=" ++ octets_text message.now) }
 {
     out.clear();
     out.put(b"whole message=");
-    put_octets(message.octets(), out);
+    out.put_octets(message.octets());
     out.put(b"\n");
 }

@@ -23,7 +23,8 @@ use Rattle.p25_text.specs.declared.names.UnitKind.{UnitKind}
 use Rattle.p25_text.specs.declared.names.UnitKind.TheVariants.{Hdu, Ldu1, Ldu2, Tdu, Tdulc, Confirmed, Plain, Response}
 use Rattle.p25_text.proofs.OptionLaws.{option_and_then-found}
 use Rattle.p25_text.proofs.ValueLaws.{octets_in-encode_lower, octets_in-text, one_octet, two_octets}
-use Rattle.p25_text.proofs.WordLaws.{digits-printed, size_of}
+use Rattle.p25_line.proofs.WordsLaws.{digits-printed}
+use Rattle.p25_text.proofs.WordLaws.{size_of}
 
 -- ---- octets of any keys
 

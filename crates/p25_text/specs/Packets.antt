@@ -10,7 +10,8 @@ use Rattle.p25_packet_blocks.specs.declared.packet.Packet.{Packet}
 use Rattle.p25_packet_blocks.specs.declared.packet.Packet.TheVariants.{Confirmed, Plain}
 use Rattle.p25_packet_blocks.specs.Heads.{head_blocks, head_format}
 use Rattle.p25_line.specs.CommaLists.{counted, list_in, list_text}
-use Rattle.p25_text.specs.Values.{octets_in, octets_or_none, octets_text}
+use Rattle.p25_line.specs.Octets.{octets_text}
+use Rattle.p25_text.specs.Values.{octets_in, octets_or_none}
 use Rattle.p25_text.specs.declared.names.UnitKind.{UnitKind}
 use Rattle.p25_text.specs.declared.names.UnitKind.TheVariants.{Confirmed as ConfirmedKind, Plain as PlainKind, Response as ResponseKind}
 

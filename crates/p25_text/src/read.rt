@@ -1,11 +1,10 @@
 //! Units read from lines.
 
-ghost use Rattle.std.specs.Prelude.{◌≡◌, ℕ, ◌<◌, Ok, IfOk, length, drop};
+ghost use Rattle.std.specs.Prelude.{◌≡◌, ℕ, ◌<◌, IfOk, length, drop};
 ghost use Rattle.std.specs.Option.{option_map};
-ghost use Rattle.p25_line.specs.Words.{WordsAnswer};
 ghost use Rattle.p25_units.specs.UnitParts.{UnitParts};
 ghost use Rattle.p25_units.specs.Units.{IsSendableUnit};
-ghost use Rattle.p25_text.specs.Grammar.{body_in, read_line_of, text_of, unit_in};
+ghost use Rattle.p25_text.specs.Grammar.{body_in, read_line_of, read_words as unit_of_words, text_of, unit_in};
 ghost use Rattle.p25_text.specs.Names.{keys_of};
 ghost use Rattle.p25_text.specs.Voices.{voice_in};
 ghost use Rattle.p25_text.specs.declared.names.UnitKind.TheVariants.{Hdu, Ldu2};
@@ -14,7 +13,7 @@ use super::names::UnitKind;
 use super::packets::{confirmed_value, plain_value};
 use super::values::{Values, nac_value, values_of_words};
 use super::voices::{end_link_value, header_value, link1_value, link2_value};
-use p25_line::{LineFault, WordList, words_of};
+use p25_line::{LineFault, LineWords};
 use p25_packet_blocks::Packet;
 use p25_units::{Body, Unit, VoiceUnit};
 
@@ -30,33 +29,21 @@ pub fn read_line(line: &[u8]) -> Result<Unit, LineFault>
     ensures fits { IfOk result (λ unit. IsSendableUnit unit) }
     ensures each { (unit : UnitParts) → IsSendableUnit unit → text_of unit ≡ line.now → result ≡ Ok unit }
 {
-    read_whole(line)
+    read_words(&LineWords::read(line)?)
 }
 
-// The same, by the definition.
-fn read_whole(line: &[u8]) -> Result<Unit, LineFault>
-    ensures { result ≡ read_line_of line.now }
+// The unit of the words of a line.
+fn read_words(words: &LineWords) -> Result<Unit, LineFault>
+    ensures { result ≡ unit_of_words words.now }
 {
-    let mut words = WordList::new();
-    match words_of(line, &mut words) {
-        Ok(()) => read_words(line, &words),
-        Err(fault) => Err(fault),
-    }
-}
-
-// The unit of a line whose words were found.
-fn read_words(line: &[u8], words: &WordList) -> Result<Unit, LineFault>
-    requires { WordsAnswer line.now words.now (Ok tt) }
-    ensures { result ≡ read_line_of line.now }
-{
-    let Some(kind) = UnitKind::named(words.word(line, 0)) else {
+    let Some(kind) = UnitKind::named(words.first()) else {
         return Err(LineFault::Kind);
     };
     let keys = kind.keys();
     if words.count() != keys.len() + 1 {
         return Err(LineFault::Key);
     }
-    let Some(values) = values_of_words(line, words, keys) else {
+    let Some(values) = values_of_words(words, keys) else {
         return Err(LineFault::Key);
     };
     match read_values(kind, &values) {
