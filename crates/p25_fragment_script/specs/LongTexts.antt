@@ -41,6 +41,6 @@ long_step_text_of step = line_before step.then ++ first_line_of step.first ++ li
 -- the text that closes a run, without the end of its line
 unfoldable pub long_closing_text_of : LongState → List ℕ
 long_closing_text_of w =
-    codes "taken=" ++ decimal (length w.sender.taken) ++ codes " whole=" ++ decimal (length w.receiver.whole)
-    ++ codes " acknowledged=" ++ decimal w.sender.acknowledged ++ codes " false=" ++ decimal w.inner.false_passes
+    codes "taken=" ++ decimal (length w.taken) ++ codes " whole=" ++ decimal (length w.whole)
+    ++ codes " acknowledged=" ++ decimal w.acknowledged ++ codes " false=" ++ decimal w.inner.false_passes
     ++ sessions_text (length w.inner.link.outbound.marks + 1)

@@ -1,8 +1,8 @@
 use p25_messages::LongMessage;
 
-/// A long message that is outstanding, and the number of its part that is.
+/// A part that is outstanding: its long message, and its number.
 #[derive(Drop)]
-pub(crate) struct Outgoing {
+pub(crate) struct OutstandingPart {
     pub(crate) message: LongMessage,
     pub(crate) number: u8,
 }
