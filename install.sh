@@ -1,5 +1,6 @@
 #!/bin/sh
-# Puts the proved program and its man page under a folder: PREFIX/bin/p25 and PREFIX/share/man/man1/p25.1.
+# Puts the proved program and its man page under a folder: PREFIX/bin/p25 and PREFIX/share/man/man1/p25.1. Where no program
+# stands that is newer than its sources, ./prove makes it first.
 #
 # usage: ./install.sh PREFIX
 set -eu
@@ -8,10 +9,9 @@ if [ $# -ne 1 ]; then
     exit 1
 fi
 top=$(CDPATH= cd -- "$(dirname -- "$0")" && pwd)
-# Makes the program where none is built.
-"$top/p25" show </dev/null
+"$top/prove"
 mkdir -p -- "$1/bin" "$1/share/man/man1"
-cp -- "$top/crates/p25_app/out/p25_app" "$1/bin/p25"
+cp -- "$top/out/p25" "$1/bin/p25"
 cp -- "$top/docs/p25.1" "$1/share/man/man1/p25.1"
 echo "installed $1/bin/p25 and $1/share/man/man1/p25.1"
 

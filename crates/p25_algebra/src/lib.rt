@@ -9,8 +9,4 @@
 //! sum as functions of their place.
 #![tactic(auto)]
 
-mod polynomials;
-mod power_sums;
-
-pub use polynomials::{few_zeros, product_laws, slope_laws, unique_division, value_laws};
-pub use power_sums::{alpha_powers, forney, locator_vanishes, vanishing_sums};
+pub mod laws;

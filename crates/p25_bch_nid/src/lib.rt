@@ -21,14 +21,15 @@
 mod bch63;
 mod checks;
 mod correction;
-mod laws;
+mod duid;
+pub mod laws;
 mod nid;
 mod reading;
 mod sent;
 mod symbols;
 
 pub use bch63::Bch63;
-pub use laws::{reading_laws, two_forms};
+pub use duid::{HDU, LDU1, LDU2, PDU, TDU, TDULC};
 pub use nid::Nid;
 pub use reading::read_nid;
 pub use sent::{nid_bits, nid_distance};

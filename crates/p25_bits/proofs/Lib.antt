@@ -5,5 +5,6 @@ pub mod OctetNumbersLaws
 pub mod LoopLaws
 pub mod DistanceLaws
 pub mod DivisibleLaws
+pub mod DivisionLaws
 pub mod WordsLaws
 pub mod BitBufSteps

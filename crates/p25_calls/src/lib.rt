@@ -23,7 +23,7 @@
 
 mod call;
 mod caller;
-mod laws;
+pub mod laws;
 mod runs;
 mod seen;
 #[cfg(test)]
@@ -32,7 +32,6 @@ mod text;
 
 pub use call::{Call, CallEnd};
 pub use caller::Caller;
-pub use laws::call_laws;
 pub use p25_line::Line;
 pub use p25_link::LinkControl;
 pub use p25_units::Item;

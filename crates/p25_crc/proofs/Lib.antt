@@ -1,2 +1,3 @@
 pub mod RegisterLaws
 pub mod ChecksLaws
+pub mod RemaindersLaws

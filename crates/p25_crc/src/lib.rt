@@ -3,7 +3,7 @@
 //! A message is a polynomial over GF(2) whose highest coefficient is its first bit; of an octet the most significant
 //! bit comes first. Its check is the remainder of x^width times the message by a divisor of degree `width`, with all
 //! bits inverted: the register starts at 0, nothing is reflected, and a check is a number whose highest bit is sent
-//! first. There is exactly one check of each message.
+//! first. There is exactly one check of each message. A check is made of four octets at a time, by tables of remainders.
 //!
 //! ```text
 //! let header = crc16(&octets[..10]);
@@ -21,32 +21,14 @@ ghost use Rattle.std.specs.Prelude.{◌≡◌, ℕ, ◌^◌, ◌<◌};
 ghost use Rattle.p25_crc.specs.Checks.{IsCrc9, IsCrc16, IsCrc32};
 ghost use Rattle.p25_crc.specs.Values.{crc9_of, crc16_of, crc32_of};
 
-mod laws;
+pub mod laws;
 mod register;
+mod remainders;
 #[cfg(test)]
 mod tests;
 
-pub use laws::check_laws;
-use register::{Divisor, check_of, take_number, take_octets};
-
-/// The divisor of a confirmed block: x^9 + x^6 + x^4 + x^3 + 1.
-const BLOCK: Divisor = Divisor {
-    polynomial: 0x259,
-    degree: 9,
-};
-
-/// The divisor of a packet header: x^16 + x^12 + x^5 + 1.
-const HEADER: Divisor = Divisor {
-    polynomial: 0x1_1021,
-    degree: 16,
-};
-
-/// The divisor of a whole packet: x^32 + x^26 + x^23 + x^22 + x^16 + x^12 + x^11 + x^10 + x^8 + x^7 + x^5 + x^4 + x^2 +
-/// x + 1.
-const PACKET: Divisor = Divisor {
-    polynomial: 0x1_04C1_1DB7,
-    degree: 32,
-};
+use register::take_octets;
+use remainders::{BLOCK, HEADER, PACKET};
 
 /// Answers the nine check bits of a confirmed block: of its serial number in seven bits, below 128, and its sixteen
 /// octets after it. TIA-102.BAAA, Packet Data, CRC-9.
@@ -57,8 +39,9 @@ pub fn crc9(serial: u8, octets: &[u8; 16]) -> u16
     ensures only { (other : ℕ) → IsCrc9 serial octets.now other → other ≡ result }
     ensures width { result < 2 ^ 9 }
 {
-    let register = take_number(0, u64::from(serial), 7, BLOCK);
-    check_of(take_octets(register, octets, BLOCK), BLOCK) as u16
+    // A serial number, below 128, writes the same number in eight bits.
+    let register = take_octets(0, &[serial], &BLOCK);
+    (take_octets(register, octets, &BLOCK) >> 23) as u16 ^ 0x1FF
 }
 
 /// Answers the sixteen check bits of a packet header's octets. TIA-102.BAAA, Packet Data, Header CRC.
@@ -67,7 +50,7 @@ pub fn crc16(octets: &[u8]) -> u16
     ensures check { IsCrc16 octets.now result }
     ensures only { (other : ℕ) → IsCrc16 octets.now other → other ≡ result }
 {
-    check_of(take_octets(0, octets, HEADER), HEADER) as u16
+    (take_octets(0, octets, &HEADER) >> 16) as u16 ^ 0xFFFF
 }
 
 /// Answers the 32 check bits of a packet's data and pad octets. TIA-102.BAAA, Packet Data, Packet CRC.
@@ -76,5 +59,5 @@ pub fn crc32(octets: &[u8]) -> u32
     ensures check { IsCrc32 octets.now result }
     ensures only { (other : ℕ) → IsCrc32 octets.now other → other ≡ result }
 {
-    check_of(take_octets(0, octets, PACKET), PACKET) as u32
+    take_octets(0, octets, &PACKET) ^ 0xFFFF_FFFF
 }

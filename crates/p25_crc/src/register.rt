@@ -1,59 +1,57 @@
-//! A register that divides the bits shifted into it by a polynomial.
+//! A register that divides the bits shifted into it by a polynomial of degree 32. It holds the remainder of x^32 times
+//! what was shifted in.
 
 ghost use Rattle.std.specs.Prelude.{◌≡◌, ℕ, ◌+◌, ◌-◌, ◌*◌, ◌^◌, ◌<◌, ◌≤◌, Bool, List, ◌++◌, length};
 ghost use Rattle.p25_bits.specs.Bits.{field_of, octet_bits};
-ghost use Rattle.p25_bits.specs.Divisible.{HasDegree, IsRemainder};
+ghost use Rattle.p25_bits.specs.Divisible.{IsRemainder};
 ghost use Rattle.p25_crc.specs.Checks.{IsCheck};
+ghost use Rattle.p25_crc.specs.Remainders.{AreRemainders};
 
-use p25_bits::next_remainder;
+use crate::remainders::Remainders;
 
-// A polynomial over GF(2) of a degree from 9 to 32; bit i of the number is the coefficient of x^i.
-#[derive(Clone, Copy)]
-pub(crate) struct Divisor {
-    pub(crate) polynomial: u64,
-    pub(crate) degree: u32,
-    ghost degree_fits: { degree ≤ 32 },
-    ghost highest: { HasDegree polynomial degree },
+// Shifts the eight bits of an octet into a register, the highest first.
+fn take_octet(register: u32, octet: u8, remainders: &Remainders) -> u32
+    ensures { (divisor before : ℕ) → AreRemainders divisor remainders.now → IsRemainder divisor 32 (before * 2 ^ 32) register
+        → IsRemainder divisor 32 ((before * 2 ^ 8 + octet) * 2 ^ 32) result }
+{
+    (register << 8) ^ remainders[0][((register >> 24) as u8 ^ octet) as usize]
 }
 
-// Shifts the lowest `width` bits of a number into a register, the highest first.
-pub(crate) fn take_number(register: u64, number: u64, width: u32, divisor: Divisor) -> u64
-    requires width { width ≤ 32 }
-    requires fits { number < 2 ^ width }
-    requires lower { register < 2 ^ divisor.degree }
-    ensures lower { result < 2 ^ divisor.degree }
-    ensures next { (before : ℕ) → IsRemainder divisor.polynomial divisor.degree before register
-        → IsRemainder divisor.polynomial divisor.degree (before * 2 ^ width + number) result }
+// Shifts the 32 bits of a word into a register, the highest first.
+fn take_word(register: u32, word: u32, remainders: &Remainders) -> u32
+    ensures { (divisor before : ℕ) → AreRemainders divisor remainders.now → IsRemainder divisor 32 (before * 2 ^ 32) register
+        → IsRemainder divisor 32 ((before * 2 ^ 32 + word) * 2 ^ 32) result }
 {
-    let mut remainder = register;
-    for k in 0..width {
-        let bit = (number >> (width - 1 - k)) & 1 == 1;
-        remainder = next_remainder(remainder, bit, divisor.polynomial, divisor.degree);
-    }
-    remainder
+    let sum = register ^ word;
+    remainders[3][(sum >> 24) as usize]
+        ^ (remainders[2][((sum >> 16) % 256) as usize]
+            ^ (remainders[1][((sum >> 8) % 256) as usize] ^ remainders[0][(sum % 256) as usize]))
 }
 
-// Shifts the bits of octets into a register, each octet's highest bit first.
-pub(crate) fn take_octets(register: u64, octets: &[u8], divisor: Divisor) -> u64
-    requires lower { register < 2 ^ divisor.degree }
-    ensures lower { result < 2 ^ divisor.degree }
-    ensures next { (before : List Bool) → IsRemainder divisor.polynomial divisor.degree (field_of before) register
-        → IsRemainder divisor.polynomial divisor.degree (field_of (before ++ octet_bits octets.now)) result }
+// Shifts the bits of octets into a register one octet at a time, each octet's highest bit first.
+fn take_each(register: u32, octets: &[u8], remainders: &Remainders) -> u32
+    ensures { (divisor : ℕ) (before : List Bool) → AreRemainders divisor remainders.now → IsRemainder divisor 32 (field_of before * 2 ^ 32) register
+        → IsRemainder divisor 32 (field_of (before ++ octet_bits octets.now) * 2 ^ 32) result }
 {
-    let mut remainder = register;
+    let mut register = register;
     for octet in octets {
-        remainder = take_number(remainder, u64::from(*octet), 8, divisor);
+        register = take_octet(register, *octet, remainders);
     }
-    remainder
+    register
 }
 
-// The check of the message whose remainder stands in the register.
-pub(crate) fn check_of(register: u64, divisor: Divisor) -> u64
-    requires lower { register < 2 ^ divisor.degree }
-    ensures lower { result < 2 ^ divisor.degree }
-    ensures check { (message : List Bool) → IsRemainder divisor.polynomial divisor.degree (field_of message) register
-        → IsCheck divisor.polynomial divisor.degree message result }
+// Shifts the bits of octets into a register four octets at a time as long as there are so many, each octet's highest bit
+// first.
+pub(crate) fn take_octets(register: u32, octets: &[u8], remainders: &Remainders) -> u32
+    ensures { (divisor : ℕ) (before : List Bool) → AreRemainders divisor remainders.now → IsRemainder divisor 32 (field_of before * 2 ^ 32) register
+        → IsRemainder divisor 32 (field_of (before ++ octet_bits octets.now) * 2 ^ 32) result }
 {
-    let remainder = take_number(register, 0, divisor.degree, divisor);
-    remainder ^ ((1 << divisor.degree) - 1)
+    let words = octets.len() / 4;
+    let mut register = register;
+    for k in 0..words {
+        let at = 4 * k;
+        let word = u32::from_be_bytes([octets[at], octets[at + 1], octets[at + 2], octets[at + 3]]);
+        register = take_word(register, word, remainders);
+    }
+    take_each(register, &octets[4 * words..], remainders)
 }

@@ -4,26 +4,26 @@ use Rattle.std.proofs.Common.{◌≡◌, ℕ, ◌+◌, ◌%◌, inl, inr, true, 
 use Rattle.std.proofs.lemmas.Option.{same_Some}
 use Rattle.p25_packet_blocks.specs.declared.packet.Packet.{Packet}
 use Rattle.p25_packet_blocks.specs.declared.packet.Packet.TheVariants.{Confirmed}
-use Rattle.p25_stations.specs.SentPackets.{ack_packet, retry_packet, opening_packet}
-use Rattle.p25_stations.specs.Places.{held_flags}
-use Rattle.p25_stations.specs.SenderState.{Sending}
-use Rattle.p25_stations.specs.ReceiverState.{Receiving}
-use Rattle.p25_stations.specs.SenderRules.{sending_after, sender_heard}
-use Rattle.p25_stations.specs.ReceiverRules.{receiver_heard}
-use Rattle.p25_stations.specs.declared.sender_state.Outstanding.{Outstanding}
-use Rattle.p25_stations.specs.declared.sender_state.Outstanding.TheVariants.{Nothing, Message, Opening}
-use Rattle.p25_stations.specs.declared.sender.SenderHeard.{SenderHeard}
-use Rattle.p25_stations.specs.declared.sender.SenderHeard.TheVariants.{Acknowledged, Opened as SenderOpened, Retry, Repeat, Ignored as SenderIgnored, Down as HeardDown}
-use Rattle.p25_stations.specs.declared.receiver.Heard.{Heard}
-use Rattle.p25_stations.specs.declared.receiver.Heard.TheVariants.{Delivered, Opened, Again, Kept, RefusedCrc, RefusedOrder, Ignored}
-use Rattle.p25_world.specs.Link.{Link}
-use Rattle.p25_world.specs.Clean.{IsTrueTo, IsHeardOf}
-use Rattle.p25_world.specs.Facts.{IsDataOf}
-use Rattle.p25_world.proofs.SentLaws.{data-heard, opening-packet_heard, ack-heard, retry-heard}
-use Rattle.p25_world.proofs.ReceiverLaws.{HearsNext, ignores, keeps, delivers, next-heard, last-heard, opening-is_heard}
-use Rattle.p25_world.proofs.SenderLaws.{IsSame, RetriesOf, HearsAnswer, goes_on, stays, HearsOpening, opens, waits, acks, acks-ack, acks-retry, message-answer, opening-answer, quiet-answer}
-use Rattle.p25_world.proofs.PhaseLaws.{IsQuietData, IsQuiet, IsWaitingAnswer, IsWaiting, IsArrived, IsOpeningAnswer, IsOpening, IsLinked, quiet, waiting, arrived, opening}
-use Rattle.p25_world.proofs.CallLaws.{newest}
+use Rattle.p25_delivery.specs.SentPackets.{ack_packet, retry_packet, opening_packet}
+use Rattle.p25_delivery.specs.Places.{held_flags}
+use Rattle.p25_delivery.specs.SenderState.{Sending}
+use Rattle.p25_delivery.specs.ReceiverState.{Receiving}
+use Rattle.p25_delivery.specs.SenderRules.{sending_after, sender_heard}
+use Rattle.p25_delivery.specs.ReceiverRules.{receiver_heard}
+use Rattle.p25_delivery.specs.declared.sender_state.Outstanding.{Outstanding}
+use Rattle.p25_delivery.specs.declared.sender_state.Outstanding.TheVariants.{Nothing, Message, Opening}
+use Rattle.p25_delivery.specs.declared.sender.SenderHeard.{SenderHeard}
+use Rattle.p25_delivery.specs.declared.sender.SenderHeard.TheVariants.{Acknowledged, Opened as SenderOpened, Retry, Repeat, Ignored as SenderIgnored, Down as HeardDown}
+use Rattle.p25_delivery.specs.declared.receiver.Heard.{Heard}
+use Rattle.p25_delivery.specs.declared.receiver.Heard.TheVariants.{Delivered, Opened, Again, Kept, RefusedCrc, RefusedOrder, Ignored}
+use Rattle.p25_delivery.specs.Link.{Link}
+use Rattle.p25_delivery.specs.Clean.{IsTrueTo, IsHeardOf}
+use Rattle.p25_delivery.specs.Facts.{IsDataOf}
+use Rattle.p25_delivery.proofs.SentLaws.{data-heard, opening-packet_heard, ack-heard, retry-heard}
+use Rattle.p25_delivery.proofs.ReceiverLaws.{HearsNext, ignores, keeps, delivers, next-heard, last-heard, opening-is_heard}
+use Rattle.p25_delivery.proofs.SenderLaws.{IsSame, RetriesOf, HearsAnswer, goes_on, stays, HearsOpening, opens, waits, acks, acks-ack, acks-retry, message-answer, opening-answer, quiet-answer}
+use Rattle.p25_delivery.proofs.PhaseLaws.{IsQuietData, IsQuiet, IsWaitingAnswer, IsWaiting, IsArrived, IsOpeningAnswer, IsOpening, IsLinked, quiet, waiting, arrived, opening}
+use Rattle.p25_delivery.proofs.CallLaws.{newest}
 
 -- an answer of the receiver in which nothing is delivered and no opening packet is heard
 unfoldable pub IsPlainHeard : Heard → Type 0

@@ -1,16 +1,16 @@
 -- The inner world of a run of long messages has a run of its own, whose steps are the inner steps. One event after the other, by
 -- the rule that it takes.
 use Rattle.std.proofs.Common.{◌≡◌, ℕ, Bool, true, false, List, [], ◌∷◌, ◌++◌, refl, ap, ap₂, sym, subst, ◌∙◌}
-use Rattle.p25_stations.specs.declared.sender_state.Outstanding.{Outstanding}
-use Rattle.p25_stations.specs.declared.sender_state.Outstanding.TheVariants.{Nothing, Message, Opening}
-use Rattle.p25_air_world.specs.declared.step.Event.{Event}
-use Rattle.p25_air_world.specs.declared.step.Event.TheVariants.{Send}
-use Rattle.p25_air_world.specs.declared.step.StepKind.{StepKind}
-use Rattle.p25_air_world.specs.declared.step.StepKind.TheVariants.{Acknowledged, Delivered, SynHeard}
-use Rattle.p25_air_world.specs.declared.step.Step.{Step}
-use Rattle.p25_air_world.specs.WorldState.{WorldState}
-use Rattle.p25_air_world.specs.Steps.{world_step}
-use Rattle.p25_air_world.specs.Runs.{world_run, steps_of}
+use Rattle.p25_delivery.specs.declared.sender_state.Outstanding.{Outstanding}
+use Rattle.p25_delivery.specs.declared.sender_state.Outstanding.TheVariants.{Nothing, Message, Opening}
+use Rattle.p25_stations.specs.declared.step.Event.{Event}
+use Rattle.p25_stations.specs.declared.step.Event.TheVariants.{Send}
+use Rattle.p25_delivery.specs.declared.step_kind.StepKind.{StepKind}
+use Rattle.p25_delivery.specs.declared.step_kind.StepKind.TheVariants.{Acknowledged, Delivered, SynHeard}
+use Rattle.p25_stations.specs.declared.step.Step.{Step}
+use Rattle.p25_stations.specs.WorldState.{WorldState}
+use Rattle.p25_stations.specs.Steps.{world_step}
+use Rattle.p25_stations.specs.Runs.{world_run, steps_of}
 use Rattle.p25_fragments.specs.declared.joiner.Joined.{Joined}
 use Rattle.p25_fragments.specs.declared.joiner.Joined.TheVariants.{Whole as JoinedWhole, Part as JoinedPart, Refused as JoinedRefused}
 use Rattle.p25_fragments.specs.declared.long_sender.Following.{Following}
@@ -20,7 +20,7 @@ use Rattle.p25_fragments.specs.declared.long_step.LongEvent.TheVariants.{Long, I
 use Rattle.p25_fragments.specs.declared.long_step.Then.{Then}
 use Rattle.p25_fragments.specs.declared.long_step.Then.TheVariants.{Plain, Busy, Down}
 use Rattle.p25_fragments.specs.declared.long_step.LongStep.{LongStep}
-use Rattle.p25_fragments.specs.LongMessages.{part_of}
+use Rattle.p25_messages.specs.LongMessages.{part_of}
 use Rattle.p25_fragments.specs.SendingState.{LongSending}
 use Rattle.p25_fragments.specs.LongSenders.{gone_on}
 use Rattle.p25_fragments.specs.ReceivingState.{LongReceiving}

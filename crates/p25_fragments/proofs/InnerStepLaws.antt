@@ -2,40 +2,40 @@
 -- in turn.
 use Rattle.std.proofs.Common.{◌≡◌, ℕ, ◌+◌, ◌%◌, inl, inr, Bool, false, List, [], ◌∷◌, ◌++◌, length, Option, Some, None, refl, ap, sym, subst, ◌∙◌, arith, length-append}
 use Rattle.p25_packet_blocks.specs.declared.packet.Packet.{Packet}
-use Rattle.p25_stations.specs.SenderState.{Sending}
-use Rattle.p25_stations.specs.ReceiverState.{Receiving}
-use Rattle.p25_stations.specs.SenderRules.{timed_out_with, timed_out, sender_heard, opening_number, reopened, is_opening}
-use Rattle.p25_stations.specs.ReceiverRules.{receiver_heard}
-use Rattle.p25_stations.specs.declared.sender_state.Outstanding.{Outstanding}
-use Rattle.p25_stations.specs.declared.sender_state.Outstanding.TheVariants.{Nothing, Message, Opening}
-use Rattle.p25_stations.specs.declared.sender.Resend.{Resend}
-use Rattle.p25_stations.specs.declared.sender.Resend.TheVariants.{Sent, Idle as ResendIdle, Down as DownAtTimeout}
-use Rattle.p25_stations.specs.declared.sender.Reopen.{Reopen as ReopenAnswer}
-use Rattle.p25_stations.specs.declared.sender.Reopen.TheVariants.{Sent as ReopenSent, Up as ReopenUp}
-use Rattle.p25_stations.specs.declared.sender.SenderHeard.{SenderHeard}
-use Rattle.p25_stations.specs.declared.sender.SenderHeard.TheVariants.{Acknowledged as HeardAck, Opened as SenderOpened, Retry, Repeat, Ignored as SenderIgnored, Down as DownAtAnswer}
-use Rattle.p25_stations.specs.declared.receiver.Heard.{Heard as HeardAnswer}
-use Rattle.p25_stations.specs.declared.receiver.Heard.TheVariants.{Delivered as HeardDelivered, Opened as ReceiverOpened, Again, Kept, RefusedCrc, RefusedOrder, Ignored as ReceiverIgnored}
-use Rattle.p25_world.specs.Link.{Link, next_session, Time_up, Opening_again, Data_heard, Answer_heard, happens, link_run}
-use Rattle.p25_world.specs.Link.{after_timeout as link_timeout, after_reopening as link_reopening, after_data as link_data, after_answer as link_answer}
-use Rattle.p25_world.specs.Clean.{IsHeardOf, IsClean}
-use Rattle.p25_world.proofs.SenderLaws.{Resends, resent-of, timeout-of, reopen-cases, reopen-up}
-use Rattle.p25_world.proofs.PhaseLaws.{IsLinked, quiet, waiting, arrived, opening, IsKept}
-use Rattle.p25_world.proofs.LinkLaws.{happens-kept}
-use Rattle.p25_air.specs.declared.air.Carried.{Carried}
-use Rattle.p25_air.specs.declared.air.Carried.TheVariants.{Lost as CarriedLost, Foreign, Heard}
-use Rattle.p25_air.specs.Air.{carried_of}
-use Rattle.p25_air.proofs.AirLaws.{air-true}
-use Rattle.p25_air_world.specs.declared.step.Event.{Event}
-use Rattle.p25_air_world.specs.declared.step.Event.TheVariants.{Send, Timeout, Reopen, ToReceiver, ToSender}
-use Rattle.p25_air_world.specs.declared.step.StepKind.{StepKind}
-use Rattle.p25_air_world.specs.declared.step.StepKind.TheVariants.{Acknowledged, Delivered, SynHeard}
-use Rattle.p25_air_world.specs.declared.step.Step.{Step}
-use Rattle.p25_air_world.specs.WorldState.{WorldState}
-use Rattle.p25_air_world.specs.Steps.{after_timeout, after_reopening, after_data, after_answer, quiet_step, heard_step, data_carried, data_delivered, answer_carried, answer_delivered, world_step}
-use Rattle.p25_air_world.specs.Links.{hearing_from, hearing_of, happenings_at}
-use Rattle.p25_air_world.proofs.WorldOfLaws.{world_of}
-use Rattle.p25_air_world.proofs.SimulationLaws.{IsOf, step-of}
+use Rattle.p25_delivery.specs.SenderState.{Sending}
+use Rattle.p25_delivery.specs.ReceiverState.{Receiving}
+use Rattle.p25_delivery.specs.SenderRules.{timed_out_with, timed_out, sender_heard, opening_number, reopened, is_opening}
+use Rattle.p25_delivery.specs.ReceiverRules.{receiver_heard}
+use Rattle.p25_delivery.specs.declared.sender_state.Outstanding.{Outstanding}
+use Rattle.p25_delivery.specs.declared.sender_state.Outstanding.TheVariants.{Nothing, Message, Opening}
+use Rattle.p25_delivery.specs.declared.sender.Resend.{Resend}
+use Rattle.p25_delivery.specs.declared.sender.Resend.TheVariants.{Sent, Idle as ResendIdle, Down as DownAtTimeout}
+use Rattle.p25_delivery.specs.declared.sender.Reopen.{Reopen as ReopenAnswer}
+use Rattle.p25_delivery.specs.declared.sender.Reopen.TheVariants.{Sent as ReopenSent, Up as ReopenUp}
+use Rattle.p25_delivery.specs.declared.sender.SenderHeard.{SenderHeard}
+use Rattle.p25_delivery.specs.declared.sender.SenderHeard.TheVariants.{Acknowledged as HeardAck, Opened as SenderOpened, Retry, Repeat, Ignored as SenderIgnored, Down as DownAtAnswer}
+use Rattle.p25_delivery.specs.declared.receiver.Heard.{Heard as HeardAnswer}
+use Rattle.p25_delivery.specs.declared.receiver.Heard.TheVariants.{Delivered as HeardDelivered, Opened as ReceiverOpened, Again, Kept, RefusedCrc, RefusedOrder, Ignored as ReceiverIgnored}
+use Rattle.p25_delivery.specs.Link.{Link, next_session, Time_up, Opening_again, Data_heard, Answer_heard, happens, link_run}
+use Rattle.p25_delivery.specs.Link.{after_timeout as link_timeout, after_reopening as link_reopening, after_data as link_data, after_answer as link_answer}
+use Rattle.p25_delivery.specs.Clean.{IsHeardOf, IsClean}
+use Rattle.p25_delivery.proofs.SenderLaws.{Resends, resent-of, timeout-of, reopen-cases, reopen-up}
+use Rattle.p25_delivery.proofs.PhaseLaws.{IsLinked, quiet, waiting, arrived, opening, IsKept}
+use Rattle.p25_delivery.proofs.LinkLaws.{happens-kept}
+use Rattle.p25_stations.specs.declared.air.Carried.{Carried}
+use Rattle.p25_stations.specs.declared.air.Carried.TheVariants.{Lost as CarriedLost, Foreign, Heard}
+use Rattle.p25_stations.specs.Air.{carried_of}
+use Rattle.p25_stations.proofs.AirLaws.{air-true}
+use Rattle.p25_stations.specs.declared.step.Event.{Event}
+use Rattle.p25_stations.specs.declared.step.Event.TheVariants.{Send, Timeout, Reopen, ToReceiver, ToSender}
+use Rattle.p25_delivery.specs.declared.step_kind.StepKind.{StepKind}
+use Rattle.p25_delivery.specs.declared.step_kind.StepKind.TheVariants.{Acknowledged, Delivered, SynHeard}
+use Rattle.p25_stations.specs.declared.step.Step.{Step}
+use Rattle.p25_stations.specs.WorldState.{WorldState}
+use Rattle.p25_stations.specs.Steps.{after_timeout, after_reopening, after_data, after_answer, quiet_step, heard_step, data_carried, data_delivered, answer_carried, answer_delivered, world_step}
+use Rattle.p25_stations.specs.Links.{hearing_from, hearing_of, happenings_at}
+use Rattle.p25_stations.proofs.WorldOfLaws.{world_of}
+use Rattle.p25_stations.proofs.SimulationLaws.{IsOf, step-of}
 use Rattle.p25_fragments.specs.LongRuns.{IsNoOffer}
 use Rattle.p25_fragments.proofs.HearingLaws.{IsPlainHeard, IsNoMessage, HearsClean, hears_plain, hears_message, hears_opening, hears-clean, IsPlainAnswer, AnswersClean, answers_plain, answers_message, answers_opening, answers-clean}
 

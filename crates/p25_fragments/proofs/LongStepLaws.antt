@@ -4,14 +4,14 @@ use Rattle.std.proofs.Common.{◌≡◌, ◌≢◌, ℕ, ◌+◌, ◌<◌, ◌�
 use Rattle.std.specs.Prelude.{nat_lt}
 use Rattle.std.proofs.lemmas.Bool.{cond-true, cond-false}
 use Rattle.std.proofs.lemmas.Bool.Decides.{nat_tests}
-use Rattle.p25_stations.specs.declared.sender_state.Outstanding.{Outstanding}
-use Rattle.p25_stations.specs.declared.sender_state.Outstanding.TheVariants.{Nothing, Message, Opening}
-use Rattle.p25_world.specs.Link.{Session, Link}
-use Rattle.p25_air_world.specs.declared.step.StepKind.{StepKind}
-use Rattle.p25_air_world.specs.declared.step.StepKind.TheVariants.{Acknowledged, Delivered, SynHeard}
-use Rattle.p25_air_world.specs.declared.step.Step.{Step}
-use Rattle.p25_air_world.specs.WorldState.{WorldState}
-use Rattle.p25_air_world.proofs.WorldOfLaws.{delivered_in, world_of}
+use Rattle.p25_delivery.specs.declared.sender_state.Outstanding.{Outstanding}
+use Rattle.p25_delivery.specs.declared.sender_state.Outstanding.TheVariants.{Nothing, Message, Opening}
+use Rattle.p25_delivery.specs.Link.{Session, Link}
+use Rattle.p25_delivery.specs.declared.step_kind.StepKind.{StepKind}
+use Rattle.p25_delivery.specs.declared.step_kind.StepKind.TheVariants.{Acknowledged, Delivered, SynHeard}
+use Rattle.p25_stations.specs.declared.step.Step.{Step}
+use Rattle.p25_stations.specs.WorldState.{WorldState}
+use Rattle.p25_stations.proofs.WorldOfLaws.{delivered_in, world_of}
 use Rattle.p25_fragments.specs.declared.long_mark.LongMark.{LongMark}
 use Rattle.p25_fragments.specs.declared.outgoing.Outgoing.{Outgoing}
 use Rattle.p25_fragments.specs.declared.joiner.Joined.{Joined}
@@ -19,7 +19,7 @@ use Rattle.p25_fragments.specs.declared.joiner.Joined.TheVariants.{Whole as Join
 use Rattle.p25_fragments.specs.declared.long_sender.Following.{Following}
 use Rattle.p25_fragments.specs.declared.long_sender.Following.TheVariants.{Part as PartFollows, Finished as AllFinished}
 use Rattle.p25_fragments.specs.declared.long_step.Then.TheVariants.{Refused}
-use Rattle.p25_fragments.specs.LongMessages.{part_count, part_of}
+use Rattle.p25_messages.specs.LongMessages.{part_count, part_of}
 use Rattle.p25_fragments.specs.JoiningState.{Joining, first_joining}
 use Rattle.p25_fragments.specs.Joining.{message_taken}
 use Rattle.p25_fragments.specs.SendingState.{LongSending}

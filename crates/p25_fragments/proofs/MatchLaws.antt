@@ -1,17 +1,17 @@
 -- How the long messages of the present session match its link: by what is outstanding, and by whether it has arrived.
 use Rattle.std.proofs.Common.{◌≡◌, ℕ, ◌+◌, ◌<◌, ◌≤◌, List, [], ◌∷◌, ◌++◌, length, map, Option, Some, None, refl, ap, ap₂, sym, subst, ◌∙◌, arith, length-append, append-nil}
-use Rattle.p25_stations.specs.declared.sender_state.Outstanding.{Outstanding}
-use Rattle.p25_stations.specs.declared.sender_state.Outstanding.TheVariants.{Nothing, Message, Opening}
-use Rattle.p25_world.specs.Link.{Session, empty_session, Link}
-use Rattle.p25_world.specs.Orderly.{IsOrderly, AreOrderly}
-use Rattle.p25_world.proofs.PhaseLaws.{orderly-more}
-use Rattle.p25_air_world.specs.declared.mark.Mark.{Mark}
-use Rattle.p25_air_world.specs.WorldState.{WorldState, first_world}
-use Rattle.p25_air_world.specs.Runs.{sessions_from, sessions_of}
-use Rattle.p25_air_world.proofs.WorldOfLaws.{sent_in, delivered_in, acknowledged_in, marks_after, first_mark, world_of, sessions-world_of}
+use Rattle.p25_delivery.specs.declared.sender_state.Outstanding.{Outstanding}
+use Rattle.p25_delivery.specs.declared.sender_state.Outstanding.TheVariants.{Nothing, Message, Opening}
+use Rattle.p25_delivery.specs.Link.{Session, empty_session, Link}
+use Rattle.p25_delivery.specs.Orderly.{IsOrderly, AreOrderly}
+use Rattle.p25_delivery.proofs.PhaseLaws.{orderly-more}
+use Rattle.p25_delivery.specs.declared.mark.Mark.{Mark}
+use Rattle.p25_stations.specs.WorldState.{WorldState, first_world}
+use Rattle.p25_stations.specs.Runs.{sessions_from, sessions_of}
+use Rattle.p25_stations.proofs.WorldOfLaws.{sent_in, delivered_in, acknowledged_in, marks_after, first_mark, world_of, sessions-world_of}
 use Rattle.p25_fragments.specs.declared.long_mark.LongMark.{LongMark}
 use Rattle.p25_fragments.specs.declared.outgoing.Outgoing.{Outgoing}
-use Rattle.p25_fragments.specs.LongMessages.{part_count, part_of}
+use Rattle.p25_messages.specs.LongMessages.{part_count, part_of}
 use Rattle.p25_fragments.specs.JoiningState.{Joining, first_joining}
 use Rattle.p25_fragments.specs.SendingState.{LongSending}
 use Rattle.p25_fragments.specs.ReceivingState.{LongReceiving}

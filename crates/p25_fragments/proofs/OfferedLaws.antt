@@ -1,25 +1,25 @@
 -- A part that is offered where nothing is outstanding is outstanding then, and has not arrived. By the rules of an offer.
 use Rattle.std.proofs.Common.{◌≡◌, ℕ, ◌*◌, ◌≤◌, false, List, length, drop, refl, ap, sym, subst, ◌∙◌, arith}
 use Rattle.std.proofs.lemmas.List.{length-take}
-use Rattle.p25_stations.specs.SentPackets.{message_packet}
-use Rattle.p25_stations.specs.SenderState.{Sending}
-use Rattle.p25_stations.specs.SenderRules.{offered}
-use Rattle.p25_stations.specs.declared.sender_state.Outstanding.TheVariants.{Nothing, Message}
-use Rattle.p25_stations.specs.declared.sender.Offer.{Offer}
-use Rattle.p25_stations.specs.declared.sender.Offer.TheVariants.{Taken}
-use Rattle.p25_world.specs.Link.{Link, Offering, happens, link_run}
-use Rattle.p25_world.specs.Link.{after_offer as link_offer}
-use Rattle.p25_world.specs.Clean.{IsClean}
-use Rattle.p25_world.proofs.SenderLaws.{offer-quiet}
-use Rattle.p25_world.proofs.PhaseLaws.{IsLinked, quiet, waiting, arrived, opening, IsKept}
-use Rattle.p25_world.proofs.LinkLaws.{happens-kept}
-use Rattle.p25_air_world.specs.declared.step.Event.TheVariants.{Send}
-use Rattle.p25_air_world.specs.WorldState.{WorldState}
-use Rattle.p25_air_world.specs.Steps.{world_step}
-use Rattle.p25_air_world.specs.Links.{happenings_at}
-use Rattle.p25_air_world.proofs.WorldOfLaws.{world_of}
-use Rattle.p25_air_world.proofs.SimulationLaws.{IsOf, step-of}
-use Rattle.p25_fragments.specs.LongMessages.{part_of}
+use Rattle.p25_delivery.specs.SentPackets.{message_packet}
+use Rattle.p25_delivery.specs.SenderState.{Sending}
+use Rattle.p25_delivery.specs.SenderRules.{offered}
+use Rattle.p25_delivery.specs.declared.sender_state.Outstanding.TheVariants.{Nothing, Message}
+use Rattle.p25_delivery.specs.declared.sender.Offer.{Offer}
+use Rattle.p25_delivery.specs.declared.sender.Offer.TheVariants.{Taken}
+use Rattle.p25_delivery.specs.Link.{Link, Offering, happens, link_run}
+use Rattle.p25_delivery.specs.Link.{after_offer as link_offer}
+use Rattle.p25_delivery.specs.Clean.{IsClean}
+use Rattle.p25_delivery.proofs.SenderLaws.{offer-quiet}
+use Rattle.p25_delivery.proofs.PhaseLaws.{IsLinked, quiet, waiting, arrived, opening, IsKept}
+use Rattle.p25_delivery.proofs.LinkLaws.{happens-kept}
+use Rattle.p25_stations.specs.declared.step.Event.TheVariants.{Send}
+use Rattle.p25_stations.specs.WorldState.{WorldState}
+use Rattle.p25_stations.specs.Steps.{world_step}
+use Rattle.p25_stations.specs.Links.{happenings_at}
+use Rattle.p25_stations.proofs.WorldOfLaws.{world_of}
+use Rattle.p25_stations.proofs.SimulationLaws.{IsOf, step-of}
+use Rattle.p25_messages.specs.LongMessages.{part_of}
 use Rattle.p25_fragments.proofs.InnerStepLaws.{IsWorldAt}
 
 -- the world after an offer of a part

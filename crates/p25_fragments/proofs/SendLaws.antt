@@ -2,20 +2,20 @@
 -- sender.
 use Rattle.std.proofs.Common.{◌≡◌, ℕ, true, false, List, [], ◌∷◌, ◌++◌, length, Some, ap, ◌∙◌}
 use Rattle.std.proofs.lemmas.Bool.{cond-true, cond-false}
-use Rattle.p25_stations.specs.MessageBlocks.{block_count}
-use Rattle.p25_stations.specs.SentPackets.{message_packet}
-use Rattle.p25_stations.specs.SenderState.{Sending}
-use Rattle.p25_stations.specs.SenderRules.{offered_beside, offered}
-use Rattle.p25_stations.specs.declared.sender_state.Outstanding.{Outstanding}
-use Rattle.p25_stations.specs.declared.sender_state.Outstanding.TheVariants.{Nothing, Message, Opening}
-use Rattle.p25_stations.specs.declared.sender.Offer.{Offer}
-use Rattle.p25_stations.specs.declared.sender.Offer.TheVariants.{Busy as OfferBusy, Down as DownAtOffer}
-use Rattle.p25_world.proofs.SenderLaws.{offer-quiet}
-use Rattle.p25_air_world.specs.declared.step.Event.TheVariants.{Send}
-use Rattle.p25_air_world.specs.declared.step.StepKind.TheVariants.{Taken, Busy, OfferDown}
-use Rattle.p25_air_world.specs.WorldState.{WorldState}
-use Rattle.p25_air_world.specs.RunLaws.{true_step}
-use Rattle.p25_air_world.specs.Steps.{after_offer, quiet_step, world_step}
+use Rattle.p25_delivery.specs.MessageBlocks.{block_count}
+use Rattle.p25_delivery.specs.SentPackets.{message_packet}
+use Rattle.p25_delivery.specs.SenderState.{Sending}
+use Rattle.p25_delivery.specs.SenderRules.{offered_beside, offered}
+use Rattle.p25_delivery.specs.declared.sender_state.Outstanding.{Outstanding}
+use Rattle.p25_delivery.specs.declared.sender_state.Outstanding.TheVariants.{Nothing, Message, Opening}
+use Rattle.p25_delivery.specs.declared.sender.Offer.{Offer}
+use Rattle.p25_delivery.specs.declared.sender.Offer.TheVariants.{Busy as OfferBusy, Down as DownAtOffer}
+use Rattle.p25_delivery.proofs.SenderLaws.{offer-quiet}
+use Rattle.p25_stations.specs.declared.step.Event.TheVariants.{Send}
+use Rattle.p25_delivery.specs.declared.step_kind.StepKind.TheVariants.{Taken, Busy, OfferDown}
+use Rattle.p25_stations.specs.WorldState.{WorldState}
+use Rattle.p25_stations.specs.RunLaws.{true_step}
+use Rattle.p25_stations.specs.Steps.{after_offer, quiet_step, world_step}
 
 offered-down : (s : Sending) (message : List ℕ) → s.down ≡ true → offered s message ≡ (s, DownAtOffer)
 unfolding offered

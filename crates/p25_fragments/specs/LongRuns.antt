@@ -2,12 +2,12 @@
 -- of the inner world.
 use Rattle.std.specs.Prelude.{◌≡◌, ◌≢◌, ◌-◌, ◌≤◌, List, [], ◌∷◌, ◌++◌, length, Option, Some, None}
 use Rattle.p25_bits.specs.Bits.{part}
-use Rattle.p25_world.specs.Link.{Session}
-use Rattle.p25_air_world.specs.declared.step.Event.{Event}
-use Rattle.p25_air_world.specs.declared.step.Event.TheVariants.{Send, Timeout, Reopen, ToReceiver, ToSender}
-use Rattle.p25_air_world.specs.declared.step.Step.{Step}
-use Rattle.p25_air_world.specs.WorldState.{WorldState}
-use Rattle.p25_air_world.specs.Runs.{world_run, steps_of, AreClean}
+use Rattle.p25_delivery.specs.Link.{Session}
+use Rattle.p25_stations.specs.declared.step.Event.{Event}
+use Rattle.p25_stations.specs.declared.step.Event.TheVariants.{Send, Timeout, Reopen, ToReceiver, ToSender}
+use Rattle.p25_stations.specs.declared.step.Step.{Step}
+use Rattle.p25_stations.specs.WorldState.{WorldState}
+use Rattle.p25_stations.specs.Runs.{world_run, steps_of, AreClean}
 use Rattle.p25_fragments.specs.declared.long_mark.LongMark.{LongMark}
 use Rattle.p25_fragments.specs.declared.long_step.LongEvent.{LongEvent}
 use Rattle.p25_fragments.specs.declared.long_step.LongEvent.TheVariants.{Long, Inner}

@@ -1,6 +1,6 @@
 -- What the world of long messages keeps.
 use Rattle.std.specs.Prelude.{ℕ, List, []}
-use Rattle.p25_air_world.specs.WorldState.{WorldState, first_world}
+use Rattle.p25_stations.specs.WorldState.{WorldState, first_world}
 use Rattle.p25_fragments.specs.declared.long_mark.LongMark.{LongMark}
 use Rattle.p25_fragments.specs.SendingState.{LongSending, first_long_sending}
 use Rattle.p25_fragments.specs.ReceivingState.{LongReceiving, first_long_receiving}

@@ -1,8 +1,8 @@
 //! What every run of long messages keeps, and every clean one. The function makes no call: its contract is the theorem.
 
 ghost use Rattle.std.specs.Prelude.{◌≡◌, List, length};
-ghost use Rattle.p25_world.specs.Orderly.{AreOrderly};
-ghost use Rattle.p25_air_world.specs.WorldState.{first_world};
+ghost use Rattle.p25_delivery.specs.Orderly.{AreOrderly};
+ghost use Rattle.p25_stations.specs.WorldState.{first_world};
 ghost use Rattle.p25_fragments.specs.declared.long_step.LongEvent.{LongEvent as event_type};
 ghost use Rattle.p25_fragments.specs.LongState.{first_long};
 ghost use Rattle.p25_fragments.specs.LongRuns.{AreLongEvents, long_run, long_steps_of, inner_steps, IsInnerRun, IsCleanLongRun};

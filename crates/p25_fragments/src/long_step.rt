@@ -1,5 +1,5 @@
-use crate::long_message::LongMessage;
-use p25_air_world::{Event, Step};
+use p25_messages::LongMessage;
+use p25_stations::{Event, Step};
 
 /// Something that happens in a world of long messages.
 #[derive(Drop)]

@@ -15,12 +15,11 @@
 //! The laws of the field stand on `field_laws`, `symbol_laws` and `alpha_order`.
 #![tactic(auto)]
 
-mod laws;
+pub mod laws;
 mod products;
 mod symbol;
 mod tables;
 
-pub use laws::{alpha_order, field_laws, symbol_laws};
 pub use symbol::Sym;
 
 #[cfg(test)]

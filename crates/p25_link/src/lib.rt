@@ -17,7 +17,7 @@
 
 mod encryption_sync;
 mod header_word;
-mod laws;
+pub mod laws;
 mod link_control;
 mod symbols;
 #[cfg(test)]
@@ -25,5 +25,4 @@ mod tests;
 
 pub use encryption_sync::EncryptionSync;
 pub use header_word::HeaderWord;
-pub use laws::word_laws;
 pub use link_control::{LinkControl, LinkKind};

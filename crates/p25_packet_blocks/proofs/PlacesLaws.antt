@@ -7,8 +7,8 @@ use Rattle.p25_bits.specs.Bits.{part}
 use Rattle.p25_bits.specs.Numbers.{joined_below}
 use Rattle.p25_bits.proofs.PartLaws.{part_add, part_left, part_behind, part_joined}
 use Rattle.p25_bits.proofs.NumbersLaws.{length-joined_below, part-joined_below, joined_below-same, joined_below-parts}
-use Rattle.p25_front.specs.Front.{unit_front, IsFront}
-use Rattle.p25_front.proofs.FrontLaws.{length-unit_front, IsFront-unit_front, unit_front-only}
+use Rattle.p25_unit_front.specs.Front.{unit_front, IsFront}
+use Rattle.p25_unit_front.proofs.FrontLaws.{length-unit_front, IsFront-unit_front, unit_front-only}
 use Rattle.p25_trellis.specs.Trellis.{IsBlock}
 use Rattle.p25_trellis.specs.Tables.{half_point, three_quarter_point}
 use Rattle.p25_trellis.specs.Nearest.{half_block, three_quarter_block}

@@ -12,8 +12,8 @@ use Rattle.p25_status.specs.Woven.{plain_of}
 use Rattle.p25_status.proofs.SyncLaws.{has_sync-yes}
 use Rattle.p25_status.proofs.WovenLaws.{length-woven, plain_of-woven, part-plain_of}
 use Rattle.p25_bch_nid.specs.NidWord.{nid_word}
-use Rattle.p25_front.specs.Front.{unit_front, front_of, identifier_bits}
-use Rattle.p25_front.proofs.FrontLaws.{front_of-plain_of, front_of-sync, front_of-identifier, identifier_of-near}
+use Rattle.p25_unit_front.specs.Front.{unit_front, front_of, identifier_bits}
+use Rattle.p25_unit_front.proofs.FrontLaws.{front_of-plain_of, front_of-sync, front_of-identifier, identifier_of-near}
 use Rattle.p25_trellis.specs.Nearest.{half_octets}
 use Rattle.p25_packet_blocks.specs.declared.packet.Packet.{Packet}
 use Rattle.p25_packet_blocks.specs.Heads.{head_blocks}

@@ -5,7 +5,7 @@ use Rattle.p25_bits.specs.Bits.{part}
 use Rattle.p25_bits.specs.Numbers.{joined_below}
 use Rattle.p25_trellis.specs.Nearest.{half_block, three_quarter_block}
 use Rattle.p25_crc.specs.Values.{crc9_of, crc16_of, crc32_of}
-use Rattle.p25_front.specs.Front.{unit_front}
+use Rattle.p25_unit_front.specs.Front.{unit_front}
 use Rattle.p25_packet_blocks.specs.declared.head.PacketHead.{PacketHead}
 use Rattle.p25_packet_blocks.specs.declared.block.Block.{Block}
 use Rattle.p25_packet_blocks.specs.declared.block.Slot.{Slot}
@@ -41,7 +41,7 @@ slot_bits Bad = []
 unfoldable pub checked_octets : List ℕ → List ℕ
 checked_octets octets = octets ++ four_octets (crc32_of octets)
 
--- the bits of the block at place j behind the header block
+-- the bits of the block at place j after the header block
 unfoldable pub body_block : Packet → ℕ → List Bool
 body_block (Confirmed packet) j = slot_bits (get_or packet.slots j Bad)
 body_block (Plain packet) j = half_block (part (12 * j) 12 (checked_octets packet.octets))

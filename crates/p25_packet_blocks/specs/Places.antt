@@ -4,7 +4,7 @@ use Rattle.std.proofs.Common.{get_or}
 use Rattle.p25_bits.specs.Bits.{part}
 use Rattle.p25_trellis.specs.Trellis.{IsBlock}
 use Rattle.p25_trellis.specs.Tables.{half_point, three_quarter_point}
-use Rattle.p25_front.specs.Front.{IsFront}
+use Rattle.p25_unit_front.specs.Front.{IsFront}
 use Rattle.p25_packet_blocks.specs.declared.block.Block.{Block}
 use Rattle.p25_packet_blocks.specs.declared.block.Slot.TheVariants.{Good, Bad}
 use Rattle.p25_packet_blocks.specs.declared.packet.Packet.{Packet}

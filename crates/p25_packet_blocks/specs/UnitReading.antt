@@ -6,7 +6,7 @@ use Rattle.p25_status.specs.declared.fields.Field.{Field}
 use Rattle.p25_status.specs.declared.fields.Field.TheVariants.{Sync, Nid, Duid, Length}
 use Rattle.p25_status.specs.Sync.{has_sync}
 use Rattle.p25_status.specs.Woven.{plain_of}
-use Rattle.p25_front.specs.Front.{identifier_of}
+use Rattle.p25_unit_front.specs.Front.{identifier_of}
 use Rattle.p25_trellis.specs.Nearest.{half_octets}
 use Rattle.p25_packet_blocks.specs.declared.head.PacketHead.{PacketHead}
 use Rattle.p25_packet_blocks.specs.declared.packet.Packet.{Packet}

@@ -26,10 +26,9 @@ mod block;
 mod flags;
 mod head;
 mod image;
-mod laws;
+pub mod laws;
 mod octets;
 mod packet;
-mod radius;
 mod read;
 mod slots;
 #[cfg(test)]
@@ -39,13 +38,11 @@ mod whole;
 
 pub use block::{Block, Slot};
 pub use flags::{Flags, flags_make, flags_read};
-pub use head::PacketHead;
+pub use head::{CONFIRMED_FORMAT, PLAIN_FORMAT, PacketHead, RESPONSE_FORMAT};
 pub use image::{packet_image, packet_length};
-pub use laws::one_image;
 pub use octets::Octets;
 pub use packet::{Confirmed, Packet, Plain};
-pub use radius::packet_radius;
-pub use read::{read_head, read_packet, read_packet_of_head};
+pub use read::{BLOCK_LENGTH, BLOCKS_AT, HEADER_AT, read_head, read_packet, read_packet_of_head};
 pub use slots::Slots;
 pub use unit::{read_packet_unit, read_sent_head};
 pub use whole::is_whole;

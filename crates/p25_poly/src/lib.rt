@@ -21,7 +21,7 @@
 
 mod elimination;
 mod key;
-mod laws;
+pub mod laws;
 mod matrix;
 mod multiples;
 mod polynomial;
@@ -30,7 +30,6 @@ mod side;
 mod systems;
 
 pub use key::{Key, key_solve};
-pub use laws::polynomial_laws;
 pub use matrix::Matrix;
 pub use polynomial::Poly;
 pub use systems::solve;

@@ -49,7 +49,7 @@
 mod code;
 mod encoder;
 mod errors;
-mod laws;
+pub mod laws;
 mod locator;
 mod marks;
 mod points;
@@ -63,6 +63,5 @@ mod wrong;
 mod zeros;
 
 pub use code::Rs;
-pub use laws::encoding_laws;
 pub use syndromes::fill_syndromes;
 pub use wrong::mark_wrong;

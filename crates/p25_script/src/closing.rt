@@ -3,8 +3,8 @@
 ghost use Rattle.std.specs.Prelude.{◌≡◌, ◌+◌, ◌<◌, ◌≤◌, ◌++◌, length, decimal};
 ghost use Rattle.p25_script.specs.StepTexts.{closing_text_of, sessions_text};
 
-use p25_air_world::World;
 use p25_line::Line;
+use p25_stations::World;
 
 /// Sets `out` to the text that closes a run, without the end of its line: how many messages were sent, delivered and
 /// acknowledged, how many deliveries were false passes, and how many sessions there were, where there was more than one.

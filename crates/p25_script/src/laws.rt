@@ -1,10 +1,10 @@
 //! Lines and events tell each other. The function makes no call: its contract is the theorem.
 
 ghost use Rattle.std.specs.Prelude.{◌≡◌, ◌≢◌, ℕ, ◌<◌, ◌≤◌, List, length, Ok};
-ghost use Rattle.p25_air_world.specs.Runs.{IsEvent};
-ghost use Rattle.p25_air_world.specs.Sound.{IsMessage};
-ghost use Rattle.p25_air_world.specs.declared.step.Event.{Event as event_type};
-ghost use Rattle.p25_air_world.specs.declared.step.Event.TheVariants.{Send, ToReceiver, ToSender};
+ghost use Rattle.p25_stations.specs.Runs.{IsEvent};
+ghost use Rattle.p25_delivery.specs.SoundHalves.{IsMessage};
+ghost use Rattle.p25_stations.specs.declared.step.Event.{Event as event_type};
+ghost use Rattle.p25_stations.specs.declared.step.Event.TheVariants.{Send, ToReceiver, ToSender};
 ghost use Rattle.p25_script.specs.Script.{IsScripted, event_of, event_text};
 ghost use Rattle.p25_script.specs.Values.{ArePlaces};
 

@@ -16,17 +16,16 @@
 #![tactic(auto)]
 
 mod closing;
-mod laws;
+pub mod laws;
 mod names;
 mod read;
 mod steps;
 mod values;
 
 pub use closing::{closing_text, put_count, put_sessions};
-pub use laws::script_laws;
 pub use names::EventKind;
-pub use p25_air_world::{Event, Step, StepKind, Way, World};
 pub use p25_line::{Line, LineFault};
+pub use p25_stations::{Event, Step, StepKind, Way, World};
 pub use read::read_event;
 pub use steps::{put_octets, step_text};
 pub use values::{message_value, places_value};

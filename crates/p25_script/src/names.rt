@@ -3,7 +3,7 @@
 ghost use Rattle.std.specs.Prelude.{◌≡◌, ◌≤◌, length};
 ghost use Rattle.p25_script.specs.Script.{event_named, event_word, way_named, way_word, word_count};
 
-use p25_air_world::Way;
+use p25_stations::Way;
 
 /// A kind of script line.
 #[derive(Clone, Copy)]

@@ -2,14 +2,14 @@
 
 ghost use Rattle.std.specs.Prelude.{◌≡◌, ◌≤◌, Ok, IfOk, length, drop, All};
 ghost use Rattle.p25_line.specs.Words.{LiesIn, WordsAnswer, marked};
-ghost use Rattle.p25_air_world.specs.declared.step.Event.{Event as event_type};
+ghost use Rattle.p25_stations.specs.declared.step.Event.{Event as event_type};
 ghost use Rattle.p25_script.specs.Script.{IsScripted, delivery_or_fault, event_in, event_of, event_text, way_named, word_count};
 ghost use Rattle.p25_script.specs.Values.{places_in};
 
 use super::names::{EventKind, named_way};
 use super::values::{message_value, places_value};
-use p25_air_world::{Event, Way};
 use p25_line::{LineFault, WordList, words_of};
+use p25_stations::{Event, Way};
 
 /// Answers the event whose line this is. Each line that is accepted is the line of its event, and the line of each event,
 /// where it is not too long, is accepted. The first of these causes that applies is answered: Long, above 8,192 octets; Form,

@@ -1,17 +1,17 @@
 //! The texts of steps.
 
 ghost use Rattle.std.specs.Prelude.{◌≡◌, ◌+◌, ◌*◌, ◌<◌, ◌≤◌, Bool, true, ◌++◌, [], ◌∷◌, length, cond, codes, decimal};
-ghost use Rattle.p25_air_world.specs.declared.step.StepKind.TheVariants.{Taken, Retry};
+ghost use Rattle.p25_delivery.specs.declared.step_kind.StepKind.TheVariants.{Taken, Retry};
 ghost use Rattle.p25_line.specs.CommaLists.{comma_text};
 ghost use Rattle.p25_script.specs.StepTexts.{flags_text, kind_text, serials_of, step_text_of};
 ghost use Rattle.p25_script.specs.Script.{way_word};
 ghost use Rattle.p25_script.specs.Values.{message_text};
 
 use super::names::word_of_way;
-use p25_air_world::{Step, StepKind, Way};
 use p25_line::Line;
 use p25_messages::Message;
 use p25_packet_blocks::{Flags, flags_make};
+use p25_stations::{Step, StepKind, Way};
 use p25_text::put_field;
 
 /// Sets `out` to the text of a step, without the end of its line. The texts of deliveries begin with `data` or `answer`; that

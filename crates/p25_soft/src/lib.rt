@@ -18,14 +18,13 @@
 //! replaced as `softened`. `soft_laws` says which levels are read as a path that was sent.
 #![tactic(auto)]
 
-mod laws;
+pub mod laws;
 mod level;
 mod reading;
 mod softening;
 #[cfg(test)]
 mod tests;
 
-pub use laws::{half_rate_soft, soft_laws, three_quarter_rate_soft};
 pub use level::{hard, nominal};
 pub use reading::read_soft;
 pub use softening::soften;

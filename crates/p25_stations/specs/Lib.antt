@@ -1,9 +1,8 @@
-pub mod MessageBlocks
-pub mod Places
-pub mod Carried
-pub mod SenderState
-pub mod ReceiverState
-pub mod SentPackets
-pub mod Asked
-pub mod SenderRules
-pub mod ReceiverRules
+pub mod Air
+pub mod WorldState
+pub mod Sound
+pub mod Steps
+pub mod Runs
+pub mod RunLaws
+pub mod Inside
+pub mod StepLists

@@ -1,14 +1,112 @@
-//! A law on messages and their blocks. It makes no call: its contract is the theorem.
+//! What the air keeps, what every run of the world keeps, and what every run without a false pass. Each function makes no call
+//! of its own: its contract is the theorem.
 
-ghost use Rattle.std.specs.Prelude.{◌≡◌, ℕ, List, length, Some};
-ghost use Rattle.p25_packet_blocks.specs.declared.block.Slot.{Slot};
-ghost use Rattle.p25_stations.specs.MessageBlocks.{block_count, pad_count, message_octets, unpadded};
-ghost use Rattle.p25_stations.specs.Carried.{CarriesMessage, read_back};
+ghost use Rattle.std.specs.Prelude.{◌≡◌, ℕ, ◌≤◌, true, false, List, [], ◌∷◌, length, ◌<◌, ◌↔◌};
+ghost use Rattle.p25_delivery.specs.MessageBlocks.{block_count};
+ghost use Rattle.p25_delivery.specs.SenderRules.{opening_number};
+ghost use Rattle.p25_delivery.specs.declared.sender_state.Outstanding.TheVariants.{Nothing};
+ghost use Rattle.p25_delivery.specs.Orderly.{AreOrderly, AreCounted};
+ghost use Rattle.p25_delivery.specs.Link.{sessions_of};
+ghost use Rattle.p25_delivery.specs.Facts.{LinkFacts};
+ghost use Rattle.p25_stations.specs.declared.step.Event.{Event as event_type};
+ghost use Rattle.p25_stations.specs.declared.step.Event.TheVariants.{Send, Reopen, ToReceiver, ToSender};
+ghost use Rattle.p25_delivery.specs.declared.step_kind.StepKind.TheVariants.{Taken, Reopened, Delivered, SynHeard, Acknowledged, LinkOpened};
+ghost use Rattle.p25_stations.specs.WorldState.{first_world};
+ghost use Rattle.p25_delivery.specs.SoundHalves.{IsMessage};
+ghost use Rattle.p25_stations.specs.Steps.{world_step};
+ghost use Rattle.p25_stations.specs.Runs.{AreEvents, world_run, steps_of, IsCleanRun};
+ghost use Rattle.p25_stations.specs.RunLaws.{IsWithin, AreWithin, IsTwiceDamaged, true_step, tries_in};
+ghost use Rattle.p25_packet_blocks.specs.declared.packet.Packet.{Packet as packet_type};
+ghost use Rattle.p25_packet_blocks.specs.Sendable.{IsSendable};
+ghost use Rattle.p25_delivery.specs.Clean.{IsTrueTo};
+ghost use Rattle.p25_stations.specs.declared.air.Carried.TheVariants.{Heard as heard_packet};
+ghost use Rattle.p25_stations.specs.Air.{is_true_to, carried_of, ArrivesWithin, places_within};
+ghost use Rattle.p25_stations.specs.StepLists.{delivered_in, sent_in, acknowledged_in};
 
-/// Answers nothing: its clauses say that the octets of a message's blocks are read back as that message, of whatever
-/// length it is, and that this is so in whatever order its blocks come, in one packet or in several.
-pub fn messages_read_back()
-    ensures octets { (message : List ℕ) → unpadded (message_octets message) (pad_count (length message)) ≡ Some message }
-    ensures blocks { (message : List ℕ) (slots : List Slot) → CarriesMessage message slots →
-        read_back (block_count (length message)) (pad_count (length message)) slots ≡ Some message }
+use p25_packet_blocks::laws::packet_radius;
+
+/// **Theorem.** Its clause says that after every list of events without a false pass each session is orderly: what was
+/// delivered is the beginning of what was sent, each message once, every message that was acknowledged was delivered, and
+/// one at most was delivered that was not acknowledged.
+pub fn clean_runs_are_orderly()
+    ensures { (events : List event_type) → AreEvents events → IsCleanRun events →
+        AreOrderly (sessions_of (world_run first_world events).link) }
+{}
+
+/// **Theorem.** Its clause says that the link of a world keeps the facts that `LinkFacts` names while no step was a false
+/// pass.
+pub fn world_facts()
+    ensures { (events : List event_type) → AreEvents events → IsCleanRun events → LinkFacts (world_run first_world events).link }
+{}
+
+/// **Theorem.** Its clauses say what every run keeps, clean or not. In each session what was acknowledged was sent, and
+/// one message at most was sent that was not acknowledged. A message or an opening packet is sent 16 times at most. And no
+/// step was a false pass exactly where none is counted.
+pub fn runs_are_counted()
+    ensures sessions { (events : List event_type) → AreCounted (sessions_of (world_run first_world events).link) }
+    ensures tries { (events : List event_type) → AreEvents events → tries_in 0 (steps_of first_world events) ≤ 16 }
+    ensures clean { (events : List event_type) → (world_run first_world events).false_passes ≡ 0 → IsCleanRun events }
+    ensures none { (events : List event_type) → IsCleanRun events → (world_run first_world events).false_passes ≡ 0 }
+{}
+
+/// **Theorem.** Its clauses say which deliveries are no false passes, after any list of events: those within radius,
+/// and those of which at most one bit comes inverted.
+pub fn damage_within_radius()
+    ensures within { (events : List event_type) (event : event_type) → AreEvents events →
+        IsWithin (world_run first_world events) event →
+        (world_step (world_run first_world events) event).1.false_pass ≡ false }
+    ensures twice { (events : List event_type) (event : event_type) → AreEvents events →
+        (world_step (world_run first_world events) event).1.false_pass ≡ true →
+        IsTwiceDamaged (world_run first_world events) event }
+{
+    packet_radius();
+}
+
+/// **Theorem.** Its clauses say what comes of deliveries within radius. After a clean run, where nothing is outstanding,
+/// a message is taken, delivered and acknowledged. After any run a sender that is down opens the link again.
+pub fn deliveries_within_radius()
+    ensures delivered { (events : List event_type) (message first second : List ℕ) → AreEvents events →
+        (world_run first_world events).false_passes ≡ 0 → IsMessage message →
+        (world_run first_world events).link.outbound.sender.outstanding ≡ Nothing →
+        AreWithin (world_run first_world events) (Send message ∷ ToReceiver first ∷ ToSender second ∷ []) →
+        (let number = (world_run first_world events).link.outbound.sender.next in
+        steps_of (world_run first_world events) (Send message ∷ ToReceiver first ∷ ToSender second ∷ []) ≡
+        true_step (Taken number (block_count (length message))) ∷ true_step (Delivered number message) ∷
+        true_step (Acknowledged number) ∷ []) }
+    ensures opened { (events : List event_type) (first second : List ℕ) → AreEvents events →
+        (world_run first_world events).link.outbound.sender.down ≡ true →
+        AreWithin (world_run first_world events) (Reopen ∷ ToReceiver first ∷ ToSender second ∷ []) →
+        (let sender = (world_run first_world events).link.outbound.sender in
+        let number = opening_number sender.outstanding sender.next in
+        steps_of (world_run first_world events) (Reopen ∷ ToReceiver first ∷ ToSender second ∷ []) ≡
+        true_step (Reopened number) ∷ true_step (SynHeard number) ∷ true_step (LinkOpened number) ∷ []) }
+{
+    packet_radius();
+}
+
+/// **Theorem.** Its clauses say what the air keeps. A packet that is heard in a delivery that is no false pass is true
+/// to the one that was sent: it has the same header, and the same octets or slots, but those that are Bad; and the test of
+/// a false pass says exactly that. A packet that arrives within radius is heard, as no false pass and as it was sent; one of
+/// which at most one bit comes inverted arrives within radius.
+pub fn air_is_true()
+    ensures exactly { (sent : packet_type) (packet : packet_type) → IsTrueTo sent packet ↔ (is_true_to sent packet ≡ true) }
+    ensures heard { (sent : packet_type) (flips : List ℕ) (packet : packet_type)
+        → carried_of sent flips ≡ heard_packet packet false → IsTrueTo sent packet }
+    ensures within { (sent : packet_type) (flips : List ℕ)
+        → IsSendable sent → ArrivesWithin sent flips → carried_of sent flips ≡ heard_packet sent false }
+    ensures few { (sent : packet_type) (flips : List ℕ) → IsSendable sent → places_within sent flips < 2 → ArrivesWithin sent flips }
+{
+    packet_radius();
+}
+
+/// **Theorem.** Its clauses say that the steps of every run tell its lists. The messages of the Delivered steps, in order,
+/// are those delivered, the messages of the events whose step is Taken are those sent, and the number of the Acknowledged
+/// steps is that of the messages acknowledged.
+pub fn steps_tell_lists()
+    ensures delivered { (events : List event_type) →
+        (world_run first_world events).link.inbound.received ≡ delivered_in (steps_of first_world events) }
+    ensures sent { (events : List event_type) →
+        (world_run first_world events).link.outbound.sent ≡ sent_in events (steps_of first_world events) }
+    ensures acknowledged { (events : List event_type) →
+        (world_run first_world events).link.outbound.acknowledged ≡ acknowledged_in (steps_of first_world events) }
 {}

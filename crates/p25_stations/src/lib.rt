@@ -1,42 +1,32 @@
-//! The two stations of a confirmed packet link, as a machine: a sender and a receiver, which only answer calls. What they
-//! send is a value, and the air between them is the caller's.
+//! Two packet stations and the air between them: a sender, a receiver, and what comes of a packet that is sent.
 //!
-//! A sender has one message outstanding at most. Its packets carry a number N(S) of three bits, 0 to 7 and then 0 again;
-//! the receiver keeps V(R), the number of the last message that it delivered, and puts the blocks of the next one in their
-//! places until all are there and the packet CRC agrees. All octets stand in the order in which they are sent.
-//! TIA-102.BAAA, Packet Data, Confirmed Delivery; the rules that the standard leaves open are this project's.
+//! A transmission is the unit of a packet as it is sent, from its first bit on, with the network access code 293 hex and the
+//! status symbol 00 throughout. A world keeps the newest transmission of each direction. An event is a message that is
+//! offered, a timeout, a reopening, or a delivery with the places of the bits that come inverted, counted from the first bit
+//! of the unit. Each event is one step. The rules of the stations and of the air are this project's, over those of
+//! TIA-102.BAAA, Packet Data.
 //!
 //! ```text
-//! let mut sender = Sender::new();
-//! let mut receiver = Receiver::new();
-//! if let Offer::Taken { packet, .. } = sender.offer(&message) {
-//!     if let Heard::Delivered { message, answer, .. } = receiver.hear(&packet) {
-//!         sender.hear(&answer);
-//!     }
-//! }
+//! let mut world = World::new(alloc);
+//! world.step(&Event::Send(message))?;
+//! let step = world.step(&Event::ToReceiver(flips))?;
 //! ```
 //!
-//! Contracts see a sender as `Sending` and a receiver as `Receiving`, and each call as a function of `SenderRules` or
-//! `ReceiverRules` that gives the state after it and its answer.
+//! Contracts see what comes of a packet as the function `carried_of`, a world as its state and the number of steps for which
+//! it has room, and each step as the function `world_step`. The theorems in `laws` say what every run keeps, and what every
+//! run without a false pass.
 #![tactic(auto)]
 
-mod asked;
-mod kept;
-mod laws;
-mod message_octets;
-mod receiver;
-mod sender;
-mod sender_state;
-mod sent;
+mod air;
+pub mod laws;
+mod step;
+mod truth;
+mod world;
 
-pub use laws::messages_read_back;
+pub use air::{Carried, carry, transmit};
+pub use p25_delivery::{
+    Heard, Offer, Receiver, Reopen, Resend, Sender, SenderHeard, StepKind, Way,
+};
 pub use p25_messages::{Flips, Message, MessageList};
-pub use receiver::{Heard, Receiver};
-pub use sender::{Offer, Reopen, Resend, Sender, SenderHeard};
-pub use sender_state::Outstanding;
-
-/// The network access code that both stations use.
-pub const NAC: u16 = 0x293;
-
-/// The logical link identifier that both stations use.
-pub const LLID: u32 = 1;
+pub use step::{Event, Step};
+pub use world::World;

@@ -24,13 +24,12 @@
 mod arriving;
 mod beginning;
 mod judging;
-mod laws;
+pub mod laws;
 mod repeats;
 mod scanner;
 #[cfg(test)]
 mod tests;
 
-pub use laws::{arrival_laws, item_laws};
 pub use p25_units::Item;
 pub use repeats::{bridge_item, repair_item, repair_item_in};
 pub use scanner::Scanner;

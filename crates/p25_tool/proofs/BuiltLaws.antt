@@ -24,11 +24,11 @@ use Rattle.p25_units.proofs.UnitsLaws.{length-image_of}
 use Rattle.p25_units.proofs.WithinRadiusLaws.{IsWithinRadius-image_of, received-image_of}
 use Rattle.p25_stream.specs.Arrivals.{Arrival, IsNearArrival, whole_of, wholes_of}
 use Rattle.p25_stream.proofs.ArrivalLaws.{wholes_of-cons, wholes_of-nil}
-use Rattle.p25_work.specs.Lines.{lines_in}
-use Rattle.p25_work.proofs.RulesLaws.{read_of-err, read_of-nil, read_of-ok}
+use Rattle.p25_filter.specs.Lines.{lines_in}
+use Rattle.p25_filter.proofs.RulesLaws.{read_of-err, read_of-nil, read_of-ok}
 use Rattle.p25_tool.specs.Built.{AcceptedAreRead, BuildsUnits, LinesAreTexts, bits_built, units_of, wholes_built}
 use Rattle.p25_tool.specs.Outputs.{filled_frame, image_octets}
-use Rattle.p25_recordings.specs.ItemOutputs.{shown}
+use Rattle.p25_recording_filters.specs.ItemOutputs.{shown}
 use Rattle.p25_tool.specs.Recorded.{IsRecording}
 use Rattle.p25_tool.proofs.RecordedLaws.{items-recording, octet_bits-whole, shows-units, whole-image}
 

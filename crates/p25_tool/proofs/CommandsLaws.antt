@@ -6,44 +6,44 @@ use Rattle.p25_status.specs.declared.symbols.Status.{Status}
 use Rattle.p25_stream.specs.Items.{items_by}
 use Rattle.p25_text.specs.Grammar.{read_line_of}
 use Rattle.p25_units.specs.UnitParts.{UnitParts}
-use Rattle.p25_work.specs.declared.ending.Ending.{Ending}
-use Rattle.p25_work.specs.Futures.{Future}
-use Rattle.p25_work.specs.Lines.{closing_by, lines_in, read_of, refusal_in, texts_before}
-use Rattle.p25_work.specs.LineRules.{machine_behind, texts_of}
-use Rattle.p25_work.specs.LineWorks.{first_line, line_future}
-use Rattle.p25_work.proofs.RulesLaws.{first_line-ends, first_line-pauses, first_line-writes}
+use Rattle.p25_filter.specs.declared.ending.Ending.{Ending}
+use Rattle.p25_filter.specs.Futures.{Future}
+use Rattle.p25_filter.specs.Lines.{closing_by, lines_in, read_of, refusal_in, texts_before}
+use Rattle.p25_filter.specs.LineRules.{machine_behind, texts_of}
+use Rattle.p25_filter.specs.LineFilters.{first_line, line_future}
+use Rattle.p25_filter.proofs.RulesLaws.{first_line-ends, first_line-pauses, first_line-writes}
 use Rattle.p25_tool.specs.declared.build.Build.{Build}
 use Rattle.p25_tool.specs.declared.command.Command.TheVariants.{Show as ShowIt, Check as CheckIt, Repair as RepairIt, Bridge as BridgeIt, Build as BuildIt, Stations as StationsIt, Calls as CallsIt, Fragments as FragmentsIt, Soft as SoftIt}
-use Rattle.p25_recordings.specs.declared.reports.show.Show.{Show}
-use Rattle.p25_recordings.specs.declared.reports.check.Check.{Check}
-use Rattle.p25_recordings.specs.declared.reports.changed.Change.TheVariants.{Repaired, Bridged}
+use Rattle.p25_recording_filters.specs.declared.reports.show.Show.{Show}
+use Rattle.p25_recording_filters.specs.declared.reports.check.Check.{Check}
+use Rattle.p25_recording_filters.specs.declared.reports.changed.Change.TheVariants.{Repaired, Bridged}
 use Rattle.p25_tool.specs.Buildings.{build_rules}
-use Rattle.p25_air_world.specs.Runs.{steps_of, world_run}
-use Rattle.p25_air_world.specs.Steps.{world_step}
-use Rattle.p25_air_world.specs.WorldState.{WorldState, first_world}
-use Rattle.p25_air_world.specs.declared.step.Event.{Event}
-use Rattle.p25_air_world.specs.declared.step.Step.{Step}
+use Rattle.p25_stations.specs.Runs.{steps_of, world_run}
+use Rattle.p25_stations.specs.Steps.{world_step}
+use Rattle.p25_stations.specs.WorldState.{WorldState, first_world}
+use Rattle.p25_stations.specs.declared.step.Event.{Event}
+use Rattle.p25_stations.specs.declared.step.Step.{Step}
 use Rattle.p25_script.specs.Script.{event_of}
 use Rattle.p25_tool.specs.StationRules.{station_rules, told_step}
-use Rattle.p25_recordings.specs.Commands.{changed_reporting, check_reporting, show_reporting, CallsParts, calls_reporting}
+use Rattle.p25_recording_filters.specs.Commands.{changed_reporting, check_reporting, show_reporting, CallsParts, calls_reporting}
 use Rattle.p25_tool.specs.Outputs.{closing_line, ending_by, image_octets, step_line, long_closing_line}
-use Rattle.p25_recordings.specs.ItemOutputs.{check_ending, check_line, faults_in, faulty, units_in, soft_output}
+use Rattle.p25_recording_filters.specs.ItemOutputs.{check_ending, check_line, faults_in, faulty, units_in, soft_output}
 use Rattle.p25_calls.specs.Taking.{fresh_caller}
 use Rattle.p25_fragments.specs.LongState.{LongState, first_long}
 use Rattle.p25_fragments.specs.LongSteps.{long_step}
 use Rattle.p25_fragments.specs.LongRuns.{long_run, long_steps_of}
 use Rattle.p25_fragments.specs.declared.long_step.LongEvent.{LongEvent}
 use Rattle.p25_fragments.specs.declared.long_step.LongStep.{LongStep}
-use Rattle.p25_long_script.specs.LongScript.{long_event_of}
-use Rattle.p25_long_script.specs.LongTexts.{long_step_text_of}
+use Rattle.p25_fragment_script.specs.LongScript.{long_event_of}
+use Rattle.p25_fragment_script.specs.LongTexts.{long_step_text_of}
 use Rattle.p25_tool.specs.FragmentRules.{fragment_rules, told_long}
-use Rattle.p25_recordings.specs.Softs.{fresh_soft, soft_future}
-use Rattle.p25_recordings.specs.Recordings.{fresh, recording_future}
+use Rattle.p25_recording_filters.specs.Softs.{fresh_soft, soft_future}
+use Rattle.p25_recording_filters.specs.Recordings.{fresh, recording_future}
 use Rattle.p25_tool.specs.Runs.{command_future}
-use Rattle.p25_recordings.proofs.CallReportsLaws.{reported-calls}
-use Rattle.p25_recordings.proofs.ReportsLaws.{behind-check, reported-changed, reported-check, reported-show}
+use Rattle.p25_recording_filters.proofs.CallReportsLaws.{reported-calls}
+use Rattle.p25_recording_filters.proofs.ReportsLaws.{behind-check, reported-changed, reported-check, reported-show}
 
--- two futures write and end alike, and memory may be wanting behind the same texts
+-- two futures write and end alike, and memory may be wanting after the same texts
 pub record AreAlike (f g : Future) : Type 0 where
   pub writes : (is : Bool) (octets : List ℕ) → f.writes is octets ≡ g.writes is octets
   pub ends : (is : Bool) (octets : List ℕ) → f.ends is octets ≡ g.ends is octets
@@ -118,7 +118,7 @@ build-alike status = record {
   pauses = λ is octets. first_line-pauses read_line_of _ _ false (record { status = status }) is octets;
 }
 
--- the lines of steps, one after the other, and the world behind them
+-- the lines of steps, one after the other, and the world after them
 told : (events : List Event) (world : WorldState) → texts_of told_step world events ≡ map step_line (steps_of world events)
 unfolding texts_of steps_of
 told [] world = refl
@@ -155,7 +155,7 @@ calls-alike report empty = record {
   pauses = λ is octets. refl;
 }
 
--- the texts of steps of long messages, one after the other, and the world behind them
+-- the texts of steps of long messages, one after the other, and the world after them
 told-long : (events : List LongEvent) (world : LongState) → texts_of told_long world events ≡ map long_step_text_of (long_steps_of world events)
 unfolding texts_of long_steps_of
 told-long [] world = refl

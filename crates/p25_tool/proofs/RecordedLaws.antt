@@ -21,7 +21,7 @@ use Rattle.p25_stream.specs.Items.{items_by}
 use Rattle.p25_stream.specs.Repeats.{bridged, bridged_frame, repaired}
 use Rattle.p25_stream.proofs.ArrivalLaws.{covered-whole_of, frame_arrived-sound, units-whole, wholes_of-cons, wholes_of-nil}
 use Rattle.p25_stream.proofs.ItemsLaws.{items_by-nil}
-use Rattle.p25_recordings.specs.ItemOutputs.{changed_bits, check_ending, check_line, faults_in, faulty, shown, units_in, whole_octets}
+use Rattle.p25_recording_filters.specs.ItemOutputs.{changed_bits, check_ending, check_line, faults_in, faulty, shown, units_in, whole_octets}
 use Rattle.p25_tool.specs.Recorded.{AreOctetsOf, BridgesUnits, ChecksUnits, IsRecording, RepairedIsRecorded, RepairsUnits, ShowsUnits, UnitsAreRecorded, undamaged}
 
 -- bits that fill whole octets are those of the octets

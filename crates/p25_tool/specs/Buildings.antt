@@ -1,7 +1,7 @@
 -- The rules of `build`: the image of the unit that a line describes.
 use Rattle.std.specs.Prelude.{false, []}
 use Rattle.p25_text.specs.Grammar.{read_line_of}
-use Rattle.p25_work.specs.LineRules.{LineRules, rules_by}
+use Rattle.p25_filter.specs.LineRules.{LineRules, rules_by}
 use Rattle.p25_tool.specs.declared.build.Build.{Build}
 use Rattle.p25_tool.specs.Outputs.{image_octets}
 

@@ -9,10 +9,10 @@ use Rattle.p25_units.specs.Units.{frame_length_of, image_of}
 use Rattle.p25_units.specs.declared.item.Item.{Item}
 use Rattle.p25_units.specs.declared.item.Item.TheVariants.{Whole}
 use Rattle.p25_stream.specs.Items.{items_of}
-use Rattle.p25_work.specs.Lines.{lines_in, read_of}
+use Rattle.p25_filter.specs.Lines.{lines_in, read_of}
 use Rattle.p25_tool.specs.declared.command.Command.TheVariants.{Show, Build}
 use Rattle.p25_tool.specs.Outputs.{filled_frame, output_by}
-use Rattle.p25_recordings.specs.ItemOutputs.{shown}
+use Rattle.p25_recording_filters.specs.ItemOutputs.{shown}
 
 -- the bits of units with one status symbol everywhere, end to end
 abbrev pub bits_built : Status → List UnitParts → List Bool

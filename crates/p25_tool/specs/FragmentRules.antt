@@ -3,12 +3,12 @@ use Rattle.std.specs.Prelude.{ℕ, List, true}
 use Rattle.p25_fragments.specs.LongState.{LongState}
 use Rattle.p25_fragments.specs.LongSteps.{long_step}
 use Rattle.p25_fragments.specs.declared.long_step.LongEvent.{LongEvent}
-use Rattle.p25_long_script.specs.LongScript.{long_event_of}
-use Rattle.p25_long_script.specs.LongTexts.{long_step_text_of}
-use Rattle.p25_work.specs.LineRules.{LineRules, rules_by}
+use Rattle.p25_fragment_script.specs.LongScript.{long_event_of}
+use Rattle.p25_fragment_script.specs.LongTexts.{long_step_text_of}
+use Rattle.p25_filter.specs.LineRules.{LineRules, rules_by}
 use Rattle.p25_tool.specs.Outputs.{long_closing_line}
 
--- the text of the step that an event is, and the world behind it
+-- the text of the step that an event is, and the world after it
 abbrev pub told_long : LongState → LongEvent → List ℕ × LongState
 told_long world event = (long_step_text_of (long_step world event).1, (long_step world event).0)
 

@@ -4,11 +4,11 @@ use Rattle.std.proofs.Common.{refl, ap}
 use Rattle.p25_line.specs.declared.fault.LineFault.TheVariants.{Long}
 use Rattle.p25_line.specs.Words.{words_or_fault}
 use Rattle.p25_text.specs.Grammar.{read_line_of}
-use Rattle.p25_air_world.specs.WorldState.{WorldState}
+use Rattle.p25_stations.specs.WorldState.{WorldState}
 use Rattle.p25_script.specs.Script.{event_of}
 use Rattle.p25_duplex.specs.DuplexState.{DuplexState}
-use Rattle.p25_work.specs.LineRules.{answer_from}
-use Rattle.p25_work.proofs.LinesLaws.{is_more}
+use Rattle.p25_filter.specs.LineRules.{answer_from}
+use Rattle.p25_filter.proofs.LinesLaws.{is_more}
 use Rattle.p25_tool.specs.declared.build.Build.{Build}
 use Rattle.p25_tool.specs.Buildings.{build_rules}
 use Rattle.p25_duplex_script.specs.DuplexLines.{duplex_event_of}
@@ -16,7 +16,7 @@ use Rattle.p25_tool.specs.DuplexRules.{duplex_rules, told_duplex}
 use Rattle.p25_tool.specs.Outputs.{image_octets}
 use Rattle.p25_tool.specs.StationRules.{station_rules, told_step}
 use Rattle.p25_fragments.specs.LongState.{LongState}
-use Rattle.p25_long_script.specs.LongScript.{long_event_of}
+use Rattle.p25_fragment_script.specs.LongScript.{long_event_of}
 use Rattle.p25_tool.specs.FragmentRules.{fragment_rules, told_long}
 
 read_line_long : (line : List ℕ) → 8192 < length line → read_line_of line ≡ Err Long

@@ -5,12 +5,12 @@ ghost use Rattle.p25_units.specs.Units.{IsSendableBody};
 ghost use Rattle.p25_tool.specs.Outputs.{image_octets};
 
 use p25_bits::BitBuf;
+use p25_filter::{LineMachine, LineRefusal};
 use p25_line::Line;
-use p25_recordings::put_octets;
-use p25_status::{Status, Statuses};
+use p25_recording_filters::put_octets;
+use p25_status::{SENT_BLOCK_LENGTH, Status, Statuses};
 use p25_text::read_line;
 use p25_units::{Frame, Unit, frame_length, image};
-use p25_work::{LineMachine, LineRefusal};
 
 // The units that the lines of an input describe, with one status symbol everywhere.
 #[derive(Drop)]
@@ -57,7 +57,7 @@ fn put_image(unit: Unit, status: Status, out: &mut Line)
     requires { IsSendableBody unit.body }
     ensures { out.new ≡ image_octets status unit }
 {
-    let statuses = Statuses::filled(status, frame_length(&unit) / 72);
+    let statuses = Statuses::filled(status, frame_length(&unit) / SENT_BLOCK_LENGTH);
     let mut bits = BitBuf::new();
     image(&Frame { unit, statuses }, &mut bits);
     out.clear();

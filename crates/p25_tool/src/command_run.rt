@@ -2,16 +2,16 @@
 
 ghost use Rattle.std.specs.Prelude.{◌≡◌, ℕ, ◌≤◌, ◌↔◌, ◌⊎◌, List, [], None, Some, IfSome};
 ghost use Rattle.p25_io.specs.Faults.{Rose};
-ghost use Rattle.p25_work.specs.Runs.{Worked, all_written};
-ghost use Rattle.p25_work.specs.LineWorks.{first_line, line_future};
+ghost use Rattle.p25_filter.specs.Runs.{Filtered, all_written};
+ghost use Rattle.p25_filter.specs.LineFilters.{first_line, line_future};
 ghost use Rattle.p25_tool.specs.Outputs.{CanWantMemory};
-ghost use Rattle.p25_recordings.specs.Recordings.{fresh, recording_future};
-ghost use Rattle.p25_recordings.specs.Softs.{fresh_soft, soft_future};
+ghost use Rattle.p25_recording_filters.specs.Recordings.{fresh, recording_future};
+ghost use Rattle.p25_recording_filters.specs.Softs.{fresh_soft, soft_future};
 ghost use Rattle.p25_tool.specs.Runs.{Ran, answer_of, command_future};
 ghost use Rattle.p25_tool.specs.Scripts.{HasLongRun, HasRun, IsLongScriptOf, IsScriptOf};
 ghost use Rattle.p25_tool.specs.Words.{IsSoundCommand, command_of};
 ghost use Rattle.p25_tool.specs.declared.command.Command.{Command};
-ghost use Rattle.p25_air_world.specs.declared.step.Event.{Event as event_type};
+ghost use Rattle.p25_stations.specs.declared.step.Event.{Event as event_type};
 ghost use Rattle.p25_fragments.specs.declared.long_step.LongEvent.{LongEvent as long_event_type};
 
 use super::build::Build;
@@ -22,9 +22,9 @@ use super::outcome::{Outcome, outcome_of};
 use super::sampling::run_sample;
 use super::stations::Stations;
 use super::words::Words;
+use p25_filter::{FilterEnd, LineFilter, LineMachine, run_filter};
 use p25_io::{Sink, Source};
-use p25_recordings::{Calls, Change, Changed, Check, Recording, Report, Show, Soft};
-use p25_work::{LineMachine, LineWork, WorkEnd, work};
+use p25_recording_filters::{Calls, Change, Changed, Check, Recording, Report, Show, Soft};
 use std::alloc::Global;
 
 /// Does what the words say: reads the source to its end, at most 16,777,216 octets, and writes the answer to the sink.
@@ -87,15 +87,15 @@ fn run_command<S: Source, K: Sink>(
     command: Command,
     source: &mut S,
     sink: &mut K,
-) -> WorkEnd
+) -> FilterEnd
     requires { IsSoundCommand command }
-    ensures worked { Worked (S.left source.old) (S.left source.new) (K.written sink.old) (K.written sink.new) (command_future command) result }
+    ensures worked { Filtered (S.left source.old) (S.left source.new) (K.written sink.old) (K.written sink.new) (command_future command) result }
     ensures unread { (count : ℕ) → command ≡ Command.Sample count → source.new ≡ source.old }
     ensures quiet { (input : List ℕ) → S.left source.old ≡ Some input → all_written (command_future command) input ≡ [] → sink.new ≡ sink.old }
     ensures source_later { S.faults source.old ≤ S.faults source.new }
     ensures sink_later { K.faults sink.old ≤ K.faults sink.new }
-    ensures read_fault { result ≡ WorkEnd.ReadFault → Rose (S.faults source.old) (S.faults source.new) }
-    ensures write_fault { result ≡ WorkEnd.WriteFault → Rose (K.faults sink.old) (K.faults sink.new) }
+    ensures read_fault { result ≡ FilterEnd.ReadFault → Rose (S.faults source.old) (S.faults source.new) }
+    ensures write_fault { result ≡ FilterEnd.WriteFault → Rose (K.faults sink.old) (K.faults sink.new) }
 {
     match command {
         Command::Show => run_report(Show, source, sink),
@@ -119,20 +119,20 @@ fn run_report<R: Report + Drop, S: Source, K: Sink>(
     report: R,
     source: &mut S,
     sink: &mut K,
-) -> WorkEnd
+) -> FilterEnd
     requires counted { R.counted report ≡ 0 }
     requires reached { R.HasReached report 0 }
-    ensures worked { Worked (S.left source.old) (S.left source.new) (K.written sink.old) (K.written sink.new)
+    ensures worked { Filtered (S.left source.old) (S.left source.new) (K.written sink.old) (K.written sink.new)
         (recording_future R.reporting (fresh report)) result }
     ensures quiet { (input : List ℕ) → S.left source.old ≡ Some input → all_written (recording_future R.reporting (fresh report)) input ≡ []
         → sink.new ≡ sink.old }
     ensures source_later { S.faults source.old ≤ S.faults source.new }
     ensures sink_later { K.faults sink.old ≤ K.faults sink.new }
-    ensures read_fault { result ≡ WorkEnd.ReadFault → Rose (S.faults source.old) (S.faults source.new) }
-    ensures write_fault { result ≡ WorkEnd.WriteFault → Rose (K.faults sink.old) (K.faults sink.new) }
+    ensures read_fault { result ≡ FilterEnd.ReadFault → Rose (S.faults source.old) (S.faults source.new) }
+    ensures write_fault { result ≡ FilterEnd.WriteFault → Rose (K.faults sink.old) (K.faults sink.new) }
 {
     let mut recording = Recording::new(report);
-    work(&mut recording, source, sink)
+    run_filter(&mut recording, source, sink)
 }
 
 // The work of a machine on the lines of its input.
@@ -140,29 +140,29 @@ fn run_lines<M: LineMachine + Drop, S: Source, K: Sink>(
     machine: M,
     source: &mut S,
     sink: &mut K,
-) -> WorkEnd
-    ensures worked { Worked (S.left source.old) (S.left source.new) (K.written sink.old) (K.written sink.new)
+) -> FilterEnd
+    ensures worked { Filtered (S.left source.old) (S.left source.new) (K.written sink.old) (K.written sink.new)
         (line_future M.rules (first_line machine)) result }
     ensures quiet { (input : List ℕ) → S.left source.old ≡ Some input → all_written (line_future M.rules (first_line machine)) input ≡ []
         → sink.new ≡ sink.old }
     ensures source_later { S.faults source.old ≤ S.faults source.new }
     ensures sink_later { K.faults sink.old ≤ K.faults sink.new }
-    ensures read_fault { result ≡ WorkEnd.ReadFault → Rose (S.faults source.old) (S.faults source.new) }
-    ensures write_fault { result ≡ WorkEnd.WriteFault → Rose (K.faults sink.old) (K.faults sink.new) }
+    ensures read_fault { result ≡ FilterEnd.ReadFault → Rose (S.faults source.old) (S.faults source.new) }
+    ensures write_fault { result ≡ FilterEnd.WriteFault → Rose (K.faults sink.old) (K.faults sink.new) }
 {
-    let mut lines = LineWork::new(machine);
-    work(&mut lines, source, sink)
+    let mut lines = LineFilter::new(machine);
+    run_filter(&mut lines, source, sink)
 }
 
 // The work of `soft`.
-fn run_soft<S: Source, K: Sink>(source: &mut S, sink: &mut K) -> WorkEnd
-    ensures worked { Worked (S.left source.old) (S.left source.new) (K.written sink.old) (K.written sink.new) (soft_future fresh_soft) result }
+fn run_soft<S: Source, K: Sink>(source: &mut S, sink: &mut K) -> FilterEnd
+    ensures worked { Filtered (S.left source.old) (S.left source.new) (K.written sink.old) (K.written sink.new) (soft_future fresh_soft) result }
     ensures quiet { (input : List ℕ) → S.left source.old ≡ Some input → all_written (soft_future fresh_soft) input ≡ [] → sink.new ≡ sink.old }
     ensures source_later { S.faults source.old ≤ S.faults source.new }
     ensures sink_later { K.faults sink.old ≤ K.faults sink.new }
-    ensures read_fault { result ≡ WorkEnd.ReadFault → Rose (S.faults source.old) (S.faults source.new) }
-    ensures write_fault { result ≡ WorkEnd.WriteFault → Rose (K.faults sink.old) (K.faults sink.new) }
+    ensures read_fault { result ≡ FilterEnd.ReadFault → Rose (S.faults source.old) (S.faults source.new) }
+    ensures write_fault { result ≡ FilterEnd.WriteFault → Rose (K.faults sink.old) (K.faults sink.new) }
 {
     let mut soft = Soft::new();
-    work(&mut soft, source, sink)
+    run_filter(&mut soft, source, sink)
 }

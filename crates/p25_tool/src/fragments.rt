@@ -3,10 +3,10 @@
 ghost use Rattle.std.specs.Prelude.{◌≡◌};
 ghost use Rattle.p25_fragments.specs.LongState.{first_long};
 
+use p25_filter::{LineMachine, LineRefusal};
+use p25_fragment_script::{long_closing_text, long_step_text, read_long_event};
 use p25_fragments::LongWorld;
 use p25_line::Line;
-use p25_long_script::{long_closing_text, long_step_text, read_long_event};
-use p25_work::{LineMachine, LineRefusal};
 use std::alloc::Global;
 use std::marker::Model;
 

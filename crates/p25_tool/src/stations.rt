@@ -1,12 +1,12 @@
 //! The work of `stations`: each line of the input as the event that it tells of.
 
 ghost use Rattle.std.specs.Prelude.{◌≡◌};
-ghost use Rattle.p25_air_world.specs.WorldState.{first_world};
+ghost use Rattle.p25_stations.specs.WorldState.{first_world};
 ghost use Rattle.p25_tool.specs.Outputs.{step_line};
 
+use p25_filter::{LineMachine, LineRefusal};
 use p25_line::Line;
 use p25_script::{Step, World, closing_text, read_event, step_text};
-use p25_work::{LineMachine, LineRefusal};
 use std::alloc::Global;
 use std::marker::Model;
 
@@ -17,7 +17,7 @@ pub(crate) struct Stations {
 }
 
 impl Model for Stations {
-    ghost use Rattle.p25_air_world.specs.WorldState.{WorldState};
+    ghost use Rattle.p25_stations.specs.WorldState.{WorldState};
 
     ghost Value = { WorldState };
 

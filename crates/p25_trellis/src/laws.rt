@@ -2,12 +2,13 @@
 //! each function states what is proved.
 
 ghost use Rattle.std.specs.Prelude.{◌≡◌, ℕ, ◌*◌, ◌<◌, ◌≤◌, Bool, List, All, length};
+ghost use Rattle.std.specs.List.{concat};
 ghost use Rattle.p25_bits.specs.Distance.{distance_of};
 ghost use Rattle.p25_trellis.specs.Nearest.{nearest_octets, nearest_distance, block_from, half_octets, three_quarter_octets, half_block, three_quarter_block};
-ghost use Rattle.p25_trellis.specs.Tables.{half_point, three_quarter_point};
+ghost use Rattle.p25_trellis.specs.Tables.{half_point, three_quarter_point, point_nibbles, half_rows, three_quarter_rows};
 ghost use Rattle.p25_trellis.specs.Trellis.{IsBlock, IsFirstLeastReading, SomeApart, ArePathsApart, distance_from};
 
-use super::rate::{Half, Rate, ThreeQuarter};
+use super::rate::{HALF_POINTS, Half, NIBBLES, Rate, THREE_QUARTER_POINTS, ThreeQuarter};
 
 /// The sent bits of two different paths of a rate differ in at least `APART` places, and those of some two in no more.
 pub fn paths_apart<R: Rate>()
@@ -64,3 +65,10 @@ pub fn three_quarter_rate_near()
 {
     nearest_laws::<ThreeQuarter>()
 }
+
+/// **Theorem.** The tables of points that the code reads are those of the definitions, row by row, and so are the nibbles of the points.
+pub fn tables_are_as_defined()
+    ensures nibbles { NIBBLES ≡ point_nibbles }
+    ensures half { HALF_POINTS ≡ concat half_rows }
+    ensures three_quarter { THREE_QUARTER_POINTS ≡ concat three_quarter_rows }
+{}

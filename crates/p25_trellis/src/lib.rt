@@ -24,7 +24,7 @@
 mod block;
 mod exact;
 mod interleave;
-mod laws;
+pub mod laws;
 mod least;
 mod path;
 mod queue;
@@ -33,9 +33,5 @@ mod received_costs;
 
 pub use block::{encode_block, read_block};
 pub use interleave::{gather, spread};
-pub use laws::{
-    half_rate_apart, half_rate_near, nearest_laws, paths_apart, three_quarter_rate_apart,
-    three_quarter_rate_near,
-};
 pub use least::{BLOCK_COSTS, read_costs};
-pub use rate::{Half, Rate, ThreeQuarter, tables_are_the_standards};
+pub use rate::{Half, Rate, ThreeQuarter};

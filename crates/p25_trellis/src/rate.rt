@@ -2,8 +2,7 @@
 
 ghost use Rattle.std.specs.Prelude.{◌≡◌, ◌≢◌, ℕ, ◌+◌, ◌*◌, ◌^◌, ◌<◌, ◌≤◌};
 ghost use Rattle.p25_trellis.specs.Trellis.{SomeApart};
-ghost use Rattle.std.specs.List.{concat};
-ghost use Rattle.p25_trellis.specs.Tables.{nibble_distance, point_nibbles, half_rows, three_quarter_rows};
+ghost use Rattle.p25_trellis.specs.Tables.{nibble_distance, point_nibbles};
 
 /// A rate of the trellis code: a table of points with a row for each state and a column for each symbol. The state after
 /// a symbol is that symbol (TIA-102.BAAA, Trellis Coding).
@@ -75,12 +74,12 @@ pub trait Rate {
 }
 
 // The four bits of each point.
-const NIBBLES: [u8; 16] = [
+pub(crate) const NIBBLES: [u8; 16] = [
     0x2, 0xA, 0x7, 0xF, 0xE, 0x6, 0xB, 0x3, 0xD, 0x5, 0x8, 0x0, 0x1, 0x9, 0x4, 0xC,
 ];
 
 // The points of half rate, a row of four for each state.
-const HALF_POINTS: [u8; 16] = [
+pub(crate) const HALF_POINTS: [u8; 16] = [
     0, 15, 12, 3, //
     4, 11, 8, 7, //
     13, 2, 1, 14, //
@@ -88,7 +87,7 @@ const HALF_POINTS: [u8; 16] = [
 ];
 
 // The points of three-quarter rate, a row of eight for each state.
-const THREE_QUARTER_POINTS: [u8; 64] = [
+pub(crate) const THREE_QUARTER_POINTS: [u8; 64] = [
     0, 8, 4, 12, 2, 10, 6, 14, //
     4, 12, 2, 10, 6, 14, 0, 8, //
     1, 9, 5, 13, 3, 11, 7, 15, //
@@ -98,13 +97,6 @@ const THREE_QUARTER_POINTS: [u8; 64] = [
     2, 10, 6, 14, 0, 8, 4, 12, //
     6, 14, 0, 8, 4, 12, 2, 10,
 ];
-
-/// The tables of points that the code reads are those of the standard, row by row, and so are the nibbles of the points.
-pub fn tables_are_the_standards()
-    ensures nibbles { NIBBLES ≡ point_nibbles }
-    ensures half { HALF_POINTS ≡ concat half_rows }
-    ensures three_quarter { THREE_QUARTER_POINTS ≡ concat three_quarter_rows }
-{}
 
 /// Half rate: 12 octets as 48 symbols of two bits.
 pub struct Half;

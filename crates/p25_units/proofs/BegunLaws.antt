@@ -1,8 +1,8 @@
 -- What was read of a unit is true of its bits, and stays so.
 use Rattle.std.proofs.Common.{◌≡◌, ◌≤◌, Bool, List, ◌++◌, length, Option, Some, None, Ok, option_map, sym, ◌∙◌, subst, arith, length-append}
 use Rattle.p25_bch_nid.specs.declared.nid.Nid.{Nid}
-use Rattle.p25_front.specs.Front.{identifier_of}
-use Rattle.p25_front.proofs.FrontLaws.{identifier_of-append}
+use Rattle.p25_unit_front.specs.Front.{identifier_of}
+use Rattle.p25_unit_front.proofs.FrontLaws.{identifier_of-append}
 use Rattle.p25_packet_blocks.specs.declared.head.PacketHead.{PacketHead}
 use Rattle.p25_packet_blocks.specs.UnitReading.{sent_head_of}
 use Rattle.p25_packet_blocks.proofs.UnitLaws.{sent_head_of-append}

@@ -3,8 +3,8 @@ use Rattle.std.proofs.Common.{◌≡◌, ℕ, ◌+◌, ◌*◌, ◌≤◌, Bool,
 use Rattle.std.proofs.lemmas.List.{length-take-le}
 use Rattle.p25_bits.specs.Bits.{part}
 use Rattle.p25_status.specs.Woven.{plain_of}
-use Rattle.p25_front.specs.Front.{front_fixes_of}
-use Rattle.p25_front.proofs.FrontLaws.{front_fixes_of-take}
+use Rattle.p25_unit_front.specs.Front.{front_fixes_of}
+use Rattle.p25_unit_front.proofs.FrontLaws.{front_fixes_of-take}
 use Rattle.p25_voice_units.specs.declared.unit.VoiceUnit.{VoiceUnit}
 use Rattle.p25_packet_blocks.specs.declared.packet.Packet.{Packet as packet_type}
 use Rattle.p25_packet_blocks.specs.Heads.{head_blocks}

@@ -2,8 +2,8 @@
 use Rattle.std.proofs.Common.{◌≡◌, ℕ, ◌%◌, ◌<◌, ◌≤◌, Bool, List, length, take, Option, Some, None, Result, Ok, Err, refl, ap, sym, ◌∙◌, subst, arith}
 use Rattle.std.proofs.lemmas.List.{length-take-le}
 use Rattle.p25_status.specs.declared.fields.Field.{Field}
-use Rattle.p25_front.specs.Front.{identifier_of}
-use Rattle.p25_front.proofs.FrontLaws.{identifier_of-take, identifier_of-fits}
+use Rattle.p25_unit_front.specs.Front.{identifier_of}
+use Rattle.p25_unit_front.proofs.FrontLaws.{identifier_of-take, identifier_of-fits}
 use Rattle.p25_units.specs.Readings.{reading_from}
 use Rattle.p25_units.specs.Items.{covered, place_of, IsSoundItem, item_from, identified_item, unit_item_of}
 use Rattle.p25_units.specs.Needs.{need_of}

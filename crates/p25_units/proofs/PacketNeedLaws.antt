@@ -5,8 +5,8 @@ use Rattle.std.proofs.lemmas.List.{length-take-le}
 use Rattle.p25_status.specs.Sync.{has_sync}
 use Rattle.p25_status.specs.declared.fields.Field.{Field}
 use Rattle.p25_status.proofs.SyncLaws.{has_sync-take}
-use Rattle.p25_front.specs.Front.{identifier_of}
-use Rattle.p25_front.proofs.FrontLaws.{identifier_of-take}
+use Rattle.p25_unit_front.specs.Front.{identifier_of}
+use Rattle.p25_unit_front.proofs.FrontLaws.{identifier_of-take}
 use Rattle.p25_packet_blocks.specs.declared.head.PacketHead.{PacketHead}
 use Rattle.p25_packet_blocks.specs.Heads.{head_blocks}
 use Rattle.p25_packet_blocks.specs.Lengths.{packet_sent_length}

@@ -9,7 +9,7 @@ use Rattle.p25_status.proofs.WovenLaws.{length-statuses_of}
 use Rattle.p25_status.specs.declared.fields.Field.{Field}
 use Rattle.p25_status.specs.declared.fields.Field.TheVariants.{Nid}
 use Rattle.p25_status.specs.declared.symbols.Status.{Status}
-use Rattle.p25_front.specs.Front.{identifier_of}
+use Rattle.p25_unit_front.specs.Front.{identifier_of}
 use Rattle.p25_voice_units.specs.declared.unit.VoiceUnit.{VoiceUnit}
 use Rattle.p25_voice_units.specs.Lengths.{voice_duid, voice_length_of}
 use Rattle.p25_voice_units.specs.Readings.{voice_reading_of}

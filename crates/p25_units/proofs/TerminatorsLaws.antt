@@ -8,8 +8,8 @@ use Rattle.p25_status.specs.Woven.{woven, plain_of, statuses_of}
 use Rattle.p25_status.specs.declared.symbols.Status.{Status}
 use Rattle.p25_status.proofs.WovenLaws.{length-statuses_of}
 use Rattle.p25_bch_nid.specs.NidWord.{nid_word}
-use Rattle.p25_front.specs.Front.{unit_front, identifier_bits}
-use Rattle.p25_front.proofs.FrontLaws.{front_of-sync, front_of-identifier, front_fixes_of-parts, identifier_bits-take}
+use Rattle.p25_unit_front.specs.Front.{unit_front, identifier_bits}
+use Rattle.p25_unit_front.proofs.FrontLaws.{front_of-sync, front_of-identifier, front_fixes_of-parts, identifier_bits-take}
 use Rattle.p25_voice_units.specs.declared.unit.VoiceUnit.TheVariants.{End}
 use Rattle.p25_voice_units.specs.Lengths.{voice_length_of}
 use Rattle.p25_voice_units.specs.Sendable.{IsSendableVoice}

@@ -13,8 +13,8 @@ use Rattle.p25_status.specs.declared.fields.Field.{Field}
 use Rattle.p25_status.specs.declared.fields.Field.TheVariants.{Nid}
 use Rattle.p25_status.specs.declared.symbols.Status.{Status}
 use Rattle.p25_bch_nid.specs.declared.nid.Nid.{Nid as Identifier}
-use Rattle.p25_front.specs.Front.{identifier_of}
-use Rattle.p25_front.proofs.FrontLaws.{identifier_of-take}
+use Rattle.p25_unit_front.specs.Front.{identifier_of}
+use Rattle.p25_unit_front.proofs.FrontLaws.{identifier_of-take}
 use Rattle.p25_voice_units.specs.Lengths.{voice_length_of}
 use Rattle.p25_packet_blocks.specs.Heads.{head_blocks}
 use Rattle.p25_packet_blocks.specs.Reading.{head_reading_of, HasItsLength}

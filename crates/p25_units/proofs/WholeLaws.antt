@@ -7,8 +7,8 @@ use Rattle.p25_status.specs.declared.fields.Field.{Field}
 use Rattle.p25_status.proofs.SyncLaws.{has_sync-distance, has_sync-take}
 use Rattle.p25_bch_nid.specs.NidWord.{nid_word}
 use Rattle.p25_bch_nid.proofs.NidWordLaws.{nid_reading_of-near}
-use Rattle.p25_front.specs.Front.{identifier_bits, identifier_of}
-use Rattle.p25_front.proofs.FrontLaws.{front_of-sync, front_of-identifier, identifier_of-take, identifier_of-fits}
+use Rattle.p25_unit_front.specs.Front.{identifier_bits, identifier_of}
+use Rattle.p25_unit_front.proofs.FrontLaws.{front_of-sync, front_of-identifier, identifier_of-take, identifier_of-fits}
 use Rattle.p25_units.specs.Units.{body_duid, image_of, IsSendableUnit}
 use Rattle.p25_units.specs.Fixes.{fixes_of}
 use Rattle.p25_units.specs.Items.{item_from}

@@ -5,8 +5,8 @@ use Rattle.p25_bits.proofs.DistanceLaws.{distance_of-same}
 use Rattle.p25_status.specs.Sync.{sync_slack, has_sync}
 use Rattle.p25_status.specs.Woven.{plain_of, statuses_of}
 use Rattle.p25_status.proofs.SyncLaws.{has_sync-yes, has_sync-append}
-use Rattle.p25_front.specs.Front.{identifier_bits, identifier_of}
-use Rattle.p25_front.proofs.FrontLaws.{front_of-sync, front_of-identifier, identifier_of-near, identifier_of-append}
+use Rattle.p25_unit_front.specs.Front.{identifier_bits, identifier_of}
+use Rattle.p25_unit_front.proofs.FrontLaws.{front_of-sync, front_of-identifier, identifier_of-near, identifier_of-append}
 use Rattle.p25_voice_units.specs.Images.{voice_image_of}
 use Rattle.p25_voice_units.specs.Lengths.{voice_duid}
 use Rattle.p25_voice_units.proofs.RadiusLaws.{within_itself, received_itself}

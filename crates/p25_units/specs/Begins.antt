@@ -1,7 +1,7 @@
 -- What was read of a unit whose last bits are not there yet.
 use Rattle.std.specs.Prelude.{◌≡◌, ◌≤◌, Bool, List, Option, Some, None, Ok, length}
 use Rattle.p25_bch_nid.specs.declared.nid.Nid.{Nid}
-use Rattle.p25_front.specs.Front.{identifier_of}
+use Rattle.p25_unit_front.specs.Front.{identifier_of}
 use Rattle.p25_packet_blocks.specs.declared.head.PacketHead.{PacketHead}
 use Rattle.p25_packet_blocks.specs.UnitReading.{sent_head_of}
 use Rattle.p25_units.specs.declared.begun.Begun.{Begun}

@@ -3,7 +3,7 @@ use Rattle.std.specs.Prelude.{ℕ, ◌<◌, Bool, List, Option, Some, None, Resu
 use Rattle.p25_status.specs.declared.fields.Field.{Field}
 use Rattle.p25_status.specs.declared.fields.Field.TheVariants.{Nid}
 use Rattle.p25_status.specs.declared.symbols.Status.{Status}
-use Rattle.p25_front.specs.Front.{identifier_of}
+use Rattle.p25_unit_front.specs.Front.{identifier_of}
 use Rattle.p25_voice_units.specs.declared.unit.VoiceUnit.{VoiceUnit}
 use Rattle.p25_units.specs.Fixes.{fixes_of}
 use Rattle.p25_units.specs.Readings.{reading_from}

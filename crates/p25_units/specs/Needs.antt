@@ -4,7 +4,7 @@ use Rattle.std.specs.Prelude.{ℕ, Bool, true, false, cond, nat_eq, nat_lt, List
 use Rattle.p25_status.specs.Sync.{has_sync}
 use Rattle.p25_status.specs.declared.fields.Field.{Field}
 use Rattle.p25_status.specs.declared.fields.Field.TheVariants.{Nid, Duid}
-use Rattle.p25_front.specs.Front.{identifier_of}
+use Rattle.p25_unit_front.specs.Front.{identifier_of}
 use Rattle.p25_voice_units.specs.Lengths.{voice_length_of}
 use Rattle.p25_packet_blocks.specs.declared.head.PacketHead.{PacketHead}
 use Rattle.p25_packet_blocks.specs.Heads.{head_blocks}
@@ -36,7 +36,7 @@ packet_need bits = cond (nat_lt (length bits) 316) (More 316) (head_need (sent_h
 unfoldable pub kind_need : ℕ → List Bool → Need
 kind_need duid bits = cond (nat_eq duid 0xC) (packet_need bits) (voice_need (voice_length_of duid) (length bits))
 
--- what is needed behind an identifier that was read, or none
+-- what is needed after an identifier that was read, or none
 unfoldable pub identified_need : Option (ℕ × ℕ) → List Bool → Need
 identified_need None bits = NoLength Nid
 identified_need (Some nid) bits = kind_need nid.1 bits

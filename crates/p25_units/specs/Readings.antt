@@ -6,7 +6,7 @@ use Rattle.p25_status.specs.Woven.{plain_of, statuses_of}
 use Rattle.p25_status.specs.declared.fields.Field.{Field}
 use Rattle.p25_status.specs.declared.fields.Field.TheVariants.{Nid, Block}
 use Rattle.p25_status.specs.declared.symbols.Status.{Status}
-use Rattle.p25_front.specs.Front.{identifier_of}
+use Rattle.p25_unit_front.specs.Front.{identifier_of}
 use Rattle.p25_voice_units.specs.declared.unit.VoiceUnit.{VoiceUnit}
 use Rattle.p25_voice_units.specs.Readings.{voice_reading_of}
 use Rattle.p25_packet_blocks.specs.declared.block.Slot.{Slot}

@@ -5,7 +5,7 @@ use Rattle.p25_status.specs.Sync.{sync_bits}
 use Rattle.p25_status.specs.Woven.{woven}
 use Rattle.p25_status.specs.declared.symbols.Status.{Status}
 use Rattle.p25_bch_nid.specs.NidWord.{nid_word}
-use Rattle.p25_front.specs.Front.{identifier_bits}
+use Rattle.p25_unit_front.specs.Front.{identifier_bits}
 use Rattle.p25_voice_units.specs.declared.unit.VoiceUnit.TheVariants.{End}
 use Rattle.p25_units.specs.Fixes.{fixes_of}
 use Rattle.p25_units.specs.UnitParts.{UnitParts}

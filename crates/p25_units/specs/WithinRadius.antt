@@ -3,7 +3,7 @@ use Rattle.std.specs.Prelude.{◌≡◌, ◌≤◌, Bool, List, length, take}
 use Rattle.p25_bits.specs.Distance.{distance_of}
 use Rattle.p25_status.specs.Sync.{sync_slack}
 use Rattle.p25_status.specs.Woven.{plain_of, statuses_of}
-use Rattle.p25_front.specs.Front.{identifier_bits}
+use Rattle.p25_unit_front.specs.Front.{identifier_bits}
 use Rattle.p25_voice_units.specs.WithinRadius.{IsVoiceWithin, received_voice}
 use Rattle.p25_packet_blocks.specs.Within.{AreBlocksWithin}
 use Rattle.p25_units.specs.UnitParts.{UnitParts}
@@ -18,7 +18,7 @@ pub record IsFrontWithin (frame : Frame) (sent : List Bool) : Type 0 where
   pub sync : distance_of (take 48 sent) (take 48 (image_of frame)) ≤ sync_slack
   pub identifier : distance_of (take 63 (identifier_bits sent)) (take 63 (identifier_bits (image_of frame))) ≤ 11
 
--- the bits behind the front, without status symbols, have few wrong ones: of a voice unit so few as its codes correct, of a
+-- the bits after the front, without status symbols, have few wrong ones: of a voice unit so few as its codes correct, of a
 -- packet at most two in the header block and in each half-rate block, and one in each three-quarter-rate block
 unfoldable pub IsBodyWithin : Body → List Bool → List Bool → Type 0
 IsBodyWithin (Voice voice) image plain = IsVoiceWithin voice image plain

@@ -1,15 +1,15 @@
 //! What was read of a unit whose last bits are not there yet.
 
 ghost use Rattle.std.specs.Prelude.{◌≡◌, ◌+◌, ◌≤◌, Bool, List, length, drop, option_map};
-ghost use Rattle.p25_front.specs.Front.{identifier_of};
+ghost use Rattle.p25_unit_front.specs.Front.{identifier_of};
 ghost use Rattle.p25_packet_blocks.specs.UnitReading.{sent_head_of};
 ghost use Rattle.p25_units.specs.Begins.{IsBegun};
 
 use p25_bch_nid::Nid;
 use p25_bits::BitBuf;
-use p25_front::read_identifier;
 use p25_packet_blocks::{PacketHead, read_sent_head};
 use p25_status::Field;
+use p25_unit_front::read_identifier;
 
 /// What was read of the unit at a place with a sync, so that nothing is read twice while its bits come: its identifier and,
 /// of a packet, its header, or nothing yet. Contracts see by `IsBegun` that it is true of the bits from that place on.

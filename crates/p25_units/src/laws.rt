@@ -1,6 +1,7 @@
-//! The laws of units. The bodies are empty: each function states what is proved.
+//! All that a scanner has to know of units, what is read from a unit, and what terminators are among all units. Each function
+//! states what is proved, and makes no call.
 
-ghost use Rattle.std.specs.Prelude.{◌≡◌, ℕ, ◌<◌, Bool, List, ◌++◌, Ok, Err, length, take};
+ghost use Rattle.std.specs.Prelude.{◌≡◌, ℕ, ◌<◌, Bool, List, ◌++◌, Ok, Err, length, take, ◌↔◌};
 ghost use Rattle.p25_status.specs.declared.fields.Field.{Field};
 ghost use Rattle.p25_units.specs.Fixes.{fixes_of};
 ghost use Rattle.p25_units.specs.Items.{unit_item_of};
@@ -13,8 +14,10 @@ ghost use Rattle.p25_units.specs.WithinRadius.{IsWithinRadius, received_frame};
 ghost use Rattle.p25_units.specs.declared.frame.Frame.{Frame};
 ghost use Rattle.p25_units.specs.declared.needs.Need.TheVariants.{Length};
 ghost use Rattle.p25_units.specs.declared.item.Item.TheVariants.{Whole};
+ghost use Rattle.p25_status.specs.declared.symbols.Status.{Status};
+ghost use Rattle.p25_units.specs.Terminators.{ErrorsAreFixes, TerminatorIsNear, terminator, terminator_bits};
 
-/// Does nothing: its contract is all that a scanner has to know of units.
+/// **Theorem.** All that a scanner has to know of units.
 ///
 /// - `seen`, `stays`, `waits`: at a place with a sync, what is known stays whatever bits come later, and a number of bits
 ///   that is waited for stays the same until it is there.
@@ -34,7 +37,7 @@ pub fn need_laws()
     ensures begun { BegunStays }
 {}
 
-/// Does nothing: its contract is what units read as.
+/// **Theorem.** What units read as.
 ///
 /// - `length`, `near`, `item`: bits within radius of the image of a sound frame that can be sent have its length, whatever bits
 ///   follow, and read as the frame, with the voice frames and the status symbols that were received; their item is `Whole`.
@@ -55,4 +58,17 @@ pub fn unit_laws()
     ensures fails { (bits : List Bool) (count : ℕ) (fields : List Field) → need_of bits ≡ Length count
         → unit_reading_of (take count bits) ≡ Err fields → 0 < length fields }
     ensures whole_is_near { WholeIsNear }
+{}
+
+/// **Theorem.** What terminators are among all units.
+///
+/// - `sound`: the frame of a terminator is sound exactly where it has two status symbols.
+/// - `sent`: its bits as they are sent are the sync, the identifier, 28 nulls and the status symbols.
+/// - `near`: bits begin with a terminator exactly where the first 144 lie within radius of its frame.
+/// - `fixes`: its fixes are the wrong bits of its sync and of the first 63 of its identifier.
+pub fn terminator_laws()
+    ensures sound { (nac : ℕ) (statuses : List Status) → IsSoundFrame (terminator nac statuses) ↔ (length statuses ≡ 2) }
+    ensures sent { (nac : ℕ) (statuses : List Status) → image_of (terminator nac statuses) ≡ terminator_bits nac statuses }
+    ensures near { TerminatorIsNear }
+    ensures fixes { ErrorsAreFixes }
 {}

@@ -13,22 +13,22 @@ use Rattle.p25_bits.proofs.NumbersLaws.{numbers_from-take, each_below-zero, each
 use Rattle.p25_status.specs.Woven.{plain_of, statuses_of}
 use Rattle.p25_status.specs.declared.symbols.Status.{Status}
 use Rattle.p25_status.proofs.WovenLaws.{length-woven, plain_of-woven, statuses_of-woven}
-use Rattle.p25_front.specs.Front.{front_of, identifier_bits}
-use Rattle.p25_front.proofs.FrontLaws.{front_of-plain_of}
+use Rattle.p25_unit_front.specs.Front.{front_of, identifier_bits}
+use Rattle.p25_unit_front.proofs.FrontLaws.{front_of-plain_of}
 use Rattle.p25_voice_units.specs.declared.voice.VoiceFrame.{VoiceFrame}
 use Rattle.p25_voice_units.specs.declared.unit.VoiceUnit.{VoiceUnit}
 use Rattle.p25_voice_units.specs.declared.unit.VoiceUnit.TheVariants.{Header, Link1, Link2, End, EndLink}
 use Rattle.p25_voice_units.specs.FieldLayouts.{word_places}
 use Rattle.p25_voice_units.specs.Fixes.{wide, voice_looked, link_looked}
 use Rattle.p25_voice_units.specs.Images.{voice_image_of}
-use Rattle.p25_voice_units.specs.Layouts.{link_rows}
+use Rattle.p25_voice_units.specs.Layouts.{ldu_rows}
 use Rattle.p25_voice_units.specs.Lengths.{voice_duid, voice_length_of}
 use Rattle.std.specs.Option.{unwrap_or}
 use Rattle.p25_units.specs.Fixes.{body_looked}
 use Rattle.p25_voice_units.specs.Readings.{frame_places, frame_in, low_places, voice_in}
 use Rattle.p25_voice_units.specs.Sendable.{IsSendableVoice}
 use Rattle.p25_voice_units.proofs.RadiusLaws.{within_from_words, received_itself}
-use Rattle.p25_fields.specs.Layouts.{places_from}
+use Rattle.p25_coded_fields.specs.Layouts.{places_from}
 use Rattle.p25_packet_blocks.specs.Image.{packet_image_of}
 use Rattle.p25_units.specs.Needs.{need_of}
 use Rattle.p25_units.specs.Readings.{unit_reading_of}
@@ -96,14 +96,14 @@ frames-same words counts sent (at ∷ places) fit long test =
     (frame-same at sent (damaged words counts sent) there (length-damaged words counts sent) same)
     (frames-same words counts sent places fit long parts.1)
 
-frames-clear : list_all (λ at. nat_le (at + 144) 1680 && clear ((0, 48) ∷ (48, 63) ∷ link_looked) at) (frame_places link_rows) ≡ true
+frames-clear : list_all (λ at. nat_le (at + 144) 1680 && clear ((0, 48) ∷ (48, 63) ∷ link_looked) at) (frame_places ldu_rows) ≡ true
 unfolding clear frame_places link_looked wide word_places places_from low_places
 frames-clear = refl
 
 voice-same : (counts : List ℕ) (sent : List Bool) → AreCounts ((0, 48) ∷ (48, 63) ∷ link_looked) counts → length sent ≡ 1680
     → voice_in (damaged ((0, 48) ∷ (48, 63) ∷ link_looked) counts sent) ≡ voice_in sent
 unfolding voice_in
-voice-same counts sent fit long = frames-same ((0, 48) ∷ (48, 63) ∷ link_looked) counts sent (frame_places link_rows) fit long frames-clear
+voice-same counts sent fit long = frames-same ((0, 48) ∷ (48, 63) ∷ link_looked) counts sent (frame_places ldu_rows) fit long frames-clear
 
 -- What a unit carries.
 

@@ -12,7 +12,7 @@ use Rattle.p25_golay.specs.Golay18Laws.{short_rows as golay18_rows, short_code a
 use Rattle.p25_golay.specs.Golay24.{IsGolay24}
 use Rattle.p25_golay.specs.Golay24Laws.{check_rows as golay24_rows, code as golay24_code, from_checked as golay24_from}
 use Rattle.p25_reed_solomon.specs.Words.{IsCode}
-use Rattle.p25_fields.specs.Written.{Encodes}
+use Rattle.p25_coded_fields.specs.Written.{Encodes}
 use Rattle.p25_voice_units.specs.Images.{golay18_word, golay24_word, hamming10_word, lsd16_word}
 
 pub golay18_encodes : Encodes IsGolay18 6 golay18_word

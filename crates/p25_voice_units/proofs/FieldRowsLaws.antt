@@ -15,9 +15,9 @@ use Rattle.p25_code.specs.Words.{IsEncoding}
 use Rattle.p25_hamming.specs.Lsd16.{IsLsd16}
 use Rattle.p25_gf64.specs.declared.symbol.Sym.{Sym}
 use Rattle.p25_link.specs.Symbols.{symbol_bits}
-use Rattle.p25_fields.specs.Layouts.{field_bits}
-use Rattle.p25_fields.proofs.SymbolsLaws.{room_at}
-use Rattle.p25_fields.proofs.FieldLaws.{length-places_from, get_or-places_from, part-field_bits}
+use Rattle.p25_coded_fields.specs.Layouts.{field_bits}
+use Rattle.p25_coded_fields.proofs.SymbolsLaws.{room_at}
+use Rattle.p25_coded_fields.proofs.FieldLaws.{length-places_from, get_or-places_from, part-field_bits}
 use Rattle.p25_voice_units.specs.declared.layout.Piece.{Piece}
 use Rattle.p25_voice_units.specs.declared.layout.Piece.TheVariants.{Words, Frame, LowSpeed, Nulls}
 use Rattle.p25_voice_units.specs.FieldLayouts.{words_at, word_places}

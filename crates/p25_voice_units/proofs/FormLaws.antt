@@ -11,12 +11,12 @@ use Rattle.p25_code.specs.Words.{IsEncoding}
 use Rattle.std.proofs.lemmas.List.{take_at}
 use Rattle.p25_gf64.specs.declared.symbol.Sym.{Sym}
 use Rattle.p25_link.specs.Symbols.{symbol_bits}
-use Rattle.p25_front.specs.Front.{unit_front, IsFront}
-use Rattle.p25_front.proofs.FrontLaws.{length-unit_front, IsFront-unit_front, unit_front-only}
-use Rattle.p25_fields.specs.Layouts.{field_layout, sent_in}
-use Rattle.p25_fields.specs.Within.{HasField}
-use Rattle.p25_fields.proofs.FieldLaws.{field_there, field_word}
-use Rattle.p25_fields.proofs.FieldWordsLaws.{field_word_there}
+use Rattle.p25_unit_front.specs.Front.{unit_front, IsFront}
+use Rattle.p25_unit_front.proofs.FrontLaws.{length-unit_front, IsFront-unit_front, unit_front-only}
+use Rattle.p25_coded_fields.specs.Layouts.{field_layout, sent_in}
+use Rattle.p25_coded_fields.specs.Within.{HasField}
+use Rattle.p25_coded_fields.proofs.FieldLaws.{field_there, field_word}
+use Rattle.p25_coded_fields.proofs.FieldWordsLaws.{field_word_there}
 use Rattle.p25_voice_units.specs.declared.layout.Piece.{Piece}
 use Rattle.p25_voice_units.specs.FieldLayouts.{word_places}
 use Rattle.p25_voice_units.specs.Pieces.{piece_length}

@@ -10,8 +10,8 @@ use Rattle.p25_bits.proofs.BitsLaws.{length-bits_of}
 use Rattle.p25_bits.proofs.NumbersLaws.{number_bits-octets, length-number_bits}
 use Rattle.p25_bits.proofs.PartLaws.{length-part, part_joined}
 use Rattle.p25_hamming.specs.Lsd16Laws.{lsd16_is_code}
-use Rattle.p25_fields.specs.Written.{Encodes}
-use Rattle.p25_fields.proofs.FieldLaws.{length-field_bits}
+use Rattle.p25_coded_fields.specs.Written.{Encodes}
+use Rattle.p25_coded_fields.proofs.FieldLaws.{length-field_bits}
 use Rattle.p25_voice_units.specs.declared.layout.Piece.{Piece}
 use Rattle.p25_voice_units.specs.declared.layout.Piece.TheVariants.{Words, Frame, LowSpeed, Nulls}
 use Rattle.p25_voice_units.specs.Pieces.{piece_fits, piece_length}

@@ -1,9 +1,9 @@
 //! Long messages of every number of parts, each answer of a joiner, and the lists of the worlds.
 
-use p25_air_world::{Event, World};
 use p25_duplex::{DuplexEvent, DuplexWorld, Side};
 use p25_fragments::{Joined, Joiner, LongList, LongMessage};
 use p25_messages::{Flips, Message, MessageList};
+use p25_stations::{Event, World};
 use std::test::Fail;
 
 // 4,001 octets, of which no two neighbors are the same.

@@ -1,10 +1,10 @@
 //! Scripts of messages: what each step of the world is, and the counts at the end.
 
 use super::{Row, are_joined, calm, ends, tells};
-use p25_air_world::World;
 use p25_io::SliceSink;
 use p25_line::{Line, LineFault};
 use p25_script::{closing_text, read_event, step_text};
+use p25_stations::World;
 use p25_tool::Outcome;
 use std::alloc::Global;
 

@@ -1,6 +1,6 @@
 use Rattle.std.proofs.Common.{◌≡◌, ◌-◌, ◌*◌, ◌++◌, Bool, false, List, length, replicate, ap, ap₂, ◌∙◌, arith}
 use Rattle.p25_bits.specs.Numbers.{joined_below}
-use Rattle.p25_front.specs.Front.{unit_front}
+use Rattle.p25_unit_front.specs.Front.{unit_front}
 use Rattle.p25_trellis.specs.Nearest.{half_block}
 use Rattle.p25_packet_blocks.specs.Heads.{head_blocks}
 use Rattle.p25_packet_blocks.specs.Whole.{packet_head}

@@ -1,18 +1,18 @@
 use Rattle.std.proofs.Common.{◌≡◌, ◌∙◌, ap, sym, subst}
-use Rattle.p25_work.specs.Futures.{Future}
+use Rattle.p25_filter.specs.Futures.{Future}
 use Rattle.p25_tool.specs.declared.command.Command.{Command}
-use Rattle.p25_recordings.specs.Commands.{ChangedParts, changed_reporting}
-use Rattle.p25_work.specs.LineRules.{LineRules}
-use Rattle.p25_work.specs.LineWorks.{first_line, line_future}
+use Rattle.p25_recording_filters.specs.Commands.{ChangedParts, changed_reporting}
+use Rattle.p25_filter.specs.LineRules.{LineRules}
+use Rattle.p25_filter.specs.LineFilters.{first_line, line_future}
 use Rattle.p25_tool.specs.Buildings.{build_rules}
 use Rattle.p25_tool.specs.StationRules.{station_rules}
 use Rattle.p25_tool.specs.DuplexRules.{duplex_rules}
-use Rattle.p25_recordings.specs.Recordings.{fresh, recording_future}
+use Rattle.p25_recording_filters.specs.Recordings.{fresh, recording_future}
 use Rattle.p25_tool.specs.Runs.{command_future}
 use Rattle.p25_tool.proofs.CommandsLaws.{AreAlike, bridge-alike, build-alike, check-alike, repair-alike, show-alike, stations-alike, calls-alike, fragments-alike, soft-alike}
 use Rattle.p25_tool.proofs.DuplexCommandLaws.{duplex-alike}
 use Rattle.p25_tool.specs.FragmentRules.{fragment_rules}
-use Rattle.p25_work.specs.Runs.{all_written}
+use Rattle.p25_filter.specs.Runs.{all_written}
 use Rattle.p25_tool.proofs.SamplingLaws.{sample-some}
 use Rattle.p25_tool.proofs.RunsLaws.{worked-alike, all_written-alike}
 use Rattle.p25_tool.proofs.command_run.run_command.Goals as goal
@@ -53,7 +53,7 @@ returns-in-Bridge-clause-quiet g c =
     λ input told none.
     c.run_report-in-Bridge.ensures.quiet input told (all_written-alike _ _ (changed-alike _ _ _ _ c.new-in-Bridge.ensures c.in-Bridge.is (bridge-alike c.in-Bridge.nac c.in-Bridge.status)) input none)
 
--- the same of the rules of a machine that is the one named
+-- what is said of the rules of a machine is said of those of one that is named otherwise
 lines-alike : {M : Type 0} (rules : LineRules M) (made named : M) (command asked : Command) → made ≡ named → asked ≡ command → AreAlike (line_future rules (first_line named)) (command_future command)
     → AreAlike (line_future rules (first_line made)) (command_future asked)
 lines-alike rules made named command asked same is alike =

@@ -1,7 +1,7 @@
 use Rattle.std.proofs.Common.{◌≡◌, ℕ, ◌+◌, ◌*◌, ◌/◌, ◌≤◌, ◌++◌, ◌-◌, List, length, take, drop, ap, sym, subst, ◌∙◌, arith}
 use Rattle.p25_bits.specs.Bits.{part}
 use Rattle.p25_gf64.specs.declared.symbol.Sym.{Sym}
-use Rattle.p25_fields.specs.Layouts.{field_bits}
+use Rattle.p25_coded_fields.specs.Layouts.{field_bits}
 use Rattle.p25_voice_units.specs.Images.{contents}
 use Rattle.p25_voice_units.proofs.ImageSteps.{piece_bits-words, piece_bits-frame, piece_bits-low, piece_bits-nulls, words_fit, bits_of-nulls}
 use Rattle.p25_voice_units.proofs.image.put_piece.Goals as goal

@@ -1,5 +1,5 @@
 use Rattle.p25_link.specs.Words.{link_of_symbols}
-use Rattle.p25_fields.specs.Layouts.{places_from, field_reading_of}
+use Rattle.p25_coded_fields.specs.Layouts.{places_from, field_reading_of}
 use Rattle.p25_voice_units.specs.FieldLayouts.{word_places, link_layout}
 use Rattle.p25_voice_units.specs.Readings.{link_in}
 use Rattle.p25_voice_units.proofs.ReadLaws.{part_some, part_none}

@@ -1,7 +1,7 @@
 use Rattle.std.proofs.Common.{◌/◌, Some, sym, ap, ◌∙◌}
 use Rattle.p25_reed_solomon.specs.RsReadings.{rs_marked_reading_of}
-use Rattle.p25_fields.specs.Layouts.{field_layout}
-use Rattle.p25_fields.proofs.CodesLaws.{field_found, field_beyond}
+use Rattle.p25_coded_fields.specs.Layouts.{field_layout}
+use Rattle.p25_coded_fields.proofs.CodesLaws.{field_found, field_beyond}
 use Rattle.p25_voice_units.proofs.read.read_symbols.Goals as goal
 
 pub returns-in-Found : goal.returns-in-Found

@@ -5,7 +5,7 @@ use Rattle.p25_fragments.specs.declared.long_step.Then.{Then}
 use Rattle.p25_fragments.specs.Inside.{state_of}
 use Rattle.p25_fragments.specs.LongState.{LongState, LongParts}
 use Rattle.p25_fragments.specs.LongSteps.{after_kind, with_first, inner_happened}
-use Rattle.p25_air_world.specs.Steps.{world_step}
+use Rattle.p25_stations.specs.Steps.{world_step}
 use Rattle.p25_fragments.proofs.HappenSteps.{IsMarked, marked-ended, marked-same, happened, acknowledged-arm, delivered-arm, syn-arm, other-arm}
 use Rattle.p25_fragments.proofs.long_world.LongWorld.happen.Goals as goal
 use Rattle.p25_fragments.proofs.long_world.LongWorld.happen.Goals.{then-sessions, else-sessions, in-Acknowledged, in-Delivered, in-SynHeard, in_default}

@@ -1,5 +1,5 @@
 use Rattle.std.proofs.Common.{refl, ap, sym}
-use Rattle.p25_work.specs.LineRules.{answer_from}
+use Rattle.p25_filter.specs.LineRules.{answer_from}
 use Rattle.p25_tool.specs.DuplexRules.{told_duplex}
 use Rattle.p25_tool.proofs.duplex.DuplexLineMachine.take.Goals as goal
 

@@ -1,5 +1,5 @@
 use Rattle.std.proofs.Common.{refl, ap, sym}
-use Rattle.p25_work.specs.LineRules.{answer_from}
+use Rattle.p25_filter.specs.LineRules.{answer_from}
 use Rattle.p25_tool.specs.FragmentRules.{told_long}
 use Rattle.p25_tool.proofs.fragments.FragmentsLineMachine.take.Goals as goal
 

@@ -1,5 +1,5 @@
 use Rattle.std.proofs.Common.{refl, ap, sym}
-use Rattle.p25_work.specs.LineRules.{answer_from}
+use Rattle.p25_filter.specs.LineRules.{answer_from}
 use Rattle.p25_tool.specs.StationRules.{told_step}
 use Rattle.p25_tool.proofs.stations.StationsLineMachine.take.Goals as goal
 

@@ -1,3 +1,0 @@
-pub mod AirLoopLaws
-pub mod AirLaws
-pub mod FewFlipsLaws

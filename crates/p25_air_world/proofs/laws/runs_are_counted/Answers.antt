@@ -1,7 +1,0 @@
-use Rattle.p25_air_world.proofs.CleanLaws.{run-counted}
-use Rattle.p25_air_world.proofs.TriesLaws.{run-sixteen}
-use Rattle.p25_air_world.proofs.FalsePassLaws.{clean-from_none, none-from_clean}
-use Rattle.p25_air_world.proofs.laws.runs_are_counted.Goals as goal
-
-pub returns : goal.returns
-returns c = record { sessions = run-counted; tries = run-sixteen; clean = clean-from_none; none = none-from_clean }

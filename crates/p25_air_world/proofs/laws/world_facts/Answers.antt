@@ -1,6 +1,0 @@
-use Rattle.p25_air_world.proofs.SimulationLaws.{is-world_of}
-use Rattle.p25_air_world.proofs.CleanLaws.{run-facts}
-use Rattle.p25_air_world.proofs.laws.world_facts.Goals as goal
-
-pub returns : goal.returns
-returns c = record { link = is-world_of; facts = run-facts }

@@ -1,9 +1,0 @@
-use Rattle.p25_air_world.specs.WorldState.{first_world}
-use Rattle.p25_air_world.proofs.StepListsLaws.{run-delivered, run-sent}
-use Rattle.p25_air_world.proofs.step_laws.steps_tell_lists.Goals as goal
-
-pub returns-clause-delivered : goal.returns-clause-delivered
-returns-clause-delivered c events = run-delivered events first_world
-
-pub returns-clause-sent : goal.returns-clause-sent
-returns-clause-sent c events = run-sent events first_world

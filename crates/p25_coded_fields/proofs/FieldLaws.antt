@@ -1,0 +1,131 @@
+-- A field is there where the inner words of its symbols stand at its places: joined over the places, the symbols that the words begin
+-- with are the groups of symbols joined, and these are all of them. The bits of a field that was written have them a step apart.
+use Rattle.std.proofs.Common.{◌≡◌, ℕ, zero, suc, ◌+◌, ◌*◌, ◌<◌, ◌≤◌, Bool, List, [], ◌∷◌, ◌++◌, length, take, get_or, All, refl, ap, ap₂, sym, ◌∙◌, subst, arith}
+use Rattle.std.specs.List.{flat_map}
+use Rattle.std.proofs.Math.Nat.{mul-suc}
+use Rattle.std.proofs.lemmas.List.{append-nil, take_all, take_more}
+use Rattle.std.proofs.lemmas.List.Concat.{flat_map-append}
+use Rattle.p25_bits.specs.Bits.{part}
+use Rattle.p25_bits.specs.Numbers.{joined_below}
+use Rattle.p25_bits.proofs.PartLaws.{length-part}
+use Rattle.p25_bits.proofs.NumbersLaws.{joined_below-zero, joined_below-suc, joined_below-same, joined_below-parts, length-joined_below, part-joined_below}
+use Rattle.p25_code.specs.Words.{IsEncoding}
+use Rattle.p25_gf64.specs.declared.symbol.Sym.{Sym}
+use Rattle.p25_link.specs.Symbols.{symbols_in, symbol_bits}
+use Rattle.p25_link.proofs.SymbolsLaws.{length-symbol_bits, symbols_in-symbol_bits}
+use Rattle.p25_coded_fields.specs.Layouts.{Layout, places_from, sent_in, field_bits}
+use Rattle.p25_coded_fields.specs.Written.{Encodes, IsWritten}
+use Rattle.p25_coded_fields.specs.Within.{HasField}
+use Rattle.p25_coded_fields.proofs.SymbolsLaws.{room_at, symbols_in-take}
+
+-- places a step apart
+pub places_from-suc : (at step count : ℕ) → places_from at step (suc count) ≡ at ∷ places_from (at + step) step count
+unfolding places_from
+places_from-suc at step count = refl
+
+pub length-places_from : (at step count : ℕ) → length (places_from at step count) ≡ count
+unfolding places_from
+length-places_from at step zero = refl
+length-places_from at step (suc count) = ap suc (length-places_from (at + step) step count)
+
+pub get_or-places_from : (at step count i d : ℕ) → i < count → get_or (places_from at step count) i d ≡ at + step * i
+unfolding places_from
+get_or-places_from at step zero i d inside = absurd (omega arith)
+get_or-places_from at step (suc count) zero d inside = omega arith
+get_or-places_from at step (suc count) (suc i) d inside = omega (arith, get_or-places_from (at + step) step count i d (omega arith), mul-suc step i)
+
+-- what each element of a list gives, joined, by its place
+pub flat_map_by_place : {X Y : Type 0} (f : X → List Y) (xs : List X) (d : X) (n : ℕ) → n ≤ length xs → flat_map f (take n xs) ≡ joined_below n (λ i. f (get_or xs i d))
+flat_map_by_place f xs d zero inside = sym (joined_below-zero (λ i. f (get_or xs i d)))
+flat_map_by_place f xs d (suc n) inside =
+    let one : suc n ≡ n + 1 = omega arith in
+    ap (λ k. flat_map f (take k xs)) one
+    ∙ ap (flat_map f) (take_more xs n d (omega arith))
+    ∙ flat_map-append f (take n xs) (get_or xs n d ∷ [])
+    ∙ ap₂ (λ (us vs : List _). us ++ vs) (flat_map_by_place f xs d n (omega arith)) (append-nil (f (get_or xs n d)))
+    ∙ sym (joined_below-suc n (λ i. f (get_or xs i d)))
+
+-- the symbols that a word begins with whose information are their bits
+encoding_symbols : {IsWord : List Bool → Type 0} (k each : ℕ) (symbols : List Sym) (word : List Bool) → 6 * each ≡ k → length symbols ≡ each → k ≤ length word → IsEncoding IsWord k (symbol_bits symbols) word → symbols_in each word ≡ symbols
+encoding_symbols k each symbols word sixes long fits is =
+    let inside : 6 * each ≤ k = omega arith in
+    let there : 6 * each ≤ length word = omega arith in
+    sym (symbols_in-take each k word inside there) ∙ ap (symbols_in each) is.begins ∙ symbols_in-symbol_bits each symbols long
+
+module _ {IsInnerWord : List Bool → Type 0} {IsOuterWord : List Sym → Type 0} where
+  -- a field is there where the words of its symbols stand at its places
+  pub field_there : (layout : Layout) (k : ℕ) (symbols : List Sym) (sent : List Bool) → 6 * layout.each ≡ k → k ≤ layout.size → layout.each * length layout.places ≡ length symbols
+      → All (λ at. at + layout.size ≤ length sent) layout.places → IsOuterWord symbols
+      → ((i d : ℕ) → i < length layout.places → IsEncoding IsInnerWord k (symbol_bits (part (layout.each * i) layout.each symbols)) (part (get_or layout.places i d) layout.size sent))
+      → HasField IsInnerWord IsOuterWord layout (take layout.information symbols) sent
+  unfolding sent_in
+  field_there layout k symbols sent sixes fits covers there outer words = record {
+    inner = λ i d inside. (words i d inside).word_of_set;
+    outer = subst IsOuterWord (sym same) outer;
+    begins = ap (take layout.information) same;
+  }
+    where
+      places : List ℕ
+      places = layout.places
+
+      each : ℕ
+      each = layout.each
+
+      group : (i : ℕ) → i < length places → symbols_in each (part (get_or places i 0) layout.size sent) ≡ part (each * i) each symbols
+      group i inside =
+          let long = length-part (get_or places i 0) layout.size sent (there i 0 inside) in
+          encoding_symbols {IsWord = IsInnerWord} k each (part (each * i) each symbols) (part (get_or places i 0) layout.size sent) sixes
+          (length-part (each * i) each symbols (room_at each i (length places) (length symbols) inside covers)) (omega arith) (words i 0 inside)
+
+      same : flat_map (λ at. symbols_in each (part at layout.size sent)) places ≡ symbols
+      same =
+          let every : length places ≤ length places = omega arith in
+          let all : length symbols ≤ each * length places = omega arith in
+          ap (flat_map (λ at. symbols_in each (part at layout.size sent))) (sym (take_all (length places) places every))
+          ∙ flat_map_by_place (λ at. symbols_in each (part at layout.size sent)) places 0 (length places) every
+          ∙ joined_below-same (length places) (λ i. symbols_in each (part (get_or places i 0) layout.size sent)) (λ i. part (0 + each * i) each symbols)
+          (λ i inside. let same_place : each * i ≡ 0 + each * i = omega arith in group i inside ∙ ap (λ n. part n each symbols) same_place)
+          ∙ joined_below-parts 0 each (length places) symbols
+          ∙ take_all (each * length places) symbols all
+
+  -- a field that was written is there
+  pub written_field : (layout : Layout) (k count : ℕ) (symbols : List Sym) (old new : List Bool) → 6 * layout.each ≡ k → k ≤ layout.size → layout.each * count ≡ length symbols
+      → layout.places ≡ places_from (length old) layout.size count → IsOuterWord symbols
+      → IsWritten IsInnerWord layout.size k layout.each count symbols old new → HasField IsInnerWord IsOuterWord layout (take layout.information symbols) new
+  written_field layout k count symbols old new sixes fits covers stand outer is =
+      field_there layout k symbols new sixes fits (ap (λ n. layout.each * n) many ∙ covers) (λ i d inside. room i d (subst (λ n. i < n) many inside)) outer (λ i d inside. word i d (subst (λ n. i < n) many inside))
+    where
+      many : length layout.places ≡ count
+      many = ap length stand ∙ length-places_from (length old) layout.size count
+
+      place : (i d : ℕ) → i < count → get_or layout.places i d ≡ length old + layout.size * i
+      place i d inside = ap (λ ps. get_or ps i d) stand ∙ get_or-places_from (length old) layout.size count i d inside
+
+      room : (i d : ℕ) → i < count → get_or layout.places i d + layout.size ≤ length new
+      room i d inside = omega (arith, place i d inside, is.long, room_at layout.size i count (layout.size * count) inside refl)
+
+      word : (i d : ℕ) → i < count → IsEncoding IsInnerWord k (symbol_bits (part (layout.each * i) layout.each symbols)) (part (get_or layout.places i d) layout.size new)
+      word i d inside = subst (λ at. IsEncoding IsInnerWord k (symbol_bits (part (layout.each * i) layout.each symbols)) (part at layout.size new)) (sym (place i d inside)) (is.words i inside)
+
+-- the bits of symbols, by places
+module _ {IsWord : List Bool → Type 0} {size k : ℕ} (long : (word : List Bool) → IsWord word → length word ≡ size) (encoding : List Bool → List Bool) (encodes : Encodes IsWord k encoding) where
+  -- the inner word of a group
+  pub field_word : (each count : ℕ) (symbols : List Sym) → 6 * each ≡ k → each * count ≡ length symbols → (i : ℕ) → i < count
+      → IsEncoding IsWord k (symbol_bits (part (each * i) each symbols)) (encoding (symbol_bits (part (each * i) each symbols)))
+  field_word each count symbols sixes covers i inside =
+      let group = part (each * i) each symbols in
+      encodes (symbol_bits group) (length-symbol_bits group ∙ ap (λ n. 6 * n) (length-part (each * i) each symbols (room_at each i count (length symbols) inside covers)) ∙ sixes)
+
+  -- each is as long as the others
+  field_word-long : (each count : ℕ) (symbols : List Sym) → 6 * each ≡ k → each * count ≡ length symbols → (i : ℕ) → i < count → length (encoding (symbol_bits (part (each * i) each symbols))) ≡ size
+  field_word-long each count symbols sixes covers i inside = long _ (field_word each count symbols sixes covers i inside).word_of_set
+
+  pub length-field_bits : (each count : ℕ) (symbols : List Sym) → 6 * each ≡ k → each * count ≡ length symbols → length (field_bits encoding each count symbols) ≡ size * count
+  unfolding field_bits
+  length-field_bits each count symbols sixes covers = length-joined_below size count (λ i. encoding (symbol_bits (part (each * i) each symbols))) (field_word-long each count symbols sixes covers)
+
+  pub part-field_bits : (each count : ℕ) (symbols : List Sym) → 6 * each ≡ k → each * count ≡ length symbols → (i : ℕ) → i < count
+      → part (size * i) size (field_bits encoding each count symbols) ≡ encoding (symbol_bits (part (each * i) each symbols))
+  unfolding field_bits
+  part-field_bits each count symbols sixes covers i inside =
+      part-joined_below size count (λ j. encoding (symbol_bits (part (each * j) each symbols))) i (field_word-long each count symbols sixes covers) inside

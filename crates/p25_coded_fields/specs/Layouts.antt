@@ -1,0 +1,58 @@
+-- Fields of units: each is an outer word of symbols, carried by inner words of bits at places of the unit.
+use Rattle.std.specs.Prelude.{ℕ, zero, suc, ◌+◌, ◌*◌, Bool, List, [], ◌∷◌, take, map, replicate, Option, Some, None, option_map}
+use Rattle.std.specs.List.{flat_map}
+use Rattle.p25_bits.specs.Bits.{part}
+use Rattle.p25_bits.specs.Numbers.{joined_below}
+use Rattle.p25_gf64.specs.declared.symbol.Sym.{Sym}
+use Rattle.p25_link.specs.Symbols.{symbols_in, symbol_bits}
+
+-- where the inner words of a field stand, how many bits one has and how many symbols its information is, how inner and outer
+-- words are read, and how many symbols of the outer word are the information
+pub record Layout : Type 0 where
+  pub places : List ℕ
+  pub size : ℕ
+  pub each : ℕ
+  pub inner_reading : List Bool → Option (List Bool)
+  pub outer_reading : List (Option Sym) → Option (List Sym)
+  pub information : ℕ
+
+abbrev pub field_layout : List ℕ → ℕ → ℕ → (List Bool → Option (List Bool)) → (List (Option Sym) → Option (List Sym)) → ℕ → Layout
+field_layout places size each inner_reading outer_reading information = record {
+  places = places;
+  size = size;
+  each = each;
+  inner_reading = inner_reading;
+  outer_reading = outer_reading;
+  information = information;
+}
+
+-- so many places, each a step after the one before
+unfoldable pub places_from : ℕ → ℕ → ℕ → List ℕ
+places_from at step zero = []
+places_from at step (suc count) = at ∷ places_from (at + step) step count
+
+-- the symbols that an inner word gives the outer one: those that its information writes, or a mark for each where no inner
+-- word was read
+unfoldable pub marks_of : ℕ → Option (List Bool) → List (Option Sym)
+marks_of each (Some word) = map Some (symbols_in each word)
+marks_of each None = replicate each None
+
+-- the outer word of a field as it was received, with marks
+unfoldable pub received_in : Layout → List Bool → List (Option Sym)
+received_in layout bits = flat_map (λ at. marks_of layout.each (layout.inner_reading (part at layout.size bits))) layout.places
+
+-- the outer word that a field is read as, or none
+unfoldable pub outer_word_of : Layout → List Bool → Option (List Sym)
+outer_word_of layout bits = layout.outer_reading (received_in layout bits)
+
+-- the information of a field, or none where the field fails
+unfoldable pub field_reading_of : Layout → List Bool → Option (List Sym)
+field_reading_of layout bits = option_map (take layout.information) (outer_word_of layout bits)
+
+-- the outer word of a field as it was sent
+unfoldable pub sent_in : Layout → List Bool → List Sym
+sent_in layout bits = flat_map (λ at. symbols_in layout.each (part at layout.size bits)) layout.places
+
+-- the bits of symbols, each group of so many encoded as one inner word
+unfoldable pub field_bits : (List Bool → List Bool) → ℕ → ℕ → List Sym → List Bool
+field_bits encoding each count symbols = joined_below count (λ i. encoding (symbol_bits (part (each * i) each symbols)))

@@ -1,0 +1,47 @@
+//! Fields written.
+
+ghost use Rattle.std.specs.Prelude.{◌≡◌, ◌+◌, ◌*◌, ◌/◌, ◌≤◌, List, Bool, ◌++◌, length};
+ghost use Rattle.p25_coded_fields.specs.Layouts.{field_bits};
+ghost use Rattle.p25_coded_fields.specs.Written.{Encodes, IsPut, IsWritten};
+
+use crate::symbols::fill_bits;
+use p25_bits::{BitBuf, number_of};
+use p25_code::BlockCode;
+use p25_gf64::Sym;
+
+// Appends the inner word whose information is the symbols.
+fn put_inner<I: BlockCode<Letter = bool>>(symbols: &[Sym], out: &mut BitBuf)
+    requires code { I.HasCode }
+    requires small { I.N ≤ 24 }
+    requires sixes { 6 * length symbols.now ≡ I.K }
+    requires room { length out.old + I.N ≤ 25928 }
+    ensures put { IsPut I.IsWord I.K symbols.now out.old out.new }
+    ensures len { length out.new ≡ length out.old + I.N }
+{
+    let mut bits = [false; 24];
+    let info = &mut bits[..I::K];
+    fill_bits(symbols, info);
+    let mut buffer = [false; 24];
+    let word = &mut buffer[..I::N];
+    I::encode(info, word);
+    out.put_field(number_of(word), I::N as u32);
+}
+
+/// Appends `count` inner words, whose information is the symbols in order, so many for each word as its information has. For
+/// every function that encodes, as the inner code does, what is appended is `field_bits` of it. TIA-102.BAAA, Voice Data
+/// Units.
+pub fn put_field<I: BlockCode<Letter = bool>>(symbols: &[Sym], count: usize, out: &mut BitBuf)
+    requires code { I.HasCode }
+    requires small { I.N ≤ 24 }
+    requires sixes { 6 * (I.K / 6) ≡ I.K }
+    requires symbols { (I.K / 6) * count ≡ length symbols.now }
+    requires room { length out.old + I.N * count ≤ 25928 }
+    ensures written { IsWritten I.IsWord I.N I.K (I.K / 6) count symbols.now out.old out.new }
+    ensures list { (encoding : List Bool → List Bool) → Encodes I.IsWord I.K encoding → out.new ≡ out.old ++ field_bits encoding (I.K / 6) count symbols.now }
+    ensures len { length out.new ≡ length out.old + I.N * count }
+{
+    let each = I::K / 6;
+    for i in 0..count {
+        put_inner::<I>(&symbols[each * i..each * i + each], out);
+    }
+}

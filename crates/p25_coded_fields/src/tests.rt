@@ -1,0 +1,55 @@
+//! A field of two Golay words, each with two symbols of an outer word of four, written and read.
+
+ghost use Rattle.std.specs.Prelude.{◌≡◌, ◌≤◌, length};
+
+use super::{put_field, read_field};
+use p25_bits::BitBuf;
+use p25_code::{BlockCode, Reading};
+use p25_gf64::Sym;
+use p25_golay::Golay24;
+use p25_reed_solomon::Rs;
+
+// The outer code: two symbols of information and two check symbols.
+type Outer = Rs<4, 2>;
+
+// Where the inner words stand, after eight other bits.
+const PLACES: [usize; 2] = [8, 32];
+
+// Inverts bits of the inner word at a place, the first ones.
+fn invert(bits: &mut BitBuf, place: usize, count: usize)
+    requires place { place ≤ 32 }
+    requires count { count ≤ 24 }
+{
+    for i in 0..count {
+        if place + i < bits.len() {
+            bits.flip(place + i);
+        }
+    }
+}
+
+#[test]
+fn fields(rt: HostRuntime) {
+    let mut sent = [Sym::ZERO; 4];
+    Outer::encode(&[Sym::pow_alpha(7), Sym::ONE], &mut sent);
+    for (first, second, read) in [
+        (0, 0, true),
+        (3, 3, true),
+        (4, 3, true),
+        (2, 4, true),
+        (4, 4, false),
+    ] {
+        let mut plain = BitBuf::new();
+        plain.put_field(0xA5, 8);
+        put_field::<Golay24>(&sent, 2, &mut plain);
+        // The information of the first word: α^7 is 6, and then 1.
+        assert_eq!(rt; plain.field(8, 12), 0o0601);
+        invert(&mut plain, PLACES[0], first);
+        invert(&mut plain, PLACES[1], second);
+        assert_eq!(rt; plain.len(), 56);
+        let mut word = [Sym::ZERO; 4];
+        match read_field::<Golay24, Outer>(&plain, &PLACES, &mut word) {
+            Reading::Found { .. } => assert!(rt; read && word == sent, "{first} {second}"),
+            Reading::Beyond => assert!(rt; !read, "{first} {second}"),
+        }
+    }
+}

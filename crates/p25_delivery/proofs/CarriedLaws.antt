@@ -1,0 +1,143 @@
+-- A message is read back of its blocks, in whatever order they come. By recursion on the slots: a block that is put stays,
+-- as only the same block can come to its place again.
+use Rattle.std.proofs.Common.{◌≡◌, ℕ, zero, suc, ◌+◌, ◌-◌, ◌*◌, ◌/◌, ◌%◌, ◌^◌, ◌<◌, ◌≤◌, inl, inr, Bool, true, false, cond, List, [], ◌∷◌, ◌++◌, length, take, drop, get_or, set, replicate, Option, Some, None, refl, ap, sym, ◌∙◌, arith, length-append, zero-add}
+use Rattle.std.specs.Prelude.{nat_lt, nat_le, eqb}
+use Rattle.std.proofs.lemmas.List.{get_or-set_same, get_or-set_other, ext_get_or, take_at, drop_at, length-replicate, take-append-le, append-nil}
+use Rattle.std.proofs.lemmas.Bool.{cases_eq, cond-true, and_from}
+use Rattle.std.proofs.lemmas.Bool.Decides.{nat_tests}
+use Rattle.p25_bits.specs.Bits.{part}
+use Rattle.p25_bits.specs.Numbers.{octets_number, each_below, joined_below}
+use Rattle.p25_bits.proofs.NumbersLaws.{each_below-zero, each_below-suc, length-each_below, get_or-each_below, joined_below-zero, joined_below-suc, joined_below-same, joined_below-parts}
+use Rattle.p25_bits.proofs.PartLaws.{part_whole}
+use Rattle.p25_crc.specs.Values.{crc32_of}
+use Rattle.p25_packet_blocks.specs.Image.{four_octets, checked_octets}
+use Rattle.p25_packet_blocks.specs.Parts.{BlockParts}
+use Rattle.p25_packet_blocks.specs.declared.block.Slot.{Slot}
+use Rattle.p25_packet_blocks.specs.declared.block.Slot.TheVariants.{Good, Bad}
+use Rattle.p25_delivery.specs.MessageBlocks.{block_count, pad_count, message_octets, message_block, unpadded}
+use Rattle.p25_delivery.specs.Places.{put_block, put_slots, before_octets, all_octets}
+use Rattle.p25_delivery.specs.Carried.{AreBlocksOf, HoldsSerial, CarriesMessage, unpadded_option, read_back}
+use Rattle.p25_delivery.proofs.PlacesLaws.{length-put_block, length-put_slots, both_octets, all_octets-append}
+use Rattle.p25_delivery.proofs.MessageBlocksLaws.{octets_number-four, length-message_octets}
+
+-- the number of the packet CRC's octets
+base-256 : (n : ℕ) → 16777216 * (n / 2 ^ 24) + 65536 * (n / 2 ^ 16 % 256) + 256 * (n / 2 ^ 8 % 256) + n % 256 ≡ n
+base-256 n = omega arith
+
+pub octets_number-four_octets : (n : ℕ) → octets_number (four_octets n) ≡ n
+octets_number-four_octets n = octets_number-four (four_octets n) refl ∙ base-256 n
+
+le-true : (m n : ℕ) → m ≤ n → nat_le m n ≡ true
+le-true m n h = grind (arith, nat_tests)
+
+eq-true : (m n : ℕ) → m ≡ n → eqb m n ≡ true
+eq-true m n e = grind (arith, nat_tests)
+
+-- octets with their packet CRC after them
+pub unpadded-is : (front check : List ℕ) (pad : ℕ) → length check ≡ 4 → octets_number check ≡ crc32_of front → pad ≤ length front → unpadded (front ++ check) pad ≡ Some (take (length front - pad) front)
+unfolding unpadded
+unpadded-is front check pad four agrees small =
+    let count : length (front ++ check) - 4 ≡ length front = omega (arith, length-append front check) in
+    let front_is : take (length (front ++ check) - 4) (front ++ check) ≡ front = take_at front check (length (front ++ check) - 4) (sym count) in
+    let check_is : drop (length (front ++ check) - 4) (front ++ check) ≡ check = drop_at front check (length (front ++ check) - 4) (sym count) in
+    let fits : nat_le pad (length (front ++ check) - 4) ≡ true = le-true pad (length (front ++ check) - 4) (omega arith) in
+    let right : eqb (octets_number (drop (length (front ++ check) - 4) (front ++ check))) (crc32_of (take (length (front ++ check) - 4) (front ++ check))) ≡ true
+    = eq-true _ _ (ap octets_number check_is ∙ agrees ∙ ap crc32_of (sym front_is)) in
+    let short : length (front ++ check) - 4 - pad ≡ length front - pad = omega arith in
+    cond-true _ _ _ (and_from _ _ fits right) ∙ ap (λ (n : ℕ). Some (take n (front ++ check))) short ∙ ap (λ (xs : List ℕ). Some xs) (take-append-le (length front - pad) front check (omega arith))
+
+-- the octets of a message's blocks
+pub message-read_back : (message : List ℕ) → unpadded (message_octets message) (pad_count (length message)) ≡ Some message
+unfolding message_octets checked_octets
+message-read_back message =
+    let pad = pad_count (length message) in
+    let zeros = replicate pad 0 in
+    let many : length zeros ≡ pad = length-replicate {A = ℕ} pad 0 in
+    let count : length (message ++ zeros) - pad ≡ length message = omega (arith, length-append message zeros, many) in
+    unpadded-is (message ++ zeros) (four_octets (crc32_of (message ++ zeros))) pad refl (octets_number-four_octets (crc32_of (message ++ zeros))) (omega (arith, length-append message zeros, many)) ∙
+    ap (λ (xs : List ℕ). Some xs) (take_at message zeros (length (message ++ zeros) - pad) (sym count))
+
+lt-true : (m n : ℕ) → m < n → nat_lt m n ≡ true
+lt-true m n h = grind (arith, nat_tests)
+
+-- where a block is put, and where the others stay
+pub put_block-here : (places : List (Option BlockParts)) (block : BlockParts) (j : ℕ) → j < length places → block.serial ≡ j → get_or (put_block places block) j None ≡ Some block
+unfolding put_block
+put_block-here places block j h e =
+    let there : nat_lt block.serial (length places) ≡ true = lt-true block.serial (length places) (omega arith) in
+    ap (λ (ps : List (Option BlockParts)). get_or ps j None) (cond-true (nat_lt block.serial (length places)) (set places block.serial (Some block)) places there) ∙ ap (λ (k : ℕ). get_or (set places k (Some block)) j None) e ∙
+    get_or-set_same places j (Some block) None h
+
+pub put_block-other : (places : List (Option BlockParts)) (block : BlockParts) (j : ℕ) → (block.serial ≡ j → ⊥) → get_or (put_block places block) j None ≡ get_or places j None
+unfolding put_block
+put_block-other places block j n =
+    elim (nat_lt block.serial (length places)) as (λ (b : Bool). get_or (cond b (set places block.serial (Some block)) places) j None ≡ get_or places j None) [
+      | true ↦ get_or-set_other places block.serial j (Some block) None (λ e. n (sym e))
+      | false ↦ refl
+    ]
+
+-- a block that is held stays
+pub put_slots-stays : (message : List ℕ) (slots : List Slot) (places : List (Option BlockParts)) (j : ℕ) → AreBlocksOf message slots → j < length places → get_or places j None ≡ Some (message_block message j) →
+    get_or (put_slots places slots) j None ≡ Some (message_block message j)
+unfolding AreBlocksOf put_slots
+put_slots-stays message [] places j are h held = held
+put_slots-stays message (Bad ∷ slots) places j are h held = put_slots-stays message slots places j are h held
+put_slots-stays message (Good block ∷ slots) places j are h held =
+    let same : get_or (put_block places block) j None ≡ Some (message_block message j)
+    = elim (cases_eq block.serial j) [
+      | inl e ↦ put_block-here places block j h e ∙ ap (λ (b : BlockParts). Some b) are.0 ∙ ap (λ (k : ℕ). Some (message_block message k)) e
+      | inr n ↦ put_block-other places block j n ∙ held
+    ] in
+    put_slots-stays message slots (put_block places block) j are.1 (omega (arith, length-put_block places block)) same
+
+-- a block that comes is held
+pub put_slots-comes : (message : List ℕ) (slots : List Slot) (places : List (Option BlockParts)) (j : ℕ) → AreBlocksOf message slots → j < length places → HoldsSerial j slots →
+    get_or (put_slots places slots) j None ≡ Some (message_block message j)
+unfolding AreBlocksOf HoldsSerial put_slots
+put_slots-comes message [] places j are h holds = absurd holds
+put_slots-comes message (Bad ∷ slots) places j are h holds = put_slots-comes message slots places j are h holds
+put_slots-comes message (Good block ∷ slots) places j are h (inl e) =
+    put_slots-stays message slots (put_block places block) j are.1 (omega (arith, length-put_block places block)) (put_block-here places block j h e ∙ ap (λ (b : BlockParts). Some b) are.0 ∙ ap (λ (k : ℕ). Some (message_block message k)) e)
+put_slots-comes message (Good block ∷ slots) places j are h (inr later) =
+    put_slots-comes message slots (put_block places block) j are.1 (omega (arith, length-put_block places block)) later
+
+-- the octets of places that are all held
+pub all_octets-each : (n : ℕ) (block : ℕ → BlockParts) → all_octets (each_below n (λ j. Some (block j))) ≡ Some (joined_below n (λ j. (block j).octets))
+unfolding all_octets
+all_octets-each zero block =
+    ap all_octets (each_below-zero (λ (j : ℕ). Some (block j))) ∙ ap (λ (xs : List ℕ). Some xs) (sym (joined_below-zero (λ (j : ℕ). (block j).octets)))
+all_octets-each (suc n) block =
+    let octets = joined_below n (λ (j : ℕ). (block j).octets) in
+    ap all_octets (each_below-suc n (λ (j : ℕ). Some (block j))) ∙ all_octets-append (each_below n (λ (j : ℕ). Some (block j))) (Some (block n) ∷ []) ∙
+    ap (λ (o : Option (List ℕ)). both_octets o (before_octets (block n).octets (Some []))) (all_octets-each n block) ∙ ap (λ (xs : List ℕ). Some (octets ++ xs)) (append-nil (block n).octets) ∙
+    ap (λ (xs : List ℕ). Some xs) (sym (joined_below-suc n (λ (j : ℕ). (block j).octets)))
+
+-- the blocks of a message joined are its octets
+pub joined-message_blocks : (message : List ℕ) → joined_below (block_count (length message)) (λ j. (message_block message j).octets) ≡ message_octets message
+unfolding message_block
+joined-message_blocks message =
+    let n = block_count (length message) in
+    let octets = message_octets message in
+    joined_below-same n (λ (j : ℕ). part (16 * j) 16 octets) (λ (j : ℕ). part (0 + 16 * j) 16 octets) (λ (j : ℕ) (h : j < n). ap (λ (at : ℕ). part at 16 octets) (sym (zero-add (16 * j)))) ∙ joined_below-parts 0 16 n octets ∙
+    part_whole (16 * n) octets (length-message_octets message)
+
+-- places of a message that are all held
+pub places-of_message : (message : List ℕ) (places : List (Option BlockParts)) → length places ≡ block_count (length message) → ((j : ℕ) → j < block_count (length message) → get_or places j None ≡ Some (message_block message j)) →
+    all_octets places ≡ Some (message_octets message)
+places-of_message message places long held =
+    let n = block_count (length message) in
+    let each : ℕ → Option BlockParts = λ (j : ℕ). Some (message_block message j) in
+    let same : places ≡ each_below n each
+    = ext_get_or None places (each_below n each) (long ∙ sym (length-each_below n each)) (λ (j : ℕ) (h : j < length places). held j (omega arith) ∙ sym (get_or-each_below n each j None (omega arith))) in
+    ap all_octets same ∙ all_octets-each n (message_block message) ∙ ap (λ (xs : List ℕ). Some xs) (joined-message_blocks message)
+
+pub slots-read_back : (message : List ℕ) (slots : List Slot) → CarriesMessage message slots → read_back (block_count (length message)) (pad_count (length message)) slots ≡ Some message
+unfolding read_back unpadded_option
+slots-read_back message slots carries =
+    let n = block_count (length message) in
+    let empty : List (Option BlockParts) = replicate n None in
+    let many : length empty ≡ n = length-replicate n None in
+    let long : length (put_slots empty slots) ≡ n = length-put_slots empty slots ∙ many in
+    let held : (j : ℕ) → j < n → get_or (put_slots empty slots) j None ≡ Some (message_block message j)
+    = λ (j : ℕ) (h : j < n). put_slots-comes message slots empty j carries.blocks (omega arith) (carries.all j h) in
+    ap (λ (found : Option (List ℕ)). unpadded_option found (pad_count (length message))) (places-of_message message (put_slots empty slots) long held) ∙ message-read_back message

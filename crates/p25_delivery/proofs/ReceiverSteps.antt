@@ -1,0 +1,29 @@
+-- What a receiver does once the blocks of a packet are in their places. By the definitions.
+use Rattle.std.proofs.Common.{◌≡◌, ℕ, List, Option, Some, None, refl, ap, sym, ◌∙◌}
+use Rattle.p25_packet_blocks.specs.Parts.{BlockParts}
+use Rattle.p25_packet_blocks.specs.Heads.{head_number}
+use Rattle.p25_packet_blocks.specs.ConfirmedParts.{ConfirmedParts}
+use Rattle.p25_packet_blocks.specs.declared.block.Slot.{Slot}
+use Rattle.p25_delivery.specs.MessageBlocks.{unpadded}
+use Rattle.p25_delivery.specs.Places.{put_slots, all_octets}
+use Rattle.p25_delivery.specs.ReceiverState.{Keeping, Receiving}
+use Rattle.p25_delivery.specs.ReceiverRules.{finished, completed, filled}
+use Rattle.p25_delivery.specs.declared.receiver.Heard.{Heard}
+
+-- of what was kept before, a message that is finished leaves V(R) alone
+pub finished-last : (r s : Receiving) (number : ℕ) (message : Option (List ℕ)) → s.last ≡ r.last → finished s number message ≡ finished r number message
+unfolding finished
+finished-last r s number None e = ap (λ (n : ℕ). finished (record { last = n; kept = None }) number None) e
+finished-last r s number (Some message) e = refl
+
+-- all places are held
+pub filled-whole : (r s : Receiving) (packet : ConfirmedParts) (kept : Keeping) (slots : List Slot) (places : List (Option BlockParts)) (octets : List ℕ) (number pad : ℕ) (message : Option (List ℕ)) (answer : Receiving × Heard) →
+    s.last ≡ r.last → slots ≡ packet.slots → places ≡ put_slots kept.places slots → Some octets ≡ all_octets places → number ≡ head_number packet.head → pad ≡ kept.pad → message ≡ unpadded octets pad → answer ≡ finished s number message →
+    answer ≡ filled r packet (Some kept)
+unfolding filled completed
+filled-whole r s packet kept slots places octets number pad message answer l e p o n d m a =
+    let held : all_octets (put_slots kept.places packet.slots) ≡ Some octets
+    = ap (λ (xs : List Slot). all_octets (put_slots kept.places xs)) (sym e) ∙ ap all_octets (sym p) ∙ sym o in
+    let whole : Option (List ℕ) → Receiving × Heard
+    = λ (found : Option (List ℕ)). completed r (head_number packet.head) (record { places = put_slots kept.places packet.slots; pad = kept.pad }) found in
+    a ∙ finished-last r s number message l ∙ ap (λ (k : ℕ). finished r k message) n ∙ ap (finished r (head_number packet.head)) (m ∙ ap (unpadded octets) d) ∙ ap whole (sym held)

@@ -1,0 +1,5 @@
+use Rattle.p25_delivery.proofs.LinkLaws.{sessions-orderly}
+use Rattle.p25_delivery.proofs.laws.sessions_are_orderly.Goals as goal
+
+pub returns : goal.returns
+returns c = sessions-orderly

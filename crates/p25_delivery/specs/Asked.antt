@@ -1,0 +1,45 @@
+-- What a response asks of a sender.
+use Rattle.std.specs.Prelude.{ℕ, ◌-◌, ◌&&◌, Bool, false, eqb, nat_le, not, List, ◌++◌, length, take, map, replicate, Option, Some, None, if◌then◌else◌}
+use Rattle.std.specs.List.{list_any}
+use Rattle.p25_packet_blocks.specs.Heads.{head_format, head_llid, response_class, response_kind, response_status}
+use Rattle.p25_packet_blocks.specs.FlagOctets.{flags_of_octets}
+use Rattle.p25_packet_blocks.specs.Parts.{PlainParts}
+use Rattle.p25_packet_blocks.specs.declared.head.PacketHead.{PacketHead}
+use Rattle.p25_delivery.specs.SentPackets.{station_llid}
+use Rattle.p25_delivery.specs.declared.asked.Asked.{Asked}
+use Rattle.p25_delivery.specs.declared.asked.Asked.TheVariants.{Nothing, NextMessage, WholeMessage, Blocks}
+
+-- a response to this station: format 03 hex, with its LLID
+unfoldable pub is_response : PacketHead → Bool
+is_response head = eqb (head_format head) 3 && eqb (head_llid head) station_llid
+
+-- ACK of a number: class 0, type 1
+unfoldable pub is_ack : PacketHead → ℕ → Bool
+is_ack head number = eqb (response_class head) 0 && eqb (response_kind head) 1 && eqb (response_status head) number
+
+-- NACK of the packet CRC: class 1, type 1
+unfoldable pub is_crc_nack : PacketHead → ℕ → Bool
+is_crc_nack head number = eqb (response_class head) 1 && eqb (response_kind head) 1 && eqb (response_status head) number
+
+-- selective retry: class 2, of any type
+unfoldable pub is_retry : PacketHead → ℕ → Bool
+is_retry head number = eqb (response_class head) 2 && eqb (response_status head) number
+
+-- of the blocks of a message, those that have not come, with as many flags as the response has
+unfoldable pub wanted_flags : ℕ → List Bool → List Bool
+wanted_flags blocks flags = map not (take blocks flags) ++ replicate (length flags - blocks) false
+
+-- what flags ask for: nothing where there are fewer of them than blocks, or all blocks have come
+unfoldable pub asked_by_flags : ℕ → Option (List Bool) → Asked
+asked_by_flags blocks None = Nothing
+asked_by_flags blocks (Some flags) =
+    if nat_le blocks (length flags) && list_any not (take blocks flags) then Blocks (wanted_flags blocks flags) else Nothing
+
+-- what a response asks for while a message with a number and so many blocks is outstanding
+unfoldable pub asked_of : ℕ → ℕ → PlainParts → Asked
+asked_of number blocks response =
+    if is_ack response.head number
+    then NextMessage
+    else (if is_retry response.head number
+    then asked_by_flags blocks (flags_of_octets response.octets)
+    else (if is_crc_nack response.head number then WholeMessage else Nothing))

@@ -1,0 +1,62 @@
+-- The packets that this project's stations send. Those of data go one way, and the responses the other.
+use Rattle.std.specs.Prelude.{ℕ, Bool, true, false, nat_le, List, [], ◌∷◌, length, map, slice_index_or, if◌then◌else◌}
+use Rattle.p25_bits.specs.Numbers.{joined_below}
+use Rattle.p25_packet_blocks.specs.Parts.{BlockParts}
+use Rattle.p25_packet_blocks.specs.Heads.{confirmed_head, response_head, opening_head}
+use Rattle.p25_packet_blocks.specs.FlagOctets.{flag_octets}
+use Rattle.p25_packet_blocks.specs.declared.block.Slot.{Slot}
+use Rattle.p25_packet_blocks.specs.declared.block.Slot.TheVariants.{Good}
+use Rattle.p25_packet_blocks.specs.declared.packet.Packet.{Packet}
+use Rattle.p25_packet_blocks.specs.declared.packet.Packet.TheVariants.{Confirmed, Plain}
+use Rattle.p25_delivery.specs.MessageBlocks.{block_count, pad_count, message_block, message_blocks}
+
+-- the logical link identifier of both stations
+abbrev pub station_llid : ℕ
+station_llid = 1
+
+-- a slot that holds a block
+abbrev pub good_slot : BlockParts → Slot
+good_slot block = Good block
+
+-- the whole packet of a message: the full message flag, and all blocks
+unfoldable pub message_packet : ℕ → List ℕ → Packet
+message_packet number message =
+    let count = block_count (length message) in
+    let pad = pad_count (length message) in
+    Confirmed (record { head = confirmed_head station_llid true count pad number; slots = map good_slot (message_blocks message) })
+
+-- the slots of the blocks that are wanted, in the order of their serial numbers
+unfoldable pub wanted_slots : List ℕ → List Bool → List Slot
+wanted_slots message wanted =
+    joined_below (block_count (length message)) (λ serial. if slice_index_or wanted serial false then good_slot (message_block message serial) ∷ [] else [])
+
+-- the packet of the blocks of a message that are wanted, without the full message flag
+unfoldable pub blocks_packet : ℕ → List ℕ → List Bool → Packet
+blocks_packet number message wanted =
+    let slots = wanted_slots message wanted in
+    Confirmed (record { head = confirmed_head station_llid false (length slots) (pad_count (length message)) number; slots = slots })
+
+-- the packet that opens the link anew
+unfoldable pub opening_packet : ℕ → Packet
+opening_packet number = Confirmed (record { head = opening_head station_llid number; slots = [] })
+
+-- a response of no blocks, by its class, type and status
+unfoldable pub short_response : ℕ → ℕ → ℕ → Packet
+short_response class kind status = Plain (record { head = response_head station_llid class kind status 0; octets = [] })
+
+-- ACK, class 0 type 1: all up to this number has come
+abbrev pub ack_packet : ℕ → Packet
+ack_packet status = short_response 0 1 status
+
+-- NACK, class 1 type 1: the packet CRC does not agree
+abbrev pub crc_nack_packet : ℕ → Packet
+crc_nack_packet status = short_response 1 1 status
+
+-- NACK, class 1 type 5: out of sequence
+abbrev pub order_nack_packet : ℕ → Packet
+order_nack_packet status = short_response 1 5 status
+
+-- selective retry, class 2 type 0: the flags of the blocks that have come, 64 in one block and 128 in two
+unfoldable pub retry_packet : ℕ → List Bool → Packet
+retry_packet status flags =
+    Plain (record { head = response_head station_llid 2 0 status (if nat_le (length flags) 64 then 1 else 2); octets = flag_octets flags })

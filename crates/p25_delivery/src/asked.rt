@@ -1,0 +1,101 @@
+//! What a response asks of a sender.
+
+ghost use Rattle.std.specs.Prelude.{◌≡◌, ◌<◌, ◌≤◌, ◌&&◌, nat_le, not, Bool, List, length, take};
+ghost use Rattle.std.specs.List.{list_any};
+ghost use Rattle.p25_packet_blocks.specs.FlagOctets.{flags_of_octets};
+ghost use Rattle.p25_delivery.specs.Asked.{is_response, is_ack, is_crc_nack, is_retry, wanted_flags, asked_by_flags, asked_of};
+
+use crate::LLID;
+use p25_packet_blocks::{Flags, PacketHead, Plain, flags_read};
+
+// What a response asks of a sender with a message outstanding.
+#[derive(Drop)]
+pub enum Asked {
+    // Nothing, as it is no answer to that message.
+    Nothing,
+    // The message has come: the next one.
+    NextMessage,
+    // The whole message again.
+    WholeMessage,
+    // The blocks whose flags are true.
+    Blocks(Flags),
+}
+
+// Whether a header is that of a response with the LLID.
+#[tactic(auto, unfolding(crate::specs::Asked::is_response))]
+pub(crate) fn answers(head: PacketHead) -> bool
+    ensures { result ≡ is_response head }
+{
+    head.format() == 3 && head.llid() == LLID
+}
+
+// Whether a response is the ACK of a number.
+#[tactic(auto, unfolding(crate::specs::Asked::is_ack))]
+pub(crate) fn acknowledges(head: PacketHead, number: u8) -> bool
+    ensures { result ≡ is_ack head number }
+{
+    head.class() == 0 && head.kind() == 1 && head.status() == number
+}
+
+// What a response asks for while the message with a number and so many blocks is outstanding.
+#[tactic(auto, unfolding(crate::specs::Asked::asked_of, crate::specs::Asked::is_ack, crate::specs::Asked::is_retry, crate::specs::Asked::is_crc_nack))]
+pub(crate) fn asked_by(response: &Plain, number: u8, blocks: u8) -> Asked
+    requires { blocks ≤ 127 }
+    ensures asked { result ≡ asked_of number blocks response.now }
+    ensures enough { (wanted : List Bool) → result ≡ Asked.Blocks wanted → blocks ≤ length wanted }
+{
+    let head = response.head();
+    if head.status() != number {
+        return Asked::Nothing;
+    }
+    match (head.class(), head.kind()) {
+        (0, 1) => Asked::NextMessage,
+        (1, 1) => Asked::WholeMessage,
+        (2, _) => asked_by_octets(response, blocks),
+        _ => Asked::Nothing,
+    }
+}
+
+// What the flags of a selective retry ask for.
+#[tactic(auto, unfolding(crate::specs::Asked::asked_by_flags))]
+fn asked_by_octets(response: &Plain, blocks: u8) -> Asked
+    requires { blocks ≤ 127 }
+    ensures asked { result ≡ asked_by_flags blocks (flags_of_octets response.now.octets) }
+    ensures enough { (wanted : List Bool) → result ≡ Asked.Blocks wanted → blocks ≤ length wanted }
+{
+    match flags_read(response.octets()) {
+        Some(flags) if misses_a_block(&flags, blocks as usize) => {
+            Asked::Blocks(wanted(&flags, blocks as usize))
+        }
+        _ => Asked::Nothing,
+    }
+}
+
+// Whether there is a flag for each of so many blocks, and one of these is false.
+fn misses_a_block(flags: &Flags, blocks: usize) -> bool
+    ensures { result ≡ (nat_le blocks (length flags.now) && list_any not (take blocks flags.now)) }
+{
+    if flags.len() < blocks {
+        return false;
+    }
+    for block in 0..blocks {
+        if !flags.get(block) {
+            return true;
+        }
+    }
+    false
+}
+
+// As many flags, true for each of so many blocks whose flag is false.
+#[tactic(auto, unfolding(crate::specs::Asked::wanted_flags))]
+fn wanted(flags: &Flags, blocks: usize) -> Flags
+    requires { blocks ≤ length flags.now }
+    ensures flags { result ≡ wanted_flags blocks flags.now }
+    ensures len { length result ≡ length flags.now }
+{
+    let mut wanted = Flags::new(flags.len());
+    for block in 0..blocks {
+        wanted.set(block, !flags.get(block));
+    }
+    wanted
+}

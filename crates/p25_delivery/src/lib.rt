@@ -1,0 +1,51 @@
+//! Delivery of messages in confirmed packets, as a machine: a sender and a receiver, which only answer calls; the two halves
+//! of a station over them, which keep the messages that were sent and received; and the laws of a link of two halves. What
+//! they send is a value, and the air between them is the caller's.
+//!
+//! A sender has one message outstanding at most. Its packets carry a number N(S) of three bits, 0 to 7 and then 0 again;
+//! the receiver keeps V(R), the number of the last message that it delivered, and puts the blocks of the next one in their
+//! places until all are there and the packet CRC agrees. All octets stand in the order in which they are sent.
+//! TIA-102.BAAA, Packet Data, Confirmed Delivery; the rules that the standard leaves open are this project's.
+//!
+//! ```text
+//! let mut sender = Sender::new();
+//! let mut receiver = Receiver::new();
+//! if let Offer::Taken { packet, .. } = sender.offer(&message) {
+//!     if let Heard::Delivered { message, answer, .. } = receiver.hear(&packet) {
+//!         sender.hear(&answer);
+//!     }
+//! }
+//! ```
+//!
+//! Contracts see a sender as `Sending` and a receiver as `Receiving`, and each call as a function of `SenderRules` or
+//! `ReceiverRules` that gives the state after it and its answer; and the halves as `Outgoing` and `Incoming`, each call by its
+//! rule in `HalfRules`. `laws` has the promise of a link of two halves, over every run in which what is heard is true to what
+//! was sent.
+#![tactic(auto)]
+
+mod asked;
+mod inbound;
+mod kept;
+pub mod laws;
+mod mark;
+mod message_octets;
+mod outbound;
+mod receiver;
+mod sender;
+mod sender_state;
+mod sent;
+mod step_kind;
+
+pub use inbound::Inbound;
+pub use mark::Mark;
+pub use outbound::Outbound;
+pub use receiver::{Heard, Receiver};
+pub use sender::{Offer, Reopen, Resend, Sender, SenderHeard};
+pub use sender_state::Outstanding;
+pub use step_kind::{StepKind, Way};
+
+/// The network access code that both stations use.
+pub const NAC: u16 = 0x293;
+
+/// The logical link identifier that both stations use.
+pub const LLID: u32 = 1;

@@ -1,0 +1,138 @@
+//! The octets of a message as blocks carry them.
+
+ghost use Rattle.std.specs.Prelude.{◌≡◌, ℕ, ◌+◌, ◌-◌, ◌*◌, ◌/◌, ◌%◌, ◌^◌, ◌<◌, ◌≤◌, List, [], ◌∷◌, ◌++◌, length, replicate, IfSome};
+ghost use Rattle.p25_bits.specs.Bits.{part};
+ghost use Rattle.p25_bits.specs.Numbers.{octets_number};
+ghost use Rattle.p25_delivery.specs.MessageBlocks.{block_count, pad_count, padded_octets, message_octets, unpadded};
+ghost use Rattle.p25_delivery.specs.Places.{all_octets};
+
+use arrayvec::ArrayVec;
+use p25_crc::crc32;
+use p25_messages::Message;
+use p25_packet_blocks::Block;
+use std::marker::Model;
+
+// How many blocks carry a message.
+pub(crate) fn blocks_for(message: &Message) -> u8
+    ensures value { result ≡ block_count (length message.now) }
+    ensures some { 0 < result }
+    ensures most { result ≤ 127 }
+{
+    ((message.octets().len() + 19) / 16) as u8
+}
+
+// How many pad octets stand after a message.
+pub(crate) fn pad_for(message: &Message) -> u8
+    ensures value { result ≡ pad_count (length message.now) }
+    ensures most { result < 16 }
+{
+    let count = message.octets().len();
+    (16 * ((count + 19) / 16) - 4 - count) as u8
+}
+
+// The octets that the blocks of a message carry, at most 16 for each of 127: the message, its pad octets of 0, and the
+// packet CRC.
+#[derive(Drop)]
+pub(crate) struct MessageOctets {
+    items: ArrayVec<u8, 2032>,
+}
+
+impl Model for MessageOctets {
+    ghost use Rattle.std.specs.Prelude.{ℕ, List};
+
+    ghost Value = { List ℕ };
+
+    ghost view = { λ s. s.items.items };
+}
+
+impl MessageOctets {
+    ghost use Rattle.p25_packet_blocks.specs.Parts.{BlockParts};
+
+    // The octets for a message.
+    #[tactic(auto, unfolding(crate::specs::MessageBlocks::message_octets, p25_packet_blocks::specs::Image::checked_octets))]
+    pub(crate) fn of(message: &Message) -> MessageOctets
+        ensures list { result ≡ message_octets message.now }
+        ensures len { length result ≡ 16 * block_count (length message.now) }
+    {
+        let mut items = ArrayVec::new();
+        push_octets(&mut items, message.octets());
+        for _place in 0..pad_for(message) {
+            items.push(0);
+        }
+        let check = crc32(items.as_slice());
+        push_number(&mut items, check);
+        MessageOctets { items }
+    }
+
+    // The octets of blocks in their places, or None where a place is empty.
+    pub(crate) fn joined(places: &[Option<Block>]) -> Option<MessageOctets>
+        requires { length places.now ≤ 127 }
+        ensures octets { result ≡ all_octets places.now }
+        ensures len { IfSome result (λ octets. length octets ≡ 16 * length places.now) }
+    {
+        let mut items = ArrayVec::new();
+        for place in places {
+            let block = (*place)?;
+            push_octets(&mut items, block.octets());
+        }
+        Some(MessageOctets { items })
+    }
+
+    // The block with a serial number.
+    pub(crate) fn block(&self, serial: u8) -> Block
+        requires serial { serial < 128 }
+        requires there { 16 * serial + 16 ≤ length self.now }
+        ensures { result ≡ record { serial = serial; octets = part (16 * serial) 16 self.now } }
+    {
+        let at = 16 * serial as usize;
+        let mut octets = [0; 16];
+        octets.copy_from_slice(&self.items.as_slice()[at..at + 16]);
+        Block::new(serial, octets)
+    }
+
+    // The message of these octets, where so many are pad octets: None where the packet CRC does not agree, or there are not
+    // so many octets.
+    #[tactic(auto, unfolding(crate::specs::MessageBlocks::unpadded))]
+    pub(crate) fn message(&self, pad: u8) -> Option<Message>
+        requires { 4 ≤ length self.now }
+        ensures { result ≡ unpadded self.now pad }
+    {
+        let octets = self.items.as_slice();
+        let count = octets.len() - 4;
+        if pad as usize > count || number_in(&octets[count..]) != crc32(&octets[..count]) {
+            return None;
+        }
+        Message::new(&octets[..count - pad as usize])
+    }
+}
+
+// Appends octets.
+fn push_octets(items: &mut ArrayVec<u8, 2032>, octets: &[u8])
+    requires { length items.old.items + length octets.now ≤ 2032 }
+    ensures list { items.new.items ≡ items.old.items ++ octets.now }
+    ensures len { length items.new.items ≡ length items.old.items + length octets.now }
+{
+    items.try_extend_from_slice(octets).unwrap();
+}
+
+// Appends the four octets of a number, the highest first.
+fn push_number(items: &mut ArrayVec<u8, 2032>, number: u32)
+    requires { length items.old.items + 4 ≤ 2032 }
+    ensures { items.new.items ≡ items.old.items ++ number / 2 ^ 24 ∷ number / 2 ^ 16 % 256 ∷ number / 2 ^ 8 % 256 ∷ number % 256 ∷ [] }
+{
+    items.push((number / 0x100_0000) as u8);
+    items.push((number / 0x1_0000 % 256) as u8);
+    items.push((number / 0x100 % 256) as u8);
+    items.push((number % 256) as u8);
+}
+
+// The number that four octets write.
+fn number_in(octets: &[u8]) -> u32
+    requires { length octets.now ≡ 4 }
+    ensures { result ≡ octets_number octets.now }
+{
+    0x100_0000 * octets[0] as u32
+        + 0x1_0000 * octets[1] as u32
+        + 0x100 * octets[2] as u32
+        + octets[3] as u32
+}

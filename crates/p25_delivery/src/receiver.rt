@@ -1,0 +1,207 @@
+ghost use Rattle.std.specs.Prelude.{◌≡◌, ◌<◌, IfNone};
+
+use crate::kept::Kept;
+use crate::{LLID, sent};
+use p25_messages::Message;
+use p25_packet_blocks::{Confirmed, Flags, Packet, PacketHead};
+use std::marker::Model;
+
+/// The answer to a packet that a receiver hears; `answer` is the response to send.
+#[derive(Drop)]
+pub enum Heard {
+    /// The message is whole, and delivered.
+    Delivered {
+        number: u8,
+        message: Message,
+        answer: Packet,
+    },
+    /// The link is opened anew, by the opening packet with this number.
+    Opened {
+        number: u8,
+        answer: Packet,
+    },
+    /// The last message came again.
+    Again {
+        number: u8,
+        answer: Packet,
+    },
+    /// Blocks are missing: the flags of those that are held.
+    Kept {
+        number: u8,
+        flags: Flags,
+        answer: Packet,
+    },
+    /// All blocks have come, but the packet CRC does not agree, or the pad is longer than the blocks.
+    RefusedCrc {
+        number: u8,
+        answer: Packet,
+    },
+    /// The number is neither that of the last message nor that of the next one.
+    RefusedOrder {
+        last: u8,
+        answer: Packet,
+    },
+    /// The packet is not confirmed, has another LLID, or tells nothing that can be kept.
+    Ignored,
+}
+
+/// A receiver of messages.
+#[derive(Drop)]
+pub struct Receiver {
+    // V(R), the number of the last message that was delivered
+    last: u8,
+    kept: Option<Kept>,
+}
+
+impl Model for Receiver {
+    ghost use Rattle.std.specs.Prelude.{◌<◌};
+    ghost use Rattle.p25_delivery.specs.ReceiverState.{Receiving};
+
+    ghost Value = { Receiving };
+
+    ghost view = { λ s. record { last = s.last; kept = s.kept } };
+
+    ghost invariant = { λ s. s.last < 8 };
+}
+
+impl Receiver {
+    ghost use Rattle.p25_delivery.specs.ReceiverRules.{first_receiving, keeping_for, finished, filled, opening_heard, data_heard, receiver_heard};
+
+    /// Answers a receiver before its first message: V(R) is 7.
+    pub fn new() -> Receiver
+        ensures { result ≡ first_receiving }
+    {
+        Receiver {
+            last: 7,
+            kept: None,
+        }
+    }
+
+    /// Takes a packet that was heard, and answers what came of it, with the response to send. Each answer comes exactly
+    /// where the rule on Syn or one of the rules on numbers, places and the packet CRC says so.
+    #[tactic(auto, unfolding(crate::specs::ReceiverRules::receiver_heard))]
+    pub fn hear(&mut self, packet: &Packet) -> Heard
+        ensures state { self.new ≡ (receiver_heard self.old packet.now).0 }
+        ensures answer { result ≡ (receiver_heard self.old packet.now).1 }
+    {
+        match packet {
+            Packet::Confirmed(packet) if packet.head().llid() == LLID => {
+                if packet.head().syn() {
+                    self.hear_opening(packet.head())
+                } else {
+                    self.hear_data(packet)
+                }
+            }
+            _ => Heard::Ignored,
+        }
+    }
+
+    // Takes a packet with Syn.
+    #[tactic(auto, unfolding(crate::specs::ReceiverRules::opening_heard))]
+    fn hear_opening(&mut self, head: PacketHead) -> Heard
+        ensures { (self.new, result) ≡ opening_heard self.old head }
+    {
+        if head.blocks() != 0 {
+            return Heard::Ignored;
+        }
+        let number = head.number();
+        self.last = number;
+        self.kept = None;
+        Heard::Opened {
+            number,
+            answer: sent::ack(number),
+        }
+    }
+
+    // Takes a packet without Syn.
+    #[tactic(auto, unfolding(crate::specs::ReceiverRules::data_heard))]
+    fn hear_data(&mut self, packet: &Confirmed) -> Heard
+        ensures { (self.new, result) ≡ data_heard self.old packet.now }
+    {
+        let last = self.last;
+        let number = packet.head().number();
+        if number == last {
+            Heard::Again {
+                number: last,
+                answer: sent::ack(last),
+            }
+        } else if number == (last + 1) % 8 {
+            self.fill(packet)
+        } else {
+            Heard::RefusedOrder {
+                last,
+                answer: sent::order_nack(last),
+            }
+        }
+    }
+
+    // Takes a packet of the next message.
+    #[tactic(auto, unfolding(crate::specs::ReceiverRules::filled, crate::specs::ReceiverRules::completed))]
+    fn fill(&mut self, packet: &Confirmed) -> Heard
+        ensures { (self.new, result) ≡ filled self.old packet.now (keeping_for self.old.kept packet.now.head) }
+    {
+        let Some(mut kept) = self.take_kept(packet.head()) else {
+            return Heard::Ignored;
+        };
+        let number = packet.head().number();
+        kept.put(packet.slots());
+        match kept.octets() {
+            Some(octets) => self.finish(number, octets.message(kept.pad())),
+            None => {
+                let flags = kept.flags();
+                let answer = sent::retry(number, &flags);
+                self.kept = Some(kept);
+                Heard::Kept {
+                    number,
+                    flags,
+                    answer,
+                }
+            }
+        }
+    }
+
+    // What is kept while a packet of the next message is heard, taken out; or None where the packet is ignored, and then
+    // nothing is taken out.
+    #[tactic(auto, unfolding(crate::specs::ReceiverRules::keeping_for, crate::specs::ReceiverRules::keeping_full))]
+    fn take_kept(&mut self, head: PacketHead) -> Option<Kept>
+        ensures kept { result ≡ keeping_for self.old.kept head }
+        ensures last { self.new.last ≡ self.old.last }
+        ensures ignored { IfNone result (self.new ≡ self.old) }
+    {
+        if !head.is_full() {
+            return self.kept.take();
+        }
+        let blocks = head.blocks();
+        let pad = head.pad();
+        if blocks == 0 {
+            return None;
+        }
+        match self.kept.take() {
+            Some(kept) if kept.is_of(blocks, pad) => Some(kept),
+            _ => Some(Kept::new(blocks, pad)),
+        }
+    }
+
+    // Delivers the message whose blocks are all there, or refuses it.
+    #[tactic(auto, unfolding(crate::specs::ReceiverRules::finished))]
+    fn finish(&mut self, number: u8, message: Option<Message>) -> Heard
+        requires { number < 8 }
+        ensures { (self.new, result) ≡ finished self.old number message }
+    {
+        self.kept = None;
+        match message {
+            Some(message) => {
+                self.last = number;
+                Heard::Delivered {
+                    number,
+                    message,
+                    answer: sent::ack(number),
+                }
+            }
+            None => Heard::RefusedCrc {
+                number,
+                answer: sent::crc_nack(number),
+            },
+        }
+    }
+}

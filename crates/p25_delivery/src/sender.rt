@@ -1,0 +1,332 @@
+ghost use Rattle.std.specs.Prelude.{◌≡◌, ◌<◌, if◌then◌else◌};
+
+use crate::asked::{Asked, acknowledges, answers, asked_by};
+use crate::message_octets::blocks_for;
+use crate::sender_state::Outstanding;
+use crate::sent;
+use p25_messages::Message;
+use p25_packet_blocks::{Flags, Packet, Plain};
+use std::marker::Model;
+
+/// The answer to a message that is offered.
+#[derive(Drop)]
+pub enum Offer {
+    /// The message is outstanding: its number, the number of its blocks, and the packet to send.
+    Taken {
+        number: u8,
+        blocks: u8,
+        packet: Packet,
+    },
+    /// A message or the opening packet is outstanding.
+    Busy,
+    /// The sender is down.
+    Down,
+}
+
+/// The answer to a timeout.
+#[derive(Drop)]
+pub enum Resend {
+    /// What is outstanding is to be sent again: its number, how often it was sent with this time, and the packet.
+    Sent {
+        number: u8,
+        tries: u8,
+        packet: Packet,
+    },
+    /// Nothing is outstanding.
+    Idle,
+    /// The sender is down, or is down now, as 16 transmissions were made.
+    Down,
+}
+
+/// The answer to a packet that a sender hears.
+#[derive(Drop)]
+pub enum SenderHeard {
+    /// The message with this number has come.
+    Acknowledged {
+        number: u8,
+    },
+    /// The link is open again, by the opening packet with this number.
+    Opened {
+        number: u8,
+    },
+    /// The blocks whose flags in `wanted` are true are to be sent again.
+    Retry {
+        number: u8,
+        wanted: Flags,
+        tries: u8,
+        packet: Packet,
+    },
+    /// The whole message is to be sent again.
+    Repeat {
+        number: u8,
+        tries: u8,
+        packet: Packet,
+    },
+    /// The packet is no response, or none to what is outstanding.
+    Ignored,
+    /// The response asks for a transmission, but 16 were made; the sender is down now.
+    Down,
+}
+
+/// The answer where the link is to be opened again.
+#[derive(Drop)]
+pub enum Reopen {
+    /// The opening packet is to be sent.
+    Sent { number: u8, packet: Packet },
+    /// The sender is not down.
+    Up,
+}
+
+/// How often a message or an opening packet is sent at most.
+const MOST_TRIES: u8 = 16;
+
+/// A sender of messages, of which one is outstanding at most.
+#[derive(Drop)]
+pub struct Sender {
+    // the number of the next message, or of the one that is outstanding
+    next: u8,
+    outstanding: Outstanding,
+    // how often what is outstanding was sent
+    tries: u8,
+    down: bool,
+}
+
+impl Model for Sender {
+    ghost use Rattle.p25_delivery.specs.SenderState.{Sending, IsSending};
+
+    ghost Value = { Sending };
+
+    ghost view = { λ s. record { next = s.next; outstanding = s.outstanding; tries = s.tries; down = s.down } };
+
+    ghost invariant = { λ s. IsSending (record { next = s.next; outstanding = s.outstanding; tries = s.tries; down = s.down }) };
+}
+
+impl Sender {
+    ghost use Rattle.p25_delivery.specs.SenderRules.{first_sending, sending_after, tried, fallen, may_send, offered_beside, offered, resent, timed_out, acknowledged, repeated, retried, response_heard, sender_heard, reopened, is_opening};
+
+    /// Answers a sender before its first message, whose number is 0.
+    #[tactic(auto, unfolding(crate::specs::SenderState::IsNumbered))]
+    pub fn new() -> Sender
+        ensures { result ≡ first_sending }
+    {
+        Sender {
+            next: 0,
+            outstanding: Outstanding::Nothing,
+            tries: 0,
+            down: false,
+        }
+    }
+
+    /// Takes a message, and answers its first packet. Down comes exactly where the sender is down, and Busy exactly where
+    /// it is not, but a message or the opening packet is outstanding; then nothing changes.
+    #[tactic(auto, unfolding(crate::specs::SenderRules::offered, crate::specs::SenderRules::offered_beside))]
+    pub fn offer(&mut self, message: &Message) -> Offer
+        ensures state { self.new ≡ (offered self.old message.now).0 }
+        ensures answer { result ≡ (offered self.old message.now).1 }
+    {
+        if self.down {
+            return Offer::Down;
+        }
+        match self.outstanding {
+            Outstanding::Nothing => self.take(message),
+            _ => Offer::Busy,
+        }
+    }
+
+    /// Answers the packet of what is outstanding, to be sent again whole. Down comes exactly where the sender is down or
+    /// 16 transmissions were made, and then it is down; Idle comes exactly where it is not down and nothing is outstanding.
+    #[tactic(auto, unfolding(crate::specs::SenderRules::timed_out, crate::specs::SenderRules::timed_out_with, crate::specs::SenderState::IsNumbered))]
+    pub fn timeout(&mut self) -> Resend
+        ensures state { self.new ≡ (timed_out self.old).0 }
+        ensures answer { result ≡ (timed_out self.old).1 }
+    {
+        if self.down {
+            return Resend::Down;
+        }
+        match &self.outstanding {
+            Outstanding::Nothing => Resend::Idle,
+            Outstanding::Message(message) => {
+                let packet = sent::message(self.next, message);
+                self.resend(self.next, packet)
+            }
+            Outstanding::Opening(number) => {
+                let number = *number;
+                self.resend(number, sent::opening(number))
+            }
+        }
+    }
+
+    /// Takes a packet that was heard, and answers what came of it. Down comes exactly where a response asks for a
+    /// transmission and 16 were made; Ignored exactly where the packet is no response with this LLID, the sender is down
+    /// or nothing is outstanding, or the response asks for nothing of what is outstanding.
+    #[tactic(auto, unfolding(crate::specs::SenderRules::sender_heard))]
+    pub fn hear(&mut self, packet: &Packet) -> SenderHeard
+        ensures state { self.new ≡ (sender_heard self.old packet.now).0 }
+        ensures answer { result ≡ (sender_heard self.old packet.now).1 }
+    {
+        match packet {
+            Packet::Plain(packet) if !self.down && answers(packet.head()) => {
+                self.hear_response(packet)
+            }
+            _ => SenderHeard::Ignored,
+        }
+    }
+
+    /// Opens the link again, and answers the opening packet: numbered four more than the message that is given up, or the
+    /// one that was sent before. Up comes exactly where the sender is not down, and then nothing changes.
+    #[tactic(auto, unfolding(crate::specs::SenderRules::reopened, crate::specs::SenderRules::opening_number, crate::specs::SenderState::IsNumbered))]
+    pub fn reopen(&mut self) -> Reopen
+        ensures state { self.new ≡ (reopened self.old).0 }
+        ensures answer { result ≡ (reopened self.old).1 }
+    {
+        if !self.down {
+            return Reopen::Up;
+        }
+        let number = match self.outstanding {
+            Outstanding::Opening(number) => number,
+            _ => (self.next + 4) % 8,
+        };
+        self.outstanding = Outstanding::Opening(number);
+        self.tries = 1;
+        self.down = false;
+        Reopen::Sent {
+            number,
+            packet: sent::opening(number),
+        }
+    }
+
+    /// Answers whether the opening packet is outstanding.
+    pub fn is_opening(&self) -> bool
+        ensures { result ≡ is_opening self.now.outstanding }
+    {
+        matches!(&self.outstanding, Outstanding::Opening(_))
+    }
+
+    // Makes a message outstanding.
+    #[tactic(auto, unfolding(crate::specs::SenderRules::offered_beside, crate::specs::SenderState::IsNumbered))]
+    fn take(&mut self, message: &Message) -> Offer
+        ensures { (self.new, result) ≡ offered_beside Outstanding.Nothing self.old message.now }
+    {
+        self.outstanding = Outstanding::Message(message.clone().unwrap());
+        self.tries = 1;
+        self.down = false;
+        Offer::Taken {
+            number: self.next,
+            blocks: blocks_for(message),
+            packet: sent::message(self.next, message),
+        }
+    }
+
+    // Counts one more transmission, or is down where 16 were made. Answers whether there is one more.
+    fn count(&mut self) -> bool
+        ensures more { result ≡ may_send self.old }
+        ensures state { self.new ≡ (if may_send self.old then tried self.old else fallen self.old) }
+    {
+        if self.tries < MOST_TRIES {
+            self.tries += 1;
+            true
+        } else {
+            self.down = true;
+            false
+        }
+    }
+
+    // Sends a packet again at a timeout.
+    #[tactic(auto, unfolding(crate::specs::SenderRules::resent))]
+    fn resend(&mut self, number: u8, packet: Packet) -> Resend
+        ensures { (self.new, result) ≡ resent self.old number packet }
+    {
+        if !self.count() {
+            return Resend::Down;
+        }
+        Resend::Sent {
+            number,
+            tries: self.tries,
+            packet,
+        }
+    }
+
+    // Takes a response.
+    #[tactic(auto, unfolding(crate::specs::SenderRules::response_heard, crate::specs::SenderRules::answered, crate::specs::SenderState::IsNumbered))]
+    fn hear_response(&mut self, response: &Plain) -> SenderHeard
+        ensures { (self.new, result) ≡ response_heard self.old.outstanding self.old response.now }
+    {
+        match &self.outstanding {
+            Outstanding::Nothing => SenderHeard::Ignored,
+            Outstanding::Message(message) => {
+                match asked_by(response, self.next, blocks_for(message)) {
+                    Asked::Nothing => SenderHeard::Ignored,
+                    Asked::NextMessage => self.acknowledge(),
+                    Asked::WholeMessage => {
+                        let packet = sent::message(self.next, message);
+                        self.repeat(packet)
+                    }
+                    Asked::Blocks(wanted) => {
+                        let packet = sent::blocks(self.next, message, &wanted);
+                        self.retry(wanted, packet)
+                    }
+                }
+            }
+            Outstanding::Opening(number) => {
+                let number = *number;
+                if !acknowledges(response.head(), number) {
+                    return SenderHeard::Ignored;
+                }
+                self.go_on_after(number);
+                SenderHeard::Opened { number }
+            }
+        }
+    }
+
+    // Has the outstanding message acknowledged.
+    fn acknowledge(&mut self) -> SenderHeard
+        ensures { (self.new, result) ≡ acknowledged self.old }
+    {
+        let number = self.next;
+        self.go_on_after(number);
+        SenderHeard::Acknowledged { number }
+    }
+
+    // Sends the whole message again.
+    #[tactic(auto, unfolding(crate::specs::SenderRules::repeated))]
+    fn repeat(&mut self, packet: Packet) -> SenderHeard
+        ensures { (self.new, result) ≡ repeated self.old packet }
+    {
+        if !self.count() {
+            return SenderHeard::Down;
+        }
+        SenderHeard::Repeat {
+            number: self.next,
+            tries: self.tries,
+            packet,
+        }
+    }
+
+    // Sends some blocks of the message again.
+    #[tactic(auto, unfolding(crate::specs::SenderRules::retried))]
+    fn retry(&mut self, wanted: Flags, packet: Packet) -> SenderHeard
+        ensures { (self.new, result) ≡ retried self.old wanted packet }
+    {
+        if !self.count() {
+            return SenderHeard::Down;
+        }
+        SenderHeard::Retry {
+            number: self.next,
+            wanted,
+            tries: self.tries,
+            packet,
+        }
+    }
+
+    // Has nothing outstanding any more.
+    #[tactic(auto, unfolding(crate::specs::SenderState::IsNumbered))]
+    fn go_on_after(&mut self, number: u8)
+        requires { number < 8 }
+        ensures { self.new ≡ sending_after number }
+    {
+        self.next = (number + 1) % 8;
+        self.outstanding = Outstanding::Nothing;
+        self.tries = 0;
+        self.down = false;
+    }
+}

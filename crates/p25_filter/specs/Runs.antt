@@ -1,0 +1,67 @@
+-- What the work on an input leaves, by how it ended.
+use Rattle.std.specs.Prelude.{◌≡◌, ℕ, ◌+◌, ◌<◌, ◌≤◌, Bool, true, false, cond, nat_lt, Option, Some, None, List, ◌++◌, length, take, Contains, IfSome}
+use Rattle.p25_io.specs.Octets.{Taken, Appended, AppendedFront}
+use Rattle.p25_filter.specs.declared.ending.Ending.{Ending}
+use Rattle.p25_filter.specs.declared.ending.FilterEnd.{FilterEnd}
+use Rattle.p25_filter.specs.declared.ending.FilterEnd.TheVariants.{Ended, ReadFault, WriteFault, TooLong, Memory}
+use Rattle.p25_filter.specs.Futures.{Future}
+
+-- the most octets of an input, and of a read
+abbrev pub input_most : ℕ
+input_most = 16777216
+
+abbrev pub read_most : ℕ
+read_most = 4096
+
+-- all that is to be written for an input: for one that is too long, what its first octets decide
+abbrev pub all_written : Future → List ℕ → List ℕ
+all_written future input = cond (nat_lt input_most (length input)) (future.writes false (take input_most input)) (future.writes true input)
+
+-- the work ended by what the input holds: at its end, or at a refusal within it, which stays whatever octets come later; no
+-- octet past the most is looked at
+pub record IsFinal (told first last : Option (List ℕ)) (future : Future) (octets : List ℕ) (ending : Ending) : Type 0 where
+  pub ended : Bool
+  pub all : ended ≡ true → (length octets ≤ input_most) × IfSome told (λ input. input ≡ octets)
+  pub ends : future.ends ended (take input_most octets) ≡ Some ending
+  pub stays : ended ≡ false → (is : Bool) (more : List ℕ) → future.ends is (take input_most octets ++ more) ≡ Some ending
+  pub wrote : Appended first (future.writes ended (take input_most octets)) last
+
+-- a read failed: nothing refuses the octets taken, and what they decide is written
+pub record IsReadFault (first last : Option (List ℕ)) (future : Future) (octets : List ℕ) : Type 0 where
+  pub few : length octets ≤ input_most
+  pub ends : future.ends false octets ≡ None
+  pub wrote : Appended first (future.writes false octets) last
+
+-- the input is too long: nothing refuses its first octets, and what they decide is written
+pub record IsTooLong (first last : Option (List ℕ)) (future : Future) (octets : List ℕ) : Type 0 where
+  pub many : input_most < length octets
+  pub ends : future.ends false (take input_most octets) ≡ None
+  pub wrote : Appended first (future.writes false (take input_most octets)) last
+
+-- a write failed: the beginning of all that was to be written is written
+pub record IsWriteFault (left first last : Option (List ℕ)) (future : Future) (octets : List ℕ) : Type 0 where
+  pub front : (rest : List ℕ) → left ≡ Some rest → AppendedFront first (all_written future (octets ++ rest)) last
+
+-- memory was wanting: what is written is a text after which it may be, by the octets taken, which are all or more may come;
+-- no octet past the most is looked at
+pub record IsMemory (told first last : Option (List ℕ)) (future : Future) (octets : List ℕ) : Type 0 where
+  pub ended : Bool
+  pub all : ended ≡ true → (length octets ≤ input_most) × IfSome told (λ input. input ≡ octets)
+  pub text : List ℕ
+  pub pauses : Contains (future.pauses ended (take input_most octets)) text
+  pub wrote : Appended first text last
+
+-- what an end says of the octets taken and of what was written
+abbrev pub Meets : (told left first last : Option (List ℕ)) → Future → List ℕ → FilterEnd → Type 0
+Meets told left first last future octets (Ended ending) = IsFinal told first last future octets ending
+Meets told left first last future octets ReadFault = IsReadFault first last future octets
+Meets told left first last future octets WriteFault = IsWriteFault left first last future octets
+Meets told left first last future octets TooLong = IsTooLong first last future octets
+Meets told left first last future octets Memory = IsMemory told first last future octets
+
+-- some octets were taken from the source, at most one read more than the most of an input, and the end is met
+pub record Filtered (told left first last : Option (List ℕ)) (future : Future) (end : FilterEnd) : Type 0 where
+  pub octets : List ℕ
+  pub taken : Taken told octets left
+  pub few : length octets ≤ input_most + read_most
+  pub meets : Meets told left first last future octets end

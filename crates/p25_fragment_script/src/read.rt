@@ -1,0 +1,76 @@
+//! Events of long messages read from lines.
+
+ghost use Rattle.std.specs.Prelude.{◌≡◌, ◌≤◌, Ok, IfOk, length};
+ghost use Rattle.std.specs.Str.{bytes_eq};
+ghost use Rattle.p25_line.specs.Words.{WordsAnswer};
+ghost use Rattle.p25_fragments.specs.declared.long_step.LongEvent.{LongEvent as event_type};
+ghost use Rattle.p25_fragment_script.specs.LongScript.{IsLongScripted, long_event_of, long_event_text, other_event};
+
+use super::value::long_value;
+use p25_fragments::LongEvent;
+use p25_line::{LineFault, WordList, words_of};
+use p25_script::read_event;
+
+/// Answers the event whose line this is. Each line that is accepted is the line of its event, and the line of each event,
+/// where it is not too long, is accepted. The first of these causes that applies is answered: Long, above 8,192 octets; Form,
+/// not one or more words of octets 21 to 7E hex with single spaces between them; Kind, the first word is none of `long`,
+/// `timeout`, `reopen` and `deliver`; Key, the number of words is not that of the kind, or the second word of `deliver` is
+/// neither `data` nor `answer`; Value, the long message is neither `-` nor 2 to 8,000 lower-case hexadecimal digits, an even
+/// number, or the places are not of their form.
+pub fn read_long_event(line: &[u8]) -> Result<LongEvent, LineFault>
+    ensures event { result ≡ long_event_of line.now }
+    ensures text { IfOk result (λ event. long_event_text event ≡ line.now) }
+    ensures fits { IfOk result (λ event. IsLongScripted event) }
+    ensures each { (event : event_type) → IsLongScripted event → length line.now ≤ 8192 → long_event_text event ≡ line.now → result ≡ Ok event }
+{
+    read_whole(line)
+}
+
+// The same, by the definition.
+fn read_whole(line: &[u8]) -> Result<LongEvent, LineFault>
+    ensures { result ≡ long_event_of line.now }
+{
+    let mut words = WordList::new();
+    match words_of(line, &mut words) {
+        Ok(()) => read_words(line, &words),
+        Err(fault) => Err(fault),
+    }
+}
+
+// The event of a line whose words were found.
+fn read_words(line: &[u8], words: &WordList) -> Result<LongEvent, LineFault>
+    requires { WordsAnswer line.now words.now (Ok tt) }
+    ensures { result ≡ long_event_of line.now }
+{
+    let first = words.word(line, 0);
+    if !is_same(first, b"long") {
+        return read_other(line, first);
+    }
+    if words.count() != 2 {
+        return Err(LineFault::Key);
+    }
+    match long_value(words.word(line, 1)) {
+        Some(message) => Ok(LongEvent::Long(message)),
+        None => Err(LineFault::Value),
+    }
+}
+
+// Whether two words are the same.
+fn is_same(word: &[u8], other: &[u8]) -> bool
+    ensures { result ≡ bytes_eq word.now other.now }
+{
+    word == other
+}
+
+// The event of a line that begins with another word.
+fn read_other(line: &[u8], first: &[u8]) -> Result<LongEvent, LineFault>
+    ensures { result ≡ other_event line.now first.now }
+{
+    if is_same(first, b"send") {
+        return Err(LineFault::Kind);
+    }
+    match read_event(line) {
+        Ok(event) => Ok(LongEvent::Inner(event)),
+        Err(fault) => Err(fault),
+    }
+}

@@ -1,0 +1,87 @@
+-- What the reports of the commands write of items, by induction on the items: the outputs that the commands are defined by.
+use Rattle.std.proofs.Common.{◌≡◌, ℕ, ◌+◌, ◌*◌, ◌/◌, ◌<◌, Bool, true, false, cond, List, [], ◌∷◌, ◌++◌, length, take, drop, refl, ap, ap₂, sym, ◌∙◌, arith, append_assoc, append-nil, length-drop}
+use Rattle.std.specs.List.{flat_map}
+use Rattle.p25_units.specs.declared.item.Item.{Item}
+use Rattle.p25_units.specs.Items.{covered}
+use Rattle.p25_stream.specs.Repeats.{is_whole_item}
+use Rattle.p25_recording_filters.specs.declared.reports.show.Show.{Show}
+use Rattle.p25_recording_filters.specs.declared.reports.check.Check.{Check}
+use Rattle.p25_recording_filters.specs.ItemOutputs.{changed_bits, check_line, faults_in, faulty, shown, units_in, whole_octets}
+use Rattle.p25_recording_filters.specs.Commands.{ChangedParts, change_of, changed_reporting, check_reporting, show_reporting, unfilled}
+use Rattle.p25_recording_filters.specs.Reports.{Reporting, report_behind, reported}
+use Rattle.p25_recording_filters.proofs.OctetsLaws.{whole_octets-append, whole_octets-few}
+
+-- a first item that is given, whatever the bits after it
+pub reported-cons : {R : Type 0} (reporting : Reporting R) (ended : Bool) (report : R) (item : Item) (items : List Item) (bits : List Bool)
+    → reported reporting ended report (item ∷ items) bits
+    ≡ reporting.piece report item (take (covered item) bits) ++ reported reporting ended (reporting.behind report item (take (covered item) bits)) items (drop (covered item) bits)
+unfolding reported
+reported-cons reporting ended report item items bits = refl
+
+pub reported-nil : {R : Type 0} (reporting : Reporting R) (ended : Bool) (report : R) (bits : List Bool) → reported reporting ended report [] bits ≡ cond ended (reporting.closing report) []
+unfolding reported
+reported-nil reporting ended report bits = refl
+
+pub behind-cons : {R : Type 0} (reporting : Reporting R) (report : R) (item : Item) (items : List Item) (bits : List Bool)
+    → report_behind reporting report (item ∷ items) bits ≡ report_behind reporting (reporting.behind report item (take (covered item) bits)) items (drop (covered item) bits)
+unfolding report_behind
+behind-cons reporting report item items bits = refl
+
+pub behind-nil : {R : Type 0} (reporting : Reporting R) (report : R) (bits : List Bool) → report_behind reporting report [] bits ≡ report
+unfolding report_behind
+behind-nil reporting report bits = refl
+
+-- nothing is written at the end
+no_closing : (ended : Bool) (none : List ℕ) → cond ended none none ≡ none
+no_closing true none = refl
+no_closing false none = refl
+
+-- the texts of all items
+pub reported-show : (ended : Bool) (report : Show) (items : List Item) (bits : List Bool) → reported show_reporting ended report items bits ≡ flat_map shown items
+reported-show ended report [] bits = reported-nil show_reporting ended report bits ∙ no_closing ended []
+reported-show ended report (item ∷ items) bits =
+    reported-cons show_reporting ended report item items bits
+    ∙ ap (λ (zs : List ℕ). shown item ++ zs) (reported-show ended report items (drop (covered item) bits))
+
+-- the texts of items that are not whole, and the counts
+pub reported-check : (ended : Bool) (report : Check) (items : List Item) (bits : List Bool)
+    → reported check_reporting ended report items bits ≡ flat_map faulty items ++ cond ended (check_line (report.units + units_in items) (report.faults + faults_in items)) []
+unfolding units_in faults_in
+reported-check ended report [] bits =
+    let units : report.units ≡ report.units + 0 = omega arith in
+    let faults : report.faults ≡ report.faults + 0 = omega arith in
+    reported-nil check_reporting ended report bits ∙ ap₂ (λ (u f : ℕ). cond ended (check_line u f) []) units faults
+reported-check ended report (item ∷ items) bits =
+    let next : Check = record { units = report.units + cond (is_whole_item item) 1 0; faults = report.faults + cond (is_whole_item item) 0 1 } in
+    let units : next.units + units_in items ≡ report.units + (cond (is_whole_item item) 1 0 + units_in items) = omega arith in
+    let faults : next.faults + faults_in items ≡ report.faults + (cond (is_whole_item item) 0 1 + faults_in items) = omega arith in
+    reported-cons check_reporting ended report item items bits
+    ∙ ap (λ (zs : List ℕ). faulty item ++ zs) (reported-check ended next items (drop (covered item) bits) ∙ ap₂ (λ (u f : ℕ). flat_map faulty items ++ cond ended (check_line u f) []) units faults)
+    ∙ sym (append_assoc (faulty item) (flat_map faulty items) (cond ended (check_line (report.units + (cond (is_whole_item item) 1 0 + units_in items)) (report.faults + (cond (is_whole_item item) 0 1 + faults_in items))) []))
+
+pub behind-check : (report : Check) (items : List Item) (bits : List Bool) → (report_behind check_reporting report items bits).faults ≡ report.faults + faults_in items
+unfolding faults_in
+behind-check report [] bits =
+    let faults : report.faults ≡ report.faults + 0 = omega arith in
+    ap (λ (r : Check). r.faults) (behind-nil check_reporting report bits) ∙ faults
+behind-check report (item ∷ items) bits =
+    let next : Check = record { units = report.units + cond (is_whole_item item) 1 0; faults = report.faults + cond (is_whole_item item) 0 1 } in
+    let faults : next.faults + faults_in items ≡ report.faults + (cond (is_whole_item item) 0 1 + faults_in items) = omega arith in
+    ap (λ (r : Check). r.faults) (behind-cons check_reporting report item items bits) ∙ behind-check next items (drop (covered item) bits) ∙ faults
+
+-- the octets that the changed bits fill
+pub reported-changed : (ended : Bool) (report : ChangedParts) (items : List Item) (bits : List Bool) → length report.kept < 8
+    → reported changed_reporting ended report items bits ≡ whole_octets (report.kept ++ changed_bits (change_of report.change) items bits)
+unfolding changed_bits
+reported-changed ended report [] bits few =
+    reported-nil changed_reporting ended report bits ∙ no_closing ended [] ∙ sym (whole_octets-few report.kept few) ∙ ap whole_octets (sym (append-nil report.kept))
+reported-changed ended report (item ∷ items) bits few =
+    let raw = take (covered item) bits in
+    let rest = drop (covered item) bits in
+    let all = report.kept ++ change_of report.change item raw in
+    let next : ChangedParts = record { change = report.change; kept = unfilled all } in
+    let few_left : length next.kept < 8 = omega (arith, length-drop (8 * (length all / 8)) all) in
+    reported-cons changed_reporting ended report item items bits
+    ∙ ap (λ (zs : List ℕ). whole_octets all ++ zs) (reported-changed ended next items rest few_left)
+    ∙ whole_octets-append all (changed_bits (change_of report.change) items rest)
+    ∙ ap whole_octets (append_assoc report.kept (change_of report.change item raw) (changed_bits (change_of report.change) items rest))

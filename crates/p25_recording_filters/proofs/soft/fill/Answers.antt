@@ -1,0 +1,75 @@
+use Rattle.std.proofs.Common.{◌≡◌, ◌≢◌, ◌+◌, ◌-◌, ◌%◌, ◌^◌, ◌<◌, [], ◌∷◌, ◌++◌, List, length, replicate, refl, ap, sym, ◌∙◌, arith, append_assoc, append-nil, length-append, ℤ, pos}
+use Rattle.std.proofs.lemmas.List.{replicate-append-replicate}
+use Rattle.p25_stream.specs.Scan.{Scan, given}
+use Rattle.p25_recording_filters.specs.SoftLevels.{filled}
+use Rattle.p25_recording_filters.specs.Softs.{first_level}
+use Rattle.p25_recording_filters.proofs.soft.fill.Goals as goal
+
+pub loop-filled-init : goal.loop-filled-init
+loop-filled-init c = record {
+  list = sym (append-nil c.args.levels.now);
+  len = omega arith;
+  holding = c.requires.holding;
+  place = refl;
+  going = c.requires.going;
+  same = λ open_group. refl;
+}
+
+pub hear-requires-clause-drained : goal.hear-requires-clause-drained
+hear-requires-clause-drained c = ap (λ (s : Scan). given s) (c.loop-filled.invariant.same c.loop-filled-test.true) ∙ c.requires.drained
+
+pub hear-requires-clause-going : goal.hear-requires-clause-going
+hear-requires-clause-going c = c.loop-filled.invariant.going
+
+pub hear-requires-clause-holding : goal.hear-requires-clause-holding
+hear-requires-clause-holding c = c.loop-filled.invariant.holding
+
+pub hear-requires-clause-few : goal.hear-requires-clause-few
+hear-requires-clause-few c =
+    let few : first_level c.loop-filled.scanner.place + length c.loop-filled.levels < 2 ^ 29
+    = omega (arith, c.loop-filled.invariant.place, c.loop-filled.invariant.len, c.requires.few, c.loop-filled-test.true) in
+    few
+
+pub loop-filled-preserved : goal.loop-filled-preserved
+loop-filled-preserved c =
+    let levels = c.args.levels.now in
+    let i = c.loop-filled._filled in
+    let inv = c.loop-filled.invariant in
+    let count : length c.hear.new.levels ≡ length levels + (i + 1)
+    = omega (arith, ap length c.hear.ensures.list, length-append c.loop-filled.levels (pos 32 ∷ []), inv.len) in
+    record {
+      list =
+          c.hear.ensures.list
+          ∙ ap (λ (ls : List ℤ). ls ++ pos 32 ∷ []) inv.list
+          ∙ append_assoc levels (replicate i (pos 32)) (pos 32 ∷ [])
+          ∙ ap (λ (ls : List ℤ). levels ++ ls) (replicate-append-replicate i 1 (pos 32));
+      len = count;
+      holding = c.hear.ensures.holding;
+      place = c.hear.ensures.place ∙ inv.place;
+      going = c.hear.ensures.going;
+      same = λ more.
+          let open_group : length c.hear.new.levels % 4 ≢ 0 = omega (arith, count, more, c.len.ensures) in
+          c.hear.ensures.quiet open_group ∙ inv.same c.loop-filled-test.true;
+    }
+
+pub returns-clause-list : goal.returns-clause-list
+unfolding filled
+returns-clause-list c =
+    let levels = c.args.levels.now in
+    let all : c.loop-filled._filled ≡ (4 - length levels % 4) % 4 = omega (arith, c.len.ensures) in
+    c.loop-filled.invariant.list ∙ ap (λ n. levels ++ replicate n (pos 32)) all
+
+pub returns-clause-full : goal.returns-clause-full
+returns-clause-full c = omega (arith, c.loop-filled.invariant.len, c.len.ensures)
+
+pub returns-clause-few : goal.returns-clause-few
+returns-clause-few c = omega (arith, c.loop-filled.invariant.len, c.len.ensures)
+
+pub returns-clause-holding : goal.returns-clause-holding
+returns-clause-holding c = c.loop-filled.invariant.holding
+
+pub returns-clause-place : goal.returns-clause-place
+returns-clause-place c = c.loop-filled.invariant.place
+
+pub returns-clause-going : goal.returns-clause-going
+returns-clause-going c = c.loop-filled.invariant.going

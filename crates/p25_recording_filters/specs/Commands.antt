@@ -1,0 +1,77 @@
+-- The reports of the commands, item by item.
+use Rattle.std.specs.Prelude.{◌^◌, ◌+◌, ◌*◌, ◌/◌, ◌<◌, Bool, cond, ◌≤◌, ℕ, List, [], ◌++◌, length, drop, flat_map, option_to_list}
+use Rattle.p25_units.specs.declared.item.Item.{Item}
+use Rattle.p25_stream.specs.Repeats.{bridged, is_whole_item, repaired}
+use Rattle.p25_filter.specs.declared.ending.Ending.TheVariants.{Done}
+use Rattle.p25_recording_filters.specs.declared.reports.show.Show.{Show}
+use Rattle.p25_recording_filters.specs.declared.reports.changed.Change.{Change}
+use Rattle.p25_recording_filters.specs.declared.reports.changed.Change.TheVariants.{Repaired, Bridged}
+use Rattle.p25_calls.specs.Taking.{CallerParts, HasSoundPending, answer_to, behind_item, open_call}
+use Rattle.p25_recording_filters.specs.ItemOutputs.{whole_octets, shown, faulty, call_line, calls_line, check_line, check_ending}
+use Rattle.p25_recording_filters.specs.Reports.{Reporting}
+
+abbrev pub show_reporting : Reporting Show
+show_reporting = record { piece = λ report item raw. shown item; behind = λ report item raw. report; closing = λ report. []; ending = λ report. Done }
+
+-- how many items were whole units, and how many were not
+pub record CheckParts : Type 0 where
+  pub units : ℕ
+  pub faults : ℕ
+
+abbrev pub check_reporting : Reporting CheckParts
+check_reporting = record {
+  piece = λ report item raw. faulty item;
+  behind = λ report item raw. record { units = report.units + cond (is_whole_item item) 1 0; faults = report.faults + cond (is_whole_item item) 0 1 };
+  closing = λ report. check_line report.units report.faults;
+  ending = λ report. check_ending report.faults;
+}
+
+-- a change of the bits of a recording, and the bits that are kept back
+pub record ChangedParts : Type 0 where
+  pub change : Change
+  pub kept : List Bool
+
+-- the bits of an item, changed
+abbrev pub change_of : Change → Item → List Bool → List Bool
+change_of Repaired item raw = repaired item raw
+change_of (Bridged nac status) item raw = bridged nac status item []
+
+-- the network access code of a change is one
+abbrev pub IsSoundChange : Change → Type 0
+IsSoundChange Repaired = Unit {0}
+IsSoundChange (Bridged nac status) = nac < 4096
+
+-- the last bits, which do not fill an octet
+abbrev pub unfilled : List Bool → List Bool
+unfilled bits = drop (8 * (length bits / 8)) bits
+
+abbrev pub changed_reporting : Reporting ChangedParts
+changed_reporting = record {
+  piece = λ report item raw. whole_octets (report.kept ++ change_of report.change item raw);
+  behind = λ report item raw. record { change = report.change; kept = unfilled (report.kept ++ change_of report.change item raw) };
+  closing = λ report. [];
+  ending = λ report. Done;
+}
+
+-- a caller, and how many calls it has answered
+pub record CallsParts : Type 0 where
+  pub caller : CallerParts
+  pub count : ℕ
+
+-- it has answered no more calls than it took items, of which there are few, and the run that is open has a network access code
+pub record IsCalls (report : CallsParts) : Type 0 where
+  pub sound : HasSoundPending report.caller
+  pub fewer : report.count ≤ report.caller.taken
+  pub few : report.caller.taken ≤ 2 ^ 29
+
+abbrev pub calls_reporting : Reporting CallsParts
+calls_reporting = record {
+  piece = λ report item raw. flat_map call_line (option_to_list (answer_to report.caller item));
+  behind = λ report item raw. record {
+    caller = behind_item report.caller item;
+    count = report.count + length (option_to_list (answer_to report.caller item));
+  };
+  closing = λ report.
+      let last = option_to_list (open_call report.caller) in flat_map call_line last ++ calls_line (report.count + length last);
+  ending = λ report. Done;
+}

@@ -1,0 +1,63 @@
+-- What is written of the items of a recording.
+use Rattle.std.specs.Prelude.{ℕ, ◌+◌, ◌/◌, Bool, cond, nat_eq, List, [], ◌∷◌, ◌++◌, length, map, take, drop, codes, decimal}
+use Rattle.p25_bits.specs.Numbers.{octets_from}
+use Rattle.p25_units.specs.Items.{covered}
+use Rattle.p25_units.specs.declared.item.Item.{Item}
+use Rattle.p25_stream.specs.Items.{items_by}
+use Rattle.p25_soft.specs.Levels.{hard_bits}
+use Rattle.p25_stream.specs.Repeats.{is_whole_item}
+use Rattle.p25_text.specs.ItemTexts.{item_text_of}
+use Rattle.p25_calls.specs.CallTexts.{call_text_of}
+use Rattle.p25_calls.specs.declared.call.Call.{Call}
+use Rattle.p25_filter.specs.declared.ending.Ending.{Ending}
+use Rattle.p25_filter.specs.declared.ending.Ending.TheVariants.{Done, Found}
+use Rattle.p25_recording_filters.specs.SoftLevels.{item_softened, octet_level, scanned}
+
+-- the octets that bits fill, most significant bit first
+abbrev pub whole_octets : List Bool → List ℕ
+whole_octets bits = octets_from (length bits / 8) bits
+
+-- the text of an item and the end of its line
+abbrev pub shown : Item → List ℕ
+shown item = item_text_of item ++ 10 ∷ []
+
+-- the text of an item that is not a whole unit, and the end of its line
+abbrev pub faulty : Item → List ℕ
+faulty item = cond (is_whole_item item) [] (shown item)
+
+-- how many items are whole units, and how many are not
+unfoldable pub units_in : List Item → ℕ
+units_in [] = 0
+units_in (item ∷ items) = cond (is_whole_item item) 1 0 + units_in items
+
+unfoldable pub faults_in : List Item → ℕ
+faults_in [] = 0
+faults_in (item ∷ items) = cond (is_whole_item item) 0 1 + faults_in items
+
+-- the last line of a check
+abbrev pub check_line : ℕ → ℕ → List ℕ
+check_line units faults = codes "check units=" ++ decimal units ++ codes " faults=" ++ decimal faults ++ 10 ∷ []
+
+-- how a check of some items ends
+abbrev pub check_ending : ℕ → Ending
+check_ending faults = cond (nat_eq faults 0) Done (Found faults)
+
+-- the bits of items that lie end to end over some bits, each by a change of the bits that it covers
+unfoldable pub changed_bits : (Item → List Bool → List Bool) → List Item → List Bool → List Bool
+changed_bits change [] bits = []
+changed_bits change (item ∷ items) bits = change item (take (covered item) bits) ++ changed_bits change items (drop (covered item) bits)
+
+-- the text of a call and the end of its line
+abbrev pub call_line : Call → List ℕ
+call_line call = call_text_of call ++ 10 ∷ []
+
+-- how many calls there are
+abbrev pub calls_line : ℕ → List ℕ
+calls_line count = codes "calls=" ++ decimal count ++ 10 ∷ []
+
+-- what `soft` writes for the octets of a soft recording, whether they are all or more may come: the bits of all items of the hard
+-- bits of its levels, each broken packet that begins at an even place softened
+unfoldable pub soft_output : Bool → List ℕ → List ℕ
+soft_output ended octets =
+    let levels = scanned ended (map octet_level octets) in
+    whole_octets (changed_bits (item_softened 0 levels) (items_by ended 0 (hard_bits levels)) (hard_bits levels))

@@ -1,0 +1,87 @@
+-- A report at work on a recording: what it still writes, for any bits that may still come.
+use Rattle.std.specs.Prelude.{◌≡◌, ℕ, Bool, true, false, cond, List, [], ◌++◌, Option, Some, None}
+use Rattle.p25_bits.specs.Bits.{octet_bits}
+use Rattle.p25_stream.specs.Items.{items_by}
+use Rattle.p25_stream.specs.Scan.{Scan, Gave, given}
+use Rattle.p25_units.specs.declared.item.Item.{Item}
+use Rattle.p25_filter.specs.Futures.{Future}
+use Rattle.p25_filter.specs.declared.ending.Ending.{Ending}
+use Rattle.p25_recording_filters.specs.declared.recording.Phase.{Phase}
+use Rattle.p25_recording_filters.specs.declared.recording.Phase.TheVariants.{Reading, Ended, Closed}
+use Rattle.p25_recording_filters.specs.Reports.{Reporting, reported, report_behind}
+
+-- the report, the bits that are held, and how far the work has come
+pub record RecordingParts (R : Type 0) : Type 0 where
+  pub report : R
+  pub scan : Scan
+  pub phase : Phase
+
+abbrev pub recording : {R : Type 0} → R → Scan → Phase → RecordingParts R
+recording report scan phase = record { report = report; scan = scan; phase = phase }
+
+-- the input has ended
+abbrev pub has_ended : Phase → Bool
+has_ended Reading = false
+has_ended Ended = true
+has_ended Closed = true
+
+-- how many pieces come beside those of items
+abbrev pub pieces_of : Phase → ℕ
+pieces_of Reading = 0
+pieces_of Ended = 1
+pieces_of Closed = 0
+
+-- once what is written at the end was given, no item is left
+abbrev pub HasClosed : Phase → Scan → Type 0
+HasClosed phase scan = phase ≡ Closed → given scan ≡ []
+
+-- before the first octet
+abbrev pub fresh : {R : Type 0} → R → RecordingParts R
+fresh report = record { report = report; scan = record { place = 0; held = []; finished = false }; phase = Reading }
+
+-- what is written of bits from a place on, and how the call ends by them
+abbrev pub bits_written : {R : Type 0} → Reporting R → Bool → R → ℕ → List Bool → List ℕ
+bits_written reporting ended report place bits = reported reporting ended report (items_by ended place bits) bits
+
+abbrev pub bits_ending : {R : Type 0} → Reporting R → Bool → R → ℕ → List Bool → Option Ending
+bits_ending reporting ended report place bits = cond ended (Some (reporting.ending (report_behind reporting report (items_by true place bits) bits))) None
+
+-- what a recording still writes, by how far the work has come
+abbrev pub phase_future : {R : Type 0} → Reporting R → R → Scan → Phase → Future
+phase_future reporting report scan Reading = record {
+  writes = λ ended more. bits_written reporting ended report scan.place (scan.held ++ octet_bits more);
+  ends = λ ended more. bits_ending reporting ended report scan.place (scan.held ++ octet_bits more);
+  pauses = λ ended more. [];
+}
+phase_future reporting report scan Ended = record {
+  writes = λ ended more. bits_written reporting true report scan.place scan.held;
+  ends = λ ended more. bits_ending reporting true report scan.place scan.held;
+  pauses = λ ended more. [];
+}
+phase_future reporting report scan Closed = record {
+  writes = λ ended more. [];
+  ends = λ ended more. Some (reporting.ending report);
+  pauses = λ ended more. [];
+}
+
+unfoldable pub recording_future : {R : Type 0} → Reporting R → RecordingParts R → Future
+recording_future reporting work = phase_future reporting work.report work.scan work.phase
+
+-- the next item was given, what is written of it was put, and the report went on after it
+pub record PutItem {R : Type 0} (reporting : Reporting R) (before : RecordingParts R) (out : List ℕ) (now : RecordingParts R) : Type 0 where
+  pub item : Item
+  pub raw : List Bool
+  pub gave : Gave before.scan item raw now.scan
+  pub piece : out ≡ reporting.piece before.report item raw
+  pub behind : now.report ≡ reporting.behind before.report item raw
+  pub phase : now.phase ≡ before.phase
+
+-- what asking for the piece at the end answers: once the input has ended and before it was given, it is given
+abbrev pub IsClosingBy : {R : Type 0} → Reporting R → Phase → RecordingParts R → Bool → List ℕ → RecordingParts R → Type 0
+IsClosingBy reporting Reading before answer out now = (answer ≡ false) × (now ≡ before)
+IsClosingBy reporting Ended before answer out now =
+    (answer ≡ true) × (out ≡ reporting.closing before.report) × (now ≡ record { report = before.report; scan = before.scan; phase = Closed })
+IsClosingBy reporting Closed before answer out now = (answer ≡ false) × (now ≡ before)
+
+abbrev pub IsClosing : {R : Type 0} → Reporting R → RecordingParts R → Bool → List ℕ → RecordingParts R → Type 0
+IsClosing reporting before answer out now = IsClosingBy reporting before.phase before answer out now

@@ -1,0 +1,83 @@
+-- The work of `soft`: what it still writes, for any levels that may still come.
+use Rattle.std.specs.Prelude.{◌≡◌, ℕ, ◌+◌, ◌-◌, ◌*◌, ◌/◌, ◌%◌, ◌≤◌, Bool, true, false, ◌&&◌, cond, nat_eq, List, [], ◌++◌, length, drop, map, ℤ, Some, None}
+use Rattle.p25_bits.specs.Bits.{part}
+use Rattle.p25_units.specs.Items.{covered, place_of}
+use Rattle.p25_units.specs.declared.item.Item.{Item}
+use Rattle.p25_units.specs.declared.item.Item.TheVariants.{Whole, Broken, NoUnit, Gap, Cut}
+use Rattle.p25_stream.specs.Items.{items_by}
+use Rattle.p25_stream.specs.Scan.{Scan, Gave}
+use Rattle.p25_soft.specs.Levels.{hard_bits}
+use Rattle.p25_soft.specs.Softened.{IsHeard}
+use Rattle.p25_filter.specs.Futures.{Future}
+use Rattle.p25_filter.specs.declared.ending.Ending.TheVariants.{Done}
+use Rattle.p25_recording_filters.specs.Commands.{unfilled}
+use Rattle.p25_recording_filters.specs.ItemOutputs.{changed_bits, whole_octets}
+use Rattle.p25_recording_filters.specs.SoftLevels.{grouped, item_softened, octet_level, scanned}
+
+-- the bits that a scanner holds, the levels from that of a whole group before them on, and the bits that are kept back
+pub record SoftParts : Type 0 where
+  pub scan : Scan
+  pub levels : List ℤ
+  pub kept : List Bool
+
+-- before the first octet
+abbrev pub fresh_soft : SoftParts
+fresh_soft = record { scan = record { place = 0; held = []; finished = false }; levels = []; kept = [] }
+
+-- the first level that is held, where a scanner holds the bits from a place on: that of the group of four of the place
+abbrev pub first_level : ℕ → ℕ
+first_level place = 4 * (place / 8)
+
+-- what is written of levels from the first one on, of which the bits from a place on are not written yet
+abbrev pub soft_written : Bool → ℕ → List ℤ → List Bool → List ℕ
+soft_written ended place levels kept =
+    let all = scanned ended levels in
+    let bits = drop (place % 8) (hard_bits all) in
+    whole_octets (kept ++ changed_bits (item_softened (first_level place) all) (items_by ended place bits) bits)
+
+abbrev pub soft_future_by : Bool → SoftParts → Future
+soft_future_by false work = record {
+  writes = λ ended more. soft_written ended work.scan.place (work.levels ++ map octet_level more) work.kept;
+  ends = λ ended more. cond ended (Some Done) None;
+  pauses = λ ended more. [];
+}
+soft_future_by true work = record {
+  writes = λ ended more. soft_written true work.scan.place work.levels work.kept;
+  ends = λ ended more. Some Done;
+  pauses = λ ended more. [];
+}
+
+unfoldable pub soft_future : SoftParts → Future
+soft_future work = soft_future_by work.scan.finished work
+
+-- a scanner holds the bits of whole groups of levels, and once the input has ended there are no other levels
+pub record IsHolding (scan : Scan) (levels : List ℤ) : Type 0 where
+  pub held : scan.held ≡ drop (scan.place % 8) (hard_bits (grouped levels))
+  pub placed : scan.place % 8 ≤ 2 * length (grouped levels)
+  pub full : scan.finished ≡ true → length levels % 4 ≡ 0
+
+-- an item is a broken packet that begins at an even place
+abbrev pub is_even_packet : Item → Bool
+is_even_packet (Broken place count nac duid fields) = nat_eq duid 0xC && nat_eq (place % 2) 0
+is_even_packet (Whole place frame fixes) = false
+is_even_packet (NoUnit place field) = false
+is_even_packet (Gap place count) = false
+is_even_packet (Cut place have) = false
+
+-- the levels of an item among those from the group of its place on
+abbrev pub item_levels : Item → List ℤ → List ℤ
+item_levels item levels = part (place_of item % 8 / 2) (covered item / 2) levels
+
+-- a broken packet at an even place is heard from its levels
+pub record IsHeardAmong (item : Item) (levels : List ℤ) (raw : List Bool) : Type 0 where
+  pub there : place_of item % 8 / 2 + covered item / 2 ≤ length levels
+  pub heard : IsHeard item (item_levels item levels) raw
+
+-- the next item was given, its bits, softened, were put after those kept back, and the levels before those still held are gone
+pub record PutSoftItem (before : SoftParts) (out : List ℕ) (now : SoftParts) : Type 0 where
+  pub item : Item
+  pub raw : List Bool
+  pub gave : Gave before.scan item raw now.scan
+  pub piece : out ≡ whole_octets (before.kept ++ item_softened (first_level before.scan.place) before.levels item raw)
+  pub behind : now.kept ≡ unfilled (before.kept ++ item_softened (first_level before.scan.place) before.levels item raw)
+  pub left : now.levels ≡ drop (first_level now.scan.place - first_level before.scan.place) before.levels

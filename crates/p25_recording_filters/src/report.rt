@@ -1,0 +1,41 @@
+//! What a command writes of the items of a recording.
+
+ghost use Rattle.std.specs.Prelude.{◌≡◌, ℕ, ◌+◌, ◌^◌, ◌<◌, ◌≤◌};
+ghost use Rattle.p25_units.specs.Items.{IsSoundItem, covered, place_of};
+ghost use Rattle.p25_recording_filters.specs.Reports.{Reporting};
+
+use p25_bits::BitBuf;
+use p25_filter::Ending;
+use p25_line::Line;
+use p25_units::Item;
+
+/// What a command writes of the items of a recording, one after the other.
+pub trait Report {
+    /// What it writes of an item and the bits that it covers, what it keeps after it, and what it writes at the end.
+    ghost reporting: { Reporting Self };
+
+    /// How many items it has counted, at most.
+    ghost counted: { Self → ℕ };
+
+    /// It has taken the items of a recording that end at a place.
+    ghost HasReached: { Self → ℕ → Type 0 } = { λ _ _. Unit {0} };
+
+    /// Sets `out` to what is written of an item and the bits that it covers, and changes these.
+    fn put(&mut self, item: &Item, raw: &mut BitBuf, out: &mut Line)
+        requires sound { IsSoundItem item.now }
+        requires few { counted self.old < 2 ^ 29 }
+        requires reached { HasReached self.old (place_of item.now) }
+        requires below { place_of item.now < 2 ^ 29 }
+        ensures piece { out.new ≡ reporting.piece self.old item.now raw.old }
+        ensures behind { self.new ≡ reporting.behind self.old item.now raw.old }
+        ensures counted { counted self.new ≤ counted self.old + 1 }
+        ensures reached { HasReached self.new (place_of item.now + covered item.now) };
+
+    /// Sets `out` to what is written at the end of the input.
+    fn close(&self, out: &mut Line)
+        ensures { out.new ≡ reporting.closing self.now };
+
+    /// Answers how the call ends once all is written.
+    fn ending(&self) -> Ending
+        ensures { result ≡ reporting.ending self.now };
+}

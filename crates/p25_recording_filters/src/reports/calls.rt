@@ -1,0 +1,101 @@
+ghost use Rattle.std.specs.Prelude.{◌≡◌, ◌+◌, ◌<◌, ◌≤◌, ◌++◌, [], flat_map, length, option_to_list, IfSome};
+ghost use Rattle.p25_calls.specs.Taking.{fresh_caller};
+ghost use Rattle.p25_recording_filters.specs.ItemOutputs.{call_line, calls_line};
+
+use crate::report::Report;
+use p25_bits::BitBuf;
+use p25_calls::{Call, Caller, call_text};
+use p25_filter::Ending;
+use p25_line::Line;
+use p25_units::Item;
+use std::marker::Model;
+
+/// The text of each call, and at the end how many there were.
+#[derive(Drop)]
+pub struct Calls {
+    caller: Caller,
+    count: u64,
+}
+
+impl Model for Calls {
+    ghost use Rattle.p25_recording_filters.specs.Commands.{CallsParts, IsCalls};
+
+    ghost Value = { CallsParts };
+
+    ghost view = { λ s. record { caller = s.caller; count = s.count } };
+
+    ghost invariant = { λ s. IsCalls (record { caller = s.caller; count = s.count }) };
+}
+
+impl Calls {
+    /// Answers the report before the first item.
+    pub fn new() -> Calls
+        ensures { result ≡ record { caller = fresh_caller; count = 0 } }
+    {
+        Calls {
+            caller: Caller::new(),
+            count: 0,
+        }
+    }
+}
+
+impl Report for Calls {
+    ghost use Rattle.std.specs.Prelude.{◌≡◌};
+    ghost use Rattle.p25_recording_filters.specs.Commands.{calls_reporting};
+
+    ghost reporting = { calls_reporting };
+
+    ghost counted = { λ report. report.caller.taken };
+
+    ghost HasReached = { λ report place. report.caller.reached ≡ place };
+
+    fn put(&mut self, item: &Item, raw: &mut BitBuf, out: &mut Line) {
+        let _ = raw.len();
+        out.clear();
+        let call = self.caller.take(item);
+        self.count += put_call(&call, out);
+    }
+
+    fn close(&self, out: &mut Line) {
+        out.clear();
+        let mut caller = self.caller;
+        let call = caller.finish();
+        let last = put_call(&call, out);
+        put_count(self.count + last, out);
+    }
+
+    fn ending(&self) -> Ending {
+        let _ = &self.count;
+        Ending::Done
+    }
+}
+
+// Sets an empty line to the text of a call and the end of its line, where there is a call, and answers how many there are.
+fn put_call(call: &Option<Call>, out: &mut Line) -> u64
+    requires empty { out.old ≡ [] }
+    requires nac { IfSome call.now (λ call. call.nac < 4096) }
+    ensures text { out.new ≡ flat_map call_line (option_to_list call.now) }
+    ensures short { length out.new ≤ 401 }
+    ensures count { result ≡ length (option_to_list call.now) }
+    ensures one { result ≤ 1 }
+{
+    match call {
+        Some(call) => {
+            call_text(call, out);
+            out.put(b"\n");
+            1
+        }
+        None => 0,
+    }
+}
+
+// Appends the last line: how many calls there were.
+#[tactic(auto, using(p25_line::proofs::DecimalLaws::decimal_short))]
+fn put_count(count: u64, out: &mut Line)
+    requires { length out.old ≤ 401 }
+    ensures { out.new ≡ out.old ++ calls_line count }
+{
+    out.put(b"calls=");
+    out.put_number(count);
+    out.put(b"\n");
+}

@@ -1,0 +1,141 @@
+ghost use Rattle.std.specs.Prelude.{◌≡◌, ◌<◌, ◌≤◌, ◌++◌, [], length, drop};
+ghost use Rattle.p25_units.specs.Items.{IsSoundItem};
+ghost use Rattle.p25_recording_filters.specs.Commands.{IsSoundChange, change_of, unfilled};
+ghost use Rattle.p25_recording_filters.specs.ItemOutputs.{whole_octets};
+
+use crate::report::Report;
+use p25_bits::BitBuf;
+use p25_filter::Ending;
+use p25_line::Line;
+use p25_status::Status;
+use p25_stream::{bridge_item, repair_item_in};
+use p25_units::Item;
+use std::marker::Model;
+
+/// How the bits of a recording are changed.
+#[derive(Clone, Copy, Debug, PartialEq, Eq)]
+pub enum Change {
+    /// Each whole unit as it was sent, and all other bits as they are.
+    Repaired,
+    /// The whole units alone, with another network access code and one status symbol everywhere.
+    Bridged { nac: u16, status: Status },
+}
+
+/// The bits of a recording, changed. At most seven bits that do not fill an octet are kept back.
+#[derive(Drop)]
+pub struct Changed {
+    change: Change,
+    // Where the bits of a frame are made: what it holds means nothing.
+    room: BitBuf,
+    kept: BitBuf,
+}
+
+impl Model for Changed {
+    ghost use Rattle.std.specs.Prelude.{◌<◌, length};
+    ghost use Rattle.p25_recording_filters.specs.Commands.{ChangedParts, IsSoundChange};
+
+    ghost Value = { ChangedParts };
+
+    ghost view = { λ s. record { change = s.change; kept = s.kept } };
+
+    ghost invariant = { λ s. IsSoundChange s.change × (length s.kept < 8) };
+}
+
+impl Changed {
+    /// Answers the report before the first item. A network access code is below 4096.
+    pub fn new(change: Change) -> Changed
+        requires { IsSoundChange change }
+        ensures { result ≡ record { change = change; kept = [] } }
+    {
+        Changed {
+            change,
+            room: BitBuf::new(),
+            kept: BitBuf::new(),
+        }
+    }
+}
+
+impl Report for Changed {
+    ghost use Rattle.p25_recording_filters.specs.Commands.{changed_reporting};
+
+    ghost reporting = { changed_reporting };
+
+    ghost counted = { λ report. 0 };
+
+    fn put(&mut self, item: &Item, raw: &mut BitBuf, out: &mut Line) {
+        change_item(self.change, item, &mut self.room, raw);
+        put_behind(&mut self.kept, raw, out);
+    }
+
+    fn close(&self, out: &mut Line) {
+        let _ = &self.kept;
+        out.clear();
+    }
+
+    fn ending(&self) -> Ending {
+        let _ = &self.kept;
+        Ending::Done
+    }
+}
+
+// Changes the bits that an item covers. `room` takes bits that mean nothing.
+fn change_item(change: Change, item: &Item, room: &mut BitBuf, raw: &mut BitBuf)
+    requires change { IsSoundChange change }
+    requires item { IsSoundItem item.now }
+    ensures { raw.new ≡ change_of change item.now raw.old }
+{
+    match change {
+        Change::Repaired => repair_item_in(item, room, raw),
+        Change::Bridged { nac, status } => {
+            raw.clear();
+            let _ = bridge_item(item, nac, status, raw);
+        }
+    }
+}
+
+// Sets `out` to the octets that kept bits and those after them fill, and keeps the bits that are left.
+pub(crate) fn put_behind(kept: &mut BitBuf, bits: &BitBuf, out: &mut Line)
+    requires { length kept.old < 8 }
+    ensures octets { out.new ≡ whole_octets (kept.old ++ bits.now) }
+    ensures kept { kept.new ≡ unfilled (kept.old ++ bits.now) }
+    ensures few { length kept.new < 8 }
+{
+    out.clear();
+    let missing = 8 - kept.len();
+    if bits.len() < missing {
+        kept.append(bits, 0, bits.len());
+        return;
+    }
+    kept.append(bits, 0, missing);
+    out.put(&[kept.field(0, 8) as u8]);
+    put_octets(bits, missing, out);
+    let rest = (bits.len() - missing) % 8;
+    kept.clear();
+    kept.append(bits, bits.len() - rest, rest);
+}
+
+/// Appends the octets that the bits from a place on fill, the most significant bit first. At most one octet stands in `out`
+/// before.
+pub fn put_octets(bits: &BitBuf, at: usize, out: &mut Line)
+    requires there { at ≤ length bits.now }
+    requires room { length out.old ≤ 1 }
+    ensures { out.new ≡ out.old ++ whole_octets (drop at bits.now) }
+{
+    let words = (bits.len() - at) / 64;
+    for k in 0..words {
+        out.put(&bits.field(at + 64 * k, 64).to_be_bytes());
+    }
+    put_last_octets(bits, at + 64 * words, out);
+}
+
+// Appends the octets that the bits from a place on fill, one after the other.
+fn put_last_octets(bits: &BitBuf, at: usize, out: &mut Line)
+    requires there { at ≤ length bits.now }
+    requires room { length out.old ≤ 4096 }
+    ensures { out.new ≡ out.old ++ whole_octets (drop at bits.now) }
+{
+    let count = (bits.len() - at) / 8;
+    for k in 0..count {
+        out.put(&[bits.field(at + 8 * k, 8) as u8]);
+    }
+}

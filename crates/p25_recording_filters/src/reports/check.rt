@@ -1,0 +1,87 @@
+ghost use Rattle.std.specs.Prelude.{◌≡◌, ◌+◌, ◌^◌, ◌<◌, ◌≤◌, length};
+ghost use Rattle.p25_recording_filters.specs.ItemOutputs.{check_line};
+
+use super::show::put_item_line;
+use crate::report::Report;
+use p25_bits::BitBuf;
+use p25_filter::Ending;
+use p25_line::Line;
+use p25_units::Item;
+use std::marker::Model;
+
+/// The text of each item that is not a whole unit, and at the end how many units and others there were.
+#[derive(Drop)]
+pub struct Check {
+    units: u64,
+    faults: u64,
+}
+
+impl Model for Check {
+    ghost use Rattle.p25_recording_filters.specs.Commands.{CheckParts};
+
+    ghost Value = { CheckParts };
+
+    ghost view = { λ s. record { units = s.units; faults = s.faults } };
+}
+
+impl Check {
+    /// Answers the report before the first item.
+    pub fn new() -> Check
+        ensures { result ≡ record { units = 0; faults = 0 } }
+    {
+        Check {
+            units: 0,
+            faults: 0,
+        }
+    }
+}
+
+impl Report for Check {
+    ghost use Rattle.std.specs.Prelude.{◌+◌};
+    ghost use Rattle.p25_recording_filters.specs.Commands.{check_reporting};
+
+    ghost reporting = { check_reporting };
+
+    ghost counted = { λ report. report.units + report.faults };
+
+    fn put(&mut self, item: &Item, raw: &mut BitBuf, out: &mut Line) {
+        let _ = raw.len();
+        match item {
+            Item::Whole { .. } => {
+                self.units += 1;
+                out.clear();
+            }
+            Item::Broken { .. } | Item::NoUnit { .. } | Item::Gap { .. } | Item::Cut { .. } => {
+                self.faults += 1;
+                put_item_line(item, out);
+            }
+        }
+    }
+
+    fn close(&self, out: &mut Line) {
+        put_check_line(self.units, self.faults, out);
+    }
+
+    fn ending(&self) -> Ending {
+        if self.faults == 0 {
+            Ending::Done
+        } else {
+            Ending::Found {
+                faults: self.faults,
+            }
+        }
+    }
+}
+
+// Sets `out` to the last line of a check.
+#[tactic(auto, using(p25_line::proofs::DecimalLaws::decimal_short))]
+fn put_check_line(units: u64, faults: u64, out: &mut Line)
+    ensures { out.new ≡ check_line units faults }
+{
+    out.clear();
+    out.put(b"check units=");
+    out.put_number(units);
+    out.put(b" faults=");
+    out.put_number(faults);
+    out.put(b"\n");
+}

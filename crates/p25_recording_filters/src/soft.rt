@@ -1,0 +1,212 @@
+//! The work of `soft` on a soft recording: its levels become bits, and the blocks of broken packets are read again from them.
+
+ghost use Rattle.std.specs.Prelude.{◌≡◌, ◌≢◌, ◌+◌, ◌-◌, ◌%◌, ◌^◌, ◌<◌, ◌≤◌, true, false, [], ◌∷◌, ◌++◌, length, drop};
+ghost use Rattle.p25_bits.specs.Bits.{bits_of};
+ghost use Rattle.p25_stream.specs.Scan.{given};
+ghost use Rattle.p25_units.specs.Items.{covered, place_of};
+ghost use Rattle.p25_soft.specs.Levels.{hard_bits};
+ghost use Rattle.p25_recording_filters.specs.Commands.{unfilled};
+ghost use Rattle.p25_recording_filters.specs.ItemOutputs.{whole_octets};
+ghost use Rattle.p25_recording_filters.specs.SoftLevels.{filled, item_softened};
+ghost use Rattle.p25_recording_filters.specs.Softs.{IsHeardAmong, IsHolding, PutSoftItem, first_level, fresh_soft, is_even_packet};
+
+use crate::held_levels::HeldLevels;
+use crate::reports::put_behind;
+use p25_bch_nid::PDU;
+use p25_bits::BitBuf;
+use p25_filter::{Ending, Filter, Refusal};
+use p25_line::Line;
+use p25_soft::{hard, soften};
+use p25_stream::laws::item_laws;
+use p25_stream::{Item, Scanner};
+use std::marker::Model;
+
+// The level with which the last group of four is filled.
+const FILLER: i8 = 32;
+
+/// A recording of levels at work: a filter that gives the bits of its items, in which failing blocks of packets are read from
+/// the levels. At most seven bits that do not fill an octet are kept back.
+#[derive(Drop)]
+pub struct Soft {
+    scanner: Scanner,
+    levels: HeldLevels,
+    kept: BitBuf,
+    raw: BitBuf,
+}
+
+impl Model for Soft {
+    ghost use Rattle.std.specs.Prelude.{◌+◌, ◌^◌, ◌<◌, length};
+    ghost use Rattle.p25_recording_filters.specs.Softs.{IsHolding, SoftParts, first_level};
+
+    ghost Value = { SoftParts };
+
+    ghost view = { λ s. record { scan = s.scanner; levels = s.levels; kept = s.kept } };
+
+    ghost invariant = { λ s. IsHolding s.scanner s.levels
+        × (length s.kept < 8)
+        × (first_level s.scanner.place + length s.levels < 2 ^ 29) };
+}
+
+// The octet whose bits four levels are nearest to.
+fn group_octet(levels: &[i8]) -> u8
+    requires { length levels.now ≡ 4 }
+    ensures { bits_of 8 result ≡ hard_bits levels.now }
+{
+    64 * hard(levels[0]) + 16 * hard(levels[1]) + 4 * hard(levels[2]) + hard(levels[3])
+}
+
+// Takes a level, and hands its group to the scanner where it is the last of four.
+fn hear(levels: &mut HeldLevels, level: i8, scanner: &mut Scanner)
+    requires drained { given scanner.old ≡ [] }
+    requires going { scanner.old.finished ≡ false }
+    requires holding { IsHolding scanner.old levels.old }
+    requires few { first_level scanner.old.place + length levels.old < 2 ^ 29 }
+    ensures list { levels.new ≡ levels.old ++ level ∷ [] }
+    ensures holding { IsHolding scanner.new levels.new }
+    ensures place { scanner.new.place ≡ scanner.old.place }
+    ensures going { scanner.new.finished ≡ false }
+    ensures quiet { length levels.new % 4 ≢ 0 → scanner.new ≡ scanner.old }
+{
+    // The number of bits held bounds that of the levels.
+    let _ = scanner.held();
+    levels.push(level);
+    let len = levels.len();
+    if len % 4 == 0 {
+        scanner.push(group_octet(levels.part(len - 4, 4)));
+    }
+}
+
+// Fills the last group, and hands it to the scanner.
+fn fill(levels: &mut HeldLevels, scanner: &mut Scanner)
+    requires drained { given scanner.old ≡ [] }
+    requires going { scanner.old.finished ≡ false }
+    requires holding { IsHolding scanner.old levels.old }
+    requires few { first_level scanner.old.place + length levels.old < 2 ^ 28 }
+    ensures list { levels.new ≡ filled levels.old }
+    ensures full { length levels.new % 4 ≡ 0 }
+    ensures few { length levels.new < length levels.old + 4 }
+    ensures holding { IsHolding scanner.new levels.new }
+    ensures place { scanner.new.place ≡ scanner.old.place }
+    ensures going { scanner.new.finished ≡ false }
+{
+    let missing = (4 - levels.len() % 4) % 4;
+    for _filled in 0..missing {
+        hear(levels, FILLER, scanner);
+    }
+}
+
+// Whether an item is a broken packet that begins at an even place.
+fn is_even_packet(item: &Item) -> bool
+    ensures { result ≡ is_even_packet item.now }
+{
+    match item {
+        Item::Broken { place, duid, .. } => *duid == PDU && *place % 2 == 0,
+        _ => false,
+    }
+}
+
+// Softens the bits of an item, with the levels from the group of its place on.
+fn soften_item(item: &Item, levels: &HeldLevels, raw: &mut BitBuf)
+    requires { is_even_packet item.now ≡ true → IsHeardAmong item.now levels.now raw.old }
+    ensures list { raw.new ≡ item_softened (first_level (place_of item.now)) levels.now item.now raw.old }
+    ensures len { length raw.new ≡ length raw.old }
+{
+    if !is_even_packet(item) {
+        return;
+    }
+    let at = (item.place() % 8 / 2) as usize;
+    let count = (item.covered() / 2) as usize;
+    let _ = soften(item, levels.part(at, count), raw);
+}
+
+// Sets `out` to the octets that an item's bits, softened, fill after those kept back, and lets the levels go before the group
+// of the place after it.
+fn put_item(
+    item: &Item,
+    levels: &mut HeldLevels,
+    kept: &mut BitBuf,
+    raw: &mut BitBuf,
+    out: &mut Line,
+)
+    requires heard { is_even_packet item.now ≡ true → IsHeardAmong item.now levels.old raw.old }
+    requires kept { length kept.old < 8 }
+    requires there { first_level (place_of item.now + covered item.now) - first_level (place_of item.now) ≤ length levels.old }
+    requires fits { place_of item.now + covered item.now < 2 ^ 61 }
+    ensures piece { out.new ≡ whole_octets (kept.old ++ item_softened (first_level (place_of item.now)) levels.old item.now raw.old) }
+    ensures behind { kept.new ≡ unfilled (kept.old ++ item_softened (first_level (place_of item.now)) levels.old item.now raw.old) }
+    ensures few { length kept.new < 8 }
+    ensures left { levels.new ≡ drop (first_level (place_of item.now + covered item.now) - first_level (place_of item.now)) levels.old }
+{
+    soften_item(item, levels, raw);
+    put_behind(kept, raw, out);
+    let place = item.place();
+    let behind = place + item.covered();
+    levels.drop_front((4 * (behind / 8) - 4 * (place / 8)) as usize);
+}
+
+impl Soft {
+    /// Answers the work before the first octet.
+    pub fn new() -> Soft
+        ensures { result ≡ fresh_soft }
+    {
+        Soft {
+            scanner: Scanner::new(),
+            levels: HeldLevels::new(),
+            kept: BitBuf::new(),
+            raw: BitBuf::new(),
+        }
+    }
+
+    // Sets `out` to the octets that are written of the next item. There is one.
+    fn put_next(&mut self, out: &mut Line)
+        requires { given self.old.scan ≢ [] }
+        ensures { PutSoftItem self.old out.new self.new }
+    {
+        // An item is large: it is not moved.
+        match &self.scanner.next(&mut self.raw) {
+            Some(item) => put_item(item, &mut self.levels, &mut self.kept, &mut self.raw, out),
+            None => unreachable!(),
+        }
+    }
+}
+
+impl Filter for Soft {
+    ghost use Rattle.std.specs.Prelude.{◌≡◌, ◌+◌, [], length};
+    ghost use Rattle.p25_stream.specs.Scan.{given};
+    ghost use Rattle.p25_recording_filters.specs.Softs.{first_level, soft_future};
+
+    ghost future = { soft_future };
+
+    ghost is_finished = { λ s. s.scan.finished };
+
+    ghost IsDrained = { λ s. given s.scan ≡ [] };
+
+    ghost pieces_left = { λ s. length s.scan.held };
+
+    ghost size = { λ s. first_level s.scan.place + length s.levels };
+
+    fn push(&mut self, octet: u8) {
+        let _ = &self.kept;
+        hear(&mut self.levels, octet.cast_signed(), &mut self.scanner);
+    }
+
+    fn finish(&mut self) {
+        let _ = &self.kept;
+        fill(&mut self.levels, &mut self.scanner);
+        self.scanner.finish();
+    }
+
+    fn next(&mut self, out: &mut Line) -> Result<bool, Refusal> {
+        if self.scanner.is_drained() {
+            return Ok(false);
+        }
+        item_laws();
+        self.put_next(out);
+        Ok(true)
+    }
+
+    fn ending(&self) -> Ending {
+        let _ = &self.kept;
+        Ending::Done
+    }
+}

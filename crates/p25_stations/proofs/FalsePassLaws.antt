@@ -1,0 +1,96 @@
+-- Which deliveries are false passes, and how they are counted. By what is carried.
+use Rattle.std.proofs.Common.{◌≡◌, ℕ, ◌≤◌, inl, inr, Bool, true, false, List, [], ◌∷◌, Option, Some, None, refl, ap, sym, ◌∙◌, arith}
+use Rattle.std.specs.Prelude.{IfSome}
+use Rattle.std.proofs.lemmas.Bool.{cases_lt, false≢true}
+use Rattle.p25_packet_blocks.specs.declared.packet.Packet.{Packet}
+use Rattle.p25_packet_blocks.specs.Sendable.{IsSendable}
+use Rattle.p25_delivery.specs.declared.step_kind.Way.{Way}
+use Rattle.p25_delivery.specs.declared.step_kind.Way.TheVariants.{Packets, Answers}
+use Rattle.p25_stations.specs.declared.air.Carried.{Carried}
+use Rattle.p25_stations.specs.declared.step.Event.{Event}
+use Rattle.p25_stations.specs.declared.step.Event.TheVariants.{Send, Timeout, Reopen, ToReceiver, ToSender}
+use Rattle.p25_stations.specs.declared.step.Step.{Step}
+use Rattle.p25_stations.specs.Air.{places_within, ArrivesWithin}
+use Rattle.p25_stations.specs.WorldState.{WorldState, first_world}
+use Rattle.p25_stations.specs.Steps.{counted_when, newest_by, carried, delivered, world_step}
+use Rattle.p25_stations.specs.Runs.{world_run, steps_of, AreClean, IsCleanRun}
+use Rattle.p25_stations.specs.RunLaws.{IsWithin, IsTwiceDamaged}
+use Rattle.p25_stations.proofs.AirLaws.{ReadsWithin, air-within}
+use Rattle.p25_stations.proofs.FewFlipsLaws.{few-arrive}
+use Rattle.p25_stations.proofs.SoundLaws.{IsSoundLink}
+use Rattle.p25_stations.proofs.StepLaws.{Does, rests, does, step-does}
+
+-- Within radius.
+
+delivered-within : ReadsWithin → (w : WorldState) (way : Way) (newest : Option Packet) (flips : List ℕ) → IfSome newest IsSendable → IfSome newest (λ packet. ArrivesWithin packet flips) → (delivered w way newest flips).1.false_pass ≡ false
+unfolding delivered carried
+delivered-within reads w way None flips sendable within = refl
+delivered-within reads w way (Some packet) flips sendable within = ap (λ (c : Carried). (carried w way c).1.false_pass) (air-within reads packet flips sendable within)
+
+pub step-within : ReadsWithin → (w : WorldState) (event : Event) → IsSoundLink w.link → IsWithin w event → (world_step w event).1.false_pass ≡ false
+unfolding world_step newest_by IsWithin
+step-within reads w (Send message) sound within = refl
+step-within reads w Timeout sound within = refl
+step-within reads w Reopen sound within = refl
+step-within reads w (ToReceiver flips) sound within = delivered-within reads w Packets w.link.packet_sent flips sound.packet_sent within
+step-within reads w (ToSender flips) sound within = delivered-within reads w Answers w.link.answer flips sound.answer within
+
+-- A false pass takes two wrong bits.
+
+twice : (packet : Packet) (flips : List ℕ) (false_pass : Bool) → (ArrivesWithin packet flips → false_pass ≡ false) → false_pass ≡ true → IsSendable packet → 2 ≤ places_within packet flips
+twice packet flips false_pass clean e sendable =
+    elim (cases_lt (places_within packet flips) 2) [
+      | inl few ↦ absurd (false≢true (sym (clean (few-arrive packet flips sendable few)) ∙ e))
+      | inr many ↦ omega arith
+    ]
+
+delivered-twice : ReadsWithin → (w : WorldState) (way : Way) (newest : Option Packet) (flips : List ℕ) → IfSome newest IsSendable → (delivered w way newest flips).1.false_pass ≡ true →
+    (packet : Packet) × (newest ≡ Some packet) × (2 ≤ places_within packet flips)
+unfolding delivered
+delivered-twice reads w way None flips sendable e = absurd (false≢true e)
+delivered-twice reads w way (Some packet) flips sendable e =
+    (packet, refl, twice packet flips (delivered w way (Some packet) flips).1.false_pass (λ (within : ArrivesWithin packet flips). delivered-within reads w way (Some packet) flips sendable within) e sendable)
+
+pub step-twice : ReadsWithin → (w : WorldState) (event : Event) → IsSoundLink w.link → (world_step w event).1.false_pass ≡ true → IsTwiceDamaged w event
+unfolding world_step newest_by IsTwiceDamaged
+step-twice reads w (Send message) sound e = false≢true e
+step-twice reads w Timeout sound e = false≢true e
+step-twice reads w Reopen sound e = false≢true e
+step-twice reads w (ToReceiver flips) sound e = delivered-twice reads w Packets w.link.packet_sent flips sound.packet_sent e
+step-twice reads w (ToSender flips) sound e = delivered-twice reads w Answers w.link.answer flips sound.answer e
+
+-- The count.
+
+counts : (w : WorldState) (event : Event) (x : WorldState × Step) → Does w event x → x.0.false_passes ≡ counted_when x.1.false_pass w.false_passes
+unfolding counted_when
+counts w event x (rests kind quiet) = refl
+counts w event x (does happening false_pass has) = refl
+
+pub step-counts : (w : WorldState) (event : Event) → (world_step w event).0.false_passes ≡ counted_when (world_step w event).1.false_pass w.false_passes
+step-counts w event = counts w event (world_step w event) (step-does w event)
+
+none-before : (b : Bool) (count : ℕ) → counted_when b count ≡ 0 → (b ≡ false) × (count ≡ 0)
+unfolding counted_when
+none-before true count e = absurd (omega arith)
+none-before false count e = (refl, e)
+
+-- where none is counted after a run, none was before, and none of its steps was one
+none-counted : (events : List Event) (w : WorldState) → (world_run w events).false_passes ≡ 0 → (w.false_passes ≡ 0) × AreClean (steps_of w events)
+unfolding world_run steps_of AreClean
+none-counted [] w e = (e, tt)
+none-counted (event ∷ events) w e =
+    let rest = none-counted events (world_step w event).0 e in
+    let here = none-before (world_step w event).1.false_pass w.false_passes (sym (step-counts w event) ∙ rest.0) in
+    (here.1, (here.0, rest.1))
+
+pub clean-from_none : (events : List Event) → (world_run first_world events).false_passes ≡ 0 → IsCleanRun events
+clean-from_none events e = (none-counted events first_world e).1
+
+none-from : (events : List Event) (w : WorldState) → w.false_passes ≡ 0 → AreClean (steps_of w events) → (world_run w events).false_passes ≡ 0
+unfolding world_run steps_of AreClean counted_when
+none-from [] w e clean = e
+none-from (event ∷ events) w e clean =
+    none-from events (world_step w event).0 (step-counts w event ∙ ap (λ (b : Bool). counted_when b w.false_passes) clean.0 ∙ e) clean.1
+
+pub none-from_clean : (events : List Event) → IsCleanRun events → (world_run first_world events).false_passes ≡ 0
+none-from_clean events clean = none-from events first_world refl clean

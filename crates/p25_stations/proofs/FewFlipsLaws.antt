@@ -1,0 +1,157 @@
+-- A transmission of which at most one bit comes inverted arrives within radius: no part of it differs in more places than the
+-- whole. By recursion on the bits and on the flips.
+use Rattle.std.proofs.Common.{◌≡◌, ℕ, zero, suc, ◌+◌, ◌*◌, ◌/◌, ◌<◌, ◌≤◌, inl, inr, Bool, true, false, cond, not, List, [], ◌∷◌, ◌++◌, length, take, drop, replicate, refl, ap, ap₂, sym, subst, ◌∙◌, arith, length-append, length-drop}
+use Rattle.std.specs.Prelude.{nat_lt, count_by}
+use Rattle.std.specs.Bool.{beq}
+use Rattle.std.proofs.lemmas.Bool.{cases_lt}
+use Rattle.std.proofs.lemmas.Bool.Decides.{nat_tests}
+use Rattle.std.proofs.lemmas.List.{take-take, length-replicate}
+use Rattle.std.proofs.lemmas.List.Sums.{sum_by-cons}
+use Rattle.p25_bits.specs.Bits.{part, flipped}
+use Rattle.p25_bits.specs.Distance.{distance_by, distance_of}
+use Rattle.p25_bits.proofs.PartLaws.{length-part}
+use Rattle.p25_bits.proofs.DistanceLaws.{distance_by-append, distance_of-same, distance_of-sym, distance_of-triangle}
+use Rattle.p25_status.specs.Woven.{plain_in, plain_of}
+use Rattle.p25_status.proofs.WovenLaws.{length-woven, length-plain_of}
+use Rattle.p25_unit_front.specs.Front.{identifier_bits}
+use Rattle.p25_packet_blocks.specs.declared.packet.Packet.{Packet}
+use Rattle.p25_packet_blocks.specs.declared.packet.Packet.TheVariants.{Confirmed, Plain}
+use Rattle.p25_packet_blocks.specs.Heads.{head_blocks}
+use Rattle.p25_packet_blocks.specs.Whole.{packet_head}
+use Rattle.p25_packet_blocks.specs.Lengths.{packet_parts}
+use Rattle.p25_packet_blocks.specs.Reading.{header_bits, block_bits}
+use Rattle.p25_packet_blocks.specs.Image.{packet_image_of}
+use Rattle.p25_packet_blocks.specs.Sendable.{IsSendable}
+use Rattle.p25_packet_blocks.specs.Within.{block_radius}
+use Rattle.p25_packet_blocks.proofs.PlacesLaws.{image_long}
+use Rattle.p25_stations.specs.Air.{places_within, station_nac, station_status, transmission_of, with_flips, received_bits, ArrivesWithin}
+use Rattle.p25_stations.proofs.AirLoopLaws.{flipped-past, length-flipped}
+
+-- Distances of parts.
+
+distance-split : (n : ℕ) (xs ys : List Bool) → length xs ≡ length ys → distance_of (take n xs) (take n ys) + distance_of (drop n xs) (drop n ys) ≡ distance_of xs ys
+unfolding distance_by
+distance-split zero xs ys e = omega arith
+distance-split (suc n) [] [] e = omega arith
+distance-split (suc n) [] (y ∷ ys) e = absurd (omega arith)
+distance-split (suc n) (x ∷ xs) [] e = absurd (omega arith)
+distance-split (suc n) (x ∷ xs) (y ∷ ys) e = omega (arith, distance-split n xs ys (omega arith))
+
+distance-take : (n : ℕ) (xs ys : List Bool) → length xs ≡ length ys → distance_of (take n xs) (take n ys) ≤ distance_of xs ys
+distance-take n xs ys e = omega (arith, distance-split n xs ys e)
+
+distance-part : (at count : ℕ) (xs ys : List Bool) → length xs ≡ length ys → distance_of (part at count xs) (part at count ys) ≤ distance_of xs ys
+distance-part at count xs ys e = omega (arith, distance-split at xs ys e, distance-take count (drop at xs) (drop at ys) (omega (arith, e, length-drop at xs, length-drop at ys)))
+
+-- the bits of blocks without their status symbols
+distance-plain_in : (blocks : ℕ) (xs ys : List Bool) → length xs ≡ 72 * blocks → length ys ≡ 72 * blocks → distance_of (plain_in blocks xs) (plain_in blocks ys) ≤ distance_of xs ys
+unfolding plain_in distance_by
+distance-plain_in zero xs ys e f = omega arith
+distance-plain_in (suc blocks) xs ys e f =
+    let long : length (take 70 xs) ≡ length (take 70 ys) = omega (arith, length-part 0 70 xs (omega (arith, e)), length-part 0 70 ys (omega (arith, f))) in
+    let front : distance_of (take 70 xs) (take 70 ys) ≤ distance_of (take 72 xs) (take 72 ys)
+    = subst (λ (bits : List Bool). distance_of bits (take 70 ys) ≤ distance_of (take 72 xs) (take 72 ys)) (take-take 70 72 xs (omega arith))
+    (subst (λ (bits : List Bool). distance_of (take 70 (take 72 xs)) bits ≤ distance_of (take 72 xs) (take 72 ys)) (take-take 70 72 ys (omega arith))
+    (distance-take 70 (take 72 xs) (take 72 ys) (omega (arith, length-part 0 72 xs (omega (arith, e)), length-part 0 72 ys (omega (arith, f)))))) in
+    let rest = distance-plain_in blocks (drop 72 xs) (drop 72 ys) (omega (arith, e, length-drop 72 xs)) (omega (arith, f, length-drop 72 ys)) in
+    omega (arith, distance_by-append beq (take 70 xs) (plain_in blocks (drop 72 xs)) (take 70 ys) (plain_in blocks (drop 72 ys)) long, front, rest, distance-split 72 xs ys (e ∙ sym f))
+
+distance-plain_of : (blocks : ℕ) (xs ys : List Bool) → length xs ≡ 72 * blocks → length ys ≡ 72 * blocks → distance_of (plain_of xs) (plain_of ys) ≤ distance_of xs ys
+unfolding plain_of
+distance-plain_of blocks xs ys e f =
+    let x : length xs / 72 ≡ blocks = omega (arith, e) in
+    let y : length ys / 72 ≡ blocks = omega (arith, f) in
+    subst (λ (n : ℕ). distance_of (plain_in n xs) (plain_in (length ys / 72) ys) ≤ distance_of xs ys) (sym x)
+    (subst (λ (n : ℕ). distance_of (plain_in blocks xs) (plain_in n ys) ≤ distance_of xs ys) (sym y) (distance-plain_in blocks xs ys e f))
+
+-- Flips.
+
+one-wrong : (bit : Bool) → cond (beq (not bit) bit) 0 1 ≤ 1
+one-wrong true = omega arith
+one-wrong false = omega arith
+
+none-wrong : (bit : Bool) → cond {A = ℕ} (beq bit bit) 0 1 ≡ 0
+none-wrong true = refl
+none-wrong false = refl
+
+distance-flipped : (bits : List Bool) (place : ℕ) → distance_of (flipped bits place) bits ≤ 1
+unfolding distance_by
+distance-flipped [] place = omega arith
+distance-flipped (bit ∷ bits) zero = omega (arith, one-wrong bit, distance_of-same bits)
+distance-flipped (bit ∷ bits) (suc place) = omega (arith, none-wrong bit, distance-flipped bits place)
+
+pub length-with_flips : (bits : List Bool) (flips : List ℕ) → length (with_flips bits flips) ≡ length bits
+unfolding with_flips
+length-with_flips bits [] = refl
+length-with_flips bits (place ∷ flips) = length-with_flips (flipped bits place) flips ∙ length-flipped bits place
+
+counts-within : (count place : ℕ) → place < count → cond {A = ℕ} (nat_lt place count) 1 0 ≡ 1
+counts-within count place h = grind (arith, nat_tests)
+
+distance-with_flips : (bits : List Bool) (flips : List ℕ) (count : ℕ) → count ≡ length bits → distance_of (with_flips bits flips) bits ≤ count_by (λ place. nat_lt place count) flips
+unfolding with_flips
+distance-with_flips bits [] count e = omega (arith, distance_of-same bits)
+distance-with_flips bits (place ∷ flips) count e =
+    let next = flipped bits place in
+    let through = distance_of-triangle (with_flips next flips) next bits (length-with_flips next flips) in
+    let rest = distance-with_flips next flips count (e ∙ sym (length-flipped bits place)) in
+    let more = sum_by-cons (λ (p : ℕ). cond (nat_lt p count) 1 0) place flips in
+    let here : distance_of next bits ≤ cond (nat_lt place count) 1 0
+    = elim (cases_lt place count) [
+      | inl inside ↦ omega (arith, distance-flipped bits place, counts-within count place inside)
+      | inr past ↦ omega (arith, ap (λ (xs : List Bool). distance_of xs bits) (flipped-past bits place (omega (arith, e, past))), distance_of-same bits)
+    ] in
+    omega (arith, through, rest, more, here)
+
+-- A transmission.
+
+length-transmission : (packet : Packet) → IsSendable packet → length (transmission_of packet) ≡ 72 * packet_parts (head_blocks (packet_head packet))
+unfolding transmission_of
+length-transmission packet sendable =
+    let n = packet_parts (head_blocks (packet_head packet)) in
+    let count = length-replicate n station_status in
+    length-woven (packet_image_of station_nac packet) (replicate n station_status) (image_long station_nac packet sendable ∙ ap (λ (k : ℕ). 70 * k) (sym count)) ∙ ap (λ (k : ℕ). 72 * k) count
+
+least-radius : (packet : Packet) → 1 ≤ block_radius packet
+least-radius (Confirmed packet) = omega arith
+least-radius (Plain packet) = omega arith
+
+distance-identifier : (xs ys : List Bool) → length xs ≡ length ys → 114 ≤ length xs → distance_of (take 63 (identifier_bits xs)) (take 63 (identifier_bits ys)) ≤ distance_of xs ys + distance_of xs ys
+unfolding identifier_bits
+distance-identifier xs ys e h =
+    let first : length (part 48 22 xs) ≡ length (part 48 22 ys) = length-part 48 22 xs (omega arith) ∙ sym (length-part 48 22 ys (omega (arith, e))) in
+    let second : length (part 72 42 xs) ≡ length (part 72 42 ys) = length-part 72 42 xs (omega arith) ∙ sym (length-part 72 42 ys (omega (arith, e))) in
+    let all : length (part 48 22 xs ++ part 72 42 xs) ≡ length (part 48 22 ys ++ part 72 42 ys)
+    = length-append (part 48 22 xs) (part 72 42 xs) ∙ ap₂ (λ (a b : ℕ). a + b) first second ∙ sym (length-append (part 48 22 ys) (part 72 42 ys)) in
+    omega (
+      arith,
+      distance-take 63 (part 48 22 xs ++ part 72 42 xs) (part 48 22 ys ++ part 72 42 ys) all,
+      distance_by-append beq (part 48 22 xs) (part 72 42 xs) (part 48 22 ys)
+          (part 72 42 ys) first,
+      distance-part 48 22 xs ys e,
+      distance-part 72 42 xs ys e,
+    )
+
+-- at most one bit of it comes inverted
+pub few-arrive : (packet : Packet) (flips : List ℕ) → IsSendable packet → places_within packet flips < 2 → ArrivesWithin packet flips
+unfolding ArrivesWithin
+few-arrive packet flips sendable few =
+    let sent = transmission_of packet in
+    let received = received_bits packet flips in
+    let n = packet_parts (head_blocks (packet_head packet)) in
+    let long : length sent ≡ 72 * n = length-transmission packet sendable in
+    let same : length received ≡ length sent = length-with_flips sent flips in
+    let wrong : distance_of received sent ≤ 1 = omega (arith, few, distance-with_flips sent flips (length sent) refl) in
+    let plain : distance_of (plain_of received) (plain_of sent) ≤ 1 = omega (arith, wrong, distance-plain_of n received sent (same ∙ long) long) in
+    let plain_long : length (plain_of received) ≡ length (plain_of sent) = length-plain_of n received (same ∙ long) ∙ sym (length-plain_of n sent long) in
+    record {
+      long = same;
+      sync = omega (arith, wrong, distance-take 48 received sent same);
+      identifier = omega (arith, wrong, distance-identifier received sent same (omega (arith, same, long)));
+      blocks = record {
+        long = plain_long;
+        header = omega (arith, plain, distance-part 112 196 (plain_of received) (plain_of sent) plain_long, distance_of-sym (header_bits (plain_of sent)) (header_bits (plain_of received)));
+        blocks = λ (j : ℕ) (h : j < head_blocks (packet_head packet)).
+            omega (arith, plain, least-radius packet, distance-part (308 + 196 * j) 196 (plain_of received) (plain_of sent) plain_long, distance_of-sym (block_bits (plain_of sent) j) (block_bits (plain_of received) j));
+      };
+    }

@@ -1,0 +1,7 @@
+use Rattle.p25_stations.proofs.CleanLaws.{run-counted}
+use Rattle.p25_stations.proofs.TriesLaws.{run-sixteen}
+use Rattle.p25_stations.proofs.FalsePassLaws.{clean-from_none, none-from_clean}
+use Rattle.p25_stations.proofs.laws.runs_are_counted.Goals as goal
+
+pub returns : goal.returns
+returns c = record { sessions = run-counted; tries = run-sixteen; clean = clean-from_none; none = none-from_clean }

@@ -1,8 +1,0 @@
-use Rattle.std.proofs.Common.{◌≡◌, length, map}
-use Rattle.p25_bits.specs.Numbers.{each_below}
-use Rattle.p25_stations.specs.MessageBlocks.{message_block}
-use Rattle.p25_stations.specs.SentPackets.{good_slot}
-use Rattle.p25_stations.proofs.sent.message.Given as goal
-
-abbrev pub invariant-loop-serial : goal.invariant-loop-serial
-invariant-loop-serial l = record { list : l.slots ≡ map good_slot (each_below l.serial (message_block l.message)); len : length l.slots ≡ l.serial }

@@ -1,7 +1,0 @@
-use Rattle.std.proofs.Common.{◌≡◌, ◌≤◌, length}
-use Rattle.p25_bits.specs.Numbers.{joined_below}
-use Rattle.p25_stations.proofs.SentLaws.{wanted_slot}
-use Rattle.p25_stations.proofs.sent.wanted_blocks.Given as goal
-
-abbrev pub invariant-loop-serial : goal.invariant-loop-serial
-invariant-loop-serial l = record { list : l.slots ≡ joined_below l.serial (wanted_slot l.message l.wanted); len : length l.slots ≤ l.serial }

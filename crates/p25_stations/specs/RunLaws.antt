@@ -1,0 +1,54 @@
+-- What the laws say of runs.
+use Rattle.std.specs.Prelude.{◌≡◌, ℕ, ◌+◌, ◌≤◌, false, List, [], ◌∷◌, IfSome, Some}
+use Rattle.p25_packet_blocks.specs.declared.packet.Packet.{Packet}
+use Rattle.p25_stations.specs.declared.step.Event.{Event}
+use Rattle.p25_stations.specs.declared.step.Event.TheVariants.{Send, Timeout, Reopen, ToReceiver, ToSender}
+use Rattle.p25_delivery.specs.declared.step_kind.StepKind.{StepKind}
+use Rattle.p25_delivery.specs.declared.step_kind.StepKind.TheVariants.{Taken, Resent, Reopened, Acknowledged, LinkOpened, Retry, Repeat}
+use Rattle.p25_stations.specs.declared.step.Step.{Step}
+use Rattle.p25_stations.specs.Air.{ArrivesWithin, places_within}
+use Rattle.p25_stations.specs.WorldState.{WorldState}
+use Rattle.p25_stations.specs.Steps.{world_step}
+
+-- a delivery whose bits arrive within radius of what was sent, or any other event
+unfoldable pub IsWithin : WorldState → Event → Type 0
+IsWithin w (Send message) = Unit {0}
+IsWithin w Timeout = Unit {0}
+IsWithin w Reopen = Unit {0}
+IsWithin w (ToReceiver flips) = IfSome w.link.packet_sent (λ packet. ArrivesWithin packet flips)
+IsWithin w (ToSender flips) = IfSome w.link.answer (λ packet. ArrivesWithin packet flips)
+
+-- each event of a list, at its moment
+unfoldable pub AreWithin : WorldState → List Event → Type 0
+AreWithin w [] = Unit {0}
+AreWithin w (event ∷ events) = IsWithin w event × AreWithin (world_step w event).0 events
+
+-- a delivery of which at least two bits come inverted
+unfoldable pub IsTwiceDamaged : WorldState → Event → Type 0
+IsTwiceDamaged w (Send message) = ⊥
+IsTwiceDamaged w Timeout = ⊥
+IsTwiceDamaged w Reopen = ⊥
+IsTwiceDamaged w (ToReceiver flips) = (packet : Packet) × (w.link.packet_sent ≡ Some packet) × (2 ≤ places_within packet flips)
+IsTwiceDamaged w (ToSender flips) = (packet : Packet) × (w.link.answer ≡ Some packet) × (2 ≤ places_within packet flips)
+
+-- a step that is no false pass
+abbrev pub true_step : StepKind → Step
+true_step kind = record { kind = kind; false_pass = false }
+
+-- how often the present message or opening packet was sent, after a step before which it was sent so often: a taken message
+-- and an opening begin a count, an acknowledgement and an opened link end it, and what is sent again counts on
+abbrev pub tries_after : ℕ → StepKind → ℕ
+tries_after tries (Taken number blocks) = tries + 1
+tries_after tries (Resent number again) = tries + 1
+tries_after tries (Reopened number) = 1
+tries_after tries (Acknowledged number) = 0
+tries_after tries (LinkOpened number) = 0
+tries_after tries (Retry number wanted again) = tries + 1
+tries_after tries (Repeat number again) = tries + 1
+tries_after tries kind = tries
+
+-- the number of transmissions since the last step that ended or began a count: of all steps that send one, those after the
+-- last Acknowledged or LinkOpened, or from the last Reopened on
+unfoldable pub tries_in : ℕ → List Step → ℕ
+tries_in tries [] = tries
+tries_in tries (step ∷ steps) = tries_in (tries_after tries step.kind) steps

@@ -1,0 +1,17 @@
+-- What the world of the two stations keeps.
+use Rattle.std.specs.Prelude.{ℕ}
+use Rattle.p25_delivery.specs.Link.{Link, first_link}
+
+-- a link of the two stations, and how many false passes there were
+pub record WorldState : Type 0 where
+  pub link : Link
+  pub false_passes : ℕ
+
+-- what contracts see of a world: its state, and for how many steps it has room
+pub record WorldParts : Type 0 where
+  pub state : WorldState
+  pub spare : ℕ
+
+-- a world before the first step
+abbrev pub first_world : WorldState
+first_world = record { link = first_link; false_passes = 0 }

@@ -1,0 +1,42 @@
+//! The events of a world, and its steps.
+
+ghost use Rattle.std.specs.Prelude.{◌≡◌, false};
+
+use p25_delivery::StepKind;
+use p25_messages::{Flips, Message};
+
+/// Something that happens to the two stations or on the air between them.
+#[derive(Drop)]
+pub enum Event {
+    /// A message is offered to the sender.
+    Send(Message),
+    /// The sender's time is up.
+    Timeout,
+    /// The link is to be opened again.
+    Reopen,
+    /// The newest transmission of data comes to the receiver, with the bits at these places inverted.
+    ToReceiver(Flips),
+    /// The newest answer comes to the sender, with the bits at these places inverted.
+    ToSender(Flips),
+}
+
+/// A step of the world.
+#[derive(Drop)]
+pub struct Step {
+    /// What the step was.
+    pub kind: StepKind,
+    /// Whether it is a delivery that reads as another packet than the one that was sent.
+    pub false_pass: bool,
+}
+
+impl Step {
+    /// Answers a step of a kind that is no false pass: it is no delivery, or nothing was heard in it.
+    pub fn quiet(kind: StepKind) -> Step
+        ensures { result ≡ record { kind = kind; false_pass = false } }
+    {
+        Step {
+            kind,
+            false_pass: false,
+        }
+    }
+}

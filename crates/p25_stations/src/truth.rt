@@ -1,0 +1,61 @@
+//! Whether a packet that was read is the one that was sent.
+
+ghost use Rattle.std.specs.Prelude.{◌≡◌, ◌&&◌};
+ghost use Rattle.std.specs.Str.{bytes_eq};
+ghost use Rattle.p25_stations.specs.Air.{is_true_slot, are_true_slots, is_true_to};
+
+use p25_packet_blocks::{Packet, PacketHead, Slot, Slots};
+
+// Whether a slot is Bad, or holds the same block as the one that was sent.
+#[tactic(auto, unfolding(crate::specs::Air::is_true_slot))]
+fn is_true_slot(sent: Slot, heard: Slot) -> bool
+    ensures { result ≡ is_true_slot sent heard }
+{
+    match heard {
+        Slot::Bad => true,
+        Slot::Good(block) => match sent {
+            Slot::Good(was) => was.serial() == block.serial() && was.octets() == block.octets(),
+            Slot::Bad => false,
+        },
+    }
+}
+
+// Whether each slot is.
+#[tactic(auto, unfolding(crate::specs::Air::are_true_slots))]
+fn are_true_slots(sent: &Slots, heard: &Slots) -> bool
+    ensures { result ≡ are_true_slots sent.now heard.now }
+{
+    if sent.len() != heard.len() {
+        return false;
+    }
+    for i in 0..sent.len() {
+        if !is_true_slot(sent.get(i), heard.get(i)) {
+            return false;
+        }
+    }
+    true
+}
+
+// Whether two headers are the same.
+fn are_same(sent: PacketHead, heard: PacketHead) -> bool
+    ensures { result ≡ bytes_eq sent.0 heard.0 }
+{
+    sent.0 == heard.0
+}
+
+// Whether a packet that was read has the header of the one that was sent, and slot by slot is Bad or holds the same block,
+// or has the same octets.
+#[tactic(auto, unfolding(crate::specs::Air::is_true_to))]
+pub(crate) fn is_true_to(sent: &Packet, heard: &Packet) -> bool
+    ensures { result ≡ is_true_to sent.now heard.now }
+{
+    match (sent, heard) {
+        (Packet::Confirmed(sent), Packet::Confirmed(heard)) => {
+            are_same(sent.head(), heard.head()) && are_true_slots(sent.slots(), heard.slots())
+        }
+        (Packet::Plain(sent), Packet::Plain(heard)) => {
+            are_same(sent.head(), heard.head()) && sent.octets().octets() == heard.octets().octets()
+        }
+        _ => false,
+    }
+}

@@ -1,0 +1,205 @@
+//! The world of two stations: each step of it, and what it keeps.
+
+ghost use Rattle.std.specs.Prelude.{◌≡◌, ◌+◌, ◌<◌, ◌≤◌, length, OnOk, OnErr, IfOk, IfSome};
+ghost use Rattle.p25_packet_blocks.specs.Sendable.{IsSendable};
+ghost use Rattle.p25_delivery.specs.Link.{newest_after};
+ghost use Rattle.p25_stations.specs.Steps.{world_step};
+
+use crate::air::{Carried, carry};
+use crate::step::{Event, Step};
+use p25_delivery::{Inbound, Outbound, StepKind, Way};
+use p25_messages::{Flips, MessageList};
+use p25_packet_blocks::Packet;
+use std::alloc::{AllocError, Global};
+use std::marker::Model;
+
+/// Two packet stations and the air between them, which keeps the newest transmission of each direction.
+#[derive(Drop)]
+pub struct World {
+    outbound: Outbound,
+    inbound: Inbound,
+    packet_sent: Option<Packet>,
+    answer: Option<Packet>,
+    false_passes: u64,
+}
+
+impl Model for World {
+    ghost use Rattle.p25_stations.specs.WorldState.{WorldParts};
+
+    ghost Value = { WorldParts };
+
+    ghost use Rattle.p25_stations.specs.Sound.{IsSound};
+    ghost use Rattle.p25_stations.specs.Inside.{state_of, spare_of};
+
+    ghost view = { λ w. record { state = state_of w; spare = spare_of w } };
+
+    ghost invariant = { λ w. IsSound (state_of w) };
+}
+
+impl World {
+    ghost use Rattle.p25_stations.specs.WorldState.{first_world};
+
+    /// Answers a world before its first step: nothing was sent, and the receiver waits for the first message. It takes no
+    /// memory.
+    pub fn new(alloc: Global) -> World
+        ensures { result.state ≡ first_world }
+    {
+        World {
+            outbound: Outbound::new(alloc),
+            inbound: Inbound::new(alloc),
+            packet_sent: None,
+            answer: None,
+            false_passes: 0,
+        }
+    }
+
+    /// Answers the messages that were sent, in order.
+    pub fn sent(&self) -> &MessageList
+        ensures { result.now.list ≡ self.now.state.link.outbound.sent }
+    {
+        self.outbound.sent()
+    }
+
+    /// Answers the messages that were delivered, in order.
+    pub fn delivered(&self) -> &MessageList
+        ensures { result.now.list ≡ self.now.state.link.inbound.received }
+    {
+        self.inbound.received()
+    }
+
+    /// Answers how many messages were acknowledged.
+    pub fn acknowledged(&self) -> u64
+        ensures { result ≡ self.now.state.link.outbound.acknowledged }
+    {
+        self.outbound.acknowledged()
+    }
+
+    /// Answers how many deliveries were false passes; the number stays at 2^64 - 1 once it stands there.
+    pub fn false_passes(&self) -> u64
+        ensures { result ≡ self.now.state.false_passes }
+    {
+        self.false_passes
+    }
+
+    /// Answers the number of sessions: one more than a message was given up.
+    pub fn sessions(&self) -> u64
+        ensures { result ≡ length self.now.state.link.outbound.marks + 1 }
+    {
+        self.outbound.sessions()
+    }
+
+    /// Makes room for 1 to 16 more steps. Answers AllocError where there is not enough memory, which comes only where there
+    /// was no such room; the world stays as it was, and no room is lost.
+    pub fn reserve(&mut self, steps: u32) -> Result<(), AllocError>
+        requires some { 0 < steps }
+        requires most { steps ≤ 16 }
+        ensures state { self.new.state ≡ self.old.state }
+        ensures spare { self.old.spare ≤ self.new.spare }
+        ensures ok { OnOk result (steps ≤ self.new.spare) }
+        ensures err { OnErr result (self.old.spare < steps) }
+    {
+        self.outbound.reserve(steps)?;
+        self.inbound.reserve(steps)
+    }
+
+    /// Answers the step that an event is, and has it happen. There is room for it, and it takes no memory.
+    #[tactic(auto, unfolding(crate::specs::Steps::world_step))]
+    pub fn step_ready(&mut self, event: &Event) -> Step
+        requires { 0 < self.old.spare }
+        ensures state { self.new.state ≡ (world_step self.old.state event.now).0 }
+        ensures step { result ≡ (world_step self.old.state event.now).1 }
+        ensures spare { self.old.spare ≤ self.new.spare + 1 }
+    {
+        match event {
+            Event::Send(message) => {
+                Step::quiet(keep(&mut self.packet_sent, self.outbound.offer(message)))
+            }
+            Event::Timeout => Step::quiet(keep(&mut self.packet_sent, self.outbound.time_out())),
+            Event::Reopen => {
+                let delivered = self.inbound.received().len() as u64;
+                Step::quiet(keep(&mut self.packet_sent, self.outbound.reopen(delivered)))
+            }
+            Event::ToReceiver(flips) => self.deliver(Way::Packets, flips),
+            Event::ToSender(flips) => self.deliver(Way::Answers, flips),
+        }
+    }
+
+    /// Answers the step that an event is, and has it happen. AllocError comes where there is not enough memory for it, and
+    /// only where no room was left; then the world stays as it was.
+    pub fn step(&mut self, event: &Event) -> Result<Step, AllocError>
+        ensures ok { IfOk result (λ step. (self.new.state, step) ≡ world_step self.old.state event.now) }
+        ensures err { OnErr result (self.new.state ≡ self.old.state) }
+        ensures room { OnErr result (self.old.spare ≡ 0) }
+    {
+        self.reserve(1)?;
+        Ok(self.step_ready(event))
+    }
+}
+
+// Makes what a call of a half sends the newest transmission of its direction, and answers what happened.
+fn keep(newest: &mut Option<Packet>, called: (StepKind, Option<Packet>)) -> StepKind
+    ensures newest { newest.new ≡ newest_after called.1 newest.old }
+    ensures kind { result ≡ called.0 }
+{
+    let (kind, sent) = called;
+    if sent.is_some() {
+        *newest = sent;
+    }
+    kind
+}
+
+impl World {
+    ghost use Rattle.p25_delivery.specs.Link.{happens};
+    ghost use Rattle.p25_stations.specs.Steps.{heard_by, newest_by, delivered};
+
+    // Has a station hear a packet that came that way.
+    fn hear(&mut self, way: Way, packet: &Packet) -> StepKind
+        requires { 0 < self.old.spare }
+        ensures link { self.new.state.link ≡ (happens self.old.state.link (heard_by way packet.now)).0 }
+        ensures passes { self.new.state.false_passes ≡ self.old.state.false_passes }
+        ensures kind { result ≡ (happens self.old.state.link (heard_by way packet.now)).1 }
+        ensures spare { self.old.spare ≤ self.new.spare + 1 }
+    {
+        match way {
+            Way::Packets => keep(&mut self.answer, self.inbound.hear(packet)),
+            Way::Answers => keep(&mut self.packet_sent, self.outbound.hear(packet)),
+        }
+    }
+
+    // The newest transmission of a way.
+    #[tactic(auto, unfolding(crate::specs::Steps::newest_by))]
+    fn newest(&self, way: Way) -> &Option<Packet>
+        ensures newest { result.now ≡ newest_by way self.now.state.link }
+        ensures sendable { IfSome result.now IsSendable }
+    {
+        match way {
+            Way::Packets => &self.packet_sent,
+            Way::Answers => &self.answer,
+        }
+    }
+
+    // Delivers the newest transmission of a way.
+    #[tactic(auto, unfolding(crate::specs::Steps::delivered, crate::specs::Steps::carried, crate::specs::Steps::counted_when))]
+    fn deliver(&mut self, way: Way, flips: &Flips) -> Step
+        requires { 0 < self.old.spare }
+        ensures state { self.new.state ≡ (delivered self.old.state way (newest_by way self.old.state.link) flips.now).0 }
+        ensures step { result ≡ (delivered self.old.state way (newest_by way self.old.state.link) flips.now).1 }
+        ensures spare { self.old.spare ≤ self.new.spare + 1 }
+    {
+        let carried = match self.newest(way) {
+            None => return Step::quiet(StepKind::Nothing { way }),
+            Some(packet) => carry(packet, flips),
+        };
+        match carried {
+            Carried::Lost(field) => Step::quiet(StepKind::Lost { way, field }),
+            Carried::Foreign => Step::quiet(StepKind::Ignored { way }),
+            Carried::Heard { packet, false_pass } => {
+                let kind = self.hear(way, &packet);
+                if false_pass {
+                    self.false_passes = self.false_passes.saturating_add(1);
+                }
+                Step { kind, false_pass }
+            }
+        }
+    }
+}

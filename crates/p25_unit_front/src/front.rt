@@ -1,0 +1,64 @@
+//! Fronts written, read and compared.
+
+ghost use Rattle.std.specs.Prelude.{◌≡◌, ◌+◌, ◌^◌, ◌<◌, ◌≤◌, ◌++◌, length, drop, option_map};
+ghost use Rattle.p25_bits.specs.Bits.{field_of};
+ghost use Rattle.p25_unit_front.specs.Front.{front_fixes_of, identifier_bits, identifier_of, unit_front};
+ghost use Rattle.p25_bch_nid.specs.NidWord.{nid_word};
+ghost use Rattle.p25_bits.specs.Distance.{distance_of};
+ghost use Rattle.p25_bits.specs.Bits.{bits_of};
+ghost use Rattle.std.specs.Prelude.{take};
+
+use p25_bch_nid::{Nid, nid_bits, nid_distance, read_nid};
+use p25_bits::BitBuf;
+use p25_status::{SENT_BLOCK_LENGTH, SYNC, sync_distance};
+
+// Where the identifier begins in a sent unit.
+const IDENTIFIER_AT: usize = 48;
+
+// How many of its bits stand before the status symbol within it.
+const BEFORE_STATUS: u32 = 22;
+
+// With how many bits it goes on after the status symbol.
+const AFTER_STATUS: u32 = 42;
+
+/// Appends the front of a unit: the 48 bits of the frame sync and the 64 bits of the identifier, first to last, without
+/// a status symbol.
+pub fn put_front(nid: &Nid, out: &mut BitBuf)
+    requires { length out.old + 112 ≤ 25928 }
+    ensures list { out.new ≡ out.old ++ unit_front nid.now.nac nid.now.duid }
+    ensures len { length out.new ≡ length out.old + 112 }
+{
+    out.put_field(SYNC, 48);
+    out.put_field(nid_bits(nid), 64);
+}
+
+/// Answers the identifier of the unit whose sent bits begin at place `at`: the NAC and the DUID of the word of the BCH
+/// code (63,16) within 11 bits of the first 63 bits of its identifier. `None` comes exactly where no word lies so near.
+pub fn read_identifier(bits: &BitBuf, at: usize) -> Option<Nid>
+    requires { at + 114 ≤ length bits.now }
+    ensures { option_map (λ nid. (nid.nac, nid.duid)) result ≡ identifier_of (drop at bits.now) }
+{
+    read_nid(identifier(bits, at))
+}
+
+/// Answers in how many places the sync and the first 63 bits of the identifier of the unit whose sent bits begin at
+/// place `at` differ from those that are sent for an identifier.
+pub fn front_fixes(bits: &BitBuf, at: usize, nid: &Nid) -> u32
+    requires { at + 114 ≤ length bits.now }
+    ensures value { result ≡ front_fixes_of (nid.now.nac, nid.now.duid) (drop at bits.now) }
+    ensures most { result ≤ 111 }
+{
+    sync_distance(bits.field(at, 48)) + nid_distance(identifier(bits, at), nid)
+}
+
+// The 64 bits of the identifier of the unit whose sent bits begin at a place, as a number.
+fn identifier(bits: &BitBuf, at: usize) -> u64
+    requires { at + 114 ≤ length bits.now }
+    ensures value { result ≡ field_of (identifier_bits (drop at bits.now)) }
+    ensures fits { result < 2 ^ 64 }
+{
+    // The number of bits held bounds every place below.
+    let _ = bits.len();
+    let before = bits.field(at + IDENTIFIER_AT, BEFORE_STATUS);
+    before * (1 << AFTER_STATUS) + bits.field(at + SENT_BLOCK_LENGTH, AFTER_STATUS)
+}

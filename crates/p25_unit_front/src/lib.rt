@@ -1,0 +1,23 @@
+//! The front of a unit: the first 112 of its bits, its frame sync and its network identifier (TIA-102.BAAA, Frame
+//! Synchronization and Network Identifier).
+//!
+//! The first bit of a list is the first that is sent. Without status symbols the sync has bits 0 to 47 and the
+//! identifier bits 48 to 111. A status symbol stands within the identifier, so in a unit as it is sent the identifier has
+//! the places 48 to 69 and 72 to 113.
+//!
+//! ```text
+//! let mut plain = BitBuf::new();
+//! put_front(&nid, &mut plain);
+//! let read = read_identifier(&sent, 0);
+//! let fixes = front_fixes(&sent, 0, &nid);
+//! ```
+//!
+//! Contracts see the front as `unit_front`, and what `IsFront` says of it by places as a law, `one_front`.
+#![tactic(auto)]
+
+mod front;
+pub mod laws;
+#[cfg(test)]
+mod tests;
+
+pub use front::{front_fixes, put_front, read_identifier};

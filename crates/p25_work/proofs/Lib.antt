@@ -1,7 +1,0 @@
-pub mod FuturesLaws
-pub mod InputLaws
-pub mod RunsLaws
-pub mod SameLaws
-pub mod LinesLaws
-pub mod LineWorksLaws
-pub mod RulesLaws

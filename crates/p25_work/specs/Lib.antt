@@ -1,7 +1,0 @@
-pub mod Futures
-pub mod Pages
-pub mod Endings
-pub mod Runs
-pub mod Lines
-pub mod LineRules
-pub mod LineWorks

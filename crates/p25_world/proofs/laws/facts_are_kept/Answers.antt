@@ -1,5 +1,0 @@
-use Rattle.p25_world.proofs.LinkLaws.{facts-kept}
-use Rattle.p25_world.proofs.laws.facts_are_kept.Goals as goal
-
-pub returns : goal.returns
-returns c = facts-kept

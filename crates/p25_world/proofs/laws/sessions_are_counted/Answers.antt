@@ -1,5 +1,0 @@
-use Rattle.p25_world.proofs.CountLaws.{sessions-counted}
-use Rattle.p25_world.proofs.laws.sessions_are_counted.Goals as goal
-
-pub returns : goal.returns
-returns c = sessions-counted
