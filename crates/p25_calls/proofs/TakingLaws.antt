@@ -49,7 +49,7 @@ unit-at (Cut place have) = tt
 caller_at : ℕ → ℕ → Option Call → CallerParts
 caller_at reached taken pending = record { reached = reached; taken = taken; pending = pending }
 
--- the answers to all items but the first, whatever is held behind it
+-- the answers to all items but the first, whatever is held after it
 abbrev RestIs : Bool → ℕ → ℕ → List Item → Type 0
 RestIs ended end taken items =
     (pending : Option Call) (before : Option Run) → Holds end pending before

@@ -162,7 +162,7 @@ fn breaks_divide_calls(rt: HostRuntime) {
 }
 
 // Voice with link control, and with encryption sync.
-fn link1(last: u8) -> VoiceUnit {
+fn ldu1(last: u8) -> VoiceUnit {
     VoiceUnit::Link1 {
         link: LinkControl([0, 0, 0, 0, 0, 1, 0, 0, last]),
         low: [0; 2],
@@ -170,7 +170,7 @@ fn link1(last: u8) -> VoiceUnit {
     }
 }
 
-fn link2(algid: u8) -> VoiceUnit {
+fn ldu2(algid: u8) -> VoiceUnit {
     VoiceUnit::Link2 {
         sync: EncryptionSync {
             mi: [0; 9],
@@ -196,12 +196,12 @@ fn header(algid: u8) -> VoiceUnit {
 fn calls_tell_of_the_first_whole_unit(rt: HostRuntime) {
     let mut heard = Heard::new();
     heard.whole(header(0x80));
-    heard.whole(link1(1));
-    heard.whole(link2(0x81));
-    heard.whole(link1(2));
+    heard.whole(ldu1(1));
+    heard.whole(ldu2(0x81));
+    heard.whole(ldu1(2));
     heard.whole(VoiceUnit::End);
     heard.broken(0x293, 5);
-    heard.whole(link2(0xAA));
+    heard.whole(ldu2(0xAA));
     heard.whole(VoiceUnit::EndLink {
         link: LinkControl([3; 9]),
     });

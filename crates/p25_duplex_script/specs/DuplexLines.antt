@@ -70,7 +70,7 @@ abbrev pub message_or_fault : Side → Option (List ℕ) → Result DuplexEvent 
 message_or_fault side (Some message) = Ok (Send side message)
 message_or_fault side None = Err Value
 
--- an event of a side by the words behind its second
+-- an event of a side by the words after its second
 abbrev pub event_of_side : Side → Option EventKind → List (List ℕ) → Result DuplexEvent LineFault
 event_of_side side (Some SendLine) (message ∷ []) = message_or_fault side (message_in message)
 event_of_side side (Some TimeoutLine) [] = Ok (Timeout side)
@@ -83,13 +83,13 @@ delivery_to None places = Err Key
 delivery_to (Some to) None = Err Value
 delivery_to (Some to) (Some places) = Ok (Deliver to places)
 
--- the event of the words behind the first, or the first cause for which they are refused
+-- the event of the words after the first, or the first cause for which they are refused
 abbrev pub event_behind : DuplexStart → List (List ℕ) → Result DuplexEvent LineFault
 event_behind (Acts side) (word ∷ others) = event_of_side side (event_named word) others
 event_behind Delivery (direction ∷ places ∷ []) = delivery_to (hearer_named direction) (places_in places)
 event_behind start others = Err Key
 
--- and where the first word names something
+-- the event of the words after a first word that names how it begins, or none
 abbrev pub event_by_start : List (List ℕ) → Option DuplexStart → Result DuplexEvent LineFault
 event_by_start others (Some start) = event_behind start others
 event_by_start others None = Err WrongKind

@@ -50,7 +50,7 @@ abbrev pub long_or_fault : Option (List ℕ) → Result LongEvent LineFault
 long_or_fault (Some message) = Ok (Long message)
 long_or_fault None = Err Value
 
--- the event of the words behind `long`
+-- the event of the words after `long`
 abbrev pub long_in : List (List ℕ) → Result LongEvent LineFault
 long_in (word ∷ []) = long_or_fault (long_message_in word)
 long_in others = Err Key

@@ -10,8 +10,8 @@ use p25_line::Line;
 use p25_script::step_text;
 use p25_stations::Step;
 
-/// Sets `out` and `behind` to the two pieces of the text of a step, one behind the other: its lines, each with its end. A long
-/// message that is taken is told before the step of its part 0; all else is told behind the step of the inner world.
+/// Sets `out` and `behind` to the two pieces of the text of a step, one after the other: its lines, each with its end. A long
+/// message that is taken is told before the step of its part 0; all else is told after the step of the inner world.
 #[tactic(auto, unfolding(crate::specs::LongTexts::long_step_text_of, crate::specs::LongTexts::line_before, crate::specs::LongTexts::line_behind))]
 pub fn long_step_text(step: &LongStep, out: &mut Line, behind: &mut Line)
     ensures { out.new ++ behind.new ≡ long_step_text_of step.now }
@@ -39,7 +39,7 @@ fn put_first(first: &Option<Step>, out: &mut Line)
     }
 }
 
-// Sets `out` to the line behind the step of the inner world.
+// Sets `out` to the line after the step of the inner world.
 #[tactic(auto, unfolding(crate::specs::LongTexts::line_behind))]
 fn put_behind(then: &Then, out: &mut Line)
     ensures { out.new ≡ line_behind then.now }

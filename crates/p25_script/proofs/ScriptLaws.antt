@@ -45,7 +45,7 @@ event_by_words-words (ToSender places) fits = ap (delivery_or_fault (Some Answer
 
 -- ---- a line that is read is the line of its event
 
--- what was read from the words behind the first
+-- what was read from the words after the first
 abbrev ReadFrom : List (List ℕ) → Event → Type 0
 ReadFrom words event = (event_words event ≡ words) × IsScripted event
 

@@ -92,7 +92,7 @@ delivery_or_fault None places = Err Key
 delivery_or_fault (Some way) None = Err Value
 delivery_or_fault (Some way) (Some places) = Ok (delivery way places)
 
--- the event of the words behind the first, or the first cause for which they are refused
+-- the event of the words after the first, or the first cause for which they are refused
 abbrev pub event_in : EventKind → List (List ℕ) → Result Event LineFault
 event_in SendLine (message ∷ []) = send_or_fault (message_in message)
 event_in TimeoutLine [] = Ok Timeout
@@ -100,7 +100,7 @@ event_in ReopenLine [] = Ok Reopen
 event_in DeliverLine (way ∷ places ∷ []) = delivery_or_fault (way_named way) (places_in places)
 event_in kind others = Err Key
 
--- and where the first word names a kind
+-- the event of the words after a first word that names a kind, or none
 abbrev pub event_by_kind : List (List ℕ) → Option EventKind → Result Event LineFault
 event_by_kind others (Some kind) = event_in kind others
 event_by_kind others None = Err WrongKind

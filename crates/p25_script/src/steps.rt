@@ -169,7 +169,7 @@ fn put_serials(wanted: &Flags, out: &mut Line)
     }
 }
 
-// Appends a serial number, with a comma before it where it stands behind another.
+// Appends a serial number, with a comma before it where it stands after another.
 #[tactic(auto, using(p25_line::proofs::DecimalLaws::decimal_octet))]
 fn put_serial(behind: bool, serial: usize, out: &mut Line)
     requires below { serial < 128 }

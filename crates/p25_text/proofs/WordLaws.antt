@@ -14,7 +14,7 @@ use Rattle.p25_text.specs.Values.{with_value}
 use Rattle.p25_text.specs.declared.names.UnitKey.{UnitKey}
 use Rattle.p25_text.specs.declared.names.UnitKey.TheVariants.{Nac, Mi, Mfid, Algid, Kid, Tgid, Lc, Lsd, Frames, Head, Blocks, Octets}
 
--- what stands behind a key
+-- what stands after a key
 pub behind-append : (key value : List ℕ) → behind key (key ++ value) ≡ Some value
 behind-append key value =
     let starts = (starts_is {E = nat_eq} Decides-eqb (key ++ value) key (starts_with nat_eq (key ++ value) key) refl).1 value refl in
@@ -72,7 +72,7 @@ values_behind-other (key ∷ keys) [] other = refl
 values_behind-other (key ∷ keys) (word ∷ words) other =
     ap (with_value (behind (key_text key) word)) (values_behind-other keys words (λ same. other (ap suc same))) ∙ with_value-none (behind (key_text key) word)
 
--- a word stays a word with more printed octets behind it
+-- a word stays a word with more printed octets after it
 word-more : (word value : List ℕ) → is_word word ≡ true → list_all is_printed value ≡ true → is_word (word ++ value) ≡ true
 word-more [] value some printed = cc some
 word-more (octet ∷ word) value some printed =

@@ -1,4 +1,4 @@
--- The lines of units, as they are put together: the words of a line are its kind and, behind a space each, its keys with their values.
+-- The lines of units, as they are put together: the words of a line are its kind and, after a space each, its keys with their values.
 use Rattle.std.proofs.Common.{◌≡◌, ℕ, ◌+◌, ◌/◌, ◌%◌, ◌==◌, Bool, true, false, cond, List, [], ◌∷◌, ◌++◌, take, map, slice_get, slice_index, Some, refl, sym, ap, ap₂, ◌∙◌, append-nil, append_assoc}
 use Rattle.std.specs.List.{join_with_byte}
 use Rattle.hex.specs.Hex.{encode_lower, encode_with, lower_digits}
@@ -86,7 +86,7 @@ text-plain nac packet kind head octets same_kind same_head same_octets =
     ∙ ap₂ (λ (h : PacketHead) o. ((start_text is nac ++ key_value_text Head h.0) ++ 32 ∷ key_text Octets) ++ octets_text o) (sym same_head) (sym same_octets)
     ∙ ap (λ k. ((start_text k nac ++ key_value_text Head head.0) ++ 32 ∷ key_text Octets) ++ octets_text octets) (sym same_kind)
 
--- a line behind a text, by the four parts that are put
+-- a line after a text, by the four parts that are put
 pub four_parts : (out start head key value one two three four whole : List ℕ) → one ≡ out ++ start → two ≡ one ++ head → three ≡ two ++ key → four ≡ three ++ value
     → whole ≡ ((start ++ head) ++ key) ++ value → four ≡ out ++ whole
 four_parts out start head key value one two three four whole first second third fourth same =
@@ -102,12 +102,12 @@ pub text-voice : (nac : ℕ) (unit : VoiceUnit)
     → text_of (record { nac = nac; body = Voice unit }) ≡ start_text (voice_kind unit) nac ++ tail_text (other_keys (voice_kind unit)) (voice_values unit)
 text-voice nac unit = text-start (record { nac = nac; body = Voice unit }) (voice_kind unit) (other_keys (voice_kind unit)) (voice_values unit) refl refl refl
 
--- texts behind each other
+-- texts after each other
 abbrev joined : List ℕ → List (List ℕ) → List ℕ
 joined out [] = out
 joined out (part ∷ parts) = joined (out ++ part) parts
 
--- the fields of a unit, each behind those before
+-- the fields of a unit, each after those before
 abbrev fields_text : List UnitKey → List (List ℕ) → List (List ℕ)
 fields_text [] fields = []
 fields_text (key ∷ keys) [] = []
@@ -127,7 +127,7 @@ voice-put nac unit out =
     ∙ append_assoc out (start_text (voice_kind unit) nac) (tail_text (other_keys (voice_kind unit)) (voice_values unit))
     ∙ ap (λ l. out ++ l) (sym (text-voice nac unit))
 
--- frames one behind the other
+-- frames one after the other
 pub frames-none : (frames : List VoiceFrame) → encode_lower (frame_octets (take 0 frames)) ≡ []
 unfolding frame_octets encode_with
 frames-none frames = refl

@@ -24,12 +24,12 @@ abbrev pub kind_of : Body → UnitKind
 kind_of (Voice voice) = voice_kind voice
 kind_of (Packet packet) = packet_kind packet
 
--- the values behind the network access code, in the order of the keys
+-- the values after the network access code, in the order of the keys
 abbrev pub body_values : Body → List (List ℕ)
 body_values (Voice voice) = voice_values voice
 body_values (Packet packet) = packet_values packet
 
--- what the values behind the network access code are read as
+-- what the values after the network access code are read as
 abbrev pub body_in : UnitKind → List (List ℕ) → Option Body
 body_in Confirmed (head ∷ blocks ∷ []) = option_map Packet (confirmed_in head blocks)
 body_in Confirmed values = None
@@ -61,11 +61,11 @@ text_of unit = join_with_byte 32 (unit_words unit)
 
 -- ---- the unit of a line
 
--- what stands behind a key in a word that begins with it
+-- what stands after a key in a word that begins with it
 abbrev pub behind : List ℕ → List ℕ → Option (List ℕ)
 behind key word = cond (starts_with nat_eq word key) (Some (drop (length key) word)) None
 
--- the values behind keys: none where there are more or fewer words than keys, or where some word does not begin with its key
+-- the values after keys: none where there are more or fewer words than keys, or where some word does not begin with its key
 abbrev pub values_behind : List UnitKey → List (List ℕ) → Option (List (List ℕ))
 values_behind [] [] = Some []
 values_behind [] (word ∷ words) = None
@@ -93,7 +93,7 @@ abbrev pub read_values : UnitKind → Option (List (List ℕ)) → Result UnitPa
 read_values kind (Some values) = or_value (unit_in kind values)
 read_values kind None = Err Key
 
--- the unit of the words behind a kind, or that the kind is wrong
+-- the unit of the words after a kind, or that the kind is wrong
 abbrev pub read_kind : List (List ℕ) → Option UnitKind → Result UnitParts LineFault
 read_kind words (Some kind) = read_values kind (values_behind (keys_of kind) words)
 read_kind words None = Err WrongKind

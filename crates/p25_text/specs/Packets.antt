@@ -1,4 +1,4 @@
--- The values of packets behind the network access code, and the packets that values are read as.
+-- The values of packets after the network access code, and the packets that values are read as.
 use Rattle.std.specs.Prelude.{ℕ, ◌-◌, ◌*◌, ◌==◌, ◌&&◌, nat_lt, cond, List, [], ◌∷◌, ◌++◌, length, take, drop, slice_index, Option, Some, None}
 use Rattle.std.specs.Option.{option_and_then, option_map}
 use Rattle.hex.specs.Hex.{encode_lower}
@@ -26,7 +26,7 @@ abbrev pub slot_text : Slot → List ℕ
 slot_text (Good block) = block_text block
 slot_text Bad = []
 
--- the values of a packet, in the order of the keys behind the network access code
+-- the values of a packet, in the order of the keys after the network access code
 abbrev pub packet_values : Packet → List (List ℕ)
 packet_values (Confirmed packet) = encode_lower packet.head.0 ∷ list_text slot_text packet.slots ∷ []
 packet_values (Plain packet) = encode_lower packet.head.0 ∷ octets_text packet.octets ∷ []

@@ -8,7 +8,7 @@ ghost use Rattle.p25_text.specs.Packets.{block_text, packet_kind, slot_text};
 use super::names::{UnitKey, UnitKind};
 use super::write::{put_key, put_key_value, put_start};
 use p25_line::Line;
-use p25_packet_blocks::{Block, Confirmed, Packet, Plain, Slot, Slots};
+use p25_packet_blocks::{Block, Confirmed, Packet, Plain, RESPONSE_FORMAT, Slot, Slots};
 use p25_units::Body;
 
 /// Appends the line of a packet.
@@ -51,7 +51,7 @@ fn put_plain(nac: u16, packet: &Plain, out: &mut Line)
 fn plain_kind(packet: &Plain) -> UnitKind
     ensures { result ≡ packet_kind (Packet.Plain packet.now) }
 {
-    if packet.head().format() == 0x03 {
+    if packet.head().format() == RESPONSE_FORMAT {
         UnitKind::Response
     } else {
         UnitKind::Plain

@@ -21,10 +21,10 @@ pub fn put_voice(nac: u16, unit: &VoiceUnit, out: &mut Line)
 {
     match unit {
         VoiceUnit::Header(word) => put_header(nac, word, out),
-        VoiceUnit::Link1 { link, low, voice } => put_link1(nac, link, low, voice, out),
-        VoiceUnit::Link2 { sync, low, voice } => put_link2(nac, sync, low, voice, out),
+        VoiceUnit::Link1 { link, low, voice } => put_ldu1(nac, link, low, voice, out),
+        VoiceUnit::Link2 { sync, low, voice } => put_ldu2(nac, sync, low, voice, out),
         VoiceUnit::End => put_end(nac, out),
-        VoiceUnit::EndLink { link } => put_end_link(nac, link, out),
+        VoiceUnit::EndLink { link } => put_tdulc(nac, link, out),
     }
 }
 
@@ -43,7 +43,7 @@ fn put_header(nac: u16, word: &HeaderWord, out: &mut Line)
 }
 
 // Appends the line of voice with link control.
-fn put_link1(nac: u16, link: &LinkControl, low: &[u8; 2], voice: &Voice, out: &mut Line)
+fn put_ldu1(nac: u16, link: &LinkControl, low: &[u8; 2], voice: &Voice, out: &mut Line)
     requires { length out.old + 4700 ≤ 8192 }
     ensures text { out.new ≡ out.old ++ text_of (record { nac = nac; body = Body.Voice (VoiceUnit.Link1 link.now low.now voice.now) }) }
     ensures short { length out.new ≤ length out.old + 4700 }
@@ -55,7 +55,7 @@ fn put_link1(nac: u16, link: &LinkControl, low: &[u8; 2], voice: &Voice, out: &m
 }
 
 // Appends the line of voice with encryption sync.
-fn put_link2(nac: u16, sync: &EncryptionSync, low: &[u8; 2], voice: &Voice, out: &mut Line)
+fn put_ldu2(nac: u16, sync: &EncryptionSync, low: &[u8; 2], voice: &Voice, out: &mut Line)
     requires { length out.old + 4700 ≤ 8192 }
     ensures text { out.new ≡ out.old ++ text_of (record { nac = nac; body = Body.Voice (VoiceUnit.Link2 sync.now low.now voice.now) }) }
     ensures short { length out.new ≤ length out.old + 4700 }
@@ -78,7 +78,7 @@ fn put_end(nac: u16, out: &mut Line)
 }
 
 // Appends the line of a terminator with link control.
-fn put_end_link(nac: u16, link: &LinkControl, out: &mut Line)
+fn put_tdulc(nac: u16, link: &LinkControl, out: &mut Line)
     requires { length out.old + 4700 ≤ 8192 }
     ensures text { out.new ≡ out.old ++ text_of (record { nac = nac; body = Body.Voice (VoiceUnit.EndLink link.now) }) }
     ensures short { length out.new ≤ length out.old + 4700 }
