@@ -1,19 +1,14 @@
 //! The remainders that the checks are made of. All three divisors are taken as of degree 32: each is multiplied by the
 //! power of x that it lacks, and so are its remainders.
 
+use p25_bits::sums;
+
 // The remainders by a divisor of v · x^(32 + 8 · place), by the place, below 4, and the octet v.
 pub(crate) type Remainders = [[u32; 256]; 4];
 
-// The sums over GF(2) of every choice among some numbers, in the order of the number whose bit i says whether number i is
-// chosen. The list of sums so far comes first.
-macro_rules! sums {
-    ([$($sum:expr),*]) => { [$($sum),*] };
-    ([$($sum:expr),*] $first:expr $(, $rest:expr)*) => { sums!([$($sum,)* $($sum ^ $first),*] $($rest),*) };
-}
-
 // The remainders of x^32 to x^63, in four rows of eight, are enough to make all.
 macro_rules! remainders {
-    ($([$($power:expr),*]),*) => { [$(sums!([0] $($power),*)),*] };
+    ($([$($power:expr),*]),*) => { [$(sums!($($power),*)),*] };
 }
 
 /// By x^23 times the divisor of a confirmed block, x^9 + x^6 + x^4 + x^3 + 1.
