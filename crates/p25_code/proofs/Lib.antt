@@ -6,3 +6,5 @@ pub mod BinaryLaws
 pub mod RemainderLaws
 pub mod ParityLaws
 pub mod BinarySteps
+pub mod WrongLaws
+pub mod NumberCodeLaws

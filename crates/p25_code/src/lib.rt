@@ -26,7 +26,11 @@
 mod binary;
 mod callers;
 mod code;
+mod number_code;
+mod wrong_bits;
 
 pub use binary::{encode_systematic, read_systematic};
 pub use callers::{encode_then_read, read_marked, read_received};
 pub use code::{BlockCode, ErasedCode, Reading};
+pub use number_code::{NumberCode, put_reading};
+pub use wrong_bits::{wrong_by_halves, wrong_by_rows};

@@ -7,12 +7,13 @@ use Rattle.std.specs.Bool.{beq}
 use Rattle.p25_bits.specs.Bits.{bits_of}
 use Rattle.p25_bits.specs.Divisible.{HasDegree}
 use Rattle.p25_code.specs.Binary.{IsChecked, check_columns, systematic, syndrome_of, weight_of}
+use Rattle.p25_code.specs.WrongBits.{number_sum}
 use Rattle.p25_code.proofs.ReadingLaws.{IsBlockCode}
 use Rattle.p25_code.proofs.WeightLaws.{all_bits}
 use Rattle.p25_code.proofs.SyndromeLaws.{syndrome_of-append}
 use Rattle.p25_code.proofs.BinaryLaws.{IsSystematic, is_heavy, length_checked, is_code}
 use Rattle.p25_code.proofs.RemainderLaws.{power_remainder, remainders, remainders-divisible, divisible-remainders}
-use Rattle.p25_code.proofs.ParityLaws.{mixed, mixed_passes, with_parity, syndrome_of-with_parity}
+use Rattle.p25_code.proofs.ParityLaws.{mixed_passes, with_parity, syndrome_of-with_parity}
 use Rattle.p25_golay.specs.Golay24.{IsGolay24}
 
 -- the check bits of the messages with one 1: the remainder by the generator, then the bit that makes the weight even
@@ -45,12 +46,12 @@ mix : List ℕ
 mix = 0x801 ∷ 0x401 ∷ 0x201 ∷ 0x101 ∷ 0x081 ∷ 0x041 ∷ 0x021 ∷ 0x011 ∷ 0x009 ∷ 0x005 ∷ 0x003 ∷ 0x001 ∷ []
 
 -- so the columns of the matrix are sums of the stated ones, and these are sums of those
-matrix-stated : map (mixed mix) stated_columns ≡ check_rows ++ check_columns 12
-unfolding stated_columns mix mixed syndrome_of bits_of check_columns remainders power_remainder
+matrix-stated : map (number_sum mix) stated_columns ≡ check_rows ++ check_columns 12
+unfolding stated_columns mix number_sum syndrome_of bits_of check_columns remainders power_remainder
 matrix-stated = refl
 
-stated-matrix : map (mixed mix) (check_rows ++ check_columns 12) ≡ stated_columns
-unfolding stated_columns mix mixed syndrome_of bits_of check_columns remainders power_remainder
+stated-matrix : map (number_sum mix) (check_rows ++ check_columns 12) ≡ stated_columns
+unfolding stated_columns mix number_sum syndrome_of bits_of check_columns remainders power_remainder
 stated-matrix = refl
 
 length-remainders : length (remainders 0xC75 11 23) ≡ 23
