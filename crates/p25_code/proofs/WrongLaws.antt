@@ -9,7 +9,7 @@ use Rattle.std.proofs.lemmas.Bool.{cases_lt, and_parts, ltb-true}
 use Rattle.std.proofs.lemmas.Nat.{xor_comm, ones_cat, zero_from_ones, pow_pos, pow-add, pow_below, shr_high, mod_low, shr_split, shr_below, mod_below, mul-add-lt, one_shl, or_shifted, shl_whole}
 use Rattle.std.proofs.lemmas.Nat.Bits.{bit_at-pow_same, bit_at-pow_other}
 use Rattle.p25_bits.specs.Bits.{bits_of}
-use Rattle.p25_bits.proofs.BitsLaws.{length-bits_of, bits_of-add, bits_of-above, bits_of-suc, field_of-bits_of}
+use Rattle.p25_bits.proofs.BitsLaws.{length-bits_of, bits_of-add, bits_of-above, bits_of-mod, bits_of-suc, field_of-bits_of}
 use Rattle.p25_code.specs.Binary.{syndrome_of, check_columns, rows_fit}
 use Rattle.p25_code.specs.WrongBits.{number_sum, AreWrong, NoneWrong, NoneByRows, AreInverse}
 use Rattle.p25_code.proofs.SyndromeLaws.{syndrome_of-append, syndrome_of-check_columns, length-check_columns}
@@ -21,17 +21,28 @@ use Rattle.p25_code.proofs.WeightLaws.{weight_of-bits_of, syndrome_of-zeros}
 pub length-columns : (rows : List ℕ) (checks : ℕ) → length (rows ++ check_columns checks) ≡ length rows + checks
 length-columns rows checks = length-append rows (check_columns checks) ∙ ap (λ n. length rows + n) (length-check_columns checks)
 
+-- the sum of two lists of columns: each takes its part of the number
+pub number_sum-append : (first last : List ℕ) (number : ℕ) → number_sum (first ++ last) number ≡ bit_xor (number_sum first (number / 2 ^ length last)) (number_sum last number)
+unfolding number_sum
+number_sum-append first last number =
+    let high = bits_of (length first) (number / 2 ^ length last) in
+    let low = bits_of (length last) number in
+    ap (λ n. syndrome_of (first ++ last) (bits_of n number)) (length-append first last)
+    ∙ ap (syndrome_of (first ++ last)) (bits_of-add (length first) (length last) number)
+    ∙ syndrome_of-append first last high low (length-bits_of (length first) (number / 2 ^ length last))
+
+-- what stands above the places of a number does not matter
+pub number_sum-mod : (columns : List ℕ) (number : ℕ) → number_sum columns (number % 2 ^ length columns) ≡ number_sum columns number
+unfolding number_sum
+number_sum-mod columns number = ap (syndrome_of columns) (bits_of-mod (length columns) number)
+
 -- a word's sum is that of its information and its check bits
 pub number_sum-parts : (rows : List ℕ) (checks number : ℕ) → number_sum (rows ++ check_columns checks) number ≡ bit_xor (number_sum rows (number / 2 ^ checks)) (number % 2 ^ checks)
 unfolding number_sum
 number_sum-parts rows checks number =
-    let k = length rows in
-    let info = bits_of k (number / 2 ^ checks) in
-    let bits = bits_of checks number in
-    ap (λ n. syndrome_of (rows ++ check_columns checks) (bits_of n number)) (length-columns rows checks)
-    ∙ ap (syndrome_of (rows ++ check_columns checks)) (bits_of-add k checks number)
-    ∙ syndrome_of-append rows (check_columns checks) info bits (length-bits_of k (number / 2 ^ checks))
-    ∙ ap (bit_xor (syndrome_of rows info)) (syndrome_of-check_columns checks bits (length-bits_of checks number) ∙ field_of-bits_of checks number)
+    number_sum-append rows (check_columns checks) number
+    ∙ ap (λ n. bit_xor (number_sum rows (number / 2 ^ n)) (syndrome_of (check_columns checks) (bits_of n number))) (length-check_columns checks)
+    ∙ ap (bit_xor (number_sum rows (number / 2 ^ checks))) (syndrome_of-check_columns checks (bits_of checks number) (length-bits_of checks number) ∙ field_of-bits_of checks number)
 
 -- the first column is in the sum where the highest bit is 1
 number_sum-cons : (column : ℕ) (columns : List ℕ) (number : ℕ) → number_sum (column ∷ columns) number ≡ bit_xor (cond (eqb (bit_at number (length columns)) 1) column 0) (number_sum columns number)

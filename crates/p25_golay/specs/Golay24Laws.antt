@@ -20,6 +20,10 @@ use Rattle.p25_golay.specs.Golay24.{IsGolay24}
 abbrev pub check_rows : List ℕ
 check_rows = 0xC75 ∷ 0x63B ∷ 0xF68 ∷ 0x7B4 ∷ 0x3DA ∷ 0xD99 ∷ 0x6CD ∷ 0x367 ∷ 0xDC6 ∷ 0xA97 ∷ 0x93E ∷ 0x8EB ∷ []
 
+-- the messages of the words with one 1 among the check bits
+abbrev pub message_rows : List ℕ
+message_rows = 0xA4F ∷ 0xF68 ∷ 0x7B4 ∷ 0x3DA ∷ 0x1ED ∷ 0xAB9 ∷ 0xF13 ∷ 0xDC6 ∷ 0x6E3 ∷ 0x93E ∷ 0x49F ∷ 0xC75 ∷ []
+
 -- every word but that of zeros has at least eight ones
 heavy : all_bits 12 (is_heavy check_rows 12 8) ≡ true
 unfolding all_bits is_heavy systematic syndrome_of weight_of bits_of
@@ -114,3 +118,7 @@ from_checked word is =
 -- the laws of the code
 pub golay24_is_code : IsBlockCode beq IsGolay24 24 12 3 8
 golay24_is_code = is_code code IsGolay24 to_checked 24 3 refl (omega arith)
+
+-- a word fits a number of 32 bits
+pub golay24_fits : 24 ≤ 32
+golay24_fits = omega arith
