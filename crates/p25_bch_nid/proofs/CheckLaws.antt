@@ -8,7 +8,7 @@ use Rattle.std.proofs.lemmas.Nat.{xor_comm, xor_lt}
 use Rattle.p25_bits.specs.Divisible.{IsDivisible, IsRemainder}
 use Rattle.p25_bits.proofs.DivisibleLaws.{IsDivisible-sum, IsRemainder-lower, remainder_kept, remainder_reduced, remainder_from_divisible, xor_apart}
 use Rattle.p25_gf64.specs.ProductLaws.{all_below, all_below_at}
-use Rattle.p25_bch_nid.specs.Bch63Forms.{generator_degree}
+use Rattle.p25_bch_nid.specs.Bch63FormLaws.{generator_degree}
 use Rattle.p25_bch_nid.specs.Nid.{generator}
 use Rattle.p25_bch_nid.specs.declared.checks.TheConstants.{REMAINDERS}
 
@@ -26,7 +26,7 @@ times_x-is number r is =
       | inr high ↦ subst is_at (sym high) (remainder_reduced generator 47 number r 0 generator_degree digit is (ltb-false (2 * r + 0) (2 ^ 47) high))
     ]
 
--- the same times a power of x
+-- a remainder times a power of x
 times_power : ℕ → ℕ → ℕ
 times_power zero r = r
 times_power (suc k) r = times_x (times_power k r)

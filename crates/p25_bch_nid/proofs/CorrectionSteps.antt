@@ -16,10 +16,10 @@ use Rattle.p25_reed_solomon.specs.Words.{value_of}
 use Rattle.p25_reed_solomon.specs.Errors.{AreErrors}
 use Rattle.p25_reed_solomon.proofs.WrongLaws.{difference_errors}
 use Rattle.p25_bch_nid.specs.Nid.{generator}
-use Rattle.p25_bch_nid.specs.BitValues.{bit_coefficient}
+use Rattle.p25_bch_nid.specs.BitValueLaws.{bit_coefficient}
 use Rattle.p25_bch_nid.specs.Bch63.{IsBch63, symbols_of}
-use Rattle.p25_bch_nid.specs.Bch63Symbols.{distance_of_symbols, IsCode-63_41, IsWord-symbols_of}
-use Rattle.p25_bch_nid.specs.Bch63Forms.{to_divisible, from_divisible}
+use Rattle.p25_bch_nid.specs.Bch63SymbolLaws.{distance_of_symbols, IsCode-63_41, IsWord-symbols_of}
+use Rattle.p25_bch_nid.specs.Bch63FormLaws.{to_divisible, from_divisible}
 
 -- the generator divides a word's number exactly where the remainder is zero
 pub word_from_remainder : (word : List Bool) → length word ≡ 63 → IsRemainder generator 47 (field_of word) 0 → IsBch63 word

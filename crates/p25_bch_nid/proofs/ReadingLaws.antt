@@ -13,7 +13,7 @@ use Rattle.p25_bits.proofs.DivisibleLaws.{divisible_from_remainder}
 use Rattle.p25_bch_nid.specs.declared.nid.Nid.{Nid}
 use Rattle.p25_bch_nid.specs.Nid.{generator}
 use Rattle.p25_bch_nid.specs.Bch63.{IsBch63}
-use Rattle.p25_bch_nid.specs.Bch63Forms.{from_divisible}
+use Rattle.p25_bch_nid.specs.Bch63FormLaws.{from_divisible}
 use Rattle.p25_bch_nid.specs.Bch63Readings.{bch63_reading_of}
 use Rattle.p25_bch_nid.specs.NidReading.{identifier_of_word, nid_reading_of, IsNidReading}
 use Rattle.p25_bch_nid.proofs.NidReadingLaws.{IsNidReading-nid_reading_of, nid_reading_of-word}

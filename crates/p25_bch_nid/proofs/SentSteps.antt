@@ -11,7 +11,7 @@ use Rattle.p25_bits.proofs.DistanceLaws.{distance_of-same, distance_of-bits_of}
 use Rattle.p25_code.specs.Words.{IsEncoding}
 use Rattle.p25_bch_nid.specs.Nid.{generator, IsSent}
 use Rattle.p25_bch_nid.specs.Bch63.{IsBch63}
-use Rattle.p25_bch_nid.specs.Bch63Forms.{from_divisible}
+use Rattle.p25_bch_nid.specs.Bch63FormLaws.{from_divisible}
 use Rattle.p25_bch_nid.specs.NidReading.{nid_reading_of}
 use Rattle.p25_bch_nid.proofs.NidReadingLaws.{nid_reading_of-word}
 use Rattle.p25_bch_nid.proofs.NidWordLaws.{identifier_of_word-encoding}

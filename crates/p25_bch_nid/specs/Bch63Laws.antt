@@ -18,8 +18,8 @@ use Rattle.p25_code.proofs.ReadingLaws.{IsBlockCode}
 use Rattle.p25_reed_solomon.specs.WordLaws.{words_apart}
 use Rattle.p25_bch_nid.specs.Nid.{generator}
 use Rattle.p25_bch_nid.specs.Bch63.{IsBch63, symbols_of}
-use Rattle.p25_bch_nid.specs.Bch63Symbols.{bits_in, bits_in-symbols_of, distance_of_symbols, IsCode-63_41, IsWord-symbols_of}
-use Rattle.p25_bch_nid.specs.Bch63Forms.{generator_degree, to_divisible, from_divisible}
+use Rattle.p25_bch_nid.specs.Bch63SymbolLaws.{bits_in, bits_in-symbols_of, distance_of_symbols, IsCode-63_41, IsWord-symbols_of}
+use Rattle.p25_bch_nid.specs.Bch63FormLaws.{generator_degree, to_divisible, from_divisible}
 
 -- ---- the word of some information
 

@@ -6,7 +6,7 @@ use Rattle.std.proofs.Common.{inl, inr}
 use Rattle.p25_reed_solomon.specs.RsReadings.{IsWord-tested}
 use Rattle.p25_bch_nid.specs.Bch63.{IsBch63, symbols_of}
 use Rattle.p25_bch_nid.specs.Bch63Laws.{bch63_is_code}
-use Rattle.p25_bch_nid.specs.Bch63Symbols.{IsWord-symbols_of, IsBch63-from_symbols}
+use Rattle.p25_bch_nid.specs.Bch63SymbolLaws.{IsWord-symbols_of, IsBch63-from_symbols}
 
 -- whether a list of bits is a word can be tested, as its symbols are
 IsBch63-tested : Tested IsBch63

@@ -1,10 +1,11 @@
 pub mod Nid
-pub mod BitValues
-pub mod RemainderValues
 pub mod Bch63
-pub mod Bch63Forms
-pub mod Bch63Symbols
-pub mod Bch63Laws
 pub mod Bch63Readings
 pub mod NidReading
 pub mod NidWord
+-- laws of impls: nothing to believe
+pub mod BitValueLaws
+pub mod RemainderValueLaws
+pub mod Bch63FormLaws
+pub mod Bch63SymbolLaws
+pub mod Bch63Laws

@@ -9,12 +9,14 @@ ghost use Rattle.p25_bch_nid.specs.Bch63.{IsBch63};
 ghost use Rattle.p25_bch_nid.specs.NidReading.{IsNidReading, identifier_of_word, nid_reading_of};
 ghost use Rattle.p25_bch_nid.specs.NidWord.{nid_word};
 
-/// The words of the code, which are zero at α^1 to α^22, are the lists of 63 bits that are divisible by the generator.
+use crate::duid::{HDU, LDU1, LDU2, PDU, TDU, TDULC};
+
+/// **Theorem.** The words of the code, which are zero at α^1 to α^22, are the lists of 63 bits that are divisible by the generator.
 pub fn two_forms()
     ensures { (word : List Bool) → IsBch63 word ↔ ((length word ≡ 63) × IsDivisible generator (field_of word)) }
 {}
 
-/// Does nothing: its contract is the laws of reading identifiers.
+/// **Theorem.** The laws of reading identifiers.
 ///
 /// - `only`: what is read is the one answer that `IsNidReading` allows.
 /// - `word`: wherever a word of the code lies within 11 bits of the first 63, its NAC and DUID are read.
@@ -28,4 +30,14 @@ pub fn reading_laws()
     ensures near { (bits : List Bool) (nid : ℕ × ℕ) → nid_reading_of bits ≡ Some nid → distance_of (take 63 bits) (take 63 (nid_word nid.0 nid.1)) ≤ 11 }
     ensures sent { (nac duid : ℕ) → nac < 2 ^ 12 → duid < 2 ^ 4 → nid_reading_of (nid_word nac duid) ≡ Some (nac, duid) }
     ensures first { (a b : List Bool) → take 63 a ≡ take 63 b → nid_reading_of a ≡ nid_reading_of b }
+{}
+
+/// **Theorem.** The data unit identifiers are those of the standard, as numbers.
+pub fn identifiers()
+    ensures hdu { HDU ≡ 0 }
+    ensures tdu { TDU ≡ 3 }
+    ensures ldu1 { LDU1 ≡ 5 }
+    ensures ldu2 { LDU2 ≡ 10 }
+    ensures pdu { PDU ≡ 12 }
+    ensures tdulc { TDULC ≡ 15 }
 {}

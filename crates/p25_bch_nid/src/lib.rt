@@ -21,6 +21,7 @@
 mod bch63;
 mod checks;
 mod correction;
+mod duid;
 pub mod laws;
 mod nid;
 mod reading;
@@ -28,6 +29,7 @@ mod sent;
 mod symbols;
 
 pub use bch63::Bch63;
+pub use duid::{HDU, LDU1, LDU2, PDU, TDU, TDULC};
 pub use nid::Nid;
 pub use reading::read_nid;
 pub use sent::{nid_bits, nid_distance};

@@ -10,10 +10,12 @@ ghost use Rattle.p25_bch_nid.specs.NidReading.{nid_reading_of};
 ghost use Rattle.p25_bch_nid.specs.NidWord.{nid_word};
 
 use crate::checks::check_bits;
+use crate::duid::{LDU1, LDU2};
 use crate::nid::Nid;
 
 /// Answers the 64 bits of an identifier, the first bit highest: NAC 12, DUID 4, the 47 check bits of the BCH code
-/// (63,16), and P, which is 1 for DUID 5 and A hex and 0 for every other.
+/// (63,16), and P, which is 1 for an LDU1 and an LDU2 and 0 for every
+/// other unit.
 pub fn nid_bits(nid: &Nid) -> u64
     ensures sent { IsSent nid.now.nac nid.now.duid result }
     ensures word { IsEncoding IsBch63 16 (bits_of 12 nid.now.nac ++ bits_of 4 nid.now.duid) (take 63 (bits_of 64 result)) }
@@ -41,5 +43,5 @@ pub fn nid_distance(bits: u64, nid: &Nid) -> u32
 fn parity(duid: u8) -> u64
     ensures { result ≡ parity_of duid }
 {
-    if duid == 5 || duid == 10 { 1 } else { 0 }
+    if duid == LDU1 || duid == LDU2 { 1 } else { 0 }
 }

@@ -2,7 +2,7 @@
 
 ghost use Rattle.std.specs.Prelude.{◌≡◌, length};
 ghost use Rattle.p25_gf64.specs.Gf64.{gf64};
-ghost use Rattle.p25_bch_nid.specs.BitValues.{bit_coefficient};
+ghost use Rattle.p25_bch_nid.specs.BitValueLaws.{bit_coefficient};
 ghost use Rattle.p25_bch_nid.specs.Bch63.{symbols_of};
 
 use p25_gf64::Sym;

@@ -30,7 +30,7 @@ pub length-longer : (words changed : List ℕ) (len more : ℕ) (held : List Boo
     → length (take (len + more) (number_bits 64 changed)) ≡ length held + more
 length-longer words changed len more held fits fit is = omega (arith, length-held changed (len + more) fit, length-held words len fits, ap length is)
 
--- more bits behind those held, of which only the first count
+-- more bits after those held, of which only the first count
 pub take_appended : (now : List Bool) (bits extra : List Bool) (len more most : ℕ) → length now ≡ len → take (len + most) bits ≡ now ++ extra → more ≤ most → take (len + more) bits ≡ now ++ take more extra
 take_appended now bits extra len more most long appended fits =
     let inside : len + more ≤ len + most = omega arith in

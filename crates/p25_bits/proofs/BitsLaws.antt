@@ -124,7 +124,7 @@ take-bits_of k width number h =
     ∙ ap (take k) (bits_of-add k (width - k) number)
     ∙ take_at (bits_of k (number / 2 ^ (width - k))) (bits_of (width - k) number) k (length-bits_of k (number / 2 ^ (width - k)))
 
--- the bits behind them are the low bits
+-- the bits after them are the low bits
 pub drop-bits_of : (k width number : ℕ) → k ≤ width → drop k (bits_of width number) ≡ bits_of (width - k) number
 drop-bits_of k width number h =
     let split : width ≡ k + (width - k) = omega arith in
@@ -244,6 +244,6 @@ pub field_of-one : (bit : Bool) → field_of (bit ∷ []) ≡ digit_of bit
 unfolding field_of field_after
 field_of-one bit = omega arith
 
--- one more bit behind others doubles their number
+-- one more bit after others doubles their number
 pub field_of-push : (bits : List Bool) (bit : Bool) → field_of (bits ++ bit ∷ []) ≡ 2 * field_of bits + digit_of bit
 field_of-push bits bit = field_of-append bits (bit ∷ []) ∙ omega (arith, field_of-one bit)

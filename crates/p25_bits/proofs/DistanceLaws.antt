@@ -80,7 +80,7 @@ distance_by-drop_suc same (x ∷ xs) [] i d h k = absurd (omega arith)
 distance_by-drop_suc same (x ∷ xs) (y ∷ ys) zero d h k = refl
 distance_by-drop_suc same (x ∷ xs) (y ∷ ys) (suc i) d h k = distance_by-drop_suc same xs ys i d (omega arith) (omega arith)
 
--- the same as a loop over the places steps
+-- the distance of two lists from a place on, as a loop over the places counts it
 pub distance_by-drop : {X : Type 0} (same : X → X → Bool) (xs ys : List X) (i : ℕ) (d : X) → i < length xs → i < length ys
     → distance_by same (drop i xs) (drop i ys) ≡ cond (same (get_or xs i d) (get_or ys i d)) 0 1 + distance_by same (drop (i + 1) xs) (drop (i + 1) ys)
 distance_by-drop same xs ys i d h k = rw add-one (distance_by-drop_suc same xs ys i d h k)

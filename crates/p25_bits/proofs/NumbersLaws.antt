@@ -49,14 +49,14 @@ take-number_bits width i numbers inside =
     ap (take (width * i)) (ap (number_bits width) (sym (take-append-drop i numbers)) ∙ number_bits-append width (take i numbers) (drop i numbers))
     ∙ take_at (number_bits width (take i numbers)) (number_bits width (drop i numbers)) (width * i) long
 
--- the bits of the numbers behind them
+-- the bits of the numbers after them
 pub drop-number_bits : (width i : ℕ) (numbers : List ℕ) → i ≤ length numbers → drop (width * i) (number_bits width numbers) ≡ number_bits width (drop i numbers)
 drop-number_bits width i numbers inside =
     let long : length (number_bits width (take i numbers)) ≡ width * i = length-number_bits width (take i numbers) ∙ ap (λ n. width * n) (length-take-le i numbers inside) in
     ap (drop (width * i)) (ap (number_bits width) (sym (take-append-drop i numbers)) ∙ number_bits-append width (take i numbers) (drop i numbers))
     ∙ drop_at (number_bits width (take i numbers)) (number_bits width (drop i numbers)) (width * i) long
 
--- the bits from a number on: its own, and those of the numbers behind it
+-- the bits from a number on: its own, and those of the numbers after it
 pub number_bits-drop_more : (width i : ℕ) (numbers : List ℕ) → i < length numbers → number_bits width (drop i numbers) ≡ bits_of width (get_or numbers i 0) ++ number_bits width (drop (i + 1) numbers)
 number_bits-drop_more width i numbers inside = ap (number_bits width) (drop_more numbers i 0 inside) ∙ number_bits-cons width (get_or numbers i 0) (drop (i + 1) numbers)
 
@@ -165,7 +165,7 @@ numbers_from-more width n bits =
     ∙ ap (λ (more : List ℕ). numbers_from width n bits ++ more)
     (numbers_from-suc width 0 (drop (width * n) bits) ∙ ap (λ (more : List ℕ). field_of (part (width * n) width bits) ∷ more) (numbers_from-zero width (drop width (drop (width * n) bits))))
 
--- bits behind those that the numbers are read from change nothing
+-- bits after those that the numbers are read from change nothing
 pub numbers_from-append : (width n : ℕ) (xs ys : List Bool) → width * n ≤ length xs → numbers_from width n (xs ++ ys) ≡ numbers_from width n xs
 unfolding numbers_from
 numbers_from-append width zero xs ys inside = refl

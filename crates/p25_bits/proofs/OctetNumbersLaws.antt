@@ -52,7 +52,7 @@ pub octets_number-append : (xs ys : List ℕ) → octets_number (xs ++ ys) ≡ o
 unfolding octets_number
 octets_number-append xs ys = number_after-append 0 xs ys ∙ number_after-is (octets_number xs) ys
 
--- one more octet behind others
+-- one more octet after others
 pub octets_number-push : (octets : List ℕ) (octet : ℕ) → octets_number (octets ++ octet ∷ []) ≡ 256 * octets_number octets + octet
 unfolding octets_number number_after
 octets_number-push octets octet = number_after-append 0 octets (octet ∷ [])

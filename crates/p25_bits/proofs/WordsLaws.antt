@@ -1,5 +1,5 @@
 -- What the calls on words need: the shifts of one word as parts of its bits, by the laws of `bits_of` at the sum that each shift is, and a list
--- of words by its words before, at and behind a place.
+-- of words by its words before, at and after a place.
 use Rattle.std.proofs.Common.{◌≡◌, ℕ, ◌+◌, ◌-◌, ◌*◌, ◌/◌, ◌%◌, ◌^◌, ◌<◌, ◌≤◌, Bool, List, ◌++◌, length, take, drop, get_or, set, ap, ap₂, sym, subst, ◌∙◌, arith, bit_and, bit_or, bit_xor, append_assoc, length-append, length-drop, pow-add}
 use Rattle.std.proofs.Math.Nat.{mul_assoc, add-mul}
 use Rattle.std.proofs.Math.Seq.{take-add, take-append-add}
@@ -133,7 +133,7 @@ take_within words q m here few =
     ∙ ap₂ ◌++◌ (take-number_bits 64 q words there)
     (ap (take m) (drop-number_bits 64 q words there ∙ number_bits-drop_more 64 q words here) ∙ take-append-le m first (number_bits 64 (drop (q + 1) words)) within)
 
--- a word that keeps the first bits, and has others behind them, appends these
+-- a word that keeps the first bits, and has others after them, appends these
 pub take_written : (words : List ℕ) (len more new : ℕ) (extra : List Bool) → len / 64 < length words → len % 64 + more ≤ 64
     → take (len % 64 + more) (bits_of 64 new) ≡ take (len % 64) (bits_of 64 (get_or words (len / 64) 0)) ++ extra
     → take (len + more) (number_bits 64 (set words (len / 64) new)) ≡ take len (number_bits 64 words) ++ extra

@@ -8,6 +8,6 @@ distance_by same [] ys = 0
 distance_by same (x ∷ xs) [] = 0
 distance_by same (x ∷ xs) (y ∷ ys) = cond (same x y) 0 1 + distance_by same xs ys
 
--- the same for bits
+-- in how many places two lists of bits differ
 abbrev pub distance_of : List Bool → List Bool → ℕ
 distance_of = distance_by beq

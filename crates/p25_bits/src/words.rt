@@ -22,7 +22,7 @@ fn across(high: u64, low: u64, at: u32) -> u64
     (high << at) | ((low >> 1) >> (63 - at))
 }
 
-// Sets the 64 bits from place `at` on to those of a word. The bits before them stay; nothing is said of those behind.
+// Sets the 64 bits from place `at` on to those of a word. The bits before them stay; nothing is said of those after.
 pub(crate) fn put_window(words: &mut [u64], at: usize, word: u64)
     requires { at / 64 + 1 < length words.old }
     ensures { take (at + 64) (number_bits 64 words.new) ≡ take at (number_bits 64 words.old) ++ bits_of 64 word }

@@ -4,21 +4,9 @@ ghost use Rattle.std.specs.Prelude.{◌≡◌, ◌+◌, ◌^◌, ◌<◌, ◌≤
 ghost use Rattle.p25_calls.specs.Seen.{algid_in, is_header, is_link_unit, is_terminator, is_voice, link_in, unit_end, unit_of};
 ghost use Rattle.p25_units.specs.Items.{IsSoundItem, covered, place_of};
 
+use p25_bch_nid::{HDU, LDU1, LDU2, PDU, TDU, TDULC};
 use p25_link::LinkControl;
 use p25_units::{Body, Item, VoiceUnit, frame_length};
-
-// The data unit identifiers of units.
-const HEADER: u8 = 0;
-
-const TERMINATOR: u8 = 0x3;
-
-const VOICE_WITH_LINK: u8 = 0x5;
-
-const VOICE_WITH_SYNC: u8 = 0xA;
-
-const PACKET: u8 = 0xC;
-
-const TERMINATOR_WITH_LINK: u8 = 0xF;
 
 /// A unit, as a call sees it.
 #[derive(Clone, Copy, Debug, PartialEq, Eq)]
@@ -44,35 +32,35 @@ impl UnitSeen {
     pub fn is_voice(&self) -> bool
         ensures { result ≡ is_voice self.now }
     {
-        self.duid != PACKET
+        self.duid != PDU
     }
 
     /// Answers whether it is a header.
     pub fn is_header(&self) -> bool
         ensures { result ≡ is_header self.now }
     {
-        self.duid == HEADER
+        self.duid == HDU
     }
 
     /// Answers whether it is a link unit: one that carries voice.
     pub fn is_link_unit(&self) -> bool
         ensures { result ≡ is_link_unit self.now }
     {
-        self.duid == VOICE_WITH_LINK || self.duid == VOICE_WITH_SYNC
+        self.duid == LDU1 || self.duid == LDU2
     }
 
     /// Answers whether it is a terminator, with link control or without.
     pub fn is_terminator(&self) -> bool
         ensures { result ≡ is_terminator self.now }
     {
-        self.duid == TERMINATOR || self.duid == TERMINATOR_WITH_LINK
+        self.duid == TDU || self.duid == TDULC
     }
 
     /// Answers whether it is a terminator with link control.
     pub fn has_end_link(&self) -> bool
         ensures { result ≡ nat_eq self.now.duid 15 }
     {
-        self.duid == TERMINATOR_WITH_LINK
+        self.duid == TDULC
     }
 
     /// Answers the place behind its last bit.

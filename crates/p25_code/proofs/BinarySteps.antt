@@ -191,7 +191,7 @@ uncorrected columns sum radius old new long e is = record {
   none_within = record { farther = λ word w. is.farther word (w.long ∙ sym long) (change_from columns old word long w.long w.passes ∙ sym e) };
 }
 
--- the same of lists that are known to begin so
+-- a correction of lists that are known to begin so
 pub of_parts : (columns columns' : List ℕ) (sum budget : ℕ) (old old' new : List Bool) (answer answer' : Option ℕ) → columns ≡ columns' → old ≡ old' → answer ≡ answer' → IsCorrection columns' sum budget old' new answer'
     → IsCorrection columns sum budget old new answer
 of_parts columns columns' sum budget old old' new answer answer' e f g is =
@@ -204,7 +204,7 @@ pub fixes_within : (columns : List ℕ) (sum budget : ℕ) (old new : List Bool)
 unfolding IsCorrection
 fixes_within columns sum budget old new fixes is = is.within
 
--- the rows behind the first fit, and so does the first
+-- the rows after the first fit, and so does the first
 pub first_fits : (checks : ℕ) (rows : List ℕ) (row : ℕ) (others : List ℕ) → rows ≡ row ∷ others → rows_fit checks rows ≡ true → (row < 2 ^ checks) × (rows_fit checks others ≡ true)
 first_fits checks rows row others e fit =
     let parts = and_parts (ltb row (2 ^ checks)) (rows_fit checks others) (sym (ap (rows_fit checks) e) ∙ fit) in

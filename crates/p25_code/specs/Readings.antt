@@ -78,7 +78,7 @@ unfoldable pub IsListWhere : {L : Type 0} → ℕ → (List L → Type 0) → Op
 IsListWhere n P (Some word) = (length word ≡ n) × P word
 IsListWhere {L} n P None = (word : List L) → length word ≡ n → ¬ P word
 
--- the same as a function; the law below is all that is known of it
+-- the list of so many letters with a property, as a function; the law below is all that is known of it
 pub list_where : {L : Type 0} → Searched L → (n : ℕ) (P : List L → Type 0) → Tested P → Option (List L)
 list_where letters n P test = elim (list_or_none letters n P test) [ inl found ↦ Some found.0 | inr without ↦ None ]
 

@@ -107,7 +107,7 @@ marked_next f places each i k at word xs erased es inside read there same long_x
     ∙ sym (flat_map-append f (take i places) (at ∷ []))
     ∙ ap (flat_map f) (sym more)
 
--- behind the last place
+-- after the last place
 pub marked_whole : {L : Type 0} (f : ℕ → List (Option L)) (places : List ℕ) (each i : ℕ) (word : List L) (erased : List Bool) → length places ≤ i → length places * each ≡ length word → length erased ≡ length word → i ≤ length places
     → marked (take (each * i) word) (take (each * i) erased) ≡ flat_map f (take i places) → marked word erased ≡ flat_map f places
 marked_whole f places each i word erased past covers same most is =

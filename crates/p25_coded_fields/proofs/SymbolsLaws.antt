@@ -19,7 +19,7 @@ use Rattle.p25_link.proofs.SymbolsLaws.{number-symbol_in, number-symbols_in, sym
 symbol_in-same : (xs ys : List Bool) → take 6 xs ≡ take 6 ys → symbol_in xs ≡ symbol_in ys
 symbol_in-same xs ys same = same_symbol (symbol_in xs) (symbol_in ys) (number-symbol_in xs ∙ ap field_of same ∙ sym (number-symbol_in ys))
 
--- bits behind those that are asked for do not matter
+-- bits after those that are asked for do not matter
 pub symbols_in-take : (n count : ℕ) (bits : List Bool) → 6 * n ≤ count → 6 * n ≤ length bits → symbols_in n (take count bits) ≡ symbols_in n bits
 symbols_in-take n count bits inside there =
     same_symbols_list (symbols_in n (take count bits)) (symbols_in n bits)

@@ -1,4 +1,4 @@
--- What a writer of fields appends, word by word: the words written stay, the next one stands behind them; and for a function that
+-- What a writer of fields appends, word by word: the words written stay, the next one stands after them; and for a function that
 -- encodes, all of them are its values, since no other word has the same information.
 use Rattle.std.proofs.Common.{◌≡◌, ℕ, ◌+◌, ◌-◌, ◌*◌, ◌<◌, ◌≤◌, inl, inr, Bool, List, ◌++◌, length, take, drop, ap, ap₂, sym, ◌∙◌, subst, arith, length-append}
 use Rattle.std.proofs.Math.Nat.{mul-le-mul_left}

@@ -26,7 +26,7 @@ field_layout places size each inner_reading outer_reading information = record {
   information = information;
 }
 
--- so many places, each a step behind the one before
+-- so many places, each a step after the one before
 unfoldable pub places_from : ℕ → ℕ → ℕ → List ℕ
 places_from at step zero = []
 places_from at step (suc count) = at ∷ places_from (at + step) step count

@@ -1,4 +1,4 @@
--- What a writer of fields appends: one inner word behind the other.
+-- What a writer of fields appends: one inner word after the other.
 use Rattle.std.specs.Prelude.{◌≡◌, ℕ, ◌+◌, ◌*◌, ◌<◌, Bool, List, ◌++◌, length, take}
 use Rattle.p25_bits.specs.Bits.{part}
 use Rattle.p25_code.specs.Words.{IsEncoding}

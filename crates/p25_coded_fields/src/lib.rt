@@ -2,7 +2,7 @@
 //! Voice Data Units).
 //!
 //! A symbol is the number that six bits write, the first bit highest. The information of an inner word is one symbol, or two
-//! of a Golay (24,12) word. `put_field` encodes the symbols of an outer word as inner words, one behind the other;
+//! of a Golay (24,12) word. `put_field` encodes the symbols of an outer word as inner words, one after the other;
 //! `read_field` reads the inner words at places of a unit and then the outer word. Where an inner word is not read, each of
 //! its symbols is a mark, and the outer code reads the symbols that are left:
 //!

@@ -12,7 +12,7 @@ use p25_reed_solomon::Rs;
 // The outer code: two symbols of information and two check symbols.
 type Outer = Rs<4, 2>;
 
-// Where the inner words stand, behind eight other bits.
+// Where the inner words stand, after eight other bits.
 const PLACES: [usize; 2] = [8, 32];
 
 // Inverts bits of the inner word at a place, the first ones.

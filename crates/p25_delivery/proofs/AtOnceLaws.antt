@@ -23,13 +23,13 @@ use Rattle.p25_delivery.specs.declared.sender_state.Outstanding.TheVariants.{Not
 use Rattle.p25_delivery.specs.declared.sender.SenderHeard.TheVariants.{Acknowledged, Opened as SenderOpened}
 use Rattle.p25_delivery.specs.declared.receiver.Heard.TheVariants.{Delivered, Opened}
 use Rattle.p25_delivery.proofs.CarriedLaws.{slots-read_back}
-use Rattle.p25_delivery.specs.Link.{Link}
+use Rattle.p25_delivery.specs.Link.{Link, Session}
 use Rattle.p25_delivery.specs.AtOnce.{DeliversAtOnce, OpensAtOnce}
 use Rattle.p25_delivery.proofs.HeadLaws.{response_head-status, response_head-class, response_head-kind, response_head-format, response_head-llid, confirmed_head-full}
 use Rattle.p25_delivery.proofs.SentLaws.{counts-small, all-blocks, whole-carries}
 use Rattle.p25_delivery.proofs.ReceiverLaws.{eq-true, eq-false, data-is_heard, opening-is_heard}
 use Rattle.p25_delivery.proofs.SenderLaws.{offer-quiet}
-use Rattle.p25_delivery.proofs.PhaseLaws.{IsQuiet, IsLinked, quiet, waiting, arrived, opening}
+use Rattle.p25_delivery.proofs.PhaseLaws.{IsQuiet, IsLinked, quiet, busy, opening}
 
 -- an ACK is one, of its status alone
 
@@ -123,24 +123,25 @@ whole-heard r number message small sync none short =
 
 -- a quiet link delivers, and a sender that is down opens
 
-delivers-quiet : (last : ℕ) (w : Link) (message : List ℕ) → IsQuiet last w → length message ≤ 2028 → DeliversAtOnce w.sender w.receiver message
-delivers-quiet last w message q short =
-    let sync : (w.receiver.last + 1) % 8 ≡ w.sender.next = ap (λ (n : ℕ). (n + 1) % 8) q.last_is ∙ sym q.next in
+delivers-quiet : (last b : ℕ) (s : Session) (w : Link) (message : List ℕ) → IsQuiet last b s w → length message ≤ 2028 → DeliversAtOnce w.outbound.sender w.inbound.receiver message
+delivers-quiet last b s w message q short =
+    let sender = w.outbound.sender in
+    let receiver = w.inbound.receiver in
+    let sync : (receiver.last + 1) % 8 ≡ sender.next = ap (λ (n : ℕ). (n + 1) % 8) q.last_is ∙ sym q.next in
     record {
-      packet = message_packet w.sender.next message;
-      answer = ack_packet w.sender.next;
-      waits = record { next = w.sender.next; outstanding = Message message; tries = 1; down = false };
-      after = record { last = w.sender.next; kept = None };
-      taken = offer-quiet w.sender message q.up q.outstanding;
-      delivered = whole-heard w.receiver w.sender.next message (omega (arith, q.last_is, q.small)) sync q.kept short;
-      acknowledged = ack-acknowledges (record { next = w.sender.next; outstanding = Message message; tries = 1; down = false }) message refl refl (omega (arith, q.next));
+      packet = message_packet sender.next message;
+      answer = ack_packet sender.next;
+      waits = record { next = sender.next; outstanding = Message message; tries = 1; down = false };
+      after = record { last = sender.next; kept = None };
+      taken = offer-quiet sender message q.up q.outstanding;
+      delivered = whole-heard receiver sender.next message (omega (arith, q.last_is, q.small)) sync q.kept short;
+      acknowledged = ack-acknowledges (record { next = sender.next; outstanding = Message message; tries = 1; down = false }) message refl refl (omega (arith, q.next));
     }
 
-pub delivers-linked : (w : Link) (message : List ℕ) → IsLinked w → w.sender.outstanding ≡ Nothing → length message ≤ 2028 → DeliversAtOnce w.sender w.receiver message
-delivers-linked w message (quiet last q) o short = delivers-quiet last w message q short
-delivers-linked w message (waiting number other h) o short = let both : Message other ≡ Nothing = sym h.outstanding ∙ o in cc
-delivers-linked w message (arrived number other h) o short = let both : Message other ≡ Nothing = sym h.outstanding ∙ o in cc
-delivers-linked w message (opening number h) o short = let both : Opening number ≡ Nothing = sym h.outstanding ∙ o in cc
+pub delivers-linked : (b : ℕ) (s : Session) (w : Link) (message : List ℕ) → IsLinked b s w → w.outbound.sender.outstanding ≡ Nothing → length message ≤ 2028 → DeliversAtOnce w.outbound.sender w.inbound.receiver message
+delivers-linked b s w message (quiet last q) o short = delivers-quiet last b s w message q short
+delivers-linked b s w message (busy number other h) o short = let both : Message other ≡ Nothing = sym h.outstanding ∙ o in cc
+delivers-linked b s w message (opening number h) o short = let both : Opening number ≡ Nothing = sym h.outstanding ∙ o in cc
 
 small-opening : (out : Outstanding) (next : ℕ) → IsNumbered out → opening_number out next < 8
 unfolding IsNumbered opening_number

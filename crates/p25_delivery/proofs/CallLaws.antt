@@ -1,103 +1,67 @@
 -- An offer, a timeout and a reopening keep a link in a phase: each phase in turn, by what the sender answers there.
-use Rattle.std.proofs.Common.{◌≡◌, ℕ, ◌+◌, ◌%◌, ◌≤◌, inl, inr, false, List, [], ◌∷◌, ◌++◌, length, Option, Some, refl, ap, sym, ◌∙◌, subst, arith}
+use Rattle.std.proofs.Common.{◌≡◌, ℕ, ◌+◌, ◌%◌, ◌<◌, ◌≤◌, ◌⊎◌, inl, inr, Bool, true, false, List, [], ◌∷◌, ◌++◌, length, Option, Some, refl, ap, sym, ◌∙◌, subst, arith}
 use Rattle.std.specs.Prelude.{IfSome}
 use Rattle.std.proofs.lemmas.Option.{IfSome_then}
 use Rattle.p25_packet_blocks.specs.declared.packet.Packet.{Packet}
 use Rattle.p25_delivery.specs.Places.{held_flags}
 use Rattle.p25_delivery.specs.SentPackets.{message_packet, ack_packet, retry_packet, opening_packet}
 use Rattle.p25_delivery.specs.SenderState.{Sending}
-use Rattle.p25_delivery.specs.ReceiverState.{Keeping}
-use Rattle.p25_delivery.specs.SenderRules.{offered, timed_out, opening_number, reopened}
+use Rattle.p25_delivery.specs.ReceiverState.{Keeping, Receiving}
+use Rattle.p25_delivery.specs.SenderRules.{offered, timed_out, opening_number, reopened, is_opening}
 use Rattle.p25_delivery.specs.declared.sender_state.Outstanding.{Outstanding}
 use Rattle.p25_delivery.specs.declared.sender_state.Outstanding.TheVariants.{Message, Opening}
 use Rattle.p25_delivery.specs.declared.sender.Offer.{Offer}
+use Rattle.p25_delivery.specs.declared.sender.Offer.TheVariants.{Busy, Down as OfferDown}
 use Rattle.p25_delivery.specs.declared.sender.Resend.{Resend}
 use Rattle.p25_delivery.specs.declared.sender.Resend.TheVariants.{Sent, Idle, Down as ResendDown}
 use Rattle.p25_delivery.specs.declared.sender.Reopen.{Reopen}
-use Rattle.p25_delivery.specs.Link.{with_sent, Link, link_of_sender, link_of_data, after_offer, after_timeout, next_session, after_reopening}
+use Rattle.p25_delivery.specs.HalfRules.{after_offer, after_timeout, after_reopening}
+use Rattle.p25_delivery.specs.Link.{Link, Session, present_session, first_number, newest_after, with_outbound}
 use Rattle.p25_delivery.specs.Facts.{IsDataOf, KeepsOf}
-use Rattle.p25_delivery.specs.Orderly.{AreOrderly}
 use Rattle.p25_delivery.proofs.SenderLaws.{IsSame, Resends, offer-quiet, offer-message, offer-opening, timeout-message, timeout-opening, timeout-quiet, reopen-cases, reopen-up}
-use Rattle.p25_delivery.proofs.PhaseLaws.{IsQuiet, IsWaitingAnswer, IsWaiting, IsArrived, IsOpening, IsLinked, quiet, waiting, arrived, opening, IsKept, orderly-linked, orderly-more}
-
-pub same : (s : Sending) → IsSame s s
-same s = record { next = refl; outstanding = refl }
+use Rattle.p25_delivery.proofs.SessionLaws.{with_sent, one_sent, IsMarked, marked, present-sent, present-marked, number-marked}
+use Rattle.p25_delivery.proofs.PhaseLaws.{IsQuiet, IsWaitingAnswer, IsWaiting, IsArrived, IsBusy, IsOpeningAnswer, IsOpening, IsLinkedNow, quiet, busy, opening}
 
 -- what a newest transmission is like, where there is one
 pub newest : (o : Option Packet) (P : Packet → Type 0) (packet : Packet) → IfSome o P → o ≡ Some packet → P packet
 newest o P packet h e = subst (λ (x : Option Packet). IfSome x P) e h
 
+-- a link with another sender, and with another newest transmission of data beside it
+
+abbrev pub link_of_sender : Link → Sending → Link
+link_of_sender w t = record w { outbound = record w.outbound { sender = t } }
+
+abbrev pub link_of_data : Link → Sending → Packet → Link
+link_of_data w t packet = record w { outbound = record w.outbound { sender = t }; packet_sent = Some packet }
+
 -- a phase with another sender that has the same number and the same outstanding
 
-pub waiting-sender : (number : ℕ) (message : List ℕ) (w : Link) (s : Sending) → IsWaiting number message w → IsSame w.sender s → IsWaiting number message (link_of_sender w s)
-waiting-sender number message w s h t = record {
-  next = t.next ∙ h.next;
-  outstanding = t.outstanding ∙ h.outstanding;
+pub busy-sender : (number : ℕ) (message : List ℕ) (b : ℕ) (s : Session) (w : Link) (t : Sending) → IsBusy number message b s w → IsSame w.outbound.sender t → IsBusy number message b s (link_of_sender w t)
+busy-sender number message b s w t h e = record {
+  next = e.next ∙ h.next;
+  outstanding = e.outstanding ∙ h.outstanding;
   small = h.small;
   short = h.short;
-  last_small = h.last_small;
-  sync = h.sync;
-  kept = h.kept;
   packet_sent = h.packet_sent;
-  answer = h.answer;
-  sent = h.sent;
-  acknowledged = h.acknowledged;
   counted = h.counted;
+  place = h.place;
 }
 
-pub waiting-data : (number : ℕ) (message : List ℕ) (w : Link) (s : Sending) (packet : Packet) → IsWaiting number message w → IsSame w.sender s → IsDataOf number message packet → IsWaiting number message (link_of_data w s packet w.session)
-waiting-data number message w s packet h t d = record {
-  next = t.next ∙ h.next;
-  outstanding = t.outstanding ∙ h.outstanding;
+pub busy-data : (number : ℕ) (message : List ℕ) (b : ℕ) (s : Session) (w : Link) (t : Sending) (packet : Packet) → IsBusy number message b s w → IsSame w.outbound.sender t → IsDataOf number message packet →
+    IsBusy number message b s (link_of_data w t packet)
+busy-data number message b s w t packet h e d = record {
+  next = e.next ∙ h.next;
+  outstanding = e.outstanding ∙ h.outstanding;
   small = h.small;
   short = h.short;
-  last_small = h.last_small;
-  sync = h.sync;
-  kept = h.kept;
   packet_sent = d;
-  answer = h.answer;
-  sent = h.sent;
-  acknowledged = h.acknowledged;
   counted = h.counted;
+  place = h.place;
 }
 
-pub arrived-sender : (number : ℕ) (message : List ℕ) (w : Link) (s : Sending) → IsArrived number message w → IsSame w.sender s → IsArrived number message (link_of_sender w s)
-arrived-sender number message w s h t = record {
-  next = t.next ∙ h.next;
-  outstanding = t.outstanding ∙ h.outstanding;
-  small = h.small;
-  short = h.short;
-  last_is = h.last_is;
-  kept = h.kept;
-  packet_sent = h.packet_sent;
-  answer = h.answer;
-  front = h.front;
-  sent = h.sent;
-  delivered = h.delivered;
-  acknowledged = h.acknowledged;
-  counted = h.counted;
-}
-
-pub arrived-data : (number : ℕ) (message : List ℕ) (w : Link) (s : Sending) (packet : Packet) → IsArrived number message w → IsSame w.sender s → IsDataOf number message packet → IsArrived number message (link_of_data w s packet w.session)
-arrived-data number message w s packet h t d = record {
-  next = t.next ∙ h.next;
-  outstanding = t.outstanding ∙ h.outstanding;
-  small = h.small;
-  short = h.short;
-  last_is = h.last_is;
-  kept = h.kept;
-  packet_sent = d;
-  answer = h.answer;
-  front = h.front;
-  sent = h.sent;
-  delivered = h.delivered;
-  acknowledged = h.acknowledged;
-  counted = h.counted;
-}
-
-pub opening-sender : (number : ℕ) (w : Link) (s : Sending) → IsOpening number w → s.outstanding ≡ Opening number → IsOpening number (link_of_sender w s)
-opening-sender number w s h t = record {
-  outstanding = t;
+opening-sender : (number b : ℕ) (s : Session) (w : Link) (t : Sending) → IsOpening number b s w → t.outstanding ≡ Opening number → IsOpening number b s (link_of_sender w t)
+opening-sender number b s w t h e = record {
+  outstanding = e;
   small = h.small;
   last_small = h.last_small;
   place = h.place;
@@ -107,9 +71,9 @@ opening-sender number w s h t = record {
   base_is = h.base_is;
 }
 
-pub opening-data : (number : ℕ) (w : Link) (s : Sending) (packet : Packet) → IsOpening number w → s.outstanding ≡ Opening number → packet ≡ opening_packet number → IsOpening number (link_of_data w s packet w.session)
-opening-data number w s packet h t d = record {
-  outstanding = t;
+opening-data : (number b : ℕ) (s : Session) (w : Link) (t : Sending) (packet : Packet) → IsOpening number b s w → t.outstanding ≡ Opening number → packet ≡ opening_packet number → IsOpening number b s (link_of_data w t packet)
+opening-data number b s w t packet h e d = record {
+  outstanding = e;
   small = h.small;
   last_small = h.last_small;
   place = h.place;
@@ -121,113 +85,118 @@ opening-data number w s packet h t d = record {
 
 -- a message is offered
 
-taken : (last : ℕ) (w : Link) (message : List ℕ) → IsQuiet last w → length message ≤ 2028 →
-    IsWaiting ((last + 1) % 8) message (link_of_data w (record { next = w.sender.next; outstanding = Message message; tries = 1; down = false }) (message_packet w.sender.next message) (with_sent w.session message))
+AfterOffer : Link → List ℕ → Sending × Offer → Type 0
+AfterOffer w message x = IsLinkedNow (with_outbound w (after_offer w.outbound message x)).0
+
+-- a message is taken, where nothing is outstanding
+taken : (last b : ℕ) (s : Session) (w : Link) (message : List ℕ) → IsQuiet last b s w → length message ≤ 2028 →
+    IsBusy ((last + 1) % 8) message b (with_sent s message)
+    (link_of_data (one_sent w message) (record { next = w.outbound.sender.next; outstanding = Message message; tries = 1; down = false }) (message_packet w.outbound.sender.next message))
 unfolding IsDataOf
-taken last w message q short = record {
+taken last b s w message q short = record {
   next = q.next;
   outstanding = refl;
   small = omega arith;
   short = short;
-  last_small = omega (arith, q.last_is, q.small);
-  sync = ap (λ (n : ℕ). (n + 1) % 8) q.last_is;
-  kept = subst (λ (o : Option Keeping). IfSome o (KeepsOf message)) (sym q.kept) tt;
   packet_sent = inl (ap (λ (n : ℕ). message_packet n message) q.next);
-  answer = IfSome_then w.answer q.answer (λ (p : Packet) (e : p ≡ ack_packet last). inl (e ∙ ap ack_packet (sym q.last_is)));
-  sent = ap (λ (xs : List (List ℕ)). xs ++ message ∷ []) (sym q.delivered);
-  acknowledged = q.acknowledged ∙ ap length (sym q.delivered);
   counted = q.counted;
+  place =
+      inl (record {
+        last_small = omega (arith, q.last_is, q.small);
+        sync = ap (λ (n : ℕ). (n + 1) % 8) q.last_is;
+        kept = subst (λ (o : Option Keeping). IfSome o (KeepsOf message)) (sym q.kept) tt;
+        answer = IfSome_then w.answer q.answer (λ (p : Packet) (e : p ≡ ack_packet last). inl (e ∙ ap ack_packet (sym q.last_is)));
+        sent = ap (λ (xs : List (List ℕ)). xs ++ message ∷ []) (sym q.delivered);
+        acknowledged = q.acknowledged ∙ ap length (sym q.delivered);
+      });
 }
 
-pub offer-phase : (w : Link) (message : List ℕ) → IsLinked w → AreOrderly w.ended → length message ≤ 2028 → IsKept (after_offer w message (offered w.sender message))
-unfolding after_offer
-offer-phase w message (quiet last q) ended short =
-    subst (λ (x : Sending × Offer). IsKept (after_offer w message x)) (sym (offer-quiet w.sender message q.up q.outstanding)) (record { linked = waiting ((last + 1) % 8) message (taken last w message q short); ended = ended })
-offer-phase w message (waiting number other h) ended short =
-    elim (offer-message w.sender message other h.outstanding) [
-      | inl e ↦ subst (λ (x : Sending × Offer). IsKept (after_offer w message x)) (sym e) (record { linked = waiting number other (waiting-sender number other w w.sender h (same w.sender)); ended = ended })
-      | inr e ↦ subst (λ (x : Sending × Offer). IsKept (after_offer w message x)) (sym e) (record { linked = waiting number other (waiting-sender number other w w.sender h (same w.sender)); ended = ended })
-    ]
-offer-phase w message (arrived number other h) ended short =
-    elim (offer-message w.sender message other h.outstanding) [
-      | inl e ↦ subst (λ (x : Sending × Offer). IsKept (after_offer w message x)) (sym e) (record { linked = arrived number other (arrived-sender number other w w.sender h (same w.sender)); ended = ended })
-      | inr e ↦ subst (λ (x : Sending × Offer). IsKept (after_offer w message x)) (sym e) (record { linked = arrived number other (arrived-sender number other w w.sender h (same w.sender)); ended = ended })
-    ]
-offer-phase w message (opening number h) ended short =
-    elim (offer-opening w.sender message number h.outstanding) [
-      | inl e ↦ subst (λ (x : Sending × Offer). IsKept (after_offer w message x)) (sym e) (record { linked = opening number (opening-sender number w w.sender h h.outstanding); ended = ended })
-      | inr e ↦ subst (λ (x : Sending × Offer). IsKept (after_offer w message x)) (sym e) (record { linked = opening number (opening-sender number w w.sender h h.outstanding); ended = ended })
-    ]
+-- a message is outstanding, or the opening packet is: the link stays as it was
+pub offer-held : (P : Link → Type 0) (w : Link) (message : List ℕ) →
+    (offered w.outbound.sender message ≡ (w.outbound.sender, Busy)) ⊎ (offered w.outbound.sender message ≡ (w.outbound.sender, OfferDown)) → P w →
+    P (with_outbound w (after_offer w.outbound message (offered w.outbound.sender message))).0
+unfolding with_outbound after_offer newest_after
+offer-held P w message (inl e) p = subst (λ (x : Sending × Offer). P (with_outbound w (after_offer w.outbound message x)).0) (sym e) p
+offer-held P w message (inr e) p = subst (λ (x : Sending × Offer). P (with_outbound w (after_offer w.outbound message x)).0) (sym e) p
+
+pub offer-phase : (w : Link) (message : List ℕ) → IsMarked w → IsLinkedNow w → length message ≤ 2028 → IsLinkedNow (with_outbound w (after_offer w.outbound message (offered w.outbound.sender message))).0
+unfolding AfterOffer with_outbound after_offer newest_after
+offer-phase w message m (quiet last q) short =
+    let sender : Sending = record { next = w.outbound.sender.next; outstanding = Message message; tries = 1; down = false } in
+    let now : Session → Type 0 = λ (s : Session). IsBusy ((last + 1) % 8) message (first_number w) s (link_of_data (one_sent w message) sender (message_packet w.outbound.sender.next message)) in
+    subst (AfterOffer w message) (sym (offer-quiet w.outbound.sender message q.up q.outstanding))
+    (busy ((last + 1) % 8) message (subst now (sym (present-sent w message m)) (taken last (first_number w) (present_session w) w message q short)))
+offer-phase w message m (busy number other h) short = offer-held IsLinkedNow w message (offer-message w.outbound.sender message other h.outstanding) (busy number other h)
+offer-phase w message m (opening number h) short = offer-held IsLinkedNow w message (offer-opening w.outbound.sender message number h.outstanding) (opening number h)
 
 -- time is up
 
-pub quiet-same : (last : ℕ) (w : Link) → IsQuiet last w → IsQuiet last (link_of_sender w w.sender)
-quiet-same last w q = q
+AfterTimeout : Link → Sending × Resend → Type 0
+AfterTimeout w x = IsLinkedNow (with_outbound w (after_timeout w.outbound x)).0
 
-waiting-resent : (number : ℕ) (message : List ℕ) (w : Link) (x : Sending × Resend) → IsWaiting number message w → AreOrderly w.ended → Resends (IsDataOf number message) w.sender x → IsKept (after_timeout w x)
-unfolding after_timeout
-waiting-resent number message w (s, Sent n tries packet) h ended r = record { linked = waiting number message (waiting-data number message w s packet h r.0 r.1); ended = ended }
-waiting-resent number message w (s, Idle) h ended r = record { linked = waiting number message (waiting-sender number message w s h r.0); ended = ended }
-waiting-resent number message w (s, ResendDown) h ended r = record { linked = waiting number message (waiting-sender number message w s h r.0); ended = ended }
+busy-resent : (number : ℕ) (message : List ℕ) (w : Link) (x : Sending × Resend) → IsBusy number message (first_number w) (present_session w) w → Resends (IsDataOf number message) w.outbound.sender x → AfterTimeout w x
+unfolding AfterTimeout with_outbound after_timeout newest_after
+busy-resent number message w (t, Sent n tries packet) h r = busy number message (busy-data number message (first_number w) (present_session w) w t packet h r.0 r.1)
+busy-resent number message w (t, Idle) h r = busy number message (busy-sender number message (first_number w) (present_session w) w t h r.0)
+busy-resent number message w (t, ResendDown) h r = busy number message (busy-sender number message (first_number w) (present_session w) w t h r.0)
 
-arrived-resent : (number : ℕ) (message : List ℕ) (w : Link) (x : Sending × Resend) → IsArrived number message w → AreOrderly w.ended → Resends (IsDataOf number message) w.sender x → IsKept (after_timeout w x)
-unfolding after_timeout
-arrived-resent number message w (s, Sent n tries packet) h ended r = record { linked = arrived number message (arrived-data number message w s packet h r.0 r.1); ended = ended }
-arrived-resent number message w (s, Idle) h ended r = record { linked = arrived number message (arrived-sender number message w s h r.0); ended = ended }
-arrived-resent number message w (s, ResendDown) h ended r = record { linked = arrived number message (arrived-sender number message w s h r.0); ended = ended }
+opening-resent : (number : ℕ) (w : Link) (x : Sending × Resend) → IsOpening number (first_number w) (present_session w) w → Resends (λ packet. packet ≡ opening_packet number) w.outbound.sender x → AfterTimeout w x
+unfolding AfterTimeout with_outbound after_timeout newest_after
+opening-resent number w (t, Sent n tries packet) h r = opening number (opening-data number (first_number w) (present_session w) w t packet h (r.0.outstanding ∙ h.outstanding) r.1)
+opening-resent number w (t, Idle) h r = opening number (opening-sender number (first_number w) (present_session w) w t h (r.0.outstanding ∙ h.outstanding))
+opening-resent number w (t, ResendDown) h r = opening number (opening-sender number (first_number w) (present_session w) w t h (r.0.outstanding ∙ h.outstanding))
 
-opening-resent : (number : ℕ) (w : Link) (x : Sending × Resend) → IsOpening number w → AreOrderly w.ended → Resends (λ packet. packet ≡ opening_packet number) w.sender x → IsKept (after_timeout w x)
-unfolding after_timeout
-opening-resent number w (s, Sent n tries packet) h ended r = record { linked = opening number (opening-data number w s packet h (r.0.outstanding ∙ h.outstanding) r.1); ended = ended }
-opening-resent number w (s, Idle) h ended r = record { linked = opening number (opening-sender number w s h (r.0.outstanding ∙ h.outstanding)); ended = ended }
-opening-resent number w (s, ResendDown) h ended r = record { linked = opening number (opening-sender number w s h (r.0.outstanding ∙ h.outstanding)); ended = ended }
+pub timeout-phase : (w : Link) → IsLinkedNow w → IsLinkedNow (with_outbound w (after_timeout w.outbound (timed_out w.outbound.sender))).0
+unfolding AfterTimeout with_outbound after_timeout newest_after
+timeout-phase w (quiet last q) = subst (AfterTimeout w) (sym (timeout-quiet w.outbound.sender q.up q.outstanding)) (quiet last q)
+timeout-phase w (busy number message h) =
+    busy-resent number message w (timed_out w.outbound.sender) h (subst (λ (n : ℕ). Resends (IsDataOf n message) w.outbound.sender (timed_out w.outbound.sender)) h.next (timeout-message w.outbound.sender message h.outstanding))
+timeout-phase w (opening number h) = opening-resent number w (timed_out w.outbound.sender) h (timeout-opening w.outbound.sender number h.outstanding)
 
-pub timeout-phase : (w : Link) → IsLinked w → AreOrderly w.ended → IsKept (after_timeout w (timed_out w.sender))
-unfolding after_timeout
-timeout-phase w (quiet last q) ended =
-    subst (λ (x : Sending × Resend). IsKept (after_timeout w x)) (sym (timeout-quiet w.sender q.up q.outstanding)) (record { linked = quiet last (quiet-same last w q); ended = ended })
-timeout-phase w (waiting number message h) ended =
-    waiting-resent number message w (timed_out w.sender) h ended (subst (λ (n : ℕ). Resends (IsDataOf n message) w.sender (timed_out w.sender)) h.next (timeout-message w.sender message h.outstanding))
-timeout-phase w (arrived number message h) ended =
-    arrived-resent number message w (timed_out w.sender) h ended (subst (λ (n : ℕ). Resends (IsDataOf n message) w.sender (timed_out w.sender)) h.next (timeout-message w.sender message h.outstanding))
-timeout-phase w (opening number h) ended = opening-resent number w (timed_out w.sender) h ended (timeout-opening w.sender number h.outstanding)
+-- the session is opened again
 
--- the link is opened again
+AfterReopening : Link → Bool → Sending × Reopen → Type 0
+AfterReopening w again x = IsLinkedNow (with_outbound w (after_reopening w.outbound (length w.inbound.received) again x)).0
 
-given-up-waiting : (number : ℕ) (message : List ℕ) (w : Link) (s : Sending) → IsWaiting number message w → s.outstanding ≡ Opening ((number + 4) % 8) →
-    IsOpening ((number + 4) % 8) (next_session w s ((number + 4) % 8) (opening_packet ((number + 4) % 8)))
-unfolding next_session
-given-up-waiting number message w s h o = record {
-  outstanding = o;
-  small = omega arith;
+-- V(R) and the newest answer of a link whose message is given up
+record IsGivenUp (number : ℕ) (r : Receiving) (answered : Option Packet) : Type 0 where
+  pub last_small : r.last < 8
+  pub place : (r.last ≡ (number + 3) % 8) ⊎ (r.last ≡ (number + 4) % 8)
+  pub answer : IfSome answered (IsOpeningAnswer r.last number)
+
+given-up-place : (number : ℕ) (message : List ℕ) (s : Session) (r : Receiving) (answered : Option Packet) → number < 8 → IsWaiting number message s r answered ⊎ IsArrived number message s r answered → IsGivenUp ((number + 4) % 8) r answered
+given-up-place number message s r answered small (inl h) = record {
   last_small = h.last_small;
-  place = inr (inl (omega (arith, h.sync, h.last_small, h.small)));
-  packet_sent = refl;
+  place = inl (omega (arith, h.sync, h.last_small, small));
   answer =
-      IfSome_then w.answer h.answer (λ (p : Packet) (a : IsWaitingAnswer w.receiver number p).
+      IfSome_then answered h.answer (λ (p : Packet) (a : IsWaitingAnswer r number p).
       elim a [
         | inl e ↦ inl e
         | inr (kept, is, e) ↦
-            (let back : number ≡ ((number + 4) % 8 + 4) % 8 = omega (arith, h.small) in
-            inr ((λ z. absurd (omega (arith, z, h.sync, h.last_small, h.small))), held_flags kept.places, e ∙ ap (λ (n : ℕ). retry_packet n (held_flags kept.places)) back))
+            (let back : number ≡ ((number + 4) % 8 + 4) % 8 = omega (arith, small) in
+            inr ((λ z. absurd (omega (arith, z, h.sync, h.last_small, small))), held_flags kept.places, e ∙ ap (λ (n : ℕ). retry_packet n (held_flags kept.places)) back))
       ]);
-  session_is = refl;
-  base_is = refl;
+}
+given-up-place number message s r answered small (inr h) = record {
+  last_small = omega (arith, h.last_is, small);
+  place = inr (omega (arith, h.last_is, small));
+  answer = IfSome_then answered h.answer (λ (p : Packet) (e : p ≡ ack_packet number). inl (e ∙ ap ack_packet (sym h.last_is)));
 }
 
-given-up-arrived : (number : ℕ) (message : List ℕ) (w : Link) (s : Sending) → IsArrived number message w → s.outstanding ≡ Opening ((number + 4) % 8) →
-    IsOpening ((number + 4) % 8) (next_session w s ((number + 4) % 8) (opening_packet ((number + 4) % 8)))
-unfolding next_session
-given-up-arrived number message w s h o = record {
-  outstanding = o;
-  small = omega arith;
-  last_small = omega (arith, h.last_is, h.small);
-  place = inr (inr (omega (arith, h.last_is, h.small)));
-  packet_sent = refl;
-  answer = IfSome_then w.answer h.answer (λ (p : Packet) (e : p ≡ ack_packet number). inl (e ∙ ap ack_packet (sym h.last_is)));
-  session_is = refl;
-  base_is = refl;
-}
+given-up : (number : ℕ) (message : List ℕ) (w : Link) (t : Sending) → IsMarked w → IsBusy number message (first_number w) (present_session w) w → t.outstanding ≡ Opening ((number + 4) % 8) →
+    IsLinkedNow (link_of_data (marked w) t (opening_packet ((number + 4) % 8)))
+given-up number message w t m h o =
+    let up = given-up-place number message (present_session w) w.inbound.receiver w.answer h.small h.place in
+    opening ((number + 4) % 8) (record {
+      outstanding = o;
+      small = omega arith;
+      last_small = up.last_small;
+      place = inr up.place;
+      packet_sent = refl;
+      answer = up.answer;
+      session_is = present-marked w;
+      base_is = omega (arith, number-marked w m, h.counted);
+    })
 
 opening_number-message : (out : Outstanding) (number next : ℕ) (message : List ℕ) → out ≡ Message message → next ≡ number → opening_number out next ≡ (number + 4) % 8
 unfolding opening_number
@@ -237,29 +206,20 @@ opening_number-opening : (out : Outstanding) (number next : ℕ) → out ≡ Ope
 unfolding opening_number
 opening_number-opening out number next o = ap (λ (x : Outstanding). opening_number x next) o
 
-pub reopen-phase : (w : Link) → IsLinked w → AreOrderly w.ended → IsKept (after_reopening w w.sender.outstanding (reopened w.sender))
-unfolding after_reopening next_session
-reopen-phase w (quiet last q) ended =
-    subst (λ (x : Sending × Reopen). IsKept (after_reopening w w.sender.outstanding x)) (sym (reopen-up w.sender q.up)) (record { linked = quiet last (quiet-same last w q); ended = ended })
-reopen-phase w (waiting number message h) ended =
-    subst (λ (out : Outstanding). IsKept (after_reopening w out (reopened w.sender))) (sym h.outstanding)
-    (elim (reopen-cases w.sender ((number + 4) % 8) (opening_number-message w.sender.outstanding number w.sender.next message h.outstanding h.next)) [
-      | inl e ↦ subst (λ (x : Sending × Reopen). IsKept (after_reopening w (Message message) x)) (sym e) (record { linked = waiting number message (waiting-sender number message w w.sender h (same w.sender)); ended = ended })
-      | inr e ↦
-          subst (λ (x : Sending × Reopen). IsKept (after_reopening w (Message message) x)) (sym e)
-          (record { linked = opening ((number + 4) % 8) (given-up-waiting number message w _ h refl); ended = orderly-more w.ended w.session ended (orderly-linked w (waiting number message h)) })
+pub reopen-phase : (w : Link) → IsMarked w → IsLinkedNow w → IsLinkedNow (with_outbound w (after_reopening w.outbound (length w.inbound.received) (is_opening w.outbound.sender.outstanding) (reopened w.outbound.sender))).0
+unfolding AfterReopening with_outbound after_reopening newest_after
+reopen-phase w m (quiet last q) =
+    subst (λ (out : Outstanding). AfterReopening w (is_opening out) (reopened w.outbound.sender)) (sym q.outstanding)
+    (subst (AfterReopening w false) (sym (reopen-up w.outbound.sender q.up)) (quiet last q))
+reopen-phase w m (busy number message h) =
+    subst (λ (out : Outstanding). AfterReopening w (is_opening out) (reopened w.outbound.sender)) (sym h.outstanding)
+    (elim (reopen-cases w.outbound.sender ((number + 4) % 8) (opening_number-message w.outbound.sender.outstanding number w.outbound.sender.next message h.outstanding h.next)) [
+      | inl e ↦ subst (AfterReopening w false) (sym e) (busy number message h)
+      | inr e ↦ subst (AfterReopening w false) (sym e) (given-up number message w _ m h refl)
     ])
-reopen-phase w (arrived number message h) ended =
-    subst (λ (out : Outstanding). IsKept (after_reopening w out (reopened w.sender))) (sym h.outstanding)
-    (elim (reopen-cases w.sender ((number + 4) % 8) (opening_number-message w.sender.outstanding number w.sender.next message h.outstanding h.next)) [
-      | inl e ↦ subst (λ (x : Sending × Reopen). IsKept (after_reopening w (Message message) x)) (sym e) (record { linked = arrived number message (arrived-sender number message w w.sender h (same w.sender)); ended = ended })
-      | inr e ↦
-          subst (λ (x : Sending × Reopen). IsKept (after_reopening w (Message message) x)) (sym e)
-          (record { linked = opening ((number + 4) % 8) (given-up-arrived number message w _ h refl); ended = orderly-more w.ended w.session ended (orderly-linked w (arrived number message h)) })
-    ])
-reopen-phase w (opening number h) ended =
-    subst (λ (out : Outstanding). IsKept (after_reopening w out (reopened w.sender))) (sym h.outstanding)
-    (elim (reopen-cases w.sender number (opening_number-opening w.sender.outstanding number w.sender.next h.outstanding)) [
-      | inl e ↦ subst (λ (x : Sending × Reopen). IsKept (after_reopening w (Opening number) x)) (sym e) (record { linked = opening number (opening-sender number w w.sender h h.outstanding); ended = ended })
-      | inr e ↦ subst (λ (x : Sending × Reopen). IsKept (after_reopening w (Opening number) x)) (sym e) (record { linked = opening number (opening-data number w _ (opening_packet number) h refl refl); ended = ended })
+reopen-phase w m (opening number h) =
+    subst (λ (out : Outstanding). AfterReopening w (is_opening out) (reopened w.outbound.sender)) (sym h.outstanding)
+    (elim (reopen-cases w.outbound.sender number (opening_number-opening w.outbound.sender.outstanding number w.outbound.sender.next h.outstanding)) [
+      | inl e ↦ subst (AfterReopening w true) (sym e) (opening number h)
+      | inr e ↦ subst (AfterReopening w true) (sym e) (opening number (opening-data number (first_number w) (present_session w) w _ (opening_packet number) h refl refl))
     ])

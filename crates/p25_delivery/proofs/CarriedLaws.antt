@@ -33,7 +33,7 @@ le-true m n h = grind (arith, nat_tests)
 eq-true : (m n : ℕ) → m ≡ n → eqb m n ≡ true
 eq-true m n e = grind (arith, nat_tests)
 
--- octets with their packet CRC behind them
+-- octets with their packet CRC after them
 pub unpadded-is : (front check : List ℕ) (pad : ℕ) → length check ≡ 4 → octets_number check ≡ crc32_of front → pad ≤ length front → unpadded (front ++ check) pad ≡ Some (take (length front - pad) front)
 unfolding unpadded
 unpadded-is front check pad four agrees small =

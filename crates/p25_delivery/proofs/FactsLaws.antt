@@ -1,5 +1,5 @@
 -- The facts of a link, from its phase. By arithmetic on the counts.
-use Rattle.std.proofs.Common.{◌≡◌, ℕ, ◌+◌, ◌-◌, ◌%◌, inl, inr, List, [], ◌∷◌, ◌++◌, length, take, Option, refl, ap, sym, ◌∙◌, subst, arith, length-append}
+use Rattle.std.proofs.Common.{◌≡◌, ℕ, ◌+◌, ◌-◌, ◌%◌, inl, inr, List, [], ◌∷◌, ◌++◌, length, take, Option, None, refl, ap, sym, ◌∙◌, subst, arith, length-append}
 use Rattle.std.specs.Prelude.{IfSome}
 use Rattle.std.proofs.lemmas.List.{take_all, take_at}
 use Rattle.std.proofs.lemmas.Option.{IfSome_then}
@@ -9,9 +9,9 @@ use Rattle.p25_delivery.specs.SentPackets.{opening_packet, ack_packet, retry_pac
 use Rattle.p25_delivery.specs.ReceiverState.{Keeping}
 use Rattle.p25_delivery.specs.declared.sender_state.Outstanding.{Outstanding}
 use Rattle.p25_delivery.specs.declared.sender_state.Outstanding.TheVariants.{Nothing, Message}
-use Rattle.p25_delivery.specs.Link.{Link}
-use Rattle.p25_delivery.specs.Facts.{IsDataOf, KeepsOf, OpeningFacts, SentBy, IsNewestData, SessionFacts, FactsBy, LinkFacts}
-use Rattle.p25_delivery.proofs.PhaseLaws.{IsQuietData, IsQuiet, IsWaitingAnswer, IsWaiting, IsArrived, IsOpening, IsLinked, quiet, waiting, arrived, opening}
+use Rattle.p25_delivery.specs.Link.{Link, Session}
+use Rattle.p25_delivery.specs.Facts.{IsDataOf, KeepsOf, SentBy, IsNewestData, SessionFacts, FactsBy}
+use Rattle.p25_delivery.proofs.PhaseLaws.{IsQuietData, IsQuiet, IsWaitingAnswer, IsWaiting, IsArrived, IsBusy, IsLinked, quiet, busy, opening}
 
 -- the first of a list, where all of it, or all but the last, is meant
 take-same : (xs ys : List (List ℕ)) → xs ≡ ys → xs ≡ take (length xs) ys
@@ -20,78 +20,81 @@ take-same xs ys e = e ∙ sym (take_all (length xs) ys (omega (arith, ap length 
 take-front : (xs ys : List (List ℕ)) (last : List ℕ) → ys ≡ xs ++ last ∷ [] → xs ≡ take (length xs) ys
 take-front xs ys last e = sym (ap (λ (zs : List (List ℕ)). take (length xs) zs) e ∙ take_at xs (last ∷ []) (length xs) refl)
 
-sent-by : (out : Outstanding) (w : Link) → w.sender.outstanding ≡ out → SentBy out w → SentBy w.sender.outstanding w
-sent-by out w o s = subst (λ (x : Outstanding). SentBy x w) (sym o) s
+sent-by : (out : Outstanding) (s : Session) (w : Link) → w.outbound.sender.outstanding ≡ out → SentBy out s → SentBy w.outbound.sender.outstanding s
+sent-by out s w o h = subst (λ (x : Outstanding). SentBy x s) (sym o) h
 
-facts-quiet : (last : ℕ) (w : Link) → IsQuiet last w → SessionFacts w
+-- nothing is kept of any message
+nothing-kept : (kept : Option Keeping) (P : Keeping → Type 0) → kept ≡ None → IfSome kept P
+nothing-kept kept P e = subst (λ (o : Option Keeping). IfSome o P) (sym e) tt
+
+facts-quiet : (last b : ℕ) (s : Session) (w : Link) → IsQuiet last b s w → SessionFacts b s w
 unfolding SentBy IsNewestData
-facts-quiet last w q =
-    let same : length w.session.delivered ≡ w.session.acknowledged = ap length q.delivered ∙ sym q.acknowledged in
+facts-quiet last b s w q =
+    let same : length s.delivered ≡ s.acknowledged = ap length q.delivered ∙ sym q.acknowledged in
     record {
-      sent = sent-by Nothing w q.outstanding (sym q.acknowledged);
+      sent = sent-by Nothing s w q.outstanding (sym q.acknowledged);
       number = q.next ∙ q.counted;
       count = inl same;
       last = omega (arith, q.last_is, q.small, q.counted, same);
-      delivered = take-same w.session.delivered w.session.sent q.delivered;
+      delivered = take-same s.delivered s.sent q.delivered;
       newest_data =
-          IfSome_then w.packet_sent q.packet_sent (λ (p : Packet) (d : IsQuietData last w.session.sent p).
+          IfSome_then w.packet_sent q.packet_sent (λ (p : Packet) (d : IsQuietData last s.sent p).
           elim d [
             | inl (none, e) ↦
-                (let base : last ≡ (w.base + 7) % 8 = omega (arith, q.small, q.counted, q.acknowledged, ap length none) in
+                (let base : last ≡ (b + 7) % 8 = omega (arith, q.small, q.counted, q.acknowledged, ap length none) in
                 inl (none, e ∙ ap opening_packet base))
-            | inr (front, message, e, short, of) ↦
-                (let number : last ≡ (w.base + length w.session.sent - 1) % 8 = omega (arith, q.small, q.counted, q.acknowledged, ap length e, length-append front (message ∷ [])) in
-                inr (front, message, e, subst (λ (n : ℕ). IsDataOf n message p) number of))
+            | inr (earlier, message, e, short, of) ↦
+                (let number : last ≡ (b + length s.sent - 1) % 8 = omega (arith, q.small, q.counted, q.acknowledged, ap length e, length-append earlier (message ∷ [])) in
+                inr (earlier, message, e, subst (λ (n : ℕ). IsDataOf n message p) number of))
           ]);
-      kept = subst (λ (o : Option Keeping). IfSome o (λ kept. (length w.session.delivered ≡ w.session.acknowledged) × (message : List ℕ) × (w.sender.outstanding ≡ Message message) × KeepsOf message kept)) (sym q.kept) tt;
+      kept = nothing-kept w.inbound.receiver.kept _ q.kept;
       newest_answer = IfSome_then w.answer q.answer (λ (p : Packet) (e : p ≡ ack_packet last). inl (e ∙ ap ack_packet (sym q.last_is)));
     }
 
-facts-waiting : (number : ℕ) (message : List ℕ) (w : Link) → IsWaiting number message w → SessionFacts w
+facts-waiting : (number : ℕ) (message : List ℕ) (b : ℕ) (s : Session) (w : Link) → IsBusy number message b s w → IsWaiting number message s w.inbound.receiver w.answer → SessionFacts b s w
 unfolding SentBy IsNewestData
-facts-waiting number message w h =
-    let count : length w.session.sent ≡ w.session.acknowledged + 1 = omega (arith, ap length h.sent, length-append w.session.delivered (message ∷ []), h.acknowledged) in
-    let newest : number ≡ (w.base + length w.session.sent - 1) % 8 = omega (arith, count, h.counted) in
-    let next : number ≡ (w.receiver.last + 1) % 8 = sym h.sync in
+facts-waiting number message b s w h p =
+    let count : length s.sent ≡ s.acknowledged + 1 = omega (arith, ap length p.sent, length-append s.delivered (message ∷ []), p.acknowledged) in
+    let newest : number ≡ (b + length s.sent - 1) % 8 = omega (arith, count, h.counted) in
     record {
-      sent = sent-by (Message message) w h.outstanding (count, (w.session.delivered, h.sent));
+      sent = sent-by (Message message) s w h.outstanding (count, (s.delivered, p.sent));
       number = h.next ∙ h.counted;
-      count = inl (sym h.acknowledged);
-      last = omega (arith, h.last_small, h.sync, h.counted, h.acknowledged);
-      delivered = take-front w.session.delivered w.session.sent message h.sent;
-      newest_data = IfSome_then w.packet_sent h.packet_sent (λ (p : Packet) (d : IsDataOf number message p). inr (w.session.delivered, message, h.sent, subst (λ (n : ℕ). IsDataOf n message p) newest d));
-      kept = IfSome_then w.receiver.kept h.kept (λ (k : Keeping) (of : KeepsOf message k). (sym h.acknowledged, message, h.outstanding, of));
+      count = inl (sym p.acknowledged);
+      last = omega (arith, p.last_small, p.sync, h.counted, p.acknowledged);
+      delivered = take-front s.delivered s.sent message p.sent;
+      newest_data = IfSome_then w.packet_sent h.packet_sent (λ (packet : Packet) (d : IsDataOf number message packet). inr (s.delivered, message, p.sent, subst (λ (n : ℕ). IsDataOf n message packet) newest d));
+      kept = IfSome_then w.inbound.receiver.kept p.kept (λ (k : Keeping) (of : KeepsOf message k). (sym p.acknowledged, message, h.outstanding, of));
       newest_answer =
-          IfSome_then w.answer h.answer (λ (p : Packet) (a : IsWaitingAnswer w.receiver number p).
+          IfSome_then w.answer p.answer (λ (packet : Packet) (a : IsWaitingAnswer w.inbound.receiver number packet).
           elim a [
             | inl e ↦ inl e
-            | inr (kept, k, e) ↦ inr (kept, k, e ∙ ap (λ (n : ℕ). retry_packet n (held_flags kept.places)) next)
+            | inr (kept, k, e) ↦ inr (kept, k, e ∙ ap (λ (n : ℕ). retry_packet n (held_flags kept.places)) (sym p.sync))
           ]);
     }
 
-facts-arrived : (number : ℕ) (message : List ℕ) (w : Link) → IsArrived number message w → SessionFacts w
+facts-arrived : (number : ℕ) (message : List ℕ) (b : ℕ) (s : Session) (w : Link) → IsBusy number message b s w → IsArrived number message s w.inbound.receiver w.answer → SessionFacts b s w
 unfolding SentBy IsNewestData
-facts-arrived number message w h =
-    let count : length w.session.sent ≡ w.session.acknowledged + 1 = omega (arith, ap length h.sent, length-append h.front (message ∷ []), h.acknowledged) in
-    let all : length w.session.delivered ≡ w.session.acknowledged + 1 = ap length h.delivered ∙ count in
-    let newest : number ≡ (w.base + length w.session.sent - 1) % 8 = omega (arith, count, h.counted) in
+facts-arrived number message b s w h p =
+    let count : length s.sent ≡ s.acknowledged + 1 = omega (arith, ap length p.sent, length-append p.earlier (message ∷ []), p.acknowledged) in
+    let all : length s.delivered ≡ s.acknowledged + 1 = ap length p.delivered ∙ count in
+    let newest : number ≡ (b + length s.sent - 1) % 8 = omega (arith, count, h.counted) in
     record {
-      sent = sent-by (Message message) w h.outstanding (count, (h.front, h.sent));
+      sent = sent-by (Message message) s w h.outstanding (count, (p.earlier, p.sent));
       number = h.next ∙ h.counted;
       count = inr (all, message, h.outstanding);
-      last = omega (arith, h.last_is, h.small, h.counted, all);
-      delivered = take-same w.session.delivered w.session.sent h.delivered;
-      newest_data = IfSome_then w.packet_sent h.packet_sent (λ (p : Packet) (d : IsDataOf number message p). inr (h.front, message, h.sent, subst (λ (n : ℕ). IsDataOf n message p) newest d));
-      kept = subst (λ (o : Option Keeping). IfSome o (λ kept. (length w.session.delivered ≡ w.session.acknowledged) × (message : List ℕ) × (w.sender.outstanding ≡ Message message) × KeepsOf message kept)) (sym h.kept) tt;
-      newest_answer = IfSome_then w.answer h.answer (λ (p : Packet) (e : p ≡ ack_packet number). inl (e ∙ ap ack_packet (sym h.last_is)));
+      last = omega (arith, p.last_is, h.small, h.counted, all);
+      delivered = take-same s.delivered s.sent p.delivered;
+      newest_data = IfSome_then w.packet_sent h.packet_sent (λ (packet : Packet) (d : IsDataOf number message packet). inr (p.earlier, message, p.sent, subst (λ (n : ℕ). IsDataOf n message packet) newest d));
+      kept = nothing-kept w.inbound.receiver.kept _ p.kept;
+      newest_answer = IfSome_then w.answer p.answer (λ (packet : Packet) (e : packet ≡ ack_packet number). inl (e ∙ ap ack_packet (sym p.last_is)));
     }
 
-facts-opening : (number : ℕ) (w : Link) → IsOpening number w → OpeningFacts number w
-facts-opening number w h = record { nothing_yet = h.session_is; newest_data = h.packet_sent; place = h.place; newest_answer = h.answer }
+facts-busy : (number : ℕ) (message : List ℕ) (b : ℕ) (s : Session) (w : Link) → IsBusy number message b s w → SessionFacts b s w
+facts-busy number message b s w h = elim h.place [ inl p ↦ facts-waiting number message b s w h p | inr p ↦ facts-arrived number message b s w h p ]
 
-pub facts-linked : (w : Link) → IsLinked w → LinkFacts w
+pub facts-linked : (b : ℕ) (s : Session) (w : Link) → IsLinked b s w → FactsBy w.outbound.sender.outstanding b s w
 unfolding FactsBy
-facts-linked w (quiet last q) = subst (λ (x : Outstanding). FactsBy x w) (sym q.outstanding) (facts-quiet last w q)
-facts-linked w (waiting number message h) = subst (λ (x : Outstanding). FactsBy x w) (sym h.outstanding) (facts-waiting number message w h)
-facts-linked w (arrived number message h) = subst (λ (x : Outstanding). FactsBy x w) (sym h.outstanding) (facts-arrived number message w h)
-facts-linked w (opening number h) = subst (λ (x : Outstanding). FactsBy x w) (sym h.outstanding) (facts-opening number w h)
+facts-linked b s w (quiet last q) = subst (λ (x : Outstanding). FactsBy x b s w) (sym q.outstanding) (facts-quiet last b s w q)
+facts-linked b s w (busy number message h) = subst (λ (x : Outstanding). FactsBy x b s w) (sym h.outstanding) (facts-busy number message b s w h)
+facts-linked b s w (opening number h) =
+    subst (λ (x : Outstanding). FactsBy x b s w) (sym h.outstanding) (record { nothing_yet = h.session_is; newest_data = h.packet_sent; place = h.place; newest_answer = h.answer })

@@ -1,6 +1,6 @@
 -- A packet that is heard and true to the one sent keeps a link in a phase: each phase in turn, by what the station answers
 -- there. And so does every event of a clean run.
-use Rattle.std.proofs.Common.{◌≤◌, ◌≡◌, ℕ, ◌+◌, ◌%◌, inl, inr, true, List, [], ◌∷◌, ◌++◌, length, Option, Some, None, refl, ap, sym, ◌∙◌, subst, arith, length-append}
+use Rattle.std.proofs.Common.{◌≡◌, ℕ, ◌+◌, ◌%◌, ◌<◌, ◌≤◌, ◌⊎◌, inl, inr, Bool, true, false, List, [], ◌∷◌, length, Option, Some, None, refl, ap, sym, ◌∙◌, subst, arith, length-append}
 use Rattle.std.specs.Prelude.{IfSome}
 use Rattle.std.proofs.lemmas.Option.{IfSome_then, same_Some}
 use Rattle.p25_packet_blocks.specs.declared.packet.Packet.{Packet}
@@ -9,29 +9,43 @@ use Rattle.p25_delivery.specs.Places.{held_flags}
 use Rattle.p25_delivery.specs.SentPackets.{ack_packet, retry_packet, opening_packet}
 use Rattle.p25_delivery.specs.SenderState.{Sending}
 use Rattle.p25_delivery.specs.ReceiverState.{Keeping, Receiving}
-use Rattle.p25_delivery.specs.SenderRules.{sending_after, sender_heard}
+use Rattle.p25_delivery.specs.SenderRules.{sending_after, sender_heard, opening_number, is_opening}
 use Rattle.p25_delivery.specs.ReceiverRules.{receiver_heard}
+use Rattle.p25_delivery.specs.declared.sender_state.Outstanding.TheVariants.{Nothing, Message, Opening}
 use Rattle.p25_delivery.specs.declared.sender.SenderHeard.{SenderHeard}
 use Rattle.p25_delivery.specs.declared.sender.SenderHeard.TheVariants.{Acknowledged, Opened as SenderOpened, Retry, Repeat, Ignored as SenderIgnored, Down as HeardDown}
+use Rattle.p25_delivery.specs.declared.sender.Reopen.{Reopen}
+use Rattle.p25_delivery.specs.declared.sender.Reopen.TheVariants.{Sent as ReopenSent, Up as ReopenUp}
 use Rattle.p25_delivery.specs.declared.receiver.Heard.{Heard}
-use Rattle.p25_delivery.specs.Link.{Session, with_delivered, with_acknowledged, Link, first_link, link_of_sender, link_of_session, link_of_answer, after_data, after_answer, Happening, Offering, Time_up, Opening_again, Data_heard, Answer_heard, happens, link_run}
+use Rattle.p25_delivery.specs.declared.step_kind.StepKind.TheVariants.{Reopened}
+use Rattle.p25_delivery.specs.Halves.{Outgoing}
+use Rattle.p25_delivery.specs.HalfRules.{after_reopening, after_data, after_answer}
+use Rattle.p25_delivery.specs.Link.{Session, Link, first_link, last_mark, sessions_of, present_session, first_number, newest_after, with_outbound, with_inbound, Happening, Offering, Time_up, Opening_again, Data_heard, Answer_heard, happens, link_run}
 use Rattle.p25_delivery.specs.Facts.{IsDataOf, KeepsOf, LinkFacts}
-use Rattle.p25_delivery.specs.declared.sender_state.Outstanding.TheVariants.{Nothing}
-use Rattle.p25_delivery.specs.AtOnce.{DeliversAtOnce}
-use Rattle.p25_delivery.proofs.FactsLaws.{facts-linked}
-use Rattle.p25_delivery.proofs.AtOnceLaws.{delivers-linked}
 use Rattle.p25_delivery.specs.Clean.{IsTrueTo, IsHeardOf, IsClean, IsCleanRun}
-use Rattle.p25_delivery.specs.Orderly.{AreOrderly}
+use Rattle.p25_delivery.specs.Orderly.{IsOrderly, AreOrderly}
+use Rattle.p25_delivery.specs.AtOnce.{DeliversAtOnce}
 use Rattle.p25_delivery.proofs.SentLaws.{data-heard, opening-packet_heard, ack-heard, retry-heard}
 use Rattle.p25_delivery.proofs.ReceiverLaws.{HearsNext, ignores, keeps, delivers, next-heard, last-heard, opening-is_heard}
-use Rattle.p25_delivery.proofs.SenderLaws.{IsSame, RetriesOf, HearsAnswer, goes_on, stays, HearsOpening, opens, waits, acks, acks-ack, acks-retry, message-answer, opening-answer, quiet-answer}
-use Rattle.p25_delivery.proofs.PhaseLaws.{IsQuietData, IsQuiet, IsWaitingAnswer, IsWaiting, IsArrived, IsOpeningAnswer, IsOpening, IsLinked, quiet, waiting, arrived, opening, IsKept, orderly-linked, orderly-more}
-use Rattle.p25_delivery.proofs.CallLaws.{newest, quiet-same, waiting-sender, waiting-data, arrived-sender, arrived-data, opening-sender, offer-phase, timeout-phase, reopen-phase}
+use Rattle.p25_delivery.proofs.SenderLaws.{IsSame, RetriesOf, HearsAnswer, goes_on, stays, HearsOpening, opens, waits, acks, acks-ack, acks-retry, message-answer, opening-answer, quiet-answer, reopen-cases}
+use Rattle.p25_delivery.proofs.SessionLaws.{with_delivered, with_acknowledged, one_delivered, one_acknowledged, IsMarked, first-divided, present-delivered, present-acknowledged}
+use Rattle.p25_delivery.proofs.EndedLaws.{happens-divided}
+use Rattle.p25_delivery.proofs.PhaseLaws.{IsQuietData, IsQuiet, IsWaitingAnswer, IsWaiting, IsArrived, IsBusy, IsOpeningAnswer, IsOpening, IsLinked, IsLinkedNow, quiet, busy, opening, IsKept, orderly-linked, orderly-kept}
+use Rattle.p25_delivery.proofs.FactsLaws.{facts-linked}
+use Rattle.p25_delivery.proofs.AtOnceLaws.{delivers-linked}
+use Rattle.p25_delivery.proofs.CallLaws.{newest, link_of_sender, busy-sender, busy-data, offer-phase, timeout-phase, reopen-phase}
+
+-- a link with another receiver, and another newest answer beside it
+abbrev link_of_answer : Link → Receiving → Packet → Link
+link_of_answer w r packet = record w { inbound = record w.inbound { receiver = r }; answer = Some packet }
 
 -- the receiver hears a packet
 
-quiet-heard : (last : ℕ) (w : Link) (r : Receiving) → IsQuiet last w → r.last ≡ last → r.kept ≡ None → IsQuiet last (link_of_answer w r (ack_packet last) w.session)
-quiet-heard last w r q l k = record {
+AfterData : Link → Receiving × Heard → Type 0
+AfterData w x = IsLinkedNow (with_inbound w (after_data w.inbound x)).0
+
+quiet-heard : (last b : ℕ) (s : Session) (w : Link) (r : Receiving) → IsQuiet last b s w → r.last ≡ last → r.kept ≡ None → IsQuiet last b s (link_of_answer w r (ack_packet last))
+quiet-heard last b s w r q l k = record {
   up = q.up;
   outstanding = q.outstanding;
   small = q.small;
@@ -45,59 +59,35 @@ quiet-heard last w r q l k = record {
   counted = q.counted;
 }
 
-waiting-kept : (number : ℕ) (message : List ℕ) (w : Link) (kept : Keeping) → IsWaiting number message w → KeepsOf message kept →
-    IsWaiting number message (link_of_answer w (record { last = w.receiver.last; kept = Some kept }) (retry_packet number (held_flags kept.places)) w.session)
-waiting-kept number message w kept h k = record {
-  next = h.next;
-  outstanding = h.outstanding;
+-- a message that is outstanding has come to another place
+busy-place : (number : ℕ) (message : List ℕ) (b : ℕ) (s t : Session) (w v : Link) → v.outbound.sender ≡ w.outbound.sender → v.packet_sent ≡ w.packet_sent → t.acknowledged ≡ s.acknowledged → IsBusy number message b s w →
+    IsWaiting number message t v.inbound.receiver v.answer ⊎ IsArrived number message t v.inbound.receiver v.answer → IsBusy number message b t v
+busy-place number message b s t w v sender packet a h place = record {
+  next = ap (λ (x : Sending). x.next) sender ∙ h.next;
+  outstanding = ap (λ (x : Sending). x.outstanding) sender ∙ h.outstanding;
   small = h.small;
   short = h.short;
-  last_small = h.last_small;
-  sync = h.sync;
-  kept = k;
-  packet_sent = h.packet_sent;
-  answer = inr (kept, refl, refl);
-  sent = h.sent;
-  acknowledged = h.acknowledged;
-  counted = h.counted;
+  packet_sent = subst (λ (o : Option Packet). IfSome o (IsDataOf number message)) (sym packet) h.packet_sent;
+  counted = h.counted ∙ ap (λ (n : ℕ). (b + n) % 8) (sym a);
+  place = place;
 }
 
-waiting-delivered : (number : ℕ) (message : List ℕ) (w : Link) → IsWaiting number message w → IsArrived number message (link_of_answer w (record { last = number; kept = None }) (ack_packet number) (with_delivered w.session message))
-waiting-delivered number message w h = record {
-  next = h.next;
-  outstanding = h.outstanding;
-  small = h.small;
-  short = h.short;
-  last_is = refl;
-  kept = refl;
-  packet_sent = h.packet_sent;
-  answer = refl;
-  front = w.session.delivered;
-  sent = h.sent;
-  delivered = sym h.sent;
-  acknowledged = h.acknowledged;
-  counted = h.counted;
-}
+-- some of its blocks are kept
+waiting-kept : (number : ℕ) (message : List ℕ) (s : Session) (r : Receiving) (answered : Option Packet) (kept : Keeping) → IsWaiting number message s r answered → KeepsOf message kept →
+    IsWaiting number message s (record { last = r.last; kept = Some kept }) (Some (retry_packet number (held_flags kept.places)))
+waiting-kept number message s r answered kept h k = record { last_small = h.last_small; sync = h.sync; kept = k; answer = inr (kept, refl, refl); sent = h.sent; acknowledged = h.acknowledged }
 
-arrived-again : (number : ℕ) (message : List ℕ) (w : Link) → IsArrived number message w → IsArrived number message (link_of_answer w w.receiver (ack_packet w.receiver.last) w.session)
-arrived-again number message w h = record {
-  next = h.next;
-  outstanding = h.outstanding;
-  small = h.small;
-  short = h.short;
-  last_is = h.last_is;
-  kept = h.kept;
-  packet_sent = h.packet_sent;
-  answer = ap ack_packet h.last_is;
-  front = h.front;
-  sent = h.sent;
-  delivered = h.delivered;
-  acknowledged = h.acknowledged;
-  counted = h.counted;
-}
+-- it is delivered
+waiting-delivered : (number : ℕ) (message : List ℕ) (s : Session) (r : Receiving) (answered : Option Packet) → IsWaiting number message s r answered →
+    IsArrived number message (with_delivered s message) (record { last = number; kept = None }) (Some (ack_packet number))
+waiting-delivered number message s r answered h = record { last_is = refl; kept = refl; answer = refl; earlier = s.delivered; sent = h.sent; delivered = sym h.sent; acknowledged = h.acknowledged }
 
-opening-heard : (number : ℕ) (w : Link) → IsOpening number w → IsOpening number (link_of_answer w (record { last = number; kept = None }) (ack_packet number) w.session)
-opening-heard number w h = record {
+-- or it had come before
+arrived-again : (number : ℕ) (message : List ℕ) (s : Session) (r : Receiving) (answered : Option Packet) → IsArrived number message s r answered → IsArrived number message s r (Some (ack_packet r.last))
+arrived-again number message s r answered h = record { last_is = h.last_is; kept = h.kept; answer = ap ack_packet h.last_is; earlier = h.earlier; sent = h.sent; delivered = h.delivered; acknowledged = h.acknowledged }
+
+opening-heard : (number b : ℕ) (s : Session) (w : Link) → IsOpening number b s w → IsOpening number b s (link_of_answer w (record { last = number; kept = None }) (ack_packet number))
+opening-heard number b s w h = record {
   outstanding = h.outstanding;
   small = h.small;
   last_small = h.small;
@@ -108,187 +98,193 @@ opening-heard number w h = record {
   base_is = h.base_is;
 }
 
--- what comes of a packet that was heard
-After : Link → Packet → Type 0
-After w packet = IsKept (after_data w (receiver_heard w.receiver packet))
-
-data-quiet : (last : ℕ) (w : Link) (packet : Packet) → IsQuiet last w → AreOrderly w.ended → IsHeardOf w.packet_sent packet → After w packet
-unfolding After after_data
-data-quiet last w packet q ended heard =
-    elim (newest w.packet_sent (IsQuietData last w.session.sent) heard.sent q.packet_sent heard.newest_is) [
+data-quiet : (last : ℕ) (w : Link) (packet : Packet) → IsQuiet last (first_number w) (present_session w) w → IsHeardOf w.packet_sent packet → AfterData w (receiver_heard w.inbound.receiver packet)
+unfolding AfterData with_inbound after_data newest_after
+data-quiet last w packet q heard =
+    let r = w.inbound.receiver in
+    let b = first_number w in
+    let s = present_session w in
+    elim (newest w.packet_sent (IsQuietData last s.sent) heard.sent q.packet_sent heard.newest_is) [
       | inl (none, e) ↦
           (let p = opening-packet_heard last heard.sent packet e heard.true_to in
-          subst (λ (x : Packet). After w x) (sym p.1)
-          (subst (λ (x : Receiving ×
-          Heard). IsKept (after_data w x)) (sym (opening-is_heard w.receiver last p.0 q.small p.2)) (record { linked = quiet last (quiet-heard last w (record { last = last; kept = None }) q refl refl); ended = ended })))
-      | inr (front, message, e, short, d) ↦
+          subst (λ (x : Packet). AfterData w (receiver_heard r x)) (sym p.1)
+          (subst (AfterData w) (sym (opening-is_heard r last p.0 q.small p.2)) (quiet last (quiet-heard last b s w (record { last = last; kept = None }) q refl refl))))
+      | inr (earlier, message, e, short, d) ↦
           (let p = data-heard last message heard.sent packet q.small short d heard.true_to in
-          let again : IsQuiet last (link_of_answer w w.receiver (ack_packet w.receiver.last) w.session)
-          = subst (λ (n : ℕ). IsQuiet last (link_of_answer w w.receiver (ack_packet n) w.session)) (sym q.last_is) (quiet-heard last w w.receiver q q.last_is q.kept) in
-          subst (λ (x : Packet). After w x) (sym p.1)
-          (subst (λ (x : Receiving × Heard). IsKept (after_data w x)) (sym (last-heard w.receiver last message p.0 q.last_is p.2)) (record { linked = quiet last again; ended = ended })))
+          let again : IsQuiet last b s (link_of_answer w r (ack_packet r.last))
+          = subst (λ (n : ℕ). IsQuiet last b s (link_of_answer w r (ack_packet n))) (sym q.last_is) (quiet-heard last b s w r q q.last_is q.kept) in
+          subst (λ (x : Packet). AfterData w (receiver_heard r x)) (sym p.1) (subst (AfterData w) (sym (last-heard r last message p.0 q.last_is p.2)) (quiet last again)))
     ]
 
-data-next : (number : ℕ) (message : List ℕ) (w : Link) (x : Receiving × Heard) → IsWaiting number message w → AreOrderly w.ended → HearsNext w.receiver number message x → IsKept (after_data w x)
-unfolding after_data
-data-next number message w x h ended (ignores e) = subst (λ (y : Receiving × Heard). IsKept (after_data w y)) (sym e) (record { linked = waiting number message h; ended = ended })
-data-next number message w x h ended (keeps kept k e) = subst (λ (y : Receiving × Heard). IsKept (after_data w y)) (sym e) (record { linked = waiting number message (waiting-kept number message w kept h k); ended = ended })
-data-next number message w x h ended (delivers e) = subst (λ (y : Receiving × Heard). IsKept (after_data w y)) (sym e) (record { linked = arrived number message (waiting-delivered number message w h); ended = ended })
+data-waiting : (number : ℕ) (message : List ℕ) (w : Link) (x : Receiving × Heard) → IsMarked w → IsBusy number message (first_number w) (present_session w) w → IsWaiting number message (present_session w) w.inbound.receiver w.answer →
+    HearsNext w.inbound.receiver number message x → AfterData w x
+unfolding AfterData with_inbound after_data newest_after
+data-waiting number message w x m h p (ignores e) = subst (AfterData w) (sym e) (busy number message h)
+data-waiting number message w x m h p (keeps kept k e) =
+    let s = present_session w in
+    let now = link_of_answer w (record { last = w.inbound.receiver.last; kept = Some kept }) (retry_packet number (held_flags kept.places)) in
+    subst (AfterData w) (sym e) (busy number message (busy-place number message (first_number w) s s w now refl refl refl h (inl (waiting-kept number message s w.inbound.receiver w.answer kept p k))))
+data-waiting number message w x m h p (delivers e) =
+    let s = present_session w in
+    let now = link_of_answer (one_delivered w message) (record { last = number; kept = None }) (ack_packet number) in
+    let arrives = busy-place number message (first_number w) s (with_delivered s message) w now refl refl refl h (inr (waiting-delivered number message s w.inbound.receiver w.answer p)) in
+    subst (AfterData w) (sym e) (busy number message (subst (λ (t : Session). IsBusy number message (first_number w) t now) (sym (present-delivered w message m)) arrives))
 
-data-waiting : (number : ℕ) (message : List ℕ) (w : Link) (packet : Packet) → IsWaiting number message w → AreOrderly w.ended → IsHeardOf w.packet_sent packet → After w packet
-unfolding After
-data-waiting number message w packet h ended heard =
+data-busy : (number : ℕ) (message : List ℕ) (w : Link) (packet : Packet) → IsMarked w → IsBusy number message (first_number w) (present_session w) w → IsHeardOf w.packet_sent packet →
+    IsWaiting number message (present_session w) w.inbound.receiver w.answer ⊎ IsArrived number message (present_session w) w.inbound.receiver w.answer → AfterData w (receiver_heard w.inbound.receiver packet)
+unfolding AfterData with_inbound after_data newest_after
+data-busy number message w packet m h heard place =
+    let r = w.inbound.receiver in
+    let s = present_session w in
     let d = newest w.packet_sent (IsDataOf number message) heard.sent h.packet_sent heard.newest_is in
     let p = data-heard number message heard.sent packet h.small h.short d heard.true_to in
-    subst (λ (x : Packet). After w x) (sym p.1) (data-next number message w (receiver_heard w.receiver (Confirmed p.0)) h ended (next-heard w.receiver number message p.0 h.last_small h.sync h.kept p.2))
+    subst (λ (x : Packet). AfterData w (receiver_heard r x)) (sym p.1)
+    (elim place [
+      | inl here ↦ data-waiting number message w (receiver_heard r (Confirmed p.0)) m h here (next-heard r number message p.0 here.last_small here.sync here.kept p.2)
+      | inr came ↦
+          subst (AfterData w) (sym (last-heard r number message p.0 came.last_is p.2))
+          (busy number message (busy-place number message (first_number w) s s w (link_of_answer w r (ack_packet r.last)) refl refl refl h (inr (arrived-again number message s r w.answer came))))
+    ])
 
-data-arrived : (number : ℕ) (message : List ℕ) (w : Link) (packet : Packet) → IsArrived number message w → AreOrderly w.ended → IsHeardOf w.packet_sent packet → After w packet
-unfolding After after_data
-data-arrived number message w packet h ended heard =
-    let d = newest w.packet_sent (IsDataOf number message) heard.sent h.packet_sent heard.newest_is in
-    let p = data-heard number message heard.sent packet h.small h.short d heard.true_to in
-    subst (λ (x : Packet). After w x) (sym p.1)
-    (subst (λ (x : Receiving × Heard). IsKept (after_data w x)) (sym (last-heard w.receiver number message p.0 h.last_is p.2)) (record { linked = arrived number message (arrived-again number message w h); ended = ended }))
-
-data-opening : (number : ℕ) (w : Link) (packet : Packet) → IsOpening number w → AreOrderly w.ended → IsHeardOf w.packet_sent packet → After w packet
-unfolding After after_data
-data-opening number w packet h ended heard =
+data-opening : (number : ℕ) (w : Link) (packet : Packet) → IsOpening number (first_number w) (present_session w) w → IsHeardOf w.packet_sent packet → AfterData w (receiver_heard w.inbound.receiver packet)
+unfolding AfterData with_inbound after_data newest_after
+data-opening number w packet h heard =
+    let r = w.inbound.receiver in
     let both : Some heard.sent ≡ Some (opening_packet number) = sym heard.newest_is ∙ h.packet_sent in
-    let e : heard.sent ≡ opening_packet number = same_Some heard.sent (opening_packet number) both in
-    let p = opening-packet_heard number heard.sent packet e heard.true_to in
-    subst (λ (x : Packet). After w x) (sym p.1)
-    (subst (λ (x : Receiving × Heard). IsKept (after_data w x)) (sym (opening-is_heard w.receiver number p.0 h.small p.2)) (record { linked = opening number (opening-heard number w h); ended = ended }))
+    let p = opening-packet_heard number heard.sent packet (same_Some heard.sent (opening_packet number) both) heard.true_to in
+    subst (λ (x : Packet). AfterData w (receiver_heard r x)) (sym p.1)
+    (subst (AfterData w) (sym (opening-is_heard r number p.0 h.small p.2)) (opening number (opening-heard number (first_number w) (present_session w) w h)))
 
-data-phase : (w : Link) (packet : Packet) → IsLinked w → AreOrderly w.ended → IsHeardOf w.packet_sent packet → IsKept (after_data w (receiver_heard w.receiver packet))
-unfolding After
-data-phase w packet (quiet last q) ended heard = data-quiet last w packet q ended heard
-data-phase w packet (waiting number message h) ended heard = data-waiting number message w packet h ended heard
-data-phase w packet (arrived number message h) ended heard = data-arrived number message w packet h ended heard
-data-phase w packet (opening number h) ended heard = data-opening number w packet h ended heard
+data-phase : (w : Link) (packet : Packet) → IsMarked w → IsLinkedNow w → IsHeardOf w.packet_sent packet → AfterData w (receiver_heard w.inbound.receiver packet)
+data-phase w packet m (quiet last q) heard = data-quiet last w packet q heard
+data-phase w packet m (busy number message h) heard = data-busy number message w packet m h heard h.place
+data-phase w packet m (opening number h) heard = data-opening number w packet h heard
 
 -- the sender hears a packet
 
-waiting-stays : (number : ℕ) (message : List ℕ) (w : Link) (x : Sending × SenderHeard) → IsWaiting number message w → AreOrderly w.ended → IsSame w.sender x.0 → RetriesOf number message x.1 → IsKept (after_answer w x)
-unfolding after_answer
-waiting-stays number message w (s, Acknowledged n) h ended t r = absurd r
-waiting-stays number message w (s, SenderOpened n) h ended t r = absurd r
-waiting-stays number message w (s, Retry n wanted tries packet) h ended t r = record { linked = waiting number message (waiting-data number message w s packet h t r); ended = ended }
-waiting-stays number message w (s, Repeat n tries packet) h ended t r = record { linked = waiting number message (waiting-data number message w s packet h t r); ended = ended }
-waiting-stays number message w (s, SenderIgnored) h ended t r = record { linked = waiting number message (waiting-sender number message w s h t); ended = ended }
-waiting-stays number message w (s, HeardDown) h ended t r = record { linked = waiting number message (waiting-sender number message w s h t); ended = ended }
+AfterAnswer : Link → Sending × SenderHeard → Type 0
+AfterAnswer w x = IsLinkedNow (with_outbound w (after_answer w.outbound x)).0
 
-arrived-stays : (number : ℕ) (message : List ℕ) (w : Link) (x : Sending × SenderHeard) → IsArrived number message w → AreOrderly w.ended → IsSame w.sender x.0 → RetriesOf number message x.1 → IsKept (after_answer w x)
-unfolding after_answer
-arrived-stays number message w (s, Acknowledged n) h ended t r = absurd r
-arrived-stays number message w (s, SenderOpened n) h ended t r = absurd r
-arrived-stays number message w (s, Retry n wanted tries packet) h ended t r = record { linked = arrived number message (arrived-data number message w s packet h t r); ended = ended }
-arrived-stays number message w (s, Repeat n tries packet) h ended t r = record { linked = arrived number message (arrived-data number message w s packet h t r); ended = ended }
-arrived-stays number message w (s, SenderIgnored) h ended t r = record { linked = arrived number message (arrived-sender number message w s h t); ended = ended }
-arrived-stays number message w (s, HeardDown) h ended t r = record { linked = arrived number message (arrived-sender number message w s h t); ended = ended }
+busy-stays : (number : ℕ) (message : List ℕ) (w : Link) (x : Sending × SenderHeard) → IsBusy number message (first_number w) (present_session w) w → IsSame w.outbound.sender x.0 → RetriesOf number message x.1 → AfterAnswer w x
+unfolding AfterAnswer with_outbound after_answer newest_after
+busy-stays number message w (t, Acknowledged n) h e r = absurd r
+busy-stays number message w (t, SenderOpened n) h e r = absurd r
+busy-stays number message w (t, Retry n wanted tries packet) h e r = busy number message (busy-data number message (first_number w) (present_session w) w t packet h e r)
+busy-stays number message w (t, Repeat n tries packet) h e r = busy number message (busy-data number message (first_number w) (present_session w) w t packet h e r)
+busy-stays number message w (t, SenderIgnored) h e r = busy number message (busy-sender number message (first_number w) (present_session w) w t h e)
+busy-stays number message w (t, HeardDown) h e r = busy number message (busy-sender number message (first_number w) (present_session w) w t h e)
 
 -- an answer that does not acknowledge a message that has not arrived
-waiting-unacknowledged : (number : ℕ) (message : List ℕ) (w : Link) (sent packet : Packet) → IsWaiting number message w → IsWaitingAnswer w.receiver number sent → IsTrueTo sent packet → acks packet w.sender.next ≡ true → ⊥
-waiting-unacknowledged number message w sent packet h (inl e) t a =
-    let is : packet ≡ ack_packet w.receiver.last = ack-heard w.receiver.last sent packet e t ∙ e in
-    let yes_to : w.receiver.last ≡ w.sender.next = acks-ack w.receiver.last w.sender.next h.last_small (subst (λ (p : Packet). acks p w.sender.next ≡ true) is a) in
-    absurd (omega (arith, yes_to, h.next, h.sync, h.last_small))
-waiting-unacknowledged number message w sent packet h (inr (kept, k, e)) t a =
+waiting-unacknowledged : (number : ℕ) (r : Receiving) (sent packet : Packet) → number < 8 → r.last < 8 → (r.last + 1) % 8 ≡ number → IsWaitingAnswer r number sent → IsTrueTo sent packet → acks packet number ≡ true → ⊥
+waiting-unacknowledged number r sent packet small last sync (inl e) t a =
+    let is : packet ≡ ack_packet r.last = ack-heard r.last sent packet e t ∙ e in
+    let yes_to : r.last ≡ number = acks-ack r.last number last (subst (λ (p : Packet). acks p number ≡ true) is a) in
+    absurd (omega (arith, yes_to, sync, last))
+waiting-unacknowledged number r sent packet small last sync (inr (kept, k, e)) t a =
     let is : packet ≡ retry_packet number (held_flags kept.places) = retry-heard number (held_flags kept.places) sent packet e t ∙ e in
-    acks-retry number w.sender.next (held_flags kept.places) h.small (subst (λ (p : Packet). acks p w.sender.next ≡ true) is a)
+    acks-retry number number (held_flags kept.places) small (subst (λ (p : Packet). acks p number ≡ true) is a)
 
-answer-waiting : (number : ℕ) (message : List ℕ) (w : Link) (packet : Packet) (x : Sending × SenderHeard) → IsWaiting number message w → AreOrderly w.ended → IsHeardOf w.answer packet → HearsAnswer w.sender message packet x →
-    IsKept (after_answer w x)
-answer-waiting number message w packet x h ended heard (goes_on a e) =
-    absurd (waiting-unacknowledged number message w heard.sent packet h (newest w.answer (IsWaitingAnswer w.receiver number) heard.sent h.answer heard.newest_is) heard.true_to a)
-answer-waiting number message w packet x h ended heard (stays s) = waiting-stays number message w x h ended s.0 (subst (λ (n : ℕ). RetriesOf n message x.1) h.next s.1)
+arrived-acknowledged : (number : ℕ) (message : List ℕ) (b : ℕ) (s : Session) (w : Link) → IsBusy number message b s w → IsArrived number message s w.inbound.receiver w.answer →
+    IsQuiet number b (with_acknowledged s) (link_of_sender (one_acknowledged w) (sending_after number))
+arrived-acknowledged number message b s w h p = record {
+  up = refl;
+  outstanding = refl;
+  small = h.small;
+  last_is = p.last_is;
+  next = refl;
+  kept = p.kept;
+  packet_sent = IfSome_then w.packet_sent h.packet_sent (λ (packet : Packet) (d : IsDataOf number message packet). inr (p.earlier, message, p.sent, h.short, d));
+  answer = p.answer;
+  delivered = p.delivered;
+  acknowledged = omega (arith, p.acknowledged, ap length p.sent, length-append p.earlier (message ∷ []));
+  counted = omega (arith, h.counted);
+}
 
-arrived-acknowledged : (number : ℕ) (message : List ℕ) (w : Link) → IsArrived number message w → IsQuiet number (link_of_session w (sending_after number) (with_acknowledged w.session))
-arrived-acknowledged number message w h =
-    let count : w.session.acknowledged + 1 ≡ length w.session.sent = omega (arith, h.acknowledged, ap length h.sent, length-append h.front (message ∷ [])) in
-    record {
-      up = refl;
-      outstanding = refl;
-      small = h.small;
-      last_is = h.last_is;
-      next = refl;
-      kept = h.kept;
-      packet_sent = IfSome_then w.packet_sent h.packet_sent (λ (p : Packet) (d : IsDataOf number message p). inr (h.front, message, h.sent, h.short, d));
-      answer = h.answer;
-      delivered = h.delivered;
-      acknowledged = count;
-      counted = omega (arith, h.counted);
-    }
+answer-place : (number : ℕ) (message : List ℕ) (w : Link) (packet : Packet) → IsMarked w → IsBusy number message (first_number w) (present_session w) w → IsHeardOf w.answer packet → acks packet number ≡ true →
+    IsWaiting number message (present_session w) w.inbound.receiver w.answer ⊎ IsArrived number message (present_session w) w.inbound.receiver w.answer → AfterAnswer w (sending_after number, Acknowledged number)
+unfolding AfterAnswer with_outbound after_answer newest_after
+answer-place number message w packet m h heard a (inl p) =
+    let sent = newest w.answer (IsWaitingAnswer w.inbound.receiver number) heard.sent p.answer heard.newest_is in
+    absurd (waiting-unacknowledged number w.inbound.receiver heard.sent packet h.small p.last_small p.sync sent heard.true_to a)
+answer-place number message w packet m h heard a (inr p) =
+    let now = link_of_sender (one_acknowledged w) (sending_after number) in
+    quiet number (subst (λ (t : Session). IsQuiet number (first_number w) t now) (sym (present-acknowledged w m)) (arrived-acknowledged number message (first_number w) (present_session w) w h p))
 
-answer-arrived : (number : ℕ) (message : List ℕ) (w : Link) (packet : Packet) (x : Sending × SenderHeard) → IsArrived number message w → AreOrderly w.ended → HearsAnswer w.sender message packet x → IsKept (after_answer w x)
-unfolding after_answer
-answer-arrived number message w packet x h ended (goes_on a e) =
-    subst (λ (y : Sending × SenderHeard). IsKept (after_answer w y)) (sym e)
-    (record { linked = quiet number (subst (λ (n : ℕ). IsQuiet number (link_of_session w (sending_after n) (with_acknowledged w.session))) (sym h.next) (arrived-acknowledged number message w h)); ended = ended })
-answer-arrived number message w packet x h ended (stays s) = arrived-stays number message w x h ended s.0 (subst (λ (n : ℕ). RetriesOf n message x.1) h.next s.1)
+answer-busy : (number : ℕ) (message : List ℕ) (w : Link) (packet : Packet) (x : Sending × SenderHeard) → IsMarked w → IsBusy number message (first_number w) (present_session w) w → IsHeardOf w.answer packet →
+    HearsAnswer w.outbound.sender message packet x → AfterAnswer w x
+answer-busy number message w packet x m h heard (goes_on a e) =
+    let is : x ≡ (sending_after number, Acknowledged number) = e ∙ ap (λ (n : ℕ). (sending_after n, Acknowledged n)) h.next in
+    subst (AfterAnswer w) (sym is) (answer-place number message w packet m h heard (subst (λ (n : ℕ). acks packet n ≡ true) h.next a) h.place)
+answer-busy number message w packet x m h heard (stays t) = busy-stays number message w x h t.0 (subst (λ (n : ℕ). RetriesOf n message x.1) h.next t.1)
 
 -- an opening packet is acknowledged only once it has come
-opened-place : (number : ℕ) (w : Link) (sent packet : Packet) → IsOpening number w → IsOpeningAnswer w.receiver.last number sent → IsTrueTo sent packet → acks packet number ≡ true → (w.receiver.last ≡ number) × (w.receiver.kept ≡ None) ×
-    (sent ≡ ack_packet number)
-opened-place number w sent packet h (inl e) t a =
-    let is : packet ≡ ack_packet w.receiver.last = ack-heard w.receiver.last sent packet e t ∙ e in
-    let here : w.receiver.last ≡ number = acks-ack w.receiver.last number h.last_small (subst (λ (p : Packet). acks p number ≡ true) is a) in
+opened-place : (number b : ℕ) (s : Session) (w : Link) (sent packet : Packet) → IsOpening number b s w → IsOpeningAnswer w.inbound.receiver.last number sent → IsTrueTo sent packet → acks packet number ≡ true →
+    (w.inbound.receiver.last ≡ number) × (w.inbound.receiver.kept ≡ None) × (sent ≡ ack_packet number)
+opened-place number b s w sent packet h (inl e) t a =
+    let last = w.inbound.receiver.last in
+    let is : packet ≡ ack_packet last = ack-heard last sent packet e t ∙ e in
+    let here : last ≡ number = acks-ack last number h.last_small (subst (λ (p : Packet). acks p number ≡ true) is a) in
     elim h.place [
       | inl p ↦ (here, p.1, e ∙ ap ack_packet here)
       | inr p ↦ absurd (elim p [ inl far ↦ omega (arith, here, far, h.small) | inr far ↦ omega (arith, here, far, h.small) ])
     ]
-opened-place number w sent packet h (inr (away, flags, e)) t a =
+opened-place number b s w sent packet h (inr (away, flags, e)) t a =
     let is : packet ≡ retry_packet ((number + 4) % 8) flags = retry-heard ((number + 4) % 8) flags sent packet e t ∙ e in
     absurd (acks-retry ((number + 4) % 8) number flags (omega arith) (subst (λ (p : Packet). acks p number ≡ true) is a))
 
-opened : (number : ℕ) (w : Link) (sent : Packet) → IsOpening number w → w.receiver.last ≡ number → w.receiver.kept ≡ None → w.answer ≡ Some sent → sent ≡ ack_packet number → IsQuiet number (link_of_sender w (sending_after number))
-opened number w sent h l k n e = record {
+opened : (number b : ℕ) (s : Session) (w : Link) (sent : Packet) → IsOpening number b s w → w.inbound.receiver.last ≡ number → w.inbound.receiver.kept ≡ None → w.answer ≡ Some sent → sent ≡ ack_packet number →
+    IsQuiet number b s (link_of_sender w (sending_after number))
+opened number b s w sent h l k n e = record {
   up = refl;
   outstanding = refl;
   small = h.small;
   last_is = l;
   next = refl;
   kept = k;
-  packet_sent =
-      subst (λ (o : Option Packet). IfSome o (IsQuietData number w.session.sent)) (sym h.packet_sent) (inl (ap (λ (s : Session). s.sent) h.session_is, refl));
+  packet_sent = subst (λ (o : Option Packet). IfSome o (IsQuietData number s.sent)) (sym h.packet_sent) (inl (ap (λ (t : Session). t.sent) h.session_is, refl));
   answer = subst (λ (o : Option Packet). IfSome o (λ packet. packet ≡ ack_packet number)) (sym n) e;
-  delivered = ap (λ (s : Session). s.delivered) h.session_is ∙ sym (ap (λ (s : Session). s.sent) h.session_is);
-  acknowledged = ap (λ (s : Session). s.acknowledged) h.session_is ∙ sym (ap (λ (s : Session). length s.sent) h.session_is);
-  counted = omega (arith, h.base_is, ap (λ (s : Session). s.acknowledged) h.session_is);
+  delivered = ap (λ (t : Session). t.delivered) h.session_is ∙ sym (ap (λ (t : Session). t.sent) h.session_is);
+  acknowledged = ap (λ (t : Session). t.acknowledged) h.session_is ∙ sym (ap (λ (t : Session). length t.sent) h.session_is);
+  counted = omega (arith, h.base_is, ap (λ (t : Session). t.acknowledged) h.session_is);
 }
 
-answer-opening : (number : ℕ) (w : Link) (packet : Packet) (x : Sending × SenderHeard) → IsOpening number w → AreOrderly w.ended → IsHeardOf w.answer packet → HearsOpening w.sender number packet x → IsKept (after_answer w x)
-unfolding after_answer
-answer-opening number w packet x h ended heard (opens a e) =
-    let place = opened-place number w heard.sent packet h (newest w.answer (IsOpeningAnswer w.receiver.last number) heard.sent h.answer heard.newest_is) heard.true_to a in
-    subst (λ (y : Sending × SenderHeard). IsKept (after_answer w y)) (sym e) (record { linked = quiet number (opened number w heard.sent h place.0 place.1 heard.newest_is place.2); ended = ended })
-answer-opening number w packet x h ended heard (waits e) =
-    subst (λ (y : Sending × SenderHeard). IsKept (after_answer w y)) (sym e) (record { linked = opening number (opening-sender number w w.sender h h.outstanding); ended = ended })
+answer-opening : (number : ℕ) (w : Link) (packet : Packet) (x : Sending × SenderHeard) → IsOpening number (first_number w) (present_session w) w → IsHeardOf w.answer packet → HearsOpening w.outbound.sender number packet x → AfterAnswer w x
+unfolding AfterAnswer with_outbound after_answer newest_after
+answer-opening number w packet x h heard (opens a e) =
+    let answer = newest w.answer (IsOpeningAnswer w.inbound.receiver.last number) heard.sent h.answer heard.newest_is in
+    let place = opened-place number (first_number w) (present_session w) w heard.sent packet h answer heard.true_to a in
+    subst (AfterAnswer w) (sym e) (quiet number (opened number (first_number w) (present_session w) w heard.sent h place.0 place.1 heard.newest_is place.2))
+answer-opening number w packet x h heard (waits e) = subst (AfterAnswer w) (sym e) (opening number h)
 
-answer-phase : (w : Link) (packet : Packet) → IsLinked w → AreOrderly w.ended → IsHeardOf w.answer packet → IsKept (after_answer w (sender_heard w.sender packet))
-unfolding after_answer
-answer-phase w packet (quiet last q) ended heard =
-    subst (λ (y : Sending × SenderHeard). IsKept (after_answer w y)) (sym (quiet-answer w.sender packet q.outstanding)) (record { linked = quiet last (quiet-same last w q); ended = ended })
-answer-phase w packet (waiting number message h) ended heard = answer-waiting number message w packet (sender_heard w.sender packet) h ended heard (message-answer w.sender message packet h.outstanding)
-answer-phase w packet (arrived number message h) ended heard = answer-arrived number message w packet (sender_heard w.sender packet) h ended (message-answer w.sender message packet h.outstanding)
-answer-phase w packet (opening number h) ended heard = answer-opening number w packet (sender_heard w.sender packet) h ended heard (opening-answer w.sender number packet h.outstanding)
+answer-phase : (w : Link) (packet : Packet) → IsMarked w → IsLinkedNow w → IsHeardOf w.answer packet → AfterAnswer w (sender_heard w.outbound.sender packet)
+unfolding AfterAnswer with_outbound after_answer newest_after
+answer-phase w packet m (quiet last q) heard = subst (AfterAnswer w) (sym (quiet-answer w.outbound.sender packet q.outstanding)) (quiet last q)
+answer-phase w packet m (busy number message h) heard = answer-busy number message w packet (sender_heard w.outbound.sender packet) m h heard (message-answer w.outbound.sender message packet h.outstanding)
+answer-phase w packet m (opening number h) heard = answer-opening number w packet (sender_heard w.outbound.sender packet) h heard (opening-answer w.outbound.sender number packet h.outstanding)
 
 -- every event, and every run
 
-pub happens-kept : (w : Link) (event : Happening) → IsKept w → IsClean w event → IsKept (happens w event)
-unfolding happens IsClean
-happens-kept w (Offering message) k c = offer-phase w message k.linked k.ended c
-happens-kept w Time_up k c = timeout-phase w k.linked k.ended
-happens-kept w Opening_again k c = reopen-phase w k.linked k.ended
-happens-kept w (Data_heard packet) k c = data-phase w packet k.linked k.ended c
-happens-kept w (Answer_heard packet) k c = answer-phase w packet k.linked k.ended c
+happens-linked : (w : Link) (event : Happening) → IsMarked w → IsLinkedNow w → IsClean w event → IsLinkedNow (happens w event).0
+unfolding happens IsClean AfterData AfterAnswer
+happens-linked w (Offering message) m k c = offer-phase w message m k c
+happens-linked w Time_up m k c = timeout-phase w k
+happens-linked w Opening_again m k c = reopen-phase w m k
+happens-linked w (Data_heard packet) m k c = data-phase w packet m k c
+happens-linked w (Answer_heard packet) m k c = answer-phase w packet m k c
+
+pub happens-kept : (w : Link) (event : Happening) → IsKept w → IsClean w event → IsKept (happens w event).0
+happens-kept w event k c = record {
+  linked = happens-linked w event k.divided.0 k.linked c;
+  divided = happens-divided IsOrderly w event k.divided (orderly-linked (first_number w) (present_session w) w k.linked);
+}
 
 pub run-kept : (events : List Happening) (w : Link) → IsKept w → IsCleanRun w events → IsKept (link_run w events)
 unfolding link_run IsCleanRun
 run-kept [] w k c = k
-run-kept (event ∷ events) w k c = run-kept events (happens w event) (happens-kept w event k c.0) c.1
+run-kept (event ∷ events) w k c = run-kept events (happens w event).0 (happens-kept w event k c.0) c.1
 
 pub first-kept : IsKept first_link
-unfolding AreOrderly
+unfolding last_mark
 first-kept = record {
   linked =
       quiet 7 (record {
@@ -304,18 +300,59 @@ first-kept = record {
         acknowledged = refl;
         counted = refl;
       });
-  ended = tt;
+  divided = first-divided IsOrderly;
 }
 
-pub sessions-orderly : (events : List Happening) → IsCleanRun first_link events → AreOrderly ((link_run first_link events).ended ++ (link_run first_link events).session ∷ [])
-sessions-orderly events c =
-    let w = link_run first_link events in
-    let k = run-kept events first_link first-kept c in
-    orderly-more w.ended w.session k.ended (orderly-linked w k.linked)
+pub sessions-orderly : (events : List Happening) → IsCleanRun first_link events → AreOrderly (sessions_of (link_run first_link events))
+sessions-orderly events c = orderly-kept (link_run first_link events) (run-kept events first_link first-kept c)
 
 pub facts-kept : (events : List Happening) → IsCleanRun first_link events → LinkFacts (link_run first_link events)
-facts-kept events c = facts-linked (link_run first_link events) (run-kept events first_link first-kept c).linked
+facts-kept events c =
+    let w = link_run first_link events in
+    facts-linked (first_number w) (present_session w) w (run-kept events first_link first-kept c).linked
 
-pub run-delivers : (events : List Happening) (message : List ℕ) → IsCleanRun first_link events → (link_run first_link events).sender.outstanding ≡ Nothing → length message ≤ 2028 →
-    DeliversAtOnce (link_run first_link events).sender (link_run first_link events).receiver message
-run-delivers events message c o short = delivers-linked (link_run first_link events) message (run-kept events first_link first-kept c).linked o short
+pub run-delivers : (events : List Happening) (message : List ℕ) → IsCleanRun first_link events → (link_run first_link events).outbound.sender.outstanding ≡ Nothing → length message ≤ 2028 →
+    DeliversAtOnce (link_run first_link events).outbound.sender (link_run first_link events).inbound.receiver message
+run-delivers events message c o short =
+    let w = link_run first_link events in
+    delivers-linked (first_number w) (present_session w) w message (run-kept events first_link first-kept c).linked o short
+
+-- where the session is opened again, its first number is one more than that of the opening packet
+
+sent-reopens : (o : Outgoing) (delivered : ℕ) (again : Bool) (s : Sending) (n number : ℕ) (packet : Packet) → s.outstanding ≡ Opening n → (after_reopening o delivered again (s, ReopenSent n packet)).1.0 ≡ Reopened number →
+    (after_reopening o delivered again (s, ReopenSent n packet)).0.sender.outstanding ≡ Opening number
+unfolding after_reopening
+sent-reopens o delivered true s n number packet out e = let same : n ≡ number = cc in out ∙ ap (λ (k : ℕ). Opening k) same
+sent-reopens o delivered false s n number packet out e = let same : n ≡ number = cc in out ∙ ap (λ (k : ℕ). Opening k) same
+
+up-reopens : (o : Outgoing) (delivered : ℕ) (again : Bool) (s : Sending) (number : ℕ) → (after_reopening o delivered again (s, ReopenUp)).1.0 ≡ Reopened number → ⊥
+unfolding after_reopening
+up-reopens o delivered true s number e = cc
+up-reopens o delivered false s number e = cc
+
+reopened-opens : (w : Link) (number : ℕ) → (happens w Opening_again).1 ≡ Reopened number → (happens w Opening_again).0.outbound.sender.outstanding ≡ Opening number
+unfolding happens with_outbound
+reopened-opens w number e =
+    let o = w.outbound in
+    let s = o.sender in
+    let again = is_opening s.outstanding in
+    let delivered = length w.inbound.received in
+    let Opens : Sending × Reopen → Type 0 = λ (x : Sending × Reopen). (after_reopening o delivered again x).1.0 ≡ Reopened number → (after_reopening o delivered again x).0.sender.outstanding ≡ Opening number in
+    let n = opening_number s.outstanding s.next in
+    elim (reopen-cases s n refl) [
+      | inl is ↦ subst Opens (sym is) (λ (up : (after_reopening o delivered again (s, ReopenUp)).1.0 ≡ Reopened number). absurd (up-reopens o delivered again s number up)) e
+      | inr is ↦ subst Opens (sym is) (sent-reopens o delivered again _ n number (opening_packet n) refl) e
+    ]
+
+opening-base : (number b : ℕ) (s : Session) (w : Link) → IsLinked b s w → w.outbound.sender.outstanding ≡ Opening number → b ≡ (number + 1) % 8
+opening-base number b s w (quiet last q) o = let both : Nothing ≡ Opening number = sym q.outstanding ∙ o in cc
+opening-base number b s w (busy other message h) o = let both : Message message ≡ Opening number = sym h.outstanding ∙ o in cc
+opening-base number b s w (opening other h) o = let both : Opening other ≡ Opening number = sym h.outstanding ∙ o in let same : other ≡ number = cc in h.base_is ∙ ap (λ (n : ℕ). (n + 1) % 8) same
+
+pub first-is : (events : List Happening) → IsCleanRun first_link events → (number : ℕ) → (happens (link_run first_link events) Opening_again).1 ≡ Reopened number →
+    first_number (happens (link_run first_link events) Opening_again).0 ≡ (number + 1) % 8
+unfolding IsClean
+first-is events c number e =
+    let w = link_run first_link events in
+    let v = (happens w Opening_again).0 in
+    opening-base number (first_number v) (present_session v) v (happens-kept w Opening_again (run-kept events first_link first-kept c) tt).linked (reopened-opens w number e)

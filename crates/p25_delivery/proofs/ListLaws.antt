@@ -11,7 +11,7 @@ take_get {X} xs j x e = take_more xs j x (slice_get_within xs j x e) ∙ ap (λ 
 pub map-take_get : {X Y : Type 0} (f : X → Y) (xs : List X) (j : ℕ) (x : X) → slice_get xs j ≡ Some x → map f (take (j + 1) xs) ≡ map f (take j xs) ++ f x ∷ []
 map-take_get {X} f xs j x e = ap (λ (ys : List X). map f ys) (take_get xs j x e) ∙ map-append f (take j xs) (x ∷ [])
 
--- one more flag of n, behind those that are set
+-- one more flag of n, after those that are set
 pub flags_more : (front : List Bool) (i n : ℕ) (flag : Bool) → length front ≡ i → i < n → set (front ++ replicate (n - i) false) i flag ≡ (front ++ flag ∷ []) ++ replicate (n - (i + 1)) false
 flags_more front i n flag e h =
     let more : n - i ≡ suc (n - (i + 1)) = omega arith in

@@ -1,115 +1,128 @@
--- The four phases of a session: nothing is outstanding; a message is, and has not arrived; it has arrived; the link is being
--- opened. And that each session is orderly in each.
-use Rattle.std.proofs.Common.{◌≡◌, ℕ, ◌+◌, ◌%◌, ◌<◌, ◌≤◌, ◌⊎◌, Bool, false, List, [], ◌∷◌, ◌++◌, length, Some, None, ap, sym, ◌∙◌, arith, length-append}
-use Rattle.std.specs.Prelude.{IfSome}
+-- The phases of a session: nothing is outstanding; a message is, and has not arrived or has; the opening packet is. And that the
+-- session is orderly in each. s stands for the present session, and b for the number of its first message.
+use Rattle.std.proofs.Common.{◌≡◌, ℕ, ◌+◌, ◌%◌, ◌<◌, ◌≤◌, ◌⊎◌, inl, inr, Bool, false, List, [], ◌∷◌, ◌++◌, length, Option, Some, None, ap, sym, ◌∙◌, subst, arith, length-append}
+use Rattle.std.specs.Prelude.{All, IfSome}
 use Rattle.std.proofs.lemmas.List.{append-nil}
+use Rattle.std.proofs.lemmas.List.Elements.{All-head, All-tail, All-push}
 use Rattle.p25_packet_blocks.specs.declared.packet.Packet.{Packet}
 use Rattle.p25_delivery.specs.Places.{held_flags}
 use Rattle.p25_delivery.specs.SentPackets.{ack_packet, retry_packet, opening_packet}
 use Rattle.p25_delivery.specs.ReceiverState.{Keeping, Receiving}
 use Rattle.p25_delivery.specs.declared.sender_state.Outstanding.TheVariants.{Nothing, Message, Opening}
-use Rattle.p25_delivery.specs.Link.{Session, empty_session, Link}
+use Rattle.p25_delivery.specs.Link.{Link, Session, empty_session, sessions_of, present_session, first_number}
 use Rattle.p25_delivery.specs.Orderly.{IsOrderly, AreOrderly}
-use Rattle.p25_delivery.specs.Facts.{IsDataOf}
-use Rattle.p25_delivery.specs.Facts.{KeepsOf}
+use Rattle.p25_delivery.specs.Facts.{IsDataOf, KeepsOf}
+use Rattle.p25_delivery.proofs.SessionLaws.{ended_sessions, sessions-split, IsDivided}
 
 -- the newest packet of data while nothing is outstanding: the opening packet, or one of the last message
 abbrev pub IsQuietData : ℕ → List (List ℕ) → Packet → Type 0
 IsQuietData last sent packet =
-    ((sent ≡ []) × (packet ≡ opening_packet last)) ⊎ ((front : List (List ℕ)) × (message : List ℕ) × (sent ≡ front ++ message ∷ []) × (length message ≤ 2028) × IsDataOf last message packet)
+    ((sent ≡ []) × (packet ≡ opening_packet last)) ⊎ ((earlier : List (List ℕ)) × (message : List ℕ) × (sent ≡ earlier ++ message ∷ []) × (length message ≤ 2028) × IsDataOf last message packet)
 
-pub record IsQuiet (last : ℕ) (w : Link) : Type 0 where
-  pub up : w.sender.down ≡ false
-  pub outstanding : w.sender.outstanding ≡ Nothing
+pub record IsQuiet (last b : ℕ) (s : Session) (w : Link) : Type 0 where
+  pub up : w.outbound.sender.down ≡ false
+  pub outstanding : w.outbound.sender.outstanding ≡ Nothing
   pub small : last < 8
-  pub last_is : w.receiver.last ≡ last
-  pub next : w.sender.next ≡ (last + 1) % 8
-  pub kept : w.receiver.kept ≡ None
-  pub packet_sent : IfSome w.packet_sent (IsQuietData last w.session.sent)
+  pub last_is : w.inbound.receiver.last ≡ last
+  pub next : w.outbound.sender.next ≡ (last + 1) % 8
+  pub kept : w.inbound.receiver.kept ≡ None
+  pub packet_sent : IfSome w.packet_sent (IsQuietData last s.sent)
   pub answer : IfSome w.answer (λ packet. packet ≡ ack_packet last)
-  pub delivered : w.session.delivered ≡ w.session.sent
-  pub acknowledged : w.session.acknowledged ≡ length w.session.sent
-  pub counted : (last + 1) % 8 ≡ (w.base + w.session.acknowledged) % 8
+  pub delivered : s.delivered ≡ s.sent
+  pub acknowledged : s.acknowledged ≡ length s.sent
+  pub counted : (last + 1) % 8 ≡ (b + s.acknowledged) % 8
 
 -- the newest answer while a message has not arrived: ACK of the one before, or selective retry for what is kept
 abbrev pub IsWaitingAnswer : Receiving → ℕ → Packet → Type 0
 IsWaitingAnswer r number packet =
     (packet ≡ ack_packet r.last) ⊎ ((kept : Keeping) × (r.kept ≡ Some kept) × (packet ≡ retry_packet number (held_flags kept.places)))
 
-pub record IsWaiting (number : ℕ) (message : List ℕ) (w : Link) : Type 0 where
-  pub next : w.sender.next ≡ number
-  pub outstanding : w.sender.outstanding ≡ Message message
+-- a message that is outstanding has not arrived
+pub record IsWaiting (number : ℕ) (message : List ℕ) (s : Session) (r : Receiving) (answered : Option Packet) : Type 0 where
+  pub last_small : r.last < 8
+  pub sync : (r.last + 1) % 8 ≡ number
+  pub kept : IfSome r.kept (KeepsOf message)
+  pub answer : IfSome answered (IsWaitingAnswer r number)
+  pub sent : s.sent ≡ s.delivered ++ message ∷ []
+  pub acknowledged : s.acknowledged ≡ length s.delivered
+
+-- or it has
+pub record IsArrived (number : ℕ) (message : List ℕ) (s : Session) (r : Receiving) (answered : Option Packet) : Type 0 where
+  pub last_is : r.last ≡ number
+  pub kept : r.kept ≡ None
+  pub answer : IfSome answered (λ packet. packet ≡ ack_packet number)
+  pub earlier : List (List ℕ)
+  pub sent : s.sent ≡ earlier ++ message ∷ []
+  pub delivered : s.delivered ≡ s.sent
+  pub acknowledged : s.acknowledged ≡ length earlier
+
+pub record IsBusy (number : ℕ) (message : List ℕ) (b : ℕ) (s : Session) (w : Link) : Type 0 where
+  pub next : w.outbound.sender.next ≡ number
+  pub outstanding : w.outbound.sender.outstanding ≡ Message message
   pub small : number < 8
   pub short : length message ≤ 2028
-  pub last_small : w.receiver.last < 8
-  pub sync : (w.receiver.last + 1) % 8 ≡ number
-  pub kept : IfSome w.receiver.kept (KeepsOf message)
   pub packet_sent : IfSome w.packet_sent (IsDataOf number message)
-  pub answer : IfSome w.answer (IsWaitingAnswer w.receiver number)
-  pub sent : w.session.sent ≡ w.session.delivered ++ message ∷ []
-  pub acknowledged : w.session.acknowledged ≡ length w.session.delivered
-  pub counted : number ≡ (w.base + w.session.acknowledged) % 8
+  pub counted : number ≡ (b + s.acknowledged) % 8
+  pub place : IsWaiting number message s w.inbound.receiver w.answer ⊎ IsArrived number message s w.inbound.receiver w.answer
 
-pub record IsArrived (number : ℕ) (message : List ℕ) (w : Link) : Type 0 where
-  pub next : w.sender.next ≡ number
-  pub outstanding : w.sender.outstanding ≡ Message message
-  pub small : number < 8
-  pub short : length message ≤ 2028
-  pub last_is : w.receiver.last ≡ number
-  pub kept : w.receiver.kept ≡ None
-  pub packet_sent : IfSome w.packet_sent (IsDataOf number message)
-  pub answer : IfSome w.answer (λ packet. packet ≡ ack_packet number)
-  pub front : List (List ℕ)
-  pub sent : w.session.sent ≡ front ++ message ∷ []
-  pub delivered : w.session.delivered ≡ w.session.sent
-  pub acknowledged : w.session.acknowledged ≡ length front
-  pub counted : number ≡ (w.base + w.session.acknowledged) % 8
-
--- the newest answer while the link is being opened: it does not acknowledge the opening packet before that has come
+-- the newest answer while the session is being opened: it does not acknowledge the opening packet before that has come
 abbrev pub IsOpeningAnswer : ℕ → ℕ → Packet → Type 0
 IsOpeningAnswer last number packet =
     (packet ≡ ack_packet last) ⊎ ((last ≡ number → ⊥) × (flags : List Bool) × (packet ≡ retry_packet ((number + 4) % 8) flags))
 
-pub record IsOpening (number : ℕ) (w : Link) : Type 0 where
-  pub outstanding : w.sender.outstanding ≡ Opening number
+pub record IsOpening (number b : ℕ) (s : Session) (w : Link) : Type 0 where
+  pub outstanding : w.outbound.sender.outstanding ≡ Opening number
   pub small : number < 8
-  pub last_small : w.receiver.last < 8
-  pub place : ((w.receiver.last ≡ number) × (w.receiver.kept ≡ None)) ⊎ ((w.receiver.last ≡ (number + 3) % 8) ⊎ (w.receiver.last ≡ (number + 4) % 8))
+  pub last_small : w.inbound.receiver.last < 8
+  pub place : ((w.inbound.receiver.last ≡ number) × (w.inbound.receiver.kept ≡ None)) ⊎ ((w.inbound.receiver.last ≡ (number + 3) % 8) ⊎ (w.inbound.receiver.last ≡ (number + 4) % 8))
   pub packet_sent : w.packet_sent ≡ Some (opening_packet number)
-  pub answer : IfSome w.answer (IsOpeningAnswer w.receiver.last number)
-  pub session_is : w.session ≡ empty_session
-  pub base_is : w.base ≡ (number + 1) % 8
+  pub answer : IfSome w.answer (IsOpeningAnswer w.inbound.receiver.last number)
+  pub session_is : s ≡ empty_session
+  pub base_is : b ≡ (number + 1) % 8
 
-pub data IsLinked (w : Link) : Type 0 where
-  quiet : (last : ℕ) → IsQuiet last w → IsLinked w
-  waiting : (number : ℕ) (message : List ℕ) → IsWaiting number message w → IsLinked w
-  arrived : (number : ℕ) (message : List ℕ) → IsArrived number message w → IsLinked w
-  opening : (number : ℕ) → IsOpening number w → IsLinked w
+pub data IsLinked (b : ℕ) (s : Session) (w : Link) : Type 0 where
+  quiet : (last : ℕ) → IsQuiet last b s w → IsLinked b s w
+  busy : (number : ℕ) (message : List ℕ) → IsBusy number message b s w → IsLinked b s w
+  opening : (number : ℕ) → IsOpening number b s w → IsLinked b s w
 
--- a link in a phase, with orderly sessions before it
+-- a link is in a phase, with its present session
+abbrev pub IsLinkedNow : Link → Type 0
+IsLinkedNow w = IsLinked (first_number w) (present_session w) w
+
+-- and the sessions before it were orderly
 pub record IsKept (w : Link) : Type 0 where
-  pub linked : IsLinked w
-  pub ended : AreOrderly w.ended
+  pub linked : IsLinkedNow w
+  pub divided : IsDivided IsOrderly w
 
 -- the present session is orderly
 
-orderly-waiting : (session : Session) (message : List ℕ) → session.sent ≡ session.delivered ++ message ∷ [] → session.acknowledged ≡ length session.delivered → IsOrderly session
-orderly-waiting session message s a = record { rest = message ∷ []; beginning = s; acknowledged = omega arith; delivered = omega arith }
+orderly-waiting : (s : Session) (message : List ℕ) → s.sent ≡ s.delivered ++ message ∷ [] → s.acknowledged ≡ length s.delivered → IsOrderly s
+orderly-waiting s message sent a = record { rest = message ∷ []; beginning = sent; acknowledged = omega arith; delivered = omega arith }
 
-orderly-arrived : (session : Session) → session.delivered ≡ session.sent → session.acknowledged ≤ length session.delivered → length session.delivered ≤ session.acknowledged + 1 → IsOrderly session
-orderly-arrived session d a m = record { rest = []; beginning = sym d ∙ sym (append-nil session.delivered); acknowledged = a; delivered = m }
+orderly-arrived : (s : Session) → s.delivered ≡ s.sent → s.acknowledged ≤ length s.delivered → length s.delivered ≤ s.acknowledged + 1 → IsOrderly s
+orderly-arrived s d a m = record { rest = []; beginning = sym d ∙ sym (append-nil s.delivered); acknowledged = a; delivered = m }
 
-pub orderly-linked : (w : Link) → IsLinked w → IsOrderly w.session
-orderly-linked w (quiet last q) = orderly-arrived w.session q.delivered (omega (arith, q.acknowledged, ap length q.delivered)) (omega (arith, q.acknowledged, ap length q.delivered))
-orderly-linked w (waiting number message h) = orderly-waiting w.session message h.sent h.acknowledged
-orderly-linked w (arrived number message h) =
-    let count : length w.session.delivered ≡ length h.front + 1 = ap length (h.delivered ∙ h.sent) ∙ length-append h.front (message ∷ []) in
-    orderly-arrived w.session h.delivered (omega (arith, count, h.acknowledged)) (omega (arith, count, h.acknowledged))
-orderly-linked w (opening number h) =
-    orderly-arrived w.session (ap (λ (s : Session). s.delivered) h.session_is ∙
-    sym (ap (λ (s : Session). s.sent) h.session_is)) (omega (arith, ap (λ (s : Session). s.acknowledged) h.session_is)) (omega (arith, ap (λ (s : Session). length s.delivered) h.session_is))
+orderly-busy : (number : ℕ) (message : List ℕ) (s : Session) (r : Receiving) (answered : Option Packet) → IsWaiting number message s r answered ⊎ IsArrived number message s r answered → IsOrderly s
+orderly-busy number message s r answered (inl h) = orderly-waiting s message h.sent h.acknowledged
+orderly-busy number message s r answered (inr h) =
+    let count : length s.delivered ≡ length h.earlier + 1 = ap length (h.delivered ∙ h.sent) ∙ length-append h.earlier (message ∷ []) in
+    orderly-arrived s h.delivered (omega (arith, count, h.acknowledged)) (omega (arith, count, h.acknowledged))
 
-pub orderly-more : (sessions : List Session) (session : Session) → AreOrderly sessions → IsOrderly session → AreOrderly (sessions ++ session ∷ [])
+pub orderly-linked : (b : ℕ) (s : Session) (w : Link) → IsLinked b s w → IsOrderly s
+orderly-linked b s w (quiet last q) = orderly-arrived s q.delivered (omega (arith, q.acknowledged, ap length q.delivered)) (omega (arith, q.acknowledged, ap length q.delivered))
+orderly-linked b s w (busy number message h) = orderly-busy number message s w.inbound.receiver w.answer h.place
+orderly-linked b s w (opening number h) =
+    orderly-arrived s (ap (λ (t : Session). t.delivered) h.session_is ∙ sym (ap (λ (t : Session). t.sent) h.session_is))
+    (omega (arith, ap (λ (t : Session). t.acknowledged) h.session_is)) (omega (arith, ap (λ (t : Session). length t.delivered) h.session_is))
+
+-- all sessions are, where those that have ended are
+
+orderly-all : (sessions : List Session) → All IsOrderly sessions → AreOrderly sessions
 unfolding AreOrderly
-orderly-more [] session a o = (o, tt)
-orderly-more (first ∷ sessions) session a o = (a.0, orderly-more sessions session a.1 o)
+orderly-all [] all = tt
+orderly-all (session ∷ sessions) all = (All-head IsOrderly session sessions all, orderly-all sessions (All-tail IsOrderly session sessions all))
+
+pub orderly-kept : (w : Link) → IsKept w → AreOrderly (sessions_of w)
+orderly-kept w k =
+    subst AreOrderly (sym (sessions-split w))
+    (orderly-all (ended_sessions w ++ present_session w ∷ []) (All-push IsOrderly (ended_sessions w) (present_session w) k.divided.1 (orderly-linked (first_number w) (present_session w) w k.linked)))

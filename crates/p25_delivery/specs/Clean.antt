@@ -37,4 +37,4 @@ IsClean w (Answer_heard packet) = IsHeardOf w.answer packet
 
 unfoldable pub IsCleanRun : Link → List Happening → Type 0
 IsCleanRun w [] = Unit {0}
-IsCleanRun w (event ∷ events) = IsClean w event × IsCleanRun (happens w event) events
+IsCleanRun w (event ∷ events) = IsClean w event × IsCleanRun (happens w event).0 events

@@ -7,6 +7,10 @@ pub mod SentPackets
 pub mod Asked
 pub mod SenderRules
 pub mod ReceiverRules
+pub mod Halves
+pub mod HalfRules
+pub mod SoundHalves
+pub mod HalvesInside
 pub mod Link
 pub mod Clean
 pub mod Orderly

@@ -29,6 +29,6 @@ all_octets (Some block ∷ places) = before_octets block.octets (all_octets plac
 abbrev pub flag_count : ℕ → ℕ
 flag_count blocks = if nat_le blocks 64 then 64 else 128
 
--- a flag for each place, true where a block is held, and false ones behind them
+-- a flag for each place, true where a block is held, and false ones after them
 unfoldable pub held_flags : List (Option BlockParts) → List Bool
 held_flags places = map is_some places ++ replicate (flag_count (length places) - length places) false

@@ -1,10 +1,11 @@
-//! The theorems on the machine and on a link of two such stations. No function here makes a call: its contract is the theorem.
+//! The theorems on messages and on a link of two stations. No function here makes a call: its contract is the theorem.
 
-ghost use Rattle.std.specs.Prelude.{◌≡◌, ℕ, List, length, Some, ◌≤◌, true, [], ◌∷◌, ◌++◌};
+ghost use Rattle.std.specs.Prelude.{◌≡◌, ℕ, ◌+◌, ◌%◌, ◌≤◌, true, List, length, Some};
 ghost use Rattle.p25_packet_blocks.specs.declared.block.Slot.{Slot};
 ghost use Rattle.p25_delivery.specs.MessageBlocks.{block_count, pad_count, message_octets, unpadded};
 ghost use Rattle.p25_delivery.specs.Carried.{CarriesMessage, read_back};
-ghost use Rattle.p25_delivery.specs.Link.{Happening, first_link, link_run};
+ghost use Rattle.p25_delivery.specs.Link.{Happening, Opening_again, first_link, link_run, sessions_of, first_number, happens};
+ghost use Rattle.p25_delivery.specs.declared.step_kind.StepKind.TheVariants.{Reopened};
 ghost use Rattle.p25_delivery.specs.Clean.{IsCleanRun};
 ghost use Rattle.p25_delivery.specs.Orderly.{AreCounted, AreOrderly};
 ghost use Rattle.p25_delivery.specs.SenderState.{Sending, IsSending};
@@ -26,19 +27,23 @@ pub fn messages_read_back()
 /// and every message that is acknowledged was delivered.
 pub fn sessions_are_orderly()
     ensures { (events : List Happening) → IsCleanRun first_link events →
-        AreOrderly ((link_run first_link events).ended ++ (link_run first_link events).session ∷ []) }
+        AreOrderly (sessions_of (link_run first_link events)) }
 {}
 
-/// **Theorem.** Its clause says which facts a link keeps in every such run: what was sent, delivered and acknowledged,
-/// V(R) and the number of the outstanding message, and what the newest transmission of each direction is.
+/// **Theorem.** Its clauses say which facts a link keeps in every such run: what was sent, delivered and acknowledged, V(R)
+/// and the number of the outstanding message, and what the newest transmission of each direction is; and that the number of the
+/// first message of a session is one more than that of the packet that opens it.
 pub fn facts_are_kept()
-    ensures { (events : List Happening) → IsCleanRun first_link events → LinkFacts (link_run first_link events) }
+    ensures facts { (events : List Happening) → IsCleanRun first_link events → LinkFacts (link_run first_link events) }
+    ensures first { (events : List Happening) → IsCleanRun first_link events → (number : ℕ) →
+        (happens (link_run first_link events) Opening_again).1 ≡ Reopened number →
+        first_number (happens (link_run first_link events) Opening_again).0 ≡ (number + 1) % 8 }
 {}
 
 /// **Theorem.** Its clause says that in every run, whatever is heard, each session has at most one message sent that is
 /// not acknowledged, and none acknowledged that was not sent.
 pub fn sessions_are_counted()
-    ensures { (events : List Happening) → AreCounted ((link_run first_link events).ended ++ (link_run first_link events).session ∷ []) }
+    ensures { (events : List Happening) → AreCounted (sessions_of (link_run first_link events)) }
 {}
 
 /// **Theorem.** Its clauses say what comes of packets that are heard as they were sent. After a clean run, where nothing
@@ -46,8 +51,8 @@ pub fn sessions_are_counted()
 /// again, whatever the receiver keeps.
 pub fn undamaged_packets_do()
     ensures delivered { (events : List Happening) (message : List ℕ) → IsCleanRun first_link events →
-        (link_run first_link events).sender.outstanding ≡ Nothing → length message ≤ 2028 →
-        DeliversAtOnce (link_run first_link events).sender (link_run first_link events).receiver message }
+        (link_run first_link events).outbound.sender.outstanding ≡ Nothing → length message ≤ 2028 →
+        DeliversAtOnce (link_run first_link events).outbound.sender (link_run first_link events).inbound.receiver message }
     ensures opened { (sender : Sending) (receiver : Receiving) →
         IsSending sender → sender.down ≡ true → OpensAtOnce sender receiver }
 {}

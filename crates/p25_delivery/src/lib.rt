@@ -1,5 +1,6 @@
-//! Delivery of messages in confirmed packets, as a machine: a sender and a receiver, which only answer calls, and the laws
-//! of a link of two such stations. What they send is a value, and the air between them is the caller's.
+//! Delivery of messages in confirmed packets, as a machine: a sender and a receiver, which only answer calls; the two halves
+//! of a station over them, which keep the messages that were sent and received; and the laws of a link of two halves. What
+//! they send is a value, and the air between them is the caller's.
 //!
 //! A sender has one message outstanding at most. Its packets carry a number N(S) of three bits, 0 to 7 and then 0 again;
 //! the receiver keeps V(R), the number of the last message that it delivered, and puts the blocks of the next one in their
@@ -17,23 +18,31 @@
 //! ```
 //!
 //! Contracts see a sender as `Sending` and a receiver as `Receiving`, and each call as a function of `SenderRules` or
-//! `ReceiverRules` that gives the state after it and its answer. `laws` has the promise of the two stations, over every run
-//! of a link in which what is heard is true to what was sent.
+//! `ReceiverRules` that gives the state after it and its answer; and the halves as `Outgoing` and `Incoming`, each call by its
+//! rule in `HalfRules`. `laws` has the promise of a link of two halves, over every run in which what is heard is true to what
+//! was sent.
 #![tactic(auto)]
 
 mod asked;
+mod inbound;
 mod kept;
 pub mod laws;
+mod mark;
 mod message_octets;
+mod outbound;
 mod receiver;
 mod sender;
 mod sender_state;
 mod sent;
+mod step_kind;
 
-pub use p25_messages::{Flips, Message, MessageList};
+pub use inbound::Inbound;
+pub use mark::Mark;
+pub use outbound::Outbound;
 pub use receiver::{Heard, Receiver};
 pub use sender::{Offer, Reopen, Resend, Sender, SenderHeard};
 pub use sender_state::Outstanding;
+pub use step_kind::{StepKind, Way};
 
 /// The network access code that both stations use.
 pub const NAC: u16 = 0x293;

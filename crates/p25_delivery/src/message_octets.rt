@@ -21,7 +21,7 @@ pub(crate) fn blocks_for(message: &Message) -> u8
     ((message.octets().len() + 19) / 16) as u8
 }
 
-// How many pad octets stand behind a message.
+// How many pad octets stand after a message.
 pub(crate) fn pad_for(message: &Message) -> u8
     ensures value { result ≡ pad_count (length message.now) }
     ensures most { result < 16 }

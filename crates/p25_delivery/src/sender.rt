@@ -207,7 +207,7 @@ impl Sender {
     fn take(&mut self, message: &Message) -> Offer
         ensures { (self.new, result) ≡ offered_beside Outstanding.Nothing self.old message.now }
     {
-        self.outstanding = Outstanding::Message(Message::new(message.octets()).unwrap());
+        self.outstanding = Outstanding::Message(message.clone().unwrap());
         self.tries = 1;
         self.down = false;
         Offer::Taken {

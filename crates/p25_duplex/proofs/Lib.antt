@@ -1,6 +1,4 @@
-pub mod StationSoundLaws
-pub mod PairLaws
-pub mod SimulationLaws
 pub mod KindLaws
-pub mod CleanLaws
+pub mod LinkedLaws
+pub mod RunLaws
 pub mod CountLaws

@@ -1,26 +1,17 @@
--- What the duplex world keeps: two stations, each with a sender and a receiver.
-use Rattle.std.specs.Prelude.{ℕ, List, [], Option, None}
+-- What the duplex world keeps: two stations, each with a half that sends and a half that receives.
+use Rattle.std.specs.Prelude.{ℕ, Option, None}
 use Rattle.p25_packet_blocks.specs.declared.packet.Packet.{Packet}
-use Rattle.p25_delivery.specs.SenderState.{Sending}
-use Rattle.p25_delivery.specs.ReceiverState.{Receiving}
-use Rattle.p25_delivery.specs.SenderRules.{first_sending}
-use Rattle.p25_delivery.specs.ReceiverRules.{first_receiving}
-use Rattle.p25_stations.specs.declared.mark.Mark.{Mark}
+use Rattle.p25_delivery.specs.Halves.{Outgoing, Incoming, first_outgoing, first_incoming}
+use Rattle.p25_delivery.specs.Link.{Link}
 use Rattle.p25_duplex.specs.declared.side.Side.{Side}
 use Rattle.p25_duplex.specs.declared.side.Side.TheVariants.{A, B}
 use Rattle.p25_duplex.specs.Sides.{other_side}
 
--- a station: its sender and its receiver, the newest transmission of its direction, which is data or an answer, the messages
--- that it sent, those that were delivered to it, how many of its own were acknowledged, and a mark for each session of its own
--- messages that has ended
+-- a station: both halves, and the newest transmission of its direction, which is data or an answer
 pub record StationState : Type 0 where
-  pub sender : Sending
-  pub receiver : Receiving
+  pub outbound : Outgoing
+  pub inbound : Incoming
   pub newest : Option Packet
-  pub sent : List (List ℕ)
-  pub received : List (List ℕ)
-  pub acknowledged : ℕ
-  pub marks : List Mark
 
 -- what contracts see of a station: its state, and for how many steps it has room
 pub record StationParts : Type 0 where
@@ -38,20 +29,10 @@ pub record DuplexParts : Type 0 where
   pub state : DuplexState
   pub spare : ℕ
 
--- a station before the first step
+-- a station before the first step, and a duplex world
 abbrev pub first_station : StationState
-first_station =
-    record {
-      sender = first_sending;
-      receiver = first_receiving;
-      newest = None;
-      sent = [];
-      received = [];
-      acknowledged = 0;
-      marks = [];
-    }
+first_station = record { outbound = first_outgoing; inbound = first_incoming; newest = None }
 
--- a duplex world before the first step
 abbrev pub first_duplex : DuplexState
 first_duplex = record { a = first_station; b = first_station; false_passes = 0 }
 
@@ -65,6 +46,12 @@ abbrev pub with_station : Side → StationState → DuplexState → DuplexState
 with_station A station d = record d { a = station }
 with_station B station d = record d { b = station }
 
--- the messages of a side that were delivered: those that came to the other station
-abbrev pub delivered_from : Side → DuplexState → List (List ℕ)
-delivered_from side d = (station_at (other_side side) d).received
+-- the link of a station's messages to the other: its half that sends, the other's half that receives, and the newest
+-- transmission of the direction of each
+abbrev pub link_between : StationState → StationState → Link
+link_between own other =
+    record { outbound = own.outbound; inbound = other.inbound; packet_sent = own.newest; answer = other.newest }
+
+-- the link of a side's messages
+abbrev pub link_at : Side → DuplexState → Link
+link_at side d = link_between (station_at side d) (station_at (other_side side) d)

@@ -1,53 +1,78 @@
 -- What each event makes of the duplex world, and the step that it is.
-use Rattle.std.specs.Prelude.{ℕ, ◌+◌, ◌-◌, ◌^◌, Bool, true, false, min, List, length, Option, Some, None}
+use Rattle.std.specs.Prelude.{ℕ, Bool, true, false, eqb, List, Option, Some, None}
 use Rattle.p25_packet_blocks.specs.declared.packet.Packet.{Packet}
-use Rattle.p25_delivery.specs.SenderRules.{offered, timed_out, reopened, is_opening}
+use Rattle.p25_packet_blocks.specs.Whole.{packet_head}
+use Rattle.p25_packet_blocks.specs.Heads.{head_format}
+use Rattle.p25_delivery.specs.declared.step_kind.Way.TheVariants.{Packets}
+use Rattle.p25_delivery.specs.declared.step_kind.StepKind.{StepKind}
+use Rattle.p25_delivery.specs.declared.step_kind.StepKind.TheVariants.{Nothing, Lost, Ignored}
+use Rattle.p25_delivery.specs.Link.{Link, Offering, Time_up, Opening_again, Data_heard, Answer_heard, happens}
 use Rattle.p25_stations.specs.declared.air.Carried.{Carried}
 use Rattle.p25_stations.specs.declared.air.Carried.TheVariants.{Lost as CarriedLost, Foreign, Heard}
+use Rattle.p25_stations.specs.declared.step.Step.{Step}
 use Rattle.p25_stations.specs.Air.{carried_of}
-use Rattle.p25_stations.specs.declared.step.Way.TheVariants.{Packets}
-use Rattle.p25_stations.specs.declared.step.StepKind.{StepKind}
-use Rattle.p25_stations.specs.declared.step.StepKind.TheVariants.{Nothing, Lost, Ignored}
+use Rattle.p25_stations.specs.Steps.{counted_when}
 use Rattle.p25_duplex.specs.declared.side.Side.{Side}
 use Rattle.p25_duplex.specs.declared.event.DuplexEvent.{DuplexEvent}
 use Rattle.p25_duplex.specs.declared.event.DuplexEvent.TheVariants.{Send, Timeout, Reopen, Deliver}
 use Rattle.p25_duplex.specs.declared.event.DuplexStep.{DuplexStep}
 use Rattle.p25_duplex.specs.Sides.{other_side}
-use Rattle.p25_duplex.specs.DuplexState.{StationState, DuplexState, station_at, with_station, delivered_from}
-use Rattle.p25_duplex.specs.StationRules.{after_offer, after_timeout, after_reopening, is_answer, heard_as}
+use Rattle.p25_duplex.specs.DuplexState.{StationState, DuplexState, station_at, with_station, link_between}
 
--- one more false pass; their number stays at 2^64 - 1 once it stands there
-unfoldable pub counted_when : Bool → DuplexState → DuplexState
-counted_when true d = record d { false_passes = min (d.false_passes + 1) (2 ^ 64 - 1) }
-counted_when false d = d
+-- a station after a call of its half that sends, which happens at the link of its own messages: the half after it, and the
+-- newest transmission of the station's direction
+abbrev pub after_sending : StationState → Link × StepKind → StationState × StepKind
+after_sending own (link, kind) = (record own { outbound = link.outbound; newest = link.packet_sent }, kind)
 
--- a step of a station that is no delivery, or in which nothing is heard
-abbrev pub quiet_step : Side → DuplexState → StationState × StepKind → DuplexState × DuplexStep
-quiet_step side d (station, kind) =
-    (with_station side station d, record { side = side; step = record { kind = kind; false_pass = false } })
+-- and of its half that receives, which happens at the link of the other's messages
+abbrev pub after_receiving : StationState → Link × StepKind → StationState × StepKind
+after_receiving own (link, kind) = (record own { inbound = link.inbound; newest = link.answer }, kind)
 
--- a step in which a station hears a packet
-abbrev pub heard_step : Side → DuplexState → Bool → StationState × StepKind → DuplexState × DuplexStep
-heard_step side d false_pass (station, kind) =
-    (counted_when false_pass (with_station side station d), record { side = side; step = record { kind = kind; false_pass = false_pass } })
+-- an answer is a packet of format 03 hex; every other is data
+abbrev pub is_answer : Packet → Bool
+is_answer packet = eqb (head_format (packet_head packet)) 3
+
+-- a station hears a packet: an answer by its half that sends, data by its half that receives
+abbrev pub heard_as : Bool → StationState → StationState → Packet → StationState × StepKind
+heard_as true own other packet = after_sending own (happens (link_between own other) (Answer_heard packet))
+heard_as false own other packet = after_receiving own (happens (link_between other own) (Data_heard packet))
+
+-- a step of a station, by what it was and whether it was a false pass
+abbrev pub station_told : Bool → StationState × StepKind → StationState × Step
+station_told false_pass (station, kind) = (station, record { kind = kind; false_pass = false_pass })
 
 -- what is carried comes to a station
-unfoldable pub carried_to : Side → DuplexState → Carried → DuplexState × DuplexStep
-carried_to to d (CarriedLost field) = quiet_step to d (station_at to d, Lost Packets field)
-carried_to to d Foreign = quiet_step to d (station_at to d, Ignored Packets)
-carried_to to d (Heard packet false_pass) = heard_step to d false_pass (heard_as (is_answer packet) (station_at to d) packet)
+abbrev pub carried_at : StationState → StationState → Carried → StationState × Step
+carried_at own other (CarriedLost field) = station_told false (own, Lost Packets field)
+carried_at own other Foreign = station_told false (own, Ignored Packets)
+carried_at own other (Heard packet false_pass) = station_told false_pass (heard_as (is_answer packet) own other packet)
 
 -- the newest transmission of the other station is delivered to a station, where there is one
-unfoldable pub delivered_to : Side → DuplexState → Option Packet → List ℕ → DuplexState × DuplexStep
-delivered_to to d None flips = quiet_step to d (station_at to d, Nothing Packets)
-delivered_to to d (Some packet) flips = carried_to to d (carried_of packet flips)
+abbrev pub delivered_at : StationState → StationState → Option Packet → List ℕ → StationState × Step
+delivered_at own other None flips = station_told false (own, Nothing Packets)
+delivered_at own other (Some packet) flips = carried_at own other (carried_of packet flips)
+
+-- the side at which an event happens: that which acts or hears
+abbrev pub side_of : DuplexEvent → Side
+side_of (Send side message) = side
+side_of (Timeout side) = side
+side_of (Reopen side) = side
+side_of (Deliver to flips) = to
+
+-- what an event makes of the station at which it happens, beside the other, and the step of that station
+abbrev pub station_step : StationState → StationState → DuplexEvent → StationState × Step
+station_step own other (Send side message) = station_told false (after_sending own (happens (link_between own other) (Offering message)))
+station_step own other (Timeout side) = station_told false (after_sending own (happens (link_between own other) Time_up))
+station_step own other (Reopen side) = station_told false (after_sending own (happens (link_between own other) Opening_again))
+station_step own other (Deliver to flips) = delivered_at own other other.newest flips
+
+-- a duplex world after the step of a station of it
+abbrev pub after_step : Side → DuplexState → StationState × Step → DuplexState × DuplexStep
+after_step side d (station, step) =
+    (record (with_station side station d) { false_passes = counted_when step.false_pass d.false_passes }, record { side = side; step = step })
 
 -- what an event makes of the duplex world, and its step
 unfoldable pub duplex_step : DuplexState → DuplexEvent → DuplexState × DuplexStep
-duplex_step d (Send side message) =
-    quiet_step side d (after_offer (station_at side d) message (offered (station_at side d).sender message))
-duplex_step d (Timeout side) = quiet_step side d (after_timeout (station_at side d) (timed_out (station_at side d).sender))
-duplex_step d (Reopen side) =
-    let t = station_at side d in
-    quiet_step side d (after_reopening t (length (delivered_from side d)) (is_opening t.sender.outstanding) (reopened t.sender))
-duplex_step d (Deliver to flips) = delivered_to to d (station_at (other_side to) d).newest flips
+duplex_step d event =
+    let side = side_of event in
+    after_step side d (station_step (station_at side d) (station_at (other_side side) d) event)

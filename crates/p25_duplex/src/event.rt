@@ -1,3 +1,5 @@
+ghost use Rattle.std.specs.Prelude.{◌≡◌};
+
 use crate::side::Side;
 use p25_messages::{Flips, Message};
 use p25_stations::Step;
@@ -18,6 +20,22 @@ pub enum DuplexEvent {
         /// The places of the inverted bits.
         flips: Flips,
     },
+}
+
+impl DuplexEvent {
+    ghost use Rattle.p25_duplex.specs.DuplexSteps.{side_of};
+
+    /// Answers the station at which it happens: that which acts or hears.
+    pub fn side(&self) -> Side
+        ensures { result ≡ side_of self.now }
+    {
+        match self {
+            DuplexEvent::Send(side, _) => *side,
+            DuplexEvent::Timeout(side) => *side,
+            DuplexEvent::Reopen(side) => *side,
+            DuplexEvent::Deliver { to, .. } => *to,
+        }
+    }
 }
 
 /// A step of the duplex world.

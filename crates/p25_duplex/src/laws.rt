@@ -1,35 +1,42 @@
-//! What every run of the duplex world without a false pass keeps, for the messages of each side. Each function makes no call of
-//! its own: its contract is the theorem.
+//! What every run of the duplex world keeps, and what every run without a false pass keeps for the messages of each side. No
+//! function here makes a call: its contract is the theorem.
 
-ghost use Rattle.std.specs.Prelude.{◌≡◌, List};
+ghost use Rattle.std.specs.Prelude.{◌≡◌, List, Some, IfSome};
+ghost use Rattle.p25_delivery.specs.Link.{Happening, first_link, link_run, sessions_of};
+ghost use Rattle.p25_delivery.specs.Clean.{IsCleanRun};
 ghost use Rattle.p25_delivery.specs.Orderly.{AreOrderly};
 ghost use Rattle.p25_delivery.specs.Facts.{LinkFacts};
 ghost use Rattle.p25_duplex.specs.declared.side.Side.{Side as side_type};
 ghost use Rattle.p25_duplex.specs.declared.event.DuplexEvent.{DuplexEvent as event_type};
-ghost use Rattle.p25_duplex.specs.DuplexState.{first_duplex};
-ghost use Rattle.p25_duplex.specs.DuplexRuns.{AreDuplexEvents, IsCleanDuplex, duplex_run, sessions_at, world_at};
-ghost use Rattle.p25_duplex.specs.SideLinks.{IsCarriedOf, link_at};
+ghost use Rattle.p25_duplex.specs.DuplexState.{first_duplex, station_at, link_at};
+ghost use Rattle.p25_duplex.specs.DuplexRuns.{AreDuplexEvents, IsCleanDuplex, duplex_run, data_in, answer_in, link_after};
 
-/// Answers nothing: its clause says that after every list of events without a false pass each session of each side's messages
-/// is orderly: what was delivered is the beginning of what was sent, each message once, every message that was acknowledged
-/// was delivered, and one at most was delivered that was not acknowledged.
+/// **Theorem.** Its clause says that after every list of events without a false pass each session of each side's messages is
+/// orderly: what was delivered is the beginning of what was sent, each message once, every message that was acknowledged was
+/// delivered, and one at most was delivered that was not acknowledged.
 pub fn both_directions_are_orderly()
     ensures { (events : List event_type) (side : side_type) → AreDuplexEvents events → IsCleanDuplex events →
-        AreOrderly (sessions_at side (duplex_run first_duplex events)) }
+        AreOrderly (sessions_of (link_at side (duplex_run first_duplex events))) }
 {}
 
-/// Answers nothing: its clauses say which facts the messages of each side keep while no step was a false pass. They make a
-/// world of the side's sender and the other's receiver, with what each direction carries of them: the newest transmission of
-/// the side while that is data, and that of the other while it is an answer. This world is that of a link, and the link keeps
-/// the facts that `LinkFacts` names.
+/// **Theorem.** Its clauses say which facts the messages of each side keep while no step was a false pass. Their link, with the
+/// newest data that the side's direction carried and the newest answer that the other's carried, is one to which a clean run
+/// of a link comes, so whatever p25_delivery says of such runs holds for it; and it keeps the facts that `LinkFacts` names.
+/// Where a direction carries data, or an answer, that is the newest of the link.
 pub fn duplex_facts()
-    ensures link { (events : List event_type) (side : side_type) → AreDuplexEvents events → IsCleanDuplex events →
-        IsCarriedOf (link_at side events) (world_at side (duplex_run first_duplex events)) }
+    ensures clean { (events : List event_type) (side : side_type) → AreDuplexEvents events → IsCleanDuplex events →
+        (happenings : List Happening) × IsCleanRun first_link happenings × (link_run first_link happenings ≡ link_after side events) }
     ensures facts { (events : List event_type) (side : side_type) → AreDuplexEvents events → IsCleanDuplex events →
-        LinkFacts (link_at side events) }
+        LinkFacts (link_after side events) }
+    ensures newest_data { (events : List event_type) (side : side_type) →
+        IfSome (data_in (link_at side (duplex_run first_duplex events)).packet_sent)
+        (λ packet. (link_after side events).packet_sent ≡ Some packet) }
+    ensures newest_answer { (events : List event_type) (side : side_type) →
+        IfSome (answer_in (link_at side (duplex_run first_duplex events)).answer)
+        (λ packet. (link_after side events).answer ≡ Some packet) }
 {}
 
-/// Answers nothing: its clauses say that no step of a run was a false pass exactly where none is counted.
+/// **Theorem.** Its clauses say that no step of a run was a false pass exactly where none is counted.
 pub fn false_passes_are_counted()
     ensures clean { (events : List event_type) → (duplex_run first_duplex events).false_passes ≡ 0 → IsCleanDuplex events }
     ensures none { (events : List event_type) → IsCleanDuplex events → (duplex_run first_duplex events).false_passes ≡ 0 }

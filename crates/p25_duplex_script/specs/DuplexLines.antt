@@ -5,7 +5,7 @@ use Rattle.std.specs.Str.{bytes_eq}
 use Rattle.p25_line.specs.Words.{words_or_fault}
 use Rattle.p25_line.specs.declared.fault.LineFault.{LineFault}
 use Rattle.p25_line.specs.declared.fault.LineFault.TheVariants.{Form, Key, Value, Kind as WrongKind}
-use Rattle.p25_stations.specs.Sound.{IsMessage}
+use Rattle.p25_delivery.specs.SoundHalves.{IsMessage}
 use Rattle.p25_script.specs.Script.{event_word, event_named}
 use Rattle.p25_script.specs.Values.{ArePlaces, message_in, message_text, places_in, places_text}
 use Rattle.p25_script.specs.declared.names.EventKind.{EventKind}

@@ -1,1 +1,2 @@
 pub mod DuplexLines
+pub mod DuplexTexts

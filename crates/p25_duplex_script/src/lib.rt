@@ -1,15 +1,20 @@
-//! Lines of scripts in which both stations send, read as events.
+//! Scripts in which both stations send: lines read as events, and the texts of steps.
 //!
 //! A line is a side, `a` or `b`, with what it does, or `deliver` with a direction, `ab` or `ba`, and the places of the bits that
 //! come inverted. `duplex_event_of line` is what a line is read as, `duplex_text event` the line of an event, and each undoes the
-//! other.
+//! other. The text of a step is `duplex_step_text_of step`, and `duplex_closing_of` tells of each side at the end of a run.
 //!
 //! ```text
 //! let event = read_duplex_event(b"a send 6162")?;
 //! let step = world.step(&event)?;
+//! let mut line = Line::new();
+//! duplex_step_text(&step, &mut line);
+//! duplex_closing(&world, Side::A, &mut line);
 //! ```
 #![tactic(auto)]
 
 mod read;
+mod texts;
 
 pub use read::read_duplex_event;
+pub use texts::{duplex_closing, duplex_step_text};

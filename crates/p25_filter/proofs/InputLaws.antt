@@ -64,21 +64,21 @@ module _ {K : Type 0} (written : K → Option (List ℕ)) where
   stopped-after first second third page kept xs ys a b (Refused (Ended ending)) moved stopped = IsEnded-after written first second third page kept xs ys a b ending moved stopped
   stopped-after first second third page kept xs ys a b (Refused Memory) moved stopped = IsPaused-after written first second third page kept xs ys a b moved stopped
 
-  -- the same of an answer
+  -- where an answer is a stop, it is one from before on
   pub all_stopped-after : (first second third : K) (page kept xs ys : List ℕ) (a b : Future) (result : Result (Unit {0}) Stop)
       → Moved written first page a xs second kept b → IfErr result (λ stop. IsStopped written second kept b ys stop third)
       → IfErr result (λ stop. IsStopped written first page a (xs ++ ys) stop third)
   all_stopped-after first second third page kept xs ys a b (Ok done) moved stopped = tt
   all_stopped-after first second third page kept xs ys a b (Err stop) moved stopped = stopped-after first second third page kept xs ys a b stop moved stopped
 
-  -- a move behind a move, of an answer
+  -- a move after a move, of an answer
   pub all_moved-after : (first second third : K) (page kept last xs ys : List ℕ) (a b c : Future) (result : Result (Unit {0}) Stop)
       → Moved written first page a xs second kept b → OnOk result (Moved written second kept b ys third last c)
       → OnOk result (Moved written first page a (xs ++ ys) third last c)
   all_moved-after first second third page kept last xs ys a b c (Ok done) moved next = Moved-trans written first second third page kept last a b c xs ys moved next
   all_moved-after first second third page kept last xs ys a b c (Err stop) moved next = tt
 
-  -- the same from an empty page
+  -- a stop from a page that is empty
   pub on-blank_page : (first last : K) (page octets : List ℕ) (before : Future) (stop : Stop) → page ≡ [] → IsStopped written first page before octets stop last → IsStopped written first [] before octets stop last
   on-blank_page first last page octets before stop empty stopped = subst (λ (zs : List ℕ). IsStopped written first zs before octets stop last) empty stopped
 

@@ -3,5 +3,5 @@ pub mod InputLaws
 pub mod RunsLaws
 pub mod SameLaws
 pub mod LinesLaws
-pub mod LineWorksLaws
+pub mod LineFiltersLaws
 pub mod RulesLaws

@@ -1,4 +1,4 @@
--- The lines behind one octet more, and texts behind one more: each by one unfolding or by induction on the texts.
+-- The lines after one octet more, and texts after one more: each by one unfolding or by induction on the texts.
 use Rattle.std.proofs.Common.{◌≡◌, ◌≢◌, ℕ, zero, suc, ◌<◌, Bool, true, false, cond, nat_eq, nat_lt, List, [], ◌∷◌, ◌++◌, refl, subst, arith}
 use Rattle.std.specs.Prelude.{Contains}
 use Rattle.std.proofs.lemmas.Bool.Decides.{nat_tests}
@@ -16,7 +16,7 @@ test_false false x y same = refl
 pub is_more : (m n : ℕ) → m < n → nat_lt m n ≡ true
 is_more m n more = grind (arith, nat_tests)
 
--- the lines behind one octet more
+-- the lines after one octet more
 pub lines_in-end : (ended : Bool) (line more : List ℕ) → lines_in ended line (10 ∷ more) ≡ line ∷ lines_in ended [] more
 unfolding lines_in
 lines_in-end ended line more = refl
@@ -35,7 +35,7 @@ Contains-later y xs x (k, below, is) = (suc k, omega (arith, below), is)
 pub Contains-none : {X : Type 0} (x : X) → Contains [] x → ⊥
 Contains-none x (k, below, is) = omega (arith, below)
 
--- texts behind one more are those of the texts
+-- texts after one more are those of the texts
 pub each_behind-in : (text : List ℕ) (texts : List (List ℕ)) (more : List ℕ) → Contains texts more → Contains (each_behind text texts) (text ++ more)
 unfolding each_behind
 each_behind-in text [] more is = absurd (Contains-none more is)

@@ -6,10 +6,10 @@ use Rattle.p25_filter.specs.declared.ending.Ending.{Ending}
 use Rattle.p25_filter.specs.declared.ending.Ending.TheVariants.{BadLine}
 use Rattle.p25_filter.specs.Lines.{closing_by, each_behind, lines_ending, lines_in, read_of, refusal_in, texts_before}
 use Rattle.p25_filter.specs.LineRules.{answer_from, LineRules, lines_before, lines_refusal, lines_written, machine_behind, rules_by, texts_of}
-use Rattle.p25_filter.specs.LineWorks.{first_line, line_future}
-use Rattle.p25_filter.proofs.LineWorksLaws.{lines_before-err, lines_before-nil, lines_before-ok, lines_refusal-err, lines_refusal-nil, lines_refusal-ok, lines_written-err, lines_written-nil, lines_written-ok}
+use Rattle.p25_filter.specs.LineFilters.{first_line, line_future}
+use Rattle.p25_filter.proofs.LineFiltersLaws.{lines_before-err, lines_before-nil, lines_before-ok, lines_refusal-err, lines_refusal-nil, lines_refusal-ok, lines_written-err, lines_written-nil, lines_written-ok}
 
--- texts behind an empty one are those texts
+-- texts after an empty one are those texts
 pub each_behind-none : (texts : List (List ℕ)) → each_behind [] texts ≡ texts
 unfolding each_behind
 each_behind-none [] = refl
@@ -124,7 +124,7 @@ module _ {E : Type 0} (read : List ℕ → Result E LineFault) where
             ∙ before-nil machine
             ∙ ap (λ (es : List E). texts_before (texts_of step machine es)) (sym (read_of-err line lines fault is))
 
-    -- what the work on lines writes from the first octet on, how it ends, and behind which texts memory may be wanting
+    -- what the work on lines writes from the first octet on, how it ends, and after which texts memory may be wanting
     pub first_line-writes : (machine : M) (ended : Bool) (octets : List ℕ) → (line_future rules (first_line machine)).writes ended octets
         ≡ all_texts ended (refusal_in read 1 (lines_in ended [] octets)) machine (read_of read (lines_in ended [] octets))
     unfolding line_future

@@ -10,12 +10,12 @@ use Rattle.p25_io.proofs.OctetsLaws.{Taken-trans, Taken-told, Taken-ended, Appen
 use Rattle.p25_filter.specs.declared.ending.Stop.{Stop}
 use Rattle.p25_filter.specs.declared.ending.Stop.TheVariants.{Fault, Refused}
 use Rattle.p25_filter.specs.declared.ending.Refusal.TheVariants.{Ended, Memory as NoMemory}
-use Rattle.p25_filter.specs.declared.ending.WorkEnd.TheVariants.{ReadFault, TooLong}
+use Rattle.p25_filter.specs.declared.ending.FilterEnd.TheVariants.{ReadFault, TooLong}
 use Rattle.p25_filter.specs.Endings.{end_of}
 use Rattle.p25_filter.specs.Futures.{Future, IsIdle, Moved, IsStopped, EndsBy}
 use Rattle.p25_filter.proofs.FuturesLaws.{Moved-trans}
 use Rattle.p25_filter.proofs.InputLaws.{stopped-after, on-blank_page}
-use Rattle.p25_filter.specs.Runs.{input_most, read_most, all_written, Worked}
+use Rattle.p25_filter.specs.Runs.{input_most, read_most, all_written, Filtered}
 
 -- the first octets of an input and so many more
 pub first-take : (octets more : List ℕ) → length octets ≤ input_most → take input_most (octets ++ more) ≡ octets ++ take (input_most - length octets) more
@@ -74,7 +74,7 @@ module _ {K : Type 0} (written : K → Option (List ℕ)) (first last : K) (futu
       ]
 
   -- a read failed
-  pub read-failed : (told left : Option (List ℕ)) → length octets ≤ input_most → Taken told octets left → IsIdle false now → Worked told left (written first) (written last) future ReadFault
+  pub read-failed : (told left : Option (List ℕ)) → length octets ≤ input_most → Taken told octets left → IsIdle false now → Filtered told left (written first) (written last) future ReadFault
   read-failed told left few taken idle =
       let decided = decided-written idle in
       record {
@@ -87,7 +87,7 @@ module _ {K : Type 0} (written : K → Option (List ℕ)) (first last : K) (futu
   -- the input ended
   pub ends-final : (told left : Option (List ℕ)) (stop : Stop) (third : K) → length octets ≤ input_most → Taken told octets left
       → ((rest : List ℕ) → left ≡ Some rest → rest ≡ []) → IfSome told (λ input. input ≡ octets) → EndsBy written last now stop third
-      → Worked told left (written first) (written third) future (end_of stop)
+      → Filtered told left (written first) (written third) future (end_of stop)
   unfolding EndsBy
   ends-final told left Fault third few taken none all cut =
       record {
@@ -137,7 +137,7 @@ module _ {K : Type 0} (written : K → Option (List ℕ)) (first last : K) (futu
 -- the work stopped within the octets of a read
 pub stops-final : {K : Type 0} (written : K → Option (List ℕ)) (first third : K) (future : Future) (fed tail : List ℕ) (told left : Option (List ℕ)) (stop : Stop)
     → length fed ≤ input_most → length (fed ++ tail) ≤ input_most + read_most → Taken told (fed ++ tail) left → IsStopped written first [] future fed stop third
-    → Worked told left (written first) (written third) future (end_of stop)
+    → Filtered told left (written first) (written third) future (end_of stop)
 unfolding IsStopped
 stops-final written first third future fed tail told left Fault few most taken cut =
     record {
@@ -206,7 +206,7 @@ nothing-stopped written first third future fed more (Refused (Ended ending)) few
           absurd (omega (arith, ap length none, long))
     ]
 
--- the same at the end of the input
+-- at the end of the input, where nothing more is written
 pub nothing-ended : {K : Type 0} (written : K → Option (List ℕ)) (first third : K) (now : Future) (stop : Stop) → EndsBy written first now stop third → now.writes true [] ≡ [] → third ≡ first
 unfolding EndsBy
 nothing-ended written first third now Fault cut none = absurd (omega (arith, ap length none, cut.1))
@@ -222,7 +222,7 @@ nothing-ended written first third now (Refused (Ended ending)) ended none = elim
 -- the input is too long: its first octets were fed
 pub too-long : {K : Type 0} (written : K → Option (List ℕ)) (first third : K) (future now : Future) (fed tail : List ℕ) (told left : Option (List ℕ))
     → length fed ≡ input_most → 0 < length tail → length tail ≤ read_most → Taken told (fed ++ tail) left → Moved written first [] future fed third [] now → IsIdle false now
-    → Worked told left (written first) (written third) future TooLong
+    → Filtered told left (written first) (written third) future TooLong
 too-long written first third future now fed tail told left full some few taken moved idle =
     let decided = decided-written written first third future now fed moved idle in
     let none : input_most - length fed ≡ 0 = omega arith in
@@ -300,7 +300,7 @@ module _ {K : Type 0} (written : K → Option (List ℕ)) (first second third : 
     fed-within fed = omega (arith, length-append octets (take fed (take fits buf)), fed-few buf fits fed)
 
     -- the work stopped within a read
-    pub stops-in_read : (page : List ℕ) (fed : ℕ) (stop : Stop) → page ≡ [] → IsStopped written second page now (take fed (take fits buf)) stop third → Worked told left (written first) (written third) future (end_of stop)
+    pub stops-in_read : (page : List ℕ) (fed : ℕ) (stop : Stop) → page ≡ [] → IsStopped written second page now (take fed (take fits buf)) stop third → Filtered told left (written first) (written third) future (end_of stop)
     stops-in_read page fed stop empty stopped =
         let part = take fed (take fits buf) in
         let tail = drop fed (take fits buf) ++ take (count - fits) (drop fits buf) in
@@ -325,7 +325,7 @@ module _ {K : Type 0} (written : K → Option (List ℕ)) (first second third : 
       read-moved = Moved-trans written first second third [] [] [] future now last octets (take fits buf) moved (subst (λ (zs : List ℕ). Moved written second zs now (take fits buf) third [] last) empty fed_moved)
 
       -- and the input was too long
-      pub too-long-read : length octets + fits ≡ input_most → fits < count → IsIdle false last → Worked told left (written first) (written third) future TooLong
+      pub too-long-read : length octets + fits ≡ input_most → fits < count → IsIdle false last → Filtered told left (written first) (written third) future TooLong
       too-long-read full more idle =
           let tail = take (count - fits) (drop fits buf) in
           let whole : octets ++ take count buf ≡ (octets ++ take fits buf) ++ tail = ap (λ (zs : List ℕ). octets ++ zs) (take-fits) ∙ sym (append_assoc octets (take fits buf) tail) in

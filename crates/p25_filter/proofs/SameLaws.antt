@@ -1,12 +1,12 @@
--- What is said of the work of one future holds of that of another that writes and ends alike, and behind whose same texts memory may
+-- What is said of the work of one future holds of that of another that writes and ends alike, and after whose same texts memory may
 -- be wanting: by cases on the end.
 use Rattle.std.proofs.Common.{◌≡◌, ℕ, Bool, true, false, cond, nat_lt, List, ◌++◌, length, take, Option, sym, subst, ◌∙◌}
 use Rattle.std.specs.Prelude.{Contains}
 use Rattle.p25_io.proofs.OctetsLaws.{Appended-same, AppendedFront-same}
-use Rattle.p25_filter.specs.declared.ending.WorkEnd.{WorkEnd}
-use Rattle.p25_filter.specs.declared.ending.WorkEnd.TheVariants.{Ended as WorkEnded, ReadFault, WriteFault, TooLong, Memory}
+use Rattle.p25_filter.specs.declared.ending.FilterEnd.{FilterEnd}
+use Rattle.p25_filter.specs.declared.ending.FilterEnd.TheVariants.{Ended as FilterEnded, ReadFault, WriteFault, TooLong, Memory}
 use Rattle.p25_filter.specs.Futures.{Future}
-use Rattle.p25_filter.specs.Runs.{input_most, all_written, Worked}
+use Rattle.p25_filter.specs.Runs.{input_most, all_written, Filtered}
 
 -- all that is to be written
 pub all_written-same : (f g : Future) → ((is : Bool) (octets : List ℕ) → f.writes is octets ≡ g.writes is octets) → (input : List ℕ) → all_written f input ≡ all_written g input
@@ -16,10 +16,10 @@ all_written-same f g writes input = by_length (nat_lt input_most (length input))
     by_length true = writes false (take input_most input)
     by_length false = writes true input
 
-pub Worked-same : (told left first last : Option (List ℕ)) (f g : Future) (end : WorkEnd)
+pub Filtered-same : (told left first last : Option (List ℕ)) (f g : Future) (end : FilterEnd)
     → ((is : Bool) (octets : List ℕ) → f.writes is octets ≡ g.writes is octets) → ((is : Bool) (octets : List ℕ) → f.ends is octets ≡ g.ends is octets)
-    → ((is : Bool) (octets : List ℕ) → f.pauses is octets ≡ g.pauses is octets) → Worked told left first last f end → Worked told left first last g end
-Worked-same told left first last f g (WorkEnded ending) writes ends pauses worked =
+    → ((is : Bool) (octets : List ℕ) → f.pauses is octets ≡ g.pauses is octets) → Filtered told left first last f end → Filtered told left first last g end
+Filtered-same told left first last f g (FilterEnded ending) writes ends pauses worked =
     record {
       octets = worked.octets;
       taken = worked.taken;
@@ -32,7 +32,7 @@ Worked-same told left first last f g (WorkEnded ending) writes ends pauses worke
         wrote = Appended-same (writes worked.meets.ended (take input_most worked.octets)) worked.meets.wrote;
       };
     }
-Worked-same told left first last f g ReadFault writes ends pauses worked =
+Filtered-same told left first last f g ReadFault writes ends pauses worked =
     record {
       octets = worked.octets;
       taken = worked.taken;
@@ -43,14 +43,14 @@ Worked-same told left first last f g ReadFault writes ends pauses worked =
         wrote = Appended-same (writes false worked.octets) worked.meets.wrote;
       };
     }
-Worked-same told left first last f g WriteFault writes ends pauses worked =
+Filtered-same told left first last f g WriteFault writes ends pauses worked =
     record {
       octets = worked.octets;
       taken = worked.taken;
       few = worked.few;
       meets = record { front = λ rest is. AppendedFront-same (all_written-same f g writes (worked.octets ++ rest)) (worked.meets.front rest is) };
     }
-Worked-same told left first last f g TooLong writes ends pauses worked =
+Filtered-same told left first last f g TooLong writes ends pauses worked =
     record {
       octets = worked.octets;
       taken = worked.taken;
@@ -61,7 +61,7 @@ Worked-same told left first last f g TooLong writes ends pauses worked =
         wrote = Appended-same (writes false (take input_most worked.octets)) worked.meets.wrote;
       };
     }
-Worked-same told left first last f g Memory writes ends pauses worked =
+Filtered-same told left first last f g Memory writes ends pauses worked =
     record {
       octets = worked.octets;
       taken = worked.taken;

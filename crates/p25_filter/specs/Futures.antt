@@ -8,13 +8,13 @@ use Rattle.p25_filter.specs.declared.ending.Stop.{Stop}
 use Rattle.p25_filter.specs.declared.ending.Stop.TheVariants.{Fault, Refused}
 
 -- for each list of octets that may come, the last ones of the input or not: what is written for them, how the call ends by
--- them, if it does, and the texts behind which memory may be wanting
+-- them, if it does, and the texts after which memory may be wanting
 pub record Future : Type 0 where
   pub writes : Bool → List ℕ → List ℕ
   pub ends : Bool → List ℕ → Option Ending
   pub pauses : Bool → List ℕ → List (List ℕ)
 
--- some octets came and a text was given out; each text behind which memory may be wanting now is, with the one given out
+-- some octets came and a text was given out; each text after which memory may be wanting now is, with the one given out
 -- before it, one of before
 pub record Progress (before : Future) (octets text : List ℕ) (now : Future) : Type 0 where
   pub writes : (ended : Bool) (more : List ℕ) → before.writes ended (octets ++ more) ≡ text ++ now.writes ended more
@@ -52,7 +52,7 @@ unfoldable pub IsIdle : Bool → Future → Type 0
 IsIdle true now = (ended : Bool) (more : List ℕ) → now.writes ended more ≡ []
 IsIdle false now = (now.writes false [] ≡ []) × (now.ends false [] ≡ None)
 
--- behind what was gathered, a text behind which memory may be wanting makes this whole text
+-- after what was gathered, a text after which memory may be wanting makes this whole text
 pub record HasPause (future : Future) (gathered : List ℕ) (ended : Bool) (octets text : List ℕ) : Type 0 where
   pub pause : List ℕ
   pub is : Contains (future.pauses ended octets) pause
@@ -81,7 +81,7 @@ pub record IsEnded {K : Type 0} (written : K → Option (List ℕ)) (first : K) 
   pub ends : (ended : Bool) (more : List ℕ) → before.ends ended (octets ++ more) ≡ Some ending
   pub touched : (last ≡ first) ⊎ ((ended : Bool) (more : List ℕ) → 0 < length (gathered ++ before.writes ended (octets ++ more)))
 
--- memory was wanting: what is written is, whatever octets come later, a text behind which it may be, and the beginning of all
+-- memory was wanting: what is written is, whatever octets come later, a text after which it may be, and the beginning of all
 -- that was to be written
 pub record IsPaused {K : Type 0} (written : K → Option (List ℕ)) (first : K) (gathered : List ℕ) (before : Future) (octets : List ℕ) (last : K) : Type 0 where
   pub text : List ℕ
@@ -90,7 +90,7 @@ pub record IsPaused {K : Type 0} (written : K → Option (List ℕ)) (first : K)
   pub begins : (ended : Bool) (more : List ℕ) → (rest : List ℕ) × (gathered ++ before.writes ended (octets ++ more) ≡ text ++ rest)
   pub touched : (last ≡ first) ⊎ (0 < length text)
 
--- the same where the input ended
+-- memory was wanting after the input ended: what was written is a text after which it may be
 pub record IsPausedAtEnd {K : Type 0} (written : K → Option (List ℕ)) (first : K) (before : Future) (last : K) : Type 0 where
   pub text : List ℕ
   pub appended : Appended (written first) text (written last)

@@ -4,4 +4,4 @@ pub mod Endings
 pub mod Runs
 pub mod Lines
 pub mod LineRules
-pub mod LineWorks
+pub mod LineFilters

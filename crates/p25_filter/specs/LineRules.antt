@@ -7,14 +7,14 @@ use Rattle.p25_filter.specs.Lines.{each_behind}
 use Rattle.p25_filter.specs.declared.line_machine.LineRefusal.{LineRefusal}
 use Rattle.p25_filter.specs.declared.line_machine.LineRefusal.TheVariants.{Fault, Memory}
 
--- what a machine over lines answers to a line: the text of the line and the machine behind it, or the fault of the line; what
+-- what a machine over lines answers to a line: the text of the line and the machine after it, or the fault of the line; what
 -- it writes at the end of the input; and whether memory may be wanting at a line
 pub record LineRules (M : Type 0) : Type 0 where
   pub answer : M → List ℕ → Result (List ℕ × M) LineFault
   pub closing : M → List ℕ
   pub wants : Bool
 
--- what is written for lines: the texts up to the first line that is refused, and behind all of them, where the input has ended
+-- what is written for lines: the texts up to the first line that is refused, and after all of them, where the input has ended
 -- there, what is written at the end
 unfoldable pub lines_written : {M : Type 0} → LineRules M → Bool → M → List (List ℕ) → List ℕ
 lines_written rules ended machine [] = cond ended (rules.closing machine) []
@@ -54,7 +54,7 @@ abbrev pub rules_by : {E M : Type 0} → (List ℕ → Result E LineFault) → (
 rules_by read step closing wants =
     record { answer = λ machine line. answer_from step machine (read line); closing = closing; wants = wants }
 
--- the texts of steps one after the other, and the machine behind them
+-- the texts of steps one after the other, and the machine after them
 unfoldable pub texts_of : {E M : Type 0} → (M → E → List ℕ × M) → M → List E → List (List ℕ)
 texts_of step machine [] = []
 texts_of step machine (event ∷ events) = (step machine event).0 ∷ texts_of step (step machine event).1 events

@@ -4,7 +4,7 @@ use Rattle.p25_line.specs.declared.fault.LineFault.{LineFault}
 use Rattle.p25_filter.specs.declared.ending.Ending.{Ending}
 use Rattle.p25_filter.specs.declared.ending.Ending.TheVariants.{Done, BadLine}
 
--- the lines of some octets behind those of a line that has begun: each ends with an LF, and at the end of the input also the
+-- the lines of some octets after those of a line that has begun: each ends with an LF, and at the end of the input also the
 -- last octets are a line, where there are any
 unfoldable pub lines_in : Bool → List ℕ → List ℕ → List (List ℕ)
 lines_in ended line [] = cond (ended && nat_lt 0 (length line)) (line ∷ []) []
@@ -30,7 +30,7 @@ abbrev pub closing_by : Bool → Option Ending → List ℕ → List ℕ
 closing_by ended (Some refusal) text = []
 closing_by ended None text = cond ended text []
 
--- texts, each behind one more
+-- texts, each after one more
 unfoldable pub each_behind : List ℕ → List (List ℕ) → List (List ℕ)
 each_behind text texts = map (λ more. text ++ more) texts
 

@@ -24,7 +24,7 @@ pub enum Refusal {
 
 /// How the work on an input ended.
 #[derive(Clone, Copy, Debug, PartialEq, Eq)]
-pub enum WorkEnd {
+pub enum FilterEnd {
     /// The input was read to its end or to a refusal, and all before that was written.
     Ended(Ending),
     /// The source failed.
@@ -51,13 +51,13 @@ impl Stop {
     ghost use Rattle.p25_filter.specs.Endings.{end_of};
 
     // Answers how the work ended.
-    pub(crate) fn end(self) -> WorkEnd
+    pub(crate) fn end(self) -> FilterEnd
         ensures { result ≡ end_of self }
     {
         match self {
-            Stop::Fault => WorkEnd::WriteFault,
-            Stop::Refused(Refusal::Ended(ending)) => WorkEnd::Ended(ending),
-            Stop::Refused(Refusal::Memory) => WorkEnd::Memory,
+            Stop::Fault => FilterEnd::WriteFault,
+            Stop::Refused(Refusal::Ended(ending)) => FilterEnd::Ended(ending),
+            Stop::Refused(Refusal::Memory) => FilterEnd::Memory,
         }
     }
 }

@@ -5,18 +5,18 @@ ghost use Rattle.p25_io.specs.Faults.{Rose};
 ghost use Rattle.p25_io.specs.Octets.{Appended, AppendedFront};
 ghost use Rattle.p25_filter.specs.Endings.{end_of};
 ghost use Rattle.p25_filter.specs.Futures.{EndsBy, IsIdle, IsStopped, Moved};
-ghost use Rattle.p25_filter.specs.Runs.{Worked, all_written};
+ghost use Rattle.p25_filter.specs.Runs.{Filtered, all_written};
 
-use super::ending::{Refusal, Stop, WorkEnd};
+use super::ending::{FilterEnd, Refusal, Stop};
+use super::filter::Filter;
 use super::page::{flush, gather};
-use super::worker::Worker;
 use p25_io::{Sink, Source};
 use p25_line::Line;
 
 // The most octets of an input.
 const INPUT_MOST: usize = 16_777_216;
 
-// Writes the page, behind which there is no further piece.
+// Writes the page, after which there is no further piece.
 fn refused<K: Sink>(refusal: Refusal, page: &mut Line, sink: &mut K) -> Stop
     ensures refused { result ≡ Stop.Refused refusal → Appended (K.written sink.old) page.old (K.written sink.new) }
     ensures fault { result ≡ Stop.Fault
@@ -32,23 +32,23 @@ fn refused<K: Sink>(refusal: Refusal, page: &mut Line, sink: &mut K) -> Stop
 }
 
 // Gathers all pieces that the command has to give.
-fn drain<W: Worker, K: Sink>(
-    worker: &mut W,
+fn drain<W: Filter, K: Sink>(
+    filter: &mut W,
     page: &mut Line,
     piece: &mut Line,
     sink: &mut K,
 ) -> Result<(), Stop>
-    ensures moved { OnOk result (Moved K.written sink.old page.old (W.future worker.old) [] sink.new page.new (W.future worker.new)) }
-    ensures drained { OnOk result (W.IsDrained worker.new) }
-    ensures idle { OnOk result (IsIdle (W.is_finished worker.new) (W.future worker.new)) }
-    ensures stopped { IfErr result (λ stop. IsStopped K.written sink.old page.old (W.future worker.old) [] stop sink.new) }
-    ensures same { W.is_finished worker.new ≡ W.is_finished worker.old }
-    ensures size { W.size worker.new ≤ W.size worker.old }
+    ensures moved { OnOk result (Moved K.written sink.old page.old (W.future filter.old) [] sink.new page.new (W.future filter.new)) }
+    ensures drained { OnOk result (W.IsDrained filter.new) }
+    ensures idle { OnOk result (IsIdle (W.is_finished filter.new) (W.future filter.new)) }
+    ensures stopped { IfErr result (λ stop. IsStopped K.written sink.old page.old (W.future filter.old) [] stop sink.new) }
+    ensures same { W.is_finished filter.new ≡ W.is_finished filter.old }
+    ensures size { W.size filter.new ≤ W.size filter.old }
     ensures later { K.faults sink.old ≤ K.faults sink.new }
     ensures cause { IfErr result (λ stop. stop ≡ Stop.Fault → Rose (K.faults sink.old) (K.faults sink.new)) }
 {
     loop {
-        match worker.next(piece) {
+        match filter.next(piece) {
             Ok(true) => {
                 let Ok(()) = gather(page, piece, sink) else {
                     return Err(Stop::Fault);
@@ -61,31 +61,31 @@ fn drain<W: Worker, K: Sink>(
 }
 
 // Hands octets to the command, and writes all that it gives for them.
-fn feed<W: Worker, K: Sink>(
-    worker: &mut W,
+fn feed<W: Filter, K: Sink>(
+    filter: &mut W,
     octets: &[u8],
     page: &mut Line,
     piece: &mut Line,
     sink: &mut K,
 ) -> Result<(), Stop>
-    requires drained { W.IsDrained worker.old }
-    requires idle { IsIdle false (W.future worker.old) }
-    requires going { W.is_finished worker.old ≡ false }
-    requires few { W.size worker.old + 8 * length octets.now < 2 ^ 28 }
-    ensures moved { OnOk result (Moved K.written sink.old page.old (W.future worker.old) octets.now sink.new [] (W.future worker.new)) }
+    requires drained { W.IsDrained filter.old }
+    requires idle { IsIdle false (W.future filter.old) }
+    requires going { W.is_finished filter.old ≡ false }
+    requires few { W.size filter.old + 8 * length octets.now < 2 ^ 28 }
+    ensures moved { OnOk result (Moved K.written sink.old page.old (W.future filter.old) octets.now sink.new [] (W.future filter.new)) }
     ensures empty { OnOk result (page.new ≡ []) }
-    ensures drained { OnOk result (W.IsDrained worker.new) }
-    ensures idle { OnOk result (IsIdle false (W.future worker.new)) }
-    ensures stopped { IfErr result (λ stop. (count : ℕ) × IsStopped K.written sink.old page.old (W.future worker.old) (take count octets.now) stop sink.new) }
-    ensures going { W.is_finished worker.new ≡ false }
-    ensures size { W.size worker.new ≤ W.size worker.old + 8 * length octets.now }
+    ensures drained { OnOk result (W.IsDrained filter.new) }
+    ensures idle { OnOk result (IsIdle false (W.future filter.new)) }
+    ensures stopped { IfErr result (λ stop. (count : ℕ) × IsStopped K.written sink.old page.old (W.future filter.old) (take count octets.now) stop sink.new) }
+    ensures going { W.is_finished filter.new ≡ false }
+    ensures size { W.size filter.new ≤ W.size filter.old + 8 * length octets.now }
     ensures later { K.faults sink.old ≤ K.faults sink.new }
     ensures cause { IfErr result (λ stop. stop ≡ Stop.Fault → Rose (K.faults sink.old) (K.faults sink.new)) }
 {
     let mut done = 0;
     while done < octets.len() {
-        done += worker.push_some(&octets[done..]);
-        match drain(worker, page, piece, sink) {
+        done += filter.push_some(&octets[done..]);
+        match drain(filter, page, piece, sink) {
             Ok(()) => {}
             Err(stop) => return Err(stop),
         }
@@ -97,36 +97,40 @@ fn feed<W: Worker, K: Sink>(
 }
 
 // Tells the command that the input has ended, and writes all that it gives.
-fn end<W: Worker, K: Sink>(worker: &mut W, page: &mut Line, piece: &mut Line, sink: &mut K) -> Stop
-    requires drained { W.IsDrained worker.old }
-    requires going { W.is_finished worker.old ≡ false }
-    requires few { W.size worker.old < 2 ^ 28 }
+fn end<W: Filter, K: Sink>(filter: &mut W, page: &mut Line, piece: &mut Line, sink: &mut K) -> Stop
+    requires drained { W.IsDrained filter.old }
+    requires going { W.is_finished filter.old ≡ false }
+    requires few { W.size filter.old < 2 ^ 28 }
     requires empty { page.old ≡ [] }
-    ensures ended { EndsBy K.written sink.old (W.future worker.old) result sink.new }
+    ensures ended { EndsBy K.written sink.old (W.future filter.old) result sink.new }
     ensures later { K.faults sink.old ≤ K.faults sink.new }
     ensures cause { result ≡ Stop.Fault → Rose (K.faults sink.old) (K.faults sink.new) }
 {
-    worker.finish();
-    if let Err(stop) = drain(worker, page, piece, sink) {
+    filter.finish();
+    if let Err(stop) = drain(filter, page, piece, sink) {
         return stop;
     }
-    refused(Refusal::Ended(worker.ending()), page, sink)
+    refused(Refusal::Ended(filter.ending()), page, sink)
 }
 
 /// Reads the source to its end, at most 16,777,216 octets, hands the octets to the command and writes what it gives. All
 /// that the octets taken so far decide is written before the next read. Where there is not enough memory, what came before is
 /// written.
-pub fn work<W: Worker, S: Source, K: Sink>(worker: &mut W, source: &mut S, sink: &mut K) -> WorkEnd
-    requires drained { W.IsDrained worker.old }
-    requires idle { IsIdle false (W.future worker.old) }
-    requires going { W.is_finished worker.old ≡ false }
-    requires few { W.size worker.old ≡ 0 }
-    ensures worked { Worked (S.left source.old) (S.left source.new) (K.written sink.old) (K.written sink.new) (W.future worker.old) result }
-    ensures untouched { (input : List ℕ) → S.left source.old ≡ Some input → all_written (W.future worker.old) input ≡ [] → sink.new ≡ sink.old }
+pub fn run_filter<W: Filter, S: Source, K: Sink>(
+    filter: &mut W,
+    source: &mut S,
+    sink: &mut K,
+) -> FilterEnd
+    requires drained { W.IsDrained filter.old }
+    requires idle { IsIdle false (W.future filter.old) }
+    requires going { W.is_finished filter.old ≡ false }
+    requires few { W.size filter.old ≡ 0 }
+    ensures worked { Filtered (S.left source.old) (S.left source.new) (K.written sink.old) (K.written sink.new) (W.future filter.old) result }
+    ensures untouched { (input : List ℕ) → S.left source.old ≡ Some input → all_written (W.future filter.old) input ≡ [] → sink.new ≡ sink.old }
     ensures source_later { S.faults source.old ≤ S.faults source.new }
     ensures sink_later { K.faults sink.old ≤ K.faults sink.new }
-    ensures read_fault { result ≡ WorkEnd.ReadFault → Rose (S.faults source.old) (S.faults source.new) }
-    ensures write_fault { result ≡ WorkEnd.WriteFault → Rose (K.faults sink.old) (K.faults sink.new) }
+    ensures read_fault { result ≡ FilterEnd.ReadFault → Rose (S.faults source.old) (S.faults source.new) }
+    ensures write_fault { result ≡ FilterEnd.WriteFault → Rose (K.faults sink.old) (K.faults sink.new) }
 {
     let mut page = Line::new();
     let mut piece = Line::new();
@@ -134,18 +138,18 @@ pub fn work<W: Worker, S: Source, K: Sink>(worker: &mut W, source: &mut S, sink:
     let mut taken = 0;
     loop {
         let Ok(count) = source.read(&mut buf) else {
-            return WorkEnd::ReadFault;
+            return FilterEnd::ReadFault;
         };
         if count == 0 {
-            return end(worker, &mut page, &mut piece, sink).end();
+            return end(filter, &mut page, &mut piece, sink).end();
         }
         let fits = count.min(INPUT_MOST - taken);
-        match feed(worker, &buf[..fits], &mut page, &mut piece, sink) {
+        match feed(filter, &buf[..fits], &mut page, &mut piece, sink) {
             Ok(()) => {}
             Err(stop) => return stop.end(),
         }
         if fits < count {
-            return WorkEnd::TooLong;
+            return FilterEnd::TooLong;
         }
         taken += count;
     }

@@ -9,7 +9,7 @@ use Rattle.p25_line.specs.Words.{is_word, words_or_fault}
 use Rattle.p25_line.specs.declared.fault.LineFault.{LineFault}
 use Rattle.p25_line.specs.declared.fault.LineFault.TheVariants.{Value, Kind as WrongKind}
 use Rattle.p25_line.proofs.JoinLaws.{words_or_fault-join, Accepted-words}
-use Rattle.p25_stations.specs.Sound.{IsMessage}
+use Rattle.p25_delivery.specs.SoundHalves.{IsMessage}
 use Rattle.p25_stations.specs.declared.step.Event.{Event}
 use Rattle.p25_stations.specs.declared.step.Event.TheVariants.{Send, Timeout, Reopen, ToReceiver, ToSender}
 use Rattle.p25_script.specs.Script.{IsScripted, event_of, event_text, event_words, event_by_words}

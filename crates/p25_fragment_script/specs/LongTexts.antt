@@ -43,4 +43,4 @@ unfoldable pub long_closing_text_of : LongState → List ℕ
 long_closing_text_of w =
     codes "taken=" ++ decimal (length w.sender.taken) ++ codes " whole=" ++ decimal (length w.receiver.whole)
     ++ codes " acknowledged=" ++ decimal w.sender.acknowledged ++ codes " false=" ++ decimal w.inner.false_passes
-    ++ sessions_text (length w.inner.marks + 1)
+    ++ sessions_text (length w.inner.link.outbound.marks + 1)

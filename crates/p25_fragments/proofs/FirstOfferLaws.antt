@@ -4,12 +4,12 @@ use Rattle.std.proofs.lemmas.Bool.{cond-true, cond-false}
 use Rattle.p25_delivery.specs.declared.sender_state.Outstanding.{Outstanding}
 use Rattle.p25_delivery.specs.declared.sender_state.Outstanding.TheVariants.{Nothing, Message, Opening}
 use Rattle.p25_stations.specs.declared.step.Event.TheVariants.{Send}
-use Rattle.p25_stations.specs.declared.step.StepKind.TheVariants.{Taken, Busy as BusyAtOffer, OfferDown}
+use Rattle.p25_delivery.specs.declared.step_kind.StepKind.TheVariants.{Taken, Busy as BusyAtOffer, OfferDown}
 use Rattle.p25_stations.specs.declared.step.Step.{Step}
 use Rattle.p25_stations.specs.WorldState.{WorldState}
 use Rattle.p25_stations.specs.Steps.{world_step}
 use Rattle.p25_fragments.specs.declared.long_step.Then.TheVariants.{Busy, Down}
-use Rattle.p25_fragments.specs.LongMessages.{part_of}
+use Rattle.p25_messages.specs.LongMessages.{part_of}
 use Rattle.p25_fragments.specs.LongState.{LongState}
 use Rattle.p25_fragments.specs.LongSteps.{unmoved, started, long_offered_beside, long_offered}
 use Rattle.p25_fragments.proofs.SendLaws.{send-down, send-message, send-opening, send-taken}

@@ -5,10 +5,10 @@ use Rattle.std.proofs.lemmas.Bool.Decides.{nat_tests}
 use Rattle.p25_delivery.specs.declared.sender_state.Outstanding.TheVariants.{Message, Opening}
 use Rattle.p25_delivery.specs.Link.{Session, empty_session, Link}
 use Rattle.p25_delivery.proofs.PhaseLaws.{orderly-more}
-use Rattle.p25_stations.specs.declared.step.StepKind.{StepKind}
-use Rattle.p25_stations.specs.declared.step.StepKind.TheVariants.{Acknowledged, Delivered, SynHeard}
+use Rattle.p25_delivery.specs.declared.step_kind.StepKind.{StepKind}
+use Rattle.p25_delivery.specs.declared.step_kind.StepKind.TheVariants.{Acknowledged, Delivered, SynHeard}
 use Rattle.p25_stations.specs.declared.step.Step.{Step}
-use Rattle.p25_stations.specs.declared.mark.Mark.{Mark}
+use Rattle.p25_delivery.specs.declared.mark.Mark.{Mark}
 use Rattle.p25_stations.specs.WorldState.{WorldState}
 use Rattle.p25_stations.proofs.WorldOfLaws.{mark_after, marks_after, first_mark, world_of, session-ends}
 use Rattle.p25_fragments.specs.declared.long_mark.LongMark.{LongMark}

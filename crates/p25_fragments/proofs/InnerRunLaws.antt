@@ -5,8 +5,8 @@ use Rattle.p25_delivery.specs.declared.sender_state.Outstanding.{Outstanding}
 use Rattle.p25_delivery.specs.declared.sender_state.Outstanding.TheVariants.{Nothing, Message, Opening}
 use Rattle.p25_stations.specs.declared.step.Event.{Event}
 use Rattle.p25_stations.specs.declared.step.Event.TheVariants.{Send}
-use Rattle.p25_stations.specs.declared.step.StepKind.{StepKind}
-use Rattle.p25_stations.specs.declared.step.StepKind.TheVariants.{Acknowledged, Delivered, SynHeard}
+use Rattle.p25_delivery.specs.declared.step_kind.StepKind.{StepKind}
+use Rattle.p25_delivery.specs.declared.step_kind.StepKind.TheVariants.{Acknowledged, Delivered, SynHeard}
 use Rattle.p25_stations.specs.declared.step.Step.{Step}
 use Rattle.p25_stations.specs.WorldState.{WorldState}
 use Rattle.p25_stations.specs.Steps.{world_step}
@@ -20,7 +20,7 @@ use Rattle.p25_fragments.specs.declared.long_step.LongEvent.TheVariants.{Long, I
 use Rattle.p25_fragments.specs.declared.long_step.Then.{Then}
 use Rattle.p25_fragments.specs.declared.long_step.Then.TheVariants.{Plain, Busy, Down}
 use Rattle.p25_fragments.specs.declared.long_step.LongStep.{LongStep}
-use Rattle.p25_fragments.specs.LongMessages.{part_of}
+use Rattle.p25_messages.specs.LongMessages.{part_of}
 use Rattle.p25_fragments.specs.SendingState.{LongSending}
 use Rattle.p25_fragments.specs.LongSenders.{gone_on}
 use Rattle.p25_fragments.specs.ReceivingState.{LongReceiving}

@@ -28,8 +28,8 @@ use Rattle.p25_stations.specs.Air.{carried_of}
 use Rattle.p25_stations.proofs.AirLaws.{air-true}
 use Rattle.p25_stations.specs.declared.step.Event.{Event}
 use Rattle.p25_stations.specs.declared.step.Event.TheVariants.{Send, Timeout, Reopen, ToReceiver, ToSender}
-use Rattle.p25_stations.specs.declared.step.StepKind.{StepKind}
-use Rattle.p25_stations.specs.declared.step.StepKind.TheVariants.{Acknowledged, Delivered, SynHeard}
+use Rattle.p25_delivery.specs.declared.step_kind.StepKind.{StepKind}
+use Rattle.p25_delivery.specs.declared.step_kind.StepKind.TheVariants.{Acknowledged, Delivered, SynHeard}
 use Rattle.p25_stations.specs.declared.step.Step.{Step}
 use Rattle.p25_stations.specs.WorldState.{WorldState}
 use Rattle.p25_stations.specs.Steps.{after_timeout, after_reopening, after_data, after_answer, quiet_step, heard_step, data_carried, data_delivered, answer_carried, answer_delivered, world_step}

@@ -7,7 +7,7 @@ use Rattle.std.proofs.lemmas.List.{take_all, length-take}
 use Rattle.std.proofs.Math.Seq.{take-add}
 use Rattle.p25_bits.specs.Bits.{part}
 use Rattle.p25_fragments.specs.declared.joiner.Joined.TheVariants.{Whole, Part}
-use Rattle.p25_fragments.specs.LongMessages.{part_count, part_mark, part_of}
+use Rattle.p25_messages.specs.LongMessages.{part_count, part_mark, part_of}
 use Rattle.p25_fragments.specs.JoiningState.{Joining, first_joining}
 use Rattle.p25_fragments.specs.Joining.{is_refused, taken_as, part_taken, message_taken}
 

@@ -1,4 +1,3 @@
-pub mod PartsLaws
 pub mod SendLaws
 pub mod FirstOfferLaws
 pub mod HappenSteps

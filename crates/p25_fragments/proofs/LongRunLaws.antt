@@ -11,12 +11,12 @@ use Rattle.p25_stations.specs.declared.step.Step.{Step}
 use Rattle.p25_stations.specs.WorldState.{WorldState}
 use Rattle.p25_stations.specs.Steps.{world_step}
 use Rattle.p25_stations.specs.Runs.{AreClean}
-use Rattle.p25_stations.proofs.WorldOfLaws.{sent_in, marks_after, first_mark, world_of, first-world_of}
+use Rattle.p25_stations.proofs.WorldOfLaws.{sent_in, marks_after, world_of, first-world_of}
 use Rattle.p25_fragments.specs.declared.long_step.LongEvent.{LongEvent}
 use Rattle.p25_fragments.specs.declared.long_step.LongEvent.TheVariants.{Long, Inner}
 use Rattle.p25_fragments.specs.declared.long_step.Then.{Then}
 use Rattle.p25_fragments.specs.declared.long_step.Then.TheVariants.{Busy, Down, Refused}
-use Rattle.p25_fragments.specs.LongMessages.{part_of}
+use Rattle.p25_messages.specs.LongMessages.{part_of}
 use Rattle.p25_fragments.specs.LongState.{LongState, first_long}
 use Rattle.p25_fragments.specs.LongSteps.{unmoved, started, long_offered_beside, long_offered, inner_happened, long_step}
 use Rattle.p25_fragments.specs.LongRuns.{IsNoOffer, IsLongEvent, AreLongEvents, long_run, long_steps_of, first_steps, next_steps, inner_steps, IsCleanLongRun, AreUnrefused, long_sessions_of}

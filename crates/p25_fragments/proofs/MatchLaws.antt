@@ -5,13 +5,13 @@ use Rattle.p25_delivery.specs.declared.sender_state.Outstanding.TheVariants.{Not
 use Rattle.p25_delivery.specs.Link.{Session, empty_session, Link}
 use Rattle.p25_delivery.specs.Orderly.{IsOrderly, AreOrderly}
 use Rattle.p25_delivery.proofs.PhaseLaws.{orderly-more}
-use Rattle.p25_stations.specs.declared.mark.Mark.{Mark}
+use Rattle.p25_delivery.specs.declared.mark.Mark.{Mark}
 use Rattle.p25_stations.specs.WorldState.{WorldState, first_world}
 use Rattle.p25_stations.specs.Runs.{sessions_from, sessions_of}
 use Rattle.p25_stations.proofs.WorldOfLaws.{sent_in, delivered_in, acknowledged_in, marks_after, first_mark, world_of, sessions-world_of}
 use Rattle.p25_fragments.specs.declared.long_mark.LongMark.{LongMark}
 use Rattle.p25_fragments.specs.declared.outgoing.Outgoing.{Outgoing}
-use Rattle.p25_fragments.specs.LongMessages.{part_count, part_of}
+use Rattle.p25_messages.specs.LongMessages.{part_count, part_of}
 use Rattle.p25_fragments.specs.JoiningState.{Joining, first_joining}
 use Rattle.p25_fragments.specs.SendingState.{LongSending}
 use Rattle.p25_fragments.specs.ReceivingState.{LongReceiving}

@@ -19,7 +19,7 @@ use Rattle.p25_stations.specs.Steps.{world_step}
 use Rattle.p25_stations.specs.Links.{happenings_at}
 use Rattle.p25_stations.proofs.WorldOfLaws.{world_of}
 use Rattle.p25_stations.proofs.SimulationLaws.{IsOf, step-of}
-use Rattle.p25_fragments.specs.LongMessages.{part_of}
+use Rattle.p25_messages.specs.LongMessages.{part_of}
 use Rattle.p25_fragments.proofs.InnerStepLaws.{IsWorldAt}
 
 -- the world after an offer of a part

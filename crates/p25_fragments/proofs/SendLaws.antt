@@ -12,7 +12,7 @@ use Rattle.p25_delivery.specs.declared.sender.Offer.{Offer}
 use Rattle.p25_delivery.specs.declared.sender.Offer.TheVariants.{Busy as OfferBusy, Down as DownAtOffer}
 use Rattle.p25_delivery.proofs.SenderLaws.{offer-quiet}
 use Rattle.p25_stations.specs.declared.step.Event.TheVariants.{Send}
-use Rattle.p25_stations.specs.declared.step.StepKind.TheVariants.{Taken, Busy, OfferDown}
+use Rattle.p25_delivery.specs.declared.step_kind.StepKind.TheVariants.{Taken, Busy, OfferDown}
 use Rattle.p25_stations.specs.WorldState.{WorldState}
 use Rattle.p25_stations.specs.RunLaws.{true_step}
 use Rattle.p25_stations.specs.Steps.{after_offer, quiet_step, world_step}

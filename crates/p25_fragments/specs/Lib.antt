@@ -1,7 +1,5 @@
-pub mod LongMessages
 pub mod JoiningState
 pub mod Joining
-pub mod LongLists
 pub mod SendingState
 pub mod LongSenders
 pub mod ReceivingState

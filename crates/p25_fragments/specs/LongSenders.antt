@@ -3,7 +3,7 @@ use Rattle.std.specs.Prelude.{ℕ, ◌+◌, nat_lt, List, [], ◌∷◌, ◌++�
 use Rattle.p25_fragments.specs.declared.outgoing.Outgoing.{Outgoing}
 use Rattle.p25_fragments.specs.declared.long_sender.Following.{Following}
 use Rattle.p25_fragments.specs.declared.long_sender.Following.TheVariants.{Nothing, Part, Finished}
-use Rattle.p25_fragments.specs.LongMessages.{part_count, part_of}
+use Rattle.p25_messages.specs.LongMessages.{part_count, part_of}
 use Rattle.p25_fragments.specs.SendingState.{LongSending}
 
 -- a long message is taken, and its part 0 is outstanding

@@ -1,7 +1,7 @@
 -- What the sending side of long messages keeps.
 use Rattle.std.specs.Prelude.{ℕ, ◌+◌, ◌<◌, ◌≤◌, List, [], length, Option, Some, None, IfSome}
 use Rattle.p25_fragments.specs.declared.outgoing.Outgoing.{Outgoing}
-use Rattle.p25_fragments.specs.LongMessages.{part_count}
+use Rattle.p25_messages.specs.LongMessages.{part_count}
 
 -- the long messages taken, the one that is outstanding with the number of its part that is, and how many were acknowledged
 pub record LongSending : Type 0 where

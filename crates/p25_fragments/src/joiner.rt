@@ -2,9 +2,8 @@ ghost use Rattle.std.specs.Prelude.{◌≡◌, ℕ, ◌%◌, ◌<◌, ◌≤◌,
 ghost use Rattle.p25_fragments.specs.JoiningState.{first_joining};
 ghost use Rattle.p25_fragments.specs.Joining.{is_refused, part_taken, message_taken};
 
-use crate::long_message::{LAST, LongMessage, MOST_OCTETS, PART_OCTETS};
 use arrayvec::ArrayVec;
-use p25_messages::Message;
+use p25_messages::{LAST_PART, LongMessage, MOST_LONG, Message, PART_OCTETS};
 use std::marker::Model;
 
 /// What comes of a message that a joiner takes.
@@ -24,7 +23,7 @@ pub struct Joiner {
     // the number of the part that is expected
     next: u8,
     // the octets of the parts before it
-    items: ArrayVec<u8, MOST_OCTETS>,
+    items: ArrayVec<u8, MOST_LONG>,
 }
 
 impl Model for Joiner {
@@ -82,7 +81,7 @@ impl Joiner {
         ensures answer { result ≡ (message_taken self.old message.now).1 }
     {
         match message.octets().split_first() {
-            Some((mark, octets)) => self.take_part(*mark >= LAST, *mark % LAST, octets),
+            Some((mark, octets)) => self.take_part(*mark >= LAST_PART, *mark % LAST_PART, octets),
             None => {
                 self.reset();
                 Joined::Refused

@@ -1,4 +1,4 @@
-//! Long messages: up to 4,000 octets over a link whose messages have at most 2,028.
+//! Long messages over two packet stations: up to 4,000 octets over a link whose messages have at most 2,028.
 //!
 //! A long message is sent as parts, each a message of the stations: one octet with the number of the part, 80 hex more for
 //! the last, and then at most 500 octets, in the order in which they are sent. The packet head stays as it is; the first
@@ -19,9 +19,7 @@
 
 mod joiner;
 pub mod laws;
-mod long_list;
 mod long_mark;
-mod long_message;
 mod long_receiver;
 mod long_sender;
 mod long_step;
@@ -29,7 +27,6 @@ mod long_world;
 mod outgoing;
 
 pub use joiner::{Joined, Joiner};
-pub use long_list::LongList;
-pub use long_message::LongMessage;
 pub use long_step::{LongEvent, LongStep, Then};
 pub use long_world::LongWorld;
+pub use p25_messages::{LongList, LongMessage};

@@ -3,8 +3,7 @@ ghost use Rattle.p25_fragments.specs.ReceivingState.{first_long_receiving};
 ghost use Rattle.p25_fragments.specs.LongReceivers.{delivered_to, set_back};
 
 use crate::joiner::{Joined, Joiner};
-use crate::long_list::LongList;
-use p25_messages::Message;
+use p25_messages::{LongList, Message};
 use std::alloc::{AllocError, Global};
 use std::marker::Model;
 

@@ -2,10 +2,8 @@ ghost use Rattle.std.specs.Prelude.{◌≡◌, ◌+◌, ◌<◌, ◌≤◌, List
 ghost use Rattle.p25_fragments.specs.SendingState.{first_long_sending};
 ghost use Rattle.p25_fragments.specs.LongSenders.{taken_with, given_up, gone_on};
 
-use crate::long_list::LongList;
-use crate::long_message::LongMessage;
 use crate::outgoing::Outgoing;
-use p25_messages::Message;
+use p25_messages::{LongList, LongMessage, Message};
 use std::alloc::{AllocError, Global};
 use std::marker::Model;
 
@@ -36,13 +34,6 @@ impl Model for LongSender {
     ghost view = { λ s. record { state = record { taken = s.taken.list; outgoing = s.outgoing; acknowledged = s.acknowledged }; spare = s.taken.spare } };
 
     ghost invariant = { λ s. IsLongSending (record { taken = s.taken.list; outgoing = s.outgoing; acknowledged = s.acknowledged }) };
-}
-
-// A copy of a long message.
-fn copy_of(message: &LongMessage) -> LongMessage
-    ensures { result ≡ message.now }
-{
-    LongMessage::new(message.octets()).unwrap()
 }
 
 impl LongSender {
@@ -92,7 +83,7 @@ impl LongSender {
     {
         self.taken.push(message);
         self.outgoing = Some(Outgoing {
-            message: copy_of(message),
+            message: message.clone().unwrap(),
             number: 0,
         });
     }

@@ -1,4 +1,4 @@
-use crate::long_message::LongMessage;
+use p25_messages::LongMessage;
 use p25_stations::{Event, Step};
 
 /// Something that happens in a world of long messages.

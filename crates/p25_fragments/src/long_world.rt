@@ -2,12 +2,11 @@ ghost use Rattle.std.specs.Prelude.{◌≡◌, ◌+◌, ◌<◌, ◌≤◌, OnOk
 ghost use Rattle.p25_fragments.specs.LongSteps.{followed, then_of, long_step};
 
 use crate::joiner::Joined;
-use crate::long_list::LongList;
 use crate::long_mark::LongMark;
-use crate::long_message::LongMessage;
 use crate::long_receiver::LongReceiver;
 use crate::long_sender::{Following, LongSender};
 use crate::long_step::{LongEvent, LongStep, Then};
+use p25_messages::{LongList, LongMessage};
 use p25_stations::{Event, StepKind, World};
 use std::alloc::{AllocError, Global};
 use std::marker::Model;

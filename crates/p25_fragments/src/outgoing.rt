@@ -1,4 +1,4 @@
-use crate::long_message::LongMessage;
+use p25_messages::LongMessage;
 
 /// A long message that is outstanding, and the number of its part that is.
 #[derive(Drop)]

@@ -16,11 +16,11 @@ pub record Gives (before now : Option (List ℕ)) (buf : List ℕ) (count : ℕ)
   pub octets : Taken before (take count buf) now
   pub ending : IfSome before (λ left. (count ≡ 0) ↔ (left ≡ []))
 
--- these octets stand behind what was written before; told octets stay told, untold ones untold
+-- these octets stand after what was written before; told octets stay told, untold ones untold
 pub record Appended (before : Option (List ℕ)) (octets : List ℕ) (now : Option (List ℕ)) : Type 0 where
   pub written : now ≡ append_known before octets
 
--- a beginning of the piece stands behind what was written before
+-- a beginning of the piece stands after what was written before
 pub record AppendedFront (before : Option (List ℕ)) (piece : List ℕ) (now : Option (List ℕ)) : Type 0 where
   pub count : ℕ
   pub front : Appended before (take count piece) now

@@ -61,7 +61,7 @@ mod tests {
     use std::io;
     use std::io::ErrorKind;
 
-    // Gives two octets, is interrupted once, gives one more octet, ends, and would give another octet behind the end.
+    // Gives two octets, is interrupted once, gives one more octet, ends, and would give another octet after the end.
     #[derive(Drop)]
     struct Stuttering {
         calls: u8,
@@ -102,7 +102,7 @@ mod tests {
         assert_eq!(rt; &buf[..2], b"cb".as_slice());
     }
 
-    // What reads to the end makes no read behind it.
+    // What reads to the end makes no read after it.
     #[test]
     fn no_read_behind_the_end(rt: HostRuntime) {
         let mut source = ReadSource::new(Stuttering { calls: 2 });

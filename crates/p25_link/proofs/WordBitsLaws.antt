@@ -9,11 +9,11 @@ use Rattle.p25_link.specs.declared.header_word.HeaderWord.{HeaderWord}
 use Rattle.p25_link.specs.Symbols.{symbols_in, symbol_bits}
 use Rattle.p25_link.specs.Words.{link_word_bits, sync_word_bits, header_word_bits, link_of_bits, sync_of_bits, header_of_bits, link_symbols, sync_symbols, header_symbols, link_of_symbols, sync_of_symbols, header_of_symbols}
 
--- what is put behind nothing stands alone
+-- what is put after nothing stands alone
 pub put_first : (start bits more : List Bool) → start ≡ [] → bits ≡ start ++ more → bits ≡ more
 put_first start bits more none is = is ∙ ap (λ xs. xs ++ more) none
 
--- one more number behind what was put
+-- one more number after what was put
 pub put_next : (before bits : List Bool) (width number value : ℕ) (made : List Bool) → before ≡ made → number ≡ value → bits ≡ before ++ bits_of width number → bits ≡ made ++ bits_of width value
 put_next before bits width number value made so_far same is = is ∙ ap₂ (λ xs n. xs ++ bits_of width n) so_far same
 

@@ -24,7 +24,7 @@ nine_back : (octets : List ℕ) → AreNineOctets octets → octets_from 9 (octe
 nine_back octets nine =
     ap₂ octets_from (sym nine.long) (sym (number_bits-octets octets)) ∙ numbers_from-number_bits 8 octets nine.small
 
--- whatever stands behind
+-- whatever stands after
 nine_kept : (before behind : List Bool) → 72 ≤ length before → octets_from 9 (before ++ behind) ≡ octets_from 9 before
 nine_kept before behind there = numbers_from-append 8 9 before behind there
 
@@ -41,11 +41,11 @@ last_back at width number before long fits =
 field_kept : (at width : ℕ) (before behind : List Bool) → at + width ≤ length before → field_of (part at width (before ++ behind)) ≡ field_of (part at width before)
 field_kept at width before behind there = ap field_of (part_left at width before behind there)
 
--- one more number behind bits
+-- one more number after bits
 longer : (before : List Bool) (at width number : ℕ) → length before ≡ at → length (before ++ bits_of width number) ≡ at + width
 longer before at width number long = length-append before (bits_of width number) ∙ ap₂ ◌+◌ long (length-bits_of width number)
 
--- bits up to a place, and the number behind them
+-- bits up to a place, and the number after them
 joined : (bits before : List Bool) (at width : ℕ) → before ≡ part 0 at bits → at + width ≤ length bits → before ++ bits_of width (field_of (part at width bits)) ≡ part 0 (at + width) bits
 joined bits before at width is there =
     let behind : 0 + at ≡ at = omega arith in

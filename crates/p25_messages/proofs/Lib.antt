@@ -1,1 +1,2 @@
 pub mod MessageListLaws
+mod PartsLaws

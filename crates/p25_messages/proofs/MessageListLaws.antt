@@ -1,7 +1,9 @@
 -- The pieces between ends: how many there are, where each lies, and one more at the end. By recursion on the ends.
 use Rattle.std.proofs.Common.{◌≡◌, ℕ, zero, suc, ◌+◌, ◌<◌, ◌≤◌, List, [], ◌∷◌, ◌++◌, length, get_or, drop, Some, refl, ap, ap₂, sym, ◌∙◌, arith, length-append}
-use Rattle.std.specs.Prelude.{slice_get, slice_range, vec_len}
+use Rattle.std.specs.Prelude.{◌*◌, ◌/◌, ◌%◌, slice_get, slice_range, vec_len}
 use Rattle.std.specs.Global.{Vec}
+use Rattle.std.proofs.Math.Nat.{add-mul, div-lt_iff_lt-mul, mod-lt}
+use Rattle.std.proofs.lemmas.Nat.{div-add-mod'}
 use Rattle.std.proofs.lemmas.List.{drop_at, take-append-le}
 use Rattle.std.proofs.lemmas.Slice.{between_is, between_to_end}
 use Rattle.p25_messages.specs.MessageList.{pieces_between, start_before, AreEnds}
@@ -86,3 +88,11 @@ IsPiece-at all octets ends held list i start end are e o f h s t =
       piece =
           ap (λ (xs : List (List ℕ)). slice_get xs i) (sym pieces) ∙ pieces_between-at 0 held octets i below ∙ ap₂ (λ (a b : ℕ). Some (slice_range octets a b)) (sym s) (sym to);
     }
+
+-- at most `most` octets take the room of one message at most
+pub room-less : (most before after : ℕ) → 0 < most → before ≤ after + most → before / most ≤ after / most + 1
+room-less most before after some few =
+    let whole : after / most * most + after % most ≡ after = div-add-mod' after most in
+    let two : (after / most + 2) * most ≡ after / most * most + 2 * most = add-mul (after / most) 2 most in
+    let bound : before < (after / most + 2) * most = omega (arith, whole, two, mod-lt after some) in
+    omega (arith, (div-lt_iff_lt-mul some).1 bound)

@@ -1,1 +1,2 @@
 pub mod MessageList
+pub mod LongMessages

@@ -1,5 +1,5 @@
 -- A list of messages, kept as all their octets and the place behind the last octet of each.
-use Rattle.std.specs.Prelude.{◌≡◌, ℕ, zero, suc, ◌-◌, ◌/◌, ◌≤◌, min, List, [], ◌∷◌, slice_range, vec_len, vec_capacity}
+use Rattle.std.specs.Prelude.{◌≡◌, ℕ, zero, suc, ◌-◌, ◌/◌, ◌^◌, ◌<◌, ◌≤◌, min, List, [], ◌∷◌, slice_range, vec_len, vec_capacity}
 use Rattle.std.specs.Global.{Vec}
 
 -- what contracts see of a list of messages: the messages, and the number of messages for which there is room
@@ -23,6 +23,12 @@ unfoldable pub AreEnds : ℕ → List ℕ → ℕ → Type 0
 AreEnds start [] count = start ≡ count
 AreEnds start (end ∷ ends) count = (start ≤ end) × AreEnds end ends count
 
--- for how many messages of 2,028 octets there is room
-abbrev pub room_for : Vec ℕ → Vec ℕ → ℕ
-room_for octets ends = min (vec_capacity ends - vec_len ends) ((vec_capacity octets - vec_len octets) / 2028)
+-- what every list of messages of at most `most` octets keeps, of which it holds so many octets
+pub record IsKept (most : ℕ) (ends : List ℕ) (octets : ℕ) : Type 0 where
+  pub some : 0 < most
+  pub few : most ≤ 2 ^ 32
+  pub are : AreEnds 0 ends octets
+
+-- for how many messages of `most` octets there is room, among the octets and among the ends
+abbrev pub room_for : ℕ → Vec ℕ → Vec ℕ → ℕ
+room_for most octets ends = min (vec_capacity ends - vec_len ends) ((vec_capacity octets - vec_len octets) / most)

@@ -1,9 +1,10 @@
-//! Messages of packet data, lists of them, and the places of wrong bits in a transmission.
+//! Messages of packet data, long messages and their parts, lists of both, and the places of wrong bits in a transmission.
 //!
 //! A message is a list of at most 2,028 octets, in the order in which they are sent: as many as the 127 blocks of a packet
-//! carry beside the packet CRC. Contracts see a `Message` as its octets, a `MessageList` as the list of its messages and
-//! the number of messages for which it has room, and `Flips` as the list of its places, counted from the first bit of the
-//! sent unit.
+//! carry beside the packet CRC. A long message is a list of at most 4,000, which is sent in parts, each a message. Both are
+//! a `MessageOf` so many octets, and their lists a `MessageListOf` so many. Contracts see a message as its octets, a list of
+//! messages as the list and the number of messages for which it has room, and `Flips` as the list of its places, counted
+//! from the first bit of the sent unit.
 //!
 //! ```text
 //! let mut sent = MessageList::new(alloc);
@@ -16,11 +17,13 @@
 #![tactic(auto)]
 
 mod flips;
+mod long_message;
 mod message;
 mod message_list;
 #[cfg(test)]
 mod tests;
 
 pub use flips::Flips;
-pub use message::Message;
-pub use message_list::MessageList;
+pub use long_message::{LAST_PART, LongList, LongMessage, MOST_LONG, PART_OCTETS};
+pub use message::{Message, MessageOf};
+pub use message_list::{MessageList, MessageListOf};

@@ -1,18 +1,19 @@
 ghost use Rattle.std.specs.Prelude.{◌≡◌, ◌≤◌, ◌↔◌, List, length, IsSome, IfSome};
 
 use arrayvec::ArrayVec;
+use std::alloc::AllocError;
 use std::marker::Model;
 
-/// The number of octets of the longest message: 127 blocks of 16, without the four of the packet CRC.
-pub(crate) const MOST_OCTETS: usize = 2028;
+/// A message: a list of at most 2,028 octets, as many as 127 blocks of 16 carry beside the four of the packet CRC.
+pub type Message = MessageOf<2028>;
 
-/// A message: a list of at most 2,028 octets.
+/// A list of at most `MOST` octets.
 #[derive(Debug, PartialEq, Eq, Drop)]
-pub struct Message {
-    items: ArrayVec<u8, MOST_OCTETS>,
+pub struct MessageOf<const MOST: usize> {
+    items: ArrayVec<u8, MOST>,
 }
 
-impl Model for Message {
+impl<const MOST: usize> Model for MessageOf<MOST> {
     ghost use Rattle.std.specs.Prelude.{ℕ, List};
 
     ghost Value = { List ℕ };
@@ -22,13 +23,13 @@ impl Model for Message {
     ghost inverse = { λ octets. record { items = record { items = octets } } };
 }
 
-impl Message {
-    /// Answers the message of these octets, or None exactly where there are more than 2,028.
-    pub fn new(octets: &[u8]) -> Option<Message>
-        ensures fits { IsSome result ↔ (length octets.now ≤ 2028) }
+impl<const MOST: usize> MessageOf<MOST> {
+    /// Answers the message of these octets, or None exactly where there are more than `MOST`.
+    pub fn new(octets: &[u8]) -> Option<MessageOf<MOST>>
+        ensures fits { IsSome result ↔ (length octets.now ≤ MOST) }
         ensures message { IfSome result (λ message. message ≡ octets.now) }
     {
-        Some(Message {
+        Some(MessageOf {
             items: ArrayVec::try_from(octets).ok()?,
         })
     }
@@ -36,8 +37,23 @@ impl Message {
     /// Answers the octets of the message, in order.
     pub fn octets(&self) -> &[u8]
         ensures octets { result.now ≡ self.now }
-        ensures most { length result.now ≤ 2028 }
+        ensures most { length result.now ≤ MOST }
     {
         self.items.as_slice()
+    }
+}
+
+impl<const MOST: usize> Clone for MessageOf<MOST> {
+    ghost use Rattle.std.specs.Prelude.{⊤, ◌≡◌};
+
+    ghost is_clone = { λ message copy. copy ≡ message };
+
+    ghost is_infallible = { λ _. ⊤ };
+
+    // A copy of the octets, which takes no memory, so the answer is always Ok.
+    fn clone(&self) -> Result<Self, AllocError> {
+        Ok(MessageOf {
+            items: ArrayVec::try_from(self.octets()).unwrap(),
+        })
     }
 }

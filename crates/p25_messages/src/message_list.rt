@@ -1,28 +1,32 @@
-ghost use Rattle.std.specs.Prelude.{◌≡◌, ◌+◌, ◌<◌, ◌≤◌, Some, List, [], ◌∷◌, ◌++◌, length, slice_get, OnOk, OnErr};
+ghost use Rattle.std.specs.Prelude.{◌≡◌, ◌+◌, ◌^◌, ◌<◌, ◌≤◌, Some, List, [], ◌∷◌, ◌++◌, length, slice_get, OnOk, OnErr};
 ghost use Rattle.p25_messages.specs.MessageList.{start_before};
 
-use crate::message::{MOST_OCTETS, Message};
+use crate::message::MessageOf;
 use std::alloc::{AllocError, Global};
 use std::marker::Model;
 
-/// A list of messages. Contracts see it as the list, `list`, and the number of messages for which there is room, `spare`.
+/// A list of messages of at most 2,028 octets.
+pub type MessageList = MessageListOf<2028>;
+
+/// A list of messages of at most `MOST` octets. Contracts see it as the list, `list`, and the number of messages for which
+/// there is room, `spare`.
 #[derive(Drop)]
-pub struct MessageList {
+pub struct MessageListOf<const MOST: usize> {
     // the octets of all messages, one after another
     octets: Vec<u8>,
     // the place behind the last octet of each message
     ends: Vec<usize>,
 }
 
-impl Model for MessageList {
+impl<const MOST: usize> Model for MessageListOf<MOST> {
     ghost use Rattle.std.specs.Prelude.{vec_len};
-    ghost use Rattle.p25_messages.specs.MessageList.{ListParts, pieces_between, room_for, AreEnds};
+    ghost use Rattle.p25_messages.specs.MessageList.{ListParts, pieces_between, room_for, IsKept};
 
     ghost Value = { ListParts };
 
-    ghost view = { λ s. record { list = pieces_between 0 s.ends.items s.octets.items; spare = room_for s.octets s.ends } };
+    ghost view = { λ s. record { list = pieces_between 0 s.ends.items s.octets.items; spare = room_for MOST s.octets s.ends } };
 
-    ghost invariant = { λ s. AreEnds 0 s.ends.items (vec_len s.octets) };
+    ghost invariant = { λ s. IsKept MOST s.ends.items (vec_len s.octets) };
 }
 
 // The place of the first octet of message `i`, which is the place behind the message before it.
@@ -33,12 +37,14 @@ fn start(ends: &[usize], i: usize) -> usize
     if i == 0 { 0 } else { ends[i - 1] }
 }
 
-impl MessageList {
-    /// Answers an empty list, which takes no memory.
-    pub fn new(alloc: Global) -> MessageList
+impl<const MOST: usize> MessageListOf<MOST> {
+    /// Answers an empty list, which takes no memory. `MOST` is 1 to 2^32.
+    pub fn new(alloc: Global) -> MessageListOf<MOST>
+        requires some { 0 < MOST }
+        requires most { MOST ≤ 2 ^ 32 }
         ensures { result.list ≡ [] }
     {
-        MessageList {
+        MessageListOf {
             octets: Vec::new(alloc),
             ends: Vec::new(alloc),
         }
@@ -72,11 +78,11 @@ impl MessageList {
         ensures err { OnErr result (self.old.spare < messages) }
     {
         self.ends.reserve(messages as usize)?;
-        self.octets.reserve(MOST_OCTETS * messages as usize)
+        self.octets.reserve(MOST * messages as usize)
     }
 
     /// Appends a message. It takes no memory.
-    pub fn push(&mut self, message: &Message)
+    pub fn push(&mut self, message: &MessageOf<MOST>)
         requires { 0 < self.old.spare }
         ensures list { self.new.list ≡ self.old.list ++ message.now ∷ [] }
         ensures spare { self.old.spare ≤ self.new.spare + 1 }

@@ -1,6 +1,6 @@
 //! Each call once.
 
-use super::{Flips, Message, MessageList};
+use super::{Flips, LongMessage, Message, MessageList};
 use std::test::Fail;
 
 #[test]
@@ -11,6 +11,15 @@ fn longest_message(rt: HostRuntime) -> Result<(), Fail> {
     assert_eq!(rt; longest.octets().len(), 2028);
     let empty = Message::new(&[]).ok_or("no octets are a message")?;
     assert_eq!(rt; empty.octets().len(), 0);
+    Ok(())
+}
+
+#[test]
+fn copy_of_a_message(rt: HostRuntime) -> Result<(), Fail> {
+    let message = LongMessage::new(b"ab").ok_or("two octets")?;
+    let copy = message.clone()?;
+    assert_eq!(rt; copy.octets(), b"ab".as_slice());
+    assert_eq!(rt; copy, message);
     Ok(())
 }
 

@@ -31,7 +31,7 @@ number_of_four octets n long =
     ∙ ap (λ k. get_or octets n 0 ∷ get_or octets (n + 1) 0 ∷ get_or octets (n + 2) 0 ∷ get_or octets k 0 ∷ []) here in
     ap octets_number first ∙ omega arith
 
--- one more block of twelve octets written behind those before it
+-- one more block of twelve octets written after those before it
 pub octets_put : (octets read block : List ℕ) (j : ℕ) → 12 * j + 12 ≤ length octets → length block ≡ 12 → take (12 * j) octets ≡ read → take (12 * (j + 1)) (put_mid (12 * j) (12 * j + 12 - 12 * j) octets block) ≡ read ++ block
 octets_put octets read block j there long so_far =
     take-put_mid (12 * j) (12 * j + 12 - 12 * j) octets block (12 * (j + 1)) (omega arith) (omega arith) ∙ ap (λ (xs : List ℕ). xs ++ block) so_far

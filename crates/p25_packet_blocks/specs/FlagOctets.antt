@@ -3,7 +3,7 @@ use Rattle.std.specs.Prelude.{ℕ, ◌/◌, Bool, eqb, List, [], ◌∷◌, ◌+
 use Rattle.p25_bits.specs.Bits.{octet_bits}
 use Rattle.p25_bits.specs.Numbers.{octets_from}
 
--- the octets of 64 or of 128 flags: the first flag is the most significant bit of the first octet, and behind 128 flags
+-- the octets of 64 or of 128 flags: the first flag is the most significant bit of the first octet, and after 128 flags
 -- stand four octets of 0
 unfoldable pub flag_octets : List Bool → List ℕ
 flag_octets flags = octets_from (length flags / 8) flags ++ (if eqb (length flags) 128 then 0 ∷ 0 ∷ 0 ∷ 0 ∷ [] else [])

@@ -41,7 +41,7 @@ slot_bits Bad = []
 unfoldable pub checked_octets : List ℕ → List ℕ
 checked_octets octets = octets ++ four_octets (crc32_of octets)
 
--- the bits of the block at place j behind the header block
+-- the bits of the block at place j after the header block
 unfoldable pub body_block : Packet → ℕ → List Bool
 body_block (Confirmed packet) j = slot_bits (get_or packet.slots j Bad)
 body_block (Plain packet) j = half_block (part (12 * j) 12 (checked_octets packet.octets))

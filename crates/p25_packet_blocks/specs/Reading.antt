@@ -19,7 +19,7 @@ use Rattle.p25_packet_blocks.specs.Lengths.{packet_bits}
 abbrev pub header_bits : List Bool → List Bool
 header_bits plain = part 112 196 plain
 
--- the bits of the block at place j behind the header block
+-- the bits of the block at place j after the header block
 abbrev pub block_bits : List Bool → ℕ → List Bool
 block_bits plain j = part (308 + 196 * j) 196 plain
 

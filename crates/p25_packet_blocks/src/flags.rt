@@ -75,7 +75,7 @@ fn push_octets(bits: &BitBuf, count: usize, octets: &mut Octets)
     }
 }
 
-// Appends the four octets of 0 that stand behind 128 flags.
+// Appends the four octets of 0 that stand after 128 flags.
 fn push_rest(octets: &mut Octets)
     requires { length octets.old ≤ 1516 }
     ensures { octets.new ≡ octets.old ++ 0 ∷ 0 ∷ 0 ∷ 0 ∷ [] }

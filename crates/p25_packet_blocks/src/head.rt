@@ -1,6 +1,15 @@
 ghost use Rattle.std.specs.Prelude.{◌≡◌, ◌^◌, ◌<◌, true, false};
 ghost use Rattle.p25_packet_blocks.specs.Heads.{head_format, head_is_full, head_blocks, head_pad, head_llid, head_syn, head_number, response_class, response_kind, response_status, confirmed_head, response_head, opening_head};
 
+/// The format of a confirmed packet. TIA-102.BAAA, Packet Data, Header Block.
+pub const CONFIRMED_FORMAT: u8 = 0x16;
+
+/// The format of an unconfirmed packet. TIA-102.BAAA, Packet Data, Header Block.
+pub const PLAIN_FORMAT: u8 = 0x15;
+
+/// The format of a response. TIA-102.BAAA, Packet Data, Header Block.
+pub const RESPONSE_FORMAT: u8 = 0x03;
+
 /// The ten octets of a packet's header, without its CRC. All are kept as they are; only the fields that are read below
 /// mean something here. TIA-102.BAAA, Packet Data, Header Block.
 #[derive(Clone, Copy, Debug, PartialEq, Eq)]

@@ -15,15 +15,14 @@ use crate::block::{Block, Slot};
 use crate::head::PacketHead;
 use crate::octets::append;
 use crate::packet::{Confirmed, Packet, Plain};
+use crate::read::{BLOCK_LENGTH, HEADER_AT};
 use arrayvec::ArrayVec;
-use p25_bch_nid::Nid;
+use p25_bch_nid::{Nid, PDU};
 use p25_bits::BitBuf;
 use p25_crc::{crc9, crc16, crc32};
+use p25_status::{PLAIN_BLOCK_LENGTH, SENT_BLOCK_LENGTH};
 use p25_trellis::{Half, ThreeQuarter, encode_block};
 use p25_unit_front::put_front;
-
-// The data unit identifier of a packet.
-pub(crate) const PACKET_DUID: u8 = 12;
 
 /// Answers the length of the unit of a packet as it is sent, by the blocks to follow of its header: 112 bits, 196 for each
 /// block and the header block, filled to a multiple of 70, and two status bits for each 70.
@@ -32,7 +31,7 @@ pub fn packet_length(head: &PacketHead) -> usize
     ensures least { 360 ≤ result }
     ensures most { result ≤ 25920 }
 {
-    72 * parts(head)
+    SENT_BLOCK_LENGTH * parts(head)
 }
 
 // How many times 70 bits the unit of a packet fills.
@@ -42,10 +41,11 @@ fn parts(head: &PacketHead) -> usize
     ensures least { 5 ≤ result }
     ensures most { result ≤ 360 }
 {
-    (112 + 196 * (1 + usize::from(head.blocks())) + 69) / 70
+    (HEADER_AT + BLOCK_LENGTH * (1 + usize::from(head.blocks())) + PLAIN_BLOCK_LENGTH - 1)
+        / PLAIN_BLOCK_LENGTH
 }
 
-// Does nothing: its contract says that octets fit.
+// Its contract says that octets fit.
 fn fit(octets: &[u8])
     ensures { AreOctets octets.now }
 {
@@ -59,7 +59,7 @@ fn put_packet_front(nac: u16, out: &mut BitBuf)
     ensures list { out.new ≡ out.old ++ unit_front nac 12 }
     ensures len { length out.new ≡ length out.old + 112 }
 {
-    match Nid::new(nac, PACKET_DUID) {
+    match Nid::new(nac, PDU) {
         Some(nid) => put_front(&nid, out),
         None => unreachable!(),
     }
@@ -170,5 +170,5 @@ pub fn packet_image(nac: u16, packet: &Packet, out: &mut BitBuf)
     put_packet_front(nac, out);
     put_header(&head, out);
     put_body(packet, out);
-    put_nulls(70 * parts(&head) - out.len(), out);
+    put_nulls(PLAIN_BLOCK_LENGTH * parts(&head) - out.len(), out);
 }

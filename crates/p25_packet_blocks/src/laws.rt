@@ -11,16 +11,18 @@ ghost use Rattle.p25_packet_blocks.specs.Reading.{packet_reading_of};
 ghost use Rattle.p25_packet_blocks.specs.Within.{AreBlocksWithin, IsPacketWithin, IsSending, sent_unit};
 ghost use Rattle.p25_packet_blocks.specs.UnitReading.{packet_unit_of};
 
+use crate::head::{CONFIRMED_FORMAT, PLAIN_FORMAT, RESPONSE_FORMAT};
+use crate::read::{BLOCK_LENGTH, BLOCKS_AT, HEADER_AT};
 use p25_trellis::laws::{half_rate_near, three_quarter_rate_near};
 
-/// Bits are the image of a packet that can be sent exactly where they stand as `IsPacketImage` says. So each such packet has
+/// **Theorem.** Bits are the image of a packet that can be sent exactly where they stand as `IsPacketImage` says. So each such packet has
 /// exactly one image.
 pub fn one_image()
     ensures { (nac : ℕ) (packet : packet_type) (bits : List Bool)
         → IsSendable packet → IsPacketImage nac packet bits ↔ (bits ≡ packet_image_of nac packet) }
 {}
 
-/// Does nothing: its contract is the laws of damaged packets.
+/// **Theorem.** The laws of damaged packets.
 ///
 /// - `plain`: a unit without status symbols with at most two wrong bits in the header block and in each half-rate block, and
 ///   at most one in each three-quarter-rate block, reads as the packet.
@@ -40,3 +42,14 @@ pub fn packet_radius()
     half_rate_near();
     three_quarter_rate_near();
 }
+
+/// **Theorem.** The formats of packets are those of the standard, and the header block and the blocks to follow stand where its
+/// places say.
+pub fn numbers()
+    ensures confirmed { CONFIRMED_FORMAT ≡ 0x16 }
+    ensures plain { PLAIN_FORMAT ≡ 0x15 }
+    ensures response { RESPONSE_FORMAT ≡ 0x03 }
+    ensures header { HEADER_AT ≡ 112 }
+    ensures blocks { BLOCKS_AT ≡ 308 }
+    ensures block { BLOCK_LENGTH ≡ 196 }
+{}

@@ -8,7 +8,7 @@ ghost use Rattle.p25_packet_blocks.specs.Kinds.{IsPlainFormat};
 ghost use Rattle.p25_packet_blocks.specs.Reading.{head_from, head_reading_of, slot_from, slots_read, octets_read, plain_from, packet_of_head, packet_reading_of, HasItsLength};
 
 use crate::block::{Block, Slot};
-use crate::head::PacketHead;
+use crate::head::{CONFIRMED_FORMAT, PLAIN_FORMAT, PacketHead, RESPONSE_FORMAT};
 use crate::octets::Octets;
 use crate::packet::{Confirmed, Packet, Plain};
 use crate::slots::Slots;
@@ -17,14 +17,14 @@ use p25_crc::{crc9, crc16, crc32};
 use p25_status::Field;
 use p25_trellis::{Half, ThreeQuarter, read_block};
 
-// Where the header block begins.
-const HEADER_AT: usize = 112;
+/// Where the header block begins in the unit of a packet without status symbols.
+pub const HEADER_AT: usize = 112;
 
-// Where the blocks to follow begin.
-const BLOCKS_AT: usize = 308;
+/// Where the blocks to follow begin in the unit of a packet without status symbols.
+pub const BLOCKS_AT: usize = 308;
 
-// How many bits a block has.
-const BLOCK_LENGTH: usize = 196;
+/// How many bits a block of a packet has.
+pub const BLOCK_LENGTH: usize = 196;
 
 // The header that the octets of a header block hold.
 pub(crate) fn head_in(octets: &[u8; 12]) -> Result<PacketHead, Field>
@@ -148,11 +148,11 @@ pub fn read_packet_of_head(head: PacketHead, plain: &BitBuf) -> Result<Packet, F
     ensures { result ≡ packet_of_head head plain.now }
 {
     match head.format() {
-        0x16 => {
+        CONFIRMED_FORMAT => {
             let slots = read_slots(plain, usize::from(head.blocks()));
             Ok(Packet::Confirmed(Confirmed::new(head, slots)))
         }
-        0x15 | 0x03 => read_plain(head, plain),
+        PLAIN_FORMAT | RESPONSE_FORMAT => read_plain(head, plain),
         _ => Err(Field::Format),
     }
 }

@@ -4,11 +4,12 @@ ghost use Rattle.std.specs.Prelude.{◌≡◌, ◌+◌, ◌*◌, ◌≤◌, leng
 ghost use Rattle.p25_packet_blocks.specs.UnitReading.{sent_header_bits, sent_head_of, sent_packet_of, packet_unit_of};
 
 use crate::head::PacketHead;
-use crate::image::{PACKET_DUID, packet_length};
+use crate::image::packet_length;
 use crate::packet::Packet;
 use crate::read::{head_in, read_packet_of_head};
+use p25_bch_nid::PDU;
 use p25_bits::BitBuf;
-use p25_status::{Field, Statuses, is_sync, unweave};
+use p25_status::{Field, PLAIN_BLOCK_LENGTH, SENT_BLOCK_LENGTH, Statuses, is_sync, unweave};
 use p25_trellis::{Half, read_block};
 use p25_unit_front::read_identifier;
 
@@ -22,9 +23,9 @@ fn take_header(bits: &BitBuf, at: usize, header: &mut BitBuf)
     let _ = bits.len();
     header.clear();
     header.append(bits, at + 114, 28);
-    header.append(bits, at + 144, 70);
-    header.append(bits, at + 216, 70);
-    header.append(bits, at + 288, 28);
+    header.append(bits, at + 2 * SENT_BLOCK_LENGTH, PLAIN_BLOCK_LENGTH);
+    header.append(bits, at + 3 * SENT_BLOCK_LENGTH, PLAIN_BLOCK_LENGTH);
+    header.append(bits, at + 4 * SENT_BLOCK_LENGTH, 28);
 }
 
 /// Answers the header of the packet whose unit as it is sent begins at place `at`. The 316 bits with its front and its header
@@ -57,7 +58,7 @@ fn read_sent_packet(bits: &BitBuf) -> Result<Packet, Field>
 }
 
 /// Answers the network access code and the packet of the unit that begins at place 0, as it is sent, with its status symbols.
-/// There are at least 360 bits, as many as the shortest unit has; bits behind the unit are not looked at. In this order Sync
+/// There are at least 360 bits, as many as the shortest unit has; bits after the unit are not looked at. In this order Sync
 /// comes exactly where more than four bits of the sync are wrong, Nid exactly where no identifier lies within 11 bits, Duid
 /// exactly where the DUID is not C, PacketHeader exactly where the header CRC does not agree, Length exactly where the header
 /// asks for more bits than there are, and Format and PacketCrc as in `read_packet`. TIA-102.BAAA, Packet Data.
@@ -72,7 +73,7 @@ pub fn read_packet_unit(bits: &BitBuf) -> Result<(u16, Packet), Field>
         Some(nid) => nid,
         None => return Err(Field::Nid),
     };
-    if nid.duid != PACKET_DUID {
+    if nid.duid != PDU {
         return Err(Field::Duid);
     }
     let packet = read_sent_packet(bits)?;

@@ -6,7 +6,7 @@ use Rattle.p25_gf64.specs.Gf64.{gf64}
 use Rattle.p25_algebra.specs.Series.{coefficient, value_at, product_at, IsShort}
 use Rattle.p25_poly.specs.declared.side.Side.{Side}
 
--- the coefficients that stand behind 32 symbols
+-- the coefficients that stand after 32 symbols
 abbrev pub behind : List Sym → ℕ → Sym
 behind symbols k = coefficient gf64 symbols (32 + k)
 
@@ -33,7 +33,7 @@ pub record IsPair (count : ℕ) (series : ℕ → Sym) (front back : Side) : Typ
   pub crosswise : (x : Sym) → gf64.add (gf64.mul (value_at gf64 32 (behind back.factor) x) (value_at gf64 32 (behind front.rest) x))
       (gf64.mul (value_at gf64 32 (behind front.factor) x) (value_at gf64 32 (behind back.rest) x)) ≡ power gf64 x count
 
--- a list with a multiple of another, moved up, added behind its front
+-- a list with a multiple of another, moved up, added after its front
 pub record IsMoved (multiple : Sym) (shift : ℕ) (old other new : List Sym) : Type 0 where
   pub sum : (k : ℕ) → k < 32 → behind new k ≡ gf64.add (behind old k) (gf64.mul multiple (coefficient gf64 other (32 + k - shift)))
   pub front : (k : ℕ) → k < 32 → coefficient gf64 new k ≡ coefficient gf64 old k

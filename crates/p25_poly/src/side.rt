@@ -6,7 +6,7 @@ use crate::multiples::add_moved;
 use p25_gf64::Sym;
 
 /// A side: a rest, the factor whose product with the series gives it, and a bound on the degree of the rest. Both are
-/// coefficients, lowest first, behind 32 zeros: so a side moved up by some places is a part of its list, and each step goes over
+/// coefficients, lowest first, after 32 zeros: so a side moved up by some places is a part of its list, and each step goes over
 /// 32 places, which a compiler makes two vectors of.
 #[derive(Clone, Copy, Debug)]
 pub(crate) struct Side {

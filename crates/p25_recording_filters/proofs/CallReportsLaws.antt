@@ -19,7 +19,7 @@ use Rattle.p25_recording_filters.specs.Commands.{CallsParts, calls_reporting}
 use Rattle.p25_recording_filters.specs.Reports.{reported}
 use Rattle.p25_recording_filters.proofs.ReportsLaws.{reported-cons, reported-nil}
 
--- the lines of some calls, behind so many others
+-- the lines of some calls, after so many others
 pub calls_written : Bool → ℕ → List Call → List ℕ
 calls_written ended count calls = flat_map call_line calls ++ cond ended (calls_line (count + length calls)) []
 

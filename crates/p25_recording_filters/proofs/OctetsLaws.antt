@@ -37,7 +37,7 @@ eight-octets bits long =
     ap (λ (k : ℕ). octets_from k bits) one ∙ numbers_from-suc 8 0 bits ∙ ap (λ (zs : List ℕ). field_of (take 8 bits) ∷ zs) (numbers_from-zero 8 (drop 8 bits))
 
 module _ (kept bits : List Bool) (missing : ℕ) (few : length kept < 8) (missing_is : missing ≡ 8 - length kept) (there : missing ≤ length bits) where
-  -- kept bits and the first of those behind them fill an octet, and the others follow
+  -- kept bits and the first of those after them fill an octet, and the others follow
   pub octets-behind : (full : List Bool) → full ≡ kept ++ part 0 missing bits → (field_of (part 0 8 full) ∷ []) ++ whole_octets (drop missing bits) ≡ whole_octets (kept ++ bits)
   octets-behind full is =
       let long : length full ≡ 8 = omega (arith, ap length is, length-append kept (part 0 missing bits), length-take missing bits) in
@@ -88,7 +88,7 @@ word-octets bits long =
     ∙ ap (octets_from 8) (bits_of-field 64 0 bits long)
     ∙ numbers_from-take 8 8 64 bits (omega arith) (omega arith)
 
--- the bits behind words of octets
+-- the bits after words of octets
 octets_behind : (bits : List Bool) (at k : ℕ) → drop (at + 64 * k) bits ≡ drop (8 * (8 * k)) (drop at bits)
 octets_behind bits at k = let same : at + 64 * k ≡ at + 8 * (8 * k) = omega arith in ap (λ (n : ℕ). drop n bits) same ∙ sym (drop-drop (8 * (8 * k)) at bits)
 

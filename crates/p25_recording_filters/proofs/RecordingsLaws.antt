@@ -92,7 +92,7 @@ module _ {R : Type 0} (reporting : Reporting R) where
         pauses = λ ended more pause is. absurd (Contains-none pause is);
       }
 
-  -- an item is given behind the end of the input
+  -- an item is given after the end of the input
   given-ended : (report : R) (scan next : Scan) (item : Item) (raw : List Bool) → scan.finished ≡ true → Gave scan item raw next
       → Progress (phase_future reporting report scan Ended) [] (reporting.piece report item raw) (phase_future reporting (reporting.behind report item raw) next Ended)
   given-ended report scan next item raw done gave =

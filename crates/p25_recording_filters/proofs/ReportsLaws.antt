@@ -11,7 +11,7 @@ use Rattle.p25_recording_filters.specs.Commands.{ChangedParts, change_of, change
 use Rattle.p25_recording_filters.specs.Reports.{Reporting, report_behind, reported}
 use Rattle.p25_recording_filters.proofs.OctetsLaws.{whole_octets-append, whole_octets-few}
 
--- a first item that is given, whatever the bits behind it
+-- a first item that is given, whatever the bits after it
 pub reported-cons : {R : Type 0} (reporting : Reporting R) (ended : Bool) (report : R) (item : Item) (items : List Item) (bits : List Bool)
     → reported reporting ended report (item ∷ items) bits
     ≡ reporting.piece report item (take (covered item) bits) ++ reported reporting ended (reporting.behind report item (take (covered item) bits)) items (drop (covered item) bits)

@@ -1,4 +1,4 @@
--- What a scanner holds after one more level: the bits of the last group behind those that it held, where the level fills one.
+-- What a scanner holds after one more level: the bits of the last group after those that it held, where the level fills one.
 use Rattle.std.proofs.Common.{◌≡◌, ◌≢◌, ℕ, ◌+◌, ◌-◌, ◌*◌, ◌%◌, ◌^◌, ◌<◌, ◌≤◌, Bool, true, false, List, [], ◌∷◌, ◌++◌, length, drop, map, get_or, refl, ap, ap₂, sym, ◌∙◌, arith, length-append, ℤ, pos}
 use Rattle.std.proofs.lemmas.List.{drop-append-le}
 use Rattle.p25_bits.specs.Bits.{bits_of, part}

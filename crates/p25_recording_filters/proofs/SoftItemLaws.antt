@@ -176,7 +176,7 @@ module _ (scan next : Scan) (levels : List ℤ) (item : Item) (raw : List Bool) 
       ∙ ap (drop gone) (scanned-append ended front (drop gone levels ++ new) whole)
       ∙ drop_at front (scanned ended (drop gone levels ++ new)) gone long
 
-  -- and its bits behind the item
+  -- and its bits after the item
   bits-gone : (ended : Bool) (new : List ℤ)
       → drop (next.place % 8) (hard_bits (scanned ended (drop gone levels ++ new))) ≡ drop (covered item) (drop (scan.place % 8) (hard_bits (scanned ended (levels ++ new))))
   bits-gone ended new =
@@ -204,7 +204,7 @@ module _ (scan next : Scan) (levels : List ℤ) (item : Item) (raw : List Bool) 
         full = λ done. omega (arith, holding.full (sym gave.same ∙ done), gone-is.2, count, gone-there);
       }
 
-  -- what is written of it, and what is written behind it
+  -- what is written of it, and what is written after it
   module _ (gave_items : GaveItems) (ended : Bool) (new : List ℤ) (kept : List Bool) (all_there : scan.finished ≡ true → (ended ≡ true) × (new ≡ [])) where
     none-behind : scan.finished ≡ true → hard_bits (scanned ended (ungrouped levels ++ new)) ≡ []
     none-behind done =

@@ -5,7 +5,7 @@ use Rattle.std.proofs.lemmas.List.{take-append-drop, length-take-le, length-repl
 use Rattle.p25_bits.specs.Bits.{part}
 use Rattle.p25_recording_filters.specs.SoftLevels.{filled, grouped, scanned}
 
--- what is scanned of whole groups and others behind them
+-- what is scanned of whole groups and others after them
 filled-append : (front rest : List ℤ) → length front % 4 ≡ 0 → filled (front ++ rest) ≡ front ++ filled rest
 unfolding filled
 filled-append front rest whole =

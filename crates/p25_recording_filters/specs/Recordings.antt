@@ -67,7 +67,7 @@ phase_future reporting report scan Closed = record {
 unfoldable pub recording_future : {R : Type 0} → Reporting R → RecordingParts R → Future
 recording_future reporting work = phase_future reporting work.report work.scan work.phase
 
--- the next item was given, what is written of it was put, and the report went on behind it
+-- the next item was given, what is written of it was put, and the report went on after it
 pub record PutItem {R : Type 0} (reporting : Reporting R) (before : RecordingParts R) (out : List ℕ) (now : RecordingParts R) : Type 0 where
   pub item : Item
   pub raw : List Bool

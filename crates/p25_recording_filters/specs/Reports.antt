@@ -4,7 +4,7 @@ use Rattle.p25_units.specs.declared.item.Item.{Item}
 use Rattle.p25_units.specs.Items.{covered}
 use Rattle.p25_filter.specs.declared.ending.Ending.{Ending}
 
--- what a report writes of an item and the bits that it covers, what it is behind that item, what it writes at the end of the
+-- what a report writes of an item and the bits that it covers, what it is after that item, what it writes at the end of the
 -- input, and how the call ends then
 pub record Reporting (R : Type 0) : Type 0 where
   pub piece : R → Item → List Bool → List ℕ
@@ -19,7 +19,7 @@ reported reporting ended report (item ∷ items) bits =
     let raw = take (covered item) bits in
     reporting.piece report item raw ++ reported reporting ended (reporting.behind report item raw) items (drop (covered item) bits)
 
--- what a report is behind items that lie end to end over some bits
+-- what a report is after items that lie end to end over some bits
 unfoldable pub report_behind : {R : Type 0} → Reporting R → R → List Item → List Bool → R
 report_behind reporting report [] bits = report
 report_behind reporting report (item ∷ items) bits =

@@ -73,7 +73,7 @@ pub record IsHeardAmong (item : Item) (levels : List ℤ) (raw : List Bool) : Ty
   pub there : place_of item % 8 / 2 + covered item / 2 ≤ length levels
   pub heard : IsHeard item (item_levels item levels) raw
 
--- the next item was given, its bits, softened, were put behind those kept back, and the levels before those still held are gone
+-- the next item was given, its bits, softened, were put after those kept back, and the levels before those still held are gone
 pub record PutSoftItem (before : SoftParts) (out : List ℕ) (now : SoftParts) : Type 0 where
   pub item : Item
   pub raw : List Bool

@@ -1,13 +1,13 @@
-//! The commands that read recordings, as workers: what `show`, `check`, `repair`, `bridge`, `calls` and `soft` write of the items
+//! The commands that read recordings, as filters: what `show`, `check`, `repair`, `bridge`, `calls` and `soft` write of the items
 //! of the octets that are pushed to them.
 //!
 //! A recording is a list of bits, each octet's most significant bit first; one of levels has an octet for each two bits. A
-//! `Report` says what is written of each item, and at the end; `Recording` is the worker that scans the octets for it, and
+//! `Report` says what is written of each item, and at the end; `Recording` is the filter that scans the octets for it, and
 //! `Soft` that of a recording of levels. What they still write, whatever comes, is `recording_future` and `soft_future`.
 //!
 //! ```text
 //! let mut recording = Recording::new(Check::new());
-//! let end = work(&mut recording, &mut source, &mut sink);
+//! let end = run_filter(&mut recording, &mut source, &mut sink);
 //! ```
 #![tactic(auto)]
 

@@ -6,7 +6,7 @@ ghost use Rattle.p25_recording_filters.specs.Recordings.{fresh, IsClosing, PutIt
 
 use crate::report::Report;
 use p25_bits::BitBuf;
-use p25_filter::{Ending, Refusal, Worker};
+use p25_filter::{Ending, Filter, Refusal};
 use p25_line::Line;
 use p25_stream::Scanner;
 use p25_stream::laws::item_laws;
@@ -24,7 +24,7 @@ pub(crate) enum Phase {
     Closed,
 }
 
-/// A report at work on a recording: a worker that scans the octets pushed to it and gives what the report writes.
+/// A report at work on a recording: a filter that scans the octets pushed to it and gives what the report writes.
 #[derive(Drop)]
 pub struct Recording<R: Report> {
     report: R,
@@ -94,7 +94,7 @@ impl<R: Report> Recording<R> {
     }
 }
 
-impl<R: Report> Worker for Recording<R> {
+impl<R: Report> Filter for Recording<R> {
     ghost use Rattle.std.specs.Prelude.{◌≡◌, ◌≢◌, ◌+◌, [], length};
     ghost use Rattle.p25_stream.specs.Scan.{given};
     ghost use Rattle.p25_recording_filters.specs.declared.recording.Phase.TheVariants.{Ended};

@@ -11,7 +11,7 @@ use p25_units::Item;
 
 /// What a command writes of the items of a recording, one after the other.
 pub trait Report {
-    /// What it writes of an item and the bits that it covers, what it keeps behind it, and what it writes at the end.
+    /// What it writes of an item and the bits that it covers, what it keeps after it, and what it writes at the end.
     ghost reporting: { Reporting Self };
 
     /// How many items it has counted, at most.

@@ -12,21 +12,19 @@ ghost use Rattle.p25_recording_filters.specs.Softs.{IsHeardAmong, IsHolding, Put
 
 use crate::held_levels::HeldLevels;
 use crate::reports::put_behind;
+use p25_bch_nid::PDU;
 use p25_bits::BitBuf;
-use p25_filter::{Ending, Refusal, Worker};
+use p25_filter::{Ending, Filter, Refusal};
 use p25_line::Line;
 use p25_soft::{hard, soften};
 use p25_stream::laws::item_laws;
 use p25_stream::{Item, Scanner};
 use std::marker::Model;
 
-// The data unit identifier of a packet.
-const PACKET_DUID: u8 = 0xC;
-
 // The level with which the last group of four is filled.
 const FILLER: i8 = 32;
 
-/// A recording of levels at work: a worker that gives the bits of its items, in which failing blocks of packets are read from
+/// A recording of levels at work: a filter that gives the bits of its items, in which failing blocks of packets are read from
 /// the levels. At most seven bits that do not fill an octet are kept back.
 #[derive(Drop)]
 pub struct Soft {
@@ -102,7 +100,7 @@ fn is_even_packet(item: &Item) -> bool
     ensures { result ≡ is_even_packet item.now }
 {
     match item {
-        Item::Broken { place, duid, .. } => *duid == PACKET_DUID && *place % 2 == 0,
+        Item::Broken { place, duid, .. } => *duid == PDU && *place % 2 == 0,
         _ => false,
     }
 }
@@ -121,8 +119,8 @@ fn soften_item(item: &Item, levels: &HeldLevels, raw: &mut BitBuf)
     let _ = soften(item, levels.part(at, count), raw);
 }
 
-// Sets `out` to the octets that an item's bits, softened, fill behind those kept back, and lets the levels go before the group
-// of the place behind it.
+// Sets `out` to the octets that an item's bits, softened, fill after those kept back, and lets the levels go before the group
+// of the place after it.
 fn put_item(
     item: &Item,
     levels: &mut HeldLevels,
@@ -172,7 +170,7 @@ impl Soft {
     }
 }
 
-impl Worker for Soft {
+impl Filter for Soft {
     ghost use Rattle.std.specs.Prelude.{◌≡◌, ◌+◌, [], length};
     ghost use Rattle.p25_stream.specs.Scan.{given};
     ghost use Rattle.p25_recording_filters.specs.Softs.{first_level, soft_future};

@@ -48,7 +48,7 @@ rest_here n i f x positive = ap (λ m. value_at gf64 (n - m) (λ k. f (m + k)) x
     next : i ≡ suc (i - 1)
     next = omega arith
 
--- a power sum over 32 terms, of which those behind the listed places are zero
+-- a power sum over 32 terms, of which those after the listed places are zero
 pub sum_of_listed : (count : ℕ) (elements values : List Sym) (element : ℕ → Sym) (i : ℕ) → count ≤ 32 → ((c : ℕ) → c < count → coefficient gf64 elements c ≡ element c) → ((c : ℕ) → count ≤ c → coefficient gf64 values c ≡ gf64.zero)
     → sum_below gf64 32 (λ c. gf64.mul (coefficient gf64 values c) (power gf64 (coefficient gf64 elements c) i)) ≡ power_sum gf64 count element (coefficient gf64 values) i
 sum_of_listed count elements values element i few are rest =

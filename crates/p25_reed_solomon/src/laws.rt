@@ -6,7 +6,7 @@ ghost use Rattle.p25_gf64.specs.declared.symbol.Sym.{Sym};
 ghost use Rattle.p25_reed_solomon.specs.Words.{IsCode, IsWord};
 ghost use Rattle.p25_reed_solomon.specs.Encoding.{rs_word};
 
-/// Does nothing: its contract is that each information has a word, `rs_word`, and no other.
+/// **Theorem.** Each information has a word, `rs_word`, and no other.
 pub fn encoding_laws()
     ensures word { (n k : ℕ) (info : List Sym) → IsCode n k → length info ≡ k → IsEncoding (IsWord n k) k info (rs_word n k info) }
     ensures only { (n k : ℕ) (info word : List Sym) → IsCode n k → length info ≡ k

@@ -32,7 +32,7 @@ pub(crate) fn are_sums(syndromes: &[Sym], n: usize, places: &[usize], values: &[
     true
 }
 
-// The elements of listed places among n, with zeros behind them.
+// The elements of listed places among n, with zeros after them.
 fn elements_of(n: usize, places: &[usize]) -> [Sym; 32]
     requires places { n ≤ 63 }
     requires few { length places.now ≤ 24 }

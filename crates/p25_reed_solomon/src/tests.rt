@@ -105,7 +105,7 @@ fn with_wrong<const N: usize>(sent: &[Sym; N], count: usize) -> [Sym; N] {
     word
 }
 
-// So many marks behind the first places.
+// So many marks after the first places.
 fn marks_behind<const N: usize>(first: usize, count: usize) -> [bool; N] {
     let mut erased = [false; N];
     for gone in erased.iter_mut().skip(first).take(count) {
@@ -129,7 +129,7 @@ fn assert_marked<const N: usize, const K: usize>(
     assert_eq!(rt; word, *sent);
 }
 
-// A word is read with so many marks, and as many wrong symbols behind them as there may be: each mark costs one, each wrong symbol
+// A word is read with so many marks, and as many wrong symbols after them as there may be: each mark costs one, each wrong symbol
 // two.
 fn assert_marks<const N: usize, const K: usize>(rt: &impl Abort, sent: &str)
     requires { IsCode N K }

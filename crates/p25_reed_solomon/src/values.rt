@@ -9,7 +9,7 @@ use crate::points::{fill_values, horner_step};
 use crate::zeros::point;
 use p25_gf64::Sym;
 
-// Sets `out` to the errors at listed places among n, and zeros behind them. Times the locator's slope at the point of its place, where
+// Sets `out` to the errors at listed places among n, and zeros after them. Times the locator's slope at the point of its place, where
 // this isn't zero, each is the evaluator's value there.
 pub(crate) fn fill_errors(
     locator: &[Sym],
@@ -41,7 +41,7 @@ pub(crate) fn fill_errors(
     }
 }
 
-// The points of listed places among n, with zeros behind them.
+// The points of listed places among n, with zeros after them.
 fn points_of(n: usize, places: &[usize]) -> [Sym; 32]
     requires places { n ≤ 63 }
     requires few { length places.now ≤ 24 }

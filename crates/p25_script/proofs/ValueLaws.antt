@@ -17,7 +17,7 @@ use Rattle.p25_line.specs.Words.{is_printed, is_word}
 use Rattle.p25_line.proofs.HexLaws.{list_all-encode_lower, octets_of-encode_lower, octets_of-facts}
 use Rattle.p25_line.proofs.JoinLaws.{Lacks}
 use Rattle.p25_text.proofs.WordLaws.{digits-printed}
-use Rattle.p25_stations.specs.Sound.{IsMessage}
+use Rattle.p25_delivery.specs.SoundHalves.{IsMessage}
 use Rattle.p25_line.specs.CommaLists.{comma_text, dash, list_in}
 use Rattle.p25_script.specs.Values.{ArePlaces, has_digits_up_to, is_ascending, message_in, message_text, number_below, octets_up_to, place_in, places_in, places_text, where_ascending}
 use Rattle.p25_line.proofs.CommaListLaws.{AllFit, EntryLaws, list_in-text, text-list_in}

@@ -5,11 +5,11 @@ use Rattle.std.specs.Str.{bytes_eq}
 use Rattle.p25_line.specs.Words.{words_or_fault}
 use Rattle.p25_line.specs.declared.fault.LineFault.{LineFault}
 use Rattle.p25_line.specs.declared.fault.LineFault.TheVariants.{Form, Key, Value, Kind as WrongKind}
-use Rattle.p25_stations.specs.Sound.{IsMessage}
+use Rattle.p25_delivery.specs.SoundHalves.{IsMessage}
 use Rattle.p25_stations.specs.declared.step.Event.{Event}
 use Rattle.p25_stations.specs.declared.step.Event.TheVariants.{Send, Timeout, Reopen, ToReceiver, ToSender}
-use Rattle.p25_stations.specs.declared.step.Way.{Way}
-use Rattle.p25_stations.specs.declared.step.Way.TheVariants.{Packets, Answers}
+use Rattle.p25_delivery.specs.declared.step_kind.Way.{Way}
+use Rattle.p25_delivery.specs.declared.step_kind.Way.TheVariants.{Packets, Answers}
 use Rattle.p25_script.specs.Values.{ArePlaces, message_in, message_text, places_in, places_text}
 use Rattle.p25_script.specs.declared.names.EventKind.{EventKind}
 use Rattle.p25_script.specs.declared.names.EventKind.TheVariants.{Send as SendLine, Timeout as TimeoutLine, Reopen as ReopenLine, Deliver as DeliverLine}

@@ -5,8 +5,8 @@ use Rattle.p25_bits.specs.Numbers.{joined_below, octets_from}
 use Rattle.p25_text.specs.ItemTexts.{field_name}
 use Rattle.p25_stations.specs.WorldState.{WorldState}
 use Rattle.p25_stations.specs.declared.step.Step.{Step}
-use Rattle.p25_stations.specs.declared.step.StepKind.{StepKind}
-use Rattle.p25_stations.specs.declared.step.StepKind.TheVariants.{Taken, Busy, OfferDown, Resent, Idle, TimeoutDown, Reopened, Up, Nothing, Lost, Ignored, Delivered, SynHeard, Again, Kept, RefusedCrc, RefusedOrder, Acknowledged, LinkOpened, Retry, Repeat, AnswerDown}
+use Rattle.p25_delivery.specs.declared.step_kind.StepKind.{StepKind}
+use Rattle.p25_delivery.specs.declared.step_kind.StepKind.TheVariants.{Taken, Busy, OfferDown, Resent, Idle, TimeoutDown, Reopened, Up, Nothing, Lost, Ignored, Delivered, SynHeard, Again, Kept, RefusedCrc, RefusedOrder, Acknowledged, LinkOpened, Retry, Repeat, AnswerDown}
 use Rattle.p25_line.specs.CommaLists.{comma_text}
 use Rattle.p25_script.specs.Script.{way_word}
 use Rattle.p25_script.specs.Values.{message_text}
@@ -65,6 +65,6 @@ sessions_text sessions = cond (nat_lt 1 sessions) (codes " sessions=" ++ decimal
 -- the text that closes a run, without the end of its line
 unfoldable pub closing_text_of : WorldState → List ℕ
 closing_text_of world =
-    codes "sent=" ++ decimal (length world.sent) ++ codes " delivered=" ++ decimal (length world.delivered)
-    ++ codes " acknowledged=" ++ decimal world.acknowledged ++ codes " false=" ++ decimal world.false_passes
-    ++ sessions_text (length world.marks + 1)
+    codes "sent=" ++ decimal (length world.link.outbound.sent) ++ codes " delivered=" ++ decimal (length world.link.inbound.received)
+    ++ codes " acknowledged=" ++ decimal world.link.outbound.acknowledged ++ codes " false=" ++ decimal world.false_passes
+    ++ sessions_text (length world.link.outbound.marks + 1)

@@ -2,7 +2,7 @@
 
 ghost use Rattle.std.specs.Prelude.{◌≡◌, ◌≢◌, ℕ, ◌<◌, ◌≤◌, List, length, Ok};
 ghost use Rattle.p25_stations.specs.Runs.{IsEvent};
-ghost use Rattle.p25_stations.specs.Sound.{IsMessage};
+ghost use Rattle.p25_delivery.specs.SoundHalves.{IsMessage};
 ghost use Rattle.p25_stations.specs.declared.step.Event.{Event as event_type};
 ghost use Rattle.p25_stations.specs.declared.step.Event.TheVariants.{Send, ToReceiver, ToSender};
 ghost use Rattle.p25_script.specs.Script.{IsScripted, event_of, event_text};

@@ -35,6 +35,6 @@ deviation_of [] levels = 0
 deviation_of (dibit ∷ dibits) [] = 0
 deviation_of (dibit ∷ dibits) (level ∷ levels) = squared_deviation dibit level + deviation_of dibits levels
 
--- the same over the dibits of bits
+-- by how much levels deviate from bits
 unfoldable pub bits_deviation : List Bool → List ℤ → ℕ
 bits_deviation bits levels = deviation_of (dibits_of bits) levels

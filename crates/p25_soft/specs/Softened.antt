@@ -22,7 +22,7 @@ use Rattle.p25_soft.specs.SoftPaths.{soft_block}
 unfoldable pub sent_dibit : ℕ → ℕ
 sent_dibit d = d + d / 35
 
--- the levels of the block at place j behind the header block, whose dibits are those from 154 + 98·j on
+-- the levels of the block at place j after the header block, whose dibits are those from 154 + 98·j on
 unfoldable pub block_levels : List ℤ → ℕ → List ℤ
 block_levels levels j = each_below 98 (λ i. slice_index_or levels (sent_dibit (154 + 98 * j + i)) (pos 0))
 
@@ -62,7 +62,7 @@ unfoldable pub told_blocks : Result PacketHead Field → ℕ
 told_blocks (Ok head) = head_blocks head
 told_blocks (Err field) = 0
 
--- that of the packet whose sent bits these are
+-- how many blocks follow in the packet whose sent bits these are
 unfoldable pub blocks_to_follow : List Bool → ℕ
 blocks_to_follow sent = told_blocks (sent_head_of sent)
 

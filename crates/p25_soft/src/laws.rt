@@ -10,7 +10,7 @@ ghost use Rattle.p25_soft.specs.SoftPaths.{soft_cost, soft_octets, soft_path};
 use p25_trellis::laws::{nearest_laws, paths_apart};
 use p25_trellis::{Half, Rate, ThreeQuarter};
 
-/// Does nothing: its contract is what levels read as.
+/// **Theorem.** What levels read as.
 ///
 /// - `reading`: the octets and the cost that `soft_octets` and `soft_path` give are those of the first least path.
 /// - `near`: levels that deviate from a block by a sum of squares below 1,024 times the least number of bits in which two
@@ -27,7 +27,7 @@ pub fn soft_laws<R: Rate>()
     paths_apart::<R>()
 }
 
-/// Does nothing: its contract is what levels read as at half rate. Those that deviate from a block by a sum of squares below
+/// **Theorem.** What levels read as at half rate. Those that deviate from a block by a sum of squares below
 /// 5,120 read as its octets. The nominal levels of a block have its bits as hard bits, and read as its octets by `read_soft`
 /// as the bits do by `read_block`.
 pub fn half_rate_soft()
@@ -41,7 +41,7 @@ pub fn half_rate_soft()
     soft_laws::<Half>()
 }
 
-/// Does nothing: its contract is the same at three-quarter rate, below 3,072.
+/// **Theorem.** The same at three-quarter rate, below 3,072.
 pub fn three_quarter_rate_soft()
     ensures near { (octets : List ℕ) (levels : List ℤ) → length octets ≡ 18 → All (λ octet. octet < 256) octets → length levels ≡ 98
         → bits_deviation (three_quarter_block octets) levels < 3072 → soft_octets 8 3 three_quarter_point levels ≡ octets }

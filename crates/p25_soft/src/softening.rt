@@ -7,20 +7,12 @@ ghost use Rattle.p25_soft.specs.SoftPaths.{soft_block};
 ghost use Rattle.p25_soft.specs.Softened.{IsHeard, block_levels, blocks_replaced, blocks_to_follow, is_block, names_all, names_block, sent_dibit, softened, softened_block, softened_count, softened_packet};
 
 use crate::reading::{BLOCK_LEVELS, read_soft};
+use p25_bch_nid::PDU;
 use p25_bits::BitBuf;
-use p25_packet_blocks::read_sent_head;
+use p25_packet_blocks::{BLOCK_LENGTH, BLOCKS_AT, read_sent_head};
 use p25_status::{Field, FieldList, Statuses, unweave, weave};
 use p25_trellis::{Half, Rate, ThreeQuarter, encode_block};
 use p25_units::Item;
-
-// The data unit identifier of a packet.
-const PACKET_DUID: u8 = 0xC;
-
-// Where the blocks to follow begin in a unit without status symbols.
-const BLOCKS_AT: usize = 308;
-
-// How many bits a block has.
-const BLOCK_LENGTH: usize = 196;
 
 // How many dibits of a unit stand before each of its status symbols.
 const PLAIN_DIBITS: usize = 35;
@@ -72,7 +64,7 @@ fn fails_block(fields: &FieldList, j: u8) -> bool
     false
 }
 
-// The levels of the block at a place behind the header block.
+// The levels of the block at a place after the header block.
 fn levels_of(levels: &[i8], j: usize) -> [i8; BLOCK_LEVELS]
     requires place { j ≤ 126 }
     requires there { sent_dibit (154 + 98 * j + 97) < length levels.now }
@@ -187,7 +179,7 @@ pub fn soften(item: &Item, levels: &[i8], raw: &mut BitBuf) -> u32
 {
     match item {
         Item::Broken { duid, fields, .. } => {
-            if *duid == PACKET_DUID {
+            if *duid == PDU {
                 soften_packet(fields, levels, raw)
             } else {
                 0

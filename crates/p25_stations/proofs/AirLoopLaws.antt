@@ -5,8 +5,6 @@ use Rattle.std.proofs.lemmas.List.{take_more, drop_more}
 use Rattle.std.proofs.Math.Bool.{and-false}
 use Rattle.std.proofs.lemmas.Option.{get_or_from_slice_get}
 use Rattle.p25_bits.specs.Bits.{flipped}
-use Rattle.p25_packet_blocks.specs.declared.head.PacketHead.{PacketHead}
-use Rattle.p25_packet_blocks.specs.Heads.{head_blocks}
 use Rattle.p25_packet_blocks.specs.declared.block.Slot.{Slot}
 use Rattle.p25_packet_blocks.specs.declared.block.Slot.TheVariants.{Bad}
 use Rattle.p25_stations.specs.Air.{with_flips, is_true_slot, are_true_slots}
@@ -63,9 +61,3 @@ are_true_slots-lengths [] (slot ∷ heard) h = refl
 are_true_slots-lengths (was ∷ sent) [] h = refl
 are_true_slots-lengths (was ∷ sent) (slot ∷ heard) h =
     ap (λ (b : Bool). is_true_slot was slot && b) (are_true_slots-lengths sent heard (λ e. h (ap suc e))) ∙ and-false (is_true_slot was slot)
-
--- Headers.
-
-pub blocks-few : (head : PacketHead) → head_blocks head < 128
-unfolding head_blocks
-blocks-few head = omega arith

@@ -1,13 +1,9 @@
 pub mod AirLoopLaws
 pub mod AirLaws
 pub mod FewFlipsLaws
-pub mod SendableLaws
-pub mod SendingLaws
-pub mod ReceivingLaws
-pub mod SoundWorldsLaws
+pub mod StepLaws
+pub mod NewestLaws
 pub mod SoundLaws
-pub mod WorldOfLaws
-pub mod SimulationLaws
 pub mod CleanLaws
 pub mod TriesLaws
 pub mod FalsePassLaws

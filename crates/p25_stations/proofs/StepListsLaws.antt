@@ -1,6 +1,7 @@
--- Each step adds to the world's lists the messages that it tells of: by cases on what the stations answer; and a run by induction.
-use Rattle.std.proofs.Common.{◌≡◌, ℕ, Bool, true, false, List, [], ◌∷◌, ◌++◌, Option, Some, None, refl, ap, sym, ◌∙◌, append_assoc, append-nil}
-use Rattle.p25_packet_blocks.specs.declared.packet.Packet.{Packet}
+-- Each step adds to the world's lists the messages that it tells of, and counts one acknowledged where it is Acknowledged: by
+-- cases on what the stations answer; and a run by induction.
+use Rattle.std.proofs.Common.{◌≡◌, ℕ, ◌+◌, Bool, true, false, cond, List, [], ◌∷◌, ◌++◌, length, refl, ap, sym, ◌∙◌, arith, append_assoc, append-nil}
+use Rattle.std.proofs.lemmas.List.Sums.{sum_by-cons}
 use Rattle.p25_delivery.specs.SenderState.{Sending}
 use Rattle.p25_delivery.specs.ReceiverState.{Receiving}
 use Rattle.p25_delivery.specs.SenderRules.{offered, timed_out, sender_heard, reopened, is_opening}
@@ -15,117 +16,130 @@ use Rattle.p25_delivery.specs.declared.sender.Reopen.{Reopen as ReopenAnswer}
 use Rattle.p25_delivery.specs.declared.sender.Reopen.TheVariants.{Sent as ReopenSent, Up as ReopenUp}
 use Rattle.p25_delivery.specs.declared.receiver.Heard.{Heard as HeardAnswer}
 use Rattle.p25_delivery.specs.declared.receiver.Heard.TheVariants.{Delivered as HeardDelivered, Opened as ReceiverOpened, Again as HeardAgain, Kept as HeardKept, RefusedCrc as HeardCrc, RefusedOrder as HeardOrder, Ignored as ReceiverIgnored}
-use Rattle.p25_stations.specs.Air.{carried_of}
-use Rattle.p25_stations.specs.declared.air.Carried.{Carried}
-use Rattle.p25_stations.specs.declared.air.Carried.TheVariants.{Lost as CarriedLost, Foreign, Heard}
+use Rattle.p25_delivery.specs.declared.step_kind.StepKind.{StepKind}
+use Rattle.p25_delivery.specs.HalfRules.{after_offer, after_timeout, after_reopening, after_data, after_answer}
+use Rattle.p25_delivery.specs.Link.{Link, Happening, with_outbound, with_inbound, happens}
 use Rattle.p25_stations.specs.declared.step.Event.{Event}
 use Rattle.p25_stations.specs.declared.step.Event.TheVariants.{Send, Timeout, Reopen, ToReceiver, ToSender}
-use Rattle.p25_stations.specs.declared.step.StepKind.{StepKind}
-use Rattle.p25_stations.specs.Runs.{steps_of, world_run}
-use Rattle.p25_stations.specs.StepLists.{delivered_by, delivered_in, sent_by, sent_in}
-use Rattle.p25_stations.specs.Steps.{after_answer, after_data, after_offer, after_reopening, after_timeout, answer_carried, answer_delivered, counted_when, data_carried, data_delivered, heard_step, world_step}
+use Rattle.p25_stations.specs.declared.step.Step.{Step}
 use Rattle.p25_stations.specs.WorldState.{WorldState}
+use Rattle.p25_stations.specs.Steps.{world_step}
+use Rattle.p25_stations.specs.Runs.{steps_of, world_run}
+use Rattle.p25_stations.specs.StepLists.{delivered_by, delivered_in, sent_by, sent_in, is_acknowledged, acknowledged_in}
+use Rattle.p25_stations.proofs.StepLaws.{HasHappen, offers, is_late, opens, brings_data, brings_answer, IsQuiet, nothing, lost, ignored, Does, rests, does, step-does}
 
--- what an event and its step add to the lists of a world
-record Tells (w : WorldState) (event : Event) (then : WorldState) (kind : StepKind) : Type 0 where
-  pub delivered : then.delivered ≡ w.delivered ++ delivered_by kind
-  pub sent : then.sent ≡ w.sent ++ sent_by event kind
+-- what an event of a kind adds to the lists of a link
+record Tells (event : Event) (w : Link) (x : Link × StepKind) : Type 0 where
+  pub delivered : x.0.inbound.received ≡ w.inbound.received ++ delivered_by x.1
+  pub sent : x.0.outbound.sent ≡ w.outbound.sent ++ sent_by event x.1
+  pub acknowledged : x.0.outbound.acknowledged ≡ w.outbound.acknowledged + cond (is_acknowledged x.1) 1 0
 
+-- nothing more
 none : (messages : List (List ℕ)) → messages ≡ messages ++ []
 none messages = sym (append-nil messages)
 
-offer-tells : (w : WorldState) (message : List ℕ) (answer : Sending × Offer) → Tells w (Send message) (after_offer w message answer).0 (after_offer w message answer).1
-unfolding after_offer
-offer-tells w message (s, OfferTaken number blocks packet) = record { delivered = none w.delivered; sent = refl }
-offer-tells w message (s, OfferBusy) = record { delivered = none w.delivered; sent = none w.sent }
-offer-tells w message (s, DownAtOffer) = record { delivered = none w.delivered; sent = none w.sent }
+-- the lists stay as they are, and nothing is told
+silent : (event : Event) (w : Link) (x : Link × StepKind) → (x.0.inbound.received ≡ w.inbound.received) × (x.0.outbound.sent ≡ w.outbound.sent) × (x.0.outbound.acknowledged ≡ w.outbound.acknowledged) →
+    (delivered_by x.1 ≡ []) × (sent_by event x.1 ≡ []) × (is_acknowledged x.1 ≡ false) → Tells event w x
+silent event w x same told =
+    record {
+      delivered = same.0 ∙ none w.inbound.received ∙ ap (λ (ms : List (List ℕ)). w.inbound.received ++ ms) (sym told.0);
+      sent = same.1 ∙ none w.outbound.sent ∙ ap (λ (ms : List (List ℕ)). w.outbound.sent ++ ms) (sym told.1);
+      acknowledged = omega (arith, same.2, ap (λ (b : Bool). cond {A = ℕ} b 1 0) told.2);
+    }
 
-timeout-tells : (w : WorldState) (answer : Sending × Resend) → Tells w Timeout (after_timeout w answer).0 (after_timeout w answer).1
-unfolding after_timeout
-timeout-tells w (s, Sent number tries packet) = record { delivered = none w.delivered; sent = none w.sent }
-timeout-tells w (s, ResendIdle) = record { delivered = none w.delivered; sent = none w.sent }
-timeout-tells w (s, DownAtTimeout) = record { delivered = none w.delivered; sent = none w.sent }
+offer-tells : (w : Link) (message : List ℕ) (answer : Sending × Offer) → Tells (Send message) w (with_outbound w (after_offer w.outbound message answer))
+unfolding with_outbound after_offer
+offer-tells w message (s, OfferTaken number blocks packet) = record { delivered = none w.inbound.received; sent = refl; acknowledged = omega arith }
+offer-tells w message (s, OfferBusy) = silent (Send message) w _ (refl, refl, refl) (refl, refl, refl)
+offer-tells w message (s, DownAtOffer) = silent (Send message) w _ (refl, refl, refl) (refl, refl, refl)
 
-reopen-tells : (w : WorldState) (opening : Bool) (answer : Sending × ReopenAnswer) → Tells w Reopen (after_reopening w opening answer).0 (after_reopening w opening answer).1
-unfolding after_reopening
-reopen-tells w true (s, ReopenSent number packet) = record { delivered = none w.delivered; sent = none w.sent }
-reopen-tells w false (s, ReopenSent number packet) = record { delivered = none w.delivered; sent = none w.sent }
-reopen-tells w true (s, ReopenUp) = record { delivered = none w.delivered; sent = none w.sent }
-reopen-tells w false (s, ReopenUp) = record { delivered = none w.delivered; sent = none w.sent }
+timeout-tells : (w : Link) (answer : Sending × Resend) → Tells Timeout w (with_outbound w (after_timeout w.outbound answer))
+unfolding with_outbound after_timeout
+timeout-tells w (s, Sent number tries packet) = silent Timeout w _ (refl, refl, refl) (refl, refl, refl)
+timeout-tells w (s, ResendIdle) = silent Timeout w _ (refl, refl, refl) (refl, refl, refl)
+timeout-tells w (s, DownAtTimeout) = silent Timeout w _ (refl, refl, refl) (refl, refl, refl)
 
-data-tells : (w : WorldState) (flips : List ℕ) (answer : Receiving × HeardAnswer) → Tells w (ToReceiver flips) (after_data w answer).0 (after_data w answer).1
-unfolding after_data
-data-tells w flips (r, HeardDelivered number message answer) = record { delivered = refl; sent = none w.sent }
-data-tells w flips (r, ReceiverOpened number answer) = record { delivered = none w.delivered; sent = none w.sent }
-data-tells w flips (r, HeardAgain number answer) = record { delivered = none w.delivered; sent = none w.sent }
-data-tells w flips (r, HeardKept number flags answer) = record { delivered = none w.delivered; sent = none w.sent }
-data-tells w flips (r, HeardCrc number answer) = record { delivered = none w.delivered; sent = none w.sent }
-data-tells w flips (r, HeardOrder last answer) = record { delivered = none w.delivered; sent = none w.sent }
-data-tells w flips (r, ReceiverIgnored) = record { delivered = none w.delivered; sent = none w.sent }
+reopen-tells : (w : Link) (count : ℕ) (again : Bool) (answer : Sending × ReopenAnswer) → Tells Reopen w (with_outbound w (after_reopening w.outbound count again answer))
+unfolding with_outbound after_reopening
+reopen-tells w count true (s, ReopenSent number packet) = silent Reopen w _ (refl, refl, refl) (refl, refl, refl)
+reopen-tells w count false (s, ReopenSent number packet) = silent Reopen w _ (refl, refl, refl) (refl, refl, refl)
+reopen-tells w count true (s, ReopenUp) = silent Reopen w _ (refl, refl, refl) (refl, refl, refl)
+reopen-tells w count false (s, ReopenUp) = silent Reopen w _ (refl, refl, refl) (refl, refl, refl)
 
-answer-tells : (w : WorldState) (flips : List ℕ) (answer : Sending × SenderHeard) → Tells w (ToSender flips) (after_answer w answer).0 (after_answer w answer).1
-unfolding after_answer
-answer-tells w flips (s, HeardAck number) = record { delivered = none w.delivered; sent = none w.sent }
-answer-tells w flips (s, SenderOpened number) = record { delivered = none w.delivered; sent = none w.sent }
-answer-tells w flips (s, HeardRetry number wanted tries packet) = record { delivered = none w.delivered; sent = none w.sent }
-answer-tells w flips (s, HeardRepeat number tries packet) = record { delivered = none w.delivered; sent = none w.sent }
-answer-tells w flips (s, SenderIgnored) = record { delivered = none w.delivered; sent = none w.sent }
-answer-tells w flips (s, DownAtAnswer) = record { delivered = none w.delivered; sent = none w.sent }
+data-tells : (w : Link) (flips : List ℕ) (answer : Receiving × HeardAnswer) → Tells (ToReceiver flips) w (with_inbound w (after_data w.inbound answer))
+unfolding with_inbound after_data
+data-tells w flips (r, HeardDelivered number message answer) = record { delivered = refl; sent = none w.outbound.sent; acknowledged = omega arith }
+data-tells w flips (r, ReceiverOpened number answer) = silent (ToReceiver flips) w _ (refl, refl, refl) (refl, refl, refl)
+data-tells w flips (r, HeardAgain number answer) = silent (ToReceiver flips) w _ (refl, refl, refl) (refl, refl, refl)
+data-tells w flips (r, HeardKept number flags answer) = silent (ToReceiver flips) w _ (refl, refl, refl) (refl, refl, refl)
+data-tells w flips (r, HeardCrc number answer) = silent (ToReceiver flips) w _ (refl, refl, refl) (refl, refl, refl)
+data-tells w flips (r, HeardOrder last answer) = silent (ToReceiver flips) w _ (refl, refl, refl) (refl, refl, refl)
+data-tells w flips (r, ReceiverIgnored) = silent (ToReceiver flips) w _ (refl, refl, refl) (refl, refl, refl)
 
--- counting a false pass adds nothing
-counted-tells : (false_pass : Bool) (w : WorldState) (event : Event) (after : WorldState × StepKind) → Tells w event after.0 after.1
-    → Tells w event (heard_step false_pass after).0 (heard_step false_pass after).1.kind
-unfolding counted_when
-counted-tells true w event (then, kind) tells = record { delivered = tells.delivered; sent = tells.sent }
-counted-tells false w event (then, kind) tells = record { delivered = tells.delivered; sent = tells.sent }
+answer-tells : (w : Link) (flips : List ℕ) (answer : Sending × SenderHeard) → Tells (ToSender flips) w (with_outbound w (after_answer w.outbound answer))
+unfolding with_outbound after_answer
+answer-tells w flips (s, HeardAck number) = record { delivered = none w.inbound.received; sent = none w.outbound.sent; acknowledged = omega arith }
+answer-tells w flips (s, SenderOpened number) = silent (ToSender flips) w _ (refl, refl, refl) (refl, refl, refl)
+answer-tells w flips (s, HeardRetry number wanted tries packet) = silent (ToSender flips) w _ (refl, refl, refl) (refl, refl, refl)
+answer-tells w flips (s, HeardRepeat number tries packet) = silent (ToSender flips) w _ (refl, refl, refl) (refl, refl, refl)
+answer-tells w flips (s, SenderIgnored) = silent (ToSender flips) w _ (refl, refl, refl) (refl, refl, refl)
+answer-tells w flips (s, DownAtAnswer) = silent (ToSender flips) w _ (refl, refl, refl) (refl, refl, refl)
 
-data_carried-tells : (w : WorldState) (flips : List ℕ) (carried : Carried) → Tells w (ToReceiver flips) (data_carried w carried).0 (data_carried w carried).1.kind
-unfolding data_carried
-data_carried-tells w flips (CarriedLost field) = record { delivered = none w.delivered; sent = none w.sent }
-data_carried-tells w flips Foreign = record { delivered = none w.delivered; sent = none w.sent }
-data_carried-tells w flips (Heard packet false_pass) =
-    counted-tells false_pass w (ToReceiver flips) (after_data w (receiver_heard w.receiver packet)) (data-tells w flips (receiver_heard w.receiver packet))
+happening-tells : (w : Link) (event : Event) (false_pass : Bool) (happening : Happening) → HasHappen w event false_pass happening → Tells event w (happens w happening)
+unfolding happens
+happening-tells w event false_pass happening (offers message) = offer-tells w message (offered w.outbound.sender message)
+happening-tells w event false_pass happening is_late = timeout-tells w (timed_out w.outbound.sender)
+happening-tells w event false_pass happening opens = reopen-tells w (length w.inbound.received) (is_opening w.outbound.sender.outstanding) (reopened w.outbound.sender)
+happening-tells w event false_pass happening (brings_data flips sent packet b n e) = data-tells w flips (receiver_heard w.inbound.receiver packet)
+happening-tells w event false_pass happening (brings_answer flips sent packet b n e) = answer-tells w flips (sender_heard w.outbound.sender packet)
 
-answer_carried-tells : (w : WorldState) (flips : List ℕ) (carried : Carried) → Tells w (ToSender flips) (answer_carried w carried).0 (answer_carried w carried).1.kind
-unfolding answer_carried
-answer_carried-tells w flips (CarriedLost field) = record { delivered = none w.delivered; sent = none w.sent }
-answer_carried-tells w flips Foreign = record { delivered = none w.delivered; sent = none w.sent }
-answer_carried-tells w flips (Heard packet false_pass) =
-    counted-tells false_pass w (ToSender flips) (after_answer w (sender_heard w.sender packet)) (answer-tells w flips (sender_heard w.sender packet))
+-- a quiet step is none of an event that sends
+quiet-tells : (event : Event) (w : Link) (kind : StepKind) → IsQuiet kind → sent_by event kind ≡ [] → Tells event w (w, kind)
+quiet-tells event w kind (nothing way) none_sent = silent event w _ (refl, refl, refl) (refl, none_sent, refl)
+quiet-tells event w kind (lost way field) none_sent = silent event w _ (refl, refl, refl) (refl, none_sent, refl)
+quiet-tells event w kind (ignored way) none_sent = silent event w _ (refl, refl, refl) (refl, none_sent, refl)
 
-data_delivered-tells : (w : WorldState) (flips : List ℕ) (packet : Option Packet) → Tells w (ToReceiver flips) (data_delivered w packet flips).0 (data_delivered w packet flips).1.kind
-unfolding data_delivered
-data_delivered-tells w flips None = record { delivered = none w.delivered; sent = none w.sent }
-data_delivered-tells w flips (Some packet) = data_carried-tells w flips (carried_of packet flips)
+none-sent : (event : Event) (kind : StepKind) → IsQuiet kind → sent_by event kind ≡ []
+none-sent (Send message) kind (nothing way) = refl
+none-sent (Send message) kind (lost way field) = refl
+none-sent (Send message) kind (ignored way) = refl
+none-sent Timeout kind quiet = refl
+none-sent Reopen kind quiet = refl
+none-sent (ToReceiver flips) kind quiet = refl
+none-sent (ToSender flips) kind quiet = refl
 
-answer_delivered-tells : (w : WorldState) (flips : List ℕ) (packet : Option Packet) → Tells w (ToSender flips) (answer_delivered w packet flips).0 (answer_delivered w packet flips).1.kind
-unfolding answer_delivered
-answer_delivered-tells w flips None = record { delivered = none w.delivered; sent = none w.sent }
-answer_delivered-tells w flips (Some packet) = answer_carried-tells w flips (carried_of packet flips)
+told : (w : WorldState) (event : Event) (x : WorldState × Step) → Does w event x → Tells event w.link (x.0.link, x.1.kind)
+told w event x (rests kind quiet) = quiet-tells event w.link kind quiet (none-sent event kind quiet)
+told w event x (does happening false_pass has) = happening-tells w.link event false_pass happening has
 
-step-tells : (w : WorldState) (event : Event) → Tells w event (world_step w event).0 (world_step w event).1.kind
-unfolding world_step
-step-tells w (Send message) = offer-tells w message (offered w.sender message)
-step-tells w Timeout = timeout-tells w (timed_out w.sender)
-step-tells w Reopen = reopen-tells w (is_opening w.sender.outstanding) (reopened w.sender)
-step-tells w (ToReceiver flips) = data_delivered-tells w flips w.packet_sent
-step-tells w (ToSender flips) = answer_delivered-tells w flips w.answer
+step-tells : (w : WorldState) (event : Event) → Tells event w.link ((world_step w event).0.link, (world_step w event).1.kind)
+step-tells w event = told w event (world_step w event) (step-does w event)
 
--- a run adds what its steps tell of
-pub run-delivered : (events : List Event) (w : WorldState) → (world_run w events).delivered ≡ w.delivered ++ delivered_in (steps_of w events)
+-- A run adds what its steps tell of.
+
+pub run-delivered : (events : List Event) (w : WorldState) → (world_run w events).link.inbound.received ≡ w.link.inbound.received ++ delivered_in (steps_of w events)
 unfolding world_run steps_of delivered_in
-run-delivered [] w = none w.delivered
+run-delivered [] w = none w.link.inbound.received
 run-delivered (event ∷ events) w =
     let step = world_step w event in
     run-delivered events step.0
     ∙ ap (λ (ms : List (List ℕ)). ms ++ delivered_in (steps_of step.0 events)) (step-tells w event).delivered
-    ∙ append_assoc w.delivered (delivered_by step.1.kind) (delivered_in (steps_of step.0 events))
+    ∙ append_assoc w.link.inbound.received (delivered_by step.1.kind) (delivered_in (steps_of step.0 events))
 
-pub run-sent : (events : List Event) (w : WorldState) → (world_run w events).sent ≡ w.sent ++ sent_in events (steps_of w events)
+pub run-sent : (events : List Event) (w : WorldState) → (world_run w events).link.outbound.sent ≡ w.link.outbound.sent ++ sent_in events (steps_of w events)
 unfolding world_run steps_of sent_in
-run-sent [] w = none w.sent
+run-sent [] w = none w.link.outbound.sent
 run-sent (event ∷ events) w =
     let step = world_step w event in
     run-sent events step.0
     ∙ ap (λ (ms : List (List ℕ)). ms ++ sent_in events (steps_of step.0 events)) (step-tells w event).sent
-    ∙ append_assoc w.sent (sent_by event step.1.kind) (sent_in events (steps_of step.0 events))
+    ∙ append_assoc w.link.outbound.sent (sent_by event step.1.kind) (sent_in events (steps_of step.0 events))
+
+pub run-acknowledged : (events : List Event) (w : WorldState) → (world_run w events).link.outbound.acknowledged ≡ w.link.outbound.acknowledged + acknowledged_in (steps_of w events)
+unfolding world_run steps_of
+run-acknowledged [] w = omega arith
+run-acknowledged (event ∷ events) w =
+    let step = world_step w event in
+    let more = sum_by-cons (λ (s : Step). cond (is_acknowledged s.kind) 1 0) step.1 (steps_of step.0 events) in
+    omega (arith, run-acknowledged events step.0, (step-tells w event).acknowledged, more)

@@ -1,5 +1,5 @@
 -- What contracts see of the fields of a world.
-use Rattle.std.specs.Prelude.{ℕ, ◌-◌, min, vec_len, vec_capacity}
+use Rattle.std.specs.Prelude.{ℕ, min}
 use Rattle.p25_stations.specs.declared.world.World.TheInside.{Inside}
 use Rattle.p25_stations.specs.WorldState.{WorldState}
 
@@ -7,17 +7,10 @@ use Rattle.p25_stations.specs.WorldState.{WorldState}
 abbrev pub state_of : Inside → WorldState
 state_of w =
     record {
-      sender = w.sender;
-      receiver = w.receiver;
-      packet_sent = w.packet_sent;
-      answer = w.answer;
-      sent = w.sent.list;
-      delivered = w.delivered.list;
-      acknowledged = w.acknowledged;
+      link = record { outbound = w.outbound.half; inbound = w.inbound.half; packet_sent = w.packet_sent; answer = w.answer };
       false_passes = w.false_passes;
-      marks = w.marks.items;
     }
 
--- for how many steps there is room: one more message sent, one more delivered, and one more session ended in each
+-- for how many steps there is room: that of both halves
 abbrev pub spare_of : Inside → ℕ
-spare_of w = min (min w.sent.spare w.delivered.spare) (vec_capacity w.marks - vec_len w.marks)
+spare_of w = min w.outbound.spare w.inbound.spare

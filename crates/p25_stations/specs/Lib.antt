@@ -3,7 +3,6 @@ pub mod WorldState
 pub mod Sound
 pub mod Steps
 pub mod Runs
-pub mod Links
 pub mod RunLaws
 pub mod Inside
 pub mod StepLists

@@ -3,8 +3,8 @@ use Rattle.std.specs.Prelude.{◌≡◌, ℕ, ◌+◌, ◌≤◌, false, List, [
 use Rattle.p25_packet_blocks.specs.declared.packet.Packet.{Packet}
 use Rattle.p25_stations.specs.declared.step.Event.{Event}
 use Rattle.p25_stations.specs.declared.step.Event.TheVariants.{Send, Timeout, Reopen, ToReceiver, ToSender}
-use Rattle.p25_stations.specs.declared.step.StepKind.{StepKind}
-use Rattle.p25_stations.specs.declared.step.StepKind.TheVariants.{Taken, Busy, OfferDown, Resent, Idle, TimeoutDown, Reopened, Up, Nothing, Lost, Ignored, Delivered, SynHeard, Again, Kept, RefusedCrc, RefusedOrder, Acknowledged, LinkOpened, Retry, Repeat, AnswerDown}
+use Rattle.p25_delivery.specs.declared.step_kind.StepKind.{StepKind}
+use Rattle.p25_delivery.specs.declared.step_kind.StepKind.TheVariants.{Taken, Resent, Reopened, Acknowledged, LinkOpened, Retry, Repeat}
 use Rattle.p25_stations.specs.declared.step.Step.{Step}
 use Rattle.p25_stations.specs.Air.{ArrivesWithin, places_within}
 use Rattle.p25_stations.specs.WorldState.{WorldState}
@@ -15,8 +15,8 @@ unfoldable pub IsWithin : WorldState → Event → Type 0
 IsWithin w (Send message) = Unit {0}
 IsWithin w Timeout = Unit {0}
 IsWithin w Reopen = Unit {0}
-IsWithin w (ToReceiver flips) = IfSome w.packet_sent (λ packet. ArrivesWithin packet flips)
-IsWithin w (ToSender flips) = IfSome w.answer (λ packet. ArrivesWithin packet flips)
+IsWithin w (ToReceiver flips) = IfSome w.link.packet_sent (λ packet. ArrivesWithin packet flips)
+IsWithin w (ToSender flips) = IfSome w.link.answer (λ packet. ArrivesWithin packet flips)
 
 -- each event of a list, at its moment
 unfoldable pub AreWithin : WorldState → List Event → Type 0
@@ -28,8 +28,8 @@ unfoldable pub IsTwiceDamaged : WorldState → Event → Type 0
 IsTwiceDamaged w (Send message) = ⊥
 IsTwiceDamaged w Timeout = ⊥
 IsTwiceDamaged w Reopen = ⊥
-IsTwiceDamaged w (ToReceiver flips) = (packet : Packet) × (w.packet_sent ≡ Some packet) × (2 ≤ places_within packet flips)
-IsTwiceDamaged w (ToSender flips) = (packet : Packet) × (w.answer ≡ Some packet) × (2 ≤ places_within packet flips)
+IsTwiceDamaged w (ToReceiver flips) = (packet : Packet) × (w.link.packet_sent ≡ Some packet) × (2 ≤ places_within packet flips)
+IsTwiceDamaged w (ToSender flips) = (packet : Packet) × (w.link.answer ≡ Some packet) × (2 ≤ places_within packet flips)
 
 -- a step that is no false pass
 abbrev pub true_step : StepKind → Step
@@ -37,31 +37,17 @@ true_step kind = record { kind = kind; false_pass = false }
 
 -- how often the present message or opening packet was sent, after a step before which it was sent so often: a taken message
 -- and an opening begin a count, an acknowledgement and an opened link end it, and what is sent again counts on
-unfoldable pub tries_after : ℕ → StepKind → ℕ
+abbrev pub tries_after : ℕ → StepKind → ℕ
 tries_after tries (Taken number blocks) = tries + 1
-tries_after tries Busy = tries
-tries_after tries OfferDown = tries
 tries_after tries (Resent number again) = tries + 1
-tries_after tries Idle = tries
-tries_after tries TimeoutDown = tries
 tries_after tries (Reopened number) = 1
-tries_after tries Up = tries
-tries_after tries (Nothing way) = tries
-tries_after tries (Lost way field) = tries
-tries_after tries (Ignored way) = tries
-tries_after tries (Delivered number message) = tries
-tries_after tries (SynHeard number) = tries
-tries_after tries (Again number) = tries
-tries_after tries (Kept number flags) = tries
-tries_after tries (RefusedCrc number) = tries
-tries_after tries (RefusedOrder last) = tries
 tries_after tries (Acknowledged number) = 0
 tries_after tries (LinkOpened number) = 0
 tries_after tries (Retry number wanted again) = tries + 1
 tries_after tries (Repeat number again) = tries + 1
-tries_after tries AnswerDown = tries
+tries_after tries kind = tries
 
--- the number of transmissions since the last step that ended or began a count: of all steps that send one, those behind the
+-- the number of transmissions since the last step that ended or began a count: of all steps that send one, those after the
 -- last Acknowledged or LinkOpened, or from the last Reopened on
 unfoldable pub tries_in : ℕ → List Step → ℕ
 tries_in tries [] = tries

@@ -1,14 +1,11 @@
--- Runs of the world: its state and its steps after a list of events, its sessions, and what makes a run clean.
-use Rattle.std.specs.Prelude.{◌≡◌, ◌-◌, false, List, [], ◌∷◌}
-use Rattle.p25_bits.specs.Bits.{part}
-use Rattle.p25_delivery.specs.Link.{Session}
-use Rattle.p25_stations.specs.declared.mark.Mark.{Mark}
+-- Runs of the world: its state and its steps after a list of events, and what makes a run clean.
+use Rattle.std.specs.Prelude.{◌≡◌, false, List, [], ◌∷◌}
+use Rattle.p25_delivery.specs.SoundHalves.{IsMessage}
 use Rattle.p25_stations.specs.declared.step.Event.{Event}
 use Rattle.p25_stations.specs.declared.step.Event.TheVariants.{Send, Timeout, Reopen, ToReceiver, ToSender}
 use Rattle.p25_stations.specs.declared.step.Step.{Step}
 use Rattle.p25_stations.specs.WorldState.{WorldState, first_world}
-use Rattle.p25_stations.specs.Sound.{IsMessage}
-use Rattle.p25_stations.specs.Steps.{present_mark, world_step}
+use Rattle.p25_stations.specs.Steps.{world_step}
 
 -- what every event keeps: what is sent is a message of at most 2,028 octets
 unfoldable pub IsEvent : Event → Type 0
@@ -39,21 +36,3 @@ AreClean (step ∷ steps) = (step.false_pass ≡ false) × AreClean steps
 
 abbrev pub IsCleanRun : List Event → Type 0
 IsCleanRun events = AreClean (steps_of first_world events)
-
--- the session between two marks of a world
-abbrev pub session_between : Mark → Mark → WorldState → Session
-session_between from to w =
-    record {
-      sent = part from.sent (to.sent - from.sent) w.sent;
-      delivered = part from.delivered (to.delivered - from.delivered) w.delivered;
-      acknowledged = to.acknowledged - from.acknowledged;
-    }
-
--- the sessions of a world from a mark on: each lies between two marks that are neighbors, and the last behind all marks
-unfoldable pub sessions_from : Mark → List Mark → WorldState → List Session
-sessions_from from [] w = session_between from (present_mark w) w ∷ []
-sessions_from from (mark ∷ marks) w = session_between from mark w ∷ sessions_from mark marks w
-
--- the sessions of a world: those between its marks, the first before all of them and the last behind them
-abbrev pub sessions_of : WorldState → List Session
-sessions_of w = sessions_from (record { sent = 0; delivered = 0; acknowledged = 0 }) w.marks w

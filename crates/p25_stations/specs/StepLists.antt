@@ -1,10 +1,10 @@
--- The messages that steps tell of.
-use Rattle.std.specs.Prelude.{ℕ, List, [], ◌∷◌, ◌++◌}
+-- The messages that steps tell of, and the number of those that they acknowledge.
+use Rattle.std.specs.Prelude.{count_by, ℕ, Bool, true, false, List, [], ◌∷◌, ◌++◌}
 use Rattle.p25_stations.specs.declared.step.Event.{Event}
 use Rattle.p25_stations.specs.declared.step.Event.TheVariants.{Send}
 use Rattle.p25_stations.specs.declared.step.Step.{Step}
-use Rattle.p25_stations.specs.declared.step.StepKind.{StepKind}
-use Rattle.p25_stations.specs.declared.step.StepKind.TheVariants.{Taken, Delivered}
+use Rattle.p25_delivery.specs.declared.step_kind.StepKind.{StepKind}
+use Rattle.p25_delivery.specs.declared.step_kind.StepKind.TheVariants.{Taken, Delivered, Acknowledged}
 
 -- the message of a Delivered step, and none of any other
 abbrev pub delivered_by : StepKind → List (List ℕ)
@@ -26,3 +26,12 @@ unfoldable pub sent_in : List Event → List Step → List (List ℕ)
 sent_in [] steps = []
 sent_in events [] = []
 sent_in (event ∷ events) (step ∷ steps) = sent_by event step.kind ++ sent_in events steps
+
+-- whether a step is Acknowledged
+abbrev pub is_acknowledged : StepKind → Bool
+is_acknowledged (Acknowledged number) = true
+is_acknowledged kind = false
+
+-- the number of the Acknowledged steps
+abbrev pub acknowledged_in : List Step → ℕ
+acknowledged_in steps = count_by (λ (step : Step). is_acknowledged step.kind) steps

@@ -1,27 +1,27 @@
 //! What the air keeps, what every run of the world keeps, and what every run without a false pass. Each function makes no call
 //! of its own: its contract is the theorem.
 
-ghost use Rattle.std.specs.Prelude.{◌≡◌, ℕ, ◌≤◌, true, false, List, [], ◌∷◌, ◌++◌, length, None, ◌<◌, ◌↔◌};
+ghost use Rattle.std.specs.Prelude.{◌≡◌, ℕ, ◌≤◌, true, false, List, [], ◌∷◌, length, ◌<◌, ◌↔◌};
 ghost use Rattle.p25_delivery.specs.MessageBlocks.{block_count};
 ghost use Rattle.p25_delivery.specs.SenderRules.{opening_number};
 ghost use Rattle.p25_delivery.specs.declared.sender_state.Outstanding.TheVariants.{Nothing};
 ghost use Rattle.p25_delivery.specs.Orderly.{AreOrderly, AreCounted};
+ghost use Rattle.p25_delivery.specs.Link.{sessions_of};
 ghost use Rattle.p25_delivery.specs.Facts.{LinkFacts};
 ghost use Rattle.p25_stations.specs.declared.step.Event.{Event as event_type};
 ghost use Rattle.p25_stations.specs.declared.step.Event.TheVariants.{Send, Reopen, ToReceiver, ToSender};
-ghost use Rattle.p25_stations.specs.declared.step.StepKind.TheVariants.{Taken, Reopened, Delivered, SynHeard, Acknowledged, LinkOpened};
-ghost use Rattle.p25_stations.specs.WorldState.{WorldState, first_world};
-ghost use Rattle.p25_stations.specs.Sound.{IsMessage, IsSound};
+ghost use Rattle.p25_delivery.specs.declared.step_kind.StepKind.TheVariants.{Taken, Reopened, Delivered, SynHeard, Acknowledged, LinkOpened};
+ghost use Rattle.p25_stations.specs.WorldState.{first_world};
+ghost use Rattle.p25_delivery.specs.SoundHalves.{IsMessage};
 ghost use Rattle.p25_stations.specs.Steps.{world_step};
-ghost use Rattle.p25_stations.specs.Runs.{IsEvent, AreEvents, world_run, steps_of, IsCleanRun, sessions_of};
-ghost use Rattle.p25_stations.specs.Links.{link_of, IsWorldOf};
+ghost use Rattle.p25_stations.specs.Runs.{AreEvents, world_run, steps_of, IsCleanRun};
 ghost use Rattle.p25_stations.specs.RunLaws.{IsWithin, AreWithin, IsTwiceDamaged, true_step, tries_in};
 ghost use Rattle.p25_packet_blocks.specs.declared.packet.Packet.{Packet as packet_type};
 ghost use Rattle.p25_packet_blocks.specs.Sendable.{IsSendable};
 ghost use Rattle.p25_delivery.specs.Clean.{IsTrueTo};
 ghost use Rattle.p25_stations.specs.declared.air.Carried.TheVariants.{Heard as heard_packet};
 ghost use Rattle.p25_stations.specs.Air.{is_true_to, carried_of, ArrivesWithin, places_within};
-ghost use Rattle.p25_stations.specs.StepLists.{delivered_in, sent_in};
+ghost use Rattle.p25_stations.specs.StepLists.{delivered_in, sent_in, acknowledged_in};
 
 use p25_packet_blocks::laws::packet_radius;
 
@@ -30,21 +30,20 @@ use p25_packet_blocks::laws::packet_radius;
 /// one at most was delivered that was not acknowledged.
 pub fn clean_runs_are_orderly()
     ensures { (events : List event_type) → AreEvents events → IsCleanRun events →
-        AreOrderly (sessions_of (world_run first_world events)) }
+        AreOrderly (sessions_of (world_run first_world events).link) }
 {}
 
-/// **Theorem.** Its clauses say which facts a world keeps while no step was a false pass. The world has the stations,
-/// the newest transmissions and the sessions of a link, and the link keeps the facts that `LinkFacts` names.
+/// **Theorem.** Its clause says that the link of a world keeps the facts that `LinkFacts` names while no step was a false
+/// pass.
 pub fn world_facts()
-    ensures link { (events : List event_type) → IsWorldOf (link_of events) (world_run first_world events) }
-    ensures facts { (events : List event_type) → AreEvents events → IsCleanRun events → LinkFacts (link_of events) }
+    ensures { (events : List event_type) → AreEvents events → IsCleanRun events → LinkFacts (world_run first_world events).link }
 {}
 
 /// **Theorem.** Its clauses say what every run keeps, clean or not. In each session what was acknowledged was sent, and
 /// one message at most was sent that was not acknowledged. A message or an opening packet is sent 16 times at most. And no
 /// step was a false pass exactly where none is counted.
 pub fn runs_are_counted()
-    ensures sessions { (events : List event_type) → AreCounted (sessions_of (world_run first_world events)) }
+    ensures sessions { (events : List event_type) → AreCounted (sessions_of (world_run first_world events).link) }
     ensures tries { (events : List event_type) → AreEvents events → tries_in 0 (steps_of first_world events) ≤ 16 }
     ensures clean { (events : List event_type) → (world_run first_world events).false_passes ≡ 0 → IsCleanRun events }
     ensures none { (events : List event_type) → IsCleanRun events → (world_run first_world events).false_passes ≡ 0 }
@@ -68,16 +67,17 @@ pub fn damage_within_radius()
 pub fn deliveries_within_radius()
     ensures delivered { (events : List event_type) (message first second : List ℕ) → AreEvents events →
         (world_run first_world events).false_passes ≡ 0 → IsMessage message →
-        (world_run first_world events).sender.outstanding ≡ Nothing →
+        (world_run first_world events).link.outbound.sender.outstanding ≡ Nothing →
         AreWithin (world_run first_world events) (Send message ∷ ToReceiver first ∷ ToSender second ∷ []) →
-        (let number = (world_run first_world events).sender.next in
+        (let number = (world_run first_world events).link.outbound.sender.next in
         steps_of (world_run first_world events) (Send message ∷ ToReceiver first ∷ ToSender second ∷ []) ≡
         true_step (Taken number (block_count (length message))) ∷ true_step (Delivered number message) ∷
         true_step (Acknowledged number) ∷ []) }
     ensures opened { (events : List event_type) (first second : List ℕ) → AreEvents events →
-        (world_run first_world events).sender.down ≡ true →
+        (world_run first_world events).link.outbound.sender.down ≡ true →
         AreWithin (world_run first_world events) (Reopen ∷ ToReceiver first ∷ ToSender second ∷ []) →
-        (let number = opening_number (world_run first_world events).sender.outstanding (world_run first_world events).sender.next in
+        (let sender = (world_run first_world events).link.outbound.sender in
+        let number = opening_number sender.outstanding sender.next in
         steps_of (world_run first_world events) (Reopen ∷ ToReceiver first ∷ ToSender second ∷ []) ≡
         true_step (Reopened number) ∷ true_step (SynHeard number) ∷ true_step (LinkOpened number) ∷ []) }
 {
@@ -100,8 +100,13 @@ pub fn air_is_true()
 }
 
 /// **Theorem.** Its clauses say that the steps of every run tell its lists. The messages of the Delivered steps, in order,
-/// are those delivered, and the messages of the events whose step is Taken are those sent.
+/// are those delivered, the messages of the events whose step is Taken are those sent, and the number of the Acknowledged
+/// steps is that of the messages acknowledged.
 pub fn steps_tell_lists()
-    ensures delivered { (events : List event_type) → (world_run first_world events).delivered ≡ delivered_in (steps_of first_world events) }
-    ensures sent { (events : List event_type) → (world_run first_world events).sent ≡ sent_in events (steps_of first_world events) }
+    ensures delivered { (events : List event_type) →
+        (world_run first_world events).link.inbound.received ≡ delivered_in (steps_of first_world events) }
+    ensures sent { (events : List event_type) →
+        (world_run first_world events).link.outbound.sent ≡ sent_in events (steps_of first_world events) }
+    ensures acknowledged { (events : List event_type) →
+        (world_run first_world events).link.outbound.acknowledged ≡ acknowledged_in (steps_of first_world events) }
 {}

@@ -19,13 +19,14 @@
 
 mod air;
 pub mod laws;
-mod mark;
 mod step;
 mod truth;
 mod world;
 
 pub use air::{Carried, carry, transmit};
-pub use mark::Mark;
-pub use p25_delivery::{Heard, Offer, Receiver, Reopen, Resend, Sender, SenderHeard};
-pub use step::{Event, Step, StepKind, Way};
+pub use p25_delivery::{
+    Heard, Offer, Receiver, Reopen, Resend, Sender, SenderHeard, StepKind, Way,
+};
+pub use p25_messages::{Flips, Message, MessageList};
+pub use step::{Event, Step};
 pub use world::World;

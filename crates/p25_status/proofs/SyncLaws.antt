@@ -56,7 +56,7 @@ pub has_sync-no : (bits : List Bool) → sync_slack < distance_of (take 48 bits)
 unfolding has_sync
 has_sync-no bits far = and_right (nat_le 48 (length bits)) (nat_le (distance_of (take 48 bits) sync_bits) sync_slack) (lt-leb (distance_of (take 48 bits) sync_bits) sync_slack far)
 
--- bits behind the first 48 change nothing
+-- bits after the first 48 change nothing
 pub has_sync-append : (bits more : List Bool) → 48 ≤ length bits → has_sync (bits ++ more) ≡ has_sync bits
 unfolding has_sync
 has_sync-append bits more long =
@@ -69,7 +69,7 @@ has_sync-take bits count enough there =
     let long : 48 ≤ length (take count bits) = omega (arith, length-take count bits) in
     sym (has_sync-append (take count bits) (drop count bits) long) ∙ ap has_sync (take-append-drop count bits)
 
--- the sync begins with a sync, whatever stands behind it
+-- the sync begins with a sync, whatever stands after it
 pub has_sync-sync_bits : (more : List Bool) → has_sync (sync_bits ++ more) ≡ true
 has_sync-sync_bits more =
     let long : 48 ≤ length (sync_bits ++ more) = omega (arith, length-append sync_bits more, length-sync_bits) in

@@ -65,7 +65,7 @@ woven_more bits statuses i status out longer h is =
     ∙ append_assoc out block (symbol ++ rest)
     ∙ ap (λ xs. out ++ xs) (sym (woven_block bits statuses i status h))
 
--- the same for the bits of a block taken apart
+-- the bits of one block more, taken apart
 pub plain_more : (blocks i : ℕ) (sent out longer block : List Bool) → i < blocks → block ≡ part (72 * i) 70 sent → longer ≡ out ++ block
     → longer ++ plain_in (blocks - (i + 1)) (drop (72 * (i + 1)) sent) ≡ out ++ plain_in (blocks - i) (drop (72 * i) sent)
 plain_more blocks i sent out longer block h same is =
@@ -74,7 +74,7 @@ plain_more blocks i sent out longer block h same is =
     ∙ append_assoc out (part (72 * i) 70 sent) rest
     ∙ ap (λ xs. out ++ xs) (sym (plain_block blocks i sent h))
 
--- the same for its symbol
+-- the status symbol of one block more, taken apart
 pub statuses_more : (blocks i : ℕ) (sent : List Bool) (out longer : List Status) (status : Status) → i < blocks
     → status ≡ status_from_bits (get_or sent (72 * i + 70) false) (get_or sent (72 * i + 71) false) → longer ≡ out ++ status ∷ []
     → longer ++ statuses_in (blocks - (i + 1)) (drop (72 * (i + 1)) sent) ≡ out ++ statuses_in (blocks - i) (drop (72 * i) sent)

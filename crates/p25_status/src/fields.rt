@@ -60,6 +60,15 @@ impl FieldList {
         }
     }
 
+    /// Answers the list of one field.
+    pub fn one(field: Field) -> FieldList
+        ensures { result ≡ field ∷ [] }
+    {
+        let mut fields = FieldList::new();
+        fields.push(field);
+        fields
+    }
+
     /// Answers the number of fields held.
     pub fn len(&self) -> usize
         ensures value { result ≡ length self.now }

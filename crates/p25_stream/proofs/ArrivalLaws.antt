@@ -1,4 +1,4 @@
--- Units end to end are whole, by induction on their list: each is decided by its own bits. A unit behind other bits is found there, by
+-- Units end to end are whole, by induction on their list: each is decided by its own bits. A unit after other bits is found there, by
 -- induction on the number of those bits: the first item of them ends before it, or it is a unit that covers its first bit.
 use Rattle.std.proofs.Common.{◌≡◌, ℕ, zero, suc, ◌+◌, ◌<◌, ◌≤◌, ◌⊎◌, inl, inr, Bool, true, false, List, [], ◌∷◌, ◌++◌, length, drop, refl, ap, ap₂, sym, ◌∙◌, subst, arith, append_assoc, append-nil, length-append, length-drop}
 use Rattle.std.proofs.lemmas.Bool.{cases_lt}
@@ -43,7 +43,7 @@ module _ (at : ℕ) (arrival : Arrival) (is : IsNearArrival arrival) where
       let read = whole-within at arrival.bits at (frame_arrived arrival) _ alone.0 in
       (read.sound, read.sendable)
 
-  -- where bits begin with it, it is the first of the items, and those of the bits behind it follow
+  -- where bits begin with it, it is the first of the items, and those of the bits after it follow
   pub items_by-arrival : (ended : Bool) (more : List Bool) → items_by ended at (arrival.bits ++ more) ≡ whole_of at arrival ∷ items_by ended (at + length arrival.bits) more
   items_by-arrival ended more =
       items_by-decided ended at arrival.bits more alone.1
@@ -65,7 +65,7 @@ units-whole ended at (arrival ∷ arrivals) more near =
     ∙ ap (λ (n : ℕ). whole_of at arrival ∷ (wholes_of (at + length bits) arrivals ++ items_by ended n more)) place
     ∙ ap (λ (items : List Item). items ++ items_by ended (at + length (bits ++ later)) more) (sym (wholes_of-cons at arrival arrivals))
 
--- a unit behind other bits
+-- a unit after other bits
 module _ (place : ℕ) (arrival : Arrival) (more : List Bool) (is : IsNearArrival arrival) where
   abbrev rest : List Bool
   rest = arrival.bits ++ more

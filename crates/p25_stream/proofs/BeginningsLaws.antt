@@ -132,7 +132,7 @@ was-stays beginning bits was few =
     subst (λ (xs : List Bool). IsBeginning beginning xs) (sym was.is)
     (waits-stays beginning was.before was.more was.known (ap (λ (xs : List Bool). waits beginning (length xs)) (sym was.is) ∙ few))
 
--- the bits that a gap covers are known by the first place behind them with a sync, or by their number
+-- the bits that a gap covers are known by the first place after them with a sync, or by their number
 pub gap-before_sync : (bits : List Bool) (k : ℕ) → 0 < k → k < 4096 → k ≤ sync_place bits → k + 48 ≤ length bits → has_sync (drop k bits) ≡ true → IsKnownGap bits k
 gap-before_sync bits k some few none there yes' =
     let place : sync_place bits ≡ k = omega (arith, sync_place-from k bits none, sync_place-synced (drop k bits) yes') in

@@ -32,7 +32,7 @@ pub sync_place-synced : (bits : List Bool) → has_sync bits ≡ true → sync_p
 sync_place-synced [] yes' = sync_place-nil
 sync_place-synced (bit ∷ bits) yes' = sync_place-here bit bits yes'
 
--- where some places have none, what is behind them decides where the least is
+-- where some places have none, what is after them decides where the least is
 pub sync_place-from : (count : ℕ) (bits : List Bool) → count ≤ sync_place bits → sync_place bits ≡ count + sync_place (drop count bits)
 sync_place-from zero bits few = omega arith
 sync_place-from (suc count) [] few = absurd (omega (arith, sync_place-nil))

@@ -1,4 +1,4 @@
--- Units that were sent one behind the other, and what came of them: where each is found again among the items of a stream.
+-- Units that were sent one after the other, and what came of them: where each is found again among the items of a stream.
 use Rattle.std.specs.Prelude.{◌≡◌, ℕ, ◌+◌, ◌<◌, Bool, List, [], ◌∷◌, ◌++◌, length, All, ◌⊎◌}
 use Rattle.std.specs.List.{flat_map, sum_by}
 use Rattle.p25_units.specs.Fixes.{fixes_of}
@@ -38,7 +38,7 @@ unfoldable pub wholes_of : ℕ → List Arrival → List Item
 wholes_of place [] = []
 wholes_of place (arrival ∷ arrivals) = whole_of place arrival ∷ wholes_of (place + length arrival.bits) arrivals
 
--- where units begin, each within radius, the items are these units, whole and as received, and then those of the bits behind
+-- where units begin, each within radius, the items are these units, whole and as received, and then those of the bits after
 -- them; a stream that goes on has given them too
 abbrev pub UnitsAreWhole : Type 0
 UnitsAreWhole =
@@ -64,7 +64,7 @@ pub record IsHidden (place : ℕ) (items : List Item) : Type 0 where
   pub covers : place < place_of item + covered item
 
 -- among the items of some bits is the unit of an arrival, whole and as received, at its place: the items before it end there,
--- and those behind it are those of the bits that follow
+-- and those after it are those of the bits that follow
 pub record IsFound (at place : ℕ) (arrival : Arrival) (more : List Bool) (items : List Item) : Type 0 where
   pub before : List Item
   pub among : items ≡ before ++ whole_of place arrival ∷ items_of (place + length arrival.bits) more

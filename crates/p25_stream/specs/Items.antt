@@ -30,11 +30,11 @@ unfoldable pub first_item : ℕ → List Bool → Item
 first_item at bits = cond (has_sync bits) (synced_item at bits (need_of bits)) (Gap at (gap_of bits))
 
 -- a gap of so many bits is known once the 48 bits from each of its places are there, and where it is shorter than 4,096,
--- those from the place behind it too
+-- those from the place after it too
 abbrev pub gap_known : ℕ → ℕ → Bool
 gap_known count have = nat_le (min (count + 48) (4096 + 47)) have
 
--- the first item of some bits is the first whatever bits come behind them
+-- the first item of some bits is the first whatever bits come after them
 unfoldable pub is_decided : List Bool → Bool
 is_decided bits = cond (has_sync bits) (is_known (need_of bits)) (gap_known (gap_of bits) (length bits))
 

@@ -53,7 +53,7 @@ fn put_eight(octets: &[u8], held: &mut BitBuf)
     held.put_field(word, 64);
 }
 
-// Does nothing: its contract says that octets fit.
+// Its contract says that octets fit.
 fn fit(octets: &[u8])
     ensures { All (λ octet. octet < 256) octets.now }
 {

@@ -5,7 +5,7 @@ ghost use Rattle.p25_stream.specs.Beginnings.{is_settled, waits};
 
 use p25_units::{Begun, Field};
 
-// How many bits behind a place are needed to judge it.
+// How many bits after a place are needed to judge it.
 pub(crate) const BEHIND: usize = 47;
 
 /// What a scanner remembers of the item that the bits it holds begin with.
@@ -13,7 +13,7 @@ pub(crate) const BEHIND: usize = 47;
 pub enum Beginning {
     /// Nothing is known: the first so many places have no sync, and no others can be judged yet.
     Searching(usize),
-    /// A sync, behind which so many bits have to be there, and what was read of a unit.
+    /// A sync, after which so many bits have to be there, and what was read of a unit.
     Waiting(usize, Begun),
     /// A gap of so many bits.
     Gap(usize),

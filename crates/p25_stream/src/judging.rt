@@ -175,7 +175,7 @@ fn none_of_many(held: &BitBuf, from: usize, count: usize) -> bool
     true
 }
 
-// The same by all that is there to be read, apart from the caller.
+// Judges by all that is there to be read, apart from the caller.
 #[inline(never)]
 fn judge_more(beginning: &mut Beginning, held: &BitBuf)
     requires was { WasBeginning beginning.old held.now }
@@ -200,7 +200,7 @@ fn beginning_after(beginning: Beginning, held: &BitBuf) -> Beginning
     }
 }
 
-// The same at a sync behind which so many bits were waited for.
+// What begins at a sync after which so many bits were waited for.
 fn beginning_waiting(held: &BitBuf, count: usize, begun: Begun) -> Beginning
     requires { WasBeginning (Beginning.Waiting count begun) held.now }
     ensures { IsBeginning result held.now }

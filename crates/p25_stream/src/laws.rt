@@ -3,7 +3,7 @@
 ghost use Rattle.p25_stream.specs.Arrivals.{UnitIsFound, UnitsAreWhole};
 ghost use Rattle.p25_stream.specs.ItemLaws.{DecidedStay, FirstStays, GapsAreFull, GaveItems, ImageIsWhole, ItemsAreSound, ItemsCoverAll, ItemsLieEndToEnd, ItemsUnfold, NearIsWhole, SentTerminatorIsRead, SyncPlaceIsLeast, TerminatorIsRead, TerminatorIsThere, WholeIsWithin};
 
-/// Does nothing: its contract is the laws of the items of a stream, over all bits.
+/// **Theorem.** The laws of the items of a stream, over all bits.
 ///
 /// - `sync`: a gap ends before the least place that has a sync.
 /// - `recursion`: the items are the first item of the bits, and then those of what it leaves, as far as they are decided.
@@ -37,10 +37,10 @@ pub fn item_laws()
     ensures gave { GaveItems }
 {}
 
-/// Does nothing: its contract is where units that were sent are found again, over all lists of them and all bits around them.
+/// **Theorem.** Where units that were sent are found again, over all lists of them and all bits around them.
 ///
 /// - `whole`: where bits begin with units, each within radius of its image, the items begin with these units, each whole and as
-///   received, at the place where it lies, with its wrong bits as fixes; then come the items of the bits behind them.
+///   received, at the place where it lies, with its wrong bits as fixes; then come the items of the bits after them.
 /// - `found`: a unit within radius is such an item wherever it begins, unless a unit that begins before it, whole, broken or
 ///   cut, covers its first bit.
 pub fn arrival_laws()

@@ -20,7 +20,7 @@ pub fn repair_item(item: &Item, raw: &mut BitBuf)
 }
 
 /// Does the same as `repair_item`. `room` takes the frame's bits without status symbols, so that no buffer has to be made; what
-/// it holds before and behind the call means nothing.
+/// it holds before and after the call means nothing.
 pub fn repair_item_in(item: &Item, room: &mut BitBuf, raw: &mut BitBuf)
     requires { IsSoundItem item.now }
     ensures { raw.new ≡ repaired item.now raw.old }
@@ -69,18 +69,6 @@ fn bridge_frame(frame: &Frame, nac: u16, status: Status, out: &mut BitBuf)
     requires nac { nac < 4096 }
     ensures { out.new ≡ image_of (bridged_frame nac status frame.now) }
 {
-    let statuses = repeated(status, frame.statuses.len());
+    let statuses = Statuses::filled(status, frame.statuses.len());
     image_as(frame, nac, &statuses, out);
-}
-
-// So many status symbols that are one.
-fn repeated(status: Status, count: usize) -> Statuses
-    requires { count ≤ 360 }
-    ensures { result ≡ replicate count status }
-{
-    let mut statuses = Statuses::new();
-    while statuses.len() < count {
-        statuses.push(status);
-    }
-    statuses
 }

@@ -108,7 +108,7 @@ fn change_bit(octets: &mut [u8], place: usize, told: Option<bool>)
     }
 }
 
-// Puts a name and its number behind a text.
+// Puts a name and its number after a text.
 fn put_named(text: &mut Line, name: &[u8], number: u64) {
     if text.len() <= 4_000 && name.len() <= 20 {
         text.put(name);

@@ -10,7 +10,7 @@ use Rattle.p25_filter.specs.declared.ending.Ending.{Ending}
 use Rattle.p25_filter.specs.Futures.{Future}
 use Rattle.p25_filter.specs.Lines.{closing_by, lines_in, read_of, refusal_in, texts_before}
 use Rattle.p25_filter.specs.LineRules.{machine_behind, texts_of}
-use Rattle.p25_filter.specs.LineWorks.{first_line, line_future}
+use Rattle.p25_filter.specs.LineFilters.{first_line, line_future}
 use Rattle.p25_filter.proofs.RulesLaws.{first_line-ends, first_line-pauses, first_line-writes}
 use Rattle.p25_tool.specs.declared.build.Build.{Build}
 use Rattle.p25_tool.specs.declared.command.Command.TheVariants.{Show as ShowIt, Check as CheckIt, Repair as RepairIt, Bridge as BridgeIt, Build as BuildIt, Stations as StationsIt, Calls as CallsIt, Fragments as FragmentsIt, Soft as SoftIt}
@@ -43,7 +43,7 @@ use Rattle.p25_tool.specs.Runs.{command_future}
 use Rattle.p25_recording_filters.proofs.CallReportsLaws.{reported-calls}
 use Rattle.p25_recording_filters.proofs.ReportsLaws.{behind-check, reported-changed, reported-check, reported-show}
 
--- two futures write and end alike, and memory may be wanting behind the same texts
+-- two futures write and end alike, and memory may be wanting after the same texts
 pub record AreAlike (f g : Future) : Type 0 where
   pub writes : (is : Bool) (octets : List ℕ) → f.writes is octets ≡ g.writes is octets
   pub ends : (is : Bool) (octets : List ℕ) → f.ends is octets ≡ g.ends is octets
@@ -118,7 +118,7 @@ build-alike status = record {
   pauses = λ is octets. first_line-pauses read_line_of _ _ false (record { status = status }) is octets;
 }
 
--- the lines of steps, one after the other, and the world behind them
+-- the lines of steps, one after the other, and the world after them
 told : (events : List Event) (world : WorldState) → texts_of told_step world events ≡ map step_line (steps_of world events)
 unfolding texts_of steps_of
 told [] world = refl
@@ -155,7 +155,7 @@ calls-alike report empty = record {
   pauses = λ is octets. refl;
 }
 
--- the texts of steps of long messages, one after the other, and the world behind them
+-- the texts of steps of long messages, one after the other, and the world after them
 told-long : (events : List LongEvent) (world : LongState) → texts_of told_long world events ≡ map long_step_text_of (long_steps_of world events)
 unfolding texts_of long_steps_of
 told-long [] world = refl

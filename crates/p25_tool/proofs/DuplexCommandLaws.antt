@@ -8,7 +8,7 @@ use Rattle.p25_duplex.specs.DuplexSteps.{duplex_step}
 use Rattle.p25_duplex.specs.DuplexRuns.{duplex_run, duplex_steps}
 use Rattle.p25_filter.specs.Lines.{closing_by, lines_in, read_of, refusal_in, texts_before}
 use Rattle.p25_filter.specs.LineRules.{machine_behind, texts_of}
-use Rattle.p25_filter.specs.LineWorks.{first_line, line_future}
+use Rattle.p25_filter.specs.LineFilters.{first_line, line_future}
 use Rattle.p25_filter.proofs.RulesLaws.{first_line-ends, first_line-pauses, first_line-writes}
 use Rattle.p25_tool.specs.declared.command.Command.TheVariants.{Duplex}
 use Rattle.p25_duplex_script.specs.DuplexLines.{duplex_event_of}
@@ -17,7 +17,7 @@ use Rattle.p25_tool.specs.Outputs.{duplex_closing_lines, duplex_step_line}
 use Rattle.p25_tool.specs.Runs.{command_future}
 use Rattle.p25_tool.proofs.CommandsLaws.{AreAlike}
 
--- the lines of steps, one after the other, and the world behind them
+-- the lines of steps, one after the other, and the world after them
 told : (events : List DuplexEvent) (d : DuplexState) → texts_of told_duplex d events ≡ map duplex_step_line (duplex_steps d events)
 unfolding texts_of duplex_steps
 told [] d = refl

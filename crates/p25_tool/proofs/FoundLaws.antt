@@ -1,4 +1,4 @@
--- A unit within radius among any bits: the items before it and behind it are written before its own and behind it. `repair` keeps the
+-- A unit within radius among any bits: the items before it and after it are written before its own and after it. `repair` keeps the
 -- number of bits of each item, so the image of the unit stands at its place.
 use Rattle.std.proofs.Common.{◌≡◌, ℕ, ◌+◌, ◌/◌, ◌%◌, ◌≤◌, ◌⊎◌, inl, inr, Bool, true, List, [], ◌∷◌, ◌++◌, length, take, drop, refl, ap, sym, ◌∙◌, subst, arith, append_assoc, append-nil, length-append, length-take}
 use Rattle.std.specs.List.{flat_map, sum_by}
@@ -54,7 +54,7 @@ repaired-as_many at bits (NoUnit place field) same fits = omega (arith, length-t
 repaired-as_many at bits (Gap place count) same fits = omega (arith, length-take count bits)
 repaired-as_many at bits (Cut place have) same fits = omega (arith, length-take have bits)
 
--- the repaired bits of some items, and then those of the items behind them
+-- the repaired bits of some items, and then those of the items after them
 record IsRepairedTo (before items : List Item) (bits : List Bool) : Type 0 where
   front : List Bool
   as_many : length front ≡ sum_by covered before

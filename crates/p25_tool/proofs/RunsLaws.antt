@@ -7,26 +7,26 @@ use Rattle.std.proofs.lemmas.Bool.{cases_lt}
 use Rattle.std.proofs.lemmas.Bool.Decides.{nat_tests}
 use Rattle.p25_io.specs.Octets.{Taken}
 use Rattle.p25_filter.specs.Futures.{Future}
-use Rattle.p25_filter.specs.Runs.{IsFinal, IsTooLong, Worked, all_written, input_most}
+use Rattle.p25_filter.specs.Runs.{IsFinal, IsTooLong, Filtered, all_written, input_most}
 use Rattle.p25_filter.specs.declared.ending.Ending.{Ending}
 use Rattle.p25_filter.specs.declared.ending.Ending.TheVariants.{Done, Found, BadLine}
-use Rattle.p25_filter.specs.declared.ending.WorkEnd.{WorkEnd}
-use Rattle.p25_filter.specs.declared.ending.WorkEnd.TheVariants.{Ended, ReadFault, WriteFault, TooLong as InputTooLong, Memory as NoMemory}
+use Rattle.p25_filter.specs.declared.ending.FilterEnd.{FilterEnd}
+use Rattle.p25_filter.specs.declared.ending.FilterEnd.TheVariants.{Ended, ReadFault, WriteFault, TooLong as InputTooLong, Memory as NoMemory}
 use Rattle.p25_filter.proofs.LinesLaws.{Contains-none}
 use Rattle.p25_filter.proofs.RunsLaws.{ended-input, first-take, told-parts}
-use Rattle.p25_filter.proofs.SameLaws.{Worked-same, all_written-same}
+use Rattle.p25_filter.proofs.SameLaws.{Filtered-same, all_written-same}
 use Rattle.p25_tool.specs.declared.command.Command.{Command}
 use Rattle.p25_tool.specs.declared.command.Command.TheVariants.{Show, Check, Repair, Bridge, Build, Calls, Soft, Stations, Duplex, Fragments, Sample}
 use Rattle.p25_tool.specs.declared.outcome.Outcome.{Outcome}
 use Rattle.p25_tool.specs.declared.outcome.Outcome.TheVariants.{TooLong, Memory}
-use Rattle.p25_tool.specs.Outcomes.{ending_outcome, work_outcome}
+use Rattle.p25_tool.specs.Outcomes.{ending_outcome, filter_outcome}
 use Rattle.p25_tool.specs.Outputs.{CanWantMemory, ending_by}
 use Rattle.p25_tool.specs.Runs.{answer_of, command_future, ending_or}
 use Rattle.p25_tool.proofs.CommandsLaws.{AreAlike}
 
 -- the work of a future is that of one that is alike
-pub worked-alike : (told left first last : Option (List ℕ)) (f g : Future) (end : WorkEnd) → AreAlike f g → Worked told left first last f end → Worked told left first last g end
-worked-alike told left first last f g end alike worked = Worked-same told left first last f g end alike.writes alike.ends alike.pauses worked
+pub worked-alike : (told left first last : Option (List ℕ)) (f g : Future) (end : FilterEnd) → AreAlike f g → Filtered told left first last f end → Filtered told left first last g end
+worked-alike told left first last f g end alike worked = Filtered-same told left first last f g end alike.writes alike.ends alike.pauses worked
 
 pub all_written-alike : (f g : Future) → AreAlike f g → (input : List ℕ) → all_written g input ≡ [] → all_written f input ≡ []
 all_written-alike f g alike input none = all_written-same f g alike.writes input ∙ none
@@ -97,7 +97,7 @@ module _ (command : Command) (input : List ℕ) where
         (ap (λ (xs : List ℕ). ending_or (ending_by command false xs) TooLong) same ∙ ap (λ (end : Option Ending). ending_or end TooLong) is.ends)
 
 -- where memory is wanting, the command is one that takes it
-pub wanting-command : (command : Command) (told left first last : Option (List ℕ)) → Worked told left first last (command_future command) NoMemory → CanWantMemory command
+pub wanting-command : (command : Command) (told left first last : Option (List ℕ)) → Filtered told left first last (command_future command) NoMemory → CanWantMemory command
 wanting-command Show told left first last worked = Contains-none worked.meets.text worked.meets.pauses
 wanting-command Check told left first last worked = Contains-none worked.meets.text worked.meets.pauses
 wanting-command Repair told left first last worked = Contains-none worked.meets.text worked.meets.pauses
@@ -115,7 +115,7 @@ ending-memory Done is = cc
 ending-memory (Found faults) is = cc
 ending-memory (BadLine line fault) is = cc
 
-pub memory-command : (command : Command) (told left first last : Option (List ℕ)) (end : WorkEnd) → Worked told left first last (command_future command) end → work_outcome end ≡ Memory → CanWantMemory command
+pub memory-command : (command : Command) (told left first last : Option (List ℕ)) (end : FilterEnd) → Filtered told left first last (command_future command) end → filter_outcome end ≡ Memory → CanWantMemory command
 memory-command command told left first last (Ended ending) worked is = absurd (ending-memory ending is)
 memory-command command told left first last ReadFault worked is = cc
 memory-command command told left first last WriteFault worked is = cc
@@ -123,8 +123,8 @@ memory-command command told left first last InputTooLong worked is = cc
 memory-command command told left first last NoMemory worked is = wanting-command command told left first last worked
 
 -- without a fault of the source or of the sink the outcome is the answer for the input, or memory was wanting
-pub answer-without-faults : (command : Command) (told left first last : Option (List ℕ)) (end : WorkEnd) → Worked told left first last (command_future command) end → (end ≡ ReadFault → ⊥) → (end ≡ WriteFault → ⊥)
-    → (input : List ℕ) → told ≡ Some input → (work_outcome end ≡ answer_of command input) ⊎ ((work_outcome end ≡ Memory) × CanWantMemory command)
+pub answer-without-faults : (command : Command) (told left first last : Option (List ℕ)) (end : FilterEnd) → Filtered told left first last (command_future command) end → (end ≡ ReadFault → ⊥) → (end ≡ WriteFault → ⊥)
+    → (input : List ℕ) → told ≡ Some input → (filter_outcome end ≡ answer_of command input) ⊎ ((filter_outcome end ≡ Memory) × CanWantMemory command)
 answer-without-faults command told left first last (Ended ending) worked read write input is_told = inl (answer-final command input told left first last worked.octets worked.taken is_told ending worked.meets)
 answer-without-faults command told left first last ReadFault worked read write input is_told = absurd (read refl)
 answer-without-faults command told left first last WriteFault worked read write input is_told = absurd (write refl)

@@ -2,9 +2,9 @@
 use Rattle.std.proofs.Common.{◌≡◌, ℕ, true, false, cond, nat_lt, List, [], length, Option, refl, sym, arith}
 use Rattle.p25_io.specs.Octets.{Appended, AppendedFront}
 use Rattle.p25_io.proofs.OctetsLaws.{AppendedFront-same, Taken-none}
-use Rattle.p25_filter.specs.Runs.{Worked, all_written, input_most}
+use Rattle.p25_filter.specs.Runs.{Filtered, all_written, input_most}
 use Rattle.p25_filter.specs.declared.ending.Ending.TheVariants.{Done}
-use Rattle.p25_filter.specs.declared.ending.WorkEnd.TheVariants.{Ended, WriteFault}
+use Rattle.p25_filter.specs.declared.ending.FilterEnd.TheVariants.{Ended, WriteFault}
 use Rattle.p25_tool.specs.declared.command.Command.TheVariants.{Sample}
 use Rattle.p25_tool.specs.Outputs.{sample_line}
 use Rattle.p25_tool.specs.Runs.{command_future}
@@ -19,7 +19,7 @@ sample-some count input none = none_of (sym (sample-written count input)) none
     none_of : sample_line count ≡ all_written (command_future (Sample count)) input → all_written (command_future (Sample count)) input ≡ [] → ⊥
     none_of is none = cc
 
-pub sample-done : (count : ℕ) (told first last : Option (List ℕ)) → Appended first (sample_line count) last → Worked told told first last (command_future (Sample count)) (Ended Done)
+pub sample-done : (count : ℕ) (told first last : Option (List ℕ)) → Appended first (sample_line count) last → Filtered told told first last (command_future (Sample count)) (Ended Done)
 sample-done count told first last wrote = record {
   octets = [];
   taken = Taken-none told;
@@ -27,7 +27,7 @@ sample-done count told first last wrote = record {
   meets = record { ended = false; all = λ is. cc; ends = refl; stays = λ going is more. refl; wrote = wrote };
 }
 
-pub sample-failed : (count : ℕ) (told first last : Option (List ℕ)) → AppendedFront first (sample_line count) last → Worked told told first last (command_future (Sample count)) WriteFault
+pub sample-failed : (count : ℕ) (told first last : Option (List ℕ)) → AppendedFront first (sample_line count) last → Filtered told told first last (command_future (Sample count)) WriteFault
 sample-failed count told first last wrote = record {
   octets = [];
   taken = Taken-none told;

@@ -24,17 +24,17 @@ use Rattle.p25_fragment_script.specs.LongTexts.{long_step_text_of}
 use Rattle.p25_fragment_script.proofs.LongScriptLaws.{IsLongLineOf-of}
 use Rattle.p25_filter.specs.declared.ending.Ending.{Ending}
 use Rattle.p25_filter.specs.declared.ending.Ending.TheVariants.{Done as EndDone, Found, BadLine}
-use Rattle.p25_filter.specs.declared.ending.WorkEnd.{WorkEnd}
-use Rattle.p25_filter.specs.declared.ending.WorkEnd.TheVariants.{Ended, ReadFault, WriteFault, TooLong, Memory as NoMemory}
+use Rattle.p25_filter.specs.declared.ending.FilterEnd.{FilterEnd}
+use Rattle.p25_filter.specs.declared.ending.FilterEnd.TheVariants.{Ended, ReadFault, WriteFault, TooLong, Memory as NoMemory}
 use Rattle.p25_filter.specs.Lines.{closing_by, lines_ending, lines_in, read_of, refusal_in}
-use Rattle.p25_filter.specs.Runs.{IsFinal, Worked, input_most}
+use Rattle.p25_filter.specs.Runs.{IsFinal, Filtered, input_most}
 use Rattle.p25_filter.proofs.RulesLaws.{read_of-nil, read_of-ok, refusal_in-err, refusal_in-nil, refusal_in-ok}
 use Rattle.p25_filter.proofs.RunsLaws.{ended-input}
 use Rattle.p25_tool.specs.declared.command.Command.{Command}
 use Rattle.p25_tool.specs.declared.command.Command.TheVariants.{Stations, Fragments}
 use Rattle.p25_tool.specs.declared.outcome.Outcome.{Outcome}
 use Rattle.p25_tool.specs.declared.outcome.Outcome.TheVariants.{Done, Memory, TooLong as OutcomeTooLong}
-use Rattle.p25_tool.specs.Outcomes.{ending_outcome, work_outcome}
+use Rattle.p25_tool.specs.Outcomes.{ending_outcome, filter_outcome}
 use Rattle.p25_tool.specs.Outputs.{CanWantMemory, closing_line, ending_by, long_closing_line, output_by, step_line}
 use Rattle.p25_tool.specs.Runs.{answer_of, command_future, ending_or}
 use Rattle.p25_tool.specs.Scripts.{HasLongRun, HasRun, IsLongScriptOf, IsScriptOf, long_script_text, script_text}
@@ -113,7 +113,7 @@ module _ {E : Type 0} (read : Reading E) (command : Command) (text : List E → 
           let lines = lines_in false [] (take input_most octets) in
           absurd (not-done (refusal_in read 1 lines) (refusal-done read lines 1) (sym (is.ends false (take input_most octets)) ∙ ends ∙ ap (λ (e : Ending). Some e) done))
 
-  wrote-done : (end : WorkEnd) → Worked told left first last (command_future command) end → work_outcome end ≡ Done → Appended first (text events true None) last
+  wrote-done : (end : FilterEnd) → Filtered told left first last (command_future command) end → filter_outcome end ≡ Done → Appended first (text events true None) last
   wrote-done (Ended ending) worked same = wrote-final worked.octets ending worked.meets (ended-done ending same)
   wrote-done ReadFault worked same = cc same
   wrote-done WriteFault worked same = cc same
@@ -150,8 +150,8 @@ stations-scripted : IsLineCommand event_of Stations stations-text
 unfolding stations-text
 stations-scripted = record { writes = λ ended octets. refl; ends = λ ended octets. refl }
 
-pub script-run : (told left first last : Option (List ℕ)) (input : List ℕ) (events : List Event) → IsScriptOf input events → told ≡ Some input → (end : WorkEnd) (outcome : Outcome) → outcome ≡ work_outcome end
-    → Worked told left first last (command_future Stations) end → (outcome ≡ answer_of Stations input) ⊎ ((outcome ≡ Memory) × CanWantMemory Stations) → HasRun first last events outcome
+pub script-run : (told left first last : Option (List ℕ)) (input : List ℕ) (events : List Event) → IsScriptOf input events → told ≡ Some input → (end : FilterEnd) (outcome : Outcome) → outcome ≡ filter_outcome end
+    → Filtered told left first last (command_future Stations) end → (outcome ≡ answer_of Stations input) ⊎ ((outcome ≡ Memory) × CanWantMemory Stations) → HasRun first last events outcome
 unfolding stations-text
 script-run told left first last input events script is_told end outcome same worked complete = record {
   ended = script-ended event_of Stations stations-text stations-scripted told left first last input events script.short script.lines is_told outcome complete;
@@ -181,8 +181,8 @@ fragments-scripted : IsLineCommand long_event_of Fragments fragments-text
 unfolding fragments-text
 fragments-scripted = record { writes = λ ended octets. refl; ends = λ ended octets. refl }
 
-pub long-script-run : (told left first last : Option (List ℕ)) (input : List ℕ) (events : List LongEvent) → IsLongScriptOf input events → told ≡ Some input → (end : WorkEnd) (outcome : Outcome) → outcome ≡ work_outcome end
-    → Worked told left first last (command_future Fragments) end → (outcome ≡ answer_of Fragments input) ⊎ ((outcome ≡ Memory) × CanWantMemory Fragments) → HasLongRun first last events outcome
+pub long-script-run : (told left first last : Option (List ℕ)) (input : List ℕ) (events : List LongEvent) → IsLongScriptOf input events → told ≡ Some input → (end : FilterEnd) (outcome : Outcome) → outcome ≡ filter_outcome end
+    → Filtered told left first last (command_future Fragments) end → (outcome ≡ answer_of Fragments input) ⊎ ((outcome ≡ Memory) × CanWantMemory Fragments) → HasLongRun first last events outcome
 unfolding fragments-text
 long-script-run told left first last input events script is_told end outcome same worked complete =
     let fit = are-long_events (lines_in true [] input) events script.lines in

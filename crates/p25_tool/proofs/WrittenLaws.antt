@@ -9,15 +9,15 @@ use Rattle.p25_script.specs.Script.{event_of}
 use Rattle.p25_fragment_script.specs.LongScript.{long_event_of}
 use Rattle.p25_filter.specs.Lines.{lines_ending, lines_in, refusal_in}
 use Rattle.p25_filter.proofs.RulesLaws.{refusal_in-err, refusal_in-nil, refusal_in-ok}
-use Rattle.p25_filter.specs.Runs.{IsFinal, Worked, input_most}
+use Rattle.p25_filter.specs.Runs.{IsFinal, Filtered, input_most}
 use Rattle.p25_filter.specs.declared.ending.Ending.{Ending}
 use Rattle.p25_filter.specs.declared.ending.Ending.TheVariants.{BadLine}
-use Rattle.p25_filter.specs.declared.ending.WorkEnd.{WorkEnd}
-use Rattle.p25_filter.specs.declared.ending.WorkEnd.TheVariants.{Ended, ReadFault, WriteFault, TooLong, Memory}
+use Rattle.p25_filter.specs.declared.ending.FilterEnd.{FilterEnd}
+use Rattle.p25_filter.specs.declared.ending.FilterEnd.TheVariants.{Ended, ReadFault, WriteFault, TooLong, Memory}
 use Rattle.p25_tool.specs.declared.command.Command.{Command}
 use Rattle.p25_tool.specs.declared.command.Command.TheVariants.{Show, Check, Repair, Bridge, Calls, Soft, Build, Stations, Fragments, Duplex, Sample}
 use Rattle.p25_duplex_script.specs.DuplexLines.{duplex_event_of}
-use Rattle.p25_tool.specs.Outcomes.{ending_outcome, work_outcome}
+use Rattle.p25_tool.specs.Outcomes.{ending_outcome, filter_outcome}
 use Rattle.p25_tool.specs.Outputs.{ending_by, output_by}
 use Rattle.p25_tool.specs.Runs.{command_future}
 use Rattle.p25_tool.specs.Written.{AllIsWritten, HasEnded}
@@ -70,12 +70,12 @@ module _ (command : Command) (input written : List ℕ) (last : Option (List ℕ
       by_end false all ends wrote =
           wrote.written ∙ ap (λ (xs : List ℕ). Some (written ++ xs)) (before_end command (take input_most octets) input ending ends end)
 
-  by-work_end : (left : Option (List ℕ)) (end : WorkEnd) → HasEnded (work_outcome end) → Worked (Some input) left (Some written) last (command_future command) end → last ≡ Some (written ++ output_by command true input)
-  by-work_end left (Ended ending) is worked = wrote-all ending worked.octets is worked.meets
-  by-work_end left ReadFault is worked = absurd is
-  by-work_end left WriteFault is worked = absurd is
-  by-work_end left TooLong is worked = absurd is
-  by-work_end left Memory is worked = absurd is
+  by-filter_end : (left : Option (List ℕ)) (end : FilterEnd) → HasEnded (filter_outcome end) → Filtered (Some input) left (Some written) last (command_future command) end → last ≡ Some (written ++ output_by command true input)
+  by-filter_end left (Ended ending) is worked = wrote-all ending worked.octets is worked.meets
+  by-filter_end left ReadFault is worked = absurd is
+  by-filter_end left WriteFault is worked = absurd is
+  by-filter_end left TooLong is worked = absurd is
+  by-filter_end left Memory is worked = absurd is
 
 pub all-written : AllIsWritten
-all-written command input written left last outcome ran ended = by-work_end command input written last left ran.end (subst HasEnded ran.outcome_is ended) ran.worked
+all-written command input written left last outcome ran ended = by-filter_end command input written last left ran.end (subst HasEnded ran.outcome_is ended) ran.worked

@@ -7,7 +7,7 @@ use Rattle.p25_filter.specs.LineRules.{LineRules, rules_by}
 use Rattle.p25_duplex_script.specs.DuplexLines.{duplex_event_of}
 use Rattle.p25_tool.specs.Outputs.{duplex_closing_lines, duplex_step_line}
 
--- the text of the step that an event is, and the world behind it
+-- the text of the step that an event is, and the world after it
 abbrev pub told_duplex : DuplexState → DuplexEvent → List ℕ × DuplexState
 told_duplex d event = (duplex_step_line (duplex_step d event).1, (duplex_step d event).0)
 

@@ -8,7 +8,7 @@ use Rattle.p25_fragment_script.specs.LongTexts.{long_step_text_of}
 use Rattle.p25_filter.specs.LineRules.{LineRules, rules_by}
 use Rattle.p25_tool.specs.Outputs.{long_closing_line}
 
--- the text of the step that an event is, and the world behind it
+-- the text of the step that an event is, and the world after it
 abbrev pub told_long : LongState → LongEvent → List ℕ × LongState
 told_long world event = (long_step_text_of (long_step world event).1, (long_step world event).0)
 

@@ -4,8 +4,8 @@ use Rattle.p25_line.specs.declared.fault.LineFault.{LineFault}
 use Rattle.p25_line.specs.declared.fault.LineFault.TheVariants.{Long, Form, Kind, Key, Value}
 use Rattle.p25_filter.specs.declared.ending.Ending.{Ending}
 use Rattle.p25_filter.specs.declared.ending.Ending.TheVariants.{Done as EndDone, Found as EndFound, BadLine as EndBadLine}
-use Rattle.p25_filter.specs.declared.ending.WorkEnd.{WorkEnd}
-use Rattle.p25_filter.specs.declared.ending.WorkEnd.TheVariants.{Ended, ReadFault as ReadFailed, WriteFault as WriteFailed, TooLong as InputTooLong, Memory as NoMemory}
+use Rattle.p25_filter.specs.declared.ending.FilterEnd.{FilterEnd}
+use Rattle.p25_filter.specs.declared.ending.FilterEnd.TheVariants.{Ended, ReadFault as ReadFailed, WriteFault as WriteFailed, TooLong as InputTooLong, Memory as NoMemory}
 use Rattle.p25_tool.specs.declared.outcome.Outcome.{Outcome}
 use Rattle.p25_tool.specs.declared.outcome.Outcome.TheVariants.{Done, Usage, BadLine, ReadFault, WriteFault, Memory, TooLong, Found}
 
@@ -46,9 +46,9 @@ ending_outcome (EndFound faults) = Found faults
 ending_outcome (EndBadLine line fault) = BadLine line fault
 
 -- the outcome of work on an input that ended so
-abbrev pub work_outcome : WorkEnd → Outcome
-work_outcome (Ended ending) = ending_outcome ending
-work_outcome ReadFailed = ReadFault
-work_outcome WriteFailed = WriteFault
-work_outcome InputTooLong = TooLong
-work_outcome NoMemory = Memory
+abbrev pub filter_outcome : FilterEnd → Outcome
+filter_outcome (Ended ending) = ending_outcome ending
+filter_outcome ReadFailed = ReadFault
+filter_outcome WriteFailed = WriteFault
+filter_outcome InputTooLong = TooLong
+filter_outcome NoMemory = Memory

@@ -22,7 +22,7 @@ use Rattle.p25_duplex.specs.declared.side.Side.TheVariants.{A, B}
 use Rattle.p25_duplex.specs.declared.event.DuplexStep.{DuplexStep}
 use Rattle.p25_duplex.specs.DuplexState.{DuplexState, first_duplex}
 use Rattle.p25_duplex.specs.DuplexRuns.{duplex_run, duplex_steps}
-use Rattle.p25_duplex.specs.DuplexTexts.{duplex_closing_of, duplex_step_text_of}
+use Rattle.p25_duplex_script.specs.DuplexTexts.{duplex_closing_of, duplex_step_text_of}
 use Rattle.p25_duplex_script.specs.DuplexLines.{duplex_event_of}
 use Rattle.p25_filter.specs.Lines.{closing_by, lines_ending, lines_in, read_of, refusal_in, texts_before}
 use Rattle.p25_tool.specs.declared.command.Command.{Command}
@@ -48,7 +48,7 @@ step_line step = step_text_of step ++ 10 ∷ []
 abbrev pub closing_line : WorldState → List ℕ
 closing_line world = closing_text_of world ++ 10 ∷ []
 
--- the same of a step of both stations, and of what closes their run: a line of each side, and one with the number of false passes
+-- the line of a step of both stations, and the lines that close their run: one of each side, and one with the number of false passes
 abbrev pub duplex_step_line : DuplexStep → List ℕ
 duplex_step_line step = duplex_step_text_of step ++ 10 ∷ []
 
@@ -107,7 +107,7 @@ ending_by Duplex ended octets = lines_ending ended (refusal_in duplex_event_of 1
 ending_by Fragments ended octets = lines_ending ended (refusal_in long_event_of 1 (lines_in ended [] octets))
 ending_by (Sample count) ended octets = Some Done
 
--- behind which texts of a command memory may be wanting, by the octets of its input: before each step of a script
+-- after which texts of a command memory may be wanting, by the octets of its input: before each step of a script
 abbrev pub pauses_by : Command → Bool → List ℕ → List (List ℕ)
 pauses_by Stations ended octets = texts_before (map step_line (steps_of first_world (read_of event_of (lines_in ended [] octets))))
 pauses_by Duplex ended octets = texts_before (map duplex_step_line (duplex_steps first_duplex (read_of duplex_event_of (lines_in ended [] octets))))

@@ -1,4 +1,4 @@
--- What the commands write of a recording of units that were sent one behind the other, each damaged within radius: each unit as it
+-- What the commands write of a recording of units that were sent one after the other, each damaged within radius: each unit as it
 -- was sent, with the voice frames and the status symbols that came.
 use Rattle.std.specs.Prelude.{◌≡◌, ℕ, ◌<◌, Bool, true, false, List, [], ◌++◌, length, map, All, Some, ◌⊎◌}
 use Rattle.std.specs.List.{flat_map}
@@ -23,7 +23,7 @@ pub record IsRecording (arrivals : List Arrival) (octets : List ℕ) : Type 0 wh
 abbrev pub images_arrived : List Arrival → List Bool
 images_arrived arrivals = flat_map (λ arrival. image_of (frame_arrived arrival)) arrivals
 
--- the same under another network access code, with one status symbol everywhere
+-- the images of units that came, under another network access code, with one status symbol everywhere
 abbrev pub images_bridged : ℕ → Status → List Arrival → List Bool
 images_bridged nac status arrivals = flat_map (λ arrival. image_of (bridged_frame nac status (frame_arrived arrival))) arrivals
 

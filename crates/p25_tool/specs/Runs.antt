@@ -1,24 +1,24 @@
 -- What a call leaves, and how it answers an input without faults.
 use Rattle.std.specs.Prelude.{◌≡◌, ℕ, true, false, cond, nat_lt, List, length, take, Option, Some, None}
 use Rattle.p25_filter.specs.Futures.{Future}
-use Rattle.p25_filter.specs.Runs.{Worked, input_most}
+use Rattle.p25_filter.specs.Runs.{Filtered, input_most}
 use Rattle.p25_filter.specs.declared.ending.Ending.{Ending}
-use Rattle.p25_filter.specs.declared.ending.WorkEnd.{WorkEnd}
+use Rattle.p25_filter.specs.declared.ending.FilterEnd.{FilterEnd}
 use Rattle.p25_tool.specs.declared.command.Command.{Command}
 use Rattle.p25_tool.specs.declared.outcome.Outcome.{Outcome}
 use Rattle.p25_tool.specs.declared.outcome.Outcome.TheVariants.{TooLong}
-use Rattle.p25_tool.specs.Outcomes.{ending_outcome, work_outcome}
+use Rattle.p25_tool.specs.Outcomes.{ending_outcome, filter_outcome}
 use Rattle.p25_tool.specs.Outputs.{ending_by, output_by, pauses_by}
 
--- what a command writes, how it ends, and behind which texts memory may be wanting, for the octets of an input
+-- what a command writes, how it ends, and after which texts memory may be wanting, for the octets of an input
 abbrev pub command_future : Command → Future
 command_future command = record { writes = output_by command; ends = ending_by command; pauses = pauses_by command }
 
 -- what a call of a command took and wrote, by its outcome
 pub record Ran (told left first last : Option (List ℕ)) (command : Command) (outcome : Outcome) : Type 0 where
-  pub end : WorkEnd
-  pub outcome_is : outcome ≡ work_outcome end
-  pub worked : Worked told left first last (command_future command) end
+  pub end : FilterEnd
+  pub outcome_is : outcome ≡ filter_outcome end
+  pub worked : Filtered told left first last (command_future command) end
 
 -- the outcome that an ending has, or another
 abbrev pub ending_or : Option Ending → Outcome → Outcome

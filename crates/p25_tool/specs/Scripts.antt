@@ -3,7 +3,8 @@ use Rattle.std.specs.Prelude.{◌≡◌, ℕ, ◌≤◌, ◌⊎◌, true, List, 
 use Rattle.std.specs.List.{flat_map}
 use Rattle.p25_io.specs.Octets.{Appended}
 use Rattle.p25_delivery.specs.Orderly.{AreOrderly}
-use Rattle.p25_stations.specs.Runs.{IsCleanRun, sessions_of, steps_of, world_run}
+use Rattle.p25_delivery.specs.Link.{sessions_of}
+use Rattle.p25_stations.specs.Runs.{IsCleanRun, steps_of, world_run}
 use Rattle.p25_stations.specs.WorldState.{first_world}
 use Rattle.p25_stations.specs.declared.step.Event.{Event}
 use Rattle.p25_script.specs.Script.{event_of}
@@ -23,7 +24,7 @@ pub record IsScriptOf (input : List ℕ) (events : List Event) : Type 0 where
   pub short : length input ≤ input_most
   pub lines : map event_of (lines_in true [] input) ≡ map (λ event. Ok event) events
 
--- the lines that tell of a run: its steps, and the world behind them
+-- the lines that tell of a run: its steps, and the world after them
 abbrev pub script_text : List Event → List ℕ
 script_text events = flat_map step_line (steps_of first_world events) ++ closing_line (world_run first_world events)
 
@@ -33,9 +34,9 @@ script_text events = flat_map step_line (steps_of first_world events) ++ closing
 pub record HasRun (first last : Option (List ℕ)) (events : List Event) (outcome : Outcome) : Type 0 where
   pub ended : (outcome ≡ Done) ⊎ (outcome ≡ Memory)
   pub wrote : outcome ≡ Done → Appended first (script_text events) last
-  pub orderly : IsCleanRun events → AreOrderly (sessions_of (world_run first_world events))
+  pub orderly : IsCleanRun events → AreOrderly (sessions_of (world_run first_world events).link)
 
--- the same of events of long messages
+-- the lines of an input are events of long messages
 pub record IsLongScriptOf (input : List ℕ) (events : List LongEvent) : Type 0 where
   pub short : length input ≤ input_most
   pub lines : map long_event_of (lines_in true [] input) ≡ map (λ event. Ok event) events
@@ -43,7 +44,8 @@ pub record IsLongScriptOf (input : List ℕ) (events : List LongEvent) : Type 0 
 abbrev pub long_script_text : List LongEvent → List ℕ
 long_script_text events = flat_map long_step_text_of (long_steps_of first_long events) ++ long_closing_line (long_run first_long events)
 
--- and where no step of the inner world is a false pass, no part is refused and each session is orderly: the long messages whole
+-- the texts of their run are written. Where no step of the inner world is a false pass, no part is refused and each session is
+-- orderly: the long messages whole
 -- are the first of those taken, those acknowledged are whole, and one at most is whole that was not acknowledged
 pub record HasLongRun (first last : Option (List ℕ)) (events : List LongEvent) (outcome : Outcome) : Type 0 where
   pub ended : (outcome ≡ Done) ⊎ (outcome ≡ Memory)

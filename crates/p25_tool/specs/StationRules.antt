@@ -7,7 +7,7 @@ use Rattle.p25_script.specs.Script.{event_of}
 use Rattle.p25_filter.specs.LineRules.{LineRules, rules_by}
 use Rattle.p25_tool.specs.Outputs.{closing_line, step_line}
 
--- the text of the step that an event is, and the world behind it
+-- the text of the step that an event is, and the world after it
 abbrev pub told_step : WorldState → Event → List ℕ × WorldState
 told_step world event = (step_line (world_step world event).1, (world_step world event).0)
 

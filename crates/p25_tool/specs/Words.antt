@@ -9,7 +9,7 @@ use Rattle.p25_script.specs.Values.{number_below}
 use Rattle.p25_tool.specs.declared.command.Command.{Command}
 use Rattle.p25_tool.specs.declared.command.Command.TheVariants.{Show, Check, Repair, Bridge, Build, Stations, Calls, Duplex, Fragments, Soft, Sample}
 
--- the words after one more: its first 16 octets behind the others, or nothing where four are held
+-- the words after one more: its first 16 octets after the others, or nothing where four are held
 abbrev pub added : List (List ℕ) → List ℕ → List (List ℕ)
 added words word = cond (ltb (length words) 4) (words ++ take 16 word ∷ []) words
 

@@ -17,7 +17,7 @@ HasEnded Memory = ⊥
 HasEnded TooLong = ⊥
 HasEnded (Found faults) = Unit {0}
 
--- it wrote the output of all that the source held, behind what was written before
+-- it wrote the output of all that the source held, after what was written before
 abbrev pub AllIsWritten : Type 0
 AllIsWritten =
     (command : Command) (input written : List ℕ) (left last : Option (List ℕ)) (outcome : Outcome)

@@ -8,7 +8,7 @@ use p25_bits::BitBuf;
 use p25_filter::{LineMachine, LineRefusal};
 use p25_line::Line;
 use p25_recording_filters::put_octets;
-use p25_status::{Status, Statuses};
+use p25_status::{SENT_BLOCK_LENGTH, Status, Statuses};
 use p25_text::read_line;
 use p25_units::{Frame, Unit, frame_length, image};
 
@@ -57,7 +57,7 @@ fn put_image(unit: Unit, status: Status, out: &mut Line)
     requires { IsSendableBody unit.body }
     ensures { out.new ≡ image_octets status unit }
 {
-    let statuses = Statuses::filled(status, frame_length(&unit) / 72);
+    let statuses = Statuses::filled(status, frame_length(&unit) / SENT_BLOCK_LENGTH);
     let mut bits = BitBuf::new();
     image(&Frame { unit, statuses }, &mut bits);
     out.clear();

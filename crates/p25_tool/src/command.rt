@@ -15,11 +15,11 @@ pub enum Command {
     Calls,
     /// The units that lines of text describe, with this status symbol everywhere.
     Build { status: Status },
-    /// The steps that the lines of a script are, one a line, and a last line that tells of the world behind them.
+    /// The steps that the lines of a script are, one a line, and a last line that tells of the world after them.
     Stations,
-    /// The steps of both stations that the lines of a script are, one a line, and last lines that tell of the world behind them.
+    /// The steps of both stations that the lines of a script are, one a line, and last lines that tell of the world after them.
     Duplex,
-    /// The same for lines that tell of long messages: one or two lines a step.
+    /// The steps that the lines of a script of long messages are, one or two lines a step, and a last line that counts.
     Fragments,
     /// The recording whose levels these are, one octet each, the blocks of broken packets read again from their levels.
     Soft,

@@ -2,8 +2,8 @@
 
 ghost use Rattle.std.specs.Prelude.{◌≡◌, ℕ, ◌≤◌, ◌↔◌, ◌⊎◌, List, [], None, Some, IfSome};
 ghost use Rattle.p25_io.specs.Faults.{Rose};
-ghost use Rattle.p25_filter.specs.Runs.{Worked, all_written};
-ghost use Rattle.p25_filter.specs.LineWorks.{first_line, line_future};
+ghost use Rattle.p25_filter.specs.Runs.{Filtered, all_written};
+ghost use Rattle.p25_filter.specs.LineFilters.{first_line, line_future};
 ghost use Rattle.p25_tool.specs.Outputs.{CanWantMemory};
 ghost use Rattle.p25_recording_filters.specs.Recordings.{fresh, recording_future};
 ghost use Rattle.p25_recording_filters.specs.Softs.{fresh_soft, soft_future};
@@ -22,7 +22,7 @@ use super::outcome::{Outcome, outcome_of};
 use super::sampling::run_sample;
 use super::stations::Stations;
 use super::words::Words;
-use p25_filter::{LineMachine, LineWork, WorkEnd, work};
+use p25_filter::{FilterEnd, LineFilter, LineMachine, run_filter};
 use p25_io::{Sink, Source};
 use p25_recording_filters::{Calls, Change, Changed, Check, Recording, Report, Show, Soft};
 use std::alloc::Global;
@@ -87,15 +87,15 @@ fn run_command<S: Source, K: Sink>(
     command: Command,
     source: &mut S,
     sink: &mut K,
-) -> WorkEnd
+) -> FilterEnd
     requires { IsSoundCommand command }
-    ensures worked { Worked (S.left source.old) (S.left source.new) (K.written sink.old) (K.written sink.new) (command_future command) result }
+    ensures worked { Filtered (S.left source.old) (S.left source.new) (K.written sink.old) (K.written sink.new) (command_future command) result }
     ensures unread { (count : ℕ) → command ≡ Command.Sample count → source.new ≡ source.old }
     ensures quiet { (input : List ℕ) → S.left source.old ≡ Some input → all_written (command_future command) input ≡ [] → sink.new ≡ sink.old }
     ensures source_later { S.faults source.old ≤ S.faults source.new }
     ensures sink_later { K.faults sink.old ≤ K.faults sink.new }
-    ensures read_fault { result ≡ WorkEnd.ReadFault → Rose (S.faults source.old) (S.faults source.new) }
-    ensures write_fault { result ≡ WorkEnd.WriteFault → Rose (K.faults sink.old) (K.faults sink.new) }
+    ensures read_fault { result ≡ FilterEnd.ReadFault → Rose (S.faults source.old) (S.faults source.new) }
+    ensures write_fault { result ≡ FilterEnd.WriteFault → Rose (K.faults sink.old) (K.faults sink.new) }
 {
     match command {
         Command::Show => run_report(Show, source, sink),
@@ -119,20 +119,20 @@ fn run_report<R: Report + Drop, S: Source, K: Sink>(
     report: R,
     source: &mut S,
     sink: &mut K,
-) -> WorkEnd
+) -> FilterEnd
     requires counted { R.counted report ≡ 0 }
     requires reached { R.HasReached report 0 }
-    ensures worked { Worked (S.left source.old) (S.left source.new) (K.written sink.old) (K.written sink.new)
+    ensures worked { Filtered (S.left source.old) (S.left source.new) (K.written sink.old) (K.written sink.new)
         (recording_future R.reporting (fresh report)) result }
     ensures quiet { (input : List ℕ) → S.left source.old ≡ Some input → all_written (recording_future R.reporting (fresh report)) input ≡ []
         → sink.new ≡ sink.old }
     ensures source_later { S.faults source.old ≤ S.faults source.new }
     ensures sink_later { K.faults sink.old ≤ K.faults sink.new }
-    ensures read_fault { result ≡ WorkEnd.ReadFault → Rose (S.faults source.old) (S.faults source.new) }
-    ensures write_fault { result ≡ WorkEnd.WriteFault → Rose (K.faults sink.old) (K.faults sink.new) }
+    ensures read_fault { result ≡ FilterEnd.ReadFault → Rose (S.faults source.old) (S.faults source.new) }
+    ensures write_fault { result ≡ FilterEnd.WriteFault → Rose (K.faults sink.old) (K.faults sink.new) }
 {
     let mut recording = Recording::new(report);
-    work(&mut recording, source, sink)
+    run_filter(&mut recording, source, sink)
 }
 
 // The work of a machine on the lines of its input.
@@ -140,29 +140,29 @@ fn run_lines<M: LineMachine + Drop, S: Source, K: Sink>(
     machine: M,
     source: &mut S,
     sink: &mut K,
-) -> WorkEnd
-    ensures worked { Worked (S.left source.old) (S.left source.new) (K.written sink.old) (K.written sink.new)
+) -> FilterEnd
+    ensures worked { Filtered (S.left source.old) (S.left source.new) (K.written sink.old) (K.written sink.new)
         (line_future M.rules (first_line machine)) result }
     ensures quiet { (input : List ℕ) → S.left source.old ≡ Some input → all_written (line_future M.rules (first_line machine)) input ≡ []
         → sink.new ≡ sink.old }
     ensures source_later { S.faults source.old ≤ S.faults source.new }
     ensures sink_later { K.faults sink.old ≤ K.faults sink.new }
-    ensures read_fault { result ≡ WorkEnd.ReadFault → Rose (S.faults source.old) (S.faults source.new) }
-    ensures write_fault { result ≡ WorkEnd.WriteFault → Rose (K.faults sink.old) (K.faults sink.new) }
+    ensures read_fault { result ≡ FilterEnd.ReadFault → Rose (S.faults source.old) (S.faults source.new) }
+    ensures write_fault { result ≡ FilterEnd.WriteFault → Rose (K.faults sink.old) (K.faults sink.new) }
 {
-    let mut lines = LineWork::new(machine);
-    work(&mut lines, source, sink)
+    let mut lines = LineFilter::new(machine);
+    run_filter(&mut lines, source, sink)
 }
 
 // The work of `soft`.
-fn run_soft<S: Source, K: Sink>(source: &mut S, sink: &mut K) -> WorkEnd
-    ensures worked { Worked (S.left source.old) (S.left source.new) (K.written sink.old) (K.written sink.new) (soft_future fresh_soft) result }
+fn run_soft<S: Source, K: Sink>(source: &mut S, sink: &mut K) -> FilterEnd
+    ensures worked { Filtered (S.left source.old) (S.left source.new) (K.written sink.old) (K.written sink.new) (soft_future fresh_soft) result }
     ensures quiet { (input : List ℕ) → S.left source.old ≡ Some input → all_written (soft_future fresh_soft) input ≡ [] → sink.new ≡ sink.old }
     ensures source_later { S.faults source.old ≤ S.faults source.new }
     ensures sink_later { K.faults sink.old ≤ K.faults sink.new }
-    ensures read_fault { result ≡ WorkEnd.ReadFault → Rose (S.faults source.old) (S.faults source.new) }
-    ensures write_fault { result ≡ WorkEnd.WriteFault → Rose (K.faults sink.old) (K.faults sink.new) }
+    ensures read_fault { result ≡ FilterEnd.ReadFault → Rose (S.faults source.old) (S.faults source.new) }
+    ensures write_fault { result ≡ FilterEnd.WriteFault → Rose (K.faults sink.old) (K.faults sink.new) }
 {
     let mut soft = Soft::new();
-    work(&mut soft, source, sink)
+    run_filter(&mut soft, source, sink)
 }

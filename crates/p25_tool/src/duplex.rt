@@ -4,8 +4,8 @@ ghost use Rattle.std.specs.Prelude.{◌≡◌, ◌≤◌, length};
 ghost use Rattle.p25_duplex.specs.DuplexState.{first_duplex};
 ghost use Rattle.p25_tool.specs.Outputs.{duplex_closing_lines, duplex_step_line};
 
-use p25_duplex::{DuplexStep, DuplexWorld, Side, duplex_closing, duplex_step_text};
-use p25_duplex_script::read_duplex_event;
+use p25_duplex::{DuplexStep, DuplexWorld, Side};
+use p25_duplex_script::{duplex_closing, duplex_step_text, read_duplex_event};
 use p25_filter::{LineMachine, LineRefusal};
 use p25_line::Line;
 use p25_script::put_count;

@@ -4,14 +4,14 @@ ghost use Rattle.p25_tool.specs.Built.{AcceptedAreRead, BuildsUnits, LinesAreTex
 ghost use Rattle.p25_tool.specs.Recorded.{BridgesUnits, ChecksUnits, RepairKeepsLength, RepairedIsRecorded, RepairsEachUnit, RepairsUnits, ShowsEachUnit, ShowsUnits, UnitsAreRecorded};
 ghost use Rattle.p25_tool.specs.Written.{AllIsWritten};
 
-/// Does nothing: its contract is that a call of `run` that came to the end of its input wrote all of `output_by` of all that the
-/// source held, behind what the sink held before; however the reads of the source are cut. So the laws below speak of what
+/// **Theorem.** A call of `run` that came to the end of its input wrote all of `output_by` of all that the
+/// source held, after what the sink held before; however the reads of the source are cut. So the laws below speak of what
 /// `run` writes.
 pub fn written_laws()
     ensures all { AllIsWritten }
 {}
 
-/// Does nothing: its contract is what the commands write of a recording of units that were sent one behind the other, each
+/// **Theorem.** What the commands write of a recording of units that were sent one after the other, each
 /// damaged within radius, for all lists of units and all such damage.
 ///
 /// - `recorded`: every such list has a recording; its bits fill whole octets.
@@ -29,7 +29,7 @@ pub fn recorded_laws()
     ensures bridge { BridgesUnits }
 {}
 
-/// Does nothing: its contract is what is written of one unit within radius, wherever it stands in a recording and whatever
+/// **Theorem.** What is written of one unit within radius, wherever it stands in a recording and whatever
 /// stands around it, unless a unit that begins before it, whole, broken or cut, covers its first bit.
 ///
 /// - `show`: its line, whole and as received, at its place.
@@ -41,7 +41,7 @@ pub fn found_laws()
     ensures length { RepairKeepsLength }
 {}
 
-/// Does nothing: its contract is that `build` and `show` undo each other, for every input.
+/// **Theorem.** `build` and `show` undo each other, for every input.
 ///
 /// - `build`: what is written has the units of the input's lines as its items: whole, with no fixes, end to end, in order and
 ///   with the one status symbol. So `show` of it writes one line for each of them.

@@ -1,7 +1,7 @@
 ghost use Rattle.std.specs.Prelude.{◌≡◌, ◌+◌, ◌≤◌, ◌++◌, length, codes, decimal};
-ghost use Rattle.p25_tool.specs.Outcomes.{ending_outcome, fault_word, line_of, status_of, work_outcome};
+ghost use Rattle.p25_tool.specs.Outcomes.{ending_outcome, fault_word, line_of, status_of, filter_outcome};
 
-use p25_filter::{Ending, WorkEnd};
+use p25_filter::{Ending, FilterEnd};
 use p25_line::{Line, LineFault};
 
 /// How a call ended.
@@ -98,16 +98,16 @@ pub fn outcome_status(outcome: &Outcome) -> u8
 }
 
 // The outcome of work on an input that ended so.
-pub(crate) fn outcome_of(end: WorkEnd) -> Outcome
-    ensures { result ≡ work_outcome end }
+pub(crate) fn outcome_of(end: FilterEnd) -> Outcome
+    ensures { result ≡ filter_outcome end }
 {
     match end {
-        WorkEnd::Ended(Ending::Done) => Outcome::Done,
-        WorkEnd::Ended(Ending::Found { faults }) => Outcome::Found { faults },
-        WorkEnd::Ended(Ending::BadLine { line, fault }) => Outcome::BadLine { line, fault },
-        WorkEnd::ReadFault => Outcome::ReadFault,
-        WorkEnd::WriteFault => Outcome::WriteFault,
-        WorkEnd::TooLong => Outcome::TooLong,
-        WorkEnd::Memory => Outcome::Memory,
+        FilterEnd::Ended(Ending::Done) => Outcome::Done,
+        FilterEnd::Ended(Ending::Found { faults }) => Outcome::Found { faults },
+        FilterEnd::Ended(Ending::BadLine { line, fault }) => Outcome::BadLine { line, fault },
+        FilterEnd::ReadFault => Outcome::ReadFault,
+        FilterEnd::WriteFault => Outcome::WriteFault,
+        FilterEnd::TooLong => Outcome::TooLong,
+        FilterEnd::Memory => Outcome::Memory,
     }
 }

@@ -212,7 +212,7 @@ HasLeastFrom-more states point cost rests step after here = record { at = at_ste
           subst (λ (i : ℕ). IsLeastEnd states before (symbols_cost point cost i state) (rest_in rests i state)) same (here before state there row)
     ]
 
--- the same with the number of symbols before the end told by the step
+-- a least end, where the step tells the number of symbols before it
 pub IsLeastEnd-at : (states : ℕ) (point : ℕ → ℕ → ℕ) (costs rests : List ℕ) (step state symbol least : ℕ) → step < 48
     → HasLeastFrom states point (cost_in costs) rests (suc step) → IsLowestLeast states (step_cost point costs rests step state) symbol least → (before : ℕ)
     → step + before ≡ 48 → IsLeastEnd states before (symbols_cost point (cost_in costs) step state) least

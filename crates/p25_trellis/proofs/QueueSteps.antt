@@ -5,7 +5,7 @@ use Rattle.std.proofs.lemmas.Nat.{or_shifted, shl_whole, shr_split, pow-add, pow
 use Rattle.p25_bits.specs.Bits.{bits_of, field_of}
 use Rattle.p25_bits.proofs.BitsLaws.{length-bits_of, take-bits_of, drop-bits_of, bits_of-mod, field_of-bits_of}
 
--- the number of a queue with more bits behind, as a 32-bit word computes it
+-- the number of a queue with more bits after, as a 32-bit word computes it
 pub pushed_number : (number width len more : ℕ) → number < 2 ^ len → more < 2 ^ width → len + width ≤ 16 → bit_or (number * 2 ^ width % 2 ^ 32) more ≡ number * 2 ^ width + more
 pushed_number number width len more fits small room =
     let whole : len + width ≤ 32 = omega arith in

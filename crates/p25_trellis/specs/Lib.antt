@@ -4,4 +4,5 @@ pub mod Trellis
 pub mod Nearest
 pub mod Costs
 pub mod Least
+-- laws of impls: nothing to believe
 pub mod TableLaws

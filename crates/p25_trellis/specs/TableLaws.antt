@@ -14,7 +14,7 @@ use Rattle.p25_trellis.specs.Tables.{point_nibbles, half_rows, three_quarter_row
 unfoldable pub half_parted : ℕ → ℕ → ℕ
 half_parted a b = cond (eqb a b) 0 (cond (eqb (a / 2) (b / 2)) 2 3)
 
--- the same at three-quarter rate
+-- how far two symbols at three-quarter rate part before they meet again
 unfoldable pub three_quarter_parted : ℕ → ℕ → ℕ
 three_quarter_parted a b = cond (eqb a b) 0 1
 

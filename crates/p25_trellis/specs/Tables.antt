@@ -33,11 +33,11 @@ three_quarter_rows =
 unfoldable pub point_in : List (List ℕ) → ℕ → ℕ → ℕ
 point_in rows state symbol = slice_index point_nibbles (slice_index (slice_index_or rows state []) symbol)
 
--- those of half rate
+-- the points of half rate
 unfoldable pub half_point : ℕ → ℕ → ℕ
 half_point state symbol = point_in half_rows state symbol
 
--- those of three-quarter rate
+-- the points of three-quarter rate
 unfoldable pub three_quarter_point : ℕ → ℕ → ℕ
 three_quarter_point state symbol = point_in three_quarter_rows state symbol
 

@@ -46,8 +46,8 @@ pub fn read_block<R: Rate>(bits: &BitBuf, at: usize, octets: &mut [u8]) -> u32
     read_nibbles::<R>(&gather(&received), octets)
 }
 
-// The same by the nibbles that were received, as they are before they are interleaved. Mostly they are those of a path: then no
-// other is as near.
+// Reads a block by the nibbles that were received, as they are before they are interleaved. Mostly they are those of a path: then
+// no other is as near.
 fn read_nibbles<R: Rate>(received: &[u8; 49], octets: &mut [u8]) -> u32
     requires nibbles { All (λ n. n < 16) received.now }
     requires octets { length octets.old ≡ R.OCTETS }

@@ -35,7 +35,7 @@ impl BitQueue {
         self.len
     }
 
-    // Puts `width` bits of a number behind those that wait.
+    // Puts `width` bits of a number after those that wait.
     pub(crate) fn push(&mut self, number: u8, width: u32)
         requires width { width ≤ 8 }
         requires fits { number < 2 ^ width }

@@ -10,7 +10,7 @@ use Rattle.p25_bits.proofs.BitsLaws.{bits_of-add, length-bits_of, field_of-bits_
 use Rattle.p25_unit_front.specs.Front.{identifier_bits}
 use Rattle.p25_unit_front.proofs.FrontLaws.{length-identifier_bits}
 
--- the number of an identifier is that of the bits before the status symbol, and then of those behind it
+-- the number of an identifier is that of the bits before the status symbol, and then of those after it
 pub identifier_number : (bits : List Bool) (at before behind : ℕ) → at + 114 ≤ length bits
     → before ≡ field_of (part (at + 48) 22 bits) → behind ≡ field_of (part (at + 72) 42 bits) → before * 2 ^ 42 + behind ≡ field_of (identifier_bits (drop at bits))
 unfolding identifier_bits

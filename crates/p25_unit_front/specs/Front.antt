@@ -13,7 +13,7 @@ use Rattle.p25_bch_nid.specs.NidWord.{nid_word}
 unfoldable pub unit_front : ℕ → ℕ → List Bool
 unit_front nac duid = sync_bits ++ nid_word nac duid
 
--- the same by places: bits 0 to 47 are the sync, bits 48 to 110 the word of the BCH code that begins with NAC and DUID, and
+-- the front of a unit by places: bits 0 to 47 are the sync, bits 48 to 110 the word of the BCH code that begins with NAC and DUID, and
 -- bit 111 is P
 pub record IsFront (nac duid : ℕ) (bits : List Bool) : Type 0 where
   pub long : length bits ≡ 112
@@ -21,7 +21,7 @@ pub record IsFront (nac duid : ℕ) (bits : List Bool) : Type 0 where
   pub word : IsEncoding IsBch63 16 (bits_of 12 nac ++ bits_of 4 duid) (part 48 63 bits)
   pub parity : part 111 1 bits ≡ eqb (parity_of duid) 1 ∷ []
 
--- the 64 bits of the identifier of a unit as it is sent: those behind the sync, without the status symbol at 70 and 71
+-- the 64 bits of the identifier of a unit as it is sent: those after the sync, without the status symbol at 70 and 71
 unfoldable pub identifier_bits : List Bool → List Bool
 identifier_bits sent = part 48 22 sent ++ part 72 42 sent
 

@@ -8,9 +8,9 @@ ghost use Rattle.p25_bits.specs.Distance.{distance_of};
 ghost use Rattle.p25_bits.specs.Bits.{bits_of};
 ghost use Rattle.std.specs.Prelude.{take};
 
-use p25_bch_nid::{Nid, nid_bits, read_nid};
+use p25_bch_nid::{Nid, nid_bits, nid_distance, read_nid};
 use p25_bits::BitBuf;
-use p25_status::{SYNC, sync_distance};
+use p25_status::{SENT_BLOCK_LENGTH, SYNC, sync_distance};
 
 // Where the identifier begins in a sent unit.
 const IDENTIFIER_AT: usize = 48;
@@ -18,10 +18,8 @@ const IDENTIFIER_AT: usize = 48;
 // How many of its bits stand before the status symbol within it.
 const BEFORE_STATUS: u32 = 22;
 
-// Where it goes on behind the status symbol, and with how many bits.
-const BEHIND_STATUS_AT: usize = 72;
-
-const BEHIND_STATUS: u32 = 42;
+// With how many bits it goes on after the status symbol.
+const AFTER_STATUS: u32 = 42;
 
 /// Appends the front of a unit: the 48 bits of the frame sync and the 64 bits of the identifier, first to last, without
 /// a status symbol.
@@ -50,7 +48,7 @@ pub fn front_fixes(bits: &BitBuf, at: usize, nid: &Nid) -> u32
     ensures value { result ≡ front_fixes_of (nid.now.nac, nid.now.duid) (drop at bits.now) }
     ensures most { result ≤ 111 }
 {
-    sync_distance(bits.field(at, 48)) + identifier_distance(identifier(bits, at), nid)
+    sync_distance(bits.field(at, 48)) + nid_distance(identifier(bits, at), nid)
 }
 
 // The 64 bits of the identifier of the unit whose sent bits begin at a place, as a number.
@@ -62,13 +60,5 @@ fn identifier(bits: &BitBuf, at: usize) -> u64
     // The number of bits held bounds every place below.
     let _ = bits.len();
     let before = bits.field(at + IDENTIFIER_AT, BEFORE_STATUS);
-    before * (1 << BEHIND_STATUS) + bits.field(at + BEHIND_STATUS_AT, BEHIND_STATUS)
-}
-
-// In how many of its first 63 bits a received identifier differs from what is sent for one.
-fn identifier_distance(received: u64, nid: &Nid) -> u32
-    ensures distance { result ≡ distance_of (take 63 (bits_of 64 received)) (take 63 (nid_word nid.now.nac nid.now.duid)) }
-    ensures most { result ≤ 63 }
-{
-    ((received ^ nid_bits(nid)) >> 1).count_ones()
+    before * (1 << AFTER_STATUS) + bits.field(at + SENT_BLOCK_LENGTH, AFTER_STATUS)
 }

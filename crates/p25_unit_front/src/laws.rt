@@ -4,7 +4,7 @@ ghost use Rattle.std.specs.Prelude.{◌≡◌, ◌↔◌, ◌*◌, ◌≤◌, �
 ghost use Rattle.p25_unit_front.specs.Front.{IsFront, front_of, front_fixes_of, unit_front};
 ghost use Rattle.p25_status.specs.Woven.{plain_of};
 
-/// Does nothing: its contract is the laws of fronts.
+/// **Theorem.** The laws of fronts.
 ///
 /// - `form`: 112 bits are the front of a NAC and a DUID exactly where they stand as `IsFront` says.
 /// - `plain`: the front of a sent unit is the first 112 of its bits without status symbols.

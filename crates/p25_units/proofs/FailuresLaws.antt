@@ -11,10 +11,10 @@ use Rattle.p25_link.specs.declared.link_control.LinkControl.{LinkControl}
 use Rattle.p25_voice_units.specs.declared.unit.VoiceUnit.{VoiceUnit}
 use Rattle.p25_voice_units.specs.declared.unit.VoiceUnit.TheVariants.{End}
 use Rattle.p25_voice_units.specs.declared.voice.VoiceFrame.{VoiceFrame}
-use Rattle.p25_voice_units.specs.FieldLayouts.{link_layout, end_link_layout}
+use Rattle.p25_voice_units.specs.FieldLayouts.{link_layout, tdulc_layout}
 use Rattle.p25_voice_units.specs.Lengths.{voice_length_of}
-use Rattle.p25_voice_units.specs.Readings.{missing, failing, header_from, link1_from, link2_from, end_link_from, link1_in, link2_in, header_in, link_in, sync_in, low_in, voice_in, voice_reading_of}
-use Rattle.p25_voice_units.proofs.KindsLaws.{reading-header, reading-end, reading-link1, reading-link2, reading-end_link}
+use Rattle.p25_voice_units.specs.Readings.{missing, failing, header_from, ldu1_from, ldu2_from, tdulc_from, ldu1_in, ldu2_in, header_in, link_in, sync_in, low_in, voice_in, voice_reading_of}
+use Rattle.p25_voice_units.proofs.KindsLaws.{reading-header, reading-end, reading-ldu1, reading-ldu2, reading-tdulc}
 use Rattle.p25_voice_units.proofs.LengthsLaws.{length-cases}
 use Rattle.p25_packet_blocks.specs.declared.packet.Packet.{Packet as packet_type}
 use Rattle.p25_packet_blocks.specs.Reading.{packet_reading_of}
@@ -42,34 +42,34 @@ unfolding header_from
 header_fails (Some word) fields e = absurd (cc)
 header_fails None fields e = some_field _ _ fields (header_from None) refl e
 
-end_link_fails : (found : Option LinkControl) (fields : List Field) → end_link_from found ≡ Err fields → 0 < length fields
-unfolding end_link_from
-end_link_fails (Some link) fields e = absurd (cc)
-end_link_fails None fields e = some_field _ _ fields (end_link_from None) refl e
+tdulc_fails : (found : Option LinkControl) (fields : List Field) → tdulc_from found ≡ Err fields → 0 < length fields
+unfolding tdulc_from
+tdulc_fails (Some link) fields e = absurd (cc)
+tdulc_fails None fields e = some_field _ _ fields (tdulc_from None) refl e
 
-link1_fails : (voice : List VoiceFrame) (found : Option LinkControl) (first second : Option ℕ) (fields : List Field) → link1_from voice found first second ≡ Err fields → 0 < length fields
-unfolding link1_from failing missing
-link1_fails voice (Some link) (Some first) (Some second) fields e = absurd (cc)
-link1_fails voice (Some link) (Some first) None fields e = some_field _ _ fields (link1_from voice (Some link) (Some first) None) refl e
-link1_fails voice (Some link) None second fields e = some_field _ _ fields (link1_from voice (Some link) None second) refl e
-link1_fails voice None first second fields e = some_field _ _ fields (link1_from voice None first second) refl e
+ldu1_fails : (voice : List VoiceFrame) (found : Option LinkControl) (first second : Option ℕ) (fields : List Field) → ldu1_from voice found first second ≡ Err fields → 0 < length fields
+unfolding ldu1_from failing missing
+ldu1_fails voice (Some link) (Some first) (Some second) fields e = absurd (cc)
+ldu1_fails voice (Some link) (Some first) None fields e = some_field _ _ fields (ldu1_from voice (Some link) (Some first) None) refl e
+ldu1_fails voice (Some link) None second fields e = some_field _ _ fields (ldu1_from voice (Some link) None second) refl e
+ldu1_fails voice None first second fields e = some_field _ _ fields (ldu1_from voice None first second) refl e
 
-link2_fails : (voice : List VoiceFrame) (found : Option EncryptionSync) (first second : Option ℕ) (fields : List Field) → link2_from voice found first second ≡ Err fields → 0 < length fields
-unfolding link2_from failing missing
-link2_fails voice (Some sync) (Some first) (Some second) fields e = absurd (cc)
-link2_fails voice (Some sync) (Some first) None fields e = some_field _ _ fields (link2_from voice (Some sync) (Some first) None) refl e
-link2_fails voice (Some sync) None second fields e = some_field _ _ fields (link2_from voice (Some sync) None second) refl e
-link2_fails voice None first second fields e = some_field _ _ fields (link2_from voice None first second) refl e
+ldu2_fails : (voice : List VoiceFrame) (found : Option EncryptionSync) (first second : Option ℕ) (fields : List Field) → ldu2_from voice found first second ≡ Err fields → 0 < length fields
+unfolding ldu2_from failing missing
+ldu2_fails voice (Some sync) (Some first) (Some second) fields e = absurd (cc)
+ldu2_fails voice (Some sync) (Some first) None fields e = some_field _ _ fields (ldu2_from voice (Some sync) (Some first) None) refl e
+ldu2_fails voice (Some sync) None second fields e = some_field _ _ fields (ldu2_from voice (Some sync) None second) refl e
+ldu2_fails voice None first second fields e = some_field _ _ fields (ldu2_from voice None first second) refl e
 
 voice_fails : (plain : List Bool) (fields : List Field) (duid count : ℕ) → voice_length_of duid ≡ Some count → voice_reading_of duid plain ≡ Err fields → 0 < length fields
-unfolding link1_in link2_in
+unfolding ldu1_in ldu2_in
 voice_fails plain fields =
     length-cases (λ duid count. voice_reading_of duid plain ≡ Err fields → 0 < length fields)
     (λ e. header_fails (header_in plain) fields (sym (reading-header plain) ∙ e))
     (λ e. let two : Ok End ≡ Err fields = sym (reading-end plain) ∙ e in absurd (cc))
-    (λ e. link1_fails (voice_in plain) (link_in link_layout plain) (low_in 0 plain) (low_in 1 plain) fields (sym (reading-link1 plain) ∙ e))
-    (λ e. link2_fails (voice_in plain) (sync_in plain) (low_in 0 plain) (low_in 1 plain) fields (sym (reading-link2 plain) ∙ e))
-    (λ e. end_link_fails (link_in end_link_layout plain) fields (sym (reading-end_link plain) ∙ e))
+    (λ e. ldu1_fails (voice_in plain) (link_in link_layout plain) (low_in 0 plain) (low_in 1 plain) fields (sym (reading-ldu1 plain) ∙ e))
+    (λ e. ldu2_fails (voice_in plain) (sync_in plain) (low_in 0 plain) (low_in 1 plain) fields (sym (reading-ldu2 plain) ∙ e))
+    (λ e. tdulc_fails (link_in tdulc_layout plain) fields (sym (reading-tdulc plain) ∙ e))
 
 voice_body_fails : (reading : Result VoiceUnit (List Field)) (fields : List Field) → body_from reading ≡ Err fields → reading ≡ Err fields
 voice_body_fails (Ok voice) fields e = absurd (cc)

@@ -1,4 +1,4 @@
--- The fixes of a frame are those of its front and those behind it, by cutting the lists of looked-at bits.
+-- The fixes of a frame are those of its front and those after it, by cutting the lists of looked-at bits.
 use Rattle.std.proofs.Common.{◌≡◌, ℕ, zero, suc, ◌+◌, ◌*◌, ◌≤◌, Bool, List, [], ◌∷◌, ◌++◌, length, take, refl, ap, ap₂, sym, ◌∙◌, arith, append-nil, append_assoc}
 use Rattle.std.specs.Bool.{beq}
 use Rattle.std.proofs.lemmas.List.{take-take, length-take-le}
@@ -40,7 +40,7 @@ bits_at-nil bits = refl
 first_111 : (bits start : List Bool) → take 112 bits ≡ start → take 111 bits ≡ take 111 start
 first_111 bits start is = sym (take-take 111 112 bits (omega arith)) ∙ ap (take 111) is
 
--- the fixes of a frame that can be sent are those of its front and those behind it
+-- the fixes of a frame that can be sent are those of its front and those after it
 pub fixes_of-parts : (frame : Frame) (blocks : ℕ) (sent : List Bool) → IsSendableBody frame.unit.body → 2 ≤ blocks → length sent ≡ 72 * blocks
     → fixes_of frame sent ≡ front_fixes_of (frame.unit.nac, body_duid frame.unit.body) sent + body_fixes_of frame.unit (plain_of sent)
 unfolding fixes_of front_fixes_of body_fixes_of
@@ -64,7 +64,7 @@ pub body_fixes_of-voice : (nac : ℕ) (voice : VoiceUnit) (plain : List Bool) �
 unfolding body_fixes_of unit_image_of voice_fixes_of
 body_fixes_of-voice nac voice plain = refl
 
--- behind the front of a terminator nothing is looked at
+-- after the front of a terminator nothing is looked at
 pub body_fixes_of-end : (nac : ℕ) (plain : List Bool) → let unit : UnitParts = record { nac = nac; body = Voice End } in body_fixes_of unit plain ≡ 0
 unfolding body_fixes_of voice_looked
 body_fixes_of-end nac plain =

@@ -57,7 +57,7 @@ pub voice_duid-is : (nac duid : ℕ) (bits : List Bool) (at count : ℕ) (voice 
 unfolding voice_frame
 voice_duid-is nac duid bits at count voice statuses inside kind other statuses_is read = (voice_frame-is nac duid bits at count voice statuses inside kind other statuses_is read).duid
 
--- the item of a whole voice unit: its fixes are those of its front and those behind it
+-- the item of a whole voice unit: its fixes are those of its front and those after it
 pub whole_voice-is : (place nac duid : ℕ) (bits : List Bool) (at count : ℕ) (voice : VoiceUnit) (statuses : List Status) → at ≤ length bits → kind_need duid (drop at bits) ≡ Length count → duid ≢ 0xC → nac ≤ 4095
     → statuses ≡ statuses_of (part at count bits) → Ok voice ≡ voice_reading_of duid (plain_of (part at count bits))
     → (m n : ℕ) → m ≡ front_fixes_of (nac, duid) (drop at bits)

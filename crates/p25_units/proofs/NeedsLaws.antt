@@ -21,7 +21,7 @@ use Rattle.p25_units.specs.declared.needs.Need.{Need}
 use Rattle.p25_units.specs.declared.needs.Need.TheVariants.{NoSync, More, Length, NoLength}
 use Rattle.p25_units.proofs.UnitsLaws.{IsSentLength, IsSentLength-voice}
 
--- what is needed behind an identifier, by a rule for the bits that are there
+-- what is needed after an identifier, by a rule for the bits that are there
 pub record IsHead (head : List Bool → Need) : Type 0 where
   pub seen : (bits : List Bool) → head bits ≡ NoSync → ⊥
   pub few : (bits : List Bool) (count : ℕ) → head bits ≡ More count → (length bits < count) × (count ≤ 25920)
@@ -205,7 +205,7 @@ voice-other duid plain is packet = let two : None ≡ Some plain = sym no_voice 
 pub kind_need-voice : (duid plain : ℕ) (bits : List Bool) → voice_length_of duid ≡ Some plain → kind_need duid bits ≡ length_need (sent_length plain) (length bits)
 kind_need-voice duid plain bits is = kind_need-unpacked duid bits (voice-other duid plain is) ∙ ap (λ found. voice_need found (length bits)) is ∙ voice_need-some plain (length bits)
 
--- behind an identifier, or none
+-- after an identifier, or none
 pub identified_need-none : (bits : List Bool) → identified_need None bits ≡ NoLength Nid
 unfolding identified_need
 identified_need-none bits = refl
@@ -285,7 +285,7 @@ need_of-seen bits yes' e =
       | inr long ↦ (IsHead-identified (identifier_of bits)).seen bits (sym (synced_need-long bits long) ∙ here)
     ]
 
--- more bits behind a sync
+-- more bits after a sync
 still_synced : (bits more : List Bool) → has_sync bits ≡ true → has_sync (bits ++ more) ≡ true
 still_synced bits more yes' = has_sync-append bits more (has_sync-length bits yes') ∙ yes'
 

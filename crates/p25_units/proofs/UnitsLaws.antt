@@ -11,7 +11,7 @@ use Rattle.p25_voice_units.specs.declared.unit.VoiceUnit.TheVariants.{Header, Li
 use Rattle.p25_voice_units.specs.Images.{voice_body, voice_image_of}
 use Rattle.p25_voice_units.specs.Lengths.{voice_duid, voice_length_of}
 use Rattle.p25_voice_units.proofs.ImagesLaws.{length-voice_image_of}
-use Rattle.p25_voice_units.proofs.LengthsLaws.{length-header, length-link1, length-link2, length-end, length-end_link, voice_lengths}
+use Rattle.p25_voice_units.proofs.LengthsLaws.{length-header, length-ldu1, length-ldu2, length-end, length-tdulc, voice_lengths}
 use Rattle.p25_packet_blocks.specs.Heads.{head_blocks}
 use Rattle.p25_packet_blocks.specs.Lengths.{packet_plain_length, packet_sent_length}
 use Rattle.p25_packet_blocks.specs.Whole.{packet_head}
@@ -48,10 +48,10 @@ IsSentLength-voice duid plain is = let bounds = voice_lengths duid plain is in I
 -- the length of a voice unit, by its kind
 voice_some : (voice : VoiceUnit) → (plain : ℕ) × (voice_length_of (voice_duid voice) ≡ Some plain)
 voice_some (Header word) = (770, length-header)
-voice_some (Link1 link low voice) = (1680, length-link1)
-voice_some (Link2 sync low voice) = (1680, length-link2)
+voice_some (Link1 link low voice) = (1680, length-ldu1)
+voice_some (Link2 sync low voice) = (1680, length-ldu2)
 voice_some End = (140, length-end)
-voice_some (EndLink link) = (420, length-end_link)
+voice_some (EndLink link) = (420, length-tdulc)
 
 pub body_length-voice : (voice : VoiceUnit) (plain : ℕ) → voice_length_of (voice_duid voice) ≡ Some plain → body_length (Voice voice) ≡ plain
 body_length-voice voice plain is = ap (λ found. unwrap_or found 0) is

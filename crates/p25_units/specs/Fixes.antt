@@ -16,7 +16,7 @@ use Rattle.p25_units.specs.declared.frame.Frame.{Frame}
 unfoldable pub packet_looked : ℕ → List (ℕ × ℕ)
 packet_looked n = (112, 196) ∷ each_below n (λ j. (308 + 196 * j, 196))
 
--- the looked-at places behind the front, as a place and a number of bits each
+-- the looked-at places after the front, as a place and a number of bits each
 abbrev pub body_looked : Body → List (ℕ × ℕ)
 body_looked (Voice voice) = voice_looked voice
 body_looked (Packet packet) = packet_looked (head_blocks (packet_head packet))
@@ -26,7 +26,7 @@ body_looked (Packet packet) = packet_looked (head_blocks (packet_head packet))
 abbrev pub looked_of : UnitParts → List (ℕ × ℕ)
 looked_of unit = (0, 111) ∷ body_looked unit.body
 
--- in how many of the looked-at places behind the front the bits of a unit differ from those that were received, both
+-- in how many of the looked-at places after the front the bits of a unit differ from those that were received, both
 -- without status symbols
 unfoldable pub body_fixes_of : UnitParts → List Bool → ℕ
 body_fixes_of unit plain = distance_of (bits_at (body_looked unit.body) plain) (bits_at (body_looked unit.body) (unit_image_of unit))

@@ -36,7 +36,7 @@ packet_need bits = cond (nat_lt (length bits) 316) (More 316) (head_need (sent_h
 unfoldable pub kind_need : ℕ → List Bool → Need
 kind_need duid bits = cond (nat_eq duid 0xC) (packet_need bits) (voice_need (voice_length_of duid) (length bits))
 
--- what is needed behind an identifier that was read, or none
+-- what is needed after an identifier that was read, or none
 unfoldable pub identified_need : Option (ℕ × ℕ) → List Bool → Need
 identified_need None bits = NoLength Nid
 identified_need (Some nid) bits = kind_need nid.1 bits

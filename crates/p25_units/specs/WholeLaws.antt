@@ -15,7 +15,7 @@ use Rattle.p25_units.specs.declared.frame.Frame.{Frame}
 use Rattle.p25_units.specs.declared.needs.Need.TheVariants.{Length}
 use Rattle.p25_units.specs.declared.item.Item.TheVariants.{Whole}
 
--- the bits behind the front, without status symbols, read as what the unit carries: of a voice unit they lie within radius of
+-- the bits after the front, without status symbols, read as what the unit carries: of a voice unit they lie within radius of
 -- its own; of a packet, the first nearest paths to its header block and its other blocks carry it, with all its checks
 unfoldable pub IsBodyRead : Body → List Bool → List Bool → Type 0
 IsBodyRead (Voice voice) image plain = IsVoiceWithin voice image plain

@@ -18,7 +18,7 @@ pub record IsFrontWithin (frame : Frame) (sent : List Bool) : Type 0 where
   pub sync : distance_of (take 48 sent) (take 48 (image_of frame)) ≤ sync_slack
   pub identifier : distance_of (take 63 (identifier_bits sent)) (take 63 (identifier_bits (image_of frame))) ≤ 11
 
--- the bits behind the front, without status symbols, have few wrong ones: of a voice unit so few as its codes correct, of a
+-- the bits after the front, without status symbols, have few wrong ones: of a voice unit so few as its codes correct, of a
 -- packet at most two in the header block and in each half-rate block, and one in each three-quarter-rate block
 unfoldable pub IsBodyWithin : Body → List Bool → List Bool → Type 0
 IsBodyWithin (Voice voice) image plain = IsVoiceWithin voice image plain

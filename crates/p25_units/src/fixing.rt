@@ -17,16 +17,10 @@ ghost use Rattle.p25_voice_units.specs.Sendable.{IsSendableVoice};
 use crate::frame::Frame;
 use crate::unit::{Body, Unit};
 use p25_bits::BitBuf;
-use p25_packet_blocks::{Packet, packet_image, packet_length};
-use p25_status::{Statuses, unweave};
+use p25_packet_blocks::{BLOCK_LENGTH, HEADER_AT, Packet, packet_image, packet_length};
+use p25_status::{PLAIN_BLOCK_LENGTH, SENT_BLOCK_LENGTH, Statuses, unweave};
 use p25_unit_front::front_fixes;
 use p25_voice_units::{VoiceUnit, voice_fixes, voice_image};
-
-// Where the header block of a packet begins in a unit without status symbols. The blocks to follow touch it.
-const BLOCKS_AT: usize = 112;
-
-// How many bits a block of a packet has.
-const BLOCK_LENGTH: usize = 196;
 
 /// Answers in how many looked-at places the sent bits from place `at` on differ from the image of a frame: of its sync, of
 /// the first 63 bits of its identifier, and of its code words and blocks. A sound frame's bits are there.
@@ -38,7 +32,7 @@ pub fn fixes(bits: &BitBuf, at: usize, frame: &Frame) -> u32
     front_fixes(bits, at, &frame.unit.identifier()) + body_fixes(bits, at, &frame.unit)
 }
 
-// The same of the looked-at places behind the front.
+// Counts the wrong bits at the places after the front that a reader looks at.
 fn body_fixes(bits: &BitBuf, at: usize, unit: &Unit) -> u32
     requires there { at + frame_length_of unit.now ≤ length bits.now }
     requires whole { IsWholeBody unit.now.body }
@@ -53,7 +47,7 @@ fn body_fixes(bits: &BitBuf, at: usize, unit: &Unit) -> u32
     }
 }
 
-// The same of a voice unit.
+// Counts the wrong bits of a voice unit after its front.
 fn voice_unit_fixes(bits: &BitBuf, at: usize, nac: u16, voice: &VoiceUnit) -> u32
     requires there { at + sent_length (body_length (voice_in voice.now)) ≤ length bits.now }
     requires nac { nac ≤ 4095 }
@@ -66,14 +60,14 @@ fn voice_unit_fixes(bits: &BitBuf, at: usize, nac: u16, voice: &VoiceUnit) -> u3
     unweave(
         bits,
         at,
-        voice.length() / 70 * 72,
+        voice.length() / PLAIN_BLOCK_LENGTH * SENT_BLOCK_LENGTH,
         &mut plain,
         &mut Statuses::new(),
     );
     coded_fixes(nac, voice, &plain)
 }
 
-// The same of a voice unit whose bits without status symbols are there. Behind the front of a terminator stand no words.
+// Counts them by the unit's bits without status symbols. After the front of a terminator stand no words.
 pub(crate) fn coded_fixes(nac: u16, voice: &VoiceUnit, plain: &BitBuf) -> u32
     requires nac { nac ≤ 4095 }
     requires long { voice_length_of (voice_duid voice.now) ≡ Some (length plain.now) }
@@ -87,7 +81,7 @@ pub(crate) fn coded_fixes(nac: u16, voice: &VoiceUnit, plain: &BitBuf) -> u32
     }
 }
 
-// The same, by the bits that are sent for it. They take room, so they are made apart from the caller.
+// Counts them by the bits that are sent for the unit. They take room, so they are made apart from the caller.
 #[inline(never)]
 fn word_fixes(nac: u16, voice: &VoiceUnit, plain: &BitBuf) -> u32
     requires nac { nac ≤ 4095 }
@@ -101,7 +95,7 @@ fn word_fixes(nac: u16, voice: &VoiceUnit, plain: &BitBuf) -> u32
     voice_fixes(voice, plain, &image)
 }
 
-// The same of a packet.
+// Counts the wrong bits of a packet after its front.
 fn packet_fixes(bits: &BitBuf, at: usize, nac: u16, packet: &Packet) -> u32
     requires there { at + packet_sent_length (head_blocks (packet_head packet.now)) ≤ length bits.now }
     requires nac { nac ≤ 4095 }
@@ -123,7 +117,7 @@ fn packet_fixes(bits: &BitBuf, at: usize, nac: u16, packet: &Packet) -> u32
     let mut image = BitBuf::new();
     packet_image(nac, packet, &mut image);
     let count = BLOCK_LENGTH * (1 + usize::from(head.blocks()));
-    part_distance(&plain, &image, BLOCKS_AT, count)
+    part_distance(&plain, &image, HEADER_AT, count)
 }
 
 // In how many of the `count` places from `at` on two lists differ.

@@ -13,8 +13,8 @@ use crate::begun::Begun;
 use crate::fixing::{coded_fixes, fixes};
 use crate::frame::{Frame, frame_length};
 use crate::read::read_identified;
-use crate::unit::{Body, PACKET_DUID, Unit};
-use p25_bch_nid::Nid;
+use crate::unit::{Body, Unit};
+use p25_bch_nid::{Nid, PDU};
 use p25_bits::BitBuf;
 use p25_status::{Field, FieldList, Statuses, unweave};
 use p25_unit_front::front_fixes;
@@ -48,7 +48,7 @@ pub enum Item {
         place: u64,
         length: u32,
     },
-    /// A sync with too few bits behind it.
+    /// A sync with too few bits after it.
     Cut {
         place: u64,
         have: u32,
@@ -129,7 +129,7 @@ pub fn unit_item(bits: &BitBuf, at: usize, count: usize, begun: Begun, place: u6
 
 /// Sets `item` to the item that `unit_item` answers. An item is large: set in place it is not moved, and where a voice unit
 /// follows a voice unit, only that is written. `room` takes the unit's bits without status symbols; what it holds before and
-/// behind the call means nothing.
+/// after the call means nothing.
 pub fn set_unit_item(
     bits: &BitBuf,
     at: usize,
@@ -154,7 +154,7 @@ pub fn set_unit_item(
             };
         }
         Some(nid) => {
-            if nid.duid == PACKET_DUID {
+            if nid.duid == PDU {
                 set_packet_item(bits, at, count, &nid, &mut begun, place, item);
             } else {
                 set_voice_item(bits, at, count, &nid, place, room, item);

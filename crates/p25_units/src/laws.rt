@@ -17,7 +17,7 @@ ghost use Rattle.p25_units.specs.declared.item.Item.TheVariants.{Whole};
 ghost use Rattle.p25_status.specs.declared.symbols.Status.{Status};
 ghost use Rattle.p25_units.specs.Terminators.{ErrorsAreFixes, TerminatorIsNear, terminator, terminator_bits};
 
-/// Does nothing: its contract is all that a scanner has to know of units.
+/// **Theorem.** All that a scanner has to know of units.
 ///
 /// - `seen`, `stays`, `waits`: at a place with a sync, what is known stays whatever bits come later, and a number of bits
 ///   that is waited for stays the same until it is there.
@@ -37,7 +37,7 @@ pub fn need_laws()
     ensures begun { BegunStays }
 {}
 
-/// Does nothing: its contract is what units read as.
+/// **Theorem.** What units read as.
 ///
 /// - `length`, `near`, `item`: bits within radius of the image of a sound frame that can be sent have its length, whatever bits
 ///   follow, and read as the frame, with the voice frames and the status symbols that were received; their item is `Whole`.
@@ -60,7 +60,7 @@ pub fn unit_laws()
     ensures whole_is_near { WholeIsNear }
 {}
 
-/// Does nothing: its contract is what terminators are among all units.
+/// **Theorem.** What terminators are among all units.
 ///
 /// - `sound`: the frame of a terminator is sound exactly where it has two status symbols.
 /// - `sent`: its bits as they are sent are the sync, the identifier, 28 nulls and the status symbols.

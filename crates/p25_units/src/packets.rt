@@ -19,7 +19,7 @@ pub(crate) fn read_packet_body(
     ensures { result ≡ packet_body_from (packet_reading_of plain.now) }
 {
     match head {
-        Err(field) => Err(one_field(field)),
+        Err(field) => Err(FieldList::one(field)),
         Ok(head) => packet_body(read_packet_of_head(head, plain)),
     }
 }
@@ -29,7 +29,7 @@ fn packet_body(reading: Result<Packet, Field>) -> Result<Body, FieldList>
     ensures { result ≡ packet_body_from reading }
 {
     match reading {
-        Err(field) => Err(one_field(field)),
+        Err(field) => Err(FieldList::one(field)),
         Ok(packet) => {
             let fields = failing_blocks(&packet);
             whole_packet(packet, fields)
@@ -79,13 +79,4 @@ fn push_failing(j: u8, slot: &Slot, fields: &mut FieldList)
         Slot::Good(_) => {}
         Slot::Bad => fields.push(Field::Block(j)),
     }
-}
-
-// One field.
-pub(crate) fn one_field(field: Field) -> FieldList
-    ensures { result ≡ field ∷ [] }
-{
-    let mut fields = FieldList::new();
-    fields.push(field);
-    fields
 }

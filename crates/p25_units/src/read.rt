@@ -13,9 +13,9 @@ ghost use Rattle.p25_voice_units.specs.Readings.{voice_reading_of};
 
 use crate::begun::Begun;
 use crate::frame::Frame;
-use crate::packets::{one_field, read_packet_body};
-use crate::unit::{Body, PACKET_DUID, Unit};
-use p25_bch_nid::Nid;
+use crate::packets::read_packet_body;
+use crate::unit::{Body, Unit};
+use p25_bch_nid::{Nid, PDU};
 use p25_bits::BitBuf;
 use p25_status::{Field, FieldList, Statuses, unweave};
 use p25_unit_front::read_identifier;
@@ -31,12 +31,12 @@ pub fn read_unit(bits: &BitBuf, at: usize, count: usize) -> Result<Frame, FieldL
     ensures some { IfErr result (λ fields. 0 < length fields) }
 {
     match read_identifier(bits, at) {
-        None => Err(one_field(Field::Nid)),
+        None => Err(FieldList::one(Field::Nid)),
         Some(nid) => read_identified(bits, at, count, &nid, &mut Begun::new()),
     }
 }
 
-// The same, where the identifier was read and `begun` holds what else was. A frame is large: made apart from its caller, it
+// Reads a unit whose identifier was read; `begun` holds what else was. A frame is large: made apart from its caller, it
 // is copied at once.
 #[inline(never)]
 pub(crate) fn read_identified(
@@ -80,7 +80,7 @@ fn read_body(
 {
     let mut plain = BitBuf::new();
     unweave(bits, at, count, &mut plain, statuses);
-    if duid == PACKET_DUID {
+    if duid == PDU {
         let head = begun.read_head(bits, at);
         return read_packet_body(head, &plain);
     }

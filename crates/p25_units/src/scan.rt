@@ -8,10 +8,10 @@ ghost use Rattle.p25_voice_units.specs.Lengths.{voice_length_of};
 
 use crate::begun::Begun;
 use crate::needs::Need;
-use crate::unit::PACKET_DUID;
+use p25_bch_nid::PDU;
 use p25_bits::BitBuf;
 use p25_packet_blocks::packet_length;
-use p25_status::{Field, is_sync};
+use p25_status::{Field, PLAIN_BLOCK_LENGTH, SENT_BLOCK_LENGTH, is_sync};
 use p25_voice_units::voice_length;
 
 // The bits from which an identifier can be read: those up to its last, with the status symbol within it.
@@ -31,7 +31,8 @@ pub fn need(bits: &BitBuf, at: usize) -> Need
     need_begun(bits, at, &mut Begun::new())
 }
 
-/// The same, where `begun` holds what was read at this place before. Replaces it by what has been read now.
+/// Answers what the bits from place `at` on need, where `begun` holds what was read at this place before. Replaces it by what has
+/// been read now.
 pub fn need_begun(bits: &BitBuf, at: usize, begun: &mut Begun) -> Need
     requires there { at ≤ length bits.now }
     requires begun { IsBegun begun.old (drop at bits.now) }
@@ -70,7 +71,7 @@ fn need_of_kind(duid: u8, bits: &BitBuf, at: usize, begun: &mut Begun) -> Need
     ensures need { result ≡ kind_need duid (drop at bits.now) }
     ensures begun { IsBegun begun.new (drop at bits.now) }
 {
-    if duid == PACKET_DUID {
+    if duid == PDU {
         return need_of_packet(bits, at, begun);
     }
     need_of_voice(duid, bits.len() - at)
@@ -82,7 +83,7 @@ fn need_of_voice(duid: u8, have: usize) -> Need
 {
     match voice_length(duid) {
         None => Need::NoLength(Field::Duid),
-        Some(plain) => need_of_length(plain / 70 * 72, have),
+        Some(plain) => need_of_length(plain / PLAIN_BLOCK_LENGTH * SENT_BLOCK_LENGTH, have),
     }
 }
 

@@ -49,7 +49,7 @@ pub fn unit_image(unit: &Unit, out: &mut BitBuf)
     body_image(unit.nac(), unit.body(), out)
 }
 
-// The same by what it carries.
+// Sets `out` to a unit's bits without status symbols, by what it carries.
 fn body_image(nac: u16, body: &Body, out: &mut BitBuf)
     requires nac { nac < 4096 }
     requires whole { IsWholeBody body.now }

@@ -4,13 +4,11 @@ ghost use Rattle.std.specs.Prelude.{◌≡◌, ◌<◌, ◌≤◌};
 ghost use Rattle.p25_units.specs.Units.{body_duid, body_length};
 ghost use Rattle.p25_units.specs.declared.unit.Body.TheVariants.{Voice as voice_in};
 
-use p25_bch_nid::Nid;
+use p25_bch_nid::{Nid, PDU};
 use p25_packet_blocks::{Packet, packet_length};
+use p25_status::{PLAIN_BLOCK_LENGTH, SENT_BLOCK_LENGTH};
 use p25_voice_units::VoiceUnit;
 use std::marker::Model;
-
-// The data unit identifier of a packet.
-pub(crate) const PACKET_DUID: u8 = 0xC;
 
 /// What a unit carries, by its kind.
 #[derive(Drop)]
@@ -29,7 +27,7 @@ impl Body {
     {
         match self {
             Body::Voice(voice) => voice.duid(),
-            Body::Packet(_) => PACKET_DUID,
+            Body::Packet(_) => PDU,
         }
     }
 
@@ -50,7 +48,8 @@ impl Body {
     {
         match self {
             Body::Voice(voice) => voice.length(),
-            Body::Packet(packet) => packet_length(&packet.head()) / 72 * 70,
+            Body::Packet(packet) => packet_length(&packet.head()) / SENT_BLOCK_LENGTH
+                * PLAIN_BLOCK_LENGTH,
         }
     }
 }

@@ -4,7 +4,7 @@ use Rattle.p25_bits.proofs.NumbersLaws.{length-each_below, each_below-more, each
 use Rattle.p25_link.specs.declared.link_control.LinkControl.{LinkControl}
 use Rattle.p25_link.specs.declared.encryption_sync.EncryptionSync.{EncryptionSync}
 use Rattle.p25_voice_units.specs.declared.voice.VoiceFrame.{VoiceFrame}
-use Rattle.p25_voice_units.specs.declared.unit.VoiceUnit.TheVariants.{Link1 as link1_unit, Link2 as link2_unit}
+use Rattle.p25_voice_units.specs.declared.unit.VoiceUnit.TheVariants.{Link1 as ldu1_unit, Link2 as ldu2_unit}
 use Rattle.p25_packet_blocks.specs.ConfirmedParts.{ConfirmedParts}
 use Rattle.p25_packet_blocks.specs.Parts.{PlainParts}
 use Rattle.p25_packet_blocks.specs.Heads.{head_format, head_blocks}
@@ -44,7 +44,7 @@ pub length-slots_drawn : (count state : ℕ) → length (slots_drawn count state
 unfolding slots_drawn
 length-slots_drawn count state = length-each_below count (λ j. block_of j (octets_drawn 16 (state_after (16 * j) state)))
 
--- one more of a size behind so many
+-- one more of a size after so many
 pub state_after-more : (size count state now next : ℕ) → now ≡ state_after (size * count) state → next ≡ state_after size now → next ≡ state_after (size * (count + 1)) state
 state_after-more size count state now next is then =
     let e : size * count + size ≡ size * (count + 1) = omega arith in
@@ -52,27 +52,27 @@ state_after-more size count state now next is then =
 
 -- Voice.
 
-pub link1-drawn : (state first second last : ℕ) (link : LinkControl) (low : List ℕ) (voice : List VoiceFrame)
+pub ldu1-drawn : (state first second last : ℕ) (link : LinkControl) (low : List ℕ) (voice : List VoiceFrame)
     → link ≡ link_of (octets_drawn 9 state) → first ≡ state_after 9 state → low ≡ octets_drawn 2 first → second ≡ state_after 2 first
     → voice ≡ voice_drawn 9 second → last ≡ state_after 162 second
-    → (Voice (link1_unit link low voice) ≡ body_drawn Link1 state) × (last ≡ state_after (body_draws Link1 state) state)
+    → (Voice (ldu1_unit link low voice) ≡ body_drawn Link1 state) × (last ≡ state_after (body_draws Link1 state) state)
 unfolding body_drawn body_draws
-link1-drawn state first second last link low voice a b c d e f =
+ldu1-drawn state first second last link low voice a b c d e f =
     let behind : second ≡ state_after 11 state = d ∙ ap (state_after 2) b ∙ state_after-add 9 2 state in
     let lows : low ≡ octets_drawn 2 (state_after 9 state) = c ∙ ap (octets_drawn 2) b in
     let voices : voice ≡ voice_drawn 9 (state_after 11 state) = e ∙ ap (voice_drawn 9) behind in
-    (ap (λ l. Voice (link1_unit l low voice)) a ∙ ap₂ (λ x y. Voice (link1_unit (link_of (octets_drawn 9 state)) x y)) lows voices, f ∙ ap (state_after 162) behind ∙ state_after-add 11 162 state)
+    (ap (λ l. Voice (ldu1_unit l low voice)) a ∙ ap₂ (λ x y. Voice (ldu1_unit (link_of (octets_drawn 9 state)) x y)) lows voices, f ∙ ap (state_after 162) behind ∙ state_after-add 11 162 state)
 
-pub link2-drawn : (state first second last : ℕ) (sync : EncryptionSync) (low : List ℕ) (voice : List VoiceFrame)
+pub ldu2-drawn : (state first second last : ℕ) (sync : EncryptionSync) (low : List ℕ) (voice : List VoiceFrame)
     → sync ≡ sync_of (octets_drawn 12 state) → first ≡ state_after 12 state → low ≡ octets_drawn 2 first → second ≡ state_after 2 first
     → voice ≡ voice_drawn 9 second → last ≡ state_after 162 second
-    → (Voice (link2_unit sync low voice) ≡ body_drawn Link2 state) × (last ≡ state_after (body_draws Link2 state) state)
+    → (Voice (ldu2_unit sync low voice) ≡ body_drawn Link2 state) × (last ≡ state_after (body_draws Link2 state) state)
 unfolding body_drawn body_draws
-link2-drawn state first second last sync low voice a b c d e f =
+ldu2-drawn state first second last sync low voice a b c d e f =
     let behind : second ≡ state_after 14 state = d ∙ ap (state_after 2) b ∙ state_after-add 12 2 state in
     let lows : low ≡ octets_drawn 2 (state_after 12 state) = c ∙ ap (octets_drawn 2) b in
     let voices : voice ≡ voice_drawn 9 (state_after 14 state) = e ∙ ap (voice_drawn 9) behind in
-    (ap (λ s. Voice (link2_unit s low voice)) a ∙ ap₂ (λ x y. Voice (link2_unit (sync_of (octets_drawn 12 state)) x y)) lows voices, f ∙ ap (state_after 162) behind ∙ state_after-add 14 162 state)
+    (ap (λ s. Voice (ldu2_unit s low voice)) a ∙ ap₂ (λ x y. Voice (ldu2_unit (sync_of (octets_drawn 12 state)) x y)) lows voices, f ∙ ap (state_after 162) behind ∙ state_after-add 14 162 state)
 
 -- Packets.
 

@@ -121,7 +121,7 @@ module _ (size radius whole state : ℕ) (places : List ℕ) (bits : List Bool) 
         ap₂ (λ (a b : ℕ). a + b) is.1 counted ∙ sym (sum_by_push (λ (x : ℕ). x) counts last) ∙ sym (ap sum (word_counts-more i size radius whole state)),
       )
 
--- the same of blocks, whose places a rule gives
+-- blocks, whose places a rule gives, are damaged as words are
 module _ (size radius state : ℕ) (place : ℕ → ℕ) (bits : List Bool) where
   unfoldable pub blocks : ℕ → List (ℕ × ℕ)
   blocks count = each_below count (λ j. (place j, size))
@@ -152,7 +152,7 @@ module _ (size radius state : ℕ) (place : ℕ → ℕ) (bits : List Bool) wher
         ap₂ (λ (a b : ℕ). a + b) is.1 counted ∙ sym (sum_by_push (λ (x : ℕ). x) counts last) ∙ sym (ap sum (word_counts-more i size radius 0 state)),
       )
 
--- Words behind words.
+-- Words after words.
 
 pub damaged-both : (words more : List (ℕ × ℕ)) (counts others : List ℕ) (bits middle last : List Bool) → length counts ≡ length words
     → middle ≡ damaged words counts bits → last ≡ damaged more others middle → last ≡ damaged (words ++ more) (counts ++ others) bits

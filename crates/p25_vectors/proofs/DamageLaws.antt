@@ -1,5 +1,5 @@
 -- What the damage of words leaves of a list of bits: where the words lie apart, each differs in no more bits than are inverted of
--- it, and what lies outside them is unchanged. By recursion on the words: a later word begins behind an earlier one.
+-- it, and what lies outside them is unchanged. By recursion on the words: a later word begins after an earlier one.
 use Rattle.std.proofs.Common.{◌≡◌, ℕ, zero, suc, ◌+◌, ◌<◌, ◌≤◌, ◌⊎◌, inl, inr, Bool, true, false, cond, not, ◌&&◌, nat_le, List, [], ◌∷◌, ◌++◌, length, take, drop, get_or, refl, ap, sym, subst, ◌∙◌, arith, length-drop}
 use Rattle.std.specs.Bool.{beq}
 use Rattle.std.proofs.lemmas.Bool.{and_parts, leb-true}
@@ -92,7 +92,7 @@ distance-inverted at (suc count) bits =
       distance-inverted at count bits,
     )
 
--- a part before them, or behind them, is unchanged
+-- a part before them, or after them, is unchanged
 part-inverted : (at count from size : ℕ) (bits : List Bool) → (at + count ≤ from) ⊎ (from + size ≤ at) → part from size (inverted at count bits) ≡ part from size bits
 part-inverted at count from size bits (inl behind) = ap (take size) (drop-inverted at count from bits behind)
 part-inverted at count from size bits (inr before) =
@@ -135,7 +135,7 @@ AreApart-cons from at size words first rest = record { behind = behind; apart = 
     apart zero (suc k) less h = rest.behind k (omega arith)
     apart (suc i) (suc k) less h = rest.apart i k (omega arith) (omega arith)
 
--- the same of words behind another place, and of the words behind the first
+-- words that lie apart after a place: so do those after the first
 AreApart-tail : (from : ℕ) (word : ℕ × ℕ) (words : List (ℕ × ℕ)) → AreApart from (word ∷ words) → AreApart (word.0 + word.1) words
 AreApart-tail from word words is = record {
   behind = λ k h. is.apart 0 (suc k) (omega arith) (omega arith);

@@ -1,4 +1,4 @@
--- Draws behind draws: counts of draws add up.
+-- Draws after draws: counts of draws add up.
 use Rattle.std.proofs.Common.{◌≡◌, ℕ, zero, suc, ◌+◌, ◌%◌, ◌/◌, [], ◌∷◌, ◌++◌, length, refl, ap, sym, ◌∙◌, arith}
 use Rattle.p25_bits.specs.Numbers.{each_below}
 use Rattle.p25_bits.proofs.NumbersLaws.{length-each_below, each_below-more, each_below-zero}
@@ -15,7 +15,7 @@ state_after-add first (suc more) state =
     let e : suc (first + more) ≡ first + suc more = omega arith in
     ap state_behind (state_after-add first more state) ∙ ap (λ n. state_after n state) e
 
--- the first draw behind so many others
+-- the first draw after so many others
 pub draw-after : (first state : ℕ) → draw 0 (state_after first state) ≡ draw first state
 unfolding draw state_after
 draw-after first state = refl

@@ -21,7 +21,7 @@ use Rattle.p25_voice_units.specs.declared.unit.VoiceUnit.TheVariants.{Header, Li
 use Rattle.p25_voice_units.specs.FieldLayouts.{word_places}
 use Rattle.p25_voice_units.specs.Fixes.{wide, voice_looked, link_looked}
 use Rattle.p25_voice_units.specs.Images.{voice_image_of}
-use Rattle.p25_voice_units.specs.Layouts.{link_rows}
+use Rattle.p25_voice_units.specs.Layouts.{ldu_rows}
 use Rattle.p25_voice_units.specs.Lengths.{voice_duid, voice_length_of}
 use Rattle.std.specs.Option.{unwrap_or}
 use Rattle.p25_units.specs.Fixes.{body_looked}
@@ -96,14 +96,14 @@ frames-same words counts sent (at ∷ places) fit long test =
     (frame-same at sent (damaged words counts sent) there (length-damaged words counts sent) same)
     (frames-same words counts sent places fit long parts.1)
 
-frames-clear : list_all (λ at. nat_le (at + 144) 1680 && clear ((0, 48) ∷ (48, 63) ∷ link_looked) at) (frame_places link_rows) ≡ true
+frames-clear : list_all (λ at. nat_le (at + 144) 1680 && clear ((0, 48) ∷ (48, 63) ∷ link_looked) at) (frame_places ldu_rows) ≡ true
 unfolding clear frame_places link_looked wide word_places places_from low_places
 frames-clear = refl
 
 voice-same : (counts : List ℕ) (sent : List Bool) → AreCounts ((0, 48) ∷ (48, 63) ∷ link_looked) counts → length sent ≡ 1680
     → voice_in (damaged ((0, 48) ∷ (48, 63) ∷ link_looked) counts sent) ≡ voice_in sent
 unfolding voice_in
-voice-same counts sent fit long = frames-same ((0, 48) ∷ (48, 63) ∷ link_looked) counts sent (frame_places link_rows) fit long frames-clear
+voice-same counts sent fit long = frames-same ((0, 48) ∷ (48, 63) ∷ link_looked) counts sent (frame_places ldu_rows) fit long frames-clear
 
 -- What a unit carries.
 

@@ -14,9 +14,9 @@ use Rattle.p25_coded_fields.specs.Layouts.{Layout, places_from}
 use Rattle.p25_coded_fields.specs.Within.{lost_symbols}
 use Rattle.p25_voice_units.specs.declared.unit.VoiceUnit.{VoiceUnit}
 use Rattle.p25_voice_units.specs.declared.unit.VoiceUnit.TheVariants.{Header, Link1, Link2, End, EndLink}
-use Rattle.p25_voice_units.specs.FieldLayouts.{word_places, header_layout, link_layout, sync_layout, end_link_layout}
+use Rattle.p25_voice_units.specs.FieldLayouts.{word_places, header_layout, link_layout, sync_layout, tdulc_layout}
 use Rattle.p25_voice_units.specs.Fixes.{wide, voice_looked, link_looked}
-use Rattle.p25_voice_units.specs.Layouts.{header_rows, link_rows, end_link_rows}
+use Rattle.p25_voice_units.specs.Layouts.{hdu_rows, ldu_rows, tdulc_rows}
 use Rattle.p25_voice_units.specs.Readings.{low_places}
 use Rattle.p25_voice_units.specs.WithinRadius.{AreLowWithin, IsVoiceWithinByWords}
 use Rattle.p25_packet_blocks.specs.declared.packet.Packet.{Packet as packet_type}
@@ -109,13 +109,13 @@ module _ (layout : Layout) (radius whole state : ℕ) (sent received : List Bool
 below-most : (drawn most : ℕ) → drawn % (most + 1) ≤ most
 below-most drawn most = let positive : 0 < most + 1 = omega arith in omega (arith, mod-lt drawn positive)
 
-two_low : length (low_places link_rows) ≡ 2
+two_low : length (low_places ldu_rows) ≡ 2
 unfolding low_places
 two_low = refl
 
-low-within : (state : ℕ) (sent received : List Bool) → IsNearAt (wide 16 (low_places link_rows)) (word_counts 2 16 2 0 state) sent received → AreLowWithin sent received
+low-within : (state : ℕ) (sent received : List Bool) → IsNearAt (wide 16 (low_places ldu_rows)) (word_counts 2 16 2 0 state) sent received → AreLowWithin sent received
 low-within state sent received is i d h =
-    let places = low_places link_rows in
+    let places = low_places ldu_rows in
     let long : length places ≡ 2 = two_low in
     let word = get_or-wide 16 places i h in
     let near = is.near i (omega (arith, length-wide 16 places)) in
@@ -130,8 +130,8 @@ voice-within (Header word) state sent received is =
     let few = few-lost header_layout 3 (draw 0 state % 9) (state_after 1 state) sent received is in
     omega (arith, few, below-most (draw 0 state) 8)
 voice-within (Link1 link low voice) state sent received is =
-    let words = wide 10 (word_places 10 link_rows) in
-    let more = wide 16 (low_places link_rows) in
+    let words = wide 10 (word_places 10 ldu_rows) in
+    let more = wide 16 (low_places ldu_rows) in
     let counts = field_counts 24 10 1 6 state in
     let behind = state_after (field_draws 24 6 state) state in
     let others = word_counts 2 16 2 0 behind in
@@ -142,8 +142,8 @@ voice-within (Link1 link low voice) state sent received is =
       low = low-within behind sent received (IsNearAt-second words more counts others sent received long is);
     }
 voice-within (Link2 sync low voice) state sent received is =
-    let words = wide 10 (word_places 10 link_rows) in
-    let more = wide 16 (low_places link_rows) in
+    let words = wide 10 (word_places 10 ldu_rows) in
+    let more = wide 16 (low_places ldu_rows) in
     let counts = field_counts 24 10 1 4 state in
     let behind = state_after (field_draws 24 4 state) state in
     let others = word_counts 2 16 2 0 behind in
@@ -155,7 +155,7 @@ voice-within (Link2 sync low voice) state sent received is =
     }
 voice-within End state sent received is = tt
 voice-within (EndLink link) state sent received is =
-    let few = few-lost end_link_layout 3 (draw 0 state % 4) (state_after 1 state) sent received is in
+    let few = few-lost tdulc_layout 3 (draw 0 state % 4) (state_after 1 state) sent received is in
     omega (arith, few, below-most (draw 0 state) 3)
 
 -- Packets.
@@ -227,11 +227,11 @@ blocks-apart n = record { behind = behind; apart = apart }
 
 body-apart : (body : Body) → AreApart 111 (body_looked body)
 unfolding voice_looked link_looked packet_looked wide word_places places_from low_places rising
-body-apart (Voice (Header word)) = AreApart-rising 111 (wide 18 (word_places 18 header_rows)) refl
+body-apart (Voice (Header word)) = AreApart-rising 111 (wide 18 (word_places 18 hdu_rows)) refl
 body-apart (Voice (Link1 link low voice)) = AreApart-rising 111 link_looked refl
 body-apart (Voice (Link2 sync low voice)) = AreApart-rising 111 link_looked refl
 body-apart (Voice End) = AreApart-none 111
-body-apart (Voice (EndLink link)) = AreApart-rising 111 (wide 24 (word_places 24 end_link_rows)) refl
+body-apart (Voice (EndLink link)) = AreApart-rising 111 (wide 24 (word_places 24 tdulc_rows)) refl
 body-apart (Packet packet) =
     let n = head_blocks (packet_head packet) in
     AreApart-cons 111 112 196 (each_below n (λ j. (308 + 196 * j, 196))) (omega arith) (blocks-apart n)
@@ -243,10 +243,10 @@ words-apart body = AreApart-cons 0 0 48 ((48, 63) ∷ body_looked body) (omega a
 link-fit : (most state : ℕ) → AreCounts link_looked (link_counts most state)
 unfolding link_looked wide word_places places_from low_places
 link-fit most state =
-    AreCounts-append (wide 10 (word_places 10 link_rows)) (wide 16 (low_places link_rows)) (field_counts 24 10 1 most state)
+    AreCounts-append (wide 10 (word_places 10 ldu_rows)) (wide 16 (low_places ldu_rows)) (field_counts 24 10 1 most state)
     (word_counts 2 16 2 0 (state_after (field_draws 24 most state) state))
-    (AreCounts-word_counts 10 1 (draw 0 state % (most + 1)) (state_after 1 state) (word_places 10 link_rows) (omega arith))
-    (AreCounts-word_counts 16 2 0 (state_after (field_draws 24 most state) state) (low_places link_rows) (omega arith))
+    (AreCounts-word_counts 10 1 (draw 0 state % (most + 1)) (state_after 1 state) (word_places 10 ldu_rows) (omega arith))
+    (AreCounts-word_counts 16 2 0 (state_after (field_draws 24 most state) state) (low_places ldu_rows) (omega arith))
 
 block_radius-fits : (packet : packet_type) → block_radius packet ≤ 196
 block_radius-fits (confirmed_packet packet) = omega arith
@@ -282,11 +282,11 @@ packet-fit packet state =
 
 body-fit : (body : Body) (state : ℕ) → AreCounts (body_looked body) (body_counts body state)
 unfolding voice_looked body_counts word_places places_from AreCounts
-body-fit (Voice (Header word)) state = AreCounts-word_counts 18 3 (draw 0 state % 9) (state_after 1 state) (word_places 18 header_rows) (omega arith)
+body-fit (Voice (Header word)) state = AreCounts-word_counts 18 3 (draw 0 state % 9) (state_after 1 state) (word_places 18 hdu_rows) (omega arith)
 body-fit (Voice (Link1 link low voice)) state = link-fit 6 state
 body-fit (Voice (Link2 sync low voice)) state = link-fit 4 state
 body-fit (Voice End) state = tt
-body-fit (Voice (EndLink link)) state = AreCounts-word_counts 24 3 (draw 0 state % 4) (state_after 1 state) (word_places 24 end_link_rows) (omega arith)
+body-fit (Voice (EndLink link)) state = AreCounts-word_counts 24 3 (draw 0 state % 4) (state_after 1 state) (word_places 24 tdulc_rows) (omega arith)
 body-fit (Packet packet) state = packet-fit packet state
 
 pub words-fit : (body : Body) (state : ℕ) → AreCounts (damaged_words body) (damage_counts body state)

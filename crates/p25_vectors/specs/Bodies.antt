@@ -1,4 +1,4 @@
--- What sample units carry: their kinds in turn, and what each has of the draws behind a state.
+-- What sample units carry: their kinds in turn, and what each has of the draws after a state.
 use Rattle.std.specs.Prelude.{ℕ, ◌+◌, ◌-◌, ◌*◌, ◌%◌, List, [], ◌∷◌, ◌++◌, take, slice_index}
 use Rattle.std.proofs.Common.{get_or}
 use Rattle.p25_bits.specs.Numbers.{each_below}
@@ -6,7 +6,7 @@ use Rattle.p25_link.specs.declared.link_control.LinkControl.{LinkControl}
 use Rattle.p25_link.specs.declared.encryption_sync.EncryptionSync.{EncryptionSync}
 use Rattle.p25_link.specs.declared.header_word.HeaderWord.{HeaderWord}
 use Rattle.p25_voice_units.specs.declared.voice.VoiceFrame.{VoiceFrame}
-use Rattle.p25_voice_units.specs.declared.unit.VoiceUnit.TheVariants.{Header as header_unit, Link1 as link1_unit, Link2 as link2_unit, End as end_unit, EndLink as end_link_unit}
+use Rattle.p25_voice_units.specs.declared.unit.VoiceUnit.TheVariants.{Header as header_unit, Link1 as ldu1_unit, Link2 as ldu2_unit, End as end_unit, EndLink as tdulc_unit}
 use Rattle.p25_packet_blocks.specs.declared.head.PacketHead.{PacketHead}
 use Rattle.p25_packet_blocks.specs.declared.block.Slot.{Slot}
 use Rattle.p25_packet_blocks.specs.declared.block.Slot.TheVariants.{Good}
@@ -56,7 +56,7 @@ unfoldable pub voice_drawn : ℕ → ℕ → List VoiceFrame
 voice_drawn count state = each_below count (λ i. voice_frame_of (octets_drawn 18 (state_after (18 * i) state)))
 
 -- the ten octets of a header of a packet: the first one, the second, 0, the LLID, the full message flag with the blocks to
--- follow, 0, the octet behind the pad count, and 0
+-- follow, 0, the octet after the pad count, and 0
 abbrev pub head_of : ℕ → ℕ → List ℕ → ℕ → ℕ → PacketHead
 head_of first second llid blocks ninth = record { 0 = first ∷ second ∷ 0 ∷ llid ++ (0x80 + blocks) ∷ 0 ∷ ninth ∷ 0 ∷ [] }
 
@@ -64,7 +64,7 @@ head_of first second llid blocks ninth = record { 0 = first ∷ second ∷ 0 ∷
 abbrev pub blocks_drawn : ℕ → ℕ
 blocks_drawn state = 1 + draw 0 state % 4
 
--- the LLID, behind that number
+-- the LLID, after that number
 abbrev pub llid_drawn : ℕ → List ℕ
 llid_drawn state = octets_drawn 3 (state_after 1 state)
 
@@ -72,7 +72,7 @@ llid_drawn state = octets_drawn 3 (state_after 1 state)
 abbrev pub block_of : ℕ → List ℕ → Slot
 block_of serial octets = Good (record { serial = serial; octets = octets })
 
--- the blocks of a confirmed packet, behind number and LLID
+-- the blocks of a confirmed packet, after number and LLID
 unfoldable pub slots_drawn : ℕ → ℕ → List Slot
 slots_drawn blocks state = each_below blocks (λ j. block_of j (octets_drawn 16 (state_after (16 * j) state)))
 
@@ -80,11 +80,11 @@ slots_drawn blocks state = each_below blocks (λ j. block_of j (octets_drawn 16 
 unfoldable pub body_drawn : Kind → ℕ → Body
 body_drawn End state = Voice end_unit
 body_drawn Header state = Voice (header_unit (header_of (octets_drawn 15 state)))
-body_drawn EndLink state = Voice (end_link_unit (link_of (octets_drawn 9 state)))
+body_drawn EndLink state = Voice (tdulc_unit (link_of (octets_drawn 9 state)))
 body_drawn Link1 state =
-    Voice (link1_unit (link_of (octets_drawn 9 state)) (octets_drawn 2 (state_after 9 state)) (voice_drawn 9 (state_after 11 state)))
+    Voice (ldu1_unit (link_of (octets_drawn 9 state)) (octets_drawn 2 (state_after 9 state)) (voice_drawn 9 (state_after 11 state)))
 body_drawn Link2 state =
-    Voice (link2_unit (sync_of (octets_drawn 12 state)) (octets_drawn 2 (state_after 12 state)) (voice_drawn 9 (state_after 14 state)))
+    Voice (ldu2_unit (sync_of (octets_drawn 12 state)) (octets_drawn 2 (state_after 12 state)) (voice_drawn 9 (state_after 14 state)))
 body_drawn Confirmed state =
     Packet (
     confirmed_by_parts (head_of 0x56 0xC0 (llid_drawn state) (blocks_drawn state) 0x08)

@@ -1,5 +1,5 @@
 -- The damage of a sample unit: how many of the first bits of its sync, of its identifier and of each of its code words and
--- blocks are inverted, as the draws behind a state say.
+-- blocks are inverted, as the draws after a state say.
 use Rattle.std.specs.Prelude.{ℕ, zero, suc, ◌+◌, ◌-◌, ◌%◌, cond, nat_lt, Bool, List, [], ◌∷◌, ◌++◌}
 use Rattle.p25_bits.specs.Bits.{flipped}
 use Rattle.p25_bits.specs.Numbers.{each_below}
@@ -40,7 +40,7 @@ field_draws count most state = 1 + (count - draw 0 state % (most + 1))
 abbrev pub link_counts : ℕ → ℕ → List ℕ
 link_counts most state = field_counts 24 10 1 most state ++ word_counts 2 16 2 0 (state_after (field_draws 24 most state) state)
 
--- how many bits are inverted of each code word and block behind the front: of Golay words up to three and of Hamming words one,
+-- how many bits are inverted of each code word and block after the front: of Golay words up to three and of Hamming words one,
 -- of low speed words two, of half-rate blocks two, and of three-quarter-rate blocks one
 unfoldable pub body_counts : Body → ℕ → List ℕ
 body_counts (Voice (Header word)) state = field_counts 36 18 3 8 state

@@ -11,7 +11,7 @@ unfoldable pub state_after : ℕ → ℕ → ℕ
 state_after zero state = state
 state_after (suc count) state = state_behind (state_after count state)
 
--- the draw behind so many others: the higher half of the state that it leaves
+-- the draw after so many others: the higher half of the state that it leaves
 unfoldable pub draw : ℕ → ℕ → ℕ
 draw count state = state_after (suc count) state / 65536
 

@@ -25,7 +25,7 @@ frame_of nac status body =
     let unit : UnitParts = record { nac = nac; body = body } in
     record { unit = unit; statuses = replicate (body_length body / 70) status }
 
--- the frame of a kind that the draws behind a state say: its NAC, its status symbol, and what it carries
+-- the frame of a kind that the draws after a state say: its NAC, its status symbol, and what it carries
 unfoldable pub frame_drawn : Kind → ℕ → Frame
 frame_drawn kind state = frame_of (draw 0 state % 4096) (status_drawn (draw 1 state)) (body_drawn kind (state_after 2 state))
 
@@ -33,12 +33,12 @@ frame_drawn kind state = frame_of (draw 0 state % 4096) (status_drawn (draw 1 st
 abbrev pub frame_draws : Kind → ℕ → ℕ
 frame_draws kind state = 2 + body_draws kind (state_after 2 state)
 
--- the bits of a frame as they are sent, damaged as the draws behind a state say; no status symbol is damaged
+-- the bits of a frame as they are sent, damaged as the draws after a state say; no status symbol is damaged
 unfoldable pub damaged_image : Frame → ℕ → List Bool
 damaged_image frame state =
     woven (damaged (damaged_words frame.unit.body) (damage_counts frame.unit.body state) (unit_image_of frame.unit)) frame.statuses
 
--- the state behind a unit of a kind and its damage
+-- the state after a unit of a kind and its damage
 unfoldable pub state_behind_unit : Kind → ℕ → ℕ
 state_behind_unit kind state =
     let damage = state_after (frame_draws kind state) state in

@@ -18,7 +18,7 @@ use p25_bits::BitBuf;
 use p25_packet_blocks::Packet;
 use p25_units::Body;
 use p25_voice_units::laws::part_places;
-use p25_voice_units::{END_LINK_WORDS, HEADER_WORDS, LINK_WORDS, LOW_WORDS, VoiceUnit};
+use p25_voice_units::{HDU_WORDS, LDU_WORDS, LOW_WORDS, TDULC_WORDS, VoiceUnit};
 
 // Inverts so many bits from a place on.
 fn invert(at: usize, count: usize, bits: &mut BitBuf)
@@ -106,7 +106,7 @@ fn damage_words(
     flips
 }
 
-// The same of the inner words of a coded field, where a draw says how many are inverted whole, at most so many.
+// Damages the inner words of a coded field, where a draw says how many are inverted whole, at most so many.
 fn damage_field(
     places: &[usize],
     words: Words,
@@ -130,7 +130,7 @@ fn damage_field(
     damage_words(places, words, whole, draws, bits)
 }
 
-// The same of the inner words and the low speed words of a unit with voice.
+// Damages the inner words and the low speed words of an LDU.
 fn damage_link(most: usize, draws: &mut Draws, bits: &mut BitBuf) -> u32
     requires most { most ≤ 24 }
     requires long { length bits.old ≡ 1680 }
@@ -141,11 +141,11 @@ fn damage_link(most: usize, draws: &mut Draws, bits: &mut BitBuf) -> u32
     ensures state { draws.new ≡ state_after (field_draws 24 most draws.old + 2) draws.old }
 {
     part_places();
-    let field = damage_field(&LINK_WORDS, HAMMING10, most, draws, bits);
+    let field = damage_field(&LDU_WORDS, HAMMING10, most, draws, bits);
     field + damage_words(&LOW_WORDS, LOW_SPEED, 0, draws, bits)
 }
 
-// The same of the words of a voice unit behind its front.
+// Damages the words of a voice unit after its front.
 fn damage_voice(voice: &VoiceUnit, draws: &mut Draws, bits: &mut BitBuf) -> u32
     requires { length bits.old ≡ body_length (voice_in voice.now) }
     ensures list { bits.new ≡ damaged (voice_looked voice.now) (body_counts (voice_in voice.now) draws.old) bits.old }
@@ -157,14 +157,14 @@ fn damage_voice(voice: &VoiceUnit, draws: &mut Draws, bits: &mut BitBuf) -> u32
     part_places();
     match voice {
         VoiceUnit::End => 0,
-        VoiceUnit::Header(_) => damage_field(&HEADER_WORDS, GOLAY18, 8, draws, bits),
-        VoiceUnit::EndLink { .. } => damage_field(&END_LINK_WORDS, GOLAY24, 3, draws, bits),
+        VoiceUnit::Header(_) => damage_field(&HDU_WORDS, GOLAY18, 8, draws, bits),
+        VoiceUnit::EndLink { .. } => damage_field(&TDULC_WORDS, GOLAY24, 3, draws, bits),
         VoiceUnit::Link1 { .. } => damage_link(6, draws, bits),
         VoiceUnit::Link2 { .. } => damage_link(4, draws, bits),
     }
 }
 
-// Inverts the first bits of each of so many blocks of a packet behind its header block, as draws say, and answers how many.
+// Inverts the first bits of each of so many blocks of a packet after its header block, as draws say, and answers how many.
 fn damage_blocks(count: usize, radius: usize, draws: &mut Draws, bits: &mut BitBuf) -> u32
     requires few { count < 128 }
     requires radius { radius ≤ 2 }
@@ -182,7 +182,7 @@ fn damage_blocks(count: usize, radius: usize, draws: &mut Draws, bits: &mut BitB
     flips
 }
 
-// The same of all blocks of a packet.
+// Damages all blocks of a packet.
 fn damage_packet(packet: &Packet, draws: &mut Draws, bits: &mut BitBuf) -> u32
     requires { length bits.old ≡ body_length (packet_in packet.now) }
     ensures list { bits.new ≡ damaged (packet_looked (head_blocks (packet_head packet.now)))
@@ -222,7 +222,7 @@ pub(crate) fn damage(body: &Body, draws: &mut Draws, bits: &mut BitBuf) -> u32
     sync + identifier + damage_body(body, draws, bits)
 }
 
-// The same behind the front.
+// Damages what stands after the front.
 fn damage_body(body: &Body, draws: &mut Draws, bits: &mut BitBuf) -> u32
     requires { length bits.old ≡ body_length body.now }
     ensures list { bits.new ≡ damaged (body_looked body.now) (body_counts body.now draws.old) bits.old }

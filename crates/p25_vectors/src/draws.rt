@@ -5,7 +5,7 @@ ghost use Rattle.p25_vectors.specs.Draws.{draw, octets_drawn, state_after};
 
 use std::marker::Model;
 
-// Draws, one behind the other: contracts see the state before the next one.
+// Draws, one after the other: contracts see the state before the next one.
 #[derive(Drop)]
 pub(crate) struct Draws {
     state: u64,

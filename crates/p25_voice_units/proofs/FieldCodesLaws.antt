@@ -14,35 +14,35 @@ use Rattle.p25_reed_solomon.specs.Words.{IsWord}
 use Rattle.p25_coded_fields.specs.Layouts.{places_from}
 use Rattle.p25_coded_fields.specs.Within.{HasCodes}
 use Rattle.p25_coded_fields.proofs.CodesLaws.{layout_codes, all_end}
-use Rattle.p25_voice_units.specs.Layouts.{header_rows, link_rows, end_link_rows}
-use Rattle.p25_voice_units.specs.FieldLayouts.{word_places, header_layout, link_layout, sync_layout, end_link_layout}
+use Rattle.p25_voice_units.specs.Layouts.{hdu_rows, ldu_rows, tdulc_rows}
+use Rattle.p25_voice_units.specs.FieldLayouts.{word_places, header_layout, link_layout, sync_layout, tdulc_layout}
 use Rattle.p25_voice_units.proofs.CodesLaws.{header_code, link_code, sync_code}
 
 pub header_codes : HasCodes IsGolay18 3 (IsWord 36 20) 16 header_layout
 unfolding word_places places_from
-header_codes = layout_codes golay18_is_code golay18_reading_of golay18_reads_as (word_places 18 header_rows) 1 36 20 header_code refl
+header_codes = layout_codes golay18_is_code golay18_reading_of golay18_reads_as (word_places 18 hdu_rows) 1 36 20 header_code refl
 
 pub link_codes : HasCodes IsHamming10 1 (IsWord 24 12) 12 link_layout
 unfolding word_places places_from
-link_codes = layout_codes hamming10_is_code hamming10_reading_of hamming10_reads_as (word_places 10 link_rows) 1 24 12 link_code refl
+link_codes = layout_codes hamming10_is_code hamming10_reading_of hamming10_reads_as (word_places 10 ldu_rows) 1 24 12 link_code refl
 
 pub sync_codes : HasCodes IsHamming10 1 (IsWord 24 16) 8 sync_layout
 unfolding word_places places_from
-sync_codes = layout_codes hamming10_is_code hamming10_reading_of hamming10_reads_as (word_places 10 link_rows) 1 24 16 sync_code refl
+sync_codes = layout_codes hamming10_is_code hamming10_reading_of hamming10_reads_as (word_places 10 ldu_rows) 1 24 16 sync_code refl
 
-pub end_link_codes : HasCodes IsGolay24 3 (IsWord 24 12) 12 end_link_layout
+pub tdulc_codes : HasCodes IsGolay24 3 (IsWord 24 12) 12 tdulc_layout
 unfolding word_places places_from
-end_link_codes = layout_codes golay24_is_code golay24_reading_of golay24_reads_as (word_places 24 end_link_rows) 2 24 12 link_code refl
+tdulc_codes = layout_codes golay24_is_code golay24_reading_of golay24_reads_as (word_places 24 tdulc_rows) 2 24 12 link_code refl
 
 -- the inner words stand within the unit
 pub header_there : (plain : List Bool) → length plain ≡ 770 → All (λ at. at + 18 ≤ length plain) header_layout.places
 unfolding word_places places_from
-header_there plain long = let fits : 770 ≤ length plain = omega arith in all_end 18 770 (length plain) (word_places 18 header_rows) refl fits
+header_there plain long = let fits : 770 ≤ length plain = omega arith in all_end 18 770 (length plain) (word_places 18 hdu_rows) refl fits
 
 pub link_there : (plain : List Bool) → length plain ≡ 1680 → All (λ at. at + 10 ≤ length plain) link_layout.places
 unfolding word_places places_from
-link_there plain long = let fits : 1680 ≤ length plain = omega arith in all_end 10 1680 (length plain) (word_places 10 link_rows) refl fits
+link_there plain long = let fits : 1680 ≤ length plain = omega arith in all_end 10 1680 (length plain) (word_places 10 ldu_rows) refl fits
 
-pub end_link_there : (plain : List Bool) → length plain ≡ 420 → All (λ at. at + 24 ≤ length plain) end_link_layout.places
+pub tdulc_there : (plain : List Bool) → length plain ≡ 420 → All (λ at. at + 24 ≤ length plain) tdulc_layout.places
 unfolding word_places places_from
-end_link_there plain long = let fits : 420 ≤ length plain = omega arith in all_end 24 420 (length plain) (word_places 24 end_link_rows) refl fits
+tdulc_there plain long = let fits : 420 ≤ length plain = omega arith in all_end 24 420 (length plain) (word_places 24 tdulc_rows) refl fits

@@ -29,7 +29,7 @@ bits_at-more width places i bits inside =
     ∙ flat_map-append run (map made (take i places)) (made (get_or places i 0) ∷ [])
     ∙ ap (λ (xs : List Bool). flat_map run (map made (take i places)) ++ xs) (append-nil (part (get_or places i 0) width bits))
 
--- what two lists have at places behind each other
+-- what two lists have at places after each other
 pub bits_at-append : (xs ys : List (ℕ × ℕ)) (bits : List Bool) → bits_at (xs ++ ys) bits ≡ bits_at xs bits ++ bits_at ys bits
 unfolding bits_at
 bits_at-append xs ys bits = flat_map-append (λ place. part place.0 place.1 bits) xs ys
@@ -86,7 +86,7 @@ pub counted_all : (width : ℕ) (places : List ℕ) (received image : List Bool)
 counted_all width places received image i wrong all is =
     is.value ∙ ap (λ ps. distance_of (bits_at (wide width ps) received) (bits_at (wide width ps) image)) (take_all i places all)
 
--- the fixes of two lists of places, one behind the other
+-- the fixes of two lists of places, one after the other
 pub fixes-append : (width more : ℕ) (places others : List ℕ) (received image : List Bool) → All (λ at. at + width ≤ length received) places → All (λ at. at + width ≤ length image) places
     → distance_of (bits_at (wide width places ++ wide more others) received) (bits_at (wide width places ++ wide more others) image)
     ≡ distance_of (bits_at (wide width places) received) (bits_at (wide width places) image) + distance_of (bits_at (wide more others) received) (bits_at (wide more others) image)

@@ -1,4 +1,4 @@
--- The steps of the writer of voice units: a piece, by what it is, and one more piece behind the others.
+-- The steps of the writer of voice units: a piece, by what it is, and one more piece after the others.
 use Rattle.std.proofs.Common.{◌≡◌, ℕ, zero, suc, eqb, append-nil, ◌+◌, ◌*◌, ◌<◌, ◌≤◌, Bool, true, false, List, [], ◌∷◌, ◌++◌, length, take, get_or, replicate, refl, ap, ap₂, sym, ◌∙◌}
 use Rattle.std.specs.List.{flat_map}
 use Rattle.std.proofs.lemmas.Bool.{leb-true}
@@ -21,7 +21,7 @@ use Rattle.p25_unit_front.specs.Front.{unit_front}
 use Rattle.p25_voice_units.specs.declared.voice.VoiceFrame.{VoiceFrame}
 use Rattle.p25_voice_units.specs.declared.unit.VoiceUnit.{VoiceUnit}
 use Rattle.p25_voice_units.specs.declared.unit.VoiceUnit.TheVariants.{Header, Link1, Link2, End, EndLink}
-use Rattle.p25_voice_units.specs.Layouts.{header_rows, link_rows, end_rows, end_link_rows}
+use Rattle.p25_voice_units.specs.Layouts.{hdu_rows, ldu_rows, tdu_rows, tdulc_rows}
 use Rattle.p25_voice_units.specs.Lengths.{voice_duid}
 use Rattle.p25_voice_units.specs.Pieces.{piece_fits}
 use Rattle.p25_voice_units.specs.Images.{Contents, contents, frame_at, golay18_word, golay24_word, hamming10_word, lsd16_word, piece_bits, rows_bits, voice_body, voice_image_of}
@@ -70,40 +70,40 @@ rows_more carried rows i d start out new inside so_far is =
     ∙ flat_map_more (λ row. piece_bits carried row.1) start (take i rows) (get_or rows i d)
     ∙ ap (λ xs. start ++ flat_map (λ row. piece_bits carried row.1) xs) (sym (take_more rows i d inside))
 
--- what stands behind the front, by the kind of unit: the rows of its layout were written with the symbols of its coded field
+-- what stands after the front, by the kind of unit: the rows of its layout were written with the symbols of its coded field
 pub header_made : (word : HeaderWord) (info symbols : List Sym) (old new : List Bool) → info ≡ header_symbols word → length info ≡ 20 → IsEncoding (IsWord 36 20) 20 info symbols
-    → new ≡ old ++ rows_bits (contents golay18_word 1 symbols [] []) header_rows → new ≡ old ++ voice_body (Header word)
+    → new ≡ old ++ rows_bits (contents golay18_word 1 symbols [] []) hdu_rows → new ≡ old ++ voice_body (Header word)
 unfolding voice_body
 header_made word info symbols old new is long made written =
     written
-    ∙ ap (λ xs. old ++ rows_bits (contents golay18_word 1 xs [] []) header_rows) (rs_word-only 36 20 info symbols header_code long made ∙ ap (rs_word 36 20) is)
+    ∙ ap (λ xs. old ++ rows_bits (contents golay18_word 1 xs [] []) hdu_rows) (rs_word-only 36 20 info symbols header_code long made ∙ ap (rs_word 36 20) is)
 
-pub link1_made : (link : LinkControl) (low : List ℕ) (voice : List VoiceFrame) (info symbols : List Sym) (old new : List Bool) → info ≡ link_symbols link → length info ≡ 12 → IsEncoding (IsWord 24 12) 12 info symbols
-    → new ≡ old ++ rows_bits (contents hamming10_word 1 symbols low voice) link_rows → new ≡ old ++ voice_body (Link1 link low voice)
+pub ldu1_made : (link : LinkControl) (low : List ℕ) (voice : List VoiceFrame) (info symbols : List Sym) (old new : List Bool) → info ≡ link_symbols link → length info ≡ 12 → IsEncoding (IsWord 24 12) 12 info symbols
+    → new ≡ old ++ rows_bits (contents hamming10_word 1 symbols low voice) ldu_rows → new ≡ old ++ voice_body (Link1 link low voice)
 unfolding voice_body
-link1_made link low voice info symbols old new is long made written =
+ldu1_made link low voice info symbols old new is long made written =
     written
-    ∙ ap (λ xs. old ++ rows_bits (contents hamming10_word 1 xs low voice) link_rows) (rs_word-only 24 12 info symbols link_code long made ∙ ap (rs_word 24 12) is)
+    ∙ ap (λ xs. old ++ rows_bits (contents hamming10_word 1 xs low voice) ldu_rows) (rs_word-only 24 12 info symbols link_code long made ∙ ap (rs_word 24 12) is)
 
-pub link2_made : (sync : EncryptionSync) (low : List ℕ) (voice : List VoiceFrame) (info symbols : List Sym) (old new : List Bool) → info ≡ sync_symbols sync → length info ≡ 16 → IsEncoding (IsWord 24 16) 16 info symbols
-    → new ≡ old ++ rows_bits (contents hamming10_word 1 symbols low voice) link_rows → new ≡ old ++ voice_body (Link2 sync low voice)
+pub ldu2_made : (sync : EncryptionSync) (low : List ℕ) (voice : List VoiceFrame) (info symbols : List Sym) (old new : List Bool) → info ≡ sync_symbols sync → length info ≡ 16 → IsEncoding (IsWord 24 16) 16 info symbols
+    → new ≡ old ++ rows_bits (contents hamming10_word 1 symbols low voice) ldu_rows → new ≡ old ++ voice_body (Link2 sync low voice)
 unfolding voice_body
-link2_made sync low voice info symbols old new is long made written =
+ldu2_made sync low voice info symbols old new is long made written =
     written
-    ∙ ap (λ xs. old ++ rows_bits (contents hamming10_word 1 xs low voice) link_rows) (rs_word-only 24 16 info symbols sync_code long made ∙ ap (rs_word 24 16) is)
+    ∙ ap (λ xs. old ++ rows_bits (contents hamming10_word 1 xs low voice) ldu_rows) (rs_word-only 24 16 info symbols sync_code long made ∙ ap (rs_word 24 16) is)
 
-pub end_made : (old new : List Bool) → new ≡ old ++ rows_bits (contents golay18_word 1 [] [] []) end_rows → new ≡ old ++ voice_body End
+pub end_made : (old new : List Bool) → new ≡ old ++ rows_bits (contents golay18_word 1 [] [] []) tdu_rows → new ≡ old ++ voice_body End
 unfolding voice_body
 end_made old new written = written
 
-pub end_link_made : (link : LinkControl) (info symbols : List Sym) (old new : List Bool) → info ≡ link_symbols link → length info ≡ 12 → IsEncoding (IsWord 24 12) 12 info symbols
-    → new ≡ old ++ rows_bits (contents golay24_word 2 symbols [] []) end_link_rows → new ≡ old ++ voice_body (EndLink link)
+pub tdulc_made : (link : LinkControl) (info symbols : List Sym) (old new : List Bool) → info ≡ link_symbols link → length info ≡ 12 → IsEncoding (IsWord 24 12) 12 info symbols
+    → new ≡ old ++ rows_bits (contents golay24_word 2 symbols [] []) tdulc_rows → new ≡ old ++ voice_body (EndLink link)
 unfolding voice_body
-end_link_made link info symbols old new is long made written =
+tdulc_made link info symbols old new is long made written =
     written
-    ∙ ap (λ xs. old ++ rows_bits (contents golay24_word 2 xs [] []) end_link_rows) (rs_word-only 24 12 info symbols link_code long made ∙ ap (rs_word 24 12) is)
+    ∙ ap (λ xs. old ++ rows_bits (contents golay24_word 2 xs [] []) tdulc_rows) (rs_word-only 24 12 info symbols link_code long made ∙ ap (rs_word 24 12) is)
 
--- the front of the unit, and what stands behind it
+-- the front of the unit, and what stands after it
 pub image_made : (nac : ℕ) (unit : VoiceUnit) (front_nac front_duid : ℕ) (empty start out : List Bool) → empty ≡ [] → front_nac ≡ nac → front_duid ≡ voice_duid unit → start ≡ empty ++ unit_front front_nac front_duid
     → out ≡ start ++ voice_body unit → out ≡ voice_image_of nac unit
 unfolding voice_image_of

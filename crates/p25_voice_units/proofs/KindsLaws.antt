@@ -4,7 +4,7 @@ use Rattle.std.proofs.Common.{◌≡◌, ℕ, Bool, List, [], Option, Some, None
 use Rattle.p25_status.specs.declared.fields.Field.{Field}
 use Rattle.p25_voice_units.specs.declared.unit.VoiceUnit.{VoiceUnit}
 use Rattle.p25_voice_units.specs.declared.unit.VoiceUnit.TheVariants.{End}
-use Rattle.p25_voice_units.specs.FieldLayouts.{end_link_layout}
+use Rattle.p25_voice_units.specs.FieldLayouts.{tdulc_layout}
 use Rattle.p25_unit_front.specs.Front.{unit_front}
 use Rattle.p25_voice_units.specs.Images.{piece_bits, rows_bits, voice_body, voice_image_of}
 use Rattle.p25_voice_units.specs.Lengths.{voice_length_of}
@@ -14,7 +14,7 @@ use Rattle.p25_link.specs.declared.encryption_sync.EncryptionSync.{EncryptionSyn
 use Rattle.p25_link.specs.declared.link_control.LinkControl.{LinkControl}
 use Rattle.p25_status.specs.declared.fields.Field.TheVariants.{LinkControl as LinkField, EncryptionSync as SyncField}
 use Rattle.p25_voice_units.specs.FieldLayouts.{link_layout}
-use Rattle.p25_voice_units.specs.Readings.{voice_in, low_in, failing, header_in, header_from, link_in, sync_in, link1_from, link1_in, link2_from, link2_in, end_link_from, voice_reading_of}
+use Rattle.p25_voice_units.specs.Readings.{voice_in, low_in, failing, header_in, header_from, link_in, sync_in, ldu1_from, ldu1_in, ldu2_from, ldu2_in, tdulc_from, voice_reading_of}
 
 -- bits that have the length of their kind have so many
 pub long_by_kind : (duid kind count len : ℕ) → duid ≡ kind → voice_length_of kind ≡ Some count → voice_length_of duid ≡ Some len → len ≡ count
@@ -30,71 +30,71 @@ pub reading-end : (plain : List Bool) → voice_reading_of 3 plain ≡ Ok End
 unfolding voice_reading_of
 reading-end plain = refl
 
-pub reading-link1 : (plain : List Bool) → voice_reading_of 5 plain ≡ link1_in plain
+pub reading-ldu1 : (plain : List Bool) → voice_reading_of 5 plain ≡ ldu1_in plain
 unfolding voice_reading_of
-reading-link1 plain = refl
+reading-ldu1 plain = refl
 
-pub reading-link2 : (plain : List Bool) → voice_reading_of 10 plain ≡ link2_in plain
+pub reading-ldu2 : (plain : List Bool) → voice_reading_of 10 plain ≡ ldu2_in plain
 unfolding voice_reading_of
-reading-link2 plain = refl
+reading-ldu2 plain = refl
 
-pub reading-end_link : (plain : List Bool) → voice_reading_of 15 plain ≡ end_link_from (link_in end_link_layout plain)
+pub reading-tdulc : (plain : List Bool) → voice_reading_of 15 plain ≡ tdulc_from (link_in tdulc_layout plain)
 unfolding voice_reading_of
-reading-end_link plain = refl
+reading-tdulc plain = refl
 
 -- what a kind's reader answers
 pub reading_by_kind : (duid kind : ℕ) (plain : List Bool) (answer value : Result VoiceUnit (List Field)) → duid ≡ kind → answer ≡ value → voice_reading_of kind plain ≡ value → answer ≡ voice_reading_of duid plain
 reading_by_kind duid kind plain answer value same is read = is ∙ sym read ∙ ap (λ d. voice_reading_of d plain) (sym same)
 
 -- a unit with link control, all of whose parts were read
-pub link1_whole : (voice : List VoiceFrame) (answer : Option LinkControl) (low_first low_second : Option ℕ) (link : LinkControl) (first second : ℕ) → answer ≡ Some link → low_first ≡ Some first → low_second ≡ Some second
-    → link1_from voice answer low_first low_second ≡ Ok (Link1 link (first ∷ second ∷ []) voice)
-unfolding link1_from
-link1_whole voice answer low_first low_second link first second a b c =
-    ap (λ x. link1_from voice x low_first low_second) a ∙ ap (λ x. link1_from voice (Some link) x low_second) b ∙ ap (link1_from voice (Some link) (Some first)) c
+pub ldu1_whole : (voice : List VoiceFrame) (answer : Option LinkControl) (low_first low_second : Option ℕ) (link : LinkControl) (first second : ℕ) → answer ≡ Some link → low_first ≡ Some first → low_second ≡ Some second
+    → ldu1_from voice answer low_first low_second ≡ Ok (Link1 link (first ∷ second ∷ []) voice)
+unfolding ldu1_from
+ldu1_whole voice answer low_first low_second link first second a b c =
+    ap (λ x. ldu1_from voice x low_first low_second) a ∙ ap (λ x. ldu1_from voice (Some link) x low_second) b ∙ ap (ldu1_from voice (Some link) (Some first)) c
 
 -- or some part of which was not
-pub link1_fails : (voice : List VoiceFrame) (answer : Option LinkControl) (low_first low_second : Option ℕ)
+pub ldu1_fails : (voice : List VoiceFrame) (answer : Option LinkControl) (low_first low_second : Option ℕ)
     → ((link : LinkControl) (first second : ℕ) → answer ≡ Some link → low_first ≡ Some first → low_second ≡ Some second → ⊥)
-    → link1_from voice answer low_first low_second ≡ Err (failing LinkField answer low_first low_second)
-unfolding link1_from
-link1_fails voice (Some link) (Some first) (Some second) other = absurd (other link first second refl refl refl)
-link1_fails voice (Some link) (Some first) None other = refl
-link1_fails voice (Some link) None second other = refl
-link1_fails voice None first second other = refl
+    → ldu1_from voice answer low_first low_second ≡ Err (failing LinkField answer low_first low_second)
+unfolding ldu1_from
+ldu1_fails voice (Some link) (Some first) (Some second) other = absurd (other link first second refl refl refl)
+ldu1_fails voice (Some link) (Some first) None other = refl
+ldu1_fails voice (Some link) None second other = refl
+ldu1_fails voice None first second other = refl
 
 -- the parts are those of the bits
-pub link1_parts : (plain : List Bool) (voice : List VoiceFrame) (answer : Option LinkControl) (first second : Option ℕ) → voice ≡ voice_in plain → answer ≡ link_in link_layout plain → first ≡ low_in 0 plain → second ≡ low_in 1 plain
-    → link1_from voice answer first second ≡ link1_in plain
-unfolding link1_in
-link1_parts plain voice answer first second a b c d =
-    ap (λ x. link1_from x answer first second) a
-    ∙ ap (λ x. link1_from (voice_in plain) x first second) b
-    ∙ ap₂ (link1_from (voice_in plain) (link_in link_layout plain)) c d
+pub ldu1_parts : (plain : List Bool) (voice : List VoiceFrame) (answer : Option LinkControl) (first second : Option ℕ) → voice ≡ voice_in plain → answer ≡ link_in link_layout plain → first ≡ low_in 0 plain → second ≡ low_in 1 plain
+    → ldu1_from voice answer first second ≡ ldu1_in plain
+unfolding ldu1_in
+ldu1_parts plain voice answer first second a b c d =
+    ap (λ x. ldu1_from x answer first second) a
+    ∙ ap (λ x. ldu1_from (voice_in plain) x first second) b
+    ∙ ap₂ (ldu1_from (voice_in plain) (link_in link_layout plain)) c d
 
 -- a unit with encryption sync, likewise
-pub link2_whole : (voice : List VoiceFrame) (answer : Option EncryptionSync) (low_first low_second : Option ℕ) (sync : EncryptionSync) (first second : ℕ) → answer ≡ Some sync → low_first ≡ Some first → low_second ≡ Some second
-    → link2_from voice answer low_first low_second ≡ Ok (Link2 sync (first ∷ second ∷ []) voice)
-unfolding link2_from
-link2_whole voice answer low_first low_second sync first second a b c =
-    ap (λ x. link2_from voice x low_first low_second) a ∙ ap (λ x. link2_from voice (Some sync) x low_second) b ∙ ap (link2_from voice (Some sync) (Some first)) c
+pub ldu2_whole : (voice : List VoiceFrame) (answer : Option EncryptionSync) (low_first low_second : Option ℕ) (sync : EncryptionSync) (first second : ℕ) → answer ≡ Some sync → low_first ≡ Some first → low_second ≡ Some second
+    → ldu2_from voice answer low_first low_second ≡ Ok (Link2 sync (first ∷ second ∷ []) voice)
+unfolding ldu2_from
+ldu2_whole voice answer low_first low_second sync first second a b c =
+    ap (λ x. ldu2_from voice x low_first low_second) a ∙ ap (λ x. ldu2_from voice (Some sync) x low_second) b ∙ ap (ldu2_from voice (Some sync) (Some first)) c
 
-pub link2_fails : (voice : List VoiceFrame) (answer : Option EncryptionSync) (low_first low_second : Option ℕ)
+pub ldu2_fails : (voice : List VoiceFrame) (answer : Option EncryptionSync) (low_first low_second : Option ℕ)
     → ((sync : EncryptionSync) (first second : ℕ) → answer ≡ Some sync → low_first ≡ Some first → low_second ≡ Some second → ⊥)
-    → link2_from voice answer low_first low_second ≡ Err (failing SyncField answer low_first low_second)
-unfolding link2_from
-link2_fails voice (Some sync) (Some first) (Some second) other = absurd (other sync first second refl refl refl)
-link2_fails voice (Some sync) (Some first) None other = refl
-link2_fails voice (Some sync) None second other = refl
-link2_fails voice None first second other = refl
+    → ldu2_from voice answer low_first low_second ≡ Err (failing SyncField answer low_first low_second)
+unfolding ldu2_from
+ldu2_fails voice (Some sync) (Some first) (Some second) other = absurd (other sync first second refl refl refl)
+ldu2_fails voice (Some sync) (Some first) None other = refl
+ldu2_fails voice (Some sync) None second other = refl
+ldu2_fails voice None first second other = refl
 
-pub link2_parts : (plain : List Bool) (voice : List VoiceFrame) (answer : Option EncryptionSync) (first second : Option ℕ) → voice ≡ voice_in plain → answer ≡ sync_in plain → first ≡ low_in 0 plain → second ≡ low_in 1 plain
-    → link2_from voice answer first second ≡ link2_in plain
-unfolding link2_in
-link2_parts plain voice answer first second a b c d =
-    ap (λ x. link2_from x answer first second) a
-    ∙ ap (λ x. link2_from (voice_in plain) x first second) b
-    ∙ ap₂ (link2_from (voice_in plain) (sync_in plain)) c d
+pub ldu2_parts : (plain : List Bool) (voice : List VoiceFrame) (answer : Option EncryptionSync) (first second : Option ℕ) → voice ≡ voice_in plain → answer ≡ sync_in plain → first ≡ low_in 0 plain → second ≡ low_in 1 plain
+    → ldu2_from voice answer first second ≡ ldu2_in plain
+unfolding ldu2_in
+ldu2_parts plain voice answer first second a b c d =
+    ap (λ x. ldu2_from x answer first second) a
+    ∙ ap (λ x. ldu2_from (voice_in plain) x first second) b
+    ∙ ap₂ (ldu2_from (voice_in plain) (sync_in plain)) c d
 
 -- a terminator is its front and nulls
 pub image-end : (nac : ℕ) → voice_image_of nac End ≡ unit_front nac 3 ++ replicate 28 false

@@ -11,43 +11,43 @@ pub length-end : voice_length_of 3 ≡ Some 140
 unfolding voice_length_of
 length-end = refl
 
-pub length-link1 : voice_length_of 5 ≡ Some 1680
+pub length-ldu1 : voice_length_of 5 ≡ Some 1680
 unfolding voice_length_of
-length-link1 = refl
+length-ldu1 = refl
 
-pub length-link2 : voice_length_of 10 ≡ Some 1680
+pub length-ldu2 : voice_length_of 10 ≡ Some 1680
 unfolding voice_length_of
-length-link2 = refl
+length-ldu2 = refl
 
-pub length-end_link : voice_length_of 15 ≡ Some 420
+pub length-tdulc : voice_length_of 15 ≡ Some 420
 unfolding voice_length_of
-length-end_link = refl
+length-tdulc = refl
 
 -- an identifier of no voice unit
 pub length-other : (duid : ℕ) → duid ≢ 0 → duid ≢ 3 → duid ≢ 5 → duid ≢ 10 → duid ≢ 15 → voice_length_of duid ≡ None
 unfolding voice_length_of
-length-other duid header end link1 link2 end_link =
+length-other duid header end ldu1 ldu2 tdulc =
     cond-false (eqb duid 0) _ _ (ne_eqb duid 0 header)
     ∙ cond-false (eqb duid 3) _ _ (ne_eqb duid 3 end)
-    ∙ cond-false (eqb duid 5) _ _ (ne_eqb duid 5 link1)
-    ∙ cond-false (eqb duid 10) _ _ (ne_eqb duid 10 link2)
-    ∙ cond-false (eqb duid 15) _ _ (ne_eqb duid 15 end_link)
+    ∙ cond-false (eqb duid 5) _ _ (ne_eqb duid 5 ldu1)
+    ∙ cond-false (eqb duid 10) _ _ (ne_eqb duid 10 ldu2)
+    ∙ cond-false (eqb duid 15) _ _ (ne_eqb duid 15 tdulc)
 
 -- an identifier of a length is one of these
 pub length-cases : (P : ℕ → ℕ → Type 0) → P 0 770 → P 3 140 → P 5 1680 → P 10 1680 → P 15 420 → (duid count : ℕ) → voice_length_of duid ≡ Some count → P duid count
-length-cases P header end link1 link2 end_link duid count is =
+length-cases P header end ldu1 ldu2 tdulc duid count is =
     elim (cases_eq duid 0) [
       | inl same ↦ at 0 770 same length-header header
       | inr not_header ↦ elim (cases_eq duid 3) [
         | inl same ↦ at 3 140 same length-end end
         | inr not_end ↦ elim (cases_eq duid 5) [
-          | inl same ↦ at 5 1680 same length-link1 link1
-          | inr not_link1 ↦ elim (cases_eq duid 10) [
-            | inl same ↦ at 10 1680 same length-link2 link2
-            | inr not_link2 ↦ elim (cases_eq duid 15) [
-              | inl same ↦ at 15 420 same length-end_link end_link
-              | inr not_end_link ↦
-                  let none : None ≡ Some count = sym (length-other duid not_header not_end not_link1 not_link2 not_end_link) ∙ is in
+          | inl same ↦ at 5 1680 same length-ldu1 ldu1
+          | inr not_ldu1 ↦ elim (cases_eq duid 10) [
+            | inl same ↦ at 10 1680 same length-ldu2 ldu2
+            | inr not_ldu2 ↦ elim (cases_eq duid 15) [
+              | inl same ↦ at 15 420 same length-tdulc tdulc
+              | inr not_tdulc ↦
+                  let none : None ≡ Some count = sym (length-other duid not_header not_end not_ldu1 not_ldu2 not_tdulc) ∙ is in
                   absurd (cc)
             ]
           ]

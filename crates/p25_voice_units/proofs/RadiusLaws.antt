@@ -22,17 +22,17 @@ use Rattle.p25_voice_units.specs.declared.layout.Piece.TheVariants.{Nulls}
 use Rattle.p25_voice_units.specs.declared.unit.VoiceUnit.{VoiceUnit}
 use Rattle.p25_voice_units.specs.declared.unit.VoiceUnit.TheVariants.{Header, Link1, Link2, End, EndLink}
 use Rattle.p25_voice_units.specs.declared.voice.VoiceFrame.{VoiceFrame}
-use Rattle.p25_voice_units.specs.Layouts.{link_rows}
+use Rattle.p25_voice_units.specs.Layouts.{ldu_rows}
 use Rattle.p25_voice_units.specs.FieldLayouts.{link_layout}
 use Rattle.p25_voice_units.specs.Images.{frame_at}
 use Rattle.p25_voice_units.specs.Lengths.{voice_duid}
 use Rattle.p25_voice_units.specs.Places.{HasPiece, IsLaidOut, IsVoiceImage}
-use Rattle.p25_voice_units.specs.Readings.{frame_places, low_places, frame_in, voice_in, low_in, header_in, link_in, sync_in, header_from, end_link_from, voice_reading_of}
+use Rattle.p25_voice_units.specs.Readings.{frame_places, low_places, frame_in, voice_in, low_in, header_in, link_in, sync_in, header_from, tdulc_from, voice_reading_of}
 use Rattle.p25_voice_units.specs.Sendable.{IsVoiceFrame, IsSpeech, IsSendableVoice}
 use Rattle.p25_voice_units.specs.WithinRadius.{AreLowWithin, IsVoiceWithin, received_voice, IsVoiceWithinByWords}
-use Rattle.p25_voice_units.proofs.KindsLaws.{reading-header, reading-end, reading-link1, reading-link2, reading-end_link, link1_whole, link1_parts, link2_whole, link2_parts}
+use Rattle.p25_voice_units.proofs.KindsLaws.{reading-header, reading-end, reading-ldu1, reading-ldu2, reading-tdulc, ldu1_whole, ldu1_parts, ldu2_whole, ldu2_parts}
 use Rattle.p25_voice_units.proofs.ReadLaws.{nine_frames}
-use Rattle.p25_voice_units.proofs.FieldCodesLaws.{header_codes, link_codes, sync_codes, end_link_codes, header_there, link_there, end_link_there}
+use Rattle.p25_voice_units.proofs.FieldCodesLaws.{header_codes, link_codes, sync_codes, tdulc_codes, header_there, link_there, tdulc_there}
 
 -- a low speed word with at most two wrong bits is read as its octet
 low_near : (at octet : ℕ) (sent received : List Bool) → octet < 256 → IsEncoding IsLsd16 8 (bits_of 8 octet) (part at 16 sent) → at + 16 ≤ length received → distance_of (part at 16 received) (part at 16 sent) ≤ 2
@@ -51,14 +51,14 @@ two_of (x ∷ y ∷ []) long = refl
 two_of (x ∷ y ∷ z ∷ xs) long = absurd (omega arith)
 
 -- the low speed words of a unit with voice
-low_first : (low : List ℕ) (voice : List VoiceFrame) (sent received : List Bool) → IsSpeech low voice → All (λ row. HasPiece low voice sent row.0 row.1) link_rows → length received ≡ 1680
+low_first : (low : List ℕ) (voice : List VoiceFrame) (sent received : List Bool) → IsSpeech low voice → All (λ row. HasPiece low voice sent row.0 row.1) ldu_rows → length received ≡ 1680
     → AreLowWithin sent received → low_in 0 received ≡ Some (slice_index low 0)
 unfolding low_in low_places
 low_first low voice sent received keeps pieces long near =
     let there : 1504 + 16 ≤ length received = omega arith in
     low_near 1504 (slice_index low 0) sent received (keeps.small 0 0 (omega (arith, keeps.two))) (pieces 14 (0, Nulls 0) (lit< tt)) there (near 0 0 (lit< tt))
 
-low_second : (low : List ℕ) (voice : List VoiceFrame) (sent received : List Bool) → IsSpeech low voice → All (λ row. HasPiece low voice sent row.0 row.1) link_rows → length received ≡ 1680
+low_second : (low : List ℕ) (voice : List VoiceFrame) (sent received : List Bool) → IsSpeech low voice → All (λ row. HasPiece low voice sent row.0 row.1) ldu_rows → length received ≡ 1680
     → AreLowWithin sent received → low_in 1 received ≡ Some (slice_index low 1)
 unfolding low_in low_places
 low_second low voice sent received keeps pieces long near =
@@ -68,32 +68,32 @@ low_second low voice sent received keeps pieces long near =
 -- a unit within radius is read as sent, with its voice as received
 pub voice_within : (nac : ℕ) (unit : VoiceUnit) (sent received : List Bool) → IsSendableVoice unit → IsVoiceImage nac unit sent → length received ≡ length sent → IsVoiceWithin unit sent received
     → voice_reading_of (voice_duid unit) received ≡ Ok (received_voice unit received)
-unfolding IsSendableVoice IsVoiceImage IsVoiceWithin header_in link_in sync_in header_from end_link_from
+unfolding IsSendableVoice IsVoiceImage IsVoiceWithin header_in link_in sync_in header_from tdulc_from
 voice_within nac (Header word) sent received keeps is long near =
     reading-header received
     ∙ ap header_from (ap (option_map header_of_symbols) (field_within header_codes (header_symbols word) sent received is.1 near) ∙ ap Some (header_back word keeps))
 voice_within nac (Link1 link low voice) sent received keeps is long near =
     let field = ap (option_map link_of_symbols) (field_within link_codes (link_symbols link) sent received is.1 near.field) ∙ ap Some (link_back link keeps.word) in
     let whole : length received ≡ 1680 = long ∙ is.0.long in
-    reading-link1 received
-    ∙ sym (link1_parts received (voice_in received) (link_in link_layout received) (low_in 0 received) (low_in 1 received) refl refl refl refl)
-    ∙ link1_whole (voice_in received) (link_in link_layout received) (low_in 0 received) (low_in 1 received) link (slice_index low 0) (slice_index low 1) field
+    reading-ldu1 received
+    ∙ sym (ldu1_parts received (voice_in received) (link_in link_layout received) (low_in 0 received) (low_in 1 received) refl refl refl refl)
+    ∙ ldu1_whole (voice_in received) (link_in link_layout received) (low_in 0 received) (low_in 1 received) link (slice_index low 0) (slice_index low 1) field
     (low_first low voice sent received keeps.speech is.0.pieces whole near.low)
     (low_second low voice sent received keeps.speech is.0.pieces whole near.low)
     ∙ ap (λ octets. Ok (Link1 link octets (voice_in received))) (two_of low keeps.speech.two)
 voice_within nac (Link2 sync low voice) sent received keeps is long near =
     let field = ap (option_map sync_of_symbols) (field_within sync_codes (sync_symbols sync) sent received is.1 near.field) ∙ ap Some (sync_back sync keeps.word) in
     let whole : length received ≡ 1680 = long ∙ is.0.long in
-    reading-link2 received
-    ∙ sym (link2_parts received (voice_in received) (sync_in received) (low_in 0 received) (low_in 1 received) refl refl refl refl)
-    ∙ link2_whole (voice_in received) (sync_in received) (low_in 0 received) (low_in 1 received) sync (slice_index low 0) (slice_index low 1) field
+    reading-ldu2 received
+    ∙ sym (ldu2_parts received (voice_in received) (sync_in received) (low_in 0 received) (low_in 1 received) refl refl refl refl)
+    ∙ ldu2_whole (voice_in received) (sync_in received) (low_in 0 received) (low_in 1 received) sync (slice_index low 0) (slice_index low 1) field
     (low_first low voice sent received keeps.speech is.0.pieces whole near.low)
     (low_second low voice sent received keeps.speech is.0.pieces whole near.low)
     ∙ ap (λ octets. Ok (Link2 sync octets (voice_in received))) (two_of low keeps.speech.two)
 voice_within nac End sent received keeps is long near = reading-end received
 voice_within nac (EndLink link) sent received keeps is long near =
-    reading-end_link received
-    ∙ ap end_link_from (ap (option_map link_of_symbols) (field_within end_link_codes (link_symbols link) sent received is.1 near) ∙ ap Some (link_back link keeps))
+    reading-tdulc received
+    ∙ ap tdulc_from (ap (option_map link_of_symbols) (field_within tdulc_codes (link_symbols link) sent received is.1 near) ∙ ap Some (link_back link keeps))
 
 -- by whole inner words is within radius too
 pub within_from_words : (nac : ℕ) (unit : VoiceUnit) (sent received : List Bool) → IsVoiceImage nac unit sent → length received ≡ length sent → IsVoiceWithinByWords unit sent received → IsVoiceWithin unit sent received
@@ -110,11 +110,11 @@ within_from_words nac (Link2 sync low voice) sent received is long few = record 
 }
 within_from_words nac End sent received is long few = tt
 within_from_words nac (EndLink link) sent received is long few =
-    near_from_lost end_link_codes (link_symbols link) sent received is.1 (end_link_there received (long ∙ is.0.long)) (omega arith)
+    near_from_lost tdulc_codes (link_symbols link) sent received is.1 (tdulc_there received (long ∙ is.0.long)) (omega arith)
 
 -- undamaged bits are within radius
 low_itself : (sent : List Bool) → AreLowWithin sent sent
-low_itself sent i d inside = let at = get_or (low_places link_rows) i d in omega (arith, distance_of-same (part at 16 sent))
+low_itself sent i d inside = let at = get_or (low_places ldu_rows) i d in omega (arith, distance_of-same (part at 16 sent))
 
 pub within_itself : (nac : ℕ) (unit : VoiceUnit) (sent : List Bool) → IsVoiceImage nac unit sent → IsVoiceWithin unit sent sent
 unfolding IsVoiceImage IsVoiceWithin
@@ -122,7 +122,7 @@ within_itself nac (Header word) sent is = near_itself header_codes (header_symbo
 within_itself nac (Link1 link low voice) sent is = record { field = near_itself link_codes (link_symbols link) sent is.1 (link_there sent is.0.long); low = low_itself sent }
 within_itself nac (Link2 sync low voice) sent is = record { field = near_itself sync_codes (sync_symbols sync) sent is.1 (link_there sent is.0.long); low = low_itself sent }
 within_itself nac End sent is = tt
-within_itself nac (EndLink link) sent is = near_itself end_link_codes (link_symbols link) sent is.1 (end_link_there sent is.0.long)
+within_itself nac (EndLink link) sent is = near_itself tdulc_codes (link_symbols link) sent is.1 (tdulc_there sent is.0.long)
 
 -- the voice frame at its place
 frame_back : (at : ℕ) (frame : VoiceFrame) (plain : List Bool) → IsVoiceFrame frame → at + 144 ≤ length plain → part at 144 plain ≡ octet_bits frame.0 → frame_in at plain ≡ frame
@@ -139,8 +139,8 @@ frame_back at frame plain keeps there is =
     )
 
 -- which stands in a row of its own
-frame_row : (low : List ℕ) (voice : List VoiceFrame) (plain : List Bool) → All (λ row. HasPiece low voice plain row.0 row.1) link_rows → (i : ℕ) → i < 9
-    → (part (slice_index (frame_places link_rows) i) 144 plain ≡ octet_bits (frame_at voice i).0) × (slice_index (frame_places link_rows) i + 144 ≤ 1680)
+frame_row : (low : List ℕ) (voice : List VoiceFrame) (plain : List Bool) → All (λ row. HasPiece low voice plain row.0 row.1) ldu_rows → (i : ℕ) → i < 9
+    → (part (slice_index (frame_places ldu_rows) i) 144 plain ≡ octet_bits (frame_at voice i).0) × (slice_index (frame_places ldu_rows) i + 144 ≤ 1680)
 unfolding frame_places
 frame_row low voice plain pieces zero inside = (pieces 0 (0, Nulls 0) (lit< tt), omega arith)
 frame_row low voice plain pieces (suc zero) inside = (pieces 1 (0, Nulls 0) (lit< tt), omega arith)
@@ -154,9 +154,9 @@ frame_row low voice plain pieces (suc (suc (suc (suc (suc (suc (suc (suc zero)))
 frame_row low voice plain pieces (suc (suc (suc (suc (suc (suc (suc (suc (suc i))))))))) inside = absurd (omega arith)
 
 -- so undamaged bits give the frames
-voice_back : (nac duid : ℕ) (low : List ℕ) (voice : List VoiceFrame) (plain : List Bool) → IsSpeech low voice → IsLaidOut nac duid 1680 link_rows low voice plain → voice_in plain ≡ voice
+voice_back : (nac duid : ℕ) (low : List ℕ) (voice : List VoiceFrame) (plain : List Bool) → IsSpeech low voice → IsLaidOut nac duid 1680 ldu_rows low voice plain → voice_in plain ≡ voice
 unfolding voice_in
-voice_back nac duid low voice plain keeps is = ext_get_or blank (map frame (frame_places link_rows)) voice (many ∙ sym keeps.nine) (λ i inside. at i (omega (arith, many)))
+voice_back nac duid low voice plain keeps is = ext_get_or blank (map frame (frame_places ldu_rows)) voice (many ∙ sym keeps.nine) (λ i inside. at i (omega (arith, many)))
   where
     blank : VoiceFrame
     blank = record { 0 = [] }
@@ -164,14 +164,14 @@ voice_back nac duid low voice plain keeps is = ext_get_or blank (map frame (fram
     frame : ℕ → VoiceFrame
     frame at = frame_in at plain
 
-    many : length (map frame (frame_places link_rows)) ≡ 9
-    many = length-map (frame_places link_rows) frame ∙ nine_frames
+    many : length (map frame (frame_places ldu_rows)) ≡ 9
+    many = length-map (frame_places ldu_rows) frame ∙ nine_frames
 
-    at : (i : ℕ) → i < 9 → get_or (map frame (frame_places link_rows)) i blank ≡ get_or voice i blank
+    at : (i : ℕ) → i < 9 → get_or (map frame (frame_places ldu_rows)) i blank ≡ get_or voice i blank
     at i inside =
         let row = frame_row low voice plain is.pieces i inside in
-        get_or-map frame (frame_places link_rows) i 0 blank (omega (arith, nine_frames))
-        ∙ frame_back (slice_index (frame_places link_rows) i) (frame_at voice i) plain (keeps.frames i blank (omega (arith, keeps.nine))) (omega (arith, row.1, is.long)) row.0
+        get_or-map frame (frame_places ldu_rows) i 0 blank (omega (arith, nine_frames))
+        ∙ frame_back (slice_index (frame_places ldu_rows) i) (frame_at voice i) plain (keeps.frames i blank (omega (arith, keeps.nine))) (omega (arith, row.1, is.long)) row.0
 
 pub received_itself : (nac : ℕ) (unit : VoiceUnit) (sent : List Bool) → IsSendableVoice unit → IsVoiceImage nac unit sent → received_voice unit sent ≡ unit
 unfolding IsSendableVoice IsVoiceImage

@@ -10,7 +10,7 @@ use Rattle.p25_code.specs.Readings.{word_read}
 use Rattle.p25_hamming.specs.Lsd16Readings.{lsd16_reading_of}
 use Rattle.p25_status.specs.declared.fields.Field.{Field}
 use Rattle.p25_voice_units.specs.declared.voice.VoiceFrame.{VoiceFrame}
-use Rattle.p25_voice_units.specs.Layouts.{link_rows}
+use Rattle.p25_voice_units.specs.Layouts.{ldu_rows}
 use Rattle.p25_voice_units.specs.Readings.{frame_places, low_places, frame_in, voice_in, low_in, missing}
 
 -- a part that was read is a function of its symbols
@@ -33,52 +33,52 @@ not_noted fields field None some = absurd (cc)
 not_noted fields field (Some x) some = sym (append-nil fields)
 
 -- the places of the low speed words
-low_place-le : (i : ℕ) → i < 2 → slice_index (low_places link_rows) i ≤ 1520
+low_place-le : (i : ℕ) → i < 2 → slice_index (low_places ldu_rows) i ≤ 1520
 unfolding low_places
 low_place-le zero inside = omega arith
 low_place-le (suc zero) inside = omega arith
 low_place-le (suc (suc i)) inside = absurd (omega arith)
 
 -- the bits of a low speed word, by way of the number that they write
-pub low_taken : (i value : ℕ) (plain bits : List Bool) → i < 2 → 1680 ≤ length plain → bits ≡ bits_of 16 value → value ≡ field_of (part (slice_index (low_places link_rows) i) 16 plain)
-    → bits ≡ part (slice_index (low_places link_rows) i) 16 plain
+pub low_taken : (i value : ℕ) (plain bits : List Bool) → i < 2 → 1680 ≤ length plain → bits ≡ bits_of 16 value → value ≡ field_of (part (slice_index (low_places ldu_rows) i) 16 plain)
+    → bits ≡ part (slice_index (low_places ldu_rows) i) 16 plain
 low_taken i value plain bits inside long made is =
-    let at = slice_index (low_places link_rows) i in
+    let at = slice_index (low_places ldu_rows) i in
     let there : at + 16 ≤ length plain = omega (arith, low_place-le i inside) in
     made ∙ ap (bits_of 16) is ∙ bits_of-field 16 at plain there
 
 -- a low speed word that is read
-pub low_found : (i number : ℕ) (plain bits word : List Bool) (answer : Reading) (fixes : ℕ) → bits ≡ part (slice_index (low_places link_rows) i) 16 plain → answer ≡ Found fixes → word_read answer word ≡ lsd16_reading_of bits
+pub low_found : (i number : ℕ) (plain bits word : List Bool) (answer : Reading) (fixes : ℕ) → bits ≡ part (slice_index (low_places ldu_rows) i) 16 plain → answer ≡ Found fixes → word_read answer word ≡ lsd16_reading_of bits
     → number ≡ field_of (take 8 word) → Some number ≡ low_in i plain
 unfolding low_in word_read
 low_found i number plain bits word answer fixes taken found is made =
-    part_some (λ w. field_of (take 8 w)) (word_read answer word) (lsd16_reading_of (part (slice_index (low_places link_rows) i) 16 plain)) word number (ap (λ a. word_read a word) found) (is ∙ ap lsd16_reading_of taken) made
+    part_some (λ w. field_of (take 8 w)) (word_read answer word) (lsd16_reading_of (part (slice_index (low_places ldu_rows) i) 16 plain)) word number (ap (λ a. word_read a word) found) (is ∙ ap lsd16_reading_of taken) made
 
 -- and one that is not
-pub low_beyond : (i : ℕ) (plain bits word : List Bool) (answer : Reading) → bits ≡ part (slice_index (low_places link_rows) i) 16 plain → answer ≡ Beyond → word_read answer word ≡ lsd16_reading_of bits → None ≡ low_in i plain
+pub low_beyond : (i : ℕ) (plain bits word : List Bool) (answer : Reading) → bits ≡ part (slice_index (low_places ldu_rows) i) 16 plain → answer ≡ Beyond → word_read answer word ≡ lsd16_reading_of bits → None ≡ low_in i plain
 unfolding low_in word_read
 low_beyond i plain bits word answer taken beyond is =
-    part_none (λ w. field_of (take 8 w)) (word_read answer word) (lsd16_reading_of (part (slice_index (low_places link_rows) i) 16 plain)) (ap (λ a. word_read a word) beyond) (is ∙ ap lsd16_reading_of taken)
+    part_none (λ w. field_of (take 8 w)) (word_read answer word) (lsd16_reading_of (part (slice_index (low_places ldu_rows) i) 16 plain)) (ap (λ a. word_read a word) beyond) (is ∙ ap lsd16_reading_of taken)
 
 -- there are nine voice frames
-pub nine_frames : length (frame_places link_rows) ≡ 9
+pub nine_frames : length (frame_places ldu_rows) ≡ 9
 unfolding frame_places
 nine_frames = refl
 
 -- one more of them was read
-pub frames_next : (i : ℕ) (plain : List Bool) (frames : List VoiceFrame) (frame : VoiceFrame) → i < 9 → length frames ≡ 9 → take i frames ≡ map (λ at. frame_in at plain) (take i (frame_places link_rows))
-    → frame ≡ frame_in (slice_index (frame_places link_rows) i) plain → take (i + 1) (set frames i frame) ≡ map (λ at. frame_in at plain) (take (i + 1) (frame_places link_rows))
+pub frames_next : (i : ℕ) (plain : List Bool) (frames : List VoiceFrame) (frame : VoiceFrame) → i < 9 → length frames ≡ 9 → take i frames ≡ map (λ at. frame_in at plain) (take i (frame_places ldu_rows))
+    → frame ≡ frame_in (slice_index (frame_places ldu_rows) i) plain → take (i + 1) (set frames i frame) ≡ map (λ at. frame_in at plain) (take (i + 1) (frame_places ldu_rows))
 frames_next i plain frames frame inside nine before is =
     let there : i < length frames = omega arith in
-    let within : i < length (frame_places link_rows) = omega (arith, nine_frames) in
+    let within : i < length (frame_places ldu_rows) = omega (arith, nine_frames) in
     take_more_set frames i frame there
     ∙ ap₂ (λ (xs : List VoiceFrame) (x : VoiceFrame). xs ++ x ∷ []) before is
-    ∙ sym (map_more (λ at. frame_in at plain) (frame_places link_rows) i 0 within)
+    ∙ sym (map_more (λ at. frame_in at plain) (frame_places ldu_rows) i 0 within)
 
 -- all of them
-pub frames_all : (i : ℕ) (plain : List Bool) (frames : List VoiceFrame) → i ≡ 9 → length frames ≡ 9 → take i frames ≡ map (λ at. frame_in at plain) (take i (frame_places link_rows)) → frames ≡ voice_in plain
+pub frames_all : (i : ℕ) (plain : List Bool) (frames : List VoiceFrame) → i ≡ 9 → length frames ≡ 9 → take i frames ≡ map (λ at. frame_in at plain) (take i (frame_places ldu_rows)) → frames ≡ voice_in plain
 unfolding voice_in
 frames_all i plain frames all nine is =
     let fits : length frames ≤ i = omega arith in
-    let every : length (frame_places link_rows) ≤ i = omega (arith, nine_frames) in
-    sym (take_all i frames fits) ∙ is ∙ ap (map (λ at. frame_in at plain)) (take_all i (frame_places link_rows) every)
+    let every : length (frame_places ldu_rows) ≤ i = omega (arith, nine_frames) in
+    sym (take_all i frames fits) ∙ is ∙ ap (map (λ at. frame_in at plain)) (take_all i (frame_places ldu_rows) every)

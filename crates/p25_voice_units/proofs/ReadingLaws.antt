@@ -18,12 +18,12 @@ use Rattle.p25_status.specs.declared.fields.Field.{Field}
 use Rattle.p25_coded_fields.specs.Layouts.{field_reading_of}
 use Rattle.p25_voice_units.specs.declared.unit.VoiceUnit.{VoiceUnit}
 use Rattle.p25_voice_units.specs.declared.unit.VoiceUnit.TheVariants.{Header, Link1, Link2, End, EndLink}
-use Rattle.p25_voice_units.specs.Layouts.{link_rows}
-use Rattle.p25_voice_units.specs.FieldLayouts.{link_layout, sync_layout, header_layout, end_link_layout}
+use Rattle.p25_voice_units.specs.Layouts.{ldu_rows}
+use Rattle.p25_voice_units.specs.FieldLayouts.{link_layout, sync_layout, header_layout, tdulc_layout}
 use Rattle.p25_voice_units.specs.Lengths.{voice_duid}
-use Rattle.p25_voice_units.specs.Readings.{frame_places, low_places, frame_in, voice_in, low_in, header_in, link_in, sync_in, header_from, link1_from, link1_in, link2_from, link2_in, end_link_from, voice_reading_of}
+use Rattle.p25_voice_units.specs.Readings.{frame_places, low_places, frame_in, voice_in, low_in, header_in, link_in, sync_in, header_from, ldu1_from, ldu1_in, ldu2_from, ldu2_in, tdulc_from, voice_reading_of}
 use Rattle.p25_voice_units.specs.Sendable.{IsVoiceFrame, IsSpeech, IsSendableVoice}
-use Rattle.p25_voice_units.proofs.KindsLaws.{reading-header, reading-end, reading-link1, reading-link2, reading-end_link}
+use Rattle.p25_voice_units.proofs.KindsLaws.{reading-header, reading-end, reading-ldu1, reading-ldu2, reading-tdulc}
 use Rattle.p25_voice_units.proofs.ReadLaws.{nine_frames}
 
 -- words of symbols keep what their types keep
@@ -53,14 +53,14 @@ read_keeps P f (Some s) word keeps is = let same : f s ≡ word = cc in subst P 
 low_keeps : (i octet : ℕ) (plain : List Bool) → low_in i plain ≡ Some octet → octet < 256
 unfolding low_in
 low_keeps i octet plain is =
-    read_keeps (λ n. n < 256) (λ (w : List Bool). field_of (take 8 w)) (lsd16_reading_of (part (slice_index (low_places link_rows) i) 16 plain)) octet (λ w. field-lt 8 0 w) is
+    read_keeps (λ n. n < 256) (λ (w : List Bool). field_of (take 8 w)) (lsd16_reading_of (part (slice_index (low_places ldu_rows) i) 16 plain)) octet (λ w. field-lt 8 0 w) is
 
 voice_keeps : (plain : List Bool) → (length (voice_in plain) ≡ 9) × All IsVoiceFrame (voice_in plain)
 unfolding voice_in frame_in
 voice_keeps plain = (
-  length-map (frame_places link_rows) (λ at. frame_in at plain) ∙ nine_frames,
-  All-map IsVoiceFrame (λ at. frame_in at plain) (frame_places link_rows) (λ i d inside.
-      let behind = drop (get_or (frame_places link_rows) i d) plain in
+  length-map (frame_places ldu_rows) (λ at. frame_in at plain) ∙ nine_frames,
+  All-map IsVoiceFrame (λ at. frame_in at plain) (frame_places ldu_rows) (λ i d inside.
+      let behind = drop (get_or (frame_places ldu_rows) i d) plain in
       record { long = length-numbers_from 8 18 behind; small = All-numbers_from 8 18 behind }),
 )
 
@@ -85,35 +85,35 @@ header_read plain (Some word) unit is read =
     let same : Header word ≡ unit = cc in
     subst (IsUnitOf 0) same (record { kind = refl; sendable = read_keeps IsHeaderWord header_of_symbols (field_reading_of header_layout plain) word header_keeps is })
 
-end_link_read : (plain : List Bool) (answer : Option LinkControl) (unit : VoiceUnit) → link_in end_link_layout plain ≡ answer → end_link_from answer ≡ Ok unit → IsUnitOf 15 unit
-unfolding link_in end_link_from IsSendableVoice
-end_link_read plain None unit is read = absurd (cc)
-end_link_read plain (Some link) unit is read =
+tdulc_read : (plain : List Bool) (answer : Option LinkControl) (unit : VoiceUnit) → link_in tdulc_layout plain ≡ answer → tdulc_from answer ≡ Ok unit → IsUnitOf 15 unit
+unfolding link_in tdulc_from IsSendableVoice
+tdulc_read plain None unit is read = absurd (cc)
+tdulc_read plain (Some link) unit is read =
     let same : EndLink link ≡ unit = cc in
-    subst (IsUnitOf 15) same (record { kind = refl; sendable = read_keeps IsLinkControl link_of_symbols (field_reading_of end_link_layout plain) link link_keeps is })
+    subst (IsUnitOf 15) same (record { kind = refl; sendable = read_keeps IsLinkControl link_of_symbols (field_reading_of tdulc_layout plain) link link_keeps is })
 
-link1_read : (plain : List Bool) (answer : Option LinkControl) (first second : Option ℕ) (unit : VoiceUnit) → link_in link_layout plain ≡ answer → low_in 0 plain ≡ first → low_in 1 plain ≡ second
-    → link1_from (voice_in plain) answer first second ≡ Ok unit
+ldu1_read : (plain : List Bool) (answer : Option LinkControl) (first second : Option ℕ) (unit : VoiceUnit) → link_in link_layout plain ≡ answer → low_in 0 plain ≡ first → low_in 1 plain ≡ second
+    → ldu1_from (voice_in plain) answer first second ≡ Ok unit
     → IsUnitOf 5 unit
-unfolding link_in link1_from IsSendableVoice
-link1_read plain None first second unit is a b read = absurd (cc)
-link1_read plain (Some link) None second unit is a b read = absurd (cc)
-link1_read plain (Some link) (Some first) None unit is a b read = absurd (cc)
-link1_read plain (Some link) (Some first) (Some second) unit is a b read =
+unfolding link_in ldu1_from IsSendableVoice
+ldu1_read plain None first second unit is a b read = absurd (cc)
+ldu1_read plain (Some link) None second unit is a b read = absurd (cc)
+ldu1_read plain (Some link) (Some first) None unit is a b read = absurd (cc)
+ldu1_read plain (Some link) (Some first) (Some second) unit is a b read =
     let same : Link1 link (first ∷ second ∷ []) (voice_in plain) ≡ unit = cc in
     subst (IsUnitOf 5) same (record {
       kind = refl;
       sendable = record { word = read_keeps IsLinkControl link_of_symbols (field_reading_of link_layout plain) link link_keeps is; speech = speech_keeps first second plain a b };
     })
 
-link2_read : (plain : List Bool) (answer : Option EncryptionSync) (first second : Option ℕ) (unit : VoiceUnit) → sync_in plain ≡ answer → low_in 0 plain ≡ first → low_in 1 plain ≡ second
-    → link2_from (voice_in plain) answer first second ≡ Ok unit
+ldu2_read : (plain : List Bool) (answer : Option EncryptionSync) (first second : Option ℕ) (unit : VoiceUnit) → sync_in plain ≡ answer → low_in 0 plain ≡ first → low_in 1 plain ≡ second
+    → ldu2_from (voice_in plain) answer first second ≡ Ok unit
     → IsUnitOf 10 unit
-unfolding sync_in link2_from IsSendableVoice
-link2_read plain None first second unit is a b read = absurd (cc)
-link2_read plain (Some sync) None second unit is a b read = absurd (cc)
-link2_read plain (Some sync) (Some first) None unit is a b read = absurd (cc)
-link2_read plain (Some sync) (Some first) (Some second) unit is a b read =
+unfolding sync_in ldu2_from IsSendableVoice
+ldu2_read plain None first second unit is a b read = absurd (cc)
+ldu2_read plain (Some sync) None second unit is a b read = absurd (cc)
+ldu2_read plain (Some sync) (Some first) None unit is a b read = absurd (cc)
+ldu2_read plain (Some sync) (Some first) (Some second) unit is a b read =
     let same : Link2 sync (first ∷ second ∷ []) (voice_in plain) ≡ unit = cc in
     subst (IsUnitOf 10) same (record {
       kind = refl;
@@ -127,29 +127,29 @@ end_read unit read = let same : End ≡ unit = cc in subst (IsUnitOf 3) same (re
 -- DUIDs of no voice unit are not read
 pub reading-other : (duid : ℕ) (plain : List Bool) → duid ≢ 0 → duid ≢ 3 → duid ≢ 5 → duid ≢ 10 → duid ≢ 15 → voice_reading_of duid plain ≡ Err []
 unfolding voice_reading_of
-reading-other duid plain header end link1 link2 end_link =
+reading-other duid plain header end ldu1 ldu2 tdulc =
     cond-false (eqb duid 0) _ _ (ne_eqb duid 0 header)
     ∙ cond-false (eqb duid 3) _ _ (ne_eqb duid 3 end)
-    ∙ cond-false (eqb duid 5) _ _ (ne_eqb duid 5 link1)
-    ∙ cond-false (eqb duid 10) _ _ (ne_eqb duid 10 link2)
-    ∙ cond-false (eqb duid 15) _ _ (ne_eqb duid 15 end_link)
+    ∙ cond-false (eqb duid 5) _ _ (ne_eqb duid 5 ldu1)
+    ∙ cond-false (eqb duid 10) _ _ (ne_eqb duid 10 ldu2)
+    ∙ cond-false (eqb duid 15) _ _ (ne_eqb duid 15 tdulc)
 
 -- what is read for a DUID is a unit of it
 pub unit_read : (duid : ℕ) (plain : List Bool) (unit : VoiceUnit) → voice_reading_of duid plain ≡ Ok unit → IsUnitOf duid unit
-unfolding link1_in link2_in
+unfolding ldu1_in ldu2_in
 unit_read duid plain unit read =
     elim (cases_eq duid 0) [
       | inl same ↦ at 0 same (header_read plain (header_in plain) unit refl (sym (reading-header plain) ∙ there 0 same))
       | inr not_header ↦ elim (cases_eq duid 3) [
         | inl same ↦ at 3 same (end_read unit (sym (reading-end plain) ∙ there 3 same))
         | inr not_end ↦ elim (cases_eq duid 5) [
-          | inl same ↦ at 5 same (link1_read plain (link_in link_layout plain) (low_in 0 plain) (low_in 1 plain) unit refl refl refl (sym (reading-link1 plain) ∙ there 5 same))
-          | inr not_link1 ↦ elim (cases_eq duid 10) [
-            | inl same ↦ at 10 same (link2_read plain (sync_in plain) (low_in 0 plain) (low_in 1 plain) unit refl refl refl (sym (reading-link2 plain) ∙ there 10 same))
-            | inr not_link2 ↦ elim (cases_eq duid 15) [
-              | inl same ↦ at 15 same (end_link_read plain (link_in end_link_layout plain) unit refl (sym (reading-end_link plain) ∙ there 15 same))
-              | inr not_end_link ↦
-                  let none : Err [] ≡ Ok unit = sym (reading-other duid plain not_header not_end not_link1 not_link2 not_end_link) ∙ read in
+          | inl same ↦ at 5 same (ldu1_read plain (link_in link_layout plain) (low_in 0 plain) (low_in 1 plain) unit refl refl refl (sym (reading-ldu1 plain) ∙ there 5 same))
+          | inr not_ldu1 ↦ elim (cases_eq duid 10) [
+            | inl same ↦ at 10 same (ldu2_read plain (sync_in plain) (low_in 0 plain) (low_in 1 plain) unit refl refl refl (sym (reading-ldu2 plain) ∙ there 10 same))
+            | inr not_ldu2 ↦ elim (cases_eq duid 15) [
+              | inl same ↦ at 15 same (tdulc_read plain (link_in tdulc_layout plain) unit refl (sym (reading-tdulc plain) ∙ there 15 same))
+              | inr not_tdulc ↦
+                  let none : Err [] ≡ Ok unit = sym (reading-other duid plain not_header not_end not_ldu1 not_ldu2 not_tdulc) ∙ read in
                   absurd (cc)
             ]
           ]

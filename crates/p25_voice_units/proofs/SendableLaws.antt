@@ -13,18 +13,18 @@ pub sendable_header : (unit : VoiceUnit) (word : HeaderWord) → unit ≡ Header
 unfolding IsSendableVoice
 sendable_header unit word is keeps = subst IsSendableVoice (sym is) keeps
 
-pub sendable_link1 : (unit : VoiceUnit) (link : LinkControl) (low : List ℕ) (voice : List VoiceFrame) → unit ≡ Link1 link low voice → IsSendableLink1 link low voice → IsSendableVoice unit
+pub sendable_ldu1 : (unit : VoiceUnit) (link : LinkControl) (low : List ℕ) (voice : List VoiceFrame) → unit ≡ Link1 link low voice → IsSendableLink1 link low voice → IsSendableVoice unit
 unfolding IsSendableVoice
-sendable_link1 unit link low voice is keeps = subst IsSendableVoice (sym is) keeps
+sendable_ldu1 unit link low voice is keeps = subst IsSendableVoice (sym is) keeps
 
-pub sendable_link2 : (unit : VoiceUnit) (sync : EncryptionSync) (low : List ℕ) (voice : List VoiceFrame) → unit ≡ Link2 sync low voice → IsSendableLink2 sync low voice → IsSendableVoice unit
+pub sendable_ldu2 : (unit : VoiceUnit) (sync : EncryptionSync) (low : List ℕ) (voice : List VoiceFrame) → unit ≡ Link2 sync low voice → IsSendableLink2 sync low voice → IsSendableVoice unit
 unfolding IsSendableVoice
-sendable_link2 unit sync low voice is keeps = subst IsSendableVoice (sym is) keeps
+sendable_ldu2 unit sync low voice is keeps = subst IsSendableVoice (sym is) keeps
 
 pub sendable_end : (unit : VoiceUnit) → unit ≡ End → IsSendableVoice unit
 unfolding IsSendableVoice
 sendable_end unit is = subst IsSendableVoice (sym is) tt
 
-pub sendable_end_link : (unit : VoiceUnit) (link : LinkControl) → unit ≡ EndLink link → IsLinkControl link → IsSendableVoice unit
+pub sendable_tdulc : (unit : VoiceUnit) (link : LinkControl) → unit ≡ EndLink link → IsLinkControl link → IsSendableVoice unit
 unfolding IsSendableVoice
-sendable_end_link unit link is keeps = subst IsSendableVoice (sym is) keeps
+sendable_tdulc unit link is keeps = subst IsSendableVoice (sym is) keeps

@@ -26,14 +26,14 @@ use Rattle.p25_voice_units.specs.declared.layout.Piece.TheVariants.{Nulls}
 use Rattle.p25_voice_units.specs.declared.unit.VoiceUnit.{VoiceUnit}
 use Rattle.p25_voice_units.specs.declared.unit.VoiceUnit.TheVariants.{Header, Link1, Link2, End, EndLink}
 use Rattle.p25_voice_units.specs.declared.voice.VoiceFrame.{VoiceFrame}
-use Rattle.p25_voice_units.specs.Layouts.{header_rows, link_rows, end_link_rows}
-use Rattle.p25_voice_units.specs.FieldLayouts.{word_places, header_layout, link_layout, sync_layout, end_link_layout}
+use Rattle.p25_voice_units.specs.Layouts.{hdu_rows, ldu_rows, tdulc_rows}
+use Rattle.p25_voice_units.specs.FieldLayouts.{word_places, header_layout, link_layout, sync_layout, tdulc_layout}
 use Rattle.p25_voice_units.specs.Lengths.{voice_duid}
 use Rattle.p25_voice_units.specs.Places.{HasPiece, IsVoiceImage}
-use Rattle.p25_voice_units.specs.Readings.{low_places, voice_in, low_in, header_in, link_in, sync_in, header_from, link1_from, link1_in, link2_from, link2_in, end_link_from, voice_reading_of}
+use Rattle.p25_voice_units.specs.Readings.{low_places, voice_in, low_in, header_in, link_in, sync_in, header_from, ldu1_from, ldu1_in, ldu2_from, ldu2_in, tdulc_from, voice_reading_of}
 use Rattle.p25_voice_units.specs.WithinRadius.{AreLowWithin, IsVoiceWithin}
 use Rattle.p25_voice_units.proofs.CodesLaws.{header_code, link_code, sync_code}
-use Rattle.p25_voice_units.proofs.KindsLaws.{reading-header, reading-link1, reading-link2, reading-end_link}
+use Rattle.p25_voice_units.proofs.KindsLaws.{reading-header, reading-ldu1, reading-ldu2, reading-tdulc}
 
 -- a part that was read is that of the symbols that were read
 symbols_read : {W : Type 0} (of_symbols : List Sym → W) (symbols_of : W → List Sym) (n : ℕ) (reading : Option (List Sym)) (word : W) → ((symbols : List Sym) → length symbols ≡ n → symbols_of (of_symbols symbols) ≡ symbols)
@@ -49,10 +49,10 @@ unfolding header_from
 header_parts None word is = absurd (cc)
 header_parts (Some read) word is = let same : read ≡ word = cc in ap Some same
 
-end_link_parts : (answer : Option LinkControl) (link : LinkControl) → end_link_from answer ≡ Ok (EndLink link) → answer ≡ Some link
-unfolding end_link_from
-end_link_parts None link is = absurd (cc)
-end_link_parts (Some read) link is = let same : read ≡ link = cc in ap Some same
+tdulc_parts : (answer : Option LinkControl) (link : LinkControl) → tdulc_from answer ≡ Ok (EndLink link) → answer ≡ Some link
+unfolding tdulc_from
+tdulc_parts None link is = absurd (cc)
+tdulc_parts (Some read) link is = let same : read ≡ link = cc in ap Some same
 
 -- the word of a coded field, and the octets of low speed data
 record AreRead {W : Type 0} (answer : Option W) (first second : Option ℕ) (word : W) (low : List ℕ) : Type 0 where
@@ -60,24 +60,24 @@ record AreRead {W : Type 0} (answer : Option W) (first second : Option ℕ) (wor
   first_read : first ≡ Some (slice_index low 0)
   second_read : second ≡ Some (slice_index low 1)
 
-link1_read_parts : (voice : List VoiceFrame) (answer : Option LinkControl) (first second : Option ℕ) (link : LinkControl) (low : List ℕ) (frames : List VoiceFrame) → link1_from voice answer first second ≡ Ok (Link1 link low frames)
+ldu1_read_parts : (voice : List VoiceFrame) (answer : Option LinkControl) (first second : Option ℕ) (link : LinkControl) (low : List ℕ) (frames : List VoiceFrame) → ldu1_from voice answer first second ≡ Ok (Link1 link low frames)
     → AreRead answer first second link low
-unfolding link1_from
-link1_read_parts voice None first second link low frames is = absurd (cc)
-link1_read_parts voice (Some read) None second link low frames is = absurd (cc)
-link1_read_parts voice (Some read) (Some a) None link low frames is = absurd (cc)
-link1_read_parts voice (Some read) (Some a) (Some b) link low frames is =
+unfolding ldu1_from
+ldu1_read_parts voice None first second link low frames is = absurd (cc)
+ldu1_read_parts voice (Some read) None second link low frames is = absurd (cc)
+ldu1_read_parts voice (Some read) (Some a) None link low frames is = absurd (cc)
+ldu1_read_parts voice (Some read) (Some a) (Some b) link low frames is =
     let same : read ≡ link = cc in
     let octets : a ∷ b ∷ [] ≡ low = cc in
     record { word_read = ap Some same; first_read = ap (λ xs. Some (slice_index xs 0)) octets; second_read = ap (λ xs. Some (slice_index xs 1)) octets }
 
-link2_read_parts : (voice : List VoiceFrame) (answer : Option EncryptionSync) (first second : Option ℕ) (sync : EncryptionSync) (low : List ℕ) (frames : List VoiceFrame) → link2_from voice answer first second ≡ Ok (Link2 sync low frames)
+ldu2_read_parts : (voice : List VoiceFrame) (answer : Option EncryptionSync) (first second : Option ℕ) (sync : EncryptionSync) (low : List ℕ) (frames : List VoiceFrame) → ldu2_from voice answer first second ≡ Ok (Link2 sync low frames)
     → AreRead answer first second sync low
-unfolding link2_from
-link2_read_parts voice None first second sync low frames is = absurd (cc)
-link2_read_parts voice (Some read) None second sync low frames is = absurd (cc)
-link2_read_parts voice (Some read) (Some a) None sync low frames is = absurd (cc)
-link2_read_parts voice (Some read) (Some a) (Some b) sync low frames is =
+unfolding ldu2_from
+ldu2_read_parts voice None first second sync low frames is = absurd (cc)
+ldu2_read_parts voice (Some read) None second sync low frames is = absurd (cc)
+ldu2_read_parts voice (Some read) (Some a) None sync low frames is = absurd (cc)
+ldu2_read_parts voice (Some read) (Some a) (Some b) sync low frames is =
     let same : read ≡ sync = cc in
     let octets : a ∷ b ∷ [] ≡ low = cc in
     record { word_read = ap Some same; first_read = ap (λ xs. Some (slice_index xs 0)) octets; second_read = ap (λ xs. Some (slice_index xs 1)) octets }
@@ -95,7 +95,7 @@ low_whole at octet sent received (Some found) is read word =
     let same = lsd16_is_code.one_word found (part at 16 sent) is.word_of_set word.word_of_set (begins ∙ sym word.begins) in
     subst (λ (w : List Bool). distance_of (part at 16 received) w ≤ 2) same is.within
 
-low_words_whole : (low : List ℕ) (voice : List VoiceFrame) (sent received : List Bool) → All (λ row. HasPiece low voice sent row.0 row.1) link_rows → low_in 0 received ≡ Some (slice_index low 0)
+low_words_whole : (low : List ℕ) (voice : List VoiceFrame) (sent received : List Bool) → All (λ row. HasPiece low voice sent row.0 row.1) ldu_rows → low_in 0 received ≡ Some (slice_index low 0)
     → low_in 1 received ≡ Some (slice_index low 1)
     → AreLowWithin sent received
 unfolding low_in low_places
@@ -107,27 +107,27 @@ low_words_whole low voice sent received pieces first second (suc (suc i)) d insi
 
 -- what a unit was read as is within radius
 pub voice_whole : (nac : ℕ) (unit : VoiceUnit) (sent received : List Bool) → IsVoiceImage nac unit sent → voice_reading_of (voice_duid unit) received ≡ Ok unit → IsVoiceWithin unit sent received
-unfolding IsVoiceImage IsVoiceWithin header_in link_in sync_in link1_in link2_in
+unfolding IsVoiceImage IsVoiceWithin header_in link_in sync_in ldu1_in ldu2_in
 voice_whole nac (Header word) sent received is read =
     let part_read = header_parts (header_in received) word (sym (reading-header received) ∙ read) in
-    near_from_reading (word_places 18 header_rows) 18 1 36 20 golay18_reading_of header_code (header_symbols word) sent received is.1
-    (symbols_read header_of_symbols header_symbols 20 (field_reading_of header_layout received) word header_symbols_back (field_information (word_places 18 header_rows) 18 1 36 20 golay18_reading_of header_code received) part_read)
+    near_from_reading (word_places 18 hdu_rows) 18 1 36 20 golay18_reading_of header_code (header_symbols word) sent received is.1
+    (symbols_read header_of_symbols header_symbols 20 (field_reading_of header_layout received) word header_symbols_back (field_information (word_places 18 hdu_rows) 18 1 36 20 golay18_reading_of header_code received) part_read)
 voice_whole nac (Link1 link low voice) sent received is read =
-    let parts = link1_read_parts (voice_in received) (link_in link_layout received) (low_in 0 received) (low_in 1 received) link low voice (sym (reading-link1 received) ∙ read) in
+    let parts = ldu1_read_parts (voice_in received) (link_in link_layout received) (low_in 0 received) (low_in 1 received) link low voice (sym (reading-ldu1 received) ∙ read) in
     record {
-      field = near_from_reading (word_places 10 link_rows) 10 1 24 12 hamming10_reading_of link_code (link_symbols link) sent received is.1
-          (symbols_read link_of_symbols link_symbols 12 (field_reading_of link_layout received) link link_symbols_back (field_information (word_places 10 link_rows) 10 1 24 12 hamming10_reading_of link_code received) parts.word_read);
+      field = near_from_reading (word_places 10 ldu_rows) 10 1 24 12 hamming10_reading_of link_code (link_symbols link) sent received is.1
+          (symbols_read link_of_symbols link_symbols 12 (field_reading_of link_layout received) link link_symbols_back (field_information (word_places 10 ldu_rows) 10 1 24 12 hamming10_reading_of link_code received) parts.word_read);
       low = low_words_whole low voice sent received is.0.pieces parts.first_read parts.second_read;
     }
 voice_whole nac (Link2 sync low voice) sent received is read =
-    let parts = link2_read_parts (voice_in received) (sync_in received) (low_in 0 received) (low_in 1 received) sync low voice (sym (reading-link2 received) ∙ read) in
+    let parts = ldu2_read_parts (voice_in received) (sync_in received) (low_in 0 received) (low_in 1 received) sync low voice (sym (reading-ldu2 received) ∙ read) in
     record {
-      field = near_from_reading (word_places 10 link_rows) 10 1 24 16 hamming10_reading_of sync_code (sync_symbols sync) sent received is.1
-          (symbols_read sync_of_symbols sync_symbols 16 (field_reading_of sync_layout received) sync sync_symbols_back (field_information (word_places 10 link_rows) 10 1 24 16 hamming10_reading_of sync_code received) parts.word_read);
+      field = near_from_reading (word_places 10 ldu_rows) 10 1 24 16 hamming10_reading_of sync_code (sync_symbols sync) sent received is.1
+          (symbols_read sync_of_symbols sync_symbols 16 (field_reading_of sync_layout received) sync sync_symbols_back (field_information (word_places 10 ldu_rows) 10 1 24 16 hamming10_reading_of sync_code received) parts.word_read);
       low = low_words_whole low voice sent received is.0.pieces parts.first_read parts.second_read;
     }
 voice_whole nac End sent received is read = tt
 voice_whole nac (EndLink link) sent received is read =
-    let part_read = end_link_parts (link_in end_link_layout received) link (sym (reading-end_link received) ∙ read) in
-    near_from_reading (word_places 24 end_link_rows) 24 2 24 12 golay24_reading_of link_code (link_symbols link) sent received is.1
-    (symbols_read link_of_symbols link_symbols 12 (field_reading_of end_link_layout received) link link_symbols_back (field_information (word_places 24 end_link_rows) 24 2 24 12 golay24_reading_of link_code received) part_read)
+    let part_read = tdulc_parts (link_in tdulc_layout received) link (sym (reading-tdulc received) ∙ read) in
+    near_from_reading (word_places 24 tdulc_rows) 24 2 24 12 golay24_reading_of link_code (link_symbols link) sent received is.1
+    (symbols_read link_of_symbols link_symbols 12 (field_reading_of tdulc_layout received) link link_symbols_back (field_information (word_places 24 tdulc_rows) 24 2 24 12 golay24_reading_of link_code received) part_read)

@@ -1,11 +1,11 @@
--- The looked-at places of voice units behind their front: there bits that differ from the unit's are counted as fixes.
+-- The looked-at places of voice units after their front: there bits that differ from the unit's are counted as fixes.
 use Rattle.std.specs.Prelude.{ℕ, Bool, List, [], ◌++◌, map}
 use Rattle.std.specs.List.{flat_map}
 use Rattle.p25_bits.specs.Bits.{part}
 use Rattle.p25_bits.specs.Distance.{distance_of}
 use Rattle.p25_voice_units.specs.declared.unit.VoiceUnit.{VoiceUnit}
 use Rattle.p25_voice_units.specs.declared.unit.VoiceUnit.TheVariants.{Header, Link1, Link2, End, EndLink}
-use Rattle.p25_voice_units.specs.Layouts.{header_rows, link_rows, end_link_rows}
+use Rattle.p25_voice_units.specs.Layouts.{hdu_rows, ldu_rows, tdulc_rows}
 use Rattle.p25_voice_units.specs.FieldLayouts.{word_places}
 use Rattle.p25_voice_units.specs.Readings.{low_places}
 
@@ -15,17 +15,17 @@ wide width places = map (λ at. (at, width)) places
 
 -- the looked-at places of a unit with voice: its inner words and its low speed words
 unfoldable pub link_looked : List (ℕ × ℕ)
-link_looked = wide 10 (word_places 10 link_rows) ++ wide 16 (low_places link_rows)
+link_looked = wide 10 (word_places 10 ldu_rows) ++ wide 16 (low_places ldu_rows)
 
 -- the looked-at places of a unit, as a place and a number of bits each: its inner words and its low speed words
 unfoldable pub voice_looked : VoiceUnit → List (ℕ × ℕ)
-voice_looked (Header word) = wide 18 (word_places 18 header_rows)
+voice_looked (Header word) = wide 18 (word_places 18 hdu_rows)
 voice_looked (Link1 link low voice) = link_looked
 voice_looked (Link2 sync low voice) = link_looked
 voice_looked End = []
-voice_looked (EndLink link) = wide 24 (word_places 24 end_link_rows)
+voice_looked (EndLink link) = wide 24 (word_places 24 tdulc_rows)
 
--- the bits at places, one run behind the other
+-- the bits at places, one run after the other
 unfoldable pub bits_at : List (ℕ × ℕ) → List Bool → List Bool
 bits_at places bits = flat_map (λ place. part place.0 place.1 bits) places
 

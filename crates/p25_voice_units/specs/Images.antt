@@ -18,7 +18,7 @@ use Rattle.p25_voice_units.specs.declared.layout.Piece.TheVariants.{Words, Frame
 use Rattle.p25_voice_units.specs.declared.voice.VoiceFrame.{VoiceFrame}
 use Rattle.p25_voice_units.specs.declared.unit.VoiceUnit.{VoiceUnit}
 use Rattle.p25_voice_units.specs.declared.unit.VoiceUnit.TheVariants.{Header, Link1, Link2, End, EndLink}
-use Rattle.p25_voice_units.specs.Layouts.{header_rows, link_rows, end_rows, end_link_rows}
+use Rattle.p25_voice_units.specs.Layouts.{hdu_rows, ldu_rows, tdu_rows, tdulc_rows}
 use Rattle.p25_voice_units.specs.Lengths.{voice_duid}
 
 -- the words of the binary codes: the information and its check bits
@@ -58,17 +58,17 @@ piece_bits carried (Frame i) = octet_bits (frame_at carried.voice i).0
 piece_bits carried (LowSpeed i) = lsd16_word (bits_of 8 (slice_index carried.low i))
 piece_bits carried (Nulls count) = replicate count false
 
--- the pieces of rows, one behind the other
+-- the pieces of rows, one after the other
 unfoldable pub rows_bits : Contents → List (ℕ × Piece) → List Bool
 rows_bits carried rows = flat_map (λ row. piece_bits carried row.1) rows
 
--- the bits behind the front
+-- the bits after the front
 unfoldable pub voice_body : VoiceUnit → List Bool
-voice_body (Header word) = rows_bits (contents golay18_word 1 (rs_word 36 20 (header_symbols word)) [] []) header_rows
-voice_body (Link1 link low voice) = rows_bits (contents hamming10_word 1 (rs_word 24 12 (link_symbols link)) low voice) link_rows
-voice_body (Link2 sync low voice) = rows_bits (contents hamming10_word 1 (rs_word 24 16 (sync_symbols sync)) low voice) link_rows
-voice_body End = rows_bits (contents golay18_word 1 [] [] []) end_rows
-voice_body (EndLink link) = rows_bits (contents golay24_word 2 (rs_word 24 12 (link_symbols link)) [] []) end_link_rows
+voice_body (Header word) = rows_bits (contents golay18_word 1 (rs_word 36 20 (header_symbols word)) [] []) hdu_rows
+voice_body (Link1 link low voice) = rows_bits (contents hamming10_word 1 (rs_word 24 12 (link_symbols link)) low voice) ldu_rows
+voice_body (Link2 sync low voice) = rows_bits (contents hamming10_word 1 (rs_word 24 16 (sync_symbols sync)) low voice) ldu_rows
+voice_body End = rows_bits (contents golay18_word 1 [] [] []) tdu_rows
+voice_body (EndLink link) = rows_bits (contents golay24_word 2 (rs_word 24 12 (link_symbols link)) [] []) tdulc_rows
 
 -- the bits of a unit
 unfoldable pub voice_image_of : ℕ → VoiceUnit → List Bool

@@ -1,16 +1,16 @@
--- Where the parts of voice units stand behind their front, without status symbols, as the standard has it. A row is a place, counted
+-- Where the parts of voice units stand after their front, without status symbols, as the standard has it. A row is a place, counted
 -- from the first sync bit, and what stands there.
 use Rattle.std.specs.Prelude.{ℕ, List, [], ◌∷◌}
 use Rattle.p25_voice_units.specs.declared.layout.Piece.{Piece}
 use Rattle.p25_voice_units.specs.declared.layout.Piece.TheVariants.{Words, Frame, LowSpeed, Nulls}
 
 -- a header: 36 inner words of its coded field, and nulls
-abbrev pub header_rows : List (ℕ × Piece)
-header_rows = (112, Words 0 36) ∷ (760, Nulls 10) ∷ []
+abbrev pub hdu_rows : List (ℕ × Piece)
+hdu_rows = (112, Words 0 36) ∷ (760, Nulls 10) ∷ []
 
 -- voice with link control or encryption sync: nine frames, 24 inner words of the coded field, and two low speed words
-abbrev pub link_rows : List (ℕ × Piece)
-link_rows =
+abbrev pub ldu_rows : List (ℕ × Piece)
+ldu_rows =
     (112, Frame 0)
     ∷ (256, Frame 1)
     ∷ (400, Words 0 4)
@@ -31,9 +31,9 @@ link_rows =
     ∷ []
 
 -- a terminator: nulls alone
-abbrev pub end_rows : List (ℕ × Piece)
-end_rows = (112, Nulls 28) ∷ []
+abbrev pub tdu_rows : List (ℕ × Piece)
+tdu_rows = (112, Nulls 28) ∷ []
 
 -- a terminator with link control: 12 inner words of its coded field, and nulls
-abbrev pub end_link_rows : List (ℕ × Piece)
-end_link_rows = (112, Words 0 12) ∷ (400, Nulls 20) ∷ []
+abbrev pub tdulc_rows : List (ℕ × Piece)
+tdulc_rows = (112, Words 0 12) ∷ (400, Nulls 20) ∷ []

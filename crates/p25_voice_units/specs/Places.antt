@@ -15,8 +15,8 @@ use Rattle.p25_voice_units.specs.declared.layout.Piece.TheVariants.{Words, Frame
 use Rattle.p25_voice_units.specs.declared.voice.VoiceFrame.{VoiceFrame}
 use Rattle.p25_voice_units.specs.declared.unit.VoiceUnit.{VoiceUnit}
 use Rattle.p25_voice_units.specs.declared.unit.VoiceUnit.TheVariants.{Header, Link1, Link2, End, EndLink}
-use Rattle.p25_voice_units.specs.Layouts.{header_rows, link_rows, end_rows, end_link_rows}
-use Rattle.p25_voice_units.specs.FieldLayouts.{header_layout, link_layout, sync_layout, end_link_layout}
+use Rattle.p25_voice_units.specs.Layouts.{hdu_rows, ldu_rows, tdu_rows, tdulc_rows}
+use Rattle.p25_voice_units.specs.FieldLayouts.{header_layout, link_layout, sync_layout, tdulc_layout}
 use Rattle.p25_voice_units.specs.Images.{frame_at}
 
 -- what stands at a place: the 144 bits of a voice frame, a low speed word with an octet of data, or nulls. Of the inner words of the
@@ -36,11 +36,11 @@ pub record IsLaidOut (nac duid count : ℕ) (rows : List (ℕ × Piece)) (low : 
 -- bits are a voice unit: they are laid out as its kind is, and carry its coded field
 unfoldable pub IsVoiceImage : ℕ → VoiceUnit → List Bool → Type 0
 IsVoiceImage nac (Header word) plain =
-    IsLaidOut nac 0 770 header_rows [] [] plain × HasField IsGolay18 (IsWord 36 20) header_layout (header_symbols word) plain
+    IsLaidOut nac 0 770 hdu_rows [] [] plain × HasField IsGolay18 (IsWord 36 20) header_layout (header_symbols word) plain
 IsVoiceImage nac (Link1 link low voice) plain =
-    IsLaidOut nac 5 1680 link_rows low voice plain × HasField IsHamming10 (IsWord 24 12) link_layout (link_symbols link) plain
+    IsLaidOut nac 5 1680 ldu_rows low voice plain × HasField IsHamming10 (IsWord 24 12) link_layout (link_symbols link) plain
 IsVoiceImage nac (Link2 sync low voice) plain =
-    IsLaidOut nac 10 1680 link_rows low voice plain × HasField IsHamming10 (IsWord 24 16) sync_layout (sync_symbols sync) plain
-IsVoiceImage nac End plain = IsLaidOut nac 3 140 end_rows [] [] plain
+    IsLaidOut nac 10 1680 ldu_rows low voice plain × HasField IsHamming10 (IsWord 24 16) sync_layout (sync_symbols sync) plain
+IsVoiceImage nac End plain = IsLaidOut nac 3 140 tdu_rows [] [] plain
 IsVoiceImage nac (EndLink link) plain =
-    IsLaidOut nac 15 420 end_link_rows [] [] plain × HasField IsGolay24 (IsWord 24 12) end_link_layout (link_symbols link) plain
+    IsLaidOut nac 15 420 tdulc_rows [] [] plain × HasField IsGolay24 (IsWord 24 12) tdulc_layout (link_symbols link) plain

@@ -16,8 +16,8 @@ use Rattle.p25_voice_units.specs.declared.layout.Piece.TheVariants.{Words, Frame
 use Rattle.p25_voice_units.specs.declared.voice.VoiceFrame.{VoiceFrame}
 use Rattle.p25_voice_units.specs.declared.unit.VoiceUnit.{VoiceUnit}
 use Rattle.p25_voice_units.specs.declared.unit.VoiceUnit.TheVariants.{Header, Link1, Link2, End, EndLink}
-use Rattle.p25_voice_units.specs.Layouts.{link_rows}
-use Rattle.p25_voice_units.specs.FieldLayouts.{header_layout, link_layout, sync_layout, end_link_layout}
+use Rattle.p25_voice_units.specs.Layouts.{ldu_rows}
+use Rattle.p25_voice_units.specs.FieldLayouts.{header_layout, link_layout, sync_layout, tdulc_layout}
 
 -- the place of a voice frame, if that is what stands at a place
 abbrev pub frame_at_place : ℕ → Piece → List ℕ
@@ -46,11 +46,11 @@ frame_in at plain = record { 0 = octets_from 18 (drop at plain) }
 
 -- the voice frames of a unit, as received
 unfoldable pub voice_in : List Bool → List VoiceFrame
-voice_in plain = map (λ at. frame_in at plain) (frame_places link_rows)
+voice_in plain = map (λ at. frame_in at plain) (frame_places ldu_rows)
 
 -- the octet of the low speed word of a number, from 0, or none where no word lies within 2 bits
 unfoldable pub low_in : ℕ → List Bool → Option ℕ
-low_in i plain = option_map (λ word. field_of (take 8 word)) (lsd16_reading_of (part (slice_index (low_places link_rows) i) 16 plain))
+low_in i plain = option_map (λ word. field_of (take 8 word)) (lsd16_reading_of (part (slice_index (low_places ldu_rows) i) 16 plain))
 
 -- the words of the coded fields, or none where the field fails
 unfoldable pub header_in : List Bool → Option HeaderWord
@@ -76,28 +76,28 @@ unfoldable pub header_from : Option HeaderWord → Result VoiceUnit (List Field)
 header_from (Some word) = Ok (Header word)
 header_from None = Err (HeaderField ∷ [])
 
-unfoldable pub link1_from : List VoiceFrame → Option LinkControl → Option ℕ → Option ℕ → Result VoiceUnit (List Field)
-link1_from voice (Some link) (Some first) (Some second) = Ok (Link1 link (first ∷ second ∷ []) voice)
-link1_from voice (Some link) (Some first) None = Err (failing LinkField (Some link) (Some first) None)
-link1_from voice (Some link) None second = Err (failing LinkField (Some link) None second)
-link1_from voice None first second = Err (failing {X = LinkControl} LinkField None first second)
+unfoldable pub ldu1_from : List VoiceFrame → Option LinkControl → Option ℕ → Option ℕ → Result VoiceUnit (List Field)
+ldu1_from voice (Some link) (Some first) (Some second) = Ok (Link1 link (first ∷ second ∷ []) voice)
+ldu1_from voice (Some link) (Some first) None = Err (failing LinkField (Some link) (Some first) None)
+ldu1_from voice (Some link) None second = Err (failing LinkField (Some link) None second)
+ldu1_from voice None first second = Err (failing {X = LinkControl} LinkField None first second)
 
-unfoldable pub link2_from : List VoiceFrame → Option EncryptionSync → Option ℕ → Option ℕ → Result VoiceUnit (List Field)
-link2_from voice (Some sync) (Some first) (Some second) = Ok (Link2 sync (first ∷ second ∷ []) voice)
-link2_from voice (Some sync) (Some first) None = Err (failing SyncField (Some sync) (Some first) None)
-link2_from voice (Some sync) None second = Err (failing SyncField (Some sync) None second)
-link2_from voice None first second = Err (failing {X = EncryptionSync} SyncField None first second)
+unfoldable pub ldu2_from : List VoiceFrame → Option EncryptionSync → Option ℕ → Option ℕ → Result VoiceUnit (List Field)
+ldu2_from voice (Some sync) (Some first) (Some second) = Ok (Link2 sync (first ∷ second ∷ []) voice)
+ldu2_from voice (Some sync) (Some first) None = Err (failing SyncField (Some sync) (Some first) None)
+ldu2_from voice (Some sync) None second = Err (failing SyncField (Some sync) None second)
+ldu2_from voice None first second = Err (failing {X = EncryptionSync} SyncField None first second)
 
-unfoldable pub end_link_from : Option LinkControl → Result VoiceUnit (List Field)
-end_link_from (Some link) = Ok (EndLink link)
-end_link_from None = Err (LinkField ∷ [])
+unfoldable pub tdulc_from : Option LinkControl → Result VoiceUnit (List Field)
+tdulc_from (Some link) = Ok (EndLink link)
+tdulc_from None = Err (LinkField ∷ [])
 
 -- units by their bits
-unfoldable pub link1_in : List Bool → Result VoiceUnit (List Field)
-link1_in plain = link1_from (voice_in plain) (link_in link_layout plain) (low_in 0 plain) (low_in 1 plain)
+unfoldable pub ldu1_in : List Bool → Result VoiceUnit (List Field)
+ldu1_in plain = ldu1_from (voice_in plain) (link_in link_layout plain) (low_in 0 plain) (low_in 1 plain)
 
-unfoldable pub link2_in : List Bool → Result VoiceUnit (List Field)
-link2_in plain = link2_from (voice_in plain) (sync_in plain) (low_in 0 plain) (low_in 1 plain)
+unfoldable pub ldu2_in : List Bool → Result VoiceUnit (List Field)
+ldu2_in plain = ldu2_from (voice_in plain) (sync_in plain) (low_in 0 plain) (low_in 1 plain)
 
 -- the unit that bits without status symbols read as where the identifier has a DUID, or else exactly the fields that fail.
 -- DUIDs of no voice unit are not read
@@ -105,6 +105,6 @@ unfoldable pub voice_reading_of : ℕ → List Bool → Result VoiceUnit (List F
 voice_reading_of duid plain =
     cond (nat_eq duid 0) (header_from (header_in plain)) (
     cond (nat_eq duid 3) (Ok End) (
-    cond (nat_eq duid 5) (link1_in plain) (
-    cond (nat_eq duid 10) (link2_in plain) (
-    cond (nat_eq duid 15) (end_link_from (link_in end_link_layout plain)) (Err [])))))
+    cond (nat_eq duid 5) (ldu1_in plain) (
+    cond (nat_eq duid 10) (ldu2_in plain) (
+    cond (nat_eq duid 15) (tdulc_from (link_in tdulc_layout plain)) (Err [])))))

@@ -6,13 +6,13 @@ use Rattle.p25_coded_fields.specs.Layouts.{Layout}
 use Rattle.p25_coded_fields.specs.Within.{IsFieldNear, lost_symbols}
 use Rattle.p25_voice_units.specs.declared.unit.VoiceUnit.{VoiceUnit}
 use Rattle.p25_voice_units.specs.declared.unit.VoiceUnit.TheVariants.{Header, Link1, Link2, End, EndLink}
-use Rattle.p25_voice_units.specs.Layouts.{link_rows}
-use Rattle.p25_voice_units.specs.FieldLayouts.{header_layout, link_layout, sync_layout, end_link_layout}
+use Rattle.p25_voice_units.specs.Layouts.{ldu_rows}
+use Rattle.p25_voice_units.specs.FieldLayouts.{header_layout, link_layout, sync_layout, tdulc_layout}
 use Rattle.p25_voice_units.specs.Readings.{low_places, voice_in}
 
 -- at most two bits of each low speed word are wrong
 abbrev pub AreLowWithin : List Bool → List Bool → Type 0
-AreLowWithin sent received = All (λ at. distance_of (part at 16 received) (part at 16 sent) ≤ 2) (low_places link_rows)
+AreLowWithin sent received = All (λ at. distance_of (part at 16 received) (part at 16 sent) ≤ 2) (low_places ldu_rows)
 
 -- of a unit with voice: the coded field costs at most so much, and so few bits of the low speed words are wrong
 pub record IsLinkWithin (checks : ℕ) (layout : Layout) (sent received : List Bool) : Type 0 where
@@ -26,7 +26,7 @@ IsVoiceWithin (Header word) sent received = IsFieldNear 16 header_layout sent re
 IsVoiceWithin (Link1 link low voice) sent received = IsLinkWithin 12 link_layout sent received
 IsVoiceWithin (Link2 sync low voice) sent received = IsLinkWithin 8 sync_layout sent received
 IsVoiceWithin End sent received = Unit {0}
-IsVoiceWithin (EndLink link) sent received = IsFieldNear 12 end_link_layout sent received
+IsVoiceWithin (EndLink link) sent received = IsFieldNear 12 tdulc_layout sent received
 
 -- the unit with the voice frames as received
 abbrev pub received_voice : VoiceUnit → List Bool → VoiceUnit
@@ -41,10 +41,10 @@ pub record IsLinkWithinByWords (most : ℕ) (layout : Layout) (sent received : L
   pub field : lost_symbols 1 layout sent received ≤ most
   pub low : AreLowWithin sent received
 
--- the same of each kind, where more is asked: the symbols that are lost are at most the radius of the outer code
+-- bits within radius of a unit's own, where more is asked than has to be: the symbols that are lost are at most the radius of the outer code
 unfoldable pub IsVoiceWithinByWords : VoiceUnit → List Bool → List Bool → Type 0
 IsVoiceWithinByWords (Header word) sent received = lost_symbols 3 header_layout sent received ≤ 8
 IsVoiceWithinByWords (Link1 link low voice) sent received = IsLinkWithinByWords 6 link_layout sent received
 IsVoiceWithinByWords (Link2 sync low voice) sent received = IsLinkWithinByWords 4 sync_layout sent received
 IsVoiceWithinByWords End sent received = Unit {0}
-IsVoiceWithinByWords (EndLink link) sent received = lost_symbols 3 end_link_layout sent received ≤ 6
+IsVoiceWithinByWords (EndLink link) sent received = lost_symbols 3 tdulc_layout sent received ≤ 6

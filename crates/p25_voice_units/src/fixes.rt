@@ -5,11 +5,11 @@ ghost use Rattle.p25_bits.specs.Distance.{distance_of};
 ghost use Rattle.p25_voice_units.specs.Fixes.{wide, link_looked, bits_at, voice_fixes_of};
 ghost use Rattle.p25_voice_units.specs.Lengths.{voice_duid, voice_length_of};
 
-use crate::places::{END_LINK_WORDS, HEADER_WORDS, LINK_WORDS, LOW_WORDS};
+use crate::places::{HDU_WORDS, LDU_WORDS, LOW_WORDS, TDULC_WORDS};
 use crate::unit::VoiceUnit;
 use p25_bits::BitBuf;
 
-/// Answers in how many of a unit's looked-at places behind its front received bits differ from the unit's image, both
+/// Answers in how many of a unit's looked-at places after its front received bits differ from the unit's image, both
 /// without status symbols: in its inner words and its low speed words. TIA-102.BAAA, Voice Data Units.
 pub fn voice_fixes(unit: &VoiceUnit, received: &BitBuf, image: &BitBuf) -> u32
     requires received { voice_length_of (voice_duid unit.now) ≡ Some (length received.now) }
@@ -18,22 +18,22 @@ pub fn voice_fixes(unit: &VoiceUnit, received: &BitBuf, image: &BitBuf) -> u32
     ensures most { result ≤ 1680 }
 {
     match unit {
-        VoiceUnit::Header(_) => differing(&HEADER_WORDS, 18, received, image),
+        VoiceUnit::Header(_) => differing(&HDU_WORDS, 18, received, image),
         VoiceUnit::Link1 { .. } => link_fixes(received, image),
         VoiceUnit::Link2 { .. } => link_fixes(received, image),
         VoiceUnit::End => 0,
-        VoiceUnit::EndLink { .. } => differing(&END_LINK_WORDS, 24, received, image),
+        VoiceUnit::EndLink { .. } => differing(&TDULC_WORDS, 24, received, image),
     }
 }
 
-// The same for a unit with voice.
+// Counts the wrong bits of the words of an LDU.
 fn link_fixes(received: &BitBuf, image: &BitBuf) -> u32
     requires received { 1680 ≤ length received.now }
     requires image { 1680 ≤ length image.now }
     ensures value { result ≡ distance_of (bits_at link_looked received.now) (bits_at link_looked image.now) }
     ensures most { result ≤ 272 }
 {
-    differing(&LINK_WORDS, 10, received, image) + differing(&LOW_WORDS, 16, received, image)
+    differing(&LDU_WORDS, 10, received, image) + differing(&LOW_WORDS, 16, received, image)
 }
 
 // In how many places so many bits at each of some places differ.

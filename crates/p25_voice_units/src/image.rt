@@ -4,7 +4,7 @@ ghost use Rattle.std.specs.Prelude.{All, ◌≡◌, ◌+◌, ◌*◌, ◌/◌, �
 ghost use Rattle.std.specs.List.{list_all};
 ghost use Rattle.p25_coded_fields.specs.Written.{Encodes};
 ghost use Rattle.p25_bits.specs.Bits.{bits_of, octet_bits};
-ghost use Rattle.p25_voice_units.specs.declared.unit.VoiceUnit.TheVariants.{Header as header_unit, Link1 as link1_unit, Link2 as link2_unit, End as end_unit, EndLink as end_link_unit};
+ghost use Rattle.p25_voice_units.specs.declared.unit.VoiceUnit.TheVariants.{Header as header_unit, Link1 as ldu1_unit, Link2 as ldu2_unit, End as end_unit, EndLink as tdulc_unit};
 ghost use Rattle.p25_voice_units.specs.Images.{piece_bits, rows_bits, contents, lsd16_word, voice_body, voice_image_of};
 ghost use Rattle.p25_voice_units.specs.Lengths.{voice_duid, voice_length_of};
 ghost use Rattle.p25_voice_units.specs.Readings.{voice_reading_of};
@@ -12,7 +12,7 @@ ghost use Rattle.p25_voice_units.specs.Pieces.{piece_fits, piece_length};
 ghost use Rattle.p25_voice_units.specs.Sendable.{IsSendableVoice, IsSpeech, IsVoiceFrame};
 ghost use Rattle.p25_link.specs.Words.{IsHeaderWord, IsLinkControl, IsEncryptionSync};
 
-use crate::layout::{END_LINK_ROWS, END_ROWS, HEADER_ROWS, LINK_ROWS, Piece};
+use crate::layout::{HDU_ROWS, LDU_ROWS, Piece, TDU_ROWS, TDULC_ROWS};
 use crate::unit::VoiceUnit;
 use crate::voice::{Voice, VoiceFrame};
 use p25_bch_nid::Nid;
@@ -99,7 +99,7 @@ fn put_rows<I: BlockCode<Letter = bool>>(
     }
 }
 
-// Appends what stands behind the front of a header.
+// Appends what stands after the front of a header.
 fn put_header(word: &HeaderWord, out: &mut BitBuf)
     requires { length out.old + 658 ≤ 25928 }
     ensures list { out.new ≡ out.old ++ voice_body (header_unit word.now) }
@@ -108,13 +108,13 @@ fn put_header(word: &HeaderWord, out: &mut BitBuf)
 {
     let mut symbols = [Sym::ZERO; 36];
     Rs::<36, 20>::encode(&word.symbols(), &mut symbols);
-    put_rows::<Golay18>(&HEADER_ROWS, &symbols, &[], &[], out);
+    put_rows::<Golay18>(&HDU_ROWS, &symbols, &[], &[], out);
 }
 
-// Appends what stands behind the front of voice with link control.
-fn put_link1(link: &LinkControl, low: &[u8; 2], voice: &Voice, out: &mut BitBuf)
+// Appends what stands after the front of voice with link control.
+fn put_ldu1(link: &LinkControl, low: &[u8; 2], voice: &Voice, out: &mut BitBuf)
     requires { length out.old + 1568 ≤ 25928 }
-    ensures list { out.new ≡ out.old ++ voice_body (link1_unit link.now low.now voice.now) }
+    ensures list { out.new ≡ out.old ++ voice_body (ldu1_unit link.now low.now voice.now) }
     ensures len { length out.new ≡ length out.old + 1568 }
     ensures link { IsLinkControl link.now }
     ensures speech { IsSpeech low.now voice.now }
@@ -122,13 +122,13 @@ fn put_link1(link: &LinkControl, low: &[u8; 2], voice: &Voice, out: &mut BitBuf)
     fit_speech(low, voice);
     let mut symbols = [Sym::ZERO; 24];
     Rs::<24, 12>::encode(&link.symbols(), &mut symbols);
-    put_rows::<Hamming10>(&LINK_ROWS, &symbols, low, voice.frames(), out);
+    put_rows::<Hamming10>(&LDU_ROWS, &symbols, low, voice.frames(), out);
 }
 
-// Appends what stands behind the front of voice with encryption sync.
-fn put_link2(sync: &EncryptionSync, low: &[u8; 2], voice: &Voice, out: &mut BitBuf)
+// Appends what stands after the front of voice with encryption sync.
+fn put_ldu2(sync: &EncryptionSync, low: &[u8; 2], voice: &Voice, out: &mut BitBuf)
     requires { length out.old + 1568 ≤ 25928 }
-    ensures list { out.new ≡ out.old ++ voice_body (link2_unit sync.now low.now voice.now) }
+    ensures list { out.new ≡ out.old ++ voice_body (ldu2_unit sync.now low.now voice.now) }
     ensures len { length out.new ≡ length out.old + 1568 }
     ensures sync { IsEncryptionSync sync.now }
     ensures speech { IsSpeech low.now voice.now }
@@ -136,45 +136,45 @@ fn put_link2(sync: &EncryptionSync, low: &[u8; 2], voice: &Voice, out: &mut BitB
     fit_speech(low, voice);
     let mut symbols = [Sym::ZERO; 24];
     Rs::<24, 16>::encode(&sync.symbols(), &mut symbols);
-    put_rows::<Hamming10>(&LINK_ROWS, &symbols, low, voice.frames(), out);
+    put_rows::<Hamming10>(&LDU_ROWS, &symbols, low, voice.frames(), out);
 }
 
-// Appends what stands behind the front of a terminator.
+// Appends what stands after the front of a terminator.
 fn put_end(out: &mut BitBuf)
     requires { length out.old + 28 ≤ 25928 }
     ensures list { out.new ≡ out.old ++ voice_body end_unit }
     ensures len { length out.new ≡ length out.old + 28 }
 {
-    put_rows::<Golay18>(&END_ROWS, &[], &[], &[], out);
+    put_rows::<Golay18>(&TDU_ROWS, &[], &[], &[], out);
 }
 
-// Appends what stands behind the front of a terminator with link control.
-fn put_end_link(link: &LinkControl, out: &mut BitBuf)
+// Appends what stands after the front of a terminator with link control.
+fn put_tdulc(link: &LinkControl, out: &mut BitBuf)
     requires { length out.old + 308 ≤ 25928 }
-    ensures list { out.new ≡ out.old ++ voice_body (end_link_unit link.now) }
+    ensures list { out.new ≡ out.old ++ voice_body (tdulc_unit link.now) }
     ensures len { length out.new ≡ length out.old + 308 }
     ensures sound { IsLinkControl link.now }
 {
     let mut symbols = [Sym::ZERO; 24];
     Rs::<24, 12>::encode(&link.symbols(), &mut symbols);
-    put_rows::<Golay24>(&END_LINK_ROWS, &symbols, &[], &[], out);
+    put_rows::<Golay24>(&TDULC_ROWS, &symbols, &[], &[], out);
 }
 
-// Does nothing: its contract says that octets fit.
+// Its contract says that octets fit.
 fn fit(octets: &[u8])
     ensures { All (λ octet. octet < 256) octets.now }
 {
     let _ = octets.len();
 }
 
-// Does nothing: its contract says what a voice frame keeps.
+// Its contract says what a voice frame keeps.
 fn fit_frame(frame: &VoiceFrame)
     ensures { IsVoiceFrame frame.now }
 {
     fit(&frame.0);
 }
 
-// Does nothing: its contract says what low speed data and voice keep.
+// Its contract says what low speed data and voice keep.
 fn fit_speech(low: &[u8; 2], voice: &Voice)
     ensures { IsSpeech low.now voice.now }
 {
@@ -184,7 +184,7 @@ fn fit_speech(low: &[u8; 2], voice: &Voice)
     }
 }
 
-// Appends what stands behind the front of a unit.
+// Appends what stands after the front of a unit.
 fn put_body(unit: &VoiceUnit, out: &mut BitBuf)
     requires { length out.old ≡ 112 }
     ensures list { out.new ≡ out.old ++ voice_body unit.now }
@@ -193,10 +193,10 @@ fn put_body(unit: &VoiceUnit, out: &mut BitBuf)
 {
     match unit {
         VoiceUnit::Header(word) => put_header(word, out),
-        VoiceUnit::Link1 { link, low, voice } => put_link1(link, low, voice, out),
-        VoiceUnit::Link2 { sync, low, voice } => put_link2(sync, low, voice, out),
+        VoiceUnit::Link1 { link, low, voice } => put_ldu1(link, low, voice, out),
+        VoiceUnit::Link2 { sync, low, voice } => put_ldu2(sync, low, voice, out),
         VoiceUnit::End => put_end(out),
-        VoiceUnit::EndLink { link } => put_end_link(link, out),
+        VoiceUnit::EndLink { link } => put_tdulc(link, out),
     }
 }
 

@@ -28,7 +28,7 @@ const HEADER_BITS: [u64; 13] = [
     0x0000,
 ];
 
-// Those of a header whose word is 0.
+// The bits of an HDU whose header word is 0.
 const EMPTY_HEADER_BITS: [u64; 13] = [
     0x5575_F5FF_77FF_0000,
     0x0000,
@@ -45,10 +45,10 @@ const EMPTY_HEADER_BITS: [u64; 13] = [
     0x0000,
 ];
 
-// Those of a terminator.
+// The bits of a TDU.
 const END_BITS: [u64; 3] = [0x5575_F5FF_77FF_FFF3, 0x26CF_422C_4D4E_0000, 0x0000];
 
-// Those of a terminator with link control.
+// The bits of a TDULC.
 const END_LINK_BITS: [u64; 7] = [
     0x5575_F5FF_77FF_123F,
     0xADC3_CF2A_9192_0095,
@@ -59,7 +59,7 @@ const END_LINK_BITS: [u64; 7] = [
     0x0000_000B_8BA0_0000,
 ];
 
-// Those of voice with link control, whose octets count on.
+// The bits of an LDU1 whose octets count on.
 const COUNTED_LINK_BITS: [u64; 27] = [
     0x5575_F5FF_77FF_2935,
     0x55EF_2C65_3437_0001,
@@ -90,7 +90,7 @@ const COUNTED_LINK_BITS: [u64; 27] = [
     0xA0A1,
 ];
 
-// The same where all bits of what it carries are 1.
+// The bits of an LDU1 where all bits of what it carries are 1.
 const ONES_LINK_BITS: [u64; 27] = [
     0x5575_F5FF_77FF_FFF5,
     0x4A57_1CC5_9417_FFFF,
@@ -121,7 +121,7 @@ const ONES_LINK_BITS: [u64; 27] = [
     0xFFFF,
 ];
 
-// Those of voice with encryption sync, whose octets count on.
+// The bits of an LDU2 whose octets count on.
 const SYNC_BITS: [u64; 27] = [
     0x5575_F5FF_77FF_F7EA,
     0x7F32_A167_2919_0001,

@@ -3,7 +3,7 @@
 
 ghost use Rattle.std.specs.Prelude.{◌≡◌, ◌↔◌, ◌+◌, ◌*◌, ◌%◌, ◌≤◌, ℕ, Bool, List, Some, length, Ok};
 ghost use Rattle.p25_voice_units.specs.declared.unit.VoiceUnit.{VoiceUnit};
-ghost use Rattle.p25_voice_units.specs.Layouts.{header_rows, link_rows, end_rows, end_link_rows};
+ghost use Rattle.p25_voice_units.specs.Layouts.{hdu_rows, ldu_rows, tdu_rows, tdulc_rows};
 ghost use Rattle.p25_voice_units.specs.FieldLayouts.{word_places};
 ghost use Rattle.p25_voice_units.specs.Images.{voice_image_of};
 ghost use Rattle.p25_voice_units.specs.Places.{IsVoiceImage};
@@ -12,10 +12,10 @@ ghost use Rattle.p25_voice_units.specs.Sendable.{IsSendableVoice};
 ghost use Rattle.p25_voice_units.specs.Readings.{voice_reading_of, frame_places, low_places};
 ghost use Rattle.p25_voice_units.specs.WithinRadius.{IsVoiceWithin, IsVoiceWithinByWords, received_voice};
 
-use super::layout::{END_LINK_ROWS, END_ROWS, HEADER_ROWS, LINK_ROWS};
-use super::places::{END_LINK_WORDS, FRAMES, HEADER_WORDS, LINK_WORDS, LOW_WORDS};
+use super::layout::{HDU_ROWS, LDU_ROWS, TDU_ROWS, TDULC_ROWS};
+use super::places::{FRAMES, HDU_WORDS, LDU_WORDS, LOW_WORDS, TDULC_WORDS};
 
-/// Does nothing: its contract is the laws of the bits of voice units.
+/// **Theorem.** The laws of the bits of voice units.
 ///
 /// - `form`: a unit's bits are exactly those that stand as its kind says by places.
 /// - `fills`: a unit's bits are as many as its kind has.
@@ -52,17 +52,17 @@ pub fn radius_laws()
 
 /// **Theorem.** The layouts are those of the definitions.
 pub fn layouts()
-    ensures header { HEADER_ROWS ≡ header_rows }
-    ensures link { LINK_ROWS ≡ link_rows }
-    ensures end { END_ROWS ≡ end_rows }
-    ensures end_link { END_LINK_ROWS ≡ end_link_rows }
+    ensures header { HDU_ROWS ≡ hdu_rows }
+    ensures link { LDU_ROWS ≡ ldu_rows }
+    ensures end { TDU_ROWS ≡ tdu_rows }
+    ensures tdulc { TDULC_ROWS ≡ tdulc_rows }
 {}
 
 /// **Theorem.** The places are those of the layouts.
 pub fn part_places()
-    ensures header { HEADER_WORDS ≡ word_places 18 header_rows }
-    ensures link { LINK_WORDS ≡ word_places 10 link_rows }
-    ensures end_link { END_LINK_WORDS ≡ word_places 24 end_link_rows }
-    ensures low { LOW_WORDS ≡ low_places link_rows }
-    ensures frames { FRAMES ≡ frame_places link_rows }
+    ensures header { HDU_WORDS ≡ word_places 18 hdu_rows }
+    ensures link { LDU_WORDS ≡ word_places 10 ldu_rows }
+    ensures tdulc { TDULC_WORDS ≡ word_places 24 tdulc_rows }
+    ensures low { LOW_WORDS ≡ low_places ldu_rows }
+    ensures frames { FRAMES ≡ frame_places ldu_rows }
 {}

@@ -1,9 +1,9 @@
-//! Where the parts of voice units stand behind their front, without status symbols. TIA-102.BAAA, Voice Data Units.
+//! Where the parts of voice units stand after their front, without status symbols. TIA-102.BAAA, Voice Data Units.
 
 /// What stands at a place of a voice unit.
 #[derive(Clone, Copy, Debug, PartialEq, Eq)]
 pub enum Piece {
-    /// Inner words of the unit's coded field, one behind the other: the number of the first among all, from 0, and how many.
+    /// Inner words of the unit's coded field, one after the other: the number of the first among all, from 0, and how many.
     Words(usize, usize),
     /// The voice frame of a number, from 0.
     Frame(usize),
@@ -15,10 +15,10 @@ pub enum Piece {
 
 /// The layout of a header: a place, counted from the first sync bit, and what stands there. Its inner words are Golay (18,6)
 /// words.
-pub const HEADER_ROWS: [(usize, Piece); 2] = [(112, Piece::Words(0, 36)), (760, Piece::Nulls(10))];
+pub const HDU_ROWS: [(usize, Piece); 2] = [(112, Piece::Words(0, 36)), (760, Piece::Nulls(10))];
 
 /// The layout of voice with link control or encryption sync. Its inner words are Hamming (10,6) words.
-pub const LINK_ROWS: [(usize, Piece); 17] = [
+pub const LDU_ROWS: [(usize, Piece); 17] = [
     (112, Piece::Frame(0)),
     (256, Piece::Frame(1)),
     (400, Piece::Words(0, 4)),
@@ -39,10 +39,7 @@ pub const LINK_ROWS: [(usize, Piece); 17] = [
 ];
 
 /// The layout of a terminator.
-pub const END_ROWS: [(usize, Piece); 1] = [(112, Piece::Nulls(28))];
+pub const TDU_ROWS: [(usize, Piece); 1] = [(112, Piece::Nulls(28))];
 
 /// The layout of a terminator with link control. Its inner words are Golay (24,12) words.
-pub const END_LINK_ROWS: [(usize, Piece); 2] = [
-    (112, Piece::Words(0, 12)),
-    (400, Piece::Nulls(20)),
-];
+pub const TDULC_ROWS: [(usize, Piece); 2] = [(112, Piece::Words(0, 12)), (400, Piece::Nulls(20))];

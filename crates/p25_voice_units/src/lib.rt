@@ -3,7 +3,7 @@
 //! The first bit of a list is the first that is sent. A voice unit begins with its front, the frame sync and the network
 //! identifier, whose DUID tells its kind:
 //!
-//! | DUID | kind | bits | behind the front |
+//! | DUID | kind | bits | after the front |
 //! |---|---|---|---|
 //! | 0 | header | 770 | the header word, 36 symbols in as many Golay (18,6) words; nulls |
 //! | 5 | voice with link control | 1,680 | nine voice frames; link control, 24 symbols in as many Hamming (10,6) words; two low speed words |
@@ -11,7 +11,7 @@
 //! | 3 | terminator | 140 | nulls |
 //! | F hex | terminator with link control | 420 | link control, 24 symbols in twelve Golay (24,12) words; nulls |
 //!
-//! Where each part stands is a table for each kind, as `LINK_ROWS`. Voice frames are carried as they are and not decoded.
+//! Where each part stands is a table for each kind, as `LDU_ROWS`. Voice frames are carried as they are and not decoded.
 //!
 //! ```text
 //! let unit = VoiceUnit::EndLink { link: LinkControl([0; 9]) };
@@ -43,8 +43,8 @@ mod voice;
 
 pub use fixes::voice_fixes;
 pub use image::voice_image;
-pub use layout::{END_LINK_ROWS, END_ROWS, HEADER_ROWS, LINK_ROWS, Piece};
-pub use places::{END_LINK_WORDS, HEADER_WORDS, LINK_WORDS, LOW_WORDS};
+pub use layout::{HDU_ROWS, LDU_ROWS, Piece, TDU_ROWS, TDULC_ROWS};
+pub use places::{HDU_WORDS, LDU_WORDS, LOW_WORDS, TDULC_WORDS};
 pub use read::read_voice;
 pub use unit::{VoiceUnit, voice_length};
 pub use voice::{Voice, VoiceFrame};

@@ -4,14 +4,15 @@ ghost use Rattle.std.specs.Prelude.{◌≡◌, ◌+◌, ◌*◌, ◌/◌, ◌<�
 ghost use Rattle.p25_reed_solomon.specs.Words.{IsCode};
 ghost use Rattle.p25_reed_solomon.specs.RsReadings.{rs_marked_reading_of};
 ghost use Rattle.p25_coded_fields.specs.Layouts.{Layout, field_layout, field_reading_of};
-ghost use Rattle.p25_voice_units.specs.FieldLayouts.{header_layout, link_layout, sync_layout, end_link_layout};
-ghost use Rattle.p25_voice_units.specs.Layouts.{link_rows};
+ghost use Rattle.p25_voice_units.specs.FieldLayouts.{header_layout, link_layout, sync_layout, tdulc_layout};
+ghost use Rattle.p25_voice_units.specs.Layouts.{ldu_rows};
 ghost use Rattle.p25_voice_units.specs.Lengths.{voice_length_of};
-ghost use Rattle.p25_voice_units.specs.Readings.{frame_in, voice_in, low_places, low_in, header_in, link_in, sync_in, missing, failing, header_from, link1_in, link2_in, end_link_from, voice_reading_of};
+ghost use Rattle.p25_voice_units.specs.Readings.{frame_in, voice_in, low_places, low_in, header_in, link_in, sync_in, missing, failing, header_from, ldu1_in, ldu2_in, tdulc_from, voice_reading_of};
 
-use crate::places::{END_LINK_WORDS, FRAMES, HEADER_WORDS, LINK_WORDS, LOW_WORDS};
+use crate::places::{FRAMES, HDU_WORDS, LDU_WORDS, LOW_WORDS, TDULC_WORDS};
 use crate::unit::VoiceUnit;
 use crate::voice::{Voice, VoiceFrame};
+use p25_bch_nid::{HDU, LDU1, LDU2, TDU, TDULC};
 use p25_bits::{BitBuf, number_of, put_number};
 use p25_code::{BlockCode, Reading, read_received};
 use p25_coded_fields::read_field;
@@ -52,7 +53,7 @@ fn read_header_word(plain: &BitBuf) -> Option<HeaderWord>
     requires { 770 ≤ length plain.now }
     ensures { result ≡ header_in plain.now }
 {
-    match read_symbols::<Golay18, 36, 20>(plain, &HEADER_WORDS) {
+    match read_symbols::<Golay18, 36, 20>(plain, &HDU_WORDS) {
         Some(symbols) => Some(HeaderWord::from_symbols(&symbols)),
         None => None,
     }
@@ -63,7 +64,7 @@ fn read_link_control(plain: &BitBuf) -> Option<LinkControl>
     requires { 1680 ≤ length plain.now }
     ensures { result ≡ link_in link_layout plain.now }
 {
-    match read_symbols::<Hamming10, 24, 12>(plain, &LINK_WORDS) {
+    match read_symbols::<Hamming10, 24, 12>(plain, &LDU_WORDS) {
         Some(symbols) => Some(LinkControl::from_symbols(&symbols)),
         None => None,
     }
@@ -74,7 +75,7 @@ fn read_encryption_sync(plain: &BitBuf) -> Option<EncryptionSync>
     requires { 1680 ≤ length plain.now }
     ensures { result ≡ sync_in plain.now }
 {
-    match read_symbols::<Hamming10, 24, 16>(plain, &LINK_WORDS) {
+    match read_symbols::<Hamming10, 24, 16>(plain, &LDU_WORDS) {
         Some(symbols) => Some(EncryptionSync::from_symbols(&symbols)),
         None => None,
     }
@@ -83,9 +84,9 @@ fn read_encryption_sync(plain: &BitBuf) -> Option<EncryptionSync>
 // The link control of a terminator.
 fn read_end_control(plain: &BitBuf) -> Option<LinkControl>
     requires { 420 ≤ length plain.now }
-    ensures { result ≡ link_in end_link_layout plain.now }
+    ensures { result ≡ link_in tdulc_layout plain.now }
 {
-    match read_symbols::<Golay24, 24, 12>(plain, &END_LINK_WORDS) {
+    match read_symbols::<Golay24, 24, 12>(plain, &TDULC_WORDS) {
         Some(symbols) => Some(LinkControl::from_symbols(&symbols)),
         None => None,
     }
@@ -154,15 +155,6 @@ fn failing_of<T>(
     fields
 }
 
-// A list of one field.
-fn one_field(field: Field) -> FieldList
-    ensures { result ≡ field ∷ [] }
-{
-    let mut fields = FieldList::new();
-    fields.push(field);
-    fields
-}
-
 // A header.
 fn read_header(plain: &BitBuf) -> Result<VoiceUnit, FieldList>
     requires { 770 ≤ length plain.now }
@@ -170,14 +162,14 @@ fn read_header(plain: &BitBuf) -> Result<VoiceUnit, FieldList>
 {
     match read_header_word(plain) {
         Some(word) => Ok(VoiceUnit::Header(word)),
-        None => Err(one_field(Field::HeaderWord)),
+        None => Err(FieldList::one(Field::HeaderWord)),
     }
 }
 
 // Voice with link control.
-fn read_link1(plain: &BitBuf) -> Result<VoiceUnit, FieldList>
+fn read_ldu1(plain: &BitBuf) -> Result<VoiceUnit, FieldList>
     requires { 1680 ≤ length plain.now }
-    ensures { result ≡ link1_in plain.now }
+    ensures { result ≡ ldu1_in plain.now }
 {
     let link = read_link_control(plain);
     let first = read_low(plain, 0);
@@ -201,9 +193,9 @@ fn read_link1(plain: &BitBuf) -> Result<VoiceUnit, FieldList>
 }
 
 // Voice with encryption sync.
-fn read_link2(plain: &BitBuf) -> Result<VoiceUnit, FieldList>
+fn read_ldu2(plain: &BitBuf) -> Result<VoiceUnit, FieldList>
     requires { 1680 ≤ length plain.now }
-    ensures { result ≡ link2_in plain.now }
+    ensures { result ≡ ldu2_in plain.now }
 {
     let sync = read_encryption_sync(plain);
     let first = read_low(plain, 0);
@@ -227,13 +219,13 @@ fn read_link2(plain: &BitBuf) -> Result<VoiceUnit, FieldList>
 }
 
 // A terminator with link control.
-fn read_end_link(plain: &BitBuf) -> Result<VoiceUnit, FieldList>
+fn read_tdulc(plain: &BitBuf) -> Result<VoiceUnit, FieldList>
     requires { 420 ≤ length plain.now }
-    ensures { result ≡ end_link_from (link_in end_link_layout plain.now) }
+    ensures { result ≡ tdulc_from (link_in tdulc_layout plain.now) }
 {
     match read_end_control(plain) {
         Some(link) => Ok(VoiceUnit::EndLink { link }),
-        None => Err(one_field(Field::LinkControl)),
+        None => Err(FieldList::one(Field::LinkControl)),
     }
 }
 
@@ -250,11 +242,11 @@ pub fn read_voice(duid: u8, plain: &BitBuf) -> Result<VoiceUnit, FieldList>
     ensures { result ≡ voice_reading_of duid plain.now }
 {
     match duid {
-        0 => read_header(plain),
-        3 => Ok(VoiceUnit::End),
-        5 => read_link1(plain),
-        10 => read_link2(plain),
-        15 => read_end_link(plain),
+        HDU => read_header(plain),
+        TDU => Ok(VoiceUnit::End),
+        LDU1 => read_ldu1(plain),
+        LDU2 => read_ldu2(plain),
+        TDULC => read_tdulc(plain),
         _ => Err(FieldList::new()),
     }
 }

@@ -107,7 +107,7 @@ fn header(octet: u8) -> VoiceUnit {
 }
 
 // Its last voice frame begins with an octet.
-fn link1(octet: u8) -> VoiceUnit {
+fn ldu1(octet: u8) -> VoiceUnit {
     let mut frames = [VoiceFrame([0x35; 18]); 9];
     frames[8].0[0] = octet;
     VoiceUnit::Link1 {
@@ -117,7 +117,7 @@ fn link1(octet: u8) -> VoiceUnit {
     }
 }
 
-fn link2() -> VoiceUnit {
+fn ldu2() -> VoiceUnit {
     VoiceUnit::Link2 {
         sync: EncryptionSync {
             mi: [0x12, 0x34, 0x56, 0x78, 0x9A, 0xBC, 0xDE, 0xF0, 0x0F],
@@ -129,7 +129,7 @@ fn link2() -> VoiceUnit {
     }
 }
 
-fn end_link() -> VoiceUnit {
+fn tdulc() -> VoiceUnit {
     VoiceUnit::EndLink {
         link: LinkControl([0x03, 0x90, 0, 0x12, 0x34, 0x56, 0x78, 0x9A, 0xBC]),
     }
@@ -178,7 +178,7 @@ fn headers(rt: HostRuntime) {
 
 #[test]
 fn voice_with_link_control(rt: HostRuntime) {
-    let unit = link1(0x35);
+    let unit = ldu1(0x35);
     // One bit of each Hamming word, two bits of each low speed word, and twelve words that are not read.
     let one_each = [
         each(400, 10, 4, 1),
@@ -216,7 +216,7 @@ fn voice_with_link_control(rt: HostRuntime) {
 
 #[test]
 fn voice_with_encryption_sync(rt: HostRuntime) {
-    let unit = link2();
+    let unit = ldu2();
     // Eight words that are not read, and one more.
     let eight = [each(1136, 10, 4, 10), each(1320, 10, 4, 10)];
     let first = low_beyond(1504);
@@ -239,7 +239,7 @@ fn voice_with_encryption_sync(rt: HostRuntime) {
 
 #[test]
 fn terminators(rt: HostRuntime) {
-    let unit = end_link();
+    let unit = tdulc();
     // Three bits of each word; three words inverted to other ones; six words that are not read, and one more.
     assert_read(&rt, &unit, &[], 0);
     assert_read(&rt, &unit, &[each(112, 24, 12, 3), run(400, 20)], 36);
@@ -252,5 +252,5 @@ fn terminators(rt: HostRuntime) {
 
 #[test]
 fn voice_is_answered_as_received(rt: HostRuntime) {
-    assert_read_as(&rt, &link1(0x35), &[run(1536, 4)], &link1(0xC5), 0, &[]);
+    assert_read_as(&rt, &ldu1(0x35), &[run(1536, 4)], &ldu1(0xC5), 0, &[]);
 }

@@ -4,14 +4,15 @@ ghost use Rattle.std.specs.Prelude.{◌≡◌, ℕ, ◌≤◌, Some};
 ghost use Rattle.p25_voice_units.specs.Lengths.{voice_duid, voice_length_of};
 
 use crate::voice::Voice;
+use p25_bch_nid::{HDU, LDU1, LDU2, TDU, TDULC};
 use p25_link::{EncryptionSync, HeaderWord, LinkControl};
 
 /// A voice unit without its network access code and status symbols.
 #[derive(Debug, Drop, PartialEq, Eq)]
 pub enum VoiceUnit {
-    /// A header, with which a call begins (TIA-102.BAAA, Header Data Unit).
+    /// HDU: a header, with which a call begins (TIA-102.BAAA, Header Data Unit).
     Header(HeaderWord),
-    /// Voice with link control (TIA-102.BAAA, Logical Link Data Unit 1).
+    /// LDU1: voice with link control (TIA-102.BAAA, Logical Link Data Unit 1).
     Link1 {
         /// The link control.
         link: LinkControl,
@@ -20,7 +21,7 @@ pub enum VoiceUnit {
         /// The voice frames.
         voice: Voice,
     },
-    /// Voice with encryption sync (TIA-102.BAAA, Logical Link Data Unit 2).
+    /// LDU2: voice with encryption sync (TIA-102.BAAA, Logical Link Data Unit 2).
     Link2 {
         /// The encryption sync.
         sync: EncryptionSync,
@@ -29,9 +30,9 @@ pub enum VoiceUnit {
         /// The voice frames.
         voice: Voice,
     },
-    /// A terminator (TIA-102.BAAA, Simple Terminator Data Unit): nulls alone stand behind its identifier.
+    /// TDU: a terminator (TIA-102.BAAA, Simple Terminator Data Unit): nulls alone stand after its identifier.
     End,
-    /// A terminator with link control (TIA-102.BAAA, Expanded Terminator Data Unit).
+    /// TDULC: a terminator with link control (TIA-102.BAAA, Expanded Terminator Data Unit).
     EndLink {
         /// The link control.
         link: LinkControl,
@@ -39,18 +40,17 @@ pub enum VoiceUnit {
 }
 
 impl VoiceUnit {
-    /// Answers the data unit identifier of the unit's kind: 0 for a header, 5 and A hex for voice with link control and with
-    /// encryption sync, 3 for a terminator and F hex for one with link control.
+    /// Answers the data unit identifier (DUID) of the unit's kind: that of HDU, LDU1, LDU2, TDU or TDULC.
     pub fn duid(&self) -> u8
         ensures value { result ≡ voice_duid self.now }
         ensures fits { result ≤ 15 }
     {
         match self {
-            VoiceUnit::Header(_) => 0,
-            VoiceUnit::Link1 { .. } => 5,
-            VoiceUnit::Link2 { .. } => 10,
-            VoiceUnit::End => 3,
-            VoiceUnit::EndLink { .. } => 15,
+            VoiceUnit::Header(_) => HDU,
+            VoiceUnit::Link1 { .. } => LDU1,
+            VoiceUnit::Link2 { .. } => LDU2,
+            VoiceUnit::End => TDU,
+            VoiceUnit::EndLink { .. } => TDULC,
         }
     }
 
@@ -77,10 +77,10 @@ pub fn voice_length(duid: u8) -> Option<usize>
     ensures { result ≡ voice_length_of duid }
 {
     match duid {
-        0 => Some(770),
-        3 => Some(140),
-        5 | 10 => Some(1680),
-        15 => Some(420),
+        HDU => Some(770),
+        TDU => Some(140),
+        LDU1 | LDU2 => Some(1680),
+        TDULC => Some(420),
         _ => None,
     }
 }

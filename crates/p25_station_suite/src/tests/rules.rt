@@ -2,10 +2,11 @@
 
 ghost use Rattle.std.specs.Prelude.{◌≤◌, length};
 
-use p25_delivery::{Heard, LLID, Message, Offer, Receiver, Reopen, Resend, Sender, SenderHeard};
+use p25_delivery::LLID;
 use p25_packet_blocks::{
     Block, Confirmed, Flags, Octets, Packet, PacketHead, Plain, Slot, Slots, flags_make,
 };
+use p25_stations::{Heard, Message, Offer, Receiver, Reopen, Resend, Sender, SenderHeard};
 use std::test::Fail;
 
 // The one block of the message 61 62 hex.

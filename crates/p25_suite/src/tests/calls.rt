@@ -1,5 +1,5 @@
 //! A call of four voice units: built, shown, counted, repaired, bridged and grouped; each read and each write fails in turn, and
-//! it is cut off behind each of its octets.
+//! it is cut off after each of its octets.
 
 ghost use Rattle.std.specs.Prelude.{◌≤◌, ◌<◌, length};
 
@@ -90,7 +90,7 @@ const LATE_ENTRY: &[u8] =
 
 const ONE_CALL: &[u8] = b"calls=1\n";
 
-// Two texts, one behind the other.
+// Two texts, one after the other.
 fn both(first: &[u8], second: &[u8]) -> Line {
     let mut text = Line::new();
     if first.len() <= 200 && second.len() <= 200 {

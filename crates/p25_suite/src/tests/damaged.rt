@@ -1,4 +1,4 @@
-//! Units with as many wrong bits as their codes correct: all units of a call at once, each kind of unit behind noise, and 200 drawn
+//! Units with as many wrong bits as their codes correct: all units of a call at once, each kind of unit after noise, and 200 drawn
 //! units end to end. Each is shown and repaired as it was sent.
 
 ghost use Rattle.std.specs.Prelude.{◌≤◌, ◌<◌, length};
@@ -13,7 +13,7 @@ use p25_line::Line;
 use p25_tool::{Outcome, run};
 use std::alloc::Global;
 
-// A unit of the call: its first octet and the one behind its last, the bits that are inverted, and what `show` says before its
+// A unit of the call: its first octet and the one after its last, the bits that are inverted, and what `show` says before its
 // line. In each, 4 bits of the sync, 11 of the identifier and its last one are wrong.
 type AtRadius = (usize, usize, &'static [Inverted], &'static [u8]);
 
@@ -87,7 +87,7 @@ fn a_call_with_each_unit_at_its_radius(rt: HostRuntime) {
     assert!(rt; writes(rt.alloc(), &[b"repair"], &room, &sent));
 }
 
-// Puts so many bits behind others, where these are few.
+// Puts so many bits after others, where these are few.
 fn put_bits(bits: &mut BitBuf, bit: bool, count: u32) {
     for _ in 0..count {
         if bits.len() < 4_000 {
@@ -96,7 +96,7 @@ fn put_bits(bits: &mut BitBuf, bit: bool, count: u32) {
     }
 }
 
-// Octets behind so many bits that are 1, with zeros behind them up to a whole octet.
+// Octets after so many bits that are 1, with zeros after them up to a whole octet.
 fn behind(noise: u32, octets: &[u8], out: &mut [u8; 257])
     requires { noise < 8 }
 {
@@ -115,7 +115,7 @@ fn behind(noise: u32, octets: &[u8], out: &mut [u8; 257])
     }
 }
 
-// What `show` writes of a unit behind noise.
+// What `show` writes of a unit after noise.
 fn shown_behind(noise: u32, unit: &Drawn, fixes: u64) -> Line
     requires { noise < 8 }
 {
@@ -130,7 +130,7 @@ fn shown_behind(noise: u32, unit: &Drawn, fixes: u64) -> Line
     text
 }
 
-// Whether a unit behind noise is shown and repaired, and then shown with no fixes.
+// Whether a unit after noise is shown and repaired, and then shown with no fixes.
 fn is_found(alloc: Global, noise: u32, unit: &Drawn) -> bool
     requires { noise < 8 }
 {

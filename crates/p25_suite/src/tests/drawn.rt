@@ -12,7 +12,7 @@ use std::alloc::Global;
 pub type Damage = (u16, u16, u16, u16, u16, u16);
 
 // A kind of unit: its line with a question mark for each drawn digit, whether the digits of nine voice frames end it, and what
-// may be wrong behind its identifier.
+// may be wrong after its identifier.
 pub type Kind = (&'static [u8], bool, &'static [Damage]);
 
 const LINK_1: [Damage; 7] = [
@@ -139,7 +139,7 @@ impl Drawn {
     }
 }
 
-// Puts a text behind another, where both are short.
+// Puts a text after another, where both are short.
 pub fn put_short(text: &mut Line, more: &[u8]) {
     if text.len() <= 4_000 && more.len() <= 4_000 {
         text.put(more);

@@ -1,4 +1,4 @@
-//! Each read and each write fails in turn, and a recording is cut off behind each of its octets.
+//! Each read and each write fails in turn, and a recording is cut off after each of its octets.
 
 ghost use Rattle.std.specs.Prelude.{◌≤◌, length};
 
@@ -17,7 +17,7 @@ const RECORDING: &[u8; 56] =
 const TEXT: &[u8; 164] = b"unit at=0 bits=144 fix=0 status=11 tdu nac=000\ngap at=144 bits=16\n\
     unit at=160 bits=144 fix=0 status=11 tdu nac=000\nunit at=304 bits=144 fix=0 status=11 tdu nac=000\n";
 
-// How many octets of the text the first octets of the recording decide. The gap is known with the sync behind it.
+// How many octets of the text the first octets of the recording decide. The gap is known with the sync after it.
 fn decided(octets: usize) -> usize {
     match octets {
         0..=17 => 0,
@@ -41,7 +41,7 @@ fn each_read_fails_in_turn(rt: HostRuntime) {
             "failing at {read}"
         );
     }
-    // No read is made behind the end.
+    // No read is made after the end.
     let call = Call {
         failing_read: 58,
         ..calm(&[b"show"], RECORDING, 1)
@@ -68,7 +68,7 @@ fn each_write_fails_in_turn(rt: HostRuntime) {
     assert!(rt; ends(rt.alloc(), &call, Outcome::Done, TEXT));
 }
 
-// The text of the recording cut off behind so many octets.
+// The text of the recording cut off after so many octets.
 #[tactic(auto, using(p25_line::proofs::DecimalLaws::decimal_short))]
 fn put_cut_text(octets: usize, out: &mut Line) {
     // How many octets of the text stand before the items that are cut off, where these begin, and whether a gap comes first.

@@ -257,7 +257,7 @@ fn line_of(confirmed: bool, line_kind: &[u8], count: u8) -> Line {
     line
 }
 
-// Puts a block of ones behind those before it, the last of a packet with a packet CRC without its last four octets.
+// Puts a block of ones after those before it, the last of a packet with a packet CRC without its last four octets.
 fn put_block(confirmed: bool, block: u8, last: bool, line: &mut Line) {
     if line.len() > 8_000 {
         return;

@@ -1,4 +1,4 @@
-//! Lines that `build` refuses, behind a line that it takes.
+//! Lines that `build` refuses, after a line that it takes.
 
 use super::{calm, ends};
 use p25_line::{Line, LineFault};

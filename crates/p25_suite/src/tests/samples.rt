@@ -13,7 +13,7 @@ use p25_tool::{Outcome, run};
 use p25_units::{Frame, Need, fixes, frame_length, image, need, read_unit};
 use p25_vectors::{SampleUnit, Sampler};
 
-// The word behind `sample`, what is written, and how the call ends.
+// The word after `sample`, what is written, and how the call ends.
 const CALLS: [(&[u8], &[u8], Outcome); 8] = [
     (b"1", b"units=1 flips=8 exact=1\n", Outcome::Done),
     (

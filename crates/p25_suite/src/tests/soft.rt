@@ -168,7 +168,7 @@ fn does(alloc: Global, word: &[u8], input: &[u8], output: &[u8]) -> bool {
     true
 }
 
-// Whether a row holds. A voice unit is broken by six words of zeros behind its identifier.
+// Whether a row holds. A voice unit is broken by six words of zeros after its identifier.
 fn holds(alloc: Global, row: &Row) -> bool {
     let mut room = [0; 128];
     let size = build(alloc, b"0", row.1, &mut room).min(128) + row.2.min(1);
@@ -230,7 +230,7 @@ fn comes_of(alloc: Global, count: usize, output: &[u8]) -> bool {
     does(alloc, b"soft", &levels[..count.min(512)], output)
 }
 
-// Whether a read of 75 of its levels that fails ends the call, behind so many octets.
+// Whether a read of 75 of its levels that fails ends the call, after so many octets.
 fn ends_at_a_fault(alloc: Global, call: u64, count: usize) -> bool {
     let levels = terminator_levels();
     let some = levels.len().min(75);
@@ -252,7 +252,7 @@ fn a_terminator_and_its_first_levels(rt: HostRuntime) {
     assert!(rt; comes_of(rt.alloc(), 0, &[]));
 }
 
-// Behind a read fault only what whole groups of four levels decide is written, and nothing is filled.
+// After a read fault only what whole groups of four levels decide is written, and nothing is filled.
 #[test]
 fn a_read_fails(rt: HostRuntime) {
     // Rows: the read that fails, and how many octets are written before.

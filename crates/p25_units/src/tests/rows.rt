@@ -113,7 +113,7 @@ const RESPONSE_NEEDS: [(usize, Need); 5] = [
     (360, Need::Length(360)),
 ];
 
-// The same for the confirmed packet of one block.
+// What the first bits of the confirmed packet of one block need.
 const CONFIRMED_NEEDS: [(usize, Need); 5] = [
     (47, Need::More(48)),
     (315, Need::More(316)),
@@ -180,7 +180,7 @@ pub(super) const NEEDS: [(&[u64], usize, &[(usize, Need)]); 14] = [
     (&TERMINATOR, 140, &TERMINATOR_NEEDS),
     (&NO_SYNC, 140, &[(144, Need::NoSync)]),
     (&FAR, 140, &[(144, Need::NoLength(Field::Nid))]),
-    // with one bit less, with all, and with more behind
+    // with one bit less, with all, and with more after
     (
         &TERMINATOR,
         210,

@@ -1,4 +1,4 @@
-use Rattle.p25_bch_nid.specs.Bch63Forms.{to_divisible, from_divisible}
+use Rattle.p25_bch_nid.specs.Bch63FormLaws.{to_divisible, from_divisible}
 use Rattle.p25_bch_nid.proofs.laws.two_forms.Goals as goal
 
 pub returns : goal.returns

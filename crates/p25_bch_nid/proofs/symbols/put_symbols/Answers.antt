@@ -1,6 +1,6 @@
 use Rattle.std.proofs.Common.{◌<◌, ◌≤◌, false, length, arith}
 use Rattle.p25_gf64.specs.Gf64.{gf64}
-use Rattle.p25_bch_nid.specs.BitValues.{bit_coefficient}
+use Rattle.p25_bch_nid.specs.BitValueLaws.{bit_coefficient}
 use Rattle.p25_bch_nid.proofs.SymbolsSteps.{filled_more, filled_all}
 use Rattle.p25_bch_nid.proofs.symbols.put_symbols.Goals as goal
 

@@ -1,5 +1,5 @@
-use Rattle.p25_delivery.proofs.LinkLaws.{facts-kept}
+use Rattle.p25_delivery.proofs.LinkLaws.{facts-kept, first-is}
 use Rattle.p25_delivery.proofs.laws.facts_are_kept.Goals as goal
 
 pub returns : goal.returns
-returns c = facts-kept
+returns c = record { facts = facts-kept; first = first-is }

@@ -1,4 +1,4 @@
-use Rattle.p25_duplex.proofs.CleanLaws.{run-orderly}
+use Rattle.p25_duplex.proofs.RunLaws.{run-orderly}
 use Rattle.p25_duplex.proofs.laws.both_directions_are_orderly.Goals as goal
 
 pub returns : goal.returns

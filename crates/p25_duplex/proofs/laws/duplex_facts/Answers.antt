@@ -1,5 +1,15 @@
-use Rattle.p25_duplex.proofs.CleanLaws.{run-carried, run-facts}
+use Rattle.std.proofs.Common.{List, refl}
+use Rattle.p25_duplex.specs.declared.side.Side.{Side}
+use Rattle.p25_duplex.specs.declared.event.DuplexEvent.{DuplexEvent}
+use Rattle.p25_duplex.specs.Sides.{other_side}
+use Rattle.p25_duplex.specs.DuplexRuns.{data_in, answer_in}
+use Rattle.p25_duplex.proofs.RunLaws.{run-clean, run-facts, run-newest}
 use Rattle.p25_duplex.proofs.laws.duplex_facts.Goals as goal
 
 pub returns : goal.returns
-returns c = record { link = run-carried; facts = run-facts }
+returns c = record {
+  clean = run-clean;
+  facts = run-facts;
+  newest_data = λ (events : List DuplexEvent) (side : Side). run-newest data_in side events refl;
+  newest_answer = λ (events : List DuplexEvent) (side : Side). run-newest answer_in (other_side side) events refl;
+}

@@ -24,7 +24,7 @@ pub returns-in-Ok-false-clause-moved : goal.returns-in-Ok-false-clause-moved
 returns-in-Ok-false-clause-moved g c =
     let written = g.K.Sink.written in
     let same = piece-none _ _ _ _ c.in-Ok-false.ensures.piece c.in-Ok-false.field-0-test in
-    subst (λ (future : Future). Moved written c.args.sink.now c.args.page.now (g.W.Worker.future c.args.worker.now) [] c.loop-page.sink c.loop-page.page future) (sym same) c.loop-page.invariant.moved
+    subst (λ (future : Future). Moved written c.args.sink.now c.args.page.now (g.W.Filter.future c.args.filter.now) [] c.loop-page.sink c.loop-page.page future) (sym same) c.loop-page.invariant.moved
 
 pub returns-in-Err-clause-stopped : goal.returns-in-Err-clause-stopped
 returns-in-Err-clause-stopped g c =

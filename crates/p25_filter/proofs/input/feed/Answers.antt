@@ -6,7 +6,7 @@ use Rattle.p25_filter.proofs.FuturesLaws.{Moved-push, Moved-trans, Moved-flush, 
 use Rattle.p25_filter.proofs.InputLaws.{stopped-after, stopped-fault}
 use Rattle.p25_filter.proofs.input.feed.Goals as goal
 
--- the first octets, and some of those behind them
+-- the first octets, and some of those after them
 more_taken : (octets : List ℕ) (done count : ℕ) → (take done octets ++ take count (take (length octets - done) (drop done octets))) ++ [] ≡ take (done + count) octets
 more_taken octets done count =
     let all : length (drop done octets) ≤ length octets - done = omega (arith, length-drop done octets) in
@@ -24,7 +24,7 @@ returns-in-Err-clause-stopped g c =
     let pushed = Moved-push written c.loop-done.sink c.loop-done.page (take count rest) _ _ c.push_some-done.ensures.moved in
     let moved = Moved-trans written _ _ _ _ _ _ _ _ _ (take done octets) (take count rest) c.loop-done.invariant.moved pushed in (
       done + count,
-      subst (λ (zs : List ℕ). IsStopped written c.args.sink.now c.args.page.now (g.W.Worker.future c.args.worker.now) zs c.in-Err.stop
+      subst (λ (zs : List ℕ). IsStopped written c.args.sink.now c.args.page.now (g.W.Filter.future c.args.filter.now) zs c.in-Err.stop
           c.drain.new.sink) (more_taken octets done count)
           (stopped-after written _ _ _ _ _ (take done octets ++ take count rest) [] _ _ c.in-Err.stop moved c.in-Err.ensures.stopped),
     )
@@ -42,11 +42,11 @@ loop-done-preserved g c =
     record {
       there = there;
       moved =
-          subst (λ (zs : List ℕ). Moved written c.args.sink.now c.args.page.now (g.W.Worker.future c.args.worker.now) zs c.drain.new.sink
-          c.drain.new.page (g.W.Worker.future c.drain.new.worker)) (more_taken octets done count)
+          subst (λ (zs : List ℕ). Moved written c.args.sink.now c.args.page.now (g.W.Filter.future c.args.filter.now) zs c.drain.new.sink
+          c.drain.new.page (g.W.Filter.future c.drain.new.filter)) (more_taken octets done count)
           (Moved-trans written _ _ _ _ _ _ _ _ _ (take done octets ++ take count rest) [] moved c.in-Ok.ensures.moved);
       drained = c.in-Ok.ensures.drained;
-      idle = subst (λ (is : _). IsIdle is (g.W.Worker.future c.drain.new.worker)) (c.drain.ensures.same ∙ c.push_some-done.ensures.going) c.in-Ok.ensures.idle;
+      idle = subst (λ (is : _). IsIdle is (g.W.Filter.future c.drain.new.filter)) (c.drain.ensures.same ∙ c.push_some-done.ensures.going) c.in-Ok.ensures.idle;
       going = c.drain.ensures.same ∙ c.push_some-done.ensures.going;
       size = omega (arith, c.drain.ensures.size, c.push_some-done.ensures.size, c.loop-done.invariant.size);
       later = omega (arith, c.drain.ensures.later, c.loop-done.invariant.later);
@@ -57,8 +57,8 @@ returns-in-Ok-flush-clause-moved g c =
     let written = g.K.Sink.written in
     let octets = c.args.octets.now in
     let all = take_all c.loop-done.done octets (omega arith) in
-    subst (λ (zs : List ℕ). Moved written c.args.sink.now c.args.page.now (g.W.Worker.future c.args.worker.now) zs c.flush.new.sink []
-    (g.W.Worker.future c.loop-done.worker)) all
+    subst (λ (zs : List ℕ). Moved written c.args.sink.now c.args.page.now (g.W.Filter.future c.args.filter.now) zs c.flush.new.sink []
+    (g.W.Filter.future c.loop-done.filter)) all
     (Moved-flush written _ _ _ _ _ _ _ _ c.loop-done.invariant.moved c.in-Ok-flush.ensures.ok c.flush.ensures.touched)
 
 pub returns-in-Err-flush-clause-stopped : goal.returns-in-Err-flush-clause-stopped

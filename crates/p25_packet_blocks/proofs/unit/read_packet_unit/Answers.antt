@@ -16,10 +16,10 @@ returns-in-None c =
     let near : distance_of (take 48 c.args.bits.now) sync_bits ≤ sync_slack = grind (arith, c.if-not-is_sync.ensures) in
     sym (packet_unit_of-nid c.args.bits.now (has_sync-yes c.args.bits.now (omega arith) near) (sym c.in-None.ensures))
 
-pub returns-then-nid-ne-PACKET_DUID : goal.returns-then-nid-ne-PACKET_DUID
-returns-then-nid-ne-PACKET_DUID c =
+pub returns-then-nid-ne-PDU : goal.returns-then-nid-ne-PDU
+returns-then-nid-ne-PDU c =
     let near : distance_of (take 48 c.args.bits.now) sync_bits ≤ sync_slack = grind (arith, c.if-not-is_sync.ensures) in
-    sym (packet_unit_of-duid c.args.bits.now (c.in-Some.nid.nac, c.in-Some.nid.duid) (has_sync-yes c.args.bits.now (omega arith) near) (sym c.in-Some.ensures) c.if-nid-ne-PACKET_DUID.true)
+    sym (packet_unit_of-duid c.args.bits.now (c.in-Some.nid.nac, c.in-Some.nid.duid) (has_sync-yes c.args.bits.now (omega arith) near) (sym c.in-Some.ensures) c.if-nid-ne-PDU.true)
 
 pub returns-in_err-packet : goal.returns-in_err-packet
 returns-in_err-packet c =
@@ -27,9 +27,9 @@ returns-in_err-packet c =
     let p = err_from_is_err_and c.from_residual.result c.from_residual.ensures.1 in
     p.1
     ∙ sym (packet_unit_of-bad c.args.bits.now (c.in-Some.nid.nac, c.in-Some.nid.duid) p.0 (has_sync-yes c.args.bits.now (omega arith) near)
-    (sym c.in-Some.ensures) c.if-nid-ne-PACKET_DUID.false (sym c.in_err-packet.ensures ∙ ap Err (sym p.2)))
+    (sym c.in-Some.ensures) c.if-nid-ne-PDU.false (sym c.in_err-packet.ensures ∙ ap Err (sym p.2)))
 
 pub returns : goal.returns
 returns c =
     let near : distance_of (take 48 c.args.bits.now) sync_bits ≤ sync_slack = grind (arith, c.if-not-is_sync.ensures) in
-    sym (packet_unit_of-good c.args.bits.now (c.in-Some.nid.nac, c.in-Some.nid.duid) c.in_ok-packet.packet (has_sync-yes c.args.bits.now (omega arith) near) (sym c.in-Some.ensures) c.if-nid-ne-PACKET_DUID.false (sym c.in_ok-packet.ensures))
+    sym (packet_unit_of-good c.args.bits.now (c.in-Some.nid.nac, c.in-Some.nid.duid) c.in_ok-packet.packet (has_sync-yes c.args.bits.now (omega arith) near) (sym c.in-Some.ensures) c.if-nid-ne-PDU.false (sym c.in_ok-packet.ensures))

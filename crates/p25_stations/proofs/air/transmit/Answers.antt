@@ -7,7 +7,7 @@ use Rattle.p25_packet_blocks.specs.Heads.{head_blocks}
 use Rattle.p25_packet_blocks.specs.Whole.{packet_head}
 use Rattle.p25_packet_blocks.specs.Lengths.{packet_parts}
 use Rattle.p25_stations.specs.Air.{station_status, transmission_of}
-use Rattle.p25_stations.proofs.AirLoopLaws.{blocks-few}
+use Rattle.p25_delivery.proofs.HeadLaws.{blocks-few}
 use Rattle.p25_stations.proofs.air.transmit.Goals as goal
 
 pub push-requires : goal.push-requires

@@ -1,6 +1,6 @@
 use Rattle.std.proofs.Common.{◌≡◌, ◌⊎◌, ℕ, List, Option, Some, sym, subst, ◌∙◌}
 use Rattle.std.specs.Prelude.{IfSome}
-use Rattle.p25_filter.specs.Runs.{Worked}
+use Rattle.p25_filter.specs.Runs.{Filtered}
 use Rattle.p25_tool.specs.declared.command.Command.{Command}
 use Rattle.p25_tool.specs.declared.command.Command.TheVariants.{Stations, Fragments}
 use Rattle.p25_tool.specs.declared.outcome.Outcome.{Outcome}
@@ -31,7 +31,7 @@ pub returns-in-Some-clause-stations : goal.returns-in-Some-clause-stations
 returns-in-Some-clause-stations g c =
     λ input events names told script no_read no_write.
     let same = one_command c.in-Some.command Stations _ (sym c.in-Some.ensures.command) names in
-    let worked = subst (λ (x : Command). Worked (g.S.Source.left c.args.source.now) (g.S.Source.left c.run_command.new.source) (g.K.Sink.written c.args.sink.now)
+    let worked = subst (λ (x : Command). Filtered (g.S.Source.left c.args.source.now) (g.S.Source.left c.run_command.new.source) (g.K.Sink.written c.args.sink.now)
     (g.K.Sink.written c.run_command.new.sink) (command_future x) c.run_command.result) same c.run_command.ensures.worked in
     script-run _ _ _ _ input events script told c.run_command.result c.outcome_of.result c.outcome_of.ensures worked
     (subst (λ (o : Outcome). Answers o Stations input) (sym c.outcome_of.ensures)
@@ -41,7 +41,7 @@ pub returns-in-Some-clause-fragments : goal.returns-in-Some-clause-fragments
 returns-in-Some-clause-fragments g c =
     λ input events names told script no_read no_write.
     let same = one_command c.in-Some.command Fragments _ (sym c.in-Some.ensures.command) names in
-    let worked = subst (λ (x : Command). Worked (g.S.Source.left c.args.source.now) (g.S.Source.left c.run_command.new.source) (g.K.Sink.written c.args.sink.now)
+    let worked = subst (λ (x : Command). Filtered (g.S.Source.left c.args.source.now) (g.S.Source.left c.run_command.new.source) (g.K.Sink.written c.args.sink.now)
     (g.K.Sink.written c.run_command.new.sink) (command_future x) c.run_command.result) same c.run_command.ensures.worked in
     long-script-run _ _ _ _ input events script told c.run_command.result c.outcome_of.result c.outcome_of.ensures worked
     (subst (λ (o : Outcome). Answers o Fragments input) (sym c.outcome_of.ensures)

@@ -3,7 +3,7 @@ use Rattle.p25_filter.specs.Futures.{Future}
 use Rattle.p25_tool.specs.declared.command.Command.{Command}
 use Rattle.p25_recording_filters.specs.Commands.{ChangedParts, changed_reporting}
 use Rattle.p25_filter.specs.LineRules.{LineRules}
-use Rattle.p25_filter.specs.LineWorks.{first_line, line_future}
+use Rattle.p25_filter.specs.LineFilters.{first_line, line_future}
 use Rattle.p25_tool.specs.Buildings.{build_rules}
 use Rattle.p25_tool.specs.StationRules.{station_rules}
 use Rattle.p25_tool.specs.DuplexRules.{duplex_rules}
@@ -53,7 +53,7 @@ returns-in-Bridge-clause-quiet g c =
     λ input told none.
     c.run_report-in-Bridge.ensures.quiet input told (all_written-alike _ _ (changed-alike _ _ _ _ c.new-in-Bridge.ensures c.in-Bridge.is (bridge-alike c.in-Bridge.nac c.in-Bridge.status)) input none)
 
--- the same of the rules of a machine that is the one named
+-- what is said of the rules of a machine is said of those of one that is named otherwise
 lines-alike : {M : Type 0} (rules : LineRules M) (made named : M) (command asked : Command) → made ≡ named → asked ≡ command → AreAlike (line_future rules (first_line named)) (command_future command)
     → AreAlike (line_future rules (first_line made)) (command_future asked)
 lines-alike rules made named command asked same is alike =

@@ -1,10 +1,10 @@
 use Rattle.std.proofs.Common.{subst, sym, false, refl}
 use Rattle.p25_filter.specs.Futures.{IsIdle}
-use Rattle.p25_filter.specs.LineWorks.{LineWorking, first_line, line_future}
-use Rattle.p25_filter.proofs.LineWorksLaws.{step-idle}
+use Rattle.p25_filter.specs.LineFilters.{LineFiltering, first_line, line_future}
+use Rattle.p25_filter.proofs.LineFiltersLaws.{step-idle}
 use Rattle.p25_tool.proofs.command_run.run_lines.Goals as goal
 
-pub work-requires-clause-idle : goal.work-requires-clause-idle
-work-requires-clause-idle g c =
-    subst (λ (w : LineWorking g.row.M.Denot). IsIdle false (line_future g.M.LineMachine.rules w)) (sym c.new-lines.ensures)
+pub run_filter-requires-clause-idle : goal.run_filter-requires-clause-idle
+run_filter-requires-clause-idle g c =
+    subst (λ (w : LineFiltering g.row.M.Denot). IsIdle false (line_future g.M.LineMachine.rules w)) (sym c.new-lines.ensures)
     (step-idle g.M.LineMachine.rules (first_line c.args.machine) refl refl)

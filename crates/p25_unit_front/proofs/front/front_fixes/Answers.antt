@@ -13,5 +13,5 @@ returns-clause-value c =
     let long : 114 ≤ length rest = omega (arith, length-drop c.args.at c.args.bits.now) in
     ap₂ (λ a b. a + b)
     (c.sync_distance.ensures.distance ∙ ap (λ xs. distance_of xs sync_bits) (window_bits c.args.bits.now c.args.at c.field.result (omega arith) c.field.ensures.value))
-    (c.identifier_distance.ensures.distance ∙ ap (λ xs. distance_of (take 63 xs) (take 63 (nid_word nid.nac nid.duid))) (identifier_bits-of rest c.identifier.result long c.identifier.ensures.value))
+    (c.nid_distance.ensures.distance ∙ ap (λ xs. distance_of (take 63 xs) (take 63 (nid_word nid.nac nid.duid))) (identifier_bits-of rest c.identifier.result long c.identifier.ensures.value))
     ∙ sym (front_fixes_of-parts (nid.nac, nid.duid) rest (omega arith))

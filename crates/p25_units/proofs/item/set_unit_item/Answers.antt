@@ -23,20 +23,20 @@ returns-in-None-clause-item c =
     let is = IsUnitAt-from c.args.bits.now c.args.at c.args.count c.requires.there c.requires.needed in
     absurd (some_nid c.args.bits.now c.args.at c.args.count is c.in-None.ensures.value)
 
-pub returns-then-nid-eq-PACKET_DUID-clause-item : goal.returns-then-nid-eq-PACKET_DUID-clause-item
-returns-then-nid-eq-PACKET_DUID-clause-item c =
+pub returns-then-nid-eq-PDU-clause-item : goal.returns-then-nid-eq-PDU-clause-item
+returns-then-nid-eq-PDU-clause-item c =
     let is = IsUnitAt-from c.args.bits.now c.args.at c.args.count c.requires.there c.requires.needed in
     item-is c.args.bits.now c.args.at c.args.count c.args.place is c.in-Some.nid c.in-Some.ensures.value c.set_packet_item.new.item c.set_packet_item.ensures
 
-pub returns-else-nid-eq-PACKET_DUID-clause-item : goal.returns-else-nid-eq-PACKET_DUID-clause-item
-returns-else-nid-eq-PACKET_DUID-clause-item c =
+pub returns-else-nid-eq-PDU-clause-item : goal.returns-else-nid-eq-PDU-clause-item
+returns-else-nid-eq-PDU-clause-item c =
     let is = IsUnitAt-from c.args.bits.now c.args.at c.args.count c.requires.there c.requires.needed in
     item-is c.args.bits.now c.args.at c.args.count c.args.place is c.in-Some.nid c.in-Some.ensures.value c.set_voice_item.new.item c.set_voice_item.ensures
 
-pub returns-then-nid-eq-PACKET_DUID-clause-sound : goal.returns-then-nid-eq-PACKET_DUID-clause-sound
-returns-then-nid-eq-PACKET_DUID-clause-sound c =
-    subst (λ (item : Item). IsSoundItem item) (sym (returns-then-nid-eq-PACKET_DUID-clause-item c)) (IsSoundItem-unit_item_of c.args.place (drop c.args.at c.args.bits.now) c.args.count c.requires.needed)
+pub returns-then-nid-eq-PDU-clause-sound : goal.returns-then-nid-eq-PDU-clause-sound
+returns-then-nid-eq-PDU-clause-sound c =
+    subst (λ (item : Item). IsSoundItem item) (sym (returns-then-nid-eq-PDU-clause-item c)) (IsSoundItem-unit_item_of c.args.place (drop c.args.at c.args.bits.now) c.args.count c.requires.needed)
 
-pub returns-else-nid-eq-PACKET_DUID-clause-sound : goal.returns-else-nid-eq-PACKET_DUID-clause-sound
-returns-else-nid-eq-PACKET_DUID-clause-sound c =
-    subst (λ (item : Item). IsSoundItem item) (sym (returns-else-nid-eq-PACKET_DUID-clause-item c)) (IsSoundItem-unit_item_of c.args.place (drop c.args.at c.args.bits.now) c.args.count c.requires.needed)
+pub returns-else-nid-eq-PDU-clause-sound : goal.returns-else-nid-eq-PDU-clause-sound
+returns-else-nid-eq-PDU-clause-sound c =
+    subst (λ (item : Item). IsSoundItem item) (sym (returns-else-nid-eq-PDU-clause-item c)) (IsSoundItem-unit_item_of c.args.place (drop c.args.at c.args.bits.now) c.args.count c.requires.needed)

@@ -9,7 +9,7 @@ read_packet_of_head-requires c = omega (arith, HasItsLength-head c.args.plain.no
 
 pub returns-in-Err : goal.returns-in-Err
 returns-in-Err c =
-    ap Err c.one_field.ensures
+    ap Err c.one.ensures
     ∙ sym (packet_body_from-bad c.in-Err.field)
     ∙ ap packet_body_from (sym (packet_reading_of-bad c.args.plain.now c.in-Err.field (sym c.requires.head ∙ c.in-Err.is)))
 

@@ -3,7 +3,7 @@ use Rattle.p25_vectors.specs.Draws.{draw, state_after}
 use Rattle.p25_vectors.proofs.DrawsLaws.{state_after-add}
 use Rattle.p25_voice_units.specs.Fixes.{link_looked, wide}
 use Rattle.p25_voice_units.specs.FieldLayouts.{word_places}
-use Rattle.p25_voice_units.specs.Layouts.{link_rows}
+use Rattle.p25_voice_units.specs.Layouts.{ldu_rows}
 use Rattle.p25_voice_units.specs.Readings.{low_places}
 use Rattle.p25_coded_fields.specs.Layouts.{places_from}
 use Rattle.p25_vectors.specs.Damage.{damaged, field_counts, field_draws, word_counts}
@@ -13,8 +13,8 @@ use Rattle.p25_vectors.proofs.damage.damage_link.Goals as goal
 pub returns-clause-list : goal.returns-clause-list
 unfolding link_looked wide word_places places_from low_places
 returns-clause-list c =
-    let words = wide 10 (word_places 10 link_rows) in
-    let low = wide 16 (low_places link_rows) in
+    let words = wide 10 (word_places 10 ldu_rows) in
+    let low = wide 16 (low_places ldu_rows) in
     let state = c.args.draws.now in
     let counts = field_counts 24 10 1 c.args.most state in
     let others = word_counts 2 16 2 0 (state_after (field_draws 24 c.args.most state) state) in

@@ -6,7 +6,7 @@ use Rattle.p25_voice_units.specs.declared.unit.VoiceUnit.TheVariants.{Header, Li
 use Rattle.p25_voice_units.specs.FieldLayouts.{word_places}
 use Rattle.p25_voice_units.specs.Fixes.{voice_looked}
 use Rattle.p25_voice_units.specs.Lengths.{voice_length_of}
-use Rattle.p25_voice_units.proofs.FieldCodesLaws.{header_there, end_link_there}
+use Rattle.p25_voice_units.proofs.FieldCodesLaws.{header_there, tdulc_there}
 use Rattle.p25_units.specs.Units.{body_length}
 use Rattle.p25_units.specs.declared.unit.Body.TheVariants.{Voice}
 use Rattle.p25_vectors.specs.Damage.{body_counts, body_damage_draws, damaged}
@@ -38,7 +38,7 @@ pub damage_field-requires-in-EndLink-clause-there : goal.damage_field-requires-i
 unfolding word_places places_from voice_length_of
 damage_field-requires-in-EndLink-clause-there c =
     let is : length c.args.bits.now ≡ 420 = long c.args.voice.now (EndLink c.in-EndLink.link) c.args.bits.now c.requires c.in-EndLink.is in
-    end_link_there c.args.bits.now is
+    tdulc_there c.args.bits.now is
 
 pub damage_link-requires-clause-long : goal.damage_link-requires-clause-long
 unfolding voice_length_of

@@ -4,9 +4,9 @@ use Rattle.p25_coded_fields.specs.Layouts.{places_from}
 use Rattle.p25_voice_units.specs.Fixes.{bits_at, voice_looked, voice_fixes_of}
 use Rattle.p25_voice_units.specs.FieldLayouts.{word_places}
 use Rattle.p25_voice_units.specs.Lengths.{voice_duid}
-use Rattle.p25_voice_units.proofs.LengthsLaws.{length-header, length-link1, length-link2, length-end_link}
+use Rattle.p25_voice_units.proofs.LengthsLaws.{length-header, length-ldu1, length-ldu2, length-tdulc}
 use Rattle.p25_voice_units.proofs.KindsLaws.{long_by_kind}
-use Rattle.p25_voice_units.proofs.FieldCodesLaws.{header_there, end_link_there}
+use Rattle.p25_voice_units.proofs.FieldCodesLaws.{header_there, tdulc_there}
 use Rattle.p25_voice_units.proofs.fixes.voice_fixes.Goals as goal
 
 pub differing-requires-clause-received : goal.differing-requires-clause-received
@@ -22,25 +22,25 @@ differing-requires-clause-image c =
 pub differing-requires-in-EndLink-clause-received : goal.differing-requires-in-EndLink-clause-received
 unfolding word_places places_from
 differing-requires-in-EndLink-clause-received c =
-    end_link_there c.args.received.now (long_by_kind (voice_duid c.args.unit.now) 15 420 (length c.args.received.now) (ap voice_duid c.in-EndLink.is) length-end_link c.requires.received)
+    tdulc_there c.args.received.now (long_by_kind (voice_duid c.args.unit.now) 15 420 (length c.args.received.now) (ap voice_duid c.in-EndLink.is) length-tdulc c.requires.received)
 
 pub differing-requires-in-EndLink-clause-image : goal.differing-requires-in-EndLink-clause-image
 unfolding word_places places_from
 differing-requires-in-EndLink-clause-image c =
-    end_link_there c.args.image.now (long_by_kind (voice_duid c.args.unit.now) 15 420 (length c.args.image.now) (ap voice_duid c.in-EndLink.is) length-end_link c.requires.image)
+    tdulc_there c.args.image.now (long_by_kind (voice_duid c.args.unit.now) 15 420 (length c.args.image.now) (ap voice_duid c.in-EndLink.is) length-tdulc c.requires.image)
 
 pub link_fixes-requires : goal.link_fixes-requires
 link_fixes-requires c =
     let kind = ap voice_duid c.in-Link1.is in
-    let received = long_by_kind (voice_duid c.args.unit.now) 5 1680 (length c.args.received.now) kind length-link1 c.requires.received in
-    let image = long_by_kind (voice_duid c.args.unit.now) 5 1680 (length c.args.image.now) kind length-link1 c.requires.image in
+    let received = long_by_kind (voice_duid c.args.unit.now) 5 1680 (length c.args.received.now) kind length-ldu1 c.requires.received in
+    let image = long_by_kind (voice_duid c.args.unit.now) 5 1680 (length c.args.image.now) kind length-ldu1 c.requires.image in
     record { received = omega arith; image = omega arith }
 
 pub link_fixes-requires-in-Link2 : goal.link_fixes-requires-in-Link2
 link_fixes-requires-in-Link2 c =
     let kind = ap voice_duid c.in-Link2.is in
-    let received = long_by_kind (voice_duid c.args.unit.now) 10 1680 (length c.args.received.now) kind length-link2 c.requires.received in
-    let image = long_by_kind (voice_duid c.args.unit.now) 10 1680 (length c.args.image.now) kind length-link2 c.requires.image in
+    let received = long_by_kind (voice_duid c.args.unit.now) 10 1680 (length c.args.received.now) kind length-ldu2 c.requires.received in
+    let image = long_by_kind (voice_duid c.args.unit.now) 10 1680 (length c.args.image.now) kind length-ldu2 c.requires.image in
     record { received = omega arith; image = omega arith }
 
 pub returns-in-Header-clause-value : goal.returns-in-Header-clause-value

@@ -6,4 +6,4 @@ use Rattle.p25_voice_units.proofs.laws.part_places.Goals as goal
 
 pub returns : goal.returns
 unfolding word_places places_from frame_places low_places
-returns c = record { header = refl; link = refl; end_link = refl; low = refl; frames = refl }
+returns c = record { header = refl; link = refl; tdulc = refl; low = refl; frames = refl }

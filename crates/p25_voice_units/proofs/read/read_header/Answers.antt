@@ -8,4 +8,4 @@ returns-in-Some c = ap header_from (sym c.in-Some.is ∙ c.read_header_word.ensu
 
 pub returns-in-None : goal.returns-in-None
 unfolding header_from
-returns-in-None c = ap Err c.one_field.ensures ∙ ap header_from (sym c.in-None.is ∙ c.read_header_word.ensures)
+returns-in-None c = ap Err c.one.ensures ∙ ap header_from (sym c.in-None.is ∙ c.read_header_word.ensures)

@@ -2,7 +2,7 @@ use Rattle.std.proofs.Common.{length, refl, arith}
 use Rattle.p25_link.specs.Words.{header_of_symbols}
 use Rattle.p25_coded_fields.specs.Layouts.{places_from, field_reading_of}
 use Rattle.p25_coded_fields.proofs.CodesLaws.{all_end}
-use Rattle.p25_voice_units.specs.Layouts.{header_rows}
+use Rattle.p25_voice_units.specs.Layouts.{hdu_rows}
 use Rattle.p25_voice_units.specs.FieldLayouts.{word_places, header_layout}
 use Rattle.p25_voice_units.specs.Readings.{header_in}
 use Rattle.p25_voice_units.proofs.CodesLaws.{header_code}
@@ -21,5 +21,5 @@ returns-in-None c = part_none header_of_symbols c.read_symbols.result (field_rea
 pub read_symbols-requires : goal.read_symbols-requires
 unfolding word_places places_from
 read_symbols-requires c =
-    let there = all_end 18 770 (length c.args.plain.now) (word_places 18 header_rows) refl c.requires in
+    let there = all_end 18 770 (length c.args.plain.now) (word_places 18 hdu_rows) refl c.requires in
     (omega arith, (tt, (header_code, (omega arith, (refl, (omega arith, (refl, there)))))))

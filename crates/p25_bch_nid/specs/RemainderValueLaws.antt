@@ -1,0 +1,133 @@
+-- At a zero of the generator a polynomial has the value of its remainder.
+use Rattle.std.specs.Prelude.{◌≡◌, ℕ, zero, suc, ◌+◌, ◌*◌, ◌/◌, ◌%◌, ◌^◌, ◌<◌, Bool, true, false, cond, List, [], ◌∷◌, length, bit_xor, eqb, refl}
+use Rattle.std.proofs.Common.{ap, ap₂, sym, subst, ◌∙◌, inl, inr, arith}
+use Rattle.std.proofs.lemmas.Bool.{cases_lt, cond_below, cond_above}
+use Rattle.std.proofs.lemmas.Nat.{div-mul-add, mod-mul-add, pow_pos}
+use Rattle.std.proofs.lemmas.Nat.Bits.{bit_at_above, bit_at_lowest}
+use Rattle.std.specs.Int.{bit_at}
+use Rattle.p25_bits.specs.Bits.{digit_of, bits_of}
+use Rattle.p25_bits.specs.Divisible.{HasDegree}
+use Rattle.p25_bits.proofs.BitsLaws.{bits_of-suc, bits_of-zero, bits_of-add, length-bits_of}
+use Rattle.p25_code.specs.Binary.{syndrome_of}
+use Rattle.p25_code.proofs.ParityLaws.{bits_of-xor}
+use Rattle.p25_code.proofs.RemainderLaws.{power_remainder, remainders, IsRemainder-power}
+use Rattle.p25_gf64.specs.Field.{Field, power}
+use Rattle.p25_gf64.proofs.FieldLaws.{add_zero, zero_add, mul_comm, mul_one, one_mul, mul_zero, zero_mul}
+use Rattle.p25_gf64.proofs.PowerLaws.{power-zero, power-one, power-suc}
+use Rattle.p25_bch_nid.specs.BitValueLaws.{bit_coefficient, bit_value, bit_value-append, bit_value-sum, bit_value-nil, bit_value-cons}
+
+module _ {F : Type 0} (K : Field F) (x : F) where
+  open K use {zero as 𝟘, one as 𝟙, add as ◌⊕◌, mul as ◌⊗◌}
+
+  infixl 65 ◌⊕◌
+  infixl 70 ◌⊗◌
+  -- the value of the polynomial that a number is, by so many of its coefficients
+  abbrev pub number_value : ℕ → ℕ → F
+  number_value width number = bit_value K x (bits_of width number)
+
+  -- a coefficient that a number does not have changes no value
+  pub number_value-suc : (width number : ℕ) → number < 2 ^ width → number_value (suc width) number ≡ number_value width number
+  number_value-suc width number low =
+      ap (bit_value K x) (bits_of-suc width number)
+      ∙ bit_value-cons K x (eqb (bit_at number width) 1) (bits_of width number)
+      ∙ ap (λ bit. bit_coefficient K (eqb bit 1) ⊗ power K x (length (bits_of width number)) ⊕ number_value width number)
+      (bit_at_above number width width low (omega arith))
+      ∙ ap (λ w. w ⊕ number_value width number) (zero_mul K (power K x (length (bits_of width number))))
+      ∙ zero_add K (number_value width number)
+
+  -- the value of 0 is zero
+  pub number_value-zero : (width : ℕ) → number_value width 0 ≡ 𝟘
+  number_value-zero zero = ap (bit_value K x) (bits_of-zero 0) ∙ bit_value-nil K x
+  number_value-zero (suc width) = number_value-suc width 0 (pow_pos width) ∙ number_value-zero width
+
+  -- one more coefficient below the others
+  pub number_value-more : (width number : ℕ) (bit : Bool)
+      → number_value (suc width) (2 * number + digit_of bit) ≡ x ⊗ number_value width number ⊕ bit_coefficient K bit
+  number_value-more width number bit =
+      let e : suc width ≡ width + 1 = omega arith in
+      let n = 2 * number + digit_of bit in
+      let low : digit_of bit < 2 = digit-lt bit in
+      let swapped : n ≡ number * 2 + digit_of bit = omega arith in
+      let high : n / 2 ^ 1 ≡ number = ap (λ m. m / 2) swapped ∙ div-mul-add number 2 (digit_of bit) low in
+      let last : n % 2 ≡ digit_of bit = ap (λ m. m % 2) swapped ∙ mod-mul-add number 2 (digit_of bit) low in
+      ap (λ w. number_value w n) e
+      ∙ ap (bit_value K x) (bits_of-add width 1 n)
+      ∙ bit_value-append K x (bits_of width (n / 2 ^ 1)) (bits_of 1 n)
+      ∙ ap₂ (λ v w. v ⊗ power K x w ⊕ number_value 1 n) (ap (number_value width) high) (length-bits_of 1 n)
+      ∙ ap₂ ◌⊕◌ (ap (λ p. number_value width number ⊗ p) (power-one K x) ∙ mul_comm K (number_value width number) x) (one_bit n bit last)
+    where
+      digit-lt : (bit : Bool) → digit_of bit < 2
+      digit-lt true = omega arith
+      digit-lt false = omega arith
+
+      test : (bit : Bool) → eqb (digit_of bit) 1 ≡ bit
+      test true = refl
+      test false = refl
+
+      one_bit : (n : ℕ) (bit : Bool) → n % 2 ≡ digit_of bit → number_value 1 n ≡ bit_coefficient K bit
+      one_bit n bit last =
+          ap (bit_value K x) (bits_of-suc 0 n)
+          ∙ bit_value-cons K x (eqb (bit_at n 0) 1) (bits_of 0 n)
+          ∙ ap₂ ◌⊕◌
+          (
+          ap₂ (λ b w. bit_coefficient K b ⊗ power K x w) (ap (λ m. eqb m 1) (bit_at_lowest n ∙ last) ∙ test bit) (length-bits_of 0 n)
+          ∙ ap (λ p. bit_coefficient K bit ⊗ p) (power-zero K x)
+          ∙ mul_one K (bit_coefficient K bit)
+          )
+          (ap (bit_value K x) (bits_of-zero n) ∙ bit_value-nil K x)
+          ∙ add_zero K (bit_coefficient K bit)
+
+  -- the value of 1 is one
+  number_value-one : (width : ℕ) → 1 < 2 ^ width → number_value width 1 ≡ 𝟙
+  number_value-one zero some = absurd (omega arith)
+  number_value-one (suc width) some =
+      number_value-more width 0 true
+      ∙ ap (λ v. x ⊗ v ⊕ 𝟙) (number_value-zero width)
+      ∙ ap (λ v. v ⊕ 𝟙) (mul_zero K x)
+      ∙ zero_add K 𝟙
+
+  -- the value of a sum is the sum of the values
+  pub number_value-xor : (width a b : ℕ) → number_value width (bit_xor a b) ≡ number_value width a ⊕ number_value width b
+  number_value-xor width a b =
+      ap (bit_value K x) (bits_of-xor width a b)
+      ∙ bit_value-sum K x (bits_of width a) (bits_of width b) (length-bits_of width a ∙ sym (length-bits_of width b))
+
+  module _ (generator degree : ℕ) (has : HasDegree generator degree) (some : 1 < 2 ^ degree) (root : number_value (suc degree) generator ≡ 𝟘) where
+    -- the remainder of a power has the value of the power
+    pub power_remainder_value : (n : ℕ) → number_value degree (power_remainder generator degree n) ≡ power K x n
+    unfolding power_remainder
+    power_remainder_value zero = number_value-one degree some ∙ sym (power-zero K x)
+    power_remainder_value (suc n) =
+        let r = power_remainder generator degree n in
+        let whole : 2 * r ≡ 2 * r + 0 = omega arith in
+        let twice : number_value (suc degree) (2 * r) ≡ power K x (suc n) =
+        ap (number_value (suc degree)) whole ∙ number_value-more degree r false ∙ ap (λ v. x ⊗ v ⊕ 𝟘) (power_remainder_value n) ∙ add_zero K (x ⊗ power K x n)
+        ∙ sym (power-suc K x n) in
+        elim (cases_lt (2 * r) (2 ^ degree)) [
+          | inl low ↦
+              ap (number_value degree) (sym (cond_below (2 * r) (2 ^ degree) (2 * r) (bit_xor (2 * r) generator) low))
+              ∙ sym (number_value-suc degree (2 * r) low) ∙ twice
+          | inr high ↦
+              let reduced : power_remainder generator degree (suc n) ≡ bit_xor (2 * r) generator
+              = sym (cond_above (2 * r) (2 ^ degree) (2 * r) (bit_xor (2 * r) generator) (bit_xor (2 * r) generator) high refl) in
+              let low : bit_xor (2 * r) generator < 2 ^ degree = subst (λ (m : ℕ). m < 2 ^ degree) reduced (IsRemainder-power has some (suc n)).lower in
+              ap (number_value degree) reduced
+              ∙ sym (number_value-suc degree (bit_xor (2 * r) generator) low)
+              ∙ number_value-xor (suc degree) (2 * r) generator
+              ∙ ap₂ ◌⊕◌ twice root
+              ∙ add_zero K (power K x (suc n))
+        ]
+
+    -- the remainder of a word's polynomial has the value of the word
+    pub word_value : (word : List Bool) → number_value degree (syndrome_of (remainders generator degree (length word)) word) ≡ bit_value K x word
+    unfolding syndrome_of remainders
+    word_value [] = number_value-zero degree ∙ sym (bit_value-nil K x)
+    word_value (bit ∷ word) =
+        number_value-xor degree (cond bit (power_remainder generator degree (length word)) 0) (syndrome_of (remainders generator degree (length word)) word)
+        ∙ ap₂ ◌⊕◌ (chosen bit) (word_value word)
+        ∙ sym (bit_value-cons K x bit word)
+      where
+        chosen : (bit : Bool)
+            → number_value degree (cond bit (power_remainder generator degree (length word)) 0) ≡ bit_coefficient K bit ⊗ power K x (length word)
+        chosen true = power_remainder_value (length word) ∙ sym (one_mul K (power K x (length word)))
+        chosen false = number_value-zero degree ∙ sym (zero_mul K (power K x (length word)))

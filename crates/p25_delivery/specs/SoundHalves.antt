@@ -1,0 +1,45 @@
+-- What every half of a station keeps, whatever it hears.
+use Rattle.std.specs.Prelude.{◌≡◌, ℕ, ◌+◌, ◌<◌, ◌≤◌, false, List, length, IfSome}
+use Rattle.p25_packet_blocks.specs.Sendable.{AreOctets}
+use Rattle.p25_delivery.specs.SenderState.{IsSending}
+use Rattle.p25_delivery.specs.ReceiverState.{Keeping, Receiving}
+use Rattle.p25_delivery.specs.declared.sender_state.Outstanding.{Outstanding}
+use Rattle.p25_delivery.specs.declared.sender_state.Outstanding.TheVariants.{Nothing, Message, Opening}
+use Rattle.p25_delivery.specs.Halves.{Outgoing, Incoming}
+
+-- a message of octets, at most 2,028
+pub record IsMessage (message : List ℕ) : Type 0 where
+  pub short : length message ≤ 2028
+  pub octets : AreOctets message
+
+-- a message that is outstanding is one
+unfoldable pub IsMessageIn : Outstanding → Type 0
+IsMessageIn Nothing = Unit {0}
+IsMessageIn (Message message) = IsMessage message
+IsMessageIn (Opening number) = Unit {0}
+
+-- of the messages sent, each that was acknowledged, each with which a session ended, and the one that is outstanding is
+-- another. Where nothing is outstanding the sender is up, and no transmission is counted
+unfoldable pub IsCountedWith : Outstanding → Outgoing → Type 0
+IsCountedWith Nothing o =
+    (o.sender.down ≡ false) × (o.sender.tries ≡ 0) × (o.acknowledged + length o.marks ≤ length o.sent)
+IsCountedWith (Message message) o = o.acknowledged + length o.marks + 1 ≤ length o.sent
+IsCountedWith (Opening number) o = o.acknowledged + length o.marks ≤ length o.sent
+
+-- at most 127 blocks are kept
+abbrev pub IsFew : Keeping → Type 0
+IsFew kept = length kept.places ≤ 127
+
+-- what every sending half keeps
+pub record IsOutgoing (o : Outgoing) : Type 0 where
+  pub sender : IsSending o.sender
+  pub message : IsMessageIn o.sender.outstanding
+  pub counted : IsCountedWith o.sender.outstanding o
+
+-- what every receiver keeps, and so every receiving half
+pub record IsReceiving (r : Receiving) : Type 0 where
+  pub last : r.last < 8
+  pub kept : IfSome r.kept IsFew
+
+abbrev pub IsIncoming : Incoming → Type 0
+IsIncoming i = IsReceiving i.receiver

@@ -1,0 +1,100 @@
+//! The half of a station that receives messages.
+
+ghost use Rattle.std.specs.Prelude.{◌≡◌, ◌+◌, ◌<◌, ◌≤◌, OnOk, OnErr, IfSome};
+ghost use Rattle.p25_packet_blocks.specs.Sendable.{IsSendable};
+
+use crate::receiver::{Heard, Receiver};
+use crate::step_kind::{StepKind, Way};
+use p25_messages::MessageList;
+use p25_packet_blocks::Packet;
+use std::alloc::{AllocError, Global};
+use std::marker::Model;
+
+/// The half of a station that receives: its receiver, and the messages that were delivered to it.
+#[derive(Drop)]
+pub struct Inbound {
+    receiver: Receiver,
+    received: MessageList,
+}
+
+impl Model for Inbound {
+    ghost use Rattle.p25_delivery.specs.Halves.{IncomingParts};
+
+    ghost Value = { IncomingParts };
+
+    ghost use Rattle.p25_delivery.specs.SoundHalves.{IsIncoming};
+    ghost use Rattle.p25_delivery.specs.HalvesInside.{incoming_of};
+
+    ghost view = { λ i. record { half = incoming_of i; spare = i.received.spare } };
+
+    ghost invariant = { λ i. IsIncoming (incoming_of i) };
+}
+
+impl Inbound {
+    ghost use Rattle.p25_delivery.specs.Halves.{first_incoming};
+    ghost use Rattle.p25_delivery.specs.ReceiverRules.{receiver_heard};
+    ghost use Rattle.p25_delivery.specs.HalfRules.{after_data};
+
+    /// Answers a half before the first message. It takes no memory.
+    pub fn new(alloc: Global) -> Inbound
+        ensures { result.half ≡ first_incoming }
+    {
+        Inbound {
+            receiver: Receiver::new(),
+            received: MessageList::new(alloc),
+        }
+    }
+
+    /// Answers the messages that were delivered to it, in order.
+    pub fn received(&self) -> &MessageList
+        ensures { result.now.list ≡ self.now.half.received }
+    {
+        &self.received
+    }
+
+    /// Makes room for 1 to 16 more calls. Answers AllocError exactly where there is not enough memory, which comes only where
+    /// there was no such room; what it keeps stays as it was, and no room is lost.
+    pub fn reserve(&mut self, calls: u32) -> Result<(), AllocError>
+        requires some { 0 < calls }
+        requires most { calls ≤ 16 }
+        ensures half { self.new.half ≡ self.old.half }
+        ensures spare { self.old.spare ≤ self.new.spare }
+        ensures ok { OnOk result (calls ≤ self.new.spare) }
+        ensures err { OnErr result (self.old.spare < calls) }
+    {
+        self.received.reserve(calls)
+    }
+
+    /// Answers what comes of a packet that its receiver hears, and the response to send, where there is one: it becomes the
+    /// newest transmission. There is room for a call.
+    #[tactic(auto, unfolding(crate::specs::HalfRules::after_data))]
+    pub fn hear(&mut self, packet: &Packet) -> (StepKind, Option<Packet>)
+        requires { 0 < self.old.spare }
+        ensures half { self.new.half ≡ (after_data self.old.half (receiver_heard self.old.half.receiver packet.now)).0 }
+        ensures answer { result ≡ (after_data self.old.half (receiver_heard self.old.half.receiver packet.now)).1 }
+        ensures sendable { IfSome result.1 IsSendable }
+        ensures spare { self.old.spare ≤ self.new.spare + 1 }
+    {
+        let (kind, answer) = match self.receiver.hear(packet) {
+            Heard::Delivered {
+                number,
+                message,
+                answer,
+            } => {
+                self.received.push(&message);
+                (StepKind::Delivered { number, message }, answer)
+            }
+            Heard::Opened { number, answer } => (StepKind::SynHeard { number }, answer),
+            Heard::Again { number, answer } => (StepKind::Again { number }, answer),
+            Heard::Kept {
+                number,
+                flags,
+                answer,
+            } => (StepKind::Kept { number, flags }, answer),
+            Heard::RefusedCrc { number, answer } => (StepKind::RefusedCrc { number }, answer),
+            Heard::RefusedOrder { last, answer } => (StepKind::RefusedOrder { last }, answer),
+            Heard::Ignored => return (StepKind::Ignored { way: Way::Packets }, None),
+        };
+        (kind, Some(answer))
+    }
+}

@@ -1,0 +1,223 @@
+//! The half of a station that sends messages.
+
+ghost use Rattle.std.specs.Prelude.{◌≡◌, ◌+◌, ◌<◌, ◌≤◌, length, OnOk, OnErr, IfSome};
+ghost use Rattle.p25_packet_blocks.specs.Sendable.{AreOctets, IsSendable};
+ghost use Rattle.p25_delivery.specs.SoundHalves.{IsMessage};
+
+use crate::mark::Mark;
+use crate::sender::{Offer, Reopen, Resend, Sender, SenderHeard};
+use crate::step_kind::{StepKind, Way};
+use p25_messages::{Message, MessageList};
+use p25_packet_blocks::Packet;
+use std::alloc::{AllocError, Global};
+use std::marker::Model;
+
+/// The half of a station that sends: its sender, the messages that it sent, how many of them were acknowledged, and the ends
+/// of their sessions before the present one.
+///
+/// Each call answers what happened, and the packet to send, where there is one: it becomes the newest transmission.
+#[derive(Drop)]
+pub struct Outbound {
+    sender: Sender,
+    sent: MessageList,
+    acknowledged: u64,
+    marks: Vec<Mark>,
+}
+
+impl Model for Outbound {
+    ghost use Rattle.std.specs.Prelude.{◌-◌, min, vec_len, vec_capacity};
+    ghost use Rattle.p25_delivery.specs.Halves.{OutgoingParts};
+
+    ghost Value = { OutgoingParts };
+
+    ghost use Rattle.p25_delivery.specs.SoundHalves.{IsOutgoing};
+    ghost use Rattle.p25_delivery.specs.HalvesInside.{outgoing_of, outgoing_spare};
+
+    ghost view = { λ o. record { half = outgoing_of o; spare = outgoing_spare o } };
+
+    ghost invariant = { λ o. IsOutgoing (outgoing_of o) };
+}
+
+impl Outbound {
+    ghost use Rattle.p25_delivery.specs.Halves.{first_outgoing};
+
+    /// Answers a half before its first message. It takes no memory.
+    pub fn new(alloc: Global) -> Outbound
+        ensures { result.half ≡ first_outgoing }
+    {
+        Outbound {
+            sender: Sender::new(),
+            sent: MessageList::new(alloc),
+            acknowledged: 0,
+            marks: Vec::new(alloc),
+        }
+    }
+
+    /// Answers the messages that it sent, in order.
+    pub fn sent(&self) -> &MessageList
+        ensures { result.now.list ≡ self.now.half.sent }
+    {
+        &self.sent
+    }
+
+    /// Answers how many of its messages were acknowledged.
+    pub fn acknowledged(&self) -> u64
+        ensures { result ≡ self.now.half.acknowledged }
+    {
+        self.acknowledged
+    }
+
+    /// Answers the number of sessions of its messages: one more than the number of messages that were given up.
+    pub fn sessions(&self) -> u64
+        ensures { result ≡ length self.now.half.marks + 1 }
+    {
+        self.marks.len() as u64 + 1
+    }
+
+    /// Makes room for 1 to 16 more calls. Answers AllocError exactly where there is not enough memory, which comes only where
+    /// there was no such room; what it keeps stays as it was, and no room is lost.
+    pub fn reserve(&mut self, calls: u32) -> Result<(), AllocError>
+        requires some { 0 < calls }
+        requires most { calls ≤ 16 }
+        ensures half { self.new.half ≡ self.old.half }
+        ensures spare { self.old.spare ≤ self.new.spare }
+        ensures ok { OnOk result (calls ≤ self.new.spare) }
+        ensures err { OnErr result (self.old.spare < calls) }
+    {
+        self.sent.reserve(calls)?;
+        self.marks.reserve(calls as usize)
+    }
+}
+
+// Its contract says that octets fit.
+fn octets_fit(octets: &[u8])
+    ensures { AreOctets octets.now }
+{
+    let _ = octets.len();
+}
+
+// Its contract says what every message keeps.
+fn fit(message: &Message)
+    ensures { IsMessage message.now }
+{
+    octets_fit(message.octets());
+}
+
+impl Outbound {
+    ghost use Rattle.p25_delivery.specs.SenderRules.{offered, timed_out, sender_heard, reopened, is_opening};
+    ghost use Rattle.p25_delivery.specs.HalfRules.{after_offer, after_timeout, after_reopening, after_answer};
+
+    /// Answers what comes of a message that is offered to its sender: where nothing is outstanding it is taken, and its packet is
+    /// to be sent. There is room for a call.
+    #[tactic(auto, unfolding(crate::specs::HalfRules::after_offer))]
+    pub fn offer(&mut self, message: &Message) -> (StepKind, Option<Packet>)
+        requires { 0 < self.old.spare }
+        ensures half { self.new.half ≡ (after_offer self.old.half message.now (offered self.old.half.sender message.now)).0 }
+        ensures answer { result ≡ (after_offer self.old.half message.now (offered self.old.half.sender message.now)).1 }
+        ensures sendable { IfSome result.1 IsSendable }
+        ensures spare { self.old.spare ≤ self.new.spare + 1 }
+    {
+        fit(message);
+        match self.sender.offer(message) {
+            Offer::Taken {
+                number,
+                blocks,
+                packet,
+            } => {
+                self.sent.push(message);
+                (StepKind::Taken { number, blocks }, Some(packet))
+            }
+            Offer::Busy => (StepKind::Busy, None),
+            Offer::Down => (StepKind::OfferDown, None),
+        }
+    }
+
+    /// Answers what comes of a timeout: what is outstanding is to be sent again, or the sender is down once 16 transmissions were
+    /// made. It needs no room.
+    #[tactic(auto, unfolding(crate::specs::HalfRules::after_timeout))]
+    pub fn time_out(&mut self) -> (StepKind, Option<Packet>)
+        ensures half { self.new.half ≡ (after_timeout self.old.half (timed_out self.old.half.sender)).0 }
+        ensures answer { result ≡ (after_timeout self.old.half (timed_out self.old.half.sender)).1 }
+        ensures sendable { IfSome result.1 IsSendable }
+        ensures spare { self.new.spare ≡ self.old.spare }
+    {
+        match self.sender.timeout() {
+            Resend::Sent {
+                number,
+                tries,
+                packet,
+            } => (StepKind::Resent { number, tries }, Some(packet)),
+            Resend::Idle => (StepKind::Idle, None),
+            Resend::Down => (StepKind::TimeoutDown, None),
+        }
+    }
+
+    /// Answers what comes of a reopening while so many of its messages were delivered: where the sender is down, the opening
+    /// packet is to be sent, and the session of a message that is given up ends. There is room for a call.
+    #[tactic(auto, unfolding(crate::specs::HalfRules::after_reopening))]
+    pub fn reopen(&mut self, delivered: u64) -> (StepKind, Option<Packet>)
+        requires { 0 < self.old.spare }
+        ensures half { self.new.half ≡
+            (after_reopening self.old.half delivered (is_opening self.old.half.sender.outstanding) (reopened self.old.half.sender)).0 }
+        ensures answer { result ≡
+            (after_reopening self.old.half delivered (is_opening self.old.half.sender.outstanding) (reopened self.old.half.sender)).1 }
+        ensures sendable { IfSome result.1 IsSendable }
+        ensures spare { self.old.spare ≤ self.new.spare + 1 }
+    {
+        let is_opening = self.sender.is_opening();
+        match self.sender.reopen() {
+            Reopen::Sent { number, packet } => {
+                if !is_opening {
+                    self.marks
+                        .push(Mark {
+                            sent: self.sent.len() as u64,
+                            delivered,
+                            acknowledged: self.acknowledged,
+                        })
+                        .unwrap();
+                }
+                (StepKind::Reopened { number }, Some(packet))
+            }
+            Reopen::Up => (StepKind::Up, None),
+        }
+    }
+
+    /// Answers what comes of a packet that its sender hears. It needs no room.
+    #[tactic(auto, unfolding(crate::specs::HalfRules::after_answer))]
+    pub fn hear(&mut self, packet: &Packet) -> (StepKind, Option<Packet>)
+        ensures half { self.new.half ≡ (after_answer self.old.half (sender_heard self.old.half.sender packet.now)).0 }
+        ensures answer { result ≡ (after_answer self.old.half (sender_heard self.old.half.sender packet.now)).1 }
+        ensures sendable { IfSome result.1 IsSendable }
+        ensures spare { self.new.spare ≡ self.old.spare }
+    {
+        match self.sender.hear(packet) {
+            SenderHeard::Acknowledged { number } => {
+                // No more are acknowledged than were sent, whose number fits.
+                let _ = self.sent.len();
+                self.acknowledged += 1;
+                (StepKind::Acknowledged { number }, None)
+            }
+            SenderHeard::Opened { number } => (StepKind::LinkOpened { number }, None),
+            SenderHeard::Retry {
+                number,
+                wanted,
+                tries,
+                packet,
+            } => {
+                let kind = StepKind::Retry {
+                    number,
+                    wanted,
+                    tries,
+                };
+                (kind, Some(packet))
+            }
+            SenderHeard::Repeat {
+                number,
+                tries,
+                packet,
+            } => (StepKind::Repeat { number, tries }, Some(packet)),
+            SenderHeard::Ignored => (StepKind::Ignored { way: Way::Answers }, None),
+            SenderHeard::Down => (StepKind::AnswerDown, None),
+        }
+    }
+}

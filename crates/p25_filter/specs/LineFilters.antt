@@ -1,0 +1,98 @@
+-- The work on lines: what it still writes, for any octets that may still come.
+use Rattle.std.specs.Prelude.{◌≡◌, ℕ, ◌+◌, Bool, true, false, cond, List, [], ◌∷◌, ◌++◌, Result, Ok, Err}
+use Rattle.p25_line.specs.declared.fault.LineFault.{LineFault}
+use Rattle.p25_filter.specs.declared.ending.Ending.TheVariants.{BadLine}
+use Rattle.p25_filter.specs.declared.ending.Refusal.{Refusal}
+use Rattle.p25_filter.specs.declared.ending.Refusal.TheVariants.{Ended, Memory as NoMemory}
+use Rattle.p25_filter.specs.declared.line_machine.LineRefusal.TheVariants.{Fault, Memory}
+use Rattle.p25_filter.specs.declared.line_filter.LinePhase.{LinePhase}
+use Rattle.p25_filter.specs.declared.line_filter.LinePhase.TheVariants.{Reading, Ready, ReadyLast, Closing, Closed}
+use Rattle.p25_filter.specs.Futures.{Future}
+use Rattle.p25_filter.specs.Lines.{each_behind, lines_ending, lines_in}
+use Rattle.p25_filter.specs.LineRules.{IsLineRefused, LineRules, lines_before, lines_refusal, lines_written}
+
+-- the machine, the octets kept of the line that has begun or is there, how many lines were taken, the second piece of a text
+-- whose first was given out, and how far the work has come
+pub record LineFiltering (M : Type 0) : Type 0 where
+  pub machine : M
+  pub line : List ℕ
+  pub lines : ℕ
+  pub behind : List ℕ
+  pub phase : LinePhase
+
+abbrev pub line_filtering : {M : Type 0} → M → List ℕ → ℕ → List ℕ → LinePhase → LineFiltering M
+line_filtering machine line lines behind phase = record { machine = machine; line = line; lines = lines; behind = behind; phase = phase }
+
+-- before the first octet
+abbrev pub first_line : {M : Type 0} → M → LineFiltering M
+first_line machine = line_filtering machine [] 0 [] Reading
+
+-- how many lines are there to be taken
+abbrev pub lines_ready : LinePhase → ℕ
+lines_ready Reading = 0
+lines_ready Ready = 1
+lines_ready ReadyLast = 1
+lines_ready Closing = 0
+lines_ready Closed = 0
+
+-- how many pieces may still come, beside a second one that is there
+abbrev pub pieces_of : LinePhase → ℕ
+pieces_of Reading = 0
+pieces_of Ready = 2
+pieces_of ReadyLast = 3
+pieces_of Closing = 1
+pieces_of Closed = 0
+
+-- no more octets come
+abbrev pub is_ended_phase : LinePhase → Bool
+is_ended_phase Reading = false
+is_ended_phase Ready = false
+is_ended_phase ReadyLast = true
+is_ended_phase Closing = true
+is_ended_phase Closed = true
+
+-- the lines that are still to be taken
+abbrev pub lines_left : LinePhase → List ℕ → Bool → List ℕ → List (List ℕ)
+lines_left Reading line ended more = lines_in ended line more
+lines_left Ready line ended more = line ∷ lines_in ended [] more
+lines_left ReadyLast line ended more = line ∷ []
+lines_left Closing line ended more = []
+lines_left Closed line ended more = []
+
+-- whether the input has ended with these octets, and whether what is written at its end is still to be written
+abbrev pub ends_with : LinePhase → Bool → Bool
+ends_with Reading ended = ended
+ends_with Ready ended = ended
+ends_with ReadyLast ended = true
+ends_with Closing ended = true
+ends_with Closed ended = true
+
+abbrev pub closes_with : LinePhase → Bool → Bool
+closes_with Reading ended = ended
+closes_with Ready ended = ended
+closes_with ReadyLast ended = true
+closes_with Closing ended = true
+closes_with Closed ended = false
+
+-- what is still written, how the call ends, and after which texts memory may be wanting
+unfoldable pub line_future : {M : Type 0} → LineRules M → LineFiltering M → Future
+line_future rules work = record {
+  writes = λ ended more. work.behind ++ lines_written rules (closes_with work.phase ended) work.machine (lines_left work.phase work.line ended more);
+  ends = λ ended more.
+      lines_ending (ends_with work.phase ended) (lines_refusal rules (work.lines + 1) work.machine (lines_left work.phase work.line ended more));
+  pauses = λ ended more. cond rules.wants (each_behind work.behind (lines_before rules work.machine (lines_left work.phase work.line ended more))) [];
+}
+
+-- a line that is there was taken, and its text given out in two pieces
+pub record IsTextGiven {M : Type 0} (rules : LineRules M) (phase : LinePhase) (before : LineFiltering M) (out : List ℕ) (now : LineFiltering M) : Type 0 where
+  pub machine : M
+  pub behind : List ℕ
+  pub answer : rules.answer before.machine before.line ≡ Ok (out ++ behind, machine)
+  pub now_is : now ≡ line_filtering machine [] (before.lines + 1) behind phase
+
+-- or it was not, and all is as it was
+abbrev pub IsLineGiven : {M : Type 0} → LineRules M → LinePhase → LineFiltering M → Result Bool Refusal → List ℕ → LineFiltering M → Type 0
+IsLineGiven rules phase before (Ok answer) out now = (answer ≡ true) × IsTextGiven rules phase before out now
+IsLineGiven rules phase before (Err NoMemory) out now = (now ≡ before) × IsLineRefused rules before.machine before.line Memory
+IsLineGiven rules phase before (Err (Ended ending)) out now =
+    (now ≡ before) × ((fault : LineFault) × (ending ≡ BadLine (before.lines + 1) fault) × IsLineRefused rules before.machine before.line (Fault fault))

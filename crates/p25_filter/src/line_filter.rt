@@ -1,0 +1,160 @@
+//! The work of a command on the lines of its input.
+
+ghost use Rattle.std.specs.Prelude.{◌≡◌, ◌<◌, true, false, [], length};
+ghost use Rattle.p25_filter.specs.LineFilters.{first_line, lines_ready, IsLineGiven};
+
+use super::ending::{Ending, Refusal};
+use super::filter::Filter;
+use super::line_machine::{LineMachine, LineRefusal};
+use arrayvec::ArrayVec;
+use p25_line::Line;
+use std::marker::Model;
+
+// The most octets that are kept of a line. A longer one is refused by them.
+const KEPT_MOST: usize = 8_193;
+
+// How far the work has come.
+#[derive(Clone, Copy, Debug, PartialEq, Eq)]
+pub(crate) enum LinePhase {
+    // A line has begun, or none; more octets may come.
+    Reading,
+    // A line is there to be taken; more octets may come.
+    Ready,
+    // The last line is there to be taken.
+    ReadyLast,
+    // The input has ended, and all lines were taken.
+    Closing,
+    // What is written at the end was given.
+    Closed,
+}
+
+/// A command that takes the lines of its input one after the other. Each line ends with an LF, and octets after the last LF
+/// are a last line. The first line that is refused ends the call, with its number, counted from 1.
+#[derive(Drop)]
+pub struct LineFilter<M: LineMachine> {
+    machine: M,
+    line: ArrayVec<u8, 8_193>,
+    lines: u64,
+    // The second piece of a text whose first was given out.
+    behind: Line,
+    phase: LinePhase,
+}
+
+impl<M: LineMachine> Model for LineFilter<M> {
+    ghost use Rattle.std.specs.Prelude.{◌+◌, ◌^◌, ◌≤◌};
+    ghost use Rattle.p25_filter.specs.LineFilters.{LineFiltering, lines_ready};
+
+    ghost Value = { LineFiltering M };
+
+    ghost view = { λ s. record { machine = s.machine; line = s.line.items; lines = s.lines; behind = s.behind; phase = s.phase } };
+
+    ghost invariant = { λ s. s.lines + lines_ready s.phase ≤ 2 ^ 28 };
+}
+
+impl<M: LineMachine> LineFilter<M> {
+    /// Answers the work of a machine before the first octet.
+    pub fn new(machine: M) -> LineFilter<M>
+        ensures { result ≡ first_line machine }
+    {
+        LineFilter {
+            machine,
+            line: ArrayVec::new(),
+            lines: 0,
+            behind: Line::new(),
+            phase: LinePhase::Reading,
+        }
+    }
+
+    // Has the machine take the line that is there. Sets `out` to the first piece of its text and goes on to a phase, or
+    // answers why the line was not taken.
+    fn take_line(&mut self, phase: LinePhase, out: &mut Line) -> Result<bool, Refusal>
+        requires ready { lines_ready self.old.phase ≡ 1 }
+        requires taken { lines_ready phase ≡ 0 }
+        requires empty { self.old.behind ≡ [] }
+        ensures { IsLineGiven M.rules phase self.old result out.new self.new }
+    {
+        match self
+            .machine
+            .take(self.line.as_slice(), out, &mut self.behind)
+        {
+            Ok(()) => {
+                self.line.clear();
+                self.lines += 1;
+                self.phase = phase;
+                Ok(true)
+            }
+            Err(LineRefusal::Memory) => Err(Refusal::Memory),
+            Err(LineRefusal::Fault(fault)) => Err(Refusal::Ended(Ending::BadLine {
+                line: self.lines + 1,
+                fault,
+            })),
+        }
+    }
+
+    // Sets `out` to the second piece of a text, where one is there, and answers whether it is.
+    fn give_behind(&mut self, out: &mut Line) -> bool
+        ensures given { result ≡ true → (out.new ≡ self.old.behind) × (0 < length self.old.behind) × (self.new ≡ record self.old { behind = [] }) }
+        ensures none { result ≡ false → (self.old.behind ≡ []) × (self.new ≡ self.old) }
+    {
+        if self.behind.len() == 0 {
+            return false;
+        }
+        out.clear();
+        out.put(self.behind.octets());
+        self.behind.clear();
+        true
+    }
+}
+
+impl<M: LineMachine> Filter for LineFilter<M> {
+    ghost use Rattle.std.specs.Prelude.{◌≡◌, ◌+◌, [], length, min};
+    ghost use Rattle.p25_filter.specs.LineFilters.{line_future, is_ended_phase, lines_ready, pieces_of};
+
+    ghost future = { line_future M.rules };
+
+    ghost is_finished = { λ s. is_ended_phase s.phase };
+
+    ghost IsDrained = { λ s. (pieces_of s.phase ≡ 0) × (s.behind ≡ []) };
+
+    ghost pieces_left = { λ s. pieces_of s.phase + min 1 (length s.behind) };
+
+    ghost size = { λ s. s.lines + lines_ready s.phase };
+
+    fn push(&mut self, octet: u8) {
+        if octet == b'\n' {
+            self.phase = LinePhase::Ready;
+        } else if self.line.len() < KEPT_MOST {
+            self.line.push(octet);
+        }
+    }
+
+    fn finish(&mut self) {
+        if self.line.len() == 0 {
+            self.phase = LinePhase::Closing;
+            return;
+        }
+        self.phase = LinePhase::ReadyLast;
+    }
+
+    fn next(&mut self, out: &mut Line) -> Result<bool, Refusal> {
+        if self.give_behind(out) {
+            return Ok(true);
+        }
+        match self.phase {
+            LinePhase::Reading => Ok(false),
+            LinePhase::Closed => Ok(false),
+            LinePhase::Ready => self.take_line(LinePhase::Reading, out),
+            LinePhase::ReadyLast => self.take_line(LinePhase::Closing, out),
+            LinePhase::Closing => {
+                self.machine.close(out);
+                self.phase = LinePhase::Closed;
+                Ok(true)
+            }
+        }
+    }
+
+    fn ending(&self) -> Ending {
+        let _ = &self.lines;
+        Ending::Done
+    }
+}
