@@ -68,9 +68,9 @@ none_are_wrong columns radius = record { fits = pow_pos (length columns); sums =
 
 -- a received number, and the check bits of its information
 module _ {rows : List ℕ} {checks apart n radius : ℕ} {IsWord : List Bool → Type 0} (code : IsSystematic rows checks apart) (laws : IsBlockCode beq IsWord n (length rows) radius apart) (long : length rows + checks ≡ n)
-  (from : (w : List Bool) → IsChecked (rows ++ check_columns checks) w → IsWord w) (to : (w : List Bool) → IsWord w → IsChecked (rows ++ check_columns checks) w)
-  (reading : List Bool → Option (List Bool)) (reads : (received : List Bool) → IsReadAs beq IsWord radius received (reading received))
-  (received check : ℕ) (fits : received < 2 ^ n) (is : check ≡ number_sum rows (received / 2 ^ checks)) where
+    (from : (w : List Bool) → IsChecked (rows ++ check_columns checks) w → IsWord w) (to : (w : List Bool) → IsWord w → IsChecked (rows ++ check_columns checks) w)
+    (reading : List Bool → Option (List Bool)) (reads : (received : List Bool) → IsReadAs beq IsWord radius received (reading received))
+    (received check : ℕ) (fits : received < 2 ^ n) (is : check ≡ number_sum rows (received / 2 ^ checks)) where
   columns_are : length (rows ++ check_columns checks) ≡ n
   columns_are = length-columns rows checks ∙ long
 
@@ -146,7 +146,7 @@ reading_put IsWord radius n old new None reading is put = subst (IsReading beq I
 
 -- the information and then its check bits, as a number
 module _ {rows : List ℕ} {checks apart : ℕ} (code : IsSystematic rows checks apart) (info check word : ℕ) (small : info < 2 ^ length rows) (few : length rows + checks ≤ 32)
-  (sums : check ≡ number_sum rows info) (joined : word ≡ bit_or (info * 2 ^ checks % 2 ^ 32) check) where
+    (sums : check ≡ number_sum rows info) (joined : word ≡ bit_or (info * 2 ^ checks % 2 ^ 32) check) where
   check_fits : check < 2 ^ checks
   check_fits = subst (λ n. n < 2 ^ checks) (sym sums) (number_sum-lt checks rows info code.fit)
 

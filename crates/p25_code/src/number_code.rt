@@ -51,3 +51,27 @@ pub fn put_reading(received: u32, sent: Option<u32>, word: &mut [bool]) -> Readi
         None => Reading::Beyond,
     }
 }
+
+#[cfg(test)]
+mod tests {
+    use super::*;
+    use p25_bits::number_of;
+
+    #[test]
+    fn puts_readings(rt: HostRuntime) {
+        for (sent, reading, left) in [
+            (
+                Some(0b101),
+                Reading::Found { fixes: 0 },
+                [true, false, true],
+            ),
+            (Some(0b111), Reading::Found { fixes: 1 }, [true, true, true]),
+            (None, Reading::Beyond, [true, false, true]),
+        ] {
+            let mut word = [true, false, true];
+            let received = number_of(&word) as u32;
+            assert_eq!(rt; put_reading(received, sent, &mut word), reading);
+            assert_eq!(rt; word, left);
+        }
+    }
+}

@@ -1,7 +1,10 @@
-//! Which bits of a word are wrong, by its syndrome, without a search.
+//! Which bits of a word of a small binary code are wrong, by its syndrome, without a search.
 //!
-//! The words are those of `binary`: the information, and then the check bits. What is wrong is a number of as many bits as
-//! the word has, the first bit highest, with a 1 for each wrong bit.
+//! A word is the information and then its check bits, the sum over GF(2) of the rows at whose places the information is 1.
+//! A row is a number of at most 16 bits, its highest the first check bit. As a check matrix this is a column for each
+//! place: the rows, and for each check bit a column with the one check of its own. A word passes where the sum of the
+//! columns at the places that are 1, its syndrome, is 0. What is wrong is a number of as many bits as the word has, the first
+//! bit highest, with a 1 for each wrong bit.
 
 ghost use Rattle.std.specs.Prelude.{◌≡◌, ℕ, ◌+◌, ◌^◌, ◌<◌, ◌≤◌, ◌++◌, true, length, MatchOption};
 ghost use Rattle.p25_code.specs.Binary.{check_columns, rows_fit};
@@ -60,4 +63,18 @@ pub fn wrong_by_halves(
     }
     let wrong = wrong_by_rows(turned, half, radius, turned_sum)?;
     Some(((wrong % (1 << half)) << half) | (wrong >> half))
+}
+
+#[cfg(test)]
+mod tests {
+    use super::*;
+
+    // The code of three equal bits: one information bit, two check bits.
+    #[test]
+    fn finds_one_wrong_bit_of_three(rt: HostRuntime) {
+        for (sum, wrong) in [(0b00, 0b000), (0b11, 0b100), (0b10, 0b010), (0b01, 0b001)] {
+            assert_eq!(rt; wrong_by_rows(&[0b11], 2, 1, sum), Some(wrong));
+        }
+        assert_eq!(rt; wrong_by_rows(&[0b11], 2, 0, 0b11), None);
+    }
 }
