@@ -1,4 +1,5 @@
-# Completion for bash of the words of p25 and of its companions: read it by `. completion.bash`, or from the folder of completions.
+# Completion for bash of the words of p25 and of its companions: read it by `. completion.bash`, or from the folder of
+# completions.
 
 _p25() {
     local word=${COMP_WORDS[COMP_CWORD]} words=''

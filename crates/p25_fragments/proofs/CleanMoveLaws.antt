@@ -45,7 +45,8 @@ pub record IsDelivered (v w : Link) (message : List ℕ) : Type 0 where
   pub before : length (present_session v).delivered ≡ (present_session v).acknowledged
   pub after : length (present_session w).delivered ≡ (present_session w).acknowledged + 1
 
-delivered-message : (part message : List ℕ) (s t : Session) (b c : ℕ) (v w : Link) → SessionFacts b s v → SessionFacts c t w → outstanding_in v ≡ Message part → t ≡ with_delivered s message → (message ≡ part) × (length s.delivered ≡ s.acknowledged)
+delivered-message : (part message : List ℕ) (s t : Session) (b c : ℕ) (v w : Link) → SessionFacts b s v → SessionFacts c t w → outstanding_in v ≡ Message part → t ≡ with_delivered s message →
+    (message ≡ part) × (length s.delivered ≡ s.acknowledged)
 unfolding SentBy
 delivered-message part message s t b c v w f g o e =
     let more : length t.delivered ≡ length s.delivered + 1 = ap (λ (x : Session). length x.delivered) e ∙ length-append s.delivered (message ∷ []) in
@@ -90,7 +91,8 @@ acknowledged-is v w k l o e =
     sym (ap (λ (x : Session). length x.delivered) p) ∙ quiet-counts w l o ∙ ap (λ (x : Session). x.acknowledged) p
 
 -- The session is open: the opening packet had come.
-pub opened-is : (number : ℕ) (v w : Link) → IsKept v → IsKept w → outstanding_in v ≡ Opening number → outstanding_in w ≡ Nothing → w.outbound.sender.next ≡ (number + 1) % 8 → HasSameLast v w → lists_of w ≡ lists_of v → v.inbound.receiver.last ≡ number
+pub opened-is : (number : ℕ) (v w : Link) → IsKept v → IsKept w → outstanding_in v ≡ Opening number → outstanding_in w ≡ Nothing → w.outbound.sender.next ≡ (number + 1) % 8 → HasSameLast v w →
+    lists_of w ≡ lists_of v → v.inbound.receiver.last ≡ number
 unfolding FactsBy
 opened-is number v w k l o p n s e =
     let f : OpeningFacts number (present_session v) v = facts-at v (Opening number) k o in
@@ -110,7 +112,8 @@ opening-is : (out : Outstanding) (next number : ℕ) (message : List ℕ) → ou
 unfolding opening_number
 opening-is out next number message o n = sym n ∙ ap (λ (x : Outstanding). opening_number x next) o
 
-pub away : (b : ℕ) (s : Session) (v : Link) (number : ℕ) → IsLinked b s v → v.outbound.sender.down ≡ true → is_opening (outstanding_in v) ≡ false → opening_number (outstanding_in v) v.outbound.sender.next ≡ number → v.inbound.receiver.last ≡ number → ⊥
+pub away : (b : ℕ) (s : Session) (v : Link) (number : ℕ) → IsLinked b s v → v.outbound.sender.down ≡ true → is_opening (outstanding_in v) ≡ false →
+    opening_number (outstanding_in v) v.outbound.sender.next ≡ number → v.inbound.receiver.last ≡ number → ⊥
 away b s v number (quiet last q) d i n l = absurd (cc (d, q.up))
 away b s v number (busy at message h) d i n l =
     let is = opening-is (outstanding_in v) v.outbound.sender.next number message h.outstanding n in

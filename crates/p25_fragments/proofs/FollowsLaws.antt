@@ -15,7 +15,7 @@ use Rattle.p25_delivery.proofs.SessionLaws.{marked, IsDivided, divided-marked, p
 use Rattle.p25_delivery.proofs.PhaseLaws.{IsKept, orderly-divided}
 use Rattle.p25_stations.specs.declared.step.Step.{Step}
 use Rattle.p25_stations.specs.WorldState.{WorldState}
-use Rattle.p25_fragments.specs.declared.outgoing.Outgoing.{Outgoing}
+use Rattle.p25_fragments.specs.declared.outstanding_part.OutstandingPart.{OutstandingPart}
 use Rattle.p25_fragments.specs.declared.long_step.Then.{Then}
 use Rattle.p25_fragments.specs.declared.long_step.Then.TheVariants.{Plain, Refused}
 use Rattle.p25_fragments.specs.declared.long_step.LongStep.{LongStep}
@@ -35,7 +35,7 @@ present w = present_session (long_link w)
 pub record Follows (w : LongState) : Type 0 where
   pub kept : IsKept w.inner.link
   pub divided : IsDivided IsOrderly (long_link w)
-  pub matches : Matches w.inner.link w.outgoing w.joining (present w)
+  pub matches : Matches w.inner.link w.outstanding w.joining (present w)
 
 -- a step after which the long messages match, and in which no part is refused
 pub record FollowsStep (y : LongState × LongStep) : Type 0 where
@@ -48,7 +48,7 @@ pub record FollowsThen (y : LongState × Then) : Type 0 where
   pub unrefused : y.1 ≢ Refused
 
 pub present-orderly : (w : LongState) → Follows w → IsOrderly (present w)
-present-orderly w f = orderly-matches (outstanding_in w.inner.link) w.inner.link.inbound.receiver.last (present_session w.inner.link) w.outgoing w.joining (present w) f.matches
+present-orderly w f = orderly-matches (outstanding_in w.inner.link) w.inner.link.inbound.receiver.last (present_session w.inner.link) w.outstanding w.joining (present w) f.matches
 
 pub sessions-orderly : (w : LongState) → Follows w → AreOrderly (long_sessions_of w)
 sessions-orderly w f = orderly-divided (long_link w) f.divided (present-orderly w f)
@@ -62,7 +62,8 @@ happened-on w inner step e =
     let test : nat_lt (length w.inner.link.outbound.marks) (length inner.link.outbound.marks) ≡ false = grind (arith, nat_tests) in
     ap (λ (y : LongState × Then). with_first step y) (cond-false _ _ _ test)
 
-pub happened-end : (w : LongState) (inner : WorldState) (step : Step) (mark : Mark) → inner.link.outbound.marks ≡ w.inner.link.outbound.marks ++ mark ∷ [] → inner_happened w (inner, step) ≡ with_first step (session_ended (record w { inner = inner }))
+pub happened-end : (w : LongState) (inner : WorldState) (step : Step) (mark : Mark) → inner.link.outbound.marks ≡ w.inner.link.outbound.marks ++ mark ∷ [] →
+    inner_happened w (inner, step) ≡ with_first step (session_ended (record w { inner = inner }))
 unfolding inner_happened
 happened-end w inner step mark e =
     let more : length inner.link.outbound.marks ≡ length w.inner.link.outbound.marks + 1 = ap length e ∙ length-append w.inner.link.outbound.marks (mark ∷ []) in
@@ -91,20 +92,21 @@ plain-unrefused e = absurd (cc)
 plain-then : (kind : StepKind) (w : LongState) → IsPlainKind kind → Follows w → FollowsThen (after_kind kind w)
 plain-then kind w p f = subst FollowsThen (sym (after-plain kind w p)) (record { follows = f; unrefused = plain-unrefused })
 
-same-matches : (v u : Link) (out : Option Outgoing) (j : Joining) (p : Session) → IsSameIn v u → HasSameLast v u → present_session u ≡ present_session v → Matches v out j p → Matches u out j p
+same-matches : (v u : Link) (out : Option OutstandingPart) (j : Joining) (p : Session) → IsSameIn v u → HasSameLast v u → present_session u ≡ present_session v → Matches v out j p → Matches u out j p
 same-matches v u out j p o l s m =
     let last : MatchesBy (outstanding_in v) u.inbound.receiver.last (present_session v) out j p = subst (λ (n : ℕ). MatchesBy (outstanding_in v) n (present_session v) out j p) (sym l) m in
     matches-from u (outstanding_in v) out j p o (subst (λ (x : Session). MatchesBy (outstanding_in v) u.inbound.receiver.last x out j p) (sym s) last)
 
-pub nothing-follows : (w : LongState) (inner : WorldState) (step : Step) → Follows w → IsKept inner.link → IsPlainKind step.kind → IsSameIn w.inner.link inner.link → HasSameLast w.inner.link inner.link → lists_of inner.link ≡ lists_of w.inner.link →
+pub nothing-follows : (w : LongState) (inner : WorldState) (step : Step) → Follows w → IsKept inner.link → IsPlainKind step.kind → IsSameIn w.inner.link inner.link →
+    HasSameLast w.inner.link inner.link → lists_of inner.link ≡ lists_of w.inner.link →
     FollowsStep (inner_happened w (inner, step))
 nothing-follows w inner step f k p o l e =
     on w inner step (ap (λ (v : Link). v.outbound.marks) e)
-    (plain-then step.kind (record w { inner = inner }) p (record { kept = k; divided = f.divided; matches = same-matches w.inner.link inner.link w.outgoing w.joining (present w) o l (ap present_session e) f.matches }))
+    (plain-then step.kind (record w { inner = inner }) p (record { kept = k; divided = f.divided; matches = same-matches w.inner.link inner.link w.outstanding w.joining (present w) o l (ap present_session e) f.matches }))
 
 -- The session is open.
 
-opened-matches : (v u : Link) (out : Option Outgoing) (j : Joining) (p : Session) (number : ℕ) → outstanding_in v ≡ Opening number → v.inbound.receiver.last ≡ number → outstanding_in u ≡ Nothing → Matches v out j p → Matches u out j p
+opened-matches : (v u : Link) (out : Option OutstandingPart) (j : Joining) (p : Session) (number : ℕ) → outstanding_in v ≡ Opening number → v.inbound.receiver.last ≡ number → outstanding_in u ≡ Nothing → Matches v out j p → Matches u out j p
 unfolding MatchesBy
 opened-matches v u out j p number o l q m =
     let h : IsOpeningLong number v.inbound.receiver.last out j p = matches-at v (Opening number) out j p o m in
@@ -115,15 +117,16 @@ opened-matches v u out j p number o l q m =
       acknowledged_is = ap (λ (x : Session). x.acknowledged) h.session_is ∙ sym (ap (λ (x : Session). length x.sent) h.session_is);
     })
 
-pub opened-follows : (w : LongState) (inner : WorldState) (step : Step) (number : ℕ) → Follows w → IsKept inner.link → IsPlainKind step.kind → outstanding_in w.inner.link ≡ Opening number → w.inner.link.inbound.receiver.last ≡ number → outstanding_in inner.link ≡ Nothing →
+pub opened-follows : (w : LongState) (inner : WorldState) (step : Step) (number : ℕ) → Follows w → IsKept inner.link → IsPlainKind step.kind → outstanding_in w.inner.link ≡ Opening number →
+    w.inner.link.inbound.receiver.last ≡ number → outstanding_in inner.link ≡ Nothing →
     lists_of inner.link ≡ lists_of w.inner.link → FollowsStep (inner_happened w (inner, step))
 opened-follows w inner step number f k p o l q e =
     on w inner step (ap (λ (v : Link). v.outbound.marks) e)
-    (plain-then step.kind (record w { inner = inner }) p (record { kept = k; divided = f.divided; matches = opened-matches w.inner.link inner.link w.outgoing w.joining (present w) number o l q f.matches }))
+    (plain-then step.kind (record w { inner = inner }) p (record { kept = k; divided = f.divided; matches = opened-matches w.inner.link inner.link w.outstanding w.joining (present w) number o l q f.matches }))
 
 -- The opening packet is heard.
 
-syn-matches : (o : Outstanding) (last : ℕ) (s : Session) (u : ℕ) (t : Session) (out : Option Outgoing) (j : Joining) (p : Session) → IsNoMessage o → MatchesBy o last s out j p → MatchesBy o u t out first_joining p
+syn-matches : (o : Outstanding) (last : ℕ) (s : Session) (u : ℕ) (t : Session) (out : Option OutstandingPart) (j : Joining) (p : Session) → IsNoMessage o → MatchesBy o last s out j p → MatchesBy o u t out first_joining p
 unfolding IsNoMessage MatchesBy
 syn-matches Nothing last s u t out j p is m = record { out_is = m.out_is; joining_is = refl; whole_is = m.whole_is; acknowledged_is = m.acknowledged_is }
 syn-matches (Message part) last s u t out j p is m = absurd is
@@ -133,17 +136,19 @@ syn-then : (w : LongState) (kind : StepKind) (number : ℕ) → kind ≡ SynHear
 unfolding after_kind
 syn-then w kind number k f = subst FollowsThen (sym (ap (λ (x : StepKind). after_kind x w) k)) (record { follows = f; unrefused = plain-unrefused })
 
-pub syn-follows : (w : LongState) (inner : WorldState) (step : Step) (number : ℕ) → Follows w → IsKept inner.link → step.kind ≡ SynHeard number → IsNoMessage (outstanding_in w.inner.link) → IsSameIn w.inner.link inner.link → lists_of inner.link ≡ lists_of w.inner.link →
+pub syn-follows : (w : LongState) (inner : WorldState) (step : Step) (number : ℕ) → Follows w → IsKept inner.link → step.kind ≡ SynHeard number → IsNoMessage (outstanding_in w.inner.link) →
+    IsSameIn w.inner.link inner.link → lists_of inner.link ≡ lists_of w.inner.link →
     FollowsStep (inner_happened w (inner, step))
 syn-follows w inner step number f k s is o e =
     let v = w.inner.link in
-    let m = syn-matches (outstanding_in v) v.inbound.receiver.last (present_session v) inner.link.inbound.receiver.last (present_session inner.link) w.outgoing w.joining (present w) is f.matches in
+    let m = syn-matches (outstanding_in v) v.inbound.receiver.last (present_session v) inner.link.inbound.receiver.last (present_session inner.link) w.outstanding w.joining (present w) is f.matches in
     on w inner step (ap (λ (u : Link). u.outbound.marks) e)
-    (syn-then (record w { inner = inner }) step.kind number s (record { kept = k; divided = f.divided; matches = matches-from inner.link (outstanding_in v) w.outgoing first_joining (present w) o m }))
+    (syn-then (record w { inner = inner }) step.kind number s (record { kept = k; divided = f.divided; matches = matches-from inner.link (outstanding_in v) w.outstanding first_joining (present w) o m }))
 
 -- A session ends.
 
-pub ended-follows : (w : LongState) (inner : WorldState) (step : Step) (number : ℕ) → Follows w → IsKept inner.link → outstanding_in inner.link ≡ Opening number → (inner.link.inbound.receiver.last ≡ number → ⊥) → lists_of inner.link ≡ marked (lists_of w.inner.link) →
+pub ended-follows : (w : LongState) (inner : WorldState) (step : Step) (number : ℕ) → Follows w → IsKept inner.link → outstanding_in inner.link ≡ Opening number →
+    (inner.link.inbound.receiver.last ≡ number → ⊥) → lists_of inner.link ≡ marked (lists_of w.inner.link) →
     FollowsStep (inner_happened w (inner, step))
 unfolding MatchesBy
 ended-follows w inner step number f k o away e =

@@ -11,7 +11,7 @@ use Rattle.p25_stations.specs.declared.step.Step.{Step}
 use Rattle.p25_stations.specs.WorldState.{WorldState}
 use Rattle.p25_stations.specs.Steps.{world_step}
 use Rattle.p25_stations.specs.Runs.{world_run, steps_of}
-use Rattle.p25_fragments.specs.declared.outgoing.Outgoing.{Outgoing}
+use Rattle.p25_fragments.specs.declared.outstanding_part.OutstandingPart.{OutstandingPart}
 use Rattle.p25_fragments.specs.declared.joiner.Joined.{Joined}
 use Rattle.p25_fragments.specs.declared.joiner.Joined.TheVariants.{Whole as JoinedWhole, Part as JoinedPart, Refused as JoinedRefused}
 use Rattle.p25_fragments.specs.declared.long_step.LongEvent.{LongEvent}
@@ -82,13 +82,13 @@ offered-run w message x i (told_taken number blocks k d o e) = subst (Runs w) (s
 Follow : LongState → LongState × Then → Type 0
 Follow w y = IsInnerRun w.inner y.0.inner (next_steps y.1)
 
-acknowledged-run : (out : Option Outgoing) (w : LongState) → Follow w (after_acknowledged out w)
+acknowledged-run : (out : Option OutstandingPart) (w : LongState) → Follow w (after_acknowledged out w)
 unfolding Follow after_acknowledged next_offered next_steps
 acknowledged-run None w = no-events w.inner
 acknowledged-run (Some sent) w =
     let part = part_of sent.message (sent.number + 1) in
     let next : LongState × Then = next_offered w (record sent { number = sent.number + 1 }) (world_step w.inner (Send part)) in
-    let last : LongState × Then = (record w { outgoing = None; acknowledged = w.acknowledged + 1 }, Finished) in
+    let last : LongState × Then = (record w { outstanding = None; acknowledged = w.acknowledged + 1 }, Finished) in
     elim (nat_lt (sent.number + 1) (part_count (length sent.message))) as (λ (b : Bool). Follow w (cond b next last)) [ true ↦ one-event w.inner (Send part) | false ↦ no-events w.inner ]
 
 delivered-run : (w : LongState) (x : Joining × Joined) → Follow w (after_delivered w x)
@@ -103,7 +103,7 @@ plain-run w = no-events w.inner
 
 after-run : (kind : StepKind) (w : LongState) → Follow w (after_kind kind w)
 unfolding after_kind Follow next_steps
-after-run (Acknowledged number) w = acknowledged-run w.outgoing w
+after-run (Acknowledged number) w = acknowledged-run w.outstanding w
 after-run (Delivered number message) w = delivered-run w (message_taken w.joining message)
 after-run (SynHeard number) w = no-events w.inner
 after-run other w = plain-run w

@@ -39,7 +39,7 @@ unfolding started MatchesBy
 started-follows w message f short o up =
     let x = world_step w.inner (Send (part_of message 0)) in
     let now = (started w message x).0 in
-    let m : IsIdleLong w.outgoing w.joining (present w) = matches-at w.inner.link Nothing w.outgoing w.joining (present w) o f.matches in
+    let m : IsIdleLong w.outstanding w.joining (present w) = matches-at w.inner.link Nothing w.outstanding w.joining (present w) o f.matches in
     let offer = offered-to w.inner message 0 f.kept o up in
     let more = present-sent (long_link w) message f.divided.0 in
     let matches = matches-from x.0.link (Message (part_of message 0)) (Some (record { message = message; number = 0 })) w.joining (present now) offer.outstanding (record {
@@ -108,7 +108,8 @@ inner-first : (w : LongState) (x : WorldState × Step) → (inner_happened w x).
 unfolding inner_happened
 inner-first w (inner, step) = refl
 
-step-follows : (w : LongState) (event : LongEvent) (rest : List Step) → Follows w → IsLongEvent event → AreClean ((first_steps (long_step w event).1.first ++ next_steps (long_step w event).1.then) ++ rest) → FollowsStep (long_step w event)
+step-follows : (w : LongState) (event : LongEvent) (rest : List Step) → Follows w → IsLongEvent event →
+    AreClean ((first_steps (long_step w event).1.first ++ next_steps (long_step w event).1.then) ++ rest) → FollowsStep (long_step w event)
 unfolding IsLongEvent long_step
 step-follows w (Long message) rest f is clean = offered-follows w message (world_step w.inner (Send (part_of message 0))) f is refl (offered-as w message)
 step-follows w (Inner event) rest f is clean =

@@ -19,7 +19,7 @@ use Rattle.p25_stations.specs.declared.step.Event.TheVariants.{Send}
 use Rattle.p25_stations.specs.declared.step.Step.{Step}
 use Rattle.p25_stations.specs.WorldState.{WorldState}
 use Rattle.p25_stations.specs.Steps.{world_step}
-use Rattle.p25_fragments.specs.declared.outgoing.Outgoing.{Outgoing}
+use Rattle.p25_fragments.specs.declared.outstanding_part.OutstandingPart.{OutstandingPart}
 use Rattle.p25_fragments.specs.declared.joiner.Joined.{Joined}
 use Rattle.p25_fragments.specs.declared.joiner.Joined.TheVariants.{Whole as JoinedWhole, Part as JoinedPart}
 use Rattle.p25_fragments.specs.declared.long_step.Then.{Then}
@@ -55,25 +55,26 @@ held-before message number earlier d a j whole c (came_last e n w i) = absurd (o
 TakesPart : LongState → WorldState → List ℕ → Type 0
 TakesPart w inner part = FollowsThen (after_delivered (record w { inner = inner }) (message_taken w.joining part))
 
-takes-inner : (w : LongState) (inner : WorldState) (part : List ℕ) → Follows w → IsKept inner.link → outstanding_in inner.link ≡ Message part → length (present_session inner.link).delivered ≡ (present_session inner.link).acknowledged + 1 →
-    (m : IsPartOf part w.outgoing (present w)) → (present w).delivered ≡ m.earlier → w.joining ≡ joined_at m.message m.number → m.number + 1 < part_count (length m.message) → TakesPart w inner part
+takes-inner : (w : LongState) (inner : WorldState) (part : List ℕ) → Follows w → IsKept inner.link → outstanding_in inner.link ≡ Message part →
+    length (present_session inner.link).delivered ≡ (present_session inner.link).acknowledged + 1 →
+    (m : IsPartOf part w.outstanding (present w)) → (present w).delivered ≡ m.earlier → w.joining ≡ joined_at m.message m.number → m.number + 1 < part_count (length m.message) → TakesPart w inner part
 unfolding TakesPart MatchesBy after_delivered
 takes-inner w inner part f k o c m d j n =
     let now : LongState = record w { inner = inner } in
     let taken : message_taken w.joining part ≡ (joined_at m.message (m.number + 1), JoinedPart m.number)
     = ap₂ (λ (x : Joining) (y : List ℕ). message_taken x y) j m.part_is ∙ join-inner m.message m.number m.short n in
-    let matches = matches-from inner.link (Message part) w.outgoing (joined_at m.message (m.number + 1)) (present w) o (record { of = m; came = came_inner c n d refl }) in
+    let matches = matches-from inner.link (Message part) w.outstanding (joined_at m.message (m.number + 1)) (present w) o (record { of = m; came = came_inner c n d refl }) in
     subst (λ (x : Joining × Joined). FollowsThen (after_delivered now x)) (sym taken) (record { follows = record { kept = k; divided = f.divided; matches = matches }; unrefused = λ q. absurd (cc) })
 
 takes-last : (w : LongState) (inner : WorldState) (part : List ℕ) → Follows w → IsKept inner.link → outstanding_in inner.link ≡ Message part → length (present_session inner.link).delivered ≡ (present_session inner.link).acknowledged + 1 →
-    (m : IsPartOf part w.outgoing (present w)) → (present w).delivered ≡ m.earlier → w.joining ≡ joined_at m.message m.number → m.number + 1 ≡ part_count (length m.message) → TakesPart w inner part
+    (m : IsPartOf part w.outstanding (present w)) → (present w).delivered ≡ m.earlier → w.joining ≡ joined_at m.message m.number → m.number + 1 ≡ part_count (length m.message) → TakesPart w inner part
 unfolding TakesPart MatchesBy after_delivered
 takes-last w inner part f k o c m d j n =
     let now : LongState = record w { inner = inner } in
     let to : LongState = record now { joining = first_joining; whole = w.whole ++ m.message ∷ [] } in
     let taken : message_taken w.joining part ≡ (first_joining, JoinedWhole m.message) = ap₂ (λ (x : Joining) (y : List ℕ). message_taken x y) j m.part_is ∙ join-last m.message m.number m.short n in
     let more = present-delivered (long_link w) m.message f.divided.0 in
-    let of : IsPartOf part w.outgoing (present to)
+    let of : IsPartOf part w.outstanding (present to)
     = record {
       message = m.message;
       number = m.number;
@@ -86,7 +87,7 @@ takes-last w inner part f k o c m d j n =
       acknowledged_is = ap (λ (x : Session). x.acknowledged) more ∙ m.acknowledged_is;
     } in
     let whole = ap (λ (x : Session). x.delivered) more ∙ ap (λ (xs : List (List ℕ)). xs ++ m.message ∷ []) d in
-    let matches = matches-from inner.link (Message part) w.outgoing first_joining (present to) o (record { of = of; came = came_last c n whole refl }) in
+    let matches = matches-from inner.link (Message part) w.outstanding first_joining (present to) o (record { of = of; came = came_last c n whole refl }) in
     subst (λ (x : Joining × Joined). FollowsThen (after_delivered now x)) (sym taken)
     (record { follows = record { kept = k; divided = divided-delivered IsOrderly (long_link w) m.message f.divided; matches = matches }; unrefused = λ q. absurd (cc) })
 
@@ -94,7 +95,7 @@ takes-part : (w : LongState) (inner : WorldState) (part : List ℕ) → Follows 
 unfolding MatchesBy
 takes-part w inner part f k o d =
     let v = w.inner.link in
-    let m : IsSendingLong part (present_session v) w.outgoing w.joining (present w) = matches-at v (Message part) w.outgoing w.joining (present w) d.outstanding f.matches in
+    let m : IsSendingLong part (present_session v) w.outstanding w.joining (present w) = matches-at v (Message part) w.outstanding w.joining (present w) d.outstanding f.matches in
     let held = held-before m.of.message m.of.number m.of.earlier (length (present_session v).delivered) (present_session v).acknowledged w.joining (present w).delivered d.before m.came in
     elim (next-or-last m.of.number (part_count (length m.of.message)) m.of.below) [
       | inl n ↦ takes-inner w inner part f k (o ∙ d.outstanding) d.after m.of held.0 held.1 n
@@ -121,7 +122,8 @@ kept-offer : (inner : WorldState) (part : List ℕ) → length part ≤ 2028 →
 unfolding world_step IsClean
 kept-offer inner part short k = happens-kept inner.link (Offering part) k short
 
-pub offered-to : (inner : WorldState) (message : List ℕ) (number : ℕ) → IsKept inner.link → outstanding_in inner.link ≡ Nothing → inner.link.outbound.sender.down ≡ false → OfferedTo (part_of message number) (world_step inner (Send (part_of message number))).0
+pub offered-to : (inner : WorldState) (message : List ℕ) (number : ℕ) → IsKept inner.link → outstanding_in inner.link ≡ Nothing → inner.link.outbound.sender.down ≡ false →
+    OfferedTo (part_of message number) (world_step inner (Send (part_of message number))).0
 offered-to inner message number k o up =
     let part = part_of message number in
     let sent = send-taken inner part up o in
@@ -142,13 +144,13 @@ held-after message number earlier d a j whole c (came_inner e n w i) = inl (n, w
 held-after message number earlier d a j whole c (came_last e n w i) = inr (n, w, i)
 
 -- the next part is offered
-next-then : (w : LongState) (inner : WorldState) (part : List ℕ) → Follows w → IsKept inner.link → outstanding_in inner.link ≡ Nothing → inner.link.outbound.sender.down ≡ false → (m : IsPartOf part w.outgoing (present w)) →
+next-then : (w : LongState) (inner : WorldState) (part : List ℕ) → Follows w → IsKept inner.link → outstanding_in inner.link ≡ Nothing → inner.link.outbound.sender.down ≡ false → (m : IsPartOf part w.outstanding (present w)) →
     m.number + 1 < part_count (length m.message) → (present w).delivered ≡ m.earlier → w.joining ≡ joined_at m.message (m.number + 1) →
     FollowsThen (after_acknowledged (Some (record { message = m.message; number = m.number })) (record w { inner = inner }))
 unfolding MatchesBy after_acknowledged next_offered
 next-then w inner part f k o up m n d j =
     let number = m.number + 1 in
-    let next : Outgoing = record { message = m.message; number = number } in
+    let next : OutstandingPart = record { message = m.message; number = number } in
     let offer = offered-to inner m.message number k o up in
     let x = world_step inner (Send (part_of m.message number)) in
     let test : nat_lt (m.number + 1) (part_count (length m.message)) ≡ true = grind (arith, nat_tests) in
@@ -171,11 +173,11 @@ next-then w inner part f k o up m n d j =
     subst FollowsThen (sym (cond-true _ y _ test)) follows
 
 -- the long message is acknowledged with its last part
-finished-then : (w : LongState) (inner : WorldState) (part : List ℕ) → Follows w → IsKept inner.link → outstanding_in inner.link ≡ Nothing → (m : IsPartOf part w.outgoing (present w)) → m.number + 1 ≡ part_count (length m.message) →
+finished-then : (w : LongState) (inner : WorldState) (part : List ℕ) → Follows w → IsKept inner.link → outstanding_in inner.link ≡ Nothing → (m : IsPartOf part w.outstanding (present w)) → m.number + 1 ≡ part_count (length m.message) →
     (present w).delivered ≡ m.earlier ++ m.message ∷ [] → w.joining ≡ first_joining → FollowsThen (after_acknowledged (Some (record { message = m.message; number = m.number })) (record w { inner = inner }))
 unfolding MatchesBy after_acknowledged
 finished-then w inner part f k o m n d j =
-    let to : LongState = record w { inner = inner; outgoing = None; acknowledged = w.acknowledged + 1 } in
+    let to : LongState = record w { inner = inner; outstanding = None; acknowledged = w.acknowledged + 1 } in
     let more = present-acknowledged (long_link w) f.divided.0 in
     let sent = ap (λ (x : Session). x.sent) more in
     let count : length (present w).sent ≡ length m.earlier + 1 = ap length m.sent_is ∙ length-append m.earlier (m.message ∷ []) in
@@ -190,22 +192,24 @@ finished-then w inner part f k o m n d j =
     subst FollowsThen (sym (cond-false _ _ _ test)) (record { follows = follows; unrefused = λ q. absurd (cc) })
 
 acknowledged-then : (w : LongState) (inner : WorldState) (kind : StepKind) (number : ℕ) (part : List ℕ) → Follows w → IsKept inner.link → kind ≡ Acknowledged number → outstanding_in w.inner.link ≡ Message part →
-    length (present_session w.inner.link).delivered ≡ (present_session w.inner.link).acknowledged + 1 → outstanding_in inner.link ≡ Nothing → inner.link.outbound.sender.down ≡ false → FollowsThen (after_kind kind (record w { inner = inner }))
+    length (present_session w.inner.link).delivered ≡ (present_session w.inner.link).acknowledged + 1 → outstanding_in inner.link ≡ Nothing → inner.link.outbound.sender.down ≡ false →
+    FollowsThen (after_kind kind (record w { inner = inner }))
 unfolding MatchesBy after_kind
 acknowledged-then w inner kind number part f k is o c p up =
     let v = w.inner.link in
     let now : LongState = record w { inner = inner } in
-    let m : IsSendingLong part (present_session v) w.outgoing w.joining (present w) = matches-at v (Message part) w.outgoing w.joining (present w) o f.matches in
+    let m : IsSendingLong part (present_session v) w.outstanding w.joining (present w) = matches-at v (Message part) w.outstanding w.joining (present w) o f.matches in
     let gone : FollowsThen (after_acknowledged (Some (record { message = m.of.message; number = m.of.number })) now)
     = elim (held-after m.of.message m.of.number m.of.earlier (length (present_session v).delivered) (present_session v).acknowledged w.joining (present w).delivered c m.came) [
       | inl held ↦ next-then w inner part f k p up m.of held.0 held.1 held.2
       | inr held ↦ finished-then w inner part f k p m.of held.0 held.1 held.2
     ] in
-    subst FollowsThen (sym (ap (λ (x : StepKind). after_kind x now) is)) (subst (λ (out : Option Outgoing). FollowsThen (after_acknowledged out now)) (sym m.of.out_is) gone)
+    subst FollowsThen (sym (ap (λ (x : StepKind). after_kind x now) is)) (subst (λ (out : Option OutstandingPart). FollowsThen (after_acknowledged out now)) (sym m.of.out_is) gone)
 
 -- Whatever happens at the link, but an offer.
 
-pub moved-follows : (w : LongState) (inner : WorldState) (step : Step) (happening : Happening) → Follows w → IsKept inner.link → IsClean w.inner.link happening → Moves w.inner.link happening (inner.link, step.kind) → FollowsStep (inner_happened w (inner, step))
+pub moved-follows : (w : LongState) (inner : WorldState) (step : Step) (happening : Happening) → Follows w → IsKept inner.link → IsClean w.inner.link happening →
+    Moves w.inner.link happening (inner.link, step.kind) → FollowsStep (inner_happened w (inner, step))
 unfolding IsClean
 moved-follows w inner step h f k c (moves_nothing p o l e) = nothing-follows w inner step f k p o l e
 moved-follows w inner step h f k c (ends number p d i n o l e) =

@@ -18,7 +18,7 @@ use Rattle.p25_stations.specs.declared.step.Step.{Step}
 use Rattle.p25_stations.specs.WorldState.{WorldState}
 use Rattle.p25_stations.specs.Steps.{world_step}
 use Rattle.p25_stations.proofs.StepLaws.{Does, rests, does, step-does}
-use Rattle.p25_fragments.specs.declared.outgoing.Outgoing.{Outgoing}
+use Rattle.p25_fragments.specs.declared.outstanding_part.OutstandingPart.{OutstandingPart}
 use Rattle.p25_fragments.specs.declared.joiner.Joined.{Joined}
 use Rattle.p25_fragments.specs.declared.joiner.Joined.TheVariants.{Whole as JoinedWhole, Part as JoinedPart, Refused as JoinedRefused}
 use Rattle.p25_fragments.specs.declared.long_step.LongEvent.{LongEvent}
@@ -85,13 +85,13 @@ offered-marks w message x h i (told_down y e) = subst (λ (y : LongState × Long
 offered-marks w message x h i (told_busy y e) = subst (λ (y : LongState × LongStep). AreMarked y.0) (sym e) h
 offered-marks w message x h i (told_taken number blocks k d o e) = subst (λ (y : LongState × LongStep). AreMarked y.0) (sym (e ∙ ap (started w message) i)) (started-marks w message h)
 
-acknowledged-marks : (out : Option Outgoing) (w : LongState) → AreMarked w → AreMarked (after_acknowledged out w).0
+acknowledged-marks : (out : Option OutstandingPart) (w : LongState) → AreMarked w → AreMarked (after_acknowledged out w).0
 unfolding AreMarked after_acknowledged next_offered
 acknowledged-marks None w h = h
 acknowledged-marks (Some sent) w h =
     let part = part_of sent.message (sent.number + 1) in
     let next : LongState × Then = next_offered w (record sent { number = sent.number + 1 }) (world_step w.inner (Send part)) in
-    let last : LongState × Then = (record w { outgoing = None; acknowledged = w.acknowledged + 1 }, Finished) in
+    let last : LongState × Then = (record w { outstanding = None; acknowledged = w.acknowledged + 1 }, Finished) in
     elim (nat_lt (sent.number + 1) (part_count (length sent.message))) as (λ (b : Bool). AreMarked (cond b next last).0) [ true ↦ h ∙ ap length (sym (send-marks w.inner part)) | false ↦ h ]
 
 delivered-marks : (w : LongState) (x : Joining × Joined) → AreMarked w → AreMarked (after_delivered w x).0
@@ -102,7 +102,7 @@ delivered-marks w (j, JoinedRefused) h = h
 
 kind-marks : (kind : StepKind) (w : LongState) → AreMarked w → AreMarked (after_kind kind w).0
 unfolding AreMarked after_kind
-kind-marks (Acknowledged number) w h = acknowledged-marks w.outgoing w h
+kind-marks (Acknowledged number) w h = acknowledged-marks w.outstanding w h
 kind-marks (Delivered number message) w h = delivered-marks w (message_taken w.joining message) h
 kind-marks (SynHeard number) w h = h
 kind-marks other w h = h

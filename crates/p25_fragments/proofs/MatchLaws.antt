@@ -5,7 +5,7 @@ use Rattle.p25_delivery.specs.declared.sender_state.Outstanding.{Outstanding}
 use Rattle.p25_delivery.specs.declared.sender_state.Outstanding.TheVariants.{Nothing, Message, Opening}
 use Rattle.p25_delivery.specs.Link.{Link, Session, empty_session, present_session}
 use Rattle.p25_delivery.specs.Orderly.{IsOrderly}
-use Rattle.p25_fragments.specs.declared.outgoing.Outgoing.{Outgoing}
+use Rattle.p25_fragments.specs.declared.outstanding_part.OutstandingPart.{OutstandingPart}
 use Rattle.p25_fragments.specs.Joining.{Joining, first_joining}
 use Rattle.p25_fragments.proofs.JoinLaws.{joined_at}
 
@@ -17,14 +17,14 @@ pub data Came (message : List ℕ) (number : ℕ) (earlier : List (List ℕ)) (d
   came_last : delivered ≡ acknowledged + 1 → number + 1 ≡ part_count (length message) → whole ≡ earlier ++ message ∷ [] → j ≡ first_joining → Came message number earlier delivered acknowledged j whole
 
 -- while nothing is outstanding
-pub record IsIdleLong (out : Option Outgoing) (j : Joining) (p : Session) : Type 0 where
+pub record IsIdleLong (out : Option OutstandingPart) (j : Joining) (p : Session) : Type 0 where
   pub out_is : out ≡ None
   pub joining_is : j ≡ first_joining
   pub whole_is : p.delivered ≡ p.sent
   pub acknowledged_is : p.acknowledged ≡ length p.sent
 
 -- while a part is outstanding: what does not change as it comes
-pub record IsPartOf (part : List ℕ) (out : Option Outgoing) (p : Session) : Type 0 where
+pub record IsPartOf (part : List ℕ) (out : Option OutstandingPart) (p : Session) : Type 0 where
   pub message : List ℕ
   pub number : ℕ
   pub earlier : List (List ℕ)
@@ -35,32 +35,32 @@ pub record IsPartOf (part : List ℕ) (out : Option Outgoing) (p : Session) : Ty
   pub sent_is : p.sent ≡ earlier ++ message ∷ []
   pub acknowledged_is : p.acknowledged ≡ length earlier
 
-pub record IsSendingLong (part : List ℕ) (s : Session) (out : Option Outgoing) (j : Joining) (p : Session) : Type 0 where
+pub record IsSendingLong (part : List ℕ) (s : Session) (out : Option OutstandingPart) (j : Joining) (p : Session) : Type 0 where
   pub of : IsPartOf part out p
   pub came : Came of.message of.number of.earlier (length s.delivered) s.acknowledged j p.delivered
 
 -- while the opening packet is outstanding
-pub record IsOpeningLong (number last : ℕ) (out : Option Outgoing) (j : Joining) (p : Session) : Type 0 where
+pub record IsOpeningLong (number last : ℕ) (out : Option OutstandingPart) (j : Joining) (p : Session) : Type 0 where
   pub out_is : out ≡ None
   pub session_is : p ≡ empty_session
   pub joining_is : last ≡ number → j ≡ first_joining
 
 -- what is outstanding with V(R) and the present session of the link, and what the long messages are then
-unfoldable pub MatchesBy : Outstanding → ℕ → Session → Option Outgoing → Joining → Session → Type 0
+unfoldable pub MatchesBy : Outstanding → ℕ → Session → Option OutstandingPart → Joining → Session → Type 0
 MatchesBy Nothing last s out j p = IsIdleLong out j p
 MatchesBy (Message part) last s out j p = IsSendingLong part s out j p
 MatchesBy (Opening number) last s out j p = IsOpeningLong number last out j p
 
-abbrev pub MatchesAs : Link → Outstanding → Option Outgoing → Joining → Session → Type 0
+abbrev pub MatchesAs : Link → Outstanding → Option OutstandingPart → Joining → Session → Type 0
 MatchesAs v o out j p = MatchesBy o v.inbound.receiver.last (present_session v) out j p
 
-abbrev pub Matches : Link → Option Outgoing → Joining → Session → Type 0
+abbrev pub Matches : Link → Option OutstandingPart → Joining → Session → Type 0
 Matches v out j p = MatchesAs v v.outbound.sender.outstanding out j p
 
-pub matches-at : (v : Link) (o : Outstanding) (out : Option Outgoing) (j : Joining) (p : Session) → v.outbound.sender.outstanding ≡ o → Matches v out j p → MatchesAs v o out j p
+pub matches-at : (v : Link) (o : Outstanding) (out : Option OutstandingPart) (j : Joining) (p : Session) → v.outbound.sender.outstanding ≡ o → Matches v out j p → MatchesAs v o out j p
 matches-at v o out j p e m = subst (λ (x : Outstanding). MatchesAs v x out j p) e m
 
-pub matches-from : (v : Link) (o : Outstanding) (out : Option Outgoing) (j : Joining) (p : Session) → v.outbound.sender.outstanding ≡ o → MatchesAs v o out j p → Matches v out j p
+pub matches-from : (v : Link) (o : Outstanding) (out : Option OutstandingPart) (j : Joining) (p : Session) → v.outbound.sender.outstanding ≡ o → MatchesAs v o out j p → Matches v out j p
 matches-from v o out j p e m = subst (λ (x : Outstanding). MatchesAs v x out j p) (sym e) m
 
 -- So the present session is orderly.
@@ -84,7 +84,7 @@ came-orderly message number earlier delivered acknowledged j p e a (came_last c 
     let count : length p.sent ≡ length earlier + 1 = ap length e ∙ length-append earlier (message ∷ []) in
     whole-orderly p (w ∙ sym e) (omega (arith, a, count)) (omega (arith, a, count))
 
-pub orderly-matches : (o : Outstanding) (last : ℕ) (s : Session) (out : Option Outgoing) (j : Joining) (p : Session) → MatchesBy o last s out j p → IsOrderly p
+pub orderly-matches : (o : Outstanding) (last : ℕ) (s : Session) (out : Option OutstandingPart) (j : Joining) (p : Session) → MatchesBy o last s out j p → IsOrderly p
 unfolding MatchesBy
 orderly-matches Nothing last s out j p m = whole-orderly p m.whole_is (omega (arith, m.acknowledged_is)) (omega (arith, m.acknowledged_is))
 orderly-matches (Message part) last s out j p m = came-orderly m.of.message m.of.number m.of.earlier (length s.delivered) s.acknowledged j p m.of.sent_is m.of.acknowledged_is m.came

@@ -59,11 +59,13 @@ HasSameLast v w = w.inbound.receiver.last ≡ v.inbound.receiver.last
 -- what a call that offers no message does
 pub data Moves (v : Link) (happening : Happening) (x : Link × StepKind) : Type 0 where
   moves_nothing : IsPlainKind x.1 → IsSameIn v x.0 → HasSameLast v x.0 → lists_of x.0 ≡ lists_of v → Moves v happening x
-  ends : (number : ℕ) → IsPlainKind x.1 → v.outbound.sender.down ≡ true → is_opening (outstanding_in v) ≡ false → opening_number (outstanding_in v) v.outbound.sender.next ≡ number → outstanding_in x.0 ≡ Opening number → HasSameLast v x.0 →
+  ends : (number : ℕ) → IsPlainKind x.1 → v.outbound.sender.down ≡ true → is_opening (outstanding_in v) ≡ false → opening_number (outstanding_in v) v.outbound.sender.next ≡ number →
+      outstanding_in x.0 ≡ Opening number → HasSameLast v x.0 →
       lists_of x.0 ≡ marked (lists_of v) → Moves v happening x
   delivers : (number : ℕ) (message : List ℕ) → x.1 ≡ Delivered number message → IsSameIn v x.0 → lists_of x.0 ≡ one_delivered (lists_of v) message → Moves v happening x
   hears_opening : (number : ℕ) (packet : ConfirmedParts) → happening ≡ Data_heard (Confirmed packet) → head_syn packet.head ≡ true → x.1 ≡ SynHeard number → IsSameIn v x.0 → lists_of x.0 ≡ lists_of v → Moves v happening x
-  acknowledges : (number : ℕ) (message : List ℕ) → x.1 ≡ Acknowledged number → outstanding_in v ≡ Message message → outstanding_in x.0 ≡ Nothing → x.0.outbound.sender.down ≡ false → lists_of x.0 ≡ one_acknowledged (lists_of v) → Moves v happening x
+  acknowledges : (number : ℕ) (message : List ℕ) → x.1 ≡ Acknowledged number → outstanding_in v ≡ Message message → outstanding_in x.0 ≡ Nothing → x.0.outbound.sender.down ≡ false →
+      lists_of x.0 ≡ one_acknowledged (lists_of v) → Moves v happening x
   opens_link : (number : ℕ) → IsPlainKind x.1 → outstanding_in v ≡ Opening number → outstanding_in x.0 ≡ Nothing → x.0.outbound.sender.next ≡ (number + 1) % 8 → HasSameLast v x.0 → lists_of x.0 ≡ lists_of v → Moves v happening x
 
 -- Time is up.

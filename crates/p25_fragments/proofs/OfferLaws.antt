@@ -79,7 +79,8 @@ long-down : (w : LongState) (message : List ℕ) → w.inner.link.outbound.sende
 unfolding long_offered
 long-down w message d = cond-true w.inner.link.outbound.sender.down _ _ d
 
-told-by : (w : LongState) (message : List ℕ) (down : Bool) (out : Outstanding) → w.inner.link.outbound.sender.down ≡ down → w.inner.link.outbound.sender.outstanding ≡ out → OfferedAs w message (world_step w.inner (Send (part_of message 0)))
+told-by : (w : LongState) (message : List ℕ) (down : Bool) (out : Outstanding) → w.inner.link.outbound.sender.down ≡ down → w.inner.link.outbound.sender.outstanding ≡ out →
+    OfferedAs w message (world_step w.inner (Send (part_of message 0)))
 unfolding long_offered_beside
 told-by w message true out d o = told_down (send-down w.inner (part_of message 0) d) (long-down w message d)
 told-by w message false Nothing d o = told_taken _ _ (ap (λ (x : WorldState × Step). x.1.kind) (send-taken w.inner (part_of message 0) d o)) d o (beside w message Nothing d o)
@@ -91,7 +92,8 @@ offered-as w message = told-by w message w.inner.link.outbound.sender.down w.inn
 
 -- so in each arm of the code, which offered the part in a world and had it make this world and step
 
-offered-here : (w : LongState) (message part : List ℕ) (inner : WorldState) (step : Step) → part ≡ part_of message 0 → inner ≡ (world_step w.inner (Send part)).0 → step ≡ (world_step w.inner (Send part)).1 → OfferedAs w message (inner, step)
+offered-here : (w : LongState) (message part : List ℕ) (inner : WorldState) (step : Step) → part ≡ part_of message 0 → inner ≡ (world_step w.inner (Send part)).0 →
+    step ≡ (world_step w.inner (Send part)).1 → OfferedAs w message (inner, step)
 offered-here w message part inner step p i s =
     let is : (inner, step) ≡ world_step w.inner (Send (part_of message 0)) = ap₂ (λ (v : WorldState) (t : Step). (v, t)) i s ∙ ap (λ (m : List ℕ). world_step w.inner (Send m)) p in
     subst (OfferedAs w message) (sym is) (offered-as w message)

@@ -8,7 +8,7 @@ abbrev pub state_of : Inside → LongState
 state_of w =
     record {
       inner = w.inner.state;
-      outgoing = w.outgoing;
+      outstanding = w.outstanding;
       joining = w.joiner;
       taken = w.taken.list;
       whole = w.whole.list;

@@ -5,14 +5,14 @@ use Rattle.p25_delivery.specs.declared.mark.Mark.{Mark}
 use Rattle.p25_delivery.specs.Halves.{first_outgoing, first_incoming}
 use Rattle.p25_delivery.specs.Link.{Link, first_link}
 use Rattle.p25_stations.specs.WorldState.{WorldState, first_world}
-use Rattle.p25_fragments.specs.declared.outgoing.Outgoing.{Outgoing}
+use Rattle.p25_fragments.specs.declared.outstanding_part.OutstandingPart.{OutstandingPart}
 use Rattle.p25_fragments.specs.Joining.{Joining, first_joining}
 
 -- the world of the two stations; the long message of which a part is outstanding, and the number of that part; what the joiner
 -- keeps; the long messages taken, those that came whole, how many were acknowledged, and a mark for each session that has ended
 pub record LongState : Type 0 where
   pub inner : WorldState
-  pub outgoing : Option Outgoing
+  pub outstanding : Option OutstandingPart
   pub joining : Joining
   pub taken : List (List ℕ)
   pub whole : List (List ℕ)
@@ -35,7 +35,7 @@ pub record TakesRoom (before after : LongParts) : Type 0 where
 
 -- a world before the first step
 abbrev pub first_long : LongState
-first_long = record { inner = first_world; outgoing = None; joining = first_joining; taken = []; whole = []; acknowledged = 0; marks = [] }
+first_long = record { inner = first_world; outstanding = None; joining = first_joining; taken = []; whole = []; acknowledged = 0; marks = [] }
 
 -- the long messages as those of a link: what was taken is sent, and what came whole is received
 abbrev pub long_link : LongState → Link
@@ -46,12 +46,12 @@ long_link w =
     }
 
 -- how many long messages are outstanding: one or none
-abbrev pub outgoing_count : Option Outgoing → ℕ
-outgoing_count None = 0
-outgoing_count (Some sent) = 1
+abbrev pub outstanding_count : Option OutstandingPart → ℕ
+outstanding_count None = 0
+outstanding_count (Some sent) = 1
 
 -- what every such world keeps: the part that is outstanding is one of its message; and of the long messages taken, each that was
 -- acknowledged and the one that is outstanding is another
 pub record IsLongState (w : LongState) : Type 0 where
-  pub part : IfSome w.outgoing (λ sent. sent.number < part_count (length sent.message))
-  pub counted : w.acknowledged + outgoing_count w.outgoing ≤ length w.taken
+  pub part : IfSome w.outstanding (λ sent. sent.number < part_count (length sent.message))
+  pub counted : w.acknowledged + outstanding_count w.outstanding ≤ length w.taken

@@ -12,7 +12,7 @@ use Rattle.p25_stations.specs.WorldState.{WorldState}
 use Rattle.p25_stations.specs.Steps.{world_step}
 use Rattle.p25_fragments.specs.declared.joiner.Joined.{Joined}
 use Rattle.p25_fragments.specs.declared.joiner.Joined.TheVariants.{Whole as JoinedWhole, Part as JoinedPart, Refused as JoinedRefused}
-use Rattle.p25_fragments.specs.declared.outgoing.Outgoing.{Outgoing}
+use Rattle.p25_fragments.specs.declared.outstanding_part.OutstandingPart.{OutstandingPart}
 use Rattle.p25_fragments.specs.declared.long_step.LongEvent.{LongEvent}
 use Rattle.p25_fragments.specs.declared.long_step.LongEvent.TheVariants.{Long, Inner}
 use Rattle.p25_fragments.specs.declared.long_step.Then.{Then}
@@ -33,7 +33,7 @@ with_first step (w, told) = (w, record { first = Some step; then = told })
 unfoldable pub started : LongState → List ℕ → WorldState × Step → LongState × LongStep
 started w message (inner, step) =
     with_first step (
-      record w { inner = inner; taken = w.taken ++ message ∷ []; outgoing = Some (record { message = message; number = 0 }) },
+      record w { inner = inner; taken = w.taken ++ message ∷ []; outstanding = Some (record { message = message; number = 0 }) },
       Started (part_count (length message)),
     )
 
@@ -50,16 +50,16 @@ long_offered w message =
     if sender.down then unmoved w Down else long_offered_beside sender.outstanding w message
 
 -- the next part was offered
-unfoldable pub next_offered : LongState → Outgoing → WorldState × Step → LongState × Then
-next_offered w next (inner, step) = (record w { inner = inner; outgoing = Some next }, Next step)
+unfoldable pub next_offered : LongState → OutstandingPart → WorldState × Step → LongState × Then
+next_offered w next (inner, step) = (record w { inner = inner; outstanding = Some next }, Next step)
 
 -- the part that is outstanding was acknowledged: the next one is offered, or the long message is acknowledged with its last
-unfoldable pub after_acknowledged : Option Outgoing → LongState → LongState × Then
+unfoldable pub after_acknowledged : Option OutstandingPart → LongState → LongState × Then
 after_acknowledged None w = (w, Plain)
 after_acknowledged (Some sent) w =
     if nat_lt (sent.number + 1) (part_count (length sent.message))
     then next_offered w (record sent { number = sent.number + 1 }) (world_step w.inner (Send (part_of sent.message (sent.number + 1))))
-    else (record w { outgoing = None; acknowledged = w.acknowledged + 1 }, Finished)
+    else (record w { outstanding = None; acknowledged = w.acknowledged + 1 }, Finished)
 
 -- a message was delivered: the joiner made this of it, and a long message that is whole with it is kept
 unfoldable pub after_delivered : LongState → Joining × Joined → LongState × Then
@@ -70,14 +70,14 @@ after_delivered w (j, JoinedRefused) = (record w { joining = j }, Refused)
 -- what a step of the inner world means: an acknowledgement is one of the outstanding part, what is delivered is handed to the
 -- joiner, and where the opening packet is heard the joiner is set back
 unfoldable pub after_kind : StepKind → LongState → LongState × Then
-after_kind (Acknowledged number) w = after_acknowledged w.outgoing w
+after_kind (Acknowledged number) w = after_acknowledged w.outstanding w
 after_kind (Delivered number message) w = after_delivered w (message_taken w.joining message)
 after_kind (SynHeard number) w = (record w { joining = first_joining }, Plain)
 after_kind other w = (w, Plain)
 
 -- a session of the inner world has ended: the long message that is outstanding is given up with its part
 abbrev pub session_ended : LongState → LongState × Then
-session_ended w = (record w { outgoing = None; marks = w.marks ++ present_mark (long_link w) ∷ [] }, Plain)
+session_ended w = (record w { outstanding = None; marks = w.marks ++ present_mark (long_link w) ∷ [] }, Plain)
 
 -- an event happened in the inner world, and a session has ended where it has more marks than before
 unfoldable pub inner_happened : LongState → WorldState × Step → LongState × LongStep

@@ -21,7 +21,7 @@ mod joiner;
 pub mod laws;
 mod long_step;
 mod long_world;
-mod outgoing;
+mod outstanding_part;
 
 pub use joiner::{Joined, Joiner};
 pub use long_step::{LongEvent, LongStep, Then};

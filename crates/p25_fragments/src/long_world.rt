@@ -3,7 +3,7 @@ ghost use Rattle.p25_fragments.specs.LongSteps.{long_step};
 
 use crate::joiner::{Joined, Joiner};
 use crate::long_step::{LongEvent, LongStep, Then};
-use crate::outgoing::Outgoing;
+use crate::outstanding_part::OutstandingPart;
 use p25_delivery::Mark;
 use p25_messages::{LongList, LongMessage, Message};
 use p25_stations::{Event, Step, StepKind, World};
@@ -15,7 +15,7 @@ use std::marker::Model;
 pub struct LongWorld {
     inner: World,
     // the long message of which a part is outstanding
-    outgoing: Option<Outgoing>,
+    outstanding: Option<OutstandingPart>,
     joiner: Joiner,
     taken: LongList,
     whole: LongList,
@@ -46,7 +46,7 @@ impl LongWorld {
     {
         LongWorld {
             inner: World::new(alloc),
-            outgoing: None,
+            outstanding: None,
             joiner: Joiner::new(),
             taken: LongList::new(alloc),
             whole: LongList::new(alloc),
@@ -163,7 +163,7 @@ impl LongWorld {
         ensures room { TakesRoom self.old self.new }
     {
         self.taken.push(message);
-        self.outgoing = Some(Outgoing {
+        self.outstanding = Some(OutstandingPart {
             message: message.clone().unwrap(),
             number: 0,
         });
@@ -201,7 +201,7 @@ impl LongWorld {
         ensures step { (self.new.state, result) ≡ session_ended self.old.state }
         ensures room { TakesRoom self.old self.new }
     {
-        self.outgoing = None;
+        self.outstanding = None;
         self.marks
             .push(Mark {
                 sent: self.taken.len() as u64,
@@ -239,16 +239,18 @@ impl LongWorld {
     #[tactic(auto, unfolding(crate::specs::LongSteps::after_acknowledged, crate::specs::LongSteps::next_offered))]
     fn acknowledge(&mut self) -> Then
         requires inner { 0 < self.old.inner_spare }
-        ensures step { (self.new.state, result) ≡ after_acknowledged self.old.state.outgoing self.old.state }
+        ensures step { (self.new.state, result) ≡ after_acknowledged self.old.state.outstanding self.old.state }
         ensures room { TakesRoom self.old self.new }
     {
-        let Some(sent) = self.outgoing.take() else {
+        let Some(sent) = self.outstanding.take() else {
             return Then::Plain;
         };
         let number = sent.number + 1;
         if number < sent.message.parts() {
-            let step = self.inner.step_ready(&Event::Send(sent.message.part(number)));
-            self.outgoing = Some(Outgoing {
+            let step = self
+                .inner
+                .step_ready(&Event::Send(sent.message.part(number)));
+            self.outstanding = Some(OutstandingPart {
                 message: sent.message,
                 number,
             });
