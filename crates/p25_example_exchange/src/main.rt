@@ -5,11 +5,10 @@
 #![tactic(auto)]
 
 ghost use Rattle.std.specs.Prelude.{◌≡◌, ◌<◌, [], ◌∷◌, OnOk, IfOk};
-ghost use Rattle.p25_stations.specs.Runs.{IsCleanRun, steps_of, world_run};
+ghost use Rattle.p25_stations.specs.Runs.{steps_of, world_run};
 ghost use Rattle.p25_stations.specs.WorldState.{first_world};
 ghost use Rattle.p25_example_exchange.specs.Exchanges.{events_of};
 
-use p25_stations::laws::damage_within_radius;
 use p25_stations::{Event, Flips, Message, Step, StepKind, World};
 use std::alloc::AllocError;
 use std::fmt;
@@ -33,16 +32,14 @@ fn main(rt: HostRuntime) -> io::Result<()> {
 }
 
 // Offers a message to the sender of a new world, has its transmission come to the receiver with the bit at one place
-// inverted, and has the answer come back as it was sent. Answers the three steps. Whatever the place, no step is a false pass:
-// that is a theorem of p25_stations, which this function calls to have it at hand.
+// inverted, and has the answer come back as it was sent. Answers the three steps. What is said of them here is what the
+// theorems in `p25_stations::laws` speak of: `steps_of` and `world_run` of a list of events.
 fn exchange(world: &mut World, message: Message, place: u16) -> Result<[Step; 3], AllocError>
     requires first { world.old.state ≡ first_world }
     requires place { place < 25920 }
     ensures steps { IfOk result (λ steps. steps ≡ steps_of first_world (events_of message place)) }
     ensures world { OnOk result (world.new.state ≡ world_run first_world (events_of message place)) }
-    ensures clean { OnOk result (IsCleanRun (events_of message place)) }
 {
-    damage_within_radius();
     let offered = world.step(&Event::Send(message))?;
     let heard = world.step(&Event::ToReceiver(one_place(place)))?;
     let answered = world.step(&Event::ToSender(Flips::new()))?;
