@@ -1,5 +1,5 @@
 -- Laws of remainders by which polynomials are divided many coefficients at a time: the remainder of a sum, of a polynomial
--- times a power of x, and of one with more coefficients behind it.
+-- times a power of x, and of one with more coefficients after it.
 use Rattle.std.proofs.Common.{◌≡◌, ℕ, zero, suc, ◌+◌, ◌*◌, ◌/◌, ◌^◌, ◌<◌, inl, inr, Bool, true, false, cond, ltb, List, [], ◌∷◌, bit_xor, refl, ap, ap₂, sym, ◌∙◌, subst, arith}
 use Rattle.std.specs.Int.Bits.{xor_assoc, xor_self, xor_zero_l}
 use Rattle.std.proofs.Math.Nat.{mul_assoc, mul_comm, pow-suc}
@@ -36,7 +36,7 @@ IsDivisible-times_power generator number zero is = let same : number ≡ number 
 IsDivisible-times_power generator number (suc k) is =
     subst (IsDivisible generator) (sym (times_next number k)) (IsDivisible-doubled generator (number * 2 ^ k) (IsDivisible-times_power generator number k is))
 
--- more coefficients behind a polynomial, both times a power of x: the remainder of what stood before them is enough
+-- more coefficients after a polynomial, both times a power of x: the remainder of what stood before them is enough
 pub IsRemainder-more : (generator degree before width number raised r s : ℕ) → number < 2 ^ width → IsRemainder generator degree (before * 2 ^ raised) r
     → IsRemainder generator degree (bit_xor (r * 2 ^ width) (number * 2 ^ raised)) s → IsRemainder generator degree ((before * 2 ^ width + number) * 2 ^ raised) s
 IsRemainder-more generator degree before width number raised r s small first second =

@@ -20,6 +20,7 @@
 mod bit_buf;
 mod division;
 mod numbers;
+mod sums;
 mod words;
 
 pub use bit_buf::{BITS_MOST, BitBuf};

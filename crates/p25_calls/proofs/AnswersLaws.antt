@@ -5,7 +5,6 @@ use Rattle.p25_units.specs.Items.{covered}
 use Rattle.p25_units.specs.declared.item.Item.{Item}
 use Rattle.p25_calls.specs.declared.call.Call.{Call}
 use Rattle.p25_calls.specs.CallLaws.{EachIsClosed, LastIsOpen, LieFrom}
-use Rattle.p25_calls.specs.Calls.{calls_by}
 use Rattle.p25_calls.specs.Taking.{CallerParts, answer_to, answers_by, behind_item, behind_items, fresh_caller, open_call}
 use Rattle.p25_calls.proofs.TakingLaws.{answers-are-calls}
 

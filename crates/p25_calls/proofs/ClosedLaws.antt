@@ -1,4 +1,4 @@
--- A closed run stays a run, whatever units come later. By induction on the units: a unit put before runs, and before those with more units behind, makes the same runs up to the last.
+-- A closed run stays a run, whatever units come later. By induction on the units: a unit put before runs, and before those with more units after, makes the same runs up to the last.
 use Rattle.std.proofs.Common.{◌≡◌, Bool, true, false, List, [], ◌∷◌, ◌++◌, refl, sym, ap, ap₂, subst, ◌∙◌}
 use Rattle.std.proofs.lemmas.Bool.{cond-true, cond-false}
 use Rattle.p25_calls.specs.declared.seen.UnitSeen.{UnitSeen}
@@ -20,7 +20,7 @@ closed-end : (run : Run) → is_terminator (last_unit run) ≡ true → closed_r
 unfolding closed_runs
 closed-end run ends = cond-true (is_terminator (last_unit run)) (run ∷ []) [] ends
 
--- the last run, with no unit behind it or one that begins another
+-- the last run, with no unit after it or one that begins another
 open-stay : (run : Run) (all : List Run) → is_terminator (last_unit run) ≡ false → Stay (run ∷ []) all
 unfolding closed_runs
 open-stay run all going = record { rest = all; is = sym (ap (λ (runs : List Run). runs ++ all) (cond-false (is_terminator (last_unit run)) (run ∷ []) [] going)) }

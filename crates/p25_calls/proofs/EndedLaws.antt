@@ -1,5 +1,5 @@
--- What a unit ends and leaves: a run that a terminator closes, a packet that is a run by itself and no call, and a run that stays open. By whether there is a break behind the unit.
-use Rattle.std.proofs.Common.{◌≡◌, ℕ, ◌+◌, ◌-◌, Bool, true, false, cond, not, ◌&&◌, ◌||◌, List, [], ◌∷◌, ◌++◌, Option, Some, None, refl, sym, ap, ap₂, subst, ◌∙◌, inl, inr, ◌⊎◌, arith}
+-- What a unit ends and leaves: a run that a terminator closes, a packet that is a run by itself and no call, and a run that stays open. By whether there is a break after the unit.
+use Rattle.std.proofs.Common.{◌≡◌, ℕ, ◌+◌, Bool, true, false, cond, not, ◌&&◌, ◌||◌, List, [], ◌∷◌, ◌++◌, Option, Some, None, refl, sym, ap, ap₂, subst, ◌∙◌, inl, inr, ◌⊎◌, arith}
 use Rattle.std.specs.Prelude.{nat_eq, nat_lt, option_to_list}
 use Rattle.std.specs.Option.{option_or}
 use Rattle.std.proofs.lemmas.Bool.{cond-true, cond-false, eqb-true, or_cases}
@@ -65,7 +65,7 @@ stepped-open pending before unit last voice going = record {
   calls = last.rest_is;
 }
 
--- behind a terminator, and behind a packet, there is a break
+-- after a terminator, and after a packet, there is a break
 after-terminator : (a header far : Bool) → (a || true || header || far) ≡ true
 after-terminator true header far = refl
 after-terminator false header far = refl
@@ -109,7 +109,7 @@ runs_by-packet false run rest unbroken packet no' =
     ap (λ (runs : List Run). calls_among (closed_runs runs)) (runs_of-run run rest unbroken (cut-packet (last_unit run) rest packet))
     ∙ closed-none run (runs_of rest) (packet-open (last_unit run) packet) no'
 
--- two calls of which one is none at least, one behind the other
+-- two calls of which one is none at least, one after the other
 both-lists : (first second : Option Call) (rest : List Call) → (first ≡ None) ⊎ (second ≡ None)
     → option_to_list first ++ (option_to_list second ++ rest) ≡ option_to_list (option_or first second) ++ rest
 both-lists None second rest one = refl

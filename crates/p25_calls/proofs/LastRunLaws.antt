@@ -1,4 +1,4 @@
--- The run that a unit is the last of, in the three cases of a unit that joins, that begins behind a break, and that begins where no run is open: with a break before it exactly where it
+-- The run that a unit is the last of, in the three cases of a unit that joins, that begins after a break, and that begins where no run is open: with a break before it exactly where it
 -- does not join, the calls up to it are the one that it broke off and those of that run.
 use Rattle.std.proofs.Common.{◌≡◌, ℕ, ◌+◌, ◌-◌, ◌≤◌, Bool, true, false, cond, not, ◌&&◌, ◌||◌, List, [], ◌∷◌, ◌++◌, Option, Some, None, refl, sym, ap, ap₂, ◌∙◌, inl, inr, ◌⊎◌, arith, append_assoc}
 use Rattle.std.specs.Prelude.{nat_eq, nat_le, nat_lt, option_to_list}
@@ -71,7 +71,7 @@ pub record LastRun (pending : Option Call) (before : Option Run) (unit : UnitSee
   pub rest_is : (ended : Bool) (rest : List UnitSeen)
       → calls_among (runs_by ended (pending_units before ++ unit ∷ rest)) ≡ option_to_list (broken_off pending unit) ++ calls_among (runs_by ended (units_in last ++ rest))
 
--- the runs of units that a run begins, with a break behind it
+-- the runs of units that a run begins, with a break after it
 runs_by-split : (ended : Bool) (run : Run) (unit : UnitSeen) (rest : List UnitSeen) → IsUnbroken run.first run.others → is_break (last_unit run) unit ≡ true
     → runs_by ended (units_in run ++ unit ∷ rest) ≡ run ∷ runs_by ended (unit ∷ rest)
 unfolding runs_by closed_runs
@@ -102,7 +102,7 @@ alone-unlinked : (unit : UnitSeen) → is_link_unit unit ≡ false → if_linked
 unfolding call_of
 alone-unlinked unit unlinked = ap (λ (b : Bool). cond (nat_lt 0 (0 + cond b 1 0)) (Some (call_of_one unit)) None) unlinked
 
--- where it begins behind what a caller held, since nothing was, or since there is a break
+-- where it begins after what a caller held, since nothing was, or since there is a break
 alone-run : (pending : Option Call) (before : Option Run) (unit : UnitSeen) → run_with pending unit ≡ call_of_one unit
     → ((ended : Bool) (rest : List UnitSeen) → calls_among (runs_by ended (pending_units before ++ unit ∷ rest)) ≡ option_to_list (broken_off pending unit) ++ calls_among (runs_by ended (unit ∷ rest)))
     → LastRun pending before unit

@@ -24,7 +24,7 @@ pub runs_of-begins : (unit : UnitSeen) (units : List UnitSeen) → Begins unit (
 unfolding runs_of
 runs_of-begins unit units = with_unit-begins unit (runs_of units)
 
--- a unit before runs, where there is a break behind it, and where there is none
+-- a unit before runs, where there is a break after it, and where there is none
 pub with_unit-break : (unit : UnitSeen) (run : Run) (runs : List Run) → is_break unit run.first ≡ true → with_unit unit (run ∷ runs) ≡ run_from unit [] ∷ run ∷ runs
 unfolding with_unit
 with_unit-break unit run runs breaks = cond-true (is_break unit run.first) (run_from unit [] ∷ run ∷ runs) (run_from unit (units_in run) ∷ runs) breaks
@@ -33,7 +33,7 @@ pub with_unit-joins : (unit : UnitSeen) (run : Run) (runs : List Run) → is_bre
 unfolding with_unit
 with_unit-joins unit run runs joins = cond-false (is_break unit run.first) (run_from unit [] ∷ run ∷ runs) (run_from unit (units_in run) ∷ runs) joins
 
--- what stands behind the first run stays behind it
+-- what stands after the first run stays after it
 pub with_unit-append : (unit : UnitSeen) (run : Run) (runs more : List Run) → with_unit unit ((run ∷ runs) ++ more) ≡ with_unit unit (run ∷ runs) ++ more
 unfolding with_unit
 with_unit-append unit run runs more =
@@ -46,7 +46,7 @@ abbrev pub IsUnbroken : UnitSeen → List UnitSeen → Type 0
 IsUnbroken unit [] = Unit {0}
 IsUnbroken unit (next ∷ units) = (is_break unit next ≡ false) × IsUnbroken next units
 
--- there is a break before the first of some units, if there is one, behind a unit
+-- there is a break before the first of some units, if there is one, after a unit
 abbrev pub IsCutBefore : UnitSeen → List UnitSeen → Type 0
 IsCutBefore unit [] = Unit {0}
 IsCutBefore unit (next ∷ units) = is_break unit next ≡ true
@@ -76,7 +76,7 @@ runs_of-split unit (next ∷ units) more cut =
     ∙ with_unit-append unit (run_from next first.others) first.rest (runs_of more)
     ∙ ap (λ (runs : List Run). with_unit unit runs ++ runs_of more) (sym first.is)
 
--- a run without a break, and a break behind it
+-- a run without a break, and a break after it
 pub runs_of-run : (run : Run) (more : List UnitSeen) → IsUnbroken run.first run.others → IsCutBefore (last_unit run) more → runs_of (units_in run ++ more) ≡ run ∷ runs_of more
 runs_of-run run more unbroken cut =
     runs_of-split run.first run.others more cut ∙ ap (λ (runs : List Run). runs ++ runs_of more) (runs_of-unbroken run.first run.others unbroken)

@@ -1,5 +1,5 @@
 -- What a caller answers are the calls: it holds the run that a further unit may still join. By induction on the items, with what each unit ends and leaves.
-use Rattle.std.proofs.Common.{◌≡◌, ℕ, ◌+◌, ◌-◌, ◌≤◌, Bool, true, false, cond, List, [], ◌∷◌, ◌++◌, Option, Some, None, refl, sym, ap, subst, ◌∙◌, arith, append-nil}
+use Rattle.std.proofs.Common.{◌≡◌, ℕ, ◌+◌, ◌≤◌, Bool, true, false, cond, List, [], ◌∷◌, ◌++◌, Option, Some, None, refl, sym, ap, subst, ◌∙◌, arith, append-nil}
 use Rattle.std.specs.Prelude.{option_to_list}
 use Rattle.std.specs.List.{cons_option}
 use Rattle.std.proofs.lemmas.Bool.{cond-false}
@@ -49,7 +49,7 @@ unit-at (Cut place have) = tt
 caller_at : ℕ → ℕ → Option Call → CallerParts
 caller_at reached taken pending = record { reached = reached; taken = taken; pending = pending }
 
--- the answers to all items but the first, whatever is held behind it
+-- the answers to all items but the first, whatever is held after it
 abbrev RestIs : Bool → ℕ → ℕ → List Item → Type 0
 RestIs ended end taken items =
     (pending : Option Call) (before : Option Run) → Holds end pending before

@@ -3,4 +3,3 @@ pub mod Runs
 pub mod Calls
 pub mod Taking
 pub mod CallLaws
-pub mod CallTexts

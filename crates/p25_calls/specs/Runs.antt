@@ -8,7 +8,7 @@ pub record Run : Type 0 where
   pub first : UnitSeen
   pub others : List UnitSeen
 
--- the run of a unit and those behind it
+-- the run of a unit and those after it
 abbrev pub run_from : UnitSeen → List UnitSeen → Run
 run_from unit units = record { first = unit; others = units }
 
@@ -25,7 +25,7 @@ last_of unit (next ∷ units) = last_of next units
 abbrev pub last_unit : Run → UnitSeen
 last_unit run = last_of run.first run.others
 
--- a unit before some runs: it begins the first of them, or is a run by itself where there is a break behind it
+-- a unit before some runs: it begins the first of them, or is a run by itself where there is a break after it
 unfoldable pub with_unit : UnitSeen → List Run → List Run
 with_unit unit [] = run_from unit [] ∷ []
 with_unit unit (run ∷ runs) = cond (is_break unit run.first) (run_from unit [] ∷ run ∷ runs) (run_from unit (units_in run) ∷ runs)

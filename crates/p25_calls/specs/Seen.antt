@@ -72,7 +72,7 @@ is_link_unit unit = nat_eq unit.duid 5 || nat_eq unit.duid 0xA
 abbrev pub is_terminator : UnitSeen → Bool
 is_terminator unit = nat_eq unit.duid 3 || nat_eq unit.duid 0xF
 
--- where a unit ends: the place behind its last bit
+-- where a unit ends: the place after its last bit
 abbrev pub unit_end : UnitSeen → ℕ
 unit_end unit = unit.place + unit.bits
 

@@ -73,7 +73,7 @@ abbrev pub unit_answer : Option Call → Option UnitSeen → Option Call
 unit_answer pending None = None
 unit_answer pending (Some unit) = ended_call pending unit
 
--- and the run that is open behind it
+-- and the run that is open after it
 abbrev pub unit_pending : Option Call → Option UnitSeen → Option Call
 unit_pending pending None = pending
 unit_pending pending (Some unit) = pending_run (run_with pending unit) unit
@@ -82,7 +82,7 @@ unit_pending pending (Some unit) = pending_run (run_with pending unit) unit
 unfoldable pub answer_to : CallerParts → Item → Option Call
 answer_to caller item = unit_answer caller.pending (unit_of item)
 
--- what a caller holds behind an item
+-- what a caller holds after an item
 unfoldable pub behind_item : CallerParts → Item → CallerParts
 behind_item caller item = record {
   reached = place_of item + covered item;
@@ -103,7 +103,7 @@ unfoldable pub answers_by : Bool → CallerParts → List Item → List Call
 answers_by ended caller [] = cond ended (option_to_list (open_call caller)) []
 answers_by ended caller (item ∷ items) = option_to_list (answer_to caller item) ++ answers_by ended (behind_item caller item) items
 
--- what a caller holds behind items
+-- what a caller holds after items
 unfoldable pub behind_items : CallerParts → List Item → CallerParts
 behind_items caller [] = caller
 behind_items caller (item ∷ items) = behind_items (behind_item caller item) items

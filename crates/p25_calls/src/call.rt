@@ -110,7 +110,7 @@ fn end_with(unit: &UnitSeen) -> CallEnd
 {
     if !unit.is_terminator() {
         CallEnd::Open
-    } else if unit.has_end_link() {
+    } else if unit.has_tdulc() {
         CallEnd::Tdulc
     } else {
         CallEnd::Tdu

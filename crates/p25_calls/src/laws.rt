@@ -2,7 +2,7 @@
 
 ghost use Rattle.p25_calls.specs.CallLaws.{AnswersAreCalls, BreakBetween, ClosedStay, EachIsClosed, LastIsOpen, NoBreakInside, RunsJoin};
 
-/// Does nothing: its contract is what calls are, and that a caller answers them.
+/// **Theorem.** What calls are, and that a caller answers them.
 ///
 /// - `join`, `inside`, `between`: the runs of some units are the units in order, divided exactly where there is a break between
 ///   neighbours.

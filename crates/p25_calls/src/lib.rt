@@ -7,10 +7,9 @@
 //!
 //! ```text
 //! let mut caller = Caller::new();
-//! let mut line = Line::new();
 //! for item in items {
 //!     if let Some(call) = caller.take(&item) {
-//!         call_text(&call, &mut line);
+//!         calls.push(call);
 //!     }
 //! }
 //! let last = caller.finish();
@@ -28,11 +27,8 @@ mod runs;
 mod seen;
 #[cfg(test)]
 mod tests;
-mod text;
 
 pub use call::{Call, CallEnd};
 pub use caller::Caller;
-pub use p25_line::Line;
 pub use p25_link::LinkControl;
 pub use p25_units::Item;
-pub use text::call_text;

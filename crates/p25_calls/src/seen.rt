@@ -57,13 +57,13 @@ impl UnitSeen {
     }
 
     /// Answers whether it is a terminator with link control.
-    pub fn has_end_link(&self) -> bool
+    pub fn has_tdulc(&self) -> bool
         ensures { result ≡ nat_eq self.now.duid 15 }
     {
         self.duid == TDULC
     }
 
-    /// Answers the place behind its last bit.
+    /// Answers the place after its last bit.
     pub fn end(&self) -> u64
         requires { unit_end self.now < 2 ^ 61 }
         ensures { result ≡ unit_end self.now }
@@ -134,7 +134,7 @@ fn algid_in(body: &Body) -> Option<u8>
     }
 }
 
-/// Answers the place behind the last bit of an item.
+/// Answers the place after the last bit of an item.
 pub fn item_end(item: &Item) -> u64
     requires { place_of item.now < 2 ^ 60 }
     ensures value { result ≡ place_of item.now + covered item.now }

@@ -1,6 +1,6 @@
 -- The words that a check matrix lets pass, where its last columns are check columns: they are the systematic words, and a
 -- computed test of all information gives their least distance.
-use Rattle.std.proofs.Common.{◌≡◌, ◌≢◌, ◌⊎◌, ℕ, ◌+◌, ◌-◌, ◌*◌, ◌^◌, ◌<◌, ◌≤◌, inl, inr, Bool, true, false, cond, ◌||◌, eqb, ltb, leb, List, [], ◌∷◌, ◌++◌, length, take, drop, bit_xor, ap, ap₂, sym, ◌∙◌, subst, arith, length-append, take-append-drop, length-drop}
+use Rattle.std.proofs.Common.{◌≡◌, ◌≢◌, ◌⊎◌, ℕ, ◌+◌, ◌*◌, ◌^◌, ◌<◌, ◌≤◌, inl, inr, Bool, true, false, cond, ◌||◌, eqb, ltb, leb, List, [], ◌∷◌, ◌++◌, length, take, drop, bit_xor, ap, ap₂, sym, ◌∙◌, subst, arith, length-append, take-append-drop, length-drop}
 use Rattle.std.specs.Bool.{beq}
 use Rattle.std.specs.Cmp.{bool_eq_equiv}
 use Rattle.std.specs.Int.Bits.{xor_self}
@@ -14,13 +14,12 @@ use Rattle.p25_bits.specs.Distance.{distance_of}
 use Rattle.p25_bits.proofs.BitsLaws.{length-bits_of, field_of-bits_of, bits_of-field_of}
 use Rattle.p25_bits.proofs.DivisibleLaws.{same_from_xor}
 use Rattle.p25_bits.proofs.DistanceLaws.{same_from_distance_of}
-use Rattle.p25_code.specs.declared.code.Reading.{Reading}
-use Rattle.p25_code.specs.Words.{IsEncoding, IsReading}
+use Rattle.p25_code.specs.Words.{IsEncoding}
 use Rattle.p25_code.specs.Readings.{Tested}
 use Rattle.p25_code.specs.Letters.{same_bit}
 use Rattle.p25_code.specs.Binary.{syndrome_of, IsChecked, check_columns, rows_fit, systematic, weight_of}
 use Rattle.p25_code.proofs.WeightLaws.{all_bits, all_bits-each, sum_of_words, length-sum_of_words, weight_of-append, weight_of-bits_of, weight_of-sum_of_words, syndrome_of-zeros, syndrome_of-sum_of_words}
-use Rattle.p25_code.proofs.ReadingLaws.{IsBlockCode, reading_of_same_set}
+use Rattle.p25_code.proofs.ReadingLaws.{IsBlockCode}
 use Rattle.p25_code.proofs.SyndromeLaws.{syndrome_of-append, syndrome_of-check_columns, length-check_columns, change_of-is}
 
 -- whether a word passes can be tested
@@ -170,14 +169,6 @@ module _ {rows : List ℕ} {checks apart : ℕ} (code : IsSystematic rows checks
         begins = ap (take (length rows)) whole ∙ encoding.begins;
       }
 
-  -- what the reader leaves and answers is the reading in that set
-  pub reads : (IsWord : List Bool → Type 0) → ((w : List Bool) → IsWord w → IsChecked (rows ++ check_columns checks) w) → ((w : List Bool) → IsChecked (rows ++ check_columns checks) w → IsWord w)
-      → (front : List ℕ) (places radius : ℕ) (received word : List Bool) (reading : Reading) → front ≡ rows → places ≡ checks → IsReading beq (IsChecked (front ++ check_columns places)) radius received word reading
-      → IsReading beq IsWord radius received word reading
-  reads IsWord to from front places radius received word reading e f is =
-      reading_of_same_set beq (IsChecked (rows ++ check_columns checks)) IsWord radius received word reading from to
-      (subst (λ cs. IsReading beq (IsChecked cs) radius received word reading) (ap₂ (λ r n. r ++ check_columns n) e f) is)
-
   -- the laws of the code, in a set whose words are those that pass
   pub is_code : (IsWord : List Bool → Type 0) → ((w : List Bool) → IsWord w → IsChecked (rows ++ check_columns checks) w) → (n radius : ℕ) → length rows + checks ≡ n → 2 * radius < apart → IsBlockCode beq IsWord n (length rows) radius apart
   is_code IsWord to n radius whole close = record {
@@ -189,13 +180,3 @@ module _ {rows : List ℕ} {checks apart : ℕ} (code : IsSystematic rows checks
     close = close;
     begins = omega arith;
   }
-
--- the syndrome of a word from its information and its check bits
-pub syndrome_of-word : (rows : List ℕ) (checks : ℕ) (word : List Bool) → length rows ≤ length word → length word - length rows ≡ checks
-    → syndrome_of (rows ++ check_columns checks) word ≡ bit_xor (syndrome_of rows (take (length rows) word)) (field_of (drop (length rows) word))
-syndrome_of-word rows checks word inside places =
-    let k = length rows in
-    let back : length (drop k word) ≡ checks = omega (arith, length-drop k word) in
-    ap (syndrome_of (rows ++ check_columns checks)) (sym (take-append-drop k word))
-    ∙ syndrome_of-append rows (check_columns checks) (take k word) (drop k word) (length-take-le k word inside)
-    ∙ ap (bit_xor (syndrome_of rows (take k word))) (syndrome_of-check_columns checks (drop k word) back)

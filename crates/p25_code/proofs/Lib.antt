@@ -5,4 +5,5 @@ pub mod WeightLaws
 pub mod BinaryLaws
 pub mod RemainderLaws
 pub mod ParityLaws
-pub mod BinarySteps
+pub mod WrongLaws
+pub mod NumberCodeLaws

@@ -7,6 +7,7 @@ use Rattle.p25_bits.specs.Bits.{digit_of, bits_of}
 use Rattle.p25_bits.proofs.BitsLaws.{bits_of-suc, bits_of-zero, length-bits_of, digit_of-le}
 use Rattle.p25_bits.proofs.DivisibleLaws.{xor_doubled}
 use Rattle.p25_code.specs.Binary.{syndrome_of, weight_of}
+use Rattle.p25_code.specs.WrongBits.{number_sum}
 use Rattle.p25_code.proofs.SyndromeLaws.{change_of-is}
 use Rattle.p25_code.proofs.WeightLaws.{sum_of_words, syndrome_of-sum_of_words, syndrome_of-zeros, weight_of-bits_of}
 
@@ -31,37 +32,35 @@ bits_of-xor (suc width) a b =
     ∙ sum_of_bits (bit_at a width) (bit_at b width) (bit_at-lt a width) (bit_at-lt b width) (bits_of width a) (bits_of width b)
     ∙ ap₂ sum_of_words (sym (bits_of-suc width a)) (sym (bits_of-suc width b))
 
--- a sum of checks: the exclusive or of those columns at whose places a number has bits
-unfoldable pub mixed : List ℕ → ℕ → ℕ
-mixed mix number = syndrome_of mix (bits_of (length mix) number)
+-- sums of columns add up
+pub number_sum-xor : (columns : List ℕ) (a b : ℕ) → number_sum columns (bit_xor a b) ≡ bit_xor (number_sum columns a) (number_sum columns b)
+unfolding number_sum
+number_sum-xor columns a b =
+    let n = length columns in
+    ap (syndrome_of columns) (bits_of-xor n a b)
+    ∙ syndrome_of-sum_of_words columns (bits_of n a) (bits_of n b)
+    ∙ change_of-is columns (bits_of n a) (bits_of n b) (length-bits_of n a) (length-bits_of n b)
 
-mixed-xor : (mix : List ℕ) (a b : ℕ) → mixed mix (bit_xor a b) ≡ bit_xor (mixed mix a) (mixed mix b)
-unfolding mixed
-mixed-xor mix a b =
-    let n = length mix in
-    ap (syndrome_of mix) (bits_of-xor n a b)
-    ∙ syndrome_of-sum_of_words mix (bits_of n a) (bits_of n b)
-    ∙ change_of-is mix (bits_of n a) (bits_of n b) (length-bits_of n a) (length-bits_of n b)
+-- no places, no sum
+pub number_sum-zero : (columns : List ℕ) → number_sum columns 0 ≡ 0
+unfolding number_sum
+number_sum-zero columns = syndrome_of-zeros columns (bits_of (length columns) 0) (weight_of-bits_of (length columns))
 
-mixed-zero : (mix : List ℕ) → mixed mix 0 ≡ 0
-unfolding mixed
-mixed-zero mix = syndrome_of-zeros mix (bits_of (length mix) 0) (weight_of-bits_of (length mix))
-
-mixed-chosen : (mix : List ℕ) (bit : Bool) (column : ℕ) → cond bit (mixed mix column) 0 ≡ mixed mix (cond bit column 0)
-mixed-chosen mix true column = refl
-mixed-chosen mix false column = sym (mixed-zero mix)
+sum-chosen : (mix : List ℕ) (bit : Bool) (column : ℕ) → cond bit (number_sum mix column) 0 ≡ number_sum mix (cond bit column 0)
+sum-chosen mix true column = refl
+sum-chosen mix false column = sym (number_sum-zero mix)
 
 -- the sum by mixed columns is the mixed sum by the columns
-pub syndrome_of-mixed : (mix columns : List ℕ) (word : List Bool) → syndrome_of (map (mixed mix) columns) word ≡ mixed mix (syndrome_of columns word)
+pub syndrome_of-mixed : (mix columns : List ℕ) (word : List Bool) → syndrome_of (map (number_sum mix) columns) word ≡ number_sum mix (syndrome_of columns word)
 unfolding syndrome_of
-syndrome_of-mixed mix [] word = sym (mixed-zero mix)
-syndrome_of-mixed mix (column ∷ columns) [] = sym (mixed-zero mix)
+syndrome_of-mixed mix [] word = sym (number_sum-zero mix)
+syndrome_of-mixed mix (column ∷ columns) [] = sym (number_sum-zero mix)
 syndrome_of-mixed mix (column ∷ columns) (bit ∷ word) =
-    ap₂ bit_xor (mixed-chosen mix bit column) (syndrome_of-mixed mix columns word) ∙ sym (mixed-xor mix (cond bit column 0) (syndrome_of columns word))
+    ap₂ bit_xor (sum-chosen mix bit column) (syndrome_of-mixed mix columns word) ∙ sym (number_sum-xor mix (cond bit column 0) (syndrome_of columns word))
 
 -- so what passes the checks passes their sums
-pub mixed_passes : (mix columns : List ℕ) (word : List Bool) → syndrome_of columns word ≡ 0 → syndrome_of (map (mixed mix) columns) word ≡ 0
-mixed_passes mix columns word passes = syndrome_of-mixed mix columns word ∙ ap (mixed mix) passes ∙ mixed-zero mix
+pub mixed_passes : (mix columns : List ℕ) (word : List Bool) → syndrome_of columns word ≡ 0 → syndrome_of (map (number_sum mix) columns) word ≡ 0
+mixed_passes mix columns word passes = syndrome_of-mixed mix columns word ∙ ap (number_sum mix) passes ∙ number_sum-zero mix
 
 -- a column with one more check, of all places
 abbrev pub with_parity : ℕ → ℕ

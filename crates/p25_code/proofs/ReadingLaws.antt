@@ -107,11 +107,3 @@ module _ {L : Type 0} {same : L → L → Bool} {IsWord : List L → Type 0} {n 
   -- wherever the encoding of some information lies within the radius, the inner information is that information
   pub information_sent : (received info sent found : List L) → IsEncoding IsWord k info sent → distance_by same received sent ≤ radius → IsInformation same IsWord radius k received found → found ≡ info
   information_sent received info sent found encoding near is = is.of_word sent encoding.word_of_set near ∙ encoding.begins
-
--- a reading depends on the set alone, not on how it is written
-pub reading_of_same_set : {L : Type 0} (same : L → L → Bool) (A B : List L → Type 0) (radius : ℕ) (received word : List L) (reading : Reading) → ((w : List L) → A w → B w) → ((w : List L) → B w → A w)
-    → IsReading same A radius received word reading → IsReading same B radius received word reading
-unfolding IsReading
-reading_of_same_set same A B radius received word (Found fixes) to from is = record { word_of_set = to word is.word_of_set; fixes_is = is.fixes_is; within = is.within }
-reading_of_same_set same A B radius received word Beyond to from is =
-    record { unchanged = is.unchanged; none_within = record { farther = λ w b. is.none_within.farther w (from w b) } }

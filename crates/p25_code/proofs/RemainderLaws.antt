@@ -2,13 +2,14 @@
 use Rattle.std.proofs.Common.{◌≡◌, ℕ, zero, suc, ◌+◌, ◌*◌, ◌^◌, ◌<◌, ◌≤◌, inl, inr, Bool, true, false, cond, ltb, List, [], ◌∷◌, length, bit_xor, ap, sym, ◌∙◌, subst, arith}
 use Rattle.std.proofs.Math.Nat.{pow-suc}
 use Rattle.std.proofs.lemmas.Bool.{cases_lt, cond_below, cond_above}
-use Rattle.std.proofs.lemmas.Nat.{xor_lt, pow_pos}
+use Rattle.std.proofs.lemmas.Nat.{pow_pos}
 use Rattle.p25_bits.specs.Bits.{field_of}
 use Rattle.p25_bits.specs.Divisible.{IsDivisible, HasDegree, IsRemainder}
 use Rattle.p25_bits.proofs.BitsLaws.{field_of-nil, field_of-cons, field_of-lt}
-use Rattle.p25_bits.proofs.DivisibleLaws.{IsDivisible-sum, IsRemainder-unique, IsRemainder-lower, divisible_from_remainder, remainder_from_divisible, remainder_kept, remainder_reduced}
+use Rattle.p25_bits.proofs.DivisionLaws.{IsRemainder-sum}
+use Rattle.p25_bits.proofs.DivisibleLaws.{IsRemainder-unique, IsRemainder-lower, divisible_from_remainder, remainder_from_divisible, remainder_kept, remainder_reduced}
 use Rattle.p25_code.specs.Binary.{syndrome_of}
-use Rattle.p25_code.proofs.SyndromeLaws.{xor_middle, above}
+use Rattle.p25_code.proofs.SyndromeLaws.{above}
 
 -- the remainder of a power of x, from that of the power below
 unfoldable pub power_remainder : ℕ → ℕ → ℕ → ℕ
@@ -21,13 +22,6 @@ power_remainder generator degree (suc n) =
 unfoldable pub remainders : ℕ → ℕ → ℕ → List ℕ
 remainders generator degree zero = []
 remainders generator degree (suc n) = power_remainder generator degree n ∷ remainders generator degree n
-
--- the remainder of a sum is the sum of the remainders
-pub IsRemainder-sum : (generator degree a b r s : ℕ) → IsRemainder generator degree a r → IsRemainder generator degree b s → IsRemainder generator degree (bit_xor a b) (bit_xor r s)
-IsRemainder-sum generator degree a b r s first second = record {
-  lower = xor_lt degree r s first.lower second.lower;
-  divisible = subst (IsDivisible generator) (xor_middle a r b s) (IsDivisible-sum generator (bit_xor a r) (bit_xor b s) first.divisible second.divisible);
-}
 
 -- the remainder of a number times x, where it stays of lower degree or not
 next : (generator degree number r : ℕ) → HasDegree generator degree → IsRemainder generator degree number r → IsRemainder generator degree (2 * number) (cond (ltb (2 * r) (2 ^ degree)) (2 * r) (bit_xor (2 * r) generator))

@@ -1,9 +1,8 @@
 -- Laws of syndromes: sums of columns at the places where a word is 1. By induction on the columns and the bits.
-use Rattle.std.proofs.Common.{◌≡◌, ℕ, zero, suc, ◌+◌, ◌*◌, ◌^◌, ◌<◌, ◌≤◌, Bool, true, false, cond, List, [], ◌∷◌, ◌++◌, length, drop, get_or, bit_xor, refl, ap, ap₂, sym, ◌∙◌, arith}
+use Rattle.std.proofs.Common.{◌≡◌, ℕ, zero, suc, ◌+◌, ◌*◌, ◌^◌, ◌<◌, Bool, true, false, cond, List, [], ◌∷◌, ◌++◌, length, bit_xor, refl, ap, ap₂, sym, ◌∙◌, arith}
 use Rattle.std.specs.Bool.{beq}
 use Rattle.std.specs.Int.Bits.{xor_assoc, xor_self, xor_zero_l, xor_zero_r}
 use Rattle.std.proofs.lemmas.Nat.{xor_comm, xor_block, pow_pos}
-use Rattle.std.proofs.lemmas.List.{drop_more, drop_all}
 use Rattle.p25_bits.specs.Bits.{digit_of, field_of}
 use Rattle.p25_bits.proofs.BitsLaws.{field_of-nil, field_of-cons, field_of-lt}
 use Rattle.p25_code.specs.Binary.{syndrome_of, check_columns, change_of}
@@ -14,47 +13,6 @@ xor_middle a b c d =
     xor_assoc a b (bit_xor c d)
     ∙ ap (bit_xor a) (sym (xor_assoc b c d) ∙ ap (λ n. bit_xor n d) (xor_comm b c) ∙ xor_assoc c b d)
     ∙ sym (xor_assoc a c (bit_xor b d))
-
--- no columns, no sum
-pub syndrome_of-nil : (word : List Bool) → syndrome_of [] word ≡ 0
-unfolding syndrome_of
-syndrome_of-nil word = refl
-
--- one more place, as a loop steps
-pub syndrome_of-drop : (columns : List ℕ) (word : List Bool) (i : ℕ) → i < length columns → i < length word
-    → syndrome_of (drop i columns) (drop i word) ≡ bit_xor (cond (get_or word i false) (get_or columns i 0) 0) (syndrome_of (drop (i + 1) columns) (drop (i + 1) word))
-unfolding syndrome_of
-syndrome_of-drop columns word i h k = ap₂ syndrome_of (drop_more columns i 0 h) (drop_more word i false k)
-
--- a column more in the sum, where the bit is 1
-pub column_more : (columns : List ℕ) (word : List Bool) (i sum more : ℕ) → i < length columns → i < length word → get_or word i false ≡ true → more ≡ bit_xor sum (get_or columns i 0)
-    → bit_xor sum (syndrome_of (drop i columns) (drop i word)) ≡ syndrome_of columns word → bit_xor more (syndrome_of (drop (i + 1) columns) (drop (i + 1) word)) ≡ syndrome_of columns word
-column_more columns word i sum more h k one e so_far =
-    let left = syndrome_of (drop (i + 1) columns) (drop (i + 1) word) in
-    let column = get_or columns i 0 in
-    ap (λ n. bit_xor n left) e
-    ∙ xor_assoc sum column left
-    ∙ ap (λ b. bit_xor sum (bit_xor (cond b column 0) left)) (sym one)
-    ∙ ap (bit_xor sum) (sym (syndrome_of-drop columns word i h k))
-    ∙ so_far
-
--- nothing more in the sum, where the bit is 0
-pub column_passed : (columns : List ℕ) (word : List Bool) (i sum more : ℕ) → i < length columns → i < length word → get_or word i false ≡ false → more ≡ sum
-    → bit_xor sum (syndrome_of (drop i columns) (drop i word)) ≡ syndrome_of columns word → bit_xor more (syndrome_of (drop (i + 1) columns) (drop (i + 1) word)) ≡ syndrome_of columns word
-column_passed columns word i sum more h k none e so_far =
-    let left = syndrome_of (drop (i + 1) columns) (drop (i + 1) word) in
-    let column = get_or columns i 0 in
-    ap₂ bit_xor e (sym (xor_zero_l left))
-    ∙ ap (λ b. bit_xor sum (bit_xor (cond b column 0) left)) (sym none)
-    ∙ ap (bit_xor sum) (sym (syndrome_of-drop columns word i h k))
-    ∙ so_far
-
--- all columns are in the sum
-pub all_summed : (columns : List ℕ) (word : List Bool) (i sum : ℕ) → length columns ≤ i → bit_xor sum (syndrome_of (drop i columns) (drop i word)) ≡ syndrome_of columns word → sum ≡ syndrome_of columns word
-all_summed columns word i sum done so_far =
-    sym (xor_zero_r sum)
-    ∙ ap (bit_xor sum) (sym (ap (λ cs. syndrome_of cs (drop i word)) (drop_all i columns done) ∙ syndrome_of-nil (drop i word)))
-    ∙ so_far
 
 -- two runs, one after the other: their sums add up
 pub syndrome_of-append : (rows columns : List ℕ) (info checks : List Bool) → length info ≡ length rows → syndrome_of (rows ++ columns) (info ++ checks) ≡ bit_xor (syndrome_of rows info) (syndrome_of columns checks)
@@ -107,14 +65,3 @@ change_of-is (column ∷ columns) (x ∷ old) [] long long' = absurd (omega arit
 change_of-is (column ∷ columns) (x ∷ old) (y ∷ new) long long' =
     ap₂ bit_xor (differs x y column) (change_of-is columns old new (omega arith) (omega arith))
     ∙ xor_middle (cond x column 0) (cond y column 0) (syndrome_of columns old) (syndrome_of columns new)
-
--- what is changed by a sum that was there is changed to nothing, and the other way round
-pub changed_to : (columns : List ℕ) (old new : List Bool) → length old ≡ length columns → length new ≡ length columns → change_of columns old new ≡ syndrome_of columns old → syndrome_of columns new ≡ 0
-changed_to columns old new long long' change =
-    let s = syndrome_of columns old in
-    let t = syndrome_of columns new in
-    sym (xor_zero_l t) ∙ ap (λ n. bit_xor n t) (sym (xor_self s)) ∙ xor_assoc s s t ∙ ap (bit_xor s) (sym (change_of-is columns old new long long') ∙ change) ∙ xor_self s
-
-pub change_from : (columns : List ℕ) (old new : List Bool) → length old ≡ length columns → length new ≡ length columns → syndrome_of columns new ≡ 0 → change_of columns old new ≡ syndrome_of columns old
-change_from columns old new long long' none =
-    change_of-is columns old new long long' ∙ ap (bit_xor (syndrome_of columns old)) none ∙ xor_zero_r (syndrome_of columns old)

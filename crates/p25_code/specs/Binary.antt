@@ -1,9 +1,8 @@
 -- Binary codes by the columns of a check matrix. A column is a number whose bits are the checks that its place takes part in.
-use Rattle.std.specs.Prelude.{◌≡◌, ℕ, zero, suc, ◌+◌, ◌^◌, ◌<◌, ◌≤◌, Bool, cond, nat_lt, List, [], ◌∷◌, ◌++◌, length, bit_xor, Option, Some, None}
+use Rattle.std.specs.Prelude.{◌≡◌, ℕ, zero, suc, ◌+◌, ◌^◌, Bool, cond, nat_lt, List, [], ◌∷◌, ◌++◌, length, bit_xor}
 use Rattle.std.specs.Bool.{beq}
 use Rattle.std.specs.List.{list_all}
 use Rattle.p25_bits.specs.Bits.{digit_of, bits_of}
-use Rattle.p25_bits.specs.Distance.{distance_of}
 
 -- the syndrome of a word: the sum over GF(2) of the columns at whose places the word is 1
 unfoldable pub syndrome_of : List ℕ → List Bool → ℕ
@@ -40,20 +39,3 @@ change_of [] old new = 0
 change_of (column ∷ columns) [] new = 0
 change_of (column ∷ columns) (x ∷ old) [] = 0
 change_of (column ∷ columns) (x ∷ old) (y ∷ new) = bit_xor (cond (beq x y) 0 column) (change_of columns old new)
-
--- within a budget of changed bits the syndrome was changed by a sum
-pub record IsCorrected (columns : List ℕ) (sum budget : ℕ) (old new : List Bool) (fixes : ℕ) : Type 0 where
-  pub long : length new ≡ length old
-  pub change : change_of columns old new ≡ sum
-  pub fixes_is : fixes ≡ distance_of old new
-  pub within : fixes ≤ budget
-
--- no change within the budget changes the syndrome by that sum, and nothing was changed
-pub record IsUncorrected (columns : List ℕ) (sum budget : ℕ) (old new : List Bool) : Type 0 where
-  pub unchanged : new ≡ old
-  pub farther : (other : List Bool) → length other ≡ length old → change_of columns old other ≡ sum → budget < distance_of old other
-
--- what a search for a correction leaves and answers
-unfoldable pub IsCorrection : List ℕ → ℕ → ℕ → List Bool → List Bool → Option ℕ → Type 0
-IsCorrection columns sum budget old new (Some fixes) = IsCorrected columns sum budget old new fixes
-IsCorrection columns sum budget old new None = IsUncorrected columns sum budget old new

@@ -4,3 +4,4 @@ pub mod Binary
 pub mod Readings
 pub mod Marks
 pub mod MarkedReadings
+pub mod WrongBits

@@ -17,16 +17,19 @@
 //!
 //! `read_received` and `encode_then_read` say what this comes to for any code, proved from the trait alone. An
 //! `ErasedCode` also reads words of which some letters are not known; `read_marked` says what that comes to.
-//! `encode_systematic` and `read_systematic` serve as the bodies of small binary codes, given by their check rows.
+//! The words of a `NumberCode` are bits and numbers too. `wrong_by_rows` and `wrong_by_halves` find the wrong bits of a word
+//! of a small binary code by its syndrome, without a search.
 //!
 //! Contracts see a reading as a function of what was received: the word of the code within the radius, or none. Its law,
 //! `reads_as`, is all that is known of it, and only one answer meets that law.
 #![tactic(auto)]
 
-mod binary;
 mod callers;
 mod code;
+mod number_code;
+mod wrong_bits;
 
-pub use binary::{encode_systematic, read_systematic};
 pub use callers::{encode_then_read, read_marked, read_received};
 pub use code::{BlockCode, ErasedCode, Reading};
+pub use number_code::{NumberCode, put_reading};
+pub use wrong_bits::{wrong_by_halves, wrong_by_rows};

@@ -57,7 +57,7 @@ word_more before octets k there small =
         → field_of (before ++ octet_bits (take next octets)) ≡ field_of (before ++ octet_bits (take i octets)) * 2 ^ 8 + get_or octets i 0
     octets_more_at i next e inside = ap (λ n. field_of (before ++ octet_bits (take n octets))) e ∙ octets_more before octets i inside (small i)
 
--- octets in two runs, behind bits
+-- octets in two runs, after bits
 pub octets_in_two : (before : List Bool) (m n : ℕ) (octets : List ℕ) → m ≡ n
     → (before ++ octet_bits (take m octets)) ++ octet_bits (take (length octets - n) (drop n octets)) ≡ before ++ octet_bits octets
 octets_in_two before m n octets same =

@@ -117,4 +117,5 @@ module _ (divisor : ℕ) (tables : List (List ℕ)) (are : AreRemainders divisor
   word_taken before register word fits small is sum e =
       let sum_fits : sum < 2 ^ 32 = subst (λ n. n < 2 ^ 32) (sym e) (xor_lt 32 register word fits small) in
       let same : sum * 2 ^ 32 ≡ bit_xor (register * 2 ^ 32) (word * 2 ^ 32) = ap (λ n. n * 2 ^ 32) e ∙ sym (xor_times_power register word 32) in
-      IsRemainder-more divisor 32 before 32 word 32 register _ small is (subst (λ n. IsRemainder divisor 32 n (bit_xor (entry tables 3 (sum / 2 ^ 24)) (bit_xor (entry tables 2 (sum / 2 ^ 16 % 2 ^ 8)) (bit_xor (entry tables 1 (sum / 2 ^ 8 % 2 ^ 8)) (entry tables 0 (sum % 2 ^ 8)))))) same (word_remainder sum sum_fits))
+      let made = bit_xor (entry tables 3 (sum / 2 ^ 24)) (bit_xor (entry tables 2 (sum / 2 ^ 16 % 2 ^ 8)) (bit_xor (entry tables 1 (sum / 2 ^ 8 % 2 ^ 8)) (entry tables 0 (sum % 2 ^ 8)))) in
+      IsRemainder-more divisor 32 before 32 word 32 register made small is (subst (λ n. IsRemainder divisor 32 n made) same (word_remainder sum sum_fits))

@@ -122,7 +122,9 @@ unfolding AreOrderly
 orderly-all [] all = tt
 orderly-all (session ∷ sessions) all = (All-head IsOrderly session sessions all, orderly-all sessions (All-tail IsOrderly session sessions all))
 
+pub orderly-divided : (w : Link) → IsDivided IsOrderly w → IsOrderly (present_session w) → AreOrderly (sessions_of w)
+orderly-divided w d o =
+    subst AreOrderly (sym (sessions-split w)) (orderly-all (ended_sessions w ++ present_session w ∷ []) (All-push IsOrderly (ended_sessions w) (present_session w) d.1 o))
+
 pub orderly-kept : (w : Link) → IsKept w → AreOrderly (sessions_of w)
-orderly-kept w k =
-    subst AreOrderly (sym (sessions-split w))
-    (orderly-all (ended_sessions w ++ present_session w ∷ []) (All-push IsOrderly (ended_sessions w) (present_session w) k.divided.1 (orderly-linked (first_number w) (present_session w) w k.linked)))
+orderly-kept w k = orderly-divided w k.divided (orderly-linked (first_number w) (present_session w) w k.linked)

@@ -6,7 +6,7 @@ ghost use Rattle.p25_packet_blocks.specs.FlagOctets.{flags_of_octets};
 ghost use Rattle.p25_delivery.specs.Asked.{is_response, is_ack, is_crc_nack, is_retry, wanted_flags, asked_by_flags, asked_of};
 
 use crate::LLID;
-use p25_packet_blocks::{Flags, PacketHead, Plain, flags_read};
+use p25_packet_blocks::{Flags, PacketHead, Plain, RESPONSE_FORMAT, flags_read};
 
 // What a response asks of a sender with a message outstanding.
 #[derive(Drop)]
@@ -26,7 +26,7 @@ pub enum Asked {
 pub(crate) fn answers(head: PacketHead) -> bool
     ensures { result ≡ is_response head }
 {
-    head.format() == 3 && head.llid() == LLID
+    head.format() == RESPONSE_FORMAT && head.llid() == LLID
 }
 
 // Whether a response is the ACK of a number.

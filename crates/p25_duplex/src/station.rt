@@ -1,18 +1,15 @@
 //! One station of the duplex world.
 
-ghost use Rattle.std.specs.Prelude.{◌≡◌, ◌<◌, ◌≤◌, false, Option, IfSome, OnOk, OnErr};
+ghost use Rattle.std.specs.Prelude.{◌≡◌, ◌<◌, ◌≤◌, IfSome, OnOk, OnErr};
 ghost use Rattle.p25_packet_blocks.specs.Sendable.{IsSendable};
 
 use crate::event::DuplexEvent;
 use p25_delivery::{Inbound, Outbound, StepKind, Way};
 use p25_messages::Flips;
-use p25_packet_blocks::Packet;
+use p25_packet_blocks::{Packet, RESPONSE_FORMAT};
 use p25_stations::{Carried, Step, carry};
 use std::alloc::{AllocError, Global};
 use std::marker::Model;
-
-// The format of a response. TIA-102.BAAA, Packet Data, Header Block.
-const RESPONSE_FORMAT: u8 = 0x03;
 
 /// A station that sends messages and answers those of the other, with the newest transmission of its direction.
 #[derive(Drop)]
@@ -131,12 +128,12 @@ impl Station {
     {
         let way = Way::Packets;
         let carried = match &other.newest {
-            None => return quiet(StepKind::Nothing { way }),
+            None => return Step::quiet(StepKind::Nothing { way }),
             Some(packet) => carry(packet, flips),
         };
         match carried {
-            Carried::Lost(field) => quiet(StepKind::Lost { way, field }),
-            Carried::Foreign => quiet(StepKind::Ignored { way }),
+            Carried::Lost(field) => Step::quiet(StepKind::Lost { way, field }),
+            Carried::Foreign => Step::quiet(StepKind::Ignored { way }),
             Carried::Heard { packet, false_pass } => {
                 if packet.head().format() == RESPONSE_FORMAT {
                     let done = self.outbound.hear(&packet);
@@ -147,15 +144,5 @@ impl Station {
                 }
             }
         }
-    }
-}
-
-// A step in which nothing is heard.
-fn quiet(kind: StepKind) -> Step
-    ensures { result ≡ record { kind = kind; false_pass = false } }
-{
-    Step {
-        kind,
-        false_pass: false,
     }
 }

@@ -1,13 +1,11 @@
 -- The line of an event is read as that event, and a line that is read is the line of its event. By cases on what each step of the reading found.
-use Rattle.std.proofs.Common.{◌≡◌, ℕ, ◌<◌, ◌≤◌, ◌&&◌, true, List, [], ◌∷◌, length, Option, Some, None, Result, Ok, Err, refl, sym, ap, ap₂, subst, ◌∙◌, arith}
+use Rattle.std.proofs.Common.{◌≡◌, ℕ, ◌<◌, ◌≤◌, ◌&&◌, true, List, [], ◌∷◌, length, Option, Some, None, Result, Ok, Err, refl, ap, ap₂, subst, ◌∙◌, arith}
 use Rattle.std.specs.Prelude.{IfOk}
-use Rattle.std.specs.List.{join_with_byte, list_all}
-use Rattle.std.specs.Str.{bytes_eq}
-use Rattle.std.proofs.lemmas.Slice.Eq.{bytes_eq-Decides}
-use Rattle.p25_line.specs.Words.{is_word, words_or_fault}
+use Rattle.std.specs.List.{list_all}
+use Rattle.p25_line.specs.Words.{is_word}
 use Rattle.p25_line.specs.declared.fault.LineFault.{LineFault}
-use Rattle.p25_line.proofs.JoinLaws.{words_or_fault-join, Accepted-words}
-use Rattle.p25_text.proofs.WordLaws.{find-passes}
+use Rattle.p25_line.proofs.LineReadLaws.{WordLaws, line_read-facts, line_read-words}
+use Rattle.p25_line.proofs.WordsLaws.{named-word}
 use Rattle.p25_script.specs.declared.names.EventKind.{EventKind}
 use Rattle.p25_script.specs.declared.names.EventKind.TheVariants.{Send as SendLine, Timeout as TimeoutLine, Reopen as ReopenLine, Deliver as DeliverLine}
 use Rattle.p25_script.specs.Script.{event_kinds, event_named, event_word}
@@ -43,7 +41,7 @@ words-some (Reopen side) = omega arith
 words-some (Deliver to places) = omega arith
 
 -- and they are read as it
-by_words-words : (event : DuplexEvent) → IsDuplexScripted event → duplex_by_words (Ok (duplex_words event)) ≡ Ok event
+by_words-words : (event : DuplexEvent) → IsDuplexScripted event → duplex_by_words (duplex_words event) ≡ Ok event
 by_words-words (Send A message) fits = ap (message_or_fault A) (message_in-text message fits)
 by_words-words (Send B message) fits = ap (message_or_fault B) (message_in-text message fits)
 by_words-words (Timeout A) fits = refl
@@ -52,10 +50,6 @@ by_words-words (Reopen A) fits = refl
 by_words-words (Reopen B) fits = refl
 by_words-words (Deliver A places) fits = ap (delivery_to (Some A)) (places_in-text places fits)
 by_words-words (Deliver B places) fits = ap (delivery_to (Some B)) (places_in-text places fits)
-
-pub event_of-text : (event : DuplexEvent) → IsDuplexScripted event → length (duplex_text event) ≤ 8192 → duplex_event_of (duplex_text event) ≡ Ok event
-unfolding duplex_event_of duplex_text
-event_of-text event fits short = ap duplex_by_words (words_or_fault-join (duplex_words event) (words-some event) (words-words event fits) short) ∙ by_words-words event fits
 
 -- ---- a line that is read is the line of its event
 
@@ -88,7 +82,7 @@ from_side : (side : Side) (second : List ℕ) (others : List (List ℕ)) (kind :
     ReadFrom (side_word side ∷ second ∷ others) event
 from_side side second others None event named found = cc found
 from_side side second others (Some kind) event named found =
-    let word = sym ((bytes_eq-Decides second (event_word kind)).0 (find-passes (λ k. bytes_eq second (event_word k)) event_kinds kind named)) in
+    let word = named-word event_word event_kinds second kind named in
     let read = from_kind side kind others event found in
     (read.0 ∙ ap (λ w. side_word side ∷ w ∷ others) word, read.1)
 
@@ -98,7 +92,7 @@ from_delivery direction word None made event named read found = cc found
 from_delivery direction word (Some to) None event named read found = cc found
 from_delivery direction word (Some to) (Some places) event named read found =
     let facts = places-places_in word places read in
-    let way = sym ((bytes_eq-Decides direction (direction_word to)).0 (find-passes (λ s. bytes_eq direction (direction_word s)) (A ∷ B ∷ []) to named)) in
+    let way = named-word direction_word (A ∷ B ∷ []) direction to named in
     let words : duplex_words (Deliver to places) ≡ event_word DeliverLine ∷ direction ∷ word ∷ [] = ap₂ (λ v w. event_word DeliverLine ∷ v ∷ w ∷ []) way facts.0 in
     let same : Deliver to places ≡ event = cc found in
     subst (λ (e : DuplexEvent). ReadFrom (event_word DeliverLine ∷ direction ∷ word ∷ []) e) same (words, facts.1)
@@ -114,27 +108,22 @@ from_others Delivery (direction ∷ word ∷ next ∷ others) event found = cc f
 from_start : (first : List ℕ) (others : List (List ℕ)) (start : Option DuplexStart) (event : DuplexEvent) → start_named first ≡ start → event_by_start others start ≡ Ok event → ReadFrom (first ∷ others) event
 from_start first others None event named found = cc found
 from_start first others (Some start) event named found =
-    let word = sym ((bytes_eq-Decides first (start_word start)).0 (find-passes (λ s. bytes_eq first (start_word s)) duplex_starts start named)) in
+    let word = named-word start_word duplex_starts first start named in
     let read = from_others start others event found in
     (read.0 ∙ ap (λ w. w ∷ others) word, read.1)
 
--- what a line that is read shows
-record IsLineOf (line : List ℕ) (event : DuplexEvent) : Type 0 where
-  pub text : duplex_text event ≡ line
-  pub fits : IsDuplexScripted event
+from_words : (words : List (List ℕ)) (event : DuplexEvent) → duplex_by_words words ≡ Ok event → ReadFrom words event
+from_words [] event found = cc found
+from_words (first ∷ others) event found = from_start first others (start_named first) event refl found
 
-from_words : (line : List ℕ) (words : Result (List (List ℕ)) LineFault) (event : DuplexEvent) → words_or_fault line ≡ words → duplex_by_words words ≡ Ok event → IsLineOf line event
-unfolding duplex_text
-from_words line (Err fault) event same found = cc found
-from_words line (Ok []) event same found = cc found
-from_words line (Ok (first ∷ others)) event same found =
-    let read = from_start first others (start_named first) event refl found in
-    let accepted = Accepted-words line (first ∷ others) same in
-    record { text = ap (join_with_byte 32) read.0 ∙ accepted.join; fits = read.1 }
+-- ---- so lines and events tell each other
 
-is-line_of : (line : List ℕ) (event : DuplexEvent) → duplex_event_of line ≡ Ok event → IsLineOf line event
-unfolding duplex_event_of
-is-line_of line event found = from_words line (words_or_fault line) event refl found
+duplex_laws : WordLaws duplex_words duplex_by_words IsDuplexScripted
+duplex_laws = record { some = words-some; are_words = words-words; back = by_words-words; again = from_words }
+
+pub event_of-text : (event : DuplexEvent) → IsDuplexScripted event → length (duplex_text event) ≤ 8192 → duplex_event_of (duplex_text event) ≡ Ok event
+unfolding duplex_event_of duplex_text
+event_of-text event fits short = line_read-words duplex_laws event fits short
 
 -- and the laws of the duplex world speak of it
 is-event : (event : DuplexEvent) → IsDuplexScripted event → IsDuplexEvent event
@@ -144,11 +133,11 @@ is-event (Timeout side) fits = tt
 is-event (Reopen side) fits = tt
 is-event (Deliver to places) fits = tt
 
+-- as the reader tells it
+pub read-facts : (line : List ℕ) (result : Result DuplexEvent LineFault) → result ≡ duplex_event_of line → (IfOk result (λ event. duplex_text event ≡ line)) × (IfOk result (λ event. IsDuplexScripted event))
+unfolding duplex_event_of duplex_text
+read-facts line result same = line_read-facts duplex_laws line result same
+
 pub read-event : (line : List ℕ) (result : Result DuplexEvent LineFault) → result ≡ duplex_event_of line → IfOk result (λ event. IsDuplexEvent event)
 read-event line (Err fault) same = tt
-read-event line (Ok event) same = is-event event (is-line_of line event (sym same)).fits
-
--- the two, as the reader tells them
-pub read-facts : (line : List ℕ) (result : Result DuplexEvent LineFault) → result ≡ duplex_event_of line → (IfOk result (λ event. duplex_text event ≡ line)) × (IfOk result (λ event. IsDuplexScripted event))
-read-facts line (Err fault) same = (tt, tt)
-read-facts line (Ok event) same = let facts = is-line_of line event (sym same) in (facts.text, facts.fits)
+read-event line (Ok event) same = is-event event (read-facts line (Ok event) same).1

@@ -2,12 +2,13 @@
 use Rattle.std.specs.Prelude.{ℕ, List, [], ◌∷◌, codes, Option, Some, None, Result, Ok, Err}
 use Rattle.std.specs.List.{find, join_with_byte}
 use Rattle.std.specs.Str.{bytes_eq}
-use Rattle.p25_line.specs.Words.{words_or_fault}
+use Rattle.p25_line.specs.LineReadings.{line_read}
+use Rattle.p25_line.specs.Octets.{octets_text}
 use Rattle.p25_line.specs.declared.fault.LineFault.{LineFault}
 use Rattle.p25_line.specs.declared.fault.LineFault.TheVariants.{Form, Key, Value, Kind as WrongKind}
 use Rattle.p25_delivery.specs.SoundHalves.{IsMessage}
 use Rattle.p25_script.specs.Script.{event_word, event_named}
-use Rattle.p25_script.specs.Values.{ArePlaces, message_in, message_text, places_in, places_text}
+use Rattle.p25_script.specs.Values.{ArePlaces, message_in, places_in, places_text}
 use Rattle.p25_script.specs.declared.names.EventKind.{EventKind}
 use Rattle.p25_script.specs.declared.names.EventKind.TheVariants.{Send as SendLine, Timeout as TimeoutLine, Reopen as ReopenLine, Deliver as DeliverLine}
 use Rattle.p25_duplex.specs.declared.side.Side.{Side}
@@ -53,7 +54,7 @@ IsDuplexScripted (Deliver to places) = ArePlaces places
 
 -- the words of an event
 abbrev pub duplex_words : DuplexEvent → List (List ℕ)
-duplex_words (Send side message) = side_word side ∷ event_word SendLine ∷ message_text message ∷ []
+duplex_words (Send side message) = side_word side ∷ event_word SendLine ∷ octets_text message ∷ []
 duplex_words (Timeout side) = side_word side ∷ event_word TimeoutLine ∷ []
 duplex_words (Reopen side) = side_word side ∷ event_word ReopenLine ∷ []
 duplex_words (Deliver to places) = event_word DeliverLine ∷ direction_word to ∷ places_text places ∷ []
@@ -69,7 +70,7 @@ abbrev pub message_or_fault : Side → Option (List ℕ) → Result DuplexEvent 
 message_or_fault side (Some message) = Ok (Send side message)
 message_or_fault side None = Err Value
 
--- an event of a side by the words behind its second
+-- an event of a side by the words after its second
 abbrev pub event_of_side : Side → Option EventKind → List (List ℕ) → Result DuplexEvent LineFault
 event_of_side side (Some SendLine) (message ∷ []) = message_or_fault side (message_in message)
 event_of_side side (Some TimeoutLine) [] = Ok (Timeout side)
@@ -82,23 +83,22 @@ delivery_to None places = Err Key
 delivery_to (Some to) None = Err Value
 delivery_to (Some to) (Some places) = Ok (Deliver to places)
 
--- the event of the words behind the first, or the first cause for which they are refused
+-- the event of the words after the first, or the first cause for which they are refused
 abbrev pub event_behind : DuplexStart → List (List ℕ) → Result DuplexEvent LineFault
 event_behind (Acts side) (word ∷ others) = event_of_side side (event_named word) others
 event_behind Delivery (direction ∷ places ∷ []) = delivery_to (hearer_named direction) (places_in places)
 event_behind start others = Err Key
 
--- and where the first word names something
+-- the event of the words after a first word that names how it begins, or none
 abbrev pub event_by_start : List (List ℕ) → Option DuplexStart → Result DuplexEvent LineFault
 event_by_start others (Some start) = event_behind start others
 event_by_start others None = Err WrongKind
 
--- the event of the words of a line
-abbrev pub duplex_by_words : Result (List (List ℕ)) LineFault → Result DuplexEvent LineFault
-duplex_by_words (Ok (first ∷ others)) = event_by_start others (start_named first)
-duplex_by_words (Ok []) = Err Form
-duplex_by_words (Err fault) = Err fault
+-- the event of the words of a line, of which there is one at least
+abbrev pub duplex_by_words : List (List ℕ) → Result DuplexEvent LineFault
+duplex_by_words (first ∷ others) = event_by_start others (start_named first)
+duplex_by_words [] = Err Form
 
 -- the event of a line, or the first cause for which the line is refused: Long, Form, Kind, Key, Value
 unfoldable pub duplex_event_of : List ℕ → Result DuplexEvent LineFault
-duplex_event_of line = duplex_by_words (words_or_fault line)
+duplex_event_of line = line_read duplex_by_words line

@@ -1,13 +1,12 @@
 //! Events of the duplex world read from lines.
 
-ghost use Rattle.std.specs.Prelude.{◌≡◌, ◌≤◌, [], ◌∷◌, Ok, IfOk, length};
-ghost use Rattle.p25_line.specs.Words.{WordsAnswer};
+ghost use Rattle.std.specs.Prelude.{◌≡◌, ◌≤◌, [], ◌∷◌, IfOk, length};
 ghost use Rattle.p25_duplex.specs.DuplexRuns.{IsDuplexEvent};
 ghost use Rattle.p25_duplex.specs.declared.event.DuplexEvent.{DuplexEvent as event_type};
-ghost use Rattle.p25_duplex_script.specs.DuplexLines.{IsDuplexScripted, direction_word, duplex_event_of, duplex_text, event_behind, hearer_named, start_named, start_word};
+ghost use Rattle.p25_duplex_script.specs.DuplexLines.{IsDuplexScripted, direction_word, duplex_by_words, duplex_event_of, duplex_text, event_behind, hearer_named, start_named, start_word};
 
 use p25_duplex::{DuplexEvent, Side};
-use p25_line::{LineFault, WordList, words_of};
+use p25_line::{LineFault, LineWords};
 use p25_script::{EventKind, message_value, places_value};
 
 /// What the first word of a line tells.
@@ -75,31 +74,19 @@ pub fn read_duplex_event(line: &[u8]) -> Result<DuplexEvent, LineFault>
     ensures kept { IfOk result (λ event. IsDuplexEvent event) }
     ensures each { (event : event_type) → IsDuplexScripted event → length line.now ≤ 8192 → duplex_text event ≡ line.now → result ≡ Ok event }
 {
-    read_whole(line)
+    read_words(&LineWords::read(line)?)
 }
 
-// The same, by the definition.
-fn read_whole(line: &[u8]) -> Result<DuplexEvent, LineFault>
-    ensures { result ≡ duplex_event_of line.now }
+// The event of the words of a line.
+fn read_words(words: &LineWords) -> Result<DuplexEvent, LineFault>
+    ensures { result ≡ duplex_by_words words.now }
 {
-    let mut words = WordList::new();
-    match words_of(line, &mut words) {
-        Ok(()) => read_words(line, &words),
-        Err(fault) => Err(fault),
-    }
-}
-
-// The event of a line whose words were found.
-fn read_words(line: &[u8], words: &WordList) -> Result<DuplexEvent, LineFault>
-    requires { WordsAnswer line.now words.now (Ok tt) }
-    ensures { result ≡ duplex_event_of line.now }
-{
-    let Some(start) = DuplexStart::named(words.word(line, 0)) else {
+    let Some(start) = DuplexStart::named(words.first()) else {
         return Err(LineFault::Kind);
     };
     match words.count() {
-        2 => read_two(start, words.word(line, 1)),
-        3 => read_three(start, words.word(line, 1), words.word(line, 2)),
+        2 => read_two(start, words.get(1)),
+        3 => read_three(start, words.get(1), words.get(2)),
         _ => Err(LineFault::Key),
     }
 }

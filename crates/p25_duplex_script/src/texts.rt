@@ -5,7 +5,7 @@ ghost use Rattle.p25_duplex_script.specs.DuplexTexts.{duplex_closing_of, duplex_
 
 use p25_duplex::{DuplexStep, DuplexWorld, Side};
 use p25_line::Line;
-use p25_script::{put_count, put_sessions, step_text};
+use p25_script::{put_sessions, step_text};
 
 /// Sets `out` to the text of a step, without the end of its line: the letter of the side that acts or hears, a space, and the
 /// text of what the step was. It has at most 4,208 octets.
@@ -31,8 +31,8 @@ pub fn duplex_closing(world: &DuplexWorld, side: Side, out: &mut Line)
 {
     out.clear();
     out.put(side.word());
-    put_count(b" sent=", world.sent(side).len() as u64, out);
-    put_count(b" delivered=", world.delivered(side).len() as u64, out);
-    put_count(b" acknowledged=", world.acknowledged(side), out);
+    out.put_labelled(b" sent=", world.sent(side).len() as u64);
+    out.put_labelled(b" delivered=", world.delivered(side).len() as u64);
+    out.put_labelled(b" acknowledged=", world.acknowledged(side));
     put_sessions(world.sessions(side), out);
 }

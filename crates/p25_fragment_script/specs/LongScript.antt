@@ -1,14 +1,14 @@
 -- Script lines of long messages: the line of an event, and the event of a line.
-use Rattle.std.specs.Prelude.{ℕ, ◌≤◌, Bool, cond, List, [], ◌∷◌, length, codes, Option, Some, None, Result, Ok, Err}
+use Rattle.std.specs.Prelude.{ℕ, ◌≤◌, cond, List, [], ◌∷◌, length, codes, Option, Some, None, Result, Ok, Err}
 use Rattle.std.specs.List.{join_with_byte}
 use Rattle.std.specs.Str.{bytes_eq}
 use Rattle.p25_line.specs.Values.{AllOctets}
-use Rattle.p25_line.specs.Words.{words_or_fault}
+use Rattle.p25_line.specs.LineReadings.{line_read}
+use Rattle.p25_line.specs.Octets.{octets_text, octets_up_to}
 use Rattle.p25_line.specs.declared.fault.LineFault.{LineFault}
 use Rattle.p25_line.specs.declared.fault.LineFault.TheVariants.{Form, Key, Value, Kind as WrongKind}
 use Rattle.p25_stations.specs.declared.step.Event.{Event}
-use Rattle.p25_script.specs.Script.{IsScripted, event_of, event_text}
-use Rattle.p25_script.specs.Values.{message_text, octets_up_to}
+use Rattle.p25_script.specs.Script.{IsScripted, event_by_words, event_words}
 use Rattle.p25_fragments.specs.LongRuns.{IsNoOffer}
 use Rattle.p25_fragments.specs.declared.long_step.LongEvent.{LongEvent}
 use Rattle.p25_fragments.specs.declared.long_step.LongEvent.TheVariants.{Long, Inner}
@@ -30,14 +30,14 @@ unfoldable pub IsLongScripted : LongEvent → Type 0
 IsLongScripted (Long message) = IsLongMessage message
 IsLongScripted (Inner event) = IsInnerEvent event
 
--- the words of the line of a long message
-abbrev pub long_words : List ℕ → List (List ℕ)
-long_words message = codes "long" ∷ message_text message ∷ []
+-- the words of an event
+abbrev pub long_event_words : LongEvent → List (List ℕ)
+long_event_words (Long message) = codes "long" ∷ octets_text message ∷ []
+long_event_words (Inner event) = event_words event
 
 -- the line of an event, without the end of the line
 unfoldable pub long_event_text : LongEvent → List ℕ
-long_event_text (Long message) = join_with_byte 32 (long_words message)
-long_event_text (Inner event) = event_text event
+long_event_text event = join_with_byte 32 (long_event_words event)
 
 -- ---- the event of a line
 
@@ -50,29 +50,29 @@ abbrev pub long_or_fault : Option (List ℕ) → Result LongEvent LineFault
 long_or_fault (Some message) = Ok (Long message)
 long_or_fault None = Err Value
 
--- the event of the words behind `long`
+-- the event of the words after `long`
 abbrev pub long_in : List (List ℕ) → Result LongEvent LineFault
 long_in (word ∷ []) = long_or_fault (long_message_in word)
 long_in others = Err Key
 
--- the event of another line
+-- the event of the inner world, as one of long messages
 abbrev pub inner_or_fault : Result Event LineFault → Result LongEvent LineFault
 inner_or_fault (Ok event) = Ok (Inner event)
 inner_or_fault (Err fault) = Err fault
 
--- the event of a line that begins with another word than `long`: not with `send`
-abbrev pub other_event : List ℕ → List ℕ → Result LongEvent LineFault
-other_event line first = cond (bytes_eq first (codes "send")) (Err WrongKind) (inner_or_fault (event_of line))
+-- the event of words that begin with another word than `long`: not with `send`
+abbrev pub other_event : List ℕ → List (List ℕ) → Result LongEvent LineFault
+other_event first others = cond (bytes_eq first (codes "send")) (Err WrongKind) (inner_or_fault (event_by_words (first ∷ others)))
 
--- the event of a line by its first word and the others
-abbrev pub long_event_by : List ℕ → List ℕ → List (List ℕ) → Result LongEvent LineFault
-long_event_by line first others = cond (bytes_eq first (codes "long")) (long_in others) (other_event line first)
+-- the event of the first word of a line and the others
+abbrev pub long_event_by : List ℕ → List (List ℕ) → Result LongEvent LineFault
+long_event_by first others = cond (bytes_eq first (codes "long")) (long_in others) (other_event first others)
 
-abbrev pub long_event_by_words : List ℕ → Result (List (List ℕ)) LineFault → Result LongEvent LineFault
-long_event_by_words line (Ok (first ∷ others)) = long_event_by line first others
-long_event_by_words line (Ok []) = Err Form
-long_event_by_words line (Err fault) = Err fault
+-- the event of the words of a line, of which there is one at least
+abbrev pub long_event_by_words : List (List ℕ) → Result LongEvent LineFault
+long_event_by_words (first ∷ others) = long_event_by first others
+long_event_by_words [] = Err Form
 
 -- the event of a line, or the first cause for which the line is refused: Long, Form, Kind, Key, Value
 unfoldable pub long_event_of : List ℕ → Result LongEvent LineFault
-long_event_of line = long_event_by_words line (words_or_fault line)
+long_event_of line = line_read long_event_by_words line

@@ -1,8 +1,8 @@
 -- The texts of the steps of long messages, and the text that closes a run.
 use Rattle.std.specs.Prelude.{ℕ, ◌+◌, List, [], ◌∷◌, ◌++◌, length, Option, Some, None, codes, decimal}
+use Rattle.p25_line.specs.Octets.{octets_text}
 use Rattle.p25_stations.specs.declared.step.Step.{Step}
 use Rattle.p25_script.specs.StepTexts.{step_text_of, sessions_text}
-use Rattle.p25_script.specs.Values.{message_text}
 use Rattle.p25_fragments.specs.LongState.{LongState}
 use Rattle.p25_fragments.specs.declared.long_step.Then.{Then}
 use Rattle.p25_fragments.specs.declared.long_step.Then.TheVariants.{Plain, Started, Busy, Down, Part, Whole, Refused, Next, Finished}
@@ -22,14 +22,14 @@ unfoldable pub line_before : Then → List ℕ
 line_before (Started parts) = ended_line (codes "long taken parts=" ++ decimal parts)
 line_before other = []
 
--- and the line behind it, or in its place
+-- and the line after it, or in its place
 unfoldable pub line_behind : Then → List ℕ
 line_behind Plain = []
 line_behind (Started parts) = []
 line_behind Busy = ended_line (codes "long busy")
 line_behind Down = ended_line (codes "long down")
 line_behind (Part number) = ended_line (codes "part " ++ decimal number)
-line_behind (Whole message) = ended_line (codes "whole message=" ++ message_text message)
+line_behind (Whole message) = ended_line (codes "whole message=" ++ octets_text message)
 line_behind Refused = ended_line (codes "part refused")
 line_behind (Next step) = ended_line (step_text_of step)
 line_behind Finished = ended_line (codes "long acknowledged")
@@ -41,6 +41,6 @@ long_step_text_of step = line_before step.then ++ first_line_of step.first ++ li
 -- the text that closes a run, without the end of its line
 unfoldable pub long_closing_text_of : LongState → List ℕ
 long_closing_text_of w =
-    codes "taken=" ++ decimal (length w.sender.taken) ++ codes " whole=" ++ decimal (length w.receiver.whole)
-    ++ codes " acknowledged=" ++ decimal w.sender.acknowledged ++ codes " false=" ++ decimal w.inner.false_passes
+    codes "taken=" ++ decimal (length w.taken) ++ codes " whole=" ++ decimal (length w.whole)
+    ++ codes " acknowledged=" ++ decimal w.acknowledged ++ codes " false=" ++ decimal w.inner.false_passes
     ++ sessions_text (length w.inner.link.outbound.marks + 1)

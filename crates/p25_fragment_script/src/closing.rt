@@ -5,7 +5,7 @@ ghost use Rattle.p25_fragment_script.specs.LongTexts.{long_closing_text_of};
 
 use p25_fragments::LongWorld;
 use p25_line::Line;
-use p25_script::{put_count, put_sessions};
+use p25_script::put_sessions;
 
 /// Sets `out` to the text that closes a run of long messages, without the end of its line: how many long messages were taken,
 /// whole and acknowledged, how many deliveries were false passes, and how many sessions there were, where there was more than
@@ -16,9 +16,9 @@ pub fn long_closing_text(world: &LongWorld, out: &mut Line)
     ensures short { length out.new ≤ 200 }
 {
     out.clear();
-    put_count(b"taken=", world.taken().len() as u64, out);
-    put_count(b" whole=", world.whole().len() as u64, out);
-    put_count(b" acknowledged=", world.acknowledged(), out);
-    put_count(b" false=", world.inner().false_passes(), out);
+    out.put_labelled(b"taken=", world.taken().len() as u64);
+    out.put_labelled(b" whole=", world.whole().len() as u64);
+    out.put_labelled(b" acknowledged=", world.acknowledged());
+    out.put_labelled(b" false=", world.inner().false_passes());
     put_sessions(world.inner().sessions(), out);
 }

@@ -7,8 +7,8 @@
 //! ```text
 //! let event = read_long_event(b"long 6162")?;
 //! let step = world.step(&event)?;
-//! let (mut out, mut behind) = (Line::new(), Line::new());
-//! long_step_text(&step, &mut out, &mut behind);
+//! let (mut out, mut after) = (Line::new(), Line::new());
+//! long_step_text(&step, &mut out, &mut after);
 //! long_closing_text(&world, &mut out);
 //! ```
 #![tactic(auto)]

@@ -1,15 +1,14 @@
 //! Events of long messages read from lines.
 
-ghost use Rattle.std.specs.Prelude.{◌≡◌, ◌≤◌, Ok, IfOk, length};
+ghost use Rattle.std.specs.Prelude.{◌≡◌, ◌≤◌, IfOk, length, drop, slice_get};
 ghost use Rattle.std.specs.Str.{bytes_eq};
-ghost use Rattle.p25_line.specs.Words.{WordsAnswer};
 ghost use Rattle.p25_fragments.specs.declared.long_step.LongEvent.{LongEvent as event_type};
-ghost use Rattle.p25_fragment_script.specs.LongScript.{IsLongScripted, long_event_of, long_event_text, other_event};
+ghost use Rattle.p25_fragment_script.specs.LongScript.{IsLongScripted, long_event_by_words, long_event_of, long_event_text, other_event};
 
 use super::value::long_value;
 use p25_fragments::LongEvent;
-use p25_line::{LineFault, WordList, words_of};
-use p25_script::read_event;
+use p25_line::{LineFault, LineWords};
+use p25_script::read_event_words;
 
 /// Answers the event whose line this is. Each line that is accepted is the line of its event, and the line of each event,
 /// where it is not too long, is accepted. The first of these causes that applies is answered: Long, above 8,192 octets; Form,
@@ -23,33 +22,21 @@ pub fn read_long_event(line: &[u8]) -> Result<LongEvent, LineFault>
     ensures fits { IfOk result (λ event. IsLongScripted event) }
     ensures each { (event : event_type) → IsLongScripted event → length line.now ≤ 8192 → long_event_text event ≡ line.now → result ≡ Ok event }
 {
-    read_whole(line)
+    read_words(&LineWords::read(line)?)
 }
 
-// The same, by the definition.
-fn read_whole(line: &[u8]) -> Result<LongEvent, LineFault>
-    ensures { result ≡ long_event_of line.now }
+// The event of the words of a line.
+fn read_words(words: &LineWords) -> Result<LongEvent, LineFault>
+    ensures { result ≡ long_event_by_words words.now }
 {
-    let mut words = WordList::new();
-    match words_of(line, &mut words) {
-        Ok(()) => read_words(line, &words),
-        Err(fault) => Err(fault),
-    }
-}
-
-// The event of a line whose words were found.
-fn read_words(line: &[u8], words: &WordList) -> Result<LongEvent, LineFault>
-    requires { WordsAnswer line.now words.now (Ok tt) }
-    ensures { result ≡ long_event_of line.now }
-{
-    let first = words.word(line, 0);
+    let first = words.first();
     if !is_same(first, b"long") {
-        return read_other(line, first);
+        return read_other(first, words);
     }
     if words.count() != 2 {
         return Err(LineFault::Key);
     }
-    match long_value(words.word(line, 1)) {
+    match long_value(words.get(1)) {
         Some(message) => Ok(LongEvent::Long(message)),
         None => Err(LineFault::Value),
     }
@@ -62,14 +49,15 @@ fn is_same(word: &[u8], other: &[u8]) -> bool
     word == other
 }
 
-// The event of a line that begins with another word.
-fn read_other(line: &[u8], first: &[u8]) -> Result<LongEvent, LineFault>
-    ensures { result ≡ other_event line.now first.now }
+// The event of words that begin with another word.
+fn read_other(first: &[u8], words: &LineWords) -> Result<LongEvent, LineFault>
+    requires { slice_get words.now 0 ≡ Some first.now }
+    ensures { result ≡ other_event first.now (drop 1 words.now) }
 {
     if is_same(first, b"send") {
         return Err(LineFault::Kind);
     }
-    match read_event(line) {
+    match read_event_words(words) {
         Ok(event) => Ok(LongEvent::Inner(event)),
         Err(fault) => Err(fault),
     }

@@ -2,16 +2,16 @@
 
 ghost use Rattle.std.specs.Prelude.{◌≡◌, ◌+◌, ◌≤◌, ◌++◌, [], codes, decimal, length};
 ghost use Rattle.p25_script.specs.StepTexts.{step_text_of};
-ghost use Rattle.p25_script.specs.Values.{message_text};
+ghost use Rattle.p25_line.specs.Octets.{octets_text};
 ghost use Rattle.p25_fragment_script.specs.LongTexts.{ended_line, first_line_of, line_before, line_behind, long_step_text_of};
 
 use p25_fragments::{LongMessage, LongStep, Then};
 use p25_line::Line;
-use p25_script::{put_count, put_octets, step_text};
+use p25_script::step_text;
 use p25_stations::Step;
 
-/// Sets `out` and `behind` to the two pieces of the text of a step, one behind the other: its lines, each with its end. A long
-/// message that is taken is told before the step of its part 0; all else is told behind the step of the inner world.
+/// Sets `out` and `behind` to the two pieces of the text of a step, one after the other: its lines, each with its end. A long
+/// message that is taken is told before the step of its part 0; all else is told after the step of the inner world.
 #[tactic(auto, unfolding(crate::specs::LongTexts::long_step_text_of, crate::specs::LongTexts::line_before, crate::specs::LongTexts::line_behind))]
 pub fn long_step_text(step: &LongStep, out: &mut Line, behind: &mut Line)
     ensures { out.new ++ behind.new ≡ long_step_text_of step.now }
@@ -39,7 +39,7 @@ fn put_first(first: &Option<Step>, out: &mut Line)
     }
 }
 
-// Sets `out` to the line behind the step of the inner world.
+// Sets `out` to the line after the step of the inner world.
 #[tactic(auto, unfolding(crate::specs::LongTexts::line_behind))]
 fn put_behind(then: &Then, out: &mut Line)
     ensures { out.new ≡ line_behind then.now }
@@ -79,16 +79,16 @@ fn put_line(label: &[u8], number: u64, out: &mut Line)
     ensures { out.new ≡ ended_line (label.now ++ decimal number) }
 {
     out.clear();
-    put_count(label, number, out);
+    out.put_labelled(label, number);
     out.put(b"\n");
 }
 
 // Sets `out` to the line of a long message that is whole.
 fn put_whole(message: &LongMessage, out: &mut Line)
-    ensures { out.new ≡ ended_line (codes "whole message=" ++ message_text message.now) }
+    ensures { out.new ≡ ended_line (codes "whole message=" ++ octets_text message.now) }
 {
     out.clear();
     out.put(b"whole message=");
-    put_octets(message.octets(), out);
+    out.put_octets(message.octets());
     out.put(b"\n");
 }

@@ -1,79 +1,85 @@
--- What it means that the long messages follow a step: they match the link behind it. And the steps that mean nothing for them, or
--- end a session. By what the step of the inner world is.
-use Rattle.std.proofs.Common.{◌≡◌, ◌≢◌, ℕ, suc, ◌+◌, Bool, true, false, List, [], ◌∷◌, ◌++◌, length, map, Option, None, refl, ap, sym, subst, ◌∙◌, arith, length-append}
+-- What it means that the long messages follow a step: they match the link after it. And the steps that mean nothing for them, or
+-- end a session, hear the opening packet or open the session. By what was outstanding.
+use Rattle.std.proofs.Common.{◌≡◌, ◌≢◌, ℕ, ◌+◌, true, false, [], ◌∷◌, ◌++◌, length, Option, None, refl, ap, sym, subst, ◌∙◌, arith, length-append}
+use Rattle.std.specs.Prelude.{nat_lt}
+use Rattle.std.proofs.lemmas.Bool.{cond-true, cond-false}
 use Rattle.std.proofs.lemmas.Bool.Decides.{nat_tests}
-use Rattle.p25_delivery.specs.declared.sender_state.Outstanding.TheVariants.{Message, Opening}
-use Rattle.p25_delivery.specs.Link.{Session, empty_session, Link}
-use Rattle.p25_delivery.proofs.PhaseLaws.{orderly-more}
+use Rattle.p25_delivery.specs.declared.mark.Mark.{Mark}
+use Rattle.p25_delivery.specs.declared.sender_state.Outstanding.{Outstanding}
+use Rattle.p25_delivery.specs.declared.sender_state.Outstanding.TheVariants.{Nothing, Message, Opening}
 use Rattle.p25_delivery.specs.declared.step_kind.StepKind.{StepKind}
 use Rattle.p25_delivery.specs.declared.step_kind.StepKind.TheVariants.{Acknowledged, Delivered, SynHeard}
+use Rattle.p25_delivery.specs.Link.{Link, Session, present_mark, present_session}
+use Rattle.p25_delivery.specs.Orderly.{IsOrderly, AreOrderly}
+use Rattle.p25_delivery.proofs.SessionLaws.{marked, IsDivided, divided-marked, present-marked}
+use Rattle.p25_delivery.proofs.PhaseLaws.{IsKept, orderly-divided}
 use Rattle.p25_stations.specs.declared.step.Step.{Step}
-use Rattle.p25_delivery.specs.declared.mark.Mark.{Mark}
 use Rattle.p25_stations.specs.WorldState.{WorldState}
-use Rattle.p25_stations.proofs.WorldOfLaws.{mark_after, marks_after, first_mark, world_of, session-ends}
-use Rattle.p25_fragments.specs.declared.long_mark.LongMark.{LongMark}
-use Rattle.p25_fragments.specs.declared.outgoing.Outgoing.{Outgoing}
+use Rattle.p25_fragments.specs.declared.outstanding_part.OutstandingPart.{OutstandingPart}
 use Rattle.p25_fragments.specs.declared.long_step.Then.{Then}
 use Rattle.p25_fragments.specs.declared.long_step.Then.TheVariants.{Plain, Refused}
 use Rattle.p25_fragments.specs.declared.long_step.LongStep.{LongStep}
-use Rattle.p25_fragments.specs.JoiningState.{Joining}
-use Rattle.p25_fragments.specs.SendingState.{LongSending}
-use Rattle.p25_fragments.specs.LongSenders.{given_up}
-use Rattle.p25_fragments.specs.ReceivingState.{LongReceiving}
-use Rattle.p25_fragments.specs.LongState.{LongState}
-use Rattle.p25_fragments.specs.LongSteps.{after_kind, present_long_mark, ended_when, has_ended, with_first, inner_happened}
-use Rattle.p25_fragments.proofs.InnerStepLaws.{IsPlainKind, IsSameLink, IsWorldAt}
-use Rattle.p25_fragments.proofs.MatchLaws.{MatchesBy, Matches, matches-from, mark_of, as_world, IsLongOf, Follows, present-orderly}
+use Rattle.p25_fragments.specs.Joining.{Joining, first_joining}
+use Rattle.p25_fragments.specs.LongState.{LongState, long_link}
+use Rattle.p25_fragments.specs.LongSteps.{with_first, after_kind, session_ended, inner_happened}
+use Rattle.p25_fragments.specs.LongRuns.{long_sessions_of}
+use Rattle.p25_fragments.proofs.MoveLaws.{IsPlainKind, lists_of, outstanding_in, IsSameIn, HasSameLast}
+use Rattle.p25_fragments.proofs.CleanMoveLaws.{IsNoMessage}
+use Rattle.p25_fragments.proofs.MatchLaws.{IsOpeningLong, MatchesBy, Matches, matches-at, matches-from, orderly-matches}
+
+-- the present session of the long messages
+abbrev pub present : LongState → Session
+present w = present_session (long_link w)
+
+-- the link is in a phase, the sessions of the long messages that have ended are orderly, and the present one matches the link
+pub record Follows (w : LongState) : Type 0 where
+  pub kept : IsKept w.inner.link
+  pub divided : IsDivided IsOrderly (long_link w)
+  pub matches : Matches w.inner.link w.outstanding w.joining (present w)
 
 -- a step after which the long messages match, and in which no part is refused
 pub record FollowsStep (y : LongState × LongStep) : Type 0 where
   pub follows : Follows y.0
   pub unrefused : y.1.then ≢ Refused
 
--- the same, of what follows a step of the inner world
+-- and what follows a step of the inner world
 pub record FollowsThen (y : LongState × Then) : Type 0 where
   pub follows : Follows y.0
   pub unrefused : y.1 ≢ Refused
 
--- Whether a session of the inner world ended.
+pub present-orderly : (w : LongState) → Follows w → IsOrderly (present w)
+present-orderly w f = orderly-matches (outstanding_in w.inner.link) w.inner.link.inbound.receiver.last (present_session w.inner.link) w.outstanding w.joining (present w) f.matches
 
-pub marks-count : (from : Mark) (sessions : List Session) → length (marks_after from sessions) ≡ length sessions
-unfolding marks_after
-marks-count from [] = refl
-marks-count from (s ∷ sessions) = ap suc (marks-count (mark_after from s) sessions)
+pub sessions-orderly : (w : LongState) → Follows w → AreOrderly (long_sessions_of w)
+sessions-orderly w f = orderly-divided (long_link w) f.divided (present-orderly w f)
 
-pub goes-on : (v w : Link) (count : ℕ) (inner : WorldState) → IsWorldAt w inner → w.ended ≡ v.ended → has_ended (world_of v count) inner ≡ false
-goes-on v w count inner is e =
-    let before = marks-count first_mark v.ended in
-    let after : length inner.marks ≡ length v.ended = ap (λ (x : WorldState). length x.marks) is.is ∙ marks-count first_mark w.ended ∙ ap length e in
-    grind (arith, nat_tests)
+-- Whether a session of the inner world has ended.
 
-pub ends : (v w : Link) (count : ℕ) (inner : WorldState) → IsWorldAt w inner → w.ended ≡ v.ended ++ v.session ∷ [] → has_ended (world_of v count) inner ≡ true
-ends v w count inner is e =
-    let before = marks-count first_mark v.ended in
-    let after : length inner.marks ≡ length v.ended + 1 = ap (λ (x : WorldState). length x.marks) is.is ∙ marks-count first_mark w.ended ∙ ap length e ∙ length-append v.ended (v.session ∷ []) in
-    grind (arith, nat_tests)
+pub happened-on : (w : LongState) (inner : WorldState) (step : Step) → inner.link.outbound.marks ≡ w.inner.link.outbound.marks → inner_happened w (inner, step) ≡ with_first step (after_kind step.kind (record w { inner = inner }))
+unfolding inner_happened
+happened-on w inner step e =
+    let same = ap length e in
+    let test : nat_lt (length w.inner.link.outbound.marks) (length inner.link.outbound.marks) ≡ false = grind (arith, nat_tests) in
+    ap (λ (y : LongState × Then). with_first step y) (cond-false _ _ _ test)
 
--- the world of long messages over the world of a link
-abbrev pub long_at : WorldState → LongSending → LongReceiving → List LongMark → LongState
-long_at inner s r marks = record { inner = inner; sender = s; receiver = r; marks = marks }
-
-pub happened-on : (v : WorldState) (s : LongSending) (r : LongReceiving) (marks : List LongMark) (inner : WorldState) (step : Step) → has_ended v inner ≡ false →
-    inner_happened (long_at v s r marks) (inner, step) ≡ with_first step (after_kind step.kind (long_at inner s r marks))
-unfolding inner_happened ended_when
-happened-on v s r marks inner step e = ap (λ (b : Bool). with_first step (after_kind step.kind (record (ended_when b (long_at v s r marks)) { inner = inner }))) e
-
-pub happened-end : (v : WorldState) (s : LongSending) (r : LongReceiving) (marks : List LongMark) (inner : WorldState) (step : Step) → has_ended v inner ≡ true →
-    inner_happened (long_at v s r marks) (inner, step) ≡ with_first step (after_kind step.kind (long_at inner (given_up s) r (marks ++ present_long_mark (long_at v s r marks) ∷ [])))
-unfolding inner_happened ended_when
-happened-end v s r marks inner step e = ap (λ (b : Bool). with_first step (after_kind step.kind (record (ended_when b (long_at v s r marks)) { inner = inner }))) e
+pub happened-end : (w : LongState) (inner : WorldState) (step : Step) (mark : Mark) → inner.link.outbound.marks ≡ w.inner.link.outbound.marks ++ mark ∷ [] →
+    inner_happened w (inner, step) ≡ with_first step (session_ended (record w { inner = inner }))
+unfolding inner_happened
+happened-end w inner step mark e =
+    let more : length inner.link.outbound.marks ≡ length w.inner.link.outbound.marks + 1 = ap length e ∙ length-append w.inner.link.outbound.marks (mark ∷ []) in
+    let test : nat_lt (length w.inner.link.outbound.marks) (length inner.link.outbound.marks) ≡ true = grind (arith, nat_tests) in
+    ap (λ (y : LongState × Then). with_first step y) (cond-true _ _ _ test)
 
 pub step-then : (step : Step) (y : LongState × Then) → FollowsThen y → FollowsStep (with_first step y)
 step-then step y f = record { follows = f.follows; unrefused = f.unrefused }
 
--- a step that means nothing
+-- the same marks, and what follows
+pub on : (w : LongState) (inner : WorldState) (step : Step) → inner.link.outbound.marks ≡ w.inner.link.outbound.marks → FollowsThen (after_kind step.kind (record w { inner = inner })) → FollowsStep (inner_happened w (inner, step))
+on w inner step e f = subst FollowsStep (sym (happened-on w inner step e)) (step-then step (after_kind step.kind (record w { inner = inner })) f)
 
-pub after-plain : (kind : StepKind) (w : LongState) → IsPlainKind kind → after_kind kind w ≡ (w, Plain)
+-- A step that means nothing.
+
+after-plain : (kind : StepKind) (w : LongState) → IsPlainKind kind → after_kind kind w ≡ (w, Plain)
 unfolding IsPlainKind after_kind
 after-plain (Acknowledged number) w p = absurd p
 after-plain (Delivered number message) w p = absurd p
@@ -83,50 +89,75 @@ after-plain other w p = refl
 pub plain-unrefused : Plain ≢ Refused
 plain-unrefused e = absurd (cc)
 
-pub plain-then : (kind : StepKind) (w : LongState) → IsPlainKind kind → Follows w → FollowsThen (after_kind kind w)
+plain-then : (kind : StepKind) (w : LongState) → IsPlainKind kind → Follows w → FollowsThen (after_kind kind w)
 plain-then kind w p f = subst FollowsThen (sym (after-plain kind w p)) (record { follows = f; unrefused = plain-unrefused })
 
--- the same long messages over another link
-pub same-long : (v w : Link) (s : LongSending) (r : LongReceiving) (marks : List LongMark) → w.ended ≡ v.ended → (h : IsLongOf v s r marks) → Matches w s.outgoing r.joining h.present → IsLongOf w s r marks
-same-long v w s r marks e h m = record {
-  ended = h.ended;
-  present = h.present;
-  orderly = h.orderly;
-  ended_count = h.ended_count ∙ ap length (sym e);
-  taken_is = h.taken_is;
-  whole_is = h.whole_is;
-  acknowledged_is = h.acknowledged_is;
-  marks_are = h.marks_are;
-  matches = m;
-}
+same-matches : (v u : Link) (out : Option OutstandingPart) (j : Joining) (p : Session) → IsSameIn v u → HasSameLast v u → present_session u ≡ present_session v → Matches v out j p → Matches u out j p
+same-matches v u out j p o l s m =
+    let last : MatchesBy (outstanding_in v) u.inbound.receiver.last (present_session v) out j p = subst (λ (n : ℕ). MatchesBy (outstanding_in v) n (present_session v) out j p) (sym l) m in
+    matches-from u (outstanding_in v) out j p o (subst (λ (x : Session). MatchesBy (outstanding_in v) u.inbound.receiver.last x out j p) (sym s) last)
 
-pub same-matches : (v w : Link) (out : Option Outgoing) (j : Joining) (p : Session) → IsSameLink v w → Matches v out j p → Matches w out j p
-same-matches v w out j p same m =
-    let counts : MatchesBy v.sender.outstanding w.receiver.last (length w.session.delivered) w.session.acknowledged out j p
-    = subst (λ (x : Session). MatchesBy v.sender.outstanding w.receiver.last (length x.delivered) x.acknowledged out j p) (sym same.session_is)
-    (subst (λ (n : ℕ). MatchesBy v.sender.outstanding n (length v.session.delivered) v.session.acknowledged out j p) (sym same.last_is) m) in
-    matches-from w v.sender.outstanding out j p same.outstanding counts
+pub nothing-follows : (w : LongState) (inner : WorldState) (step : Step) → Follows w → IsKept inner.link → IsPlainKind step.kind → IsSameIn w.inner.link inner.link →
+    HasSameLast w.inner.link inner.link → lists_of inner.link ≡ lists_of w.inner.link →
+    FollowsStep (inner_happened w (inner, step))
+nothing-follows w inner step f k p o l e =
+    on w inner step (ap (λ (v : Link). v.outbound.marks) e)
+    (plain-then step.kind (record w { inner = inner }) p (record { kept = k; divided = f.divided; matches = same-matches w.inner.link inner.link w.outstanding w.joining (present w) o l (ap present_session e) f.matches }))
+
+-- The session is open.
+
+opened-matches : (v u : Link) (out : Option OutstandingPart) (j : Joining) (p : Session) (number : ℕ) → outstanding_in v ≡ Opening number → v.inbound.receiver.last ≡ number → outstanding_in u ≡ Nothing → Matches v out j p → Matches u out j p
+unfolding MatchesBy
+opened-matches v u out j p number o l q m =
+    let h : IsOpeningLong number v.inbound.receiver.last out j p = matches-at v (Opening number) out j p o m in
+    matches-from u Nothing out j p q (record {
+      out_is = h.out_is;
+      joining_is = h.joining_is l;
+      whole_is = ap (λ (x : Session). x.delivered) h.session_is ∙ sym (ap (λ (x : Session). x.sent) h.session_is);
+      acknowledged_is = ap (λ (x : Session). x.acknowledged) h.session_is ∙ sym (ap (λ (x : Session). length x.sent) h.session_is);
+    })
+
+pub opened-follows : (w : LongState) (inner : WorldState) (step : Step) (number : ℕ) → Follows w → IsKept inner.link → IsPlainKind step.kind → outstanding_in w.inner.link ≡ Opening number →
+    w.inner.link.inbound.receiver.last ≡ number → outstanding_in inner.link ≡ Nothing →
+    lists_of inner.link ≡ lists_of w.inner.link → FollowsStep (inner_happened w (inner, step))
+opened-follows w inner step number f k p o l q e =
+    on w inner step (ap (λ (v : Link). v.outbound.marks) e)
+    (plain-then step.kind (record w { inner = inner }) p (record { kept = k; divided = f.divided; matches = opened-matches w.inner.link inner.link w.outstanding w.joining (present w) number o l q f.matches }))
+
+-- The opening packet is heard.
+
+syn-matches : (o : Outstanding) (last : ℕ) (s : Session) (u : ℕ) (t : Session) (out : Option OutstandingPart) (j : Joining) (p : Session) → IsNoMessage o → MatchesBy o last s out j p → MatchesBy o u t out first_joining p
+unfolding IsNoMessage MatchesBy
+syn-matches Nothing last s u t out j p is m = record { out_is = m.out_is; joining_is = refl; whole_is = m.whole_is; acknowledged_is = m.acknowledged_is }
+syn-matches (Message part) last s u t out j p is m = absurd is
+syn-matches (Opening number) last s u t out j p is m = record { out_is = m.out_is; session_is = m.session_is; joining_is = λ e. refl }
+
+syn-then : (w : LongState) (kind : StepKind) (number : ℕ) → kind ≡ SynHeard number → Follows (record w { joining = first_joining }) → FollowsThen (after_kind kind w)
+unfolding after_kind
+syn-then w kind number k f = subst FollowsThen (sym (ap (λ (x : StepKind). after_kind x w) k)) (record { follows = f; unrefused = plain-unrefused })
+
+pub syn-follows : (w : LongState) (inner : WorldState) (step : Step) (number : ℕ) → Follows w → IsKept inner.link → step.kind ≡ SynHeard number → IsNoMessage (outstanding_in w.inner.link) →
+    IsSameIn w.inner.link inner.link → lists_of inner.link ≡ lists_of w.inner.link →
+    FollowsStep (inner_happened w (inner, step))
+syn-follows w inner step number f k s is o e =
+    let v = w.inner.link in
+    let m = syn-matches (outstanding_in v) v.inbound.receiver.last (present_session v) inner.link.inbound.receiver.last (present_session inner.link) w.outstanding w.joining (present w) is f.matches in
+    on w inner step (ap (λ (u : Link). u.outbound.marks) e)
+    (syn-then (record w { inner = inner }) step.kind number s (record { kept = k; divided = f.divided; matches = matches-from inner.link (outstanding_in v) w.outstanding first_joining (present w) o m }))
 
 -- A session ends.
 
-pub map-more : (marks : List LongMark) (mark : LongMark) → map mark_of (marks ++ mark ∷ []) ≡ map mark_of marks ++ mark_of mark ∷ []
-map-more [] mark = refl
-map-more (first ∷ marks) mark = ap (λ (ms : List Mark). mark_of first ∷ ms) (map-more marks mark)
-
-pub ended-long : (v w : Link) (inner : WorldState) (s : LongSending) (r : LongReceiving) (marks : List LongMark) (part : List ℕ) (number : ℕ) → v.sender.outstanding ≡ Message part → w.sender.outstanding ≡ Opening number →
-    (w.receiver.last ≡ number → ⊥) →
-    w.ended ≡ v.ended ++ v.session ∷ [] → IsLongOf v s r marks → IsLongOf w (given_up s) r (marks ++ present_long_mark (long_at inner s r marks) ∷ [])
+pub ended-follows : (w : LongState) (inner : WorldState) (step : Step) (number : ℕ) → Follows w → IsKept inner.link → outstanding_in inner.link ≡ Opening number →
+    (inner.link.inbound.receiver.last ≡ number → ⊥) → lists_of inner.link ≡ marked (lists_of w.inner.link) →
+    FollowsStep (inner_happened w (inner, step))
 unfolding MatchesBy
-ended-long v w inner s r marks part number o p l e h =
-    let same = session-ends h.ended h.present (as_world s r marks) h.taken_is h.whole_is h.acknowledged_is h.marks_are in
-    record {
-      ended = h.ended ++ h.present ∷ [];
-      present = empty_session;
-      orderly = orderly-more h.ended h.present h.orderly (present-orderly v s r marks h);
-      ended_count = omega (arith, length-append h.ended (h.present ∷ []), h.ended_count, ap length e, length-append v.ended (v.session ∷ []));
-      taken_is = ap (λ (x : WorldState). x.sent) same;
-      whole_is = ap (λ (x : WorldState). x.delivered) same;
-      acknowledged_is = ap (λ (x : WorldState). x.acknowledged) same;
-      marks_are = map-more marks (present_long_mark (long_at inner s r marks)) ∙ ap (λ (x : WorldState). x.marks) same;
-      matches = matches-from w (Opening number) None r.joining empty_session p (record { out_is = refl; session_is = refl; joining_is = λ (is : w.receiver.last ≡ number). absurd (l is) });
-    }
+ended-follows w inner step number f k o away e =
+    let now = session_ended (record w { inner = inner }) in
+    let follows : Follows now.0
+    = record {
+      kept = k;
+      divided = divided-marked IsOrderly (long_link w) f.divided (present-orderly w f);
+      matches = matches-from inner.link (Opening number) None w.joining (present now.0) o
+          (record { out_is = refl; session_is = present-marked (long_link w); joining_is = λ (is : inner.link.inbound.receiver.last ≡ number). absurd (away is) });
+    } in
+    subst FollowsStep (sym (happened-end w inner step (present_mark w.inner.link) (ap (λ (v : Link). v.outbound.marks) e))) (step-then step now (record { follows = follows; unrefused = plain-unrefused }))

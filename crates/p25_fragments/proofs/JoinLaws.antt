@@ -8,8 +8,7 @@ use Rattle.std.proofs.Math.Seq.{take-add}
 use Rattle.p25_bits.specs.Bits.{part}
 use Rattle.p25_fragments.specs.declared.joiner.Joined.TheVariants.{Whole, Part}
 use Rattle.p25_messages.specs.LongMessages.{part_count, part_mark, part_of}
-use Rattle.p25_fragments.specs.JoiningState.{Joining, first_joining}
-use Rattle.p25_fragments.specs.Joining.{is_refused, taken_as, part_taken, message_taken}
+use Rattle.p25_fragments.specs.Joining.{Joining, first_joining, is_refused, taken_as, part_taken, message_taken}
 
 -- a joiner that holds so many parts of a message
 abbrev pub joined_at : List ℕ → ℕ → Joining

@@ -1,11 +1,9 @@
-pub mod SendLaws
-pub mod FirstOfferLaws
-pub mod HappenSteps
+pub mod KindLaws
+pub mod OfferLaws
+pub mod MoveLaws
+pub mod CleanMoveLaws
 pub mod JoinLaws
-pub mod HearingLaws
-pub mod InnerStepLaws
 pub mod MatchLaws
-pub mod OfferedLaws
 pub mod FollowsLaws
 pub mod LongStepLaws
 pub mod LongRunLaws

@@ -1,95 +1,102 @@
 -- A clean run keeps the long messages matched to the link, and refuses no part. One event after the other.
-use Rattle.std.proofs.Common.{◌≡◌, ◌≢◌, ℕ, ◌≤◌, Bool, true, false, List, [], ◌∷◌, ◌++◌, length, Option, Some, refl, ap, sym, subst, ◌∙◌, arith, append_assoc}
-use Rattle.p25_delivery.specs.declared.sender_state.Outstanding.{Outstanding}
-use Rattle.p25_delivery.specs.declared.sender_state.Outstanding.TheVariants.{Nothing, Message, Opening}
-use Rattle.p25_delivery.specs.Link.{Session, empty_session, first_link}
-use Rattle.p25_delivery.specs.Orderly.{AreOrderly}
-use Rattle.p25_delivery.proofs.LinkLaws.{first-kept}
+use Rattle.std.proofs.Common.{◌≡◌, ◌≢◌, ℕ, ◌≤◌, Bool, false, List, [], ◌∷◌, ◌++◌, length, Option, Some, refl, ap, sym, subst, ◌∙◌, arith, append_assoc}
+use Rattle.p25_messages.specs.LongMessages.{part_of}
+use Rattle.p25_delivery.specs.declared.sender_state.Outstanding.TheVariants.{Nothing, Message}
+use Rattle.p25_delivery.specs.declared.step_kind.StepKind.{StepKind}
+use Rattle.p25_delivery.specs.Link.{Link, Session, last_mark, Happening, Time_up}
+use Rattle.p25_delivery.specs.Clean.{IsClean}
+use Rattle.p25_delivery.specs.Orderly.{IsOrderly, AreOrderly}
+use Rattle.p25_delivery.proofs.LinkLaws.{happens-kept, first-kept}
+use Rattle.p25_delivery.proofs.SessionLaws.{divided-sent, present-sent}
 use Rattle.p25_stations.specs.declared.step.Event.{Event}
-use Rattle.p25_stations.specs.declared.step.Event.TheVariants.{Send}
+use Rattle.p25_stations.specs.declared.step.Event.TheVariants.{Send, Timeout, Reopen, ToReceiver, ToSender}
 use Rattle.p25_stations.specs.declared.step.Step.{Step}
 use Rattle.p25_stations.specs.WorldState.{WorldState}
 use Rattle.p25_stations.specs.Steps.{world_step}
-use Rattle.p25_stations.specs.Runs.{AreClean}
-use Rattle.p25_stations.proofs.WorldOfLaws.{sent_in, marks_after, world_of, first-world_of}
+use Rattle.p25_stations.specs.Runs.{IsEvent, AreClean}
+use Rattle.p25_stations.proofs.StepLaws.{HasHappen, offers, is_late, opens, brings_data, brings_answer, IsQuiet, nothing, lost, ignored, Does, rests, does, step-does}
+use Rattle.p25_stations.proofs.CleanLaws.{happening-clean}
 use Rattle.p25_fragments.specs.declared.long_step.LongEvent.{LongEvent}
 use Rattle.p25_fragments.specs.declared.long_step.LongEvent.TheVariants.{Long, Inner}
 use Rattle.p25_fragments.specs.declared.long_step.Then.{Then}
 use Rattle.p25_fragments.specs.declared.long_step.Then.TheVariants.{Busy, Down, Refused}
-use Rattle.p25_messages.specs.LongMessages.{part_of}
-use Rattle.p25_fragments.specs.LongState.{LongState, first_long}
-use Rattle.p25_fragments.specs.LongSteps.{unmoved, started, long_offered_beside, long_offered, inner_happened, long_step}
+use Rattle.p25_fragments.specs.LongState.{LongState, long_link, first_long}
+use Rattle.p25_fragments.specs.LongSteps.{unmoved, started, long_offered, inner_happened, long_step}
 use Rattle.p25_fragments.specs.LongRuns.{IsNoOffer, IsLongEvent, AreLongEvents, long_run, long_steps_of, first_steps, next_steps, inner_steps, IsCleanLongRun, AreUnrefused, long_sessions_of}
 use Rattle.p25_fragments.proofs.JoinLaws.{joined-none}
-use Rattle.p25_fragments.proofs.FirstOfferLaws.{offered-down, beside}
-use Rattle.p25_fragments.proofs.OfferedLaws.{offered-to}
-use Rattle.p25_fragments.proofs.InnerStepLaws.{inner-step}
-use Rattle.p25_fragments.proofs.MatchLaws.{not_yet, IsIdleLong, MatchesBy, matches-at, matches-from, Follows, sessions-orderly}
-use Rattle.p25_fragments.proofs.FollowsLaws.{FollowsStep}
-use Rattle.p25_fragments.proofs.LongStepLaws.{inner-follows}
+use Rattle.p25_fragments.proofs.OfferLaws.{OfferedAs, told_down, told_busy, told_taken, offered-as}
+use Rattle.p25_fragments.proofs.MoveLaws.{IsPlainKind, outstanding_in, moves_nothing, IsNoOffering, happens-moves}
+use Rattle.p25_fragments.proofs.MatchLaws.{not_yet, IsIdleLong, MatchesBy, matches-at, matches-from}
+use Rattle.p25_fragments.proofs.FollowsLaws.{present, Follows, FollowsStep, sessions-orderly}
+use Rattle.p25_fragments.proofs.LongStepLaws.{offered-to, moved-follows}
 
 -- A long message is offered.
 
 -- it is taken, and its part 0 is outstanding
-started-follows : (w : LongState) (message : List ℕ) → (f : Follows w) → length message ≤ 4000 → f.link.sender.outstanding ≡ Nothing → f.link.sender.down ≡ false →
+started-follows : (w : LongState) (message : List ℕ) → Follows w → length message ≤ 4000 → outstanding_in w.inner.link ≡ Nothing → w.inner.link.outbound.sender.down ≡ false →
     FollowsStep (started w message (world_step w.inner (Send (part_of message 0))))
 unfolding started MatchesBy
 started-follows w message f short o up =
-    let h = f.long in
-    let m : IsIdleLong w.sender.outgoing w.receiver.joining h.present = matches-at f.link Nothing w.sender.outgoing w.receiver.joining h.present o h.matches in
-    let offer = offered-to f.link w.inner message 0 f.world o up in
-    let now : Session = record { sent = h.present.sent ++ message ∷ []; delivered = h.present.delivered; acknowledged = h.present.acknowledged } in
-    record {
-      follows = record {
-        link = offer.link;
-        world = offer.world;
-        long = record {
-          ended = h.ended;
-          present = now;
-          orderly = h.orderly;
-          ended_count = h.ended_count ∙ ap length (sym offer.ended_is);
-          taken_is = ap (λ (xs : List (List ℕ)). xs ++ message ∷ []) h.taken_is ∙ append_assoc (sent_in h.ended) h.present.sent (message ∷ []);
-          whole_is = h.whole_is;
-          acknowledged_is = h.acknowledged_is;
-          marks_are = h.marks_are;
-          matches = matches-from offer.link (Message (part_of message 0)) (Some (record { message = message; number = 0 })) w.receiver.joining now offer.outstanding (record {
-            message = message;
-            number = 0;
-            front = h.present.sent;
-            out_is = refl;
-            part_is = refl;
-            short = short;
-            below = omega arith;
-            sent_is = refl;
-            acknowledged_is = m.acknowledged_is;
-            came = not_yet offer.counted m.whole_is (m.joining_is ∙ joined-none message);
-          });
-        };
+    let x = world_step w.inner (Send (part_of message 0)) in
+    let now = (started w message x).0 in
+    let m : IsIdleLong w.outstanding w.joining (present w) = matches-at w.inner.link Nothing w.outstanding w.joining (present w) o f.matches in
+    let offer = offered-to w.inner message 0 f.kept o up in
+    let more = present-sent (long_link w) message f.divided.0 in
+    let matches = matches-from x.0.link (Message (part_of message 0)) (Some (record { message = message; number = 0 })) w.joining (present now) offer.outstanding (record {
+      of = record {
+        message = message;
+        number = 0;
+        earlier = (present w).sent;
+        out_is = refl;
+        part_is = refl;
+        short = short;
+        below = omega arith;
+        sent_is = ap (λ (p : Session). p.sent) more;
+        acknowledged_is = ap (λ (p : Session). p.acknowledged) more ∙ m.acknowledged_is;
       };
-      unrefused = λ q. absurd (cc);
-    }
+      came = not_yet offer.counted (ap (λ (p : Session). p.delivered) more ∙ m.whole_is) (m.joining_is ∙ joined-none message);
+    }) in
+    record { follows = record { kept = offer.kept; divided = divided-sent IsOrderly (long_link w) message f.divided; matches = matches }; unrefused = λ q. absurd (cc) }
 
 unmoved-follows : (w : LongState) (told : Then) → told ≢ Refused → Follows w → FollowsStep (unmoved w told)
 unmoved-follows w told t f = record { follows = f; unrefused = t }
 
-busy-unrefused : Busy ≢ Refused
-busy-unrefused e = absurd (cc)
+offered-follows : (w : LongState) (message : List ℕ) (x : WorldState × Step) → Follows w → length message ≤ 4000 → x ≡ world_step w.inner (Send (part_of message 0)) → OfferedAs w message x → FollowsStep (long_offered w message)
+offered-follows w message x f short i (told_down y e) = subst FollowsStep (sym e) (unmoved-follows w Down (λ q. absurd (cc)) f)
+offered-follows w message x f short i (told_busy y e) = subst FollowsStep (sym e) (unmoved-follows w Busy (λ q. absurd (cc)) f)
+offered-follows w message x f short i (told_taken number blocks k d o e) = subst FollowsStep (sym (e ∙ ap (started w message) i)) (started-follows w message f short o d)
 
-down-unrefused : Down ≢ Refused
-down-unrefused e = absurd (cc)
+-- An event of the inner world.
 
--- the sender of the inner world is that of the link
-link-sender : (w : LongState) → (f : Follows w) → w.inner.sender ≡ f.link.sender
-link-sender w f = ap (λ (x : WorldState). x.sender) f.world.is
+no-offering : (link : Link) (event : Event) (false_pass : Bool) (happening : Happening) → HasHappen link event false_pass happening → IsNoOffer event → IsNoOffering happening
+unfolding IsNoOffer IsNoOffering
+no-offering link event false_pass happening (offers message) is = is
+no-offering link event false_pass happening is_late is = tt
+no-offering link event false_pass happening opens is = tt
+no-offering link event false_pass happening (brings_data flips sent packet b n e) is = tt
+no-offering link event false_pass happening (brings_answer flips sent packet b n e) is = tt
 
-offered-follows : (w : LongState) (message : List ℕ) (down : Bool) (out : Outstanding) → (f : Follows w) → length message ≤ 4000 → w.inner.sender.down ≡ down → w.inner.sender.outstanding ≡ out → FollowsStep (long_offered w message)
-unfolding long_offered_beside
-offered-follows w message true out f short d o = subst FollowsStep (sym (offered-down w message d)) (unmoved-follows w Down down-unrefused f)
-offered-follows w message false Nothing f short d o =
-    let s = link-sender w f in
-    subst FollowsStep (sym (beside w message Nothing d o)) (started-follows w message f short (ap (λ x. x.outstanding) (sym s) ∙ o) (ap (λ x. x.down) (sym s) ∙ d))
-offered-follows w message false (Message part) f short d o = subst FollowsStep (sym (beside w message (Message part) d o)) (unmoved-follows w Busy busy-unrefused f)
-offered-follows w message false (Opening number) f short d o = subst FollowsStep (sym (beside w message (Opening number) d o)) (unmoved-follows w Busy busy-unrefused f)
+no-offer-event : (event : Event) → IsNoOffer event → IsEvent event
+unfolding IsNoOffer IsEvent
+no-offer-event (Send message) is = absurd is
+no-offer-event Timeout is = tt
+no-offer-event Reopen is = tt
+no-offer-event (ToReceiver flips) is = tt
+no-offer-event (ToSender flips) is = tt
+
+quiet-plain : (kind : StepKind) → IsQuiet kind → IsPlainKind kind
+unfolding IsPlainKind
+quiet-plain kind (nothing way) = tt
+quiet-plain kind (lost way field) = tt
+quiet-plain kind (ignored way) = tt
+
+does-follows : (w : LongState) (event : Event) (x : WorldState × Step) → Follows w → IsNoOffer event → x.1.false_pass ≡ false → Does w.inner event x → FollowsStep (inner_happened w x)
+unfolding IsClean
+does-follows w event x f is c (rests kind quiet) = moved-follows w _ _ Time_up f f.kept tt (moves_nothing (quiet-plain kind quiet) refl refl refl)
+does-follows w event x f is c (does happening false_pass has) =
+    let link = w.inner.link in
+    let clean = happening-clean link event false_pass happening has (no-offer-event event is) c in
+    moved-follows w _ _ happening f (happens-kept link happening f.kept clean) clean (happens-moves link happening (no-offering link event false_pass happening has is))
 
 -- Every event.
 
@@ -101,25 +108,16 @@ inner-first : (w : LongState) (x : WorldState × Step) → (inner_happened w x).
 unfolding inner_happened
 inner-first w (inner, step) = refl
 
-happened-follows : (w : LongState) (event : Event) → (f : Follows w) → IsNoOffer event → (world_step w.inner event).1.false_pass ≡ false → FollowsStep (inner_happened w (world_step w.inner event))
-happened-follows w event f is clean =
-    let v = f.link in
-    let at : LongState → Type 0 = λ (u : LongState). (world_step u.inner event).1.false_pass ≡ false → FollowsStep (inner_happened u (world_step u.inner event)) in
-    let same : w ≡ record w { inner = world_of v f.world.count } = ap (λ (x : WorldState). record w { inner = x }) f.world.is in
-    let there : at (record w { inner = world_of v f.world.count })
-    = λ c. (let x = world_step (world_of v f.world.count) event in
-    inner-follows v f.world.count w.sender w.receiver w.marks x.0 x.1 (inner-step v f.world.count event is f.world.kept c) f.long) in
-    subst at (sym same) there clean
-
-step-follows : (w : LongState) (event : LongEvent) (rest : List Step) → Follows w → IsLongEvent event → AreClean ((first_steps (long_step w event).1.first ++ next_steps (long_step w event).1.then) ++ rest) → FollowsStep (long_step w event)
+step-follows : (w : LongState) (event : LongEvent) (rest : List Step) → Follows w → IsLongEvent event →
+    AreClean ((first_steps (long_step w event).1.first ++ next_steps (long_step w event).1.then) ++ rest) → FollowsStep (long_step w event)
 unfolding IsLongEvent long_step
-step-follows w (Long message) rest f is clean = offered-follows w message w.inner.sender.down w.inner.sender.outstanding f is refl refl
+step-follows w (Long message) rest f is clean = offered-follows w message (world_step w.inner (Send (part_of message 0))) f is refl (offered-as w message)
 step-follows w (Inner event) rest f is clean =
     let x = world_step w.inner event in
     let y = inner_happened w x in
     let c = subst (λ (o : Option Step). AreClean ((first_steps o ++ next_steps y.1.then) ++ rest)) (inner-first w x) clean in
     let d = subst AreClean (append_assoc (first_steps (Some x.1)) (next_steps y.1.then) rest) c in
-    happened-follows w event f is (first-clean x.1 (next_steps y.1.then ++ rest) d)
+    does-follows w event x f is (first-clean x.1 (next_steps y.1.then ++ rest) d) (step-does w.inner event)
 
 -- Every run.
 
@@ -143,24 +141,10 @@ run-follows (event ∷ events) w f are clean =
     record { follows = there.follows; unrefused = (here.unrefused, there.unrefused) }
 
 first-follows : Follows first_long
-unfolding MatchesBy AreOrderly marks_after
-first-follows = record {
-  link = first_link;
-  world = record { count = 0; is = first-world_of; kept = first-kept };
-  long = record {
-    ended = [];
-    present = empty_session;
-    orderly = tt;
-    ended_count = refl;
-    taken_is = refl;
-    whole_is = refl;
-    acknowledged_is = refl;
-    marks_are = refl;
-    matches = record { out_is = refl; joining_is = refl; whole_is = refl; acknowledged_is = refl };
-  };
-}
+unfolding MatchesBy last_mark
+first-follows = record { kept = first-kept; divided = first-kept.divided; matches = record { out_is = refl; joining_is = refl; whole_is = refl; acknowledged_is = refl } }
 
-pub from-first : (events : List LongEvent) → AreLongEvents events → IsCleanLongRun events → FollowsRun first_long events
+from-first : (events : List LongEvent) → AreLongEvents events → IsCleanLongRun events → FollowsRun first_long events
 from-first events are clean = run-follows events first_long first-follows are clean
 
 pub long-orderly : (events : List LongEvent) → AreLongEvents events → IsCleanLongRun events → AreOrderly (long_sessions_of (long_run first_long events))

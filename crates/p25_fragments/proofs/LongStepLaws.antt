@@ -1,38 +1,37 @@
--- Each step of a clean run keeps the long messages matched to the link, and refuses no part: a delivery, an opening packet that is
--- heard, an acknowledgement. By what was outstanding.
-use Rattle.std.proofs.Common.{◌≡◌, ◌≢◌, ℕ, ◌+◌, ◌<◌, ◌⊎◌, inl, inr, Bool, true, false, List, [], ◌∷◌, ◌++◌, length, Option, Some, None, refl, ap, ap₂, sym, subst, ◌∙◌, arith, length-append, append_assoc}
+-- Each step of the inner world in a clean run keeps the long messages matched to the link, and refuses no part: also where a part is
+-- delivered, or acknowledged. By what was outstanding.
+use Rattle.std.proofs.Common.{◌≡◌, ℕ, ◌+◌, ◌*◌, ◌<◌, ◌≤◌, ◌⊎◌, inl, inr, Bool, true, false, List, [], ◌∷◌, ◌++◌, length, drop, Option, Some, None, refl, ap, ap₂, sym, subst, ◌∙◌, arith, length-append}
 use Rattle.std.specs.Prelude.{nat_lt}
 use Rattle.std.proofs.lemmas.Bool.{cond-true, cond-false}
 use Rattle.std.proofs.lemmas.Bool.Decides.{nat_tests}
-use Rattle.p25_delivery.specs.declared.sender_state.Outstanding.{Outstanding}
-use Rattle.p25_delivery.specs.declared.sender_state.Outstanding.TheVariants.{Nothing, Message, Opening}
-use Rattle.p25_delivery.specs.Link.{Session, Link}
+use Rattle.std.proofs.lemmas.List.{length-take}
+use Rattle.p25_messages.specs.LongMessages.{part_count, part_of}
+use Rattle.p25_delivery.specs.declared.sender_state.Outstanding.TheVariants.{Nothing, Message}
 use Rattle.p25_delivery.specs.declared.step_kind.StepKind.{StepKind}
-use Rattle.p25_delivery.specs.declared.step_kind.StepKind.TheVariants.{Acknowledged, Delivered, SynHeard}
+use Rattle.p25_delivery.specs.declared.step_kind.StepKind.TheVariants.{Acknowledged, Delivered}
+use Rattle.p25_delivery.specs.Link.{Link, Session, present_session, first_number, Happening, Offering}
+use Rattle.p25_delivery.specs.Clean.{IsClean}
+use Rattle.p25_delivery.specs.Orderly.{IsOrderly}
+use Rattle.p25_delivery.proofs.LinkLaws.{happens-kept}
+use Rattle.p25_delivery.proofs.SessionLaws.{divided-delivered, divided-acknowledged, present-sent, present-delivered, present-acknowledged}
+use Rattle.p25_delivery.proofs.PhaseLaws.{IsKept}
+use Rattle.p25_stations.specs.declared.step.Event.TheVariants.{Send}
 use Rattle.p25_stations.specs.declared.step.Step.{Step}
 use Rattle.p25_stations.specs.WorldState.{WorldState}
-use Rattle.p25_stations.proofs.WorldOfLaws.{delivered_in, world_of}
-use Rattle.p25_fragments.specs.declared.long_mark.LongMark.{LongMark}
-use Rattle.p25_fragments.specs.declared.outgoing.Outgoing.{Outgoing}
+use Rattle.p25_stations.specs.Steps.{world_step}
+use Rattle.p25_fragments.specs.declared.outstanding_part.OutstandingPart.{OutstandingPart}
 use Rattle.p25_fragments.specs.declared.joiner.Joined.{Joined}
 use Rattle.p25_fragments.specs.declared.joiner.Joined.TheVariants.{Whole as JoinedWhole, Part as JoinedPart}
-use Rattle.p25_fragments.specs.declared.long_sender.Following.{Following}
-use Rattle.p25_fragments.specs.declared.long_sender.Following.TheVariants.{Part as PartFollows, Finished as AllFinished}
-use Rattle.p25_fragments.specs.declared.long_step.Then.TheVariants.{Refused}
-use Rattle.p25_messages.specs.LongMessages.{part_count, part_of}
-use Rattle.p25_fragments.specs.JoiningState.{Joining, first_joining}
-use Rattle.p25_fragments.specs.Joining.{message_taken}
-use Rattle.p25_fragments.specs.SendingState.{LongSending}
-use Rattle.p25_fragments.specs.LongSenders.{given_up, with_next, finished, gone_on}
-use Rattle.p25_fragments.specs.ReceivingState.{LongReceiving}
-use Rattle.p25_fragments.specs.LongReceivers.{joined_with, delivered_to, set_back}
-use Rattle.p25_fragments.specs.LongSteps.{next_offered, followed, then_of, after_acknowledged, after_delivered, after_kind, present_long_mark, inner_happened}
+use Rattle.p25_fragments.specs.declared.long_step.Then.{Then}
+use Rattle.p25_fragments.specs.Joining.{Joining, first_joining, message_taken}
+use Rattle.p25_fragments.specs.LongState.{LongState, long_link}
+use Rattle.p25_fragments.specs.LongSteps.{next_offered, after_acknowledged, after_delivered, after_kind, inner_happened}
 use Rattle.p25_fragments.proofs.JoinLaws.{joined_at, join-inner, join-last}
-use Rattle.p25_fragments.proofs.HearingLaws.{IsNoMessage}
-use Rattle.p25_fragments.proofs.InnerStepLaws.{IsWorldAt, InnerStep, step_still, step_ended, step_delivered, step_syn, step_acknowledged, step_opened}
-use Rattle.p25_fragments.proofs.MatchLaws.{Came, not_yet, came_inner, came_last, IsSendingLong, IsOpeningLong, MatchesBy, Matches, matches-at, matches-from, IsLongOf}
-use Rattle.p25_fragments.proofs.OfferedLaws.{offered-to}
-use Rattle.p25_fragments.proofs.FollowsLaws.{FollowsStep, FollowsThen, goes-on, ends, long_at, happened-on, happened-end, step-then, plain-unrefused, plain-then, same-long, same-matches, ended-long}
+use Rattle.p25_fragments.proofs.OfferLaws.{send-taken}
+use Rattle.p25_fragments.proofs.MoveLaws.{outstanding_in, Moves, moves_nothing, ends, delivers, hears_opening, acknowledges, opens_link}
+use Rattle.p25_fragments.proofs.CleanMoveLaws.{quiet-counts, IsDelivered, delivered-is, acknowledged-is, opened-is, away, no-message}
+use Rattle.p25_fragments.proofs.MatchLaws.{Came, not_yet, came_inner, came_last, IsPartOf, IsSendingLong, MatchesBy, matches-at, matches-from}
+use Rattle.p25_fragments.proofs.FollowsLaws.{present, Follows, FollowsStep, FollowsThen, on, nothing-follows, opened-follows, syn-follows, ended-follows}
 
 -- A part is delivered.
 
@@ -46,274 +45,182 @@ next-or-last number count h =
     by (nat_lt (number + 1) count) refl
 
 -- what the joiner held before, where the part had not come
-held-before : (message : List ℕ) (number : ℕ) (front : List (List ℕ)) (delivered acknowledged : ℕ) (j : Joining) (whole : List (List ℕ)) → delivered ≡ acknowledged → Came message number front delivered acknowledged j whole →
-    (whole ≡ front) × (j ≡ joined_at message number)
-held-before message number front d a j whole c (not_yet e w i) = (w, i)
-held-before message number front d a j whole c (came_inner e n w i) = absurd (omega (arith, c, e))
-held-before message number front d a j whole c (came_last e n w i) = absurd (omega (arith, c, e))
+held-before : (message : List ℕ) (number : ℕ) (earlier : List (List ℕ)) (delivered acknowledged : ℕ) (j : Joining) (whole : List (List ℕ)) → delivered ≡ acknowledged → Came message number earlier delivered acknowledged j whole →
+    (whole ≡ earlier) × (j ≡ joined_at message number)
+held-before message number earlier d a j whole c (not_yet e w i) = (w, i)
+held-before message number earlier d a j whole c (came_inner e n w i) = absurd (omega (arith, c, e))
+held-before message number earlier d a j whole c (came_last e n w i) = absurd (omega (arith, c, e))
 
--- the receiving side after the part, and what it is told
-record TakesPart (v w : Link) (s : LongSending) (r : LongReceiving) (marks : List LongMark) (part : List ℕ) : Type 0 where
-  pub to : LongReceiving
-  pub joined : Joined
-  pub is : delivered_to r part ≡ (to, joined)
-  pub long : IsLongOf w s to marks
-  pub unrefused : then_of joined ≢ Refused
+-- a part of a long message that is outstanding, once the joiner takes it
+TakesPart : LongState → WorldState → List ℕ → Type 0
+TakesPart w inner part = FollowsThen (after_delivered (record w { inner = inner }) (message_taken w.joining part))
 
-takes-inner : (v w : Link) (s : LongSending) (r : LongReceiving) (marks : List LongMark) (part : List ℕ) → w.sender.outstanding ≡ Message part → length w.session.delivered ≡ w.session.acknowledged + 1 → w.ended ≡ v.ended →
-    (h : IsLongOf v s r marks) → (m : IsSendingLong part (length v.session.delivered) v.session.acknowledged s.outgoing r.joining h.present) → h.present.delivered ≡ m.front → r.joining ≡ joined_at m.message m.number →
-    m.number + 1 < part_count (length m.message) →
-    TakesPart v w s r marks part
-unfolding MatchesBy joined_with then_of
-takes-inner v w s r marks part o c e h m d j n =
-    let taken : message_taken r.joining part ≡ (joined_at m.message (m.number + 1), JoinedPart m.number) = ap₂ (λ (x : Joining) (y : List ℕ). message_taken x y) j m.part_is ∙ join-inner m.message m.number m.short n in
-    record {
-      to = record { joining = joined_at m.message (m.number + 1); whole = r.whole };
-      joined = JoinedPart m.number;
-      is = ap (λ (x : Joining × Joined). joined_with r x) taken;
-      long = record {
-        ended = h.ended;
-        present = h.present;
-        orderly = h.orderly;
-        ended_count = h.ended_count ∙ ap length (sym e);
-        taken_is = h.taken_is;
-        whole_is = h.whole_is;
-        acknowledged_is = h.acknowledged_is;
-        marks_are = h.marks_are;
-        matches = matches-from w (Message part) s.outgoing (joined_at m.message (m.number + 1)) h.present o (record {
-          message = m.message;
-          number = m.number;
-          front = m.front;
-          out_is = m.out_is;
-          part_is = m.part_is;
-          short = m.short;
-          below = m.below;
-          sent_is = m.sent_is;
-          acknowledged_is = m.acknowledged_is;
-          came = came_inner c n d refl;
-        });
-      };
-      unrefused = λ q. absurd (cc);
-    }
+takes-inner : (w : LongState) (inner : WorldState) (part : List ℕ) → Follows w → IsKept inner.link → outstanding_in inner.link ≡ Message part →
+    length (present_session inner.link).delivered ≡ (present_session inner.link).acknowledged + 1 →
+    (m : IsPartOf part w.outstanding (present w)) → (present w).delivered ≡ m.earlier → w.joining ≡ joined_at m.message m.number → m.number + 1 < part_count (length m.message) → TakesPart w inner part
+unfolding TakesPart MatchesBy after_delivered
+takes-inner w inner part f k o c m d j n =
+    let now : LongState = record w { inner = inner } in
+    let taken : message_taken w.joining part ≡ (joined_at m.message (m.number + 1), JoinedPart m.number)
+    = ap₂ (λ (x : Joining) (y : List ℕ). message_taken x y) j m.part_is ∙ join-inner m.message m.number m.short n in
+    let matches = matches-from inner.link (Message part) w.outstanding (joined_at m.message (m.number + 1)) (present w) o (record { of = m; came = came_inner c n d refl }) in
+    subst (λ (x : Joining × Joined). FollowsThen (after_delivered now x)) (sym taken) (record { follows = record { kept = k; divided = f.divided; matches = matches }; unrefused = λ q. absurd (cc) })
 
-takes-last : (v w : Link) (s : LongSending) (r : LongReceiving) (marks : List LongMark) (part : List ℕ) → w.sender.outstanding ≡ Message part → length w.session.delivered ≡ w.session.acknowledged + 1 → w.ended ≡ v.ended →
-    (h : IsLongOf v s r marks) → (m : IsSendingLong part (length v.session.delivered) v.session.acknowledged s.outgoing r.joining h.present) → h.present.delivered ≡ m.front → r.joining ≡ joined_at m.message m.number →
-    m.number + 1 ≡ part_count (length m.message) →
-    TakesPart v w s r marks part
-unfolding MatchesBy joined_with then_of
-takes-last v w s r marks part o c e h m d j n =
-    let taken : message_taken r.joining part ≡ (first_joining, JoinedWhole m.message) = ap₂ (λ (x : Joining) (y : List ℕ). message_taken x y) j m.part_is ∙ join-last m.message m.number m.short n in
-    let now : Session = record { sent = h.present.sent; delivered = h.present.delivered ++ m.message ∷ []; acknowledged = h.present.acknowledged } in
-    record {
-      to = record { joining = first_joining; whole = r.whole ++ m.message ∷ [] };
-      joined = JoinedWhole m.message;
-      is = ap (λ (x : Joining × Joined). joined_with r x) taken;
-      long = record {
-        ended = h.ended;
-        present = now;
-        orderly = h.orderly;
-        ended_count = h.ended_count ∙ ap length (sym e);
-        taken_is = h.taken_is;
-        whole_is = ap (λ (xs : List (List ℕ)). xs ++ m.message ∷ []) h.whole_is ∙ append_assoc (delivered_in h.ended) h.present.delivered (m.message ∷ []);
-        acknowledged_is = h.acknowledged_is;
-        marks_are = h.marks_are;
-        matches = matches-from w (Message part) s.outgoing first_joining now o (record {
-          message = m.message;
-          number = m.number;
-          front = m.front;
-          out_is = m.out_is;
-          part_is = m.part_is;
-          short = m.short;
-          below = m.below;
-          sent_is = m.sent_is;
-          acknowledged_is = m.acknowledged_is;
-          came = came_last c n (ap (λ (xs : List (List ℕ)). xs ++ m.message ∷ []) d) refl;
-        });
-      };
-      unrefused = λ q. absurd (cc);
-    }
+takes-last : (w : LongState) (inner : WorldState) (part : List ℕ) → Follows w → IsKept inner.link → outstanding_in inner.link ≡ Message part → length (present_session inner.link).delivered ≡ (present_session inner.link).acknowledged + 1 →
+    (m : IsPartOf part w.outstanding (present w)) → (present w).delivered ≡ m.earlier → w.joining ≡ joined_at m.message m.number → m.number + 1 ≡ part_count (length m.message) → TakesPart w inner part
+unfolding TakesPart MatchesBy after_delivered
+takes-last w inner part f k o c m d j n =
+    let now : LongState = record w { inner = inner } in
+    let to : LongState = record now { joining = first_joining; whole = w.whole ++ m.message ∷ [] } in
+    let taken : message_taken w.joining part ≡ (first_joining, JoinedWhole m.message) = ap₂ (λ (x : Joining) (y : List ℕ). message_taken x y) j m.part_is ∙ join-last m.message m.number m.short n in
+    let more = present-delivered (long_link w) m.message f.divided.0 in
+    let of : IsPartOf part w.outstanding (present to)
+    = record {
+      message = m.message;
+      number = m.number;
+      earlier = m.earlier;
+      out_is = m.out_is;
+      part_is = m.part_is;
+      short = m.short;
+      below = m.below;
+      sent_is = ap (λ (x : Session). x.sent) more ∙ m.sent_is;
+      acknowledged_is = ap (λ (x : Session). x.acknowledged) more ∙ m.acknowledged_is;
+    } in
+    let whole = ap (λ (x : Session). x.delivered) more ∙ ap (λ (xs : List (List ℕ)). xs ++ m.message ∷ []) d in
+    let matches = matches-from inner.link (Message part) w.outstanding first_joining (present to) o (record { of = of; came = came_last c n whole refl }) in
+    subst (λ (x : Joining × Joined). FollowsThen (after_delivered now x)) (sym taken)
+    (record { follows = record { kept = k; divided = divided-delivered IsOrderly (long_link w) m.message f.divided; matches = matches }; unrefused = λ q. absurd (cc) })
 
-takes-part : (v w : Link) (s : LongSending) (r : LongReceiving) (marks : List LongMark) (part : List ℕ) → v.sender.outstanding ≡ Message part → length v.session.delivered ≡ v.session.acknowledged → w.sender.outstanding ≡ Message part →
-    length w.session.delivered ≡ w.session.acknowledged + 1 → w.ended ≡ v.ended → IsLongOf v s r marks → TakesPart v w s r marks part
+takes-part : (w : LongState) (inner : WorldState) (part : List ℕ) → Follows w → IsKept inner.link → outstanding_in inner.link ≡ outstanding_in w.inner.link → IsDelivered w.inner.link inner.link part → TakesPart w inner part
 unfolding MatchesBy
-takes-part v w s r marks part o c p d e h =
-    let m : IsSendingLong part (length v.session.delivered) v.session.acknowledged s.outgoing r.joining h.present = matches-at v (Message part) s.outgoing r.joining h.present o h.matches in
-    let held = held-before m.message m.number m.front (length v.session.delivered) v.session.acknowledged r.joining h.present.delivered c m.came in
-    elim (next-or-last m.number (part_count (length m.message)) m.below) [
-      | inl n ↦ takes-inner v w s r marks part p d e h m held.0 held.1 n
-      | inr n ↦ takes-last v w s r marks part p d e h m held.0 held.1 n
+takes-part w inner part f k o d =
+    let v = w.inner.link in
+    let m : IsSendingLong part (present_session v) w.outstanding w.joining (present w) = matches-at v (Message part) w.outstanding w.joining (present w) d.outstanding f.matches in
+    let held = held-before m.of.message m.of.number m.of.earlier (length (present_session v).delivered) (present_session v).acknowledged w.joining (present w).delivered d.before m.came in
+    elim (next-or-last m.of.number (part_count (length m.of.message)) m.of.below) [
+      | inl n ↦ takes-inner w inner part f k (o ∙ d.outstanding) d.after m.of held.0 held.1 n
+      | inr n ↦ takes-last w inner part f k (o ∙ d.outstanding) d.after m.of held.0 held.1 n
     ]
 
-delivered-then : (v w : Link) (inner : WorldState) (s : LongSending) (r : LongReceiving) (marks : List LongMark) (kind : StepKind) (number : ℕ) (part : List ℕ) → IsWorldAt w inner → kind ≡ Delivered number part →
-    TakesPart v w s r marks part →
-    FollowsThen (after_kind kind (long_at inner s r marks))
-unfolding after_kind after_delivered
-delivered-then v w inner s r marks kind number part at k t =
-    let u = long_at inner s r marks in
-    let is : after_kind kind u ≡ (long_at inner s t.to marks, then_of t.joined) = ap (λ (x : StepKind). after_kind x u) k ∙ ap (λ (x : LongReceiving × Joined). after_delivered u x) t.is in
-    subst FollowsThen (sym is) (record { follows = record { link = w; world = at; long = t.long }; unrefused = t.unrefused })
+delivered-then : (w : LongState) (inner : WorldState) (kind : StepKind) (number : ℕ) (part : List ℕ) → kind ≡ Delivered number part → TakesPart w inner part → FollowsThen (after_kind kind (record w { inner = inner }))
+unfolding TakesPart after_kind
+delivered-then w inner kind number part k t = subst FollowsThen (sym (ap (λ (x : StepKind). after_kind x (record w { inner = inner })) k)) t
 
--- The opening packet is heard.
+-- A part is offered.
 
-syn-matches : (o : Outstanding) (last d a last' d' a' : ℕ) (out : Option Outgoing) (j : Joining) (p : Session) → IsNoMessage o → MatchesBy o last d a out j p → MatchesBy o last' d' a' out first_joining p
-unfolding IsNoMessage MatchesBy
-syn-matches Nothing last d a last' d' a' out j p is m = record { out_is = m.out_is; joining_is = refl; whole_is = m.whole_is; acknowledged_is = m.acknowledged_is }
-syn-matches (Message part) last d a last' d' a' out j p is m = absurd is
-syn-matches (Opening number) last d a last' d' a' out j p is m = record { out_is = m.out_is; session_is = m.session_is; joining_is = λ e. refl }
+-- the world after the offer of a part, where nothing was outstanding
+pub record OfferedTo (part : List ℕ) (x : WorldState) : Type 0 where
+  pub kept : IsKept x.link
+  pub outstanding : outstanding_in x.link ≡ Message part
+  pub counted : length (present_session x.link).delivered ≡ (present_session x.link).acknowledged
 
-syn-then : (v w : Link) (inner : WorldState) (s : LongSending) (r : LongReceiving) (marks : List LongMark) (kind : StepKind) (number : ℕ) → IsWorldAt w inner → kind ≡ SynHeard number → IsNoMessage v.sender.outstanding →
-    w.sender.outstanding ≡ v.sender.outstanding → w.ended ≡ v.ended → IsLongOf v s r marks → FollowsThen (after_kind kind (long_at inner s r marks))
-unfolding after_kind
-syn-then v w inner s r marks kind number at k is o e h =
-    let u = long_at inner s r marks in
-    let m = matches-from w v.sender.outstanding s.outgoing first_joining h.present o
-    (syn-matches v.sender.outstanding v.receiver.last (length v.session.delivered) v.session.acknowledged w.receiver.last (length w.session.delivered) w.session.acknowledged s.outgoing r.joining h.present is h.matches) in
-    let long : IsLongOf w s (set_back r) marks
-    = record {
-      ended = h.ended;
-      present = h.present;
-      orderly = h.orderly;
-      ended_count = h.ended_count ∙
-          ap length (sym e);
-      taken_is = h.taken_is;
-      whole_is = h.whole_is;
-      acknowledged_is = h.acknowledged_is;
-      marks_are = h.marks_are;
-      matches = m;
-    } in
-    subst FollowsThen (sym (ap (λ (x : StepKind). after_kind x u) k)) (record { follows = record { link = w; world = at; long = long }; unrefused = plain-unrefused })
+part-short : (message : List ℕ) (number : ℕ) → length (part_of message number) ≤ 2028
+unfolding part_of
+part-short message number = omega (arith, length-take 500 (drop (500 * number) message))
+
+kept-offer : (inner : WorldState) (part : List ℕ) → length part ≤ 2028 → IsKept inner.link → IsKept (world_step inner (Send part)).0.link
+unfolding world_step IsClean
+kept-offer inner part short k = happens-kept inner.link (Offering part) k short
+
+pub offered-to : (inner : WorldState) (message : List ℕ) (number : ℕ) → IsKept inner.link → outstanding_in inner.link ≡ Nothing → inner.link.outbound.sender.down ≡ false →
+    OfferedTo (part_of message number) (world_step inner (Send (part_of message number))).0
+offered-to inner message number k o up =
+    let part = part_of message number in
+    let sent = send-taken inner part up o in
+    let more = ap (λ (x : WorldState × Step). present_session x.0.link) sent ∙ present-sent inner.link part k.divided.0 in
+    record {
+      kept = kept-offer inner part (part-short message number) k;
+      outstanding = ap (λ (x : WorldState × Step). outstanding_in x.0.link) sent;
+      counted = ap (λ (x : Session). length x.delivered) more ∙ quiet-counts inner.link k o ∙ sym (ap (λ (x : Session). x.acknowledged) more);
+    }
 
 -- A part is acknowledged.
 
 -- what the joiner holds after the part
-held-after : (message : List ℕ) (number : ℕ) (front : List (List ℕ)) (delivered acknowledged : ℕ) (j : Joining) (whole : List (List ℕ)) → delivered ≡ acknowledged + 1 → Came message number front delivered acknowledged j whole →
-    ((number + 1 < part_count (length message)) × (whole ≡ front) × (j ≡ joined_at message (number + 1))) ⊎ ((number + 1 ≡ part_count (length message)) × (whole ≡ front ++ message ∷ []) × (j ≡ first_joining))
-held-after message number front d a j whole c (not_yet e w i) = absurd (omega (arith, c, e))
-held-after message number front d a j whole c (came_inner e n w i) = inl (n, w, i)
-held-after message number front d a j whole c (came_last e n w i) = inr (n, w, i)
-
-gone-inner : (s : LongSending) (sent : Outgoing) → s.outgoing ≡ Some sent → sent.number + 1 < part_count (length sent.message) → gone_on s.outgoing s ≡ (with_next s sent, PartFollows (part_of sent.message (sent.number + 1)))
-unfolding gone_on
-gone-inner s sent o n =
-    let test : nat_lt (sent.number + 1) (part_count (length sent.message)) ≡ true = grind (arith, nat_tests) in
-    ap (λ (x : Option Outgoing). gone_on x s) o ∙ cond-true _ _ _ test
-
-gone-last : (s : LongSending) (sent : Outgoing) → s.outgoing ≡ Some sent → sent.number + 1 ≡ part_count (length sent.message) → gone_on s.outgoing s ≡ (finished s, AllFinished)
-unfolding gone_on
-gone-last s sent o n =
-    let test : nat_lt (sent.number + 1) (part_count (length sent.message)) ≡ false = grind (arith, nat_tests) in
-    ap (λ (x : Option Outgoing). gone_on x s) o ∙ cond-false _ _ _ test
+held-after : (message : List ℕ) (number : ℕ) (earlier : List (List ℕ)) (delivered acknowledged : ℕ) (j : Joining) (whole : List (List ℕ)) → delivered ≡ acknowledged + 1 → Came message number earlier delivered acknowledged j whole →
+    ((number + 1 < part_count (length message)) × (whole ≡ earlier) × (j ≡ joined_at message (number + 1))) ⊎ ((number + 1 ≡ part_count (length message)) × (whole ≡ earlier ++ message ∷ []) × (j ≡ first_joining))
+held-after message number earlier d a j whole c (not_yet e w i) = absurd (omega (arith, c, e))
+held-after message number earlier d a j whole c (came_inner e n w i) = inl (n, w, i)
+held-after message number earlier d a j whole c (came_last e n w i) = inr (n, w, i)
 
 -- the next part is offered
-next-then : (v w : Link) (inner : WorldState) (s : LongSending) (r : LongReceiving) (marks : List LongMark) (part : List ℕ) → IsWorldAt w inner → w.sender.outstanding ≡ Nothing → w.sender.down ≡ false → w.ended ≡ v.ended →
-    (h : IsLongOf v s r marks) → (m : IsSendingLong part (length v.session.delivered) v.session.acknowledged s.outgoing r.joining h.present) → m.number + 1 < part_count (length m.message) → h.present.delivered ≡ m.front →
-    r.joining ≡ joined_at m.message (m.number + 1) → FollowsThen (after_acknowledged (long_at inner s r marks) (gone_on s.outgoing s))
-unfolding MatchesBy after_acknowledged followed next_offered
-next-then v w inner s r marks part at o up e h m n d j =
-    let sent : Outgoing = record { message = m.message; number = m.number } in
-    let following = part_of m.message (m.number + 1) in
-    let offer = offered-to w inner m.message (m.number + 1) at o up in
-    let long : IsLongOf offer.link (with_next s sent) r marks
-    = record {
-      ended = h.ended;
-      present = h.present;
-      orderly = h.orderly;
-      ended_count = h.ended_count ∙ ap length (sym e) ∙ ap length (sym offer.ended_is);
-      taken_is = h.taken_is;
-      whole_is = h.whole_is;
-      acknowledged_is = h.acknowledged_is;
-      marks_are = h.marks_are;
-      matches = matches-from offer.link (Message following) (Some (record { message = m.message; number = m.number + 1 })) r.joining h.present offer.outstanding (record {
+next-then : (w : LongState) (inner : WorldState) (part : List ℕ) → Follows w → IsKept inner.link → outstanding_in inner.link ≡ Nothing → inner.link.outbound.sender.down ≡ false → (m : IsPartOf part w.outstanding (present w)) →
+    m.number + 1 < part_count (length m.message) → (present w).delivered ≡ m.earlier → w.joining ≡ joined_at m.message (m.number + 1) →
+    FollowsThen (after_acknowledged (Some (record { message = m.message; number = m.number })) (record w { inner = inner }))
+unfolding MatchesBy after_acknowledged next_offered
+next-then w inner part f k o up m n d j =
+    let number = m.number + 1 in
+    let next : OutstandingPart = record { message = m.message; number = number } in
+    let offer = offered-to inner m.message number k o up in
+    let x = world_step inner (Send (part_of m.message number)) in
+    let test : nat_lt (m.number + 1) (part_count (length m.message)) ≡ true = grind (arith, nat_tests) in
+    let matches = matches-from x.0.link (Message (part_of m.message number)) (Some next) w.joining (present w) offer.outstanding (record {
+      of = record {
         message = m.message;
-        number = m.number + 1;
-        front = m.front;
+        number = number;
+        earlier = m.earlier;
         out_is = refl;
         part_is = refl;
         short = m.short;
         below = n;
         sent_is = m.sent_is;
         acknowledged_is = m.acknowledged_is;
-        came = not_yet offer.counted d j;
-      });
-    } in
-    subst (λ (x : LongSending × Following). FollowsThen (after_acknowledged (long_at inner s r marks) x)) (sym (gone-inner s sent m.out_is n))
-    (record { follows = record { link = offer.link; world = offer.world; long = long }; unrefused = λ q. absurd (cc) })
+      };
+      came = not_yet offer.counted d j;
+    }) in
+    let y : LongState × Then = next_offered (record w { inner = inner }) next x in
+    let follows : FollowsThen y = record { follows = record { kept = offer.kept; divided = f.divided; matches = matches }; unrefused = λ q. absurd (cc) } in
+    subst FollowsThen (sym (cond-true _ y _ test)) follows
 
 -- the long message is acknowledged with its last part
-finished-then : (v w : Link) (inner : WorldState) (s : LongSending) (r : LongReceiving) (marks : List LongMark) (part : List ℕ) → IsWorldAt w inner → w.sender.outstanding ≡ Nothing → w.ended ≡ v.ended →
-    (h : IsLongOf v s r marks) → (m : IsSendingLong part (length v.session.delivered) v.session.acknowledged s.outgoing r.joining h.present) → m.number + 1 ≡ part_count (length m.message) → h.present.delivered ≡ m.front ++ m.message ∷ [] →
-    r.joining ≡ first_joining → FollowsThen (after_acknowledged (long_at inner s r marks) (gone_on s.outgoing s))
-unfolding MatchesBy after_acknowledged followed
-finished-then v w inner s r marks part at o e h m n d j =
-    let sent : Outgoing = record { message = m.message; number = m.number } in
-    let now : Session = record { sent = h.present.sent; delivered = h.present.delivered; acknowledged = h.present.acknowledged + 1 } in
-    let long : IsLongOf w (finished s) r marks
-    = record {
-      ended = h.ended;
-      present = now;
-      orderly = h.orderly;
-      ended_count = h.ended_count ∙ ap length (sym e);
-      taken_is = h.taken_is;
-      whole_is = h.whole_is;
-      acknowledged_is = omega (arith, h.acknowledged_is);
-      marks_are = h.marks_are;
-      matches = matches-from w Nothing None r.joining now o (record {
-        out_is = refl;
-        joining_is = j;
-        whole_is = d ∙ sym m.sent_is;
-        acknowledged_is = omega (arith, m.acknowledged_is, ap length m.sent_is, length-append m.front (m.message ∷ []));
-      });
-    } in
-    subst (λ (x : LongSending × Following). FollowsThen (after_acknowledged (long_at inner s r marks) x)) (sym (gone-last s sent m.out_is n))
-    (record { follows = record { link = w; world = at; long = long }; unrefused = λ q. absurd (cc) })
+finished-then : (w : LongState) (inner : WorldState) (part : List ℕ) → Follows w → IsKept inner.link → outstanding_in inner.link ≡ Nothing → (m : IsPartOf part w.outstanding (present w)) → m.number + 1 ≡ part_count (length m.message) →
+    (present w).delivered ≡ m.earlier ++ m.message ∷ [] → w.joining ≡ first_joining → FollowsThen (after_acknowledged (Some (record { message = m.message; number = m.number })) (record w { inner = inner }))
+unfolding MatchesBy after_acknowledged
+finished-then w inner part f k o m n d j =
+    let to : LongState = record w { inner = inner; outstanding = None; acknowledged = w.acknowledged + 1 } in
+    let more = present-acknowledged (long_link w) f.divided.0 in
+    let sent = ap (λ (x : Session). x.sent) more in
+    let count : length (present w).sent ≡ length m.earlier + 1 = ap length m.sent_is ∙ length-append m.earlier (m.message ∷ []) in
+    let test : nat_lt (m.number + 1) (part_count (length m.message)) ≡ false = grind (arith, nat_tests) in
+    let matches = matches-from inner.link Nothing None w.joining (present to) o (record {
+      out_is = refl;
+      joining_is = j;
+      whole_is = ap (λ (x : Session). x.delivered) more ∙ d ∙ sym m.sent_is ∙ sym sent;
+      acknowledged_is = omega (arith, ap (λ (x : Session). x.acknowledged) more, m.acknowledged_is, count, ap length sent);
+    }) in
+    let follows : Follows to = record { kept = k; divided = divided-acknowledged IsOrderly (long_link w) f.divided; matches = matches } in
+    subst FollowsThen (sym (cond-false _ _ _ test)) (record { follows = follows; unrefused = λ q. absurd (cc) })
 
-acknowledged-then : (v w : Link) (inner : WorldState) (s : LongSending) (r : LongReceiving) (marks : List LongMark) (kind : StepKind) (number : ℕ) (part : List ℕ) → IsWorldAt w inner → kind ≡ Acknowledged number →
-    v.sender.outstanding ≡ Message part →
-    length v.session.delivered ≡ v.session.acknowledged + 1 → w.sender.outstanding ≡ Nothing → w.sender.down ≡ false → w.ended ≡ v.ended → IsLongOf v s r marks → FollowsThen (after_kind kind (long_at inner s r marks))
-unfolding after_kind MatchesBy
-acknowledged-then v w inner s r marks kind number part at k o c p up e h =
-    let m : IsSendingLong part (length v.session.delivered) v.session.acknowledged s.outgoing r.joining h.present = matches-at v (Message part) s.outgoing r.joining h.present o h.matches in
-    let gone : FollowsThen (after_acknowledged (long_at inner s r marks) (gone_on s.outgoing s))
-    = elim (held-after m.message m.number m.front (length v.session.delivered) v.session.acknowledged r.joining h.present.delivered c m.came) [
-      | inl held ↦ next-then v w inner s r marks part at p up e h m held.0 held.1 held.2
-      | inr held ↦ finished-then v w inner s r marks part at p e h m held.0 held.1 held.2
+acknowledged-then : (w : LongState) (inner : WorldState) (kind : StepKind) (number : ℕ) (part : List ℕ) → Follows w → IsKept inner.link → kind ≡ Acknowledged number → outstanding_in w.inner.link ≡ Message part →
+    length (present_session w.inner.link).delivered ≡ (present_session w.inner.link).acknowledged + 1 → outstanding_in inner.link ≡ Nothing → inner.link.outbound.sender.down ≡ false →
+    FollowsThen (after_kind kind (record w { inner = inner }))
+unfolding MatchesBy after_kind
+acknowledged-then w inner kind number part f k is o c p up =
+    let v = w.inner.link in
+    let now : LongState = record w { inner = inner } in
+    let m : IsSendingLong part (present_session v) w.outstanding w.joining (present w) = matches-at v (Message part) w.outstanding w.joining (present w) o f.matches in
+    let gone : FollowsThen (after_acknowledged (Some (record { message = m.of.message; number = m.of.number })) now)
+    = elim (held-after m.of.message m.of.number m.of.earlier (length (present_session v).delivered) (present_session v).acknowledged w.joining (present w).delivered c m.came) [
+      | inl held ↦ next-then w inner part f k p up m.of held.0 held.1 held.2
+      | inr held ↦ finished-then w inner part f k p m.of held.0 held.1 held.2
     ] in
-    subst FollowsThen (sym (ap (λ (x : StepKind). after_kind x (long_at inner s r marks)) k)) gone
+    subst FollowsThen (sym (ap (λ (x : StepKind). after_kind x now) is)) (subst (λ (out : Option OutstandingPart). FollowsThen (after_acknowledged out now)) (sym m.of.out_is) gone)
 
--- The link is open again.
+-- Whatever happens at the link, but an offer.
 
-opened-matches : (v w : Link) (out : Option Outgoing) (j : Joining) (p : Session) (number : ℕ) → v.sender.outstanding ≡ Opening number → v.receiver.last ≡ number → w.sender.outstanding ≡ Nothing → Matches v out j p → Matches w out j p
-unfolding MatchesBy
-opened-matches v w out j p number o l q m =
-    let h : IsOpeningLong number v.receiver.last out j p = matches-at v (Opening number) out j p o m in
-    matches-from w Nothing out j p q (record {
-      out_is = h.out_is;
-      joining_is = h.joining_is l;
-      whole_is = ap (λ (x : Session). x.delivered) h.session_is ∙ sym (ap (λ (x : Session). x.sent) h.session_is);
-      acknowledged_is = ap (λ (x : Session). x.acknowledged) h.session_is ∙ sym (ap (λ (x : Session). length x.sent) h.session_is);
-    })
-
--- Each step of the inner world.
-
-on : (v w : Link) (count : ℕ) (s : LongSending) (r : LongReceiving) (marks : List LongMark) (inner : WorldState) (step : Step) → IsWorldAt w inner → w.ended ≡ v.ended → FollowsThen (after_kind step.kind (long_at inner s r marks)) →
-    FollowsStep (inner_happened (long_at (world_of v count) s r marks) (inner, step))
-on v w count s r marks inner step at e f =
-    subst FollowsStep (sym (happened-on (world_of v count) s r marks inner step (goes-on v w count inner at e))) (step-then step (after_kind step.kind (long_at inner s r marks)) f)
-
-pub inner-follows : (v : Link) (count : ℕ) (s : LongSending) (r : LongReceiving) (marks : List LongMark) (inner : WorldState) (step : Step) → InnerStep v (inner, step) → IsLongOf v s r marks →
-    FollowsStep (inner_happened (long_at (world_of v count) s r marks) (inner, step))
-inner-follows v count s r marks inner step (step_still w at p same) h =
-    on v w count s r marks inner step at same.ended_is
-    (plain-then step.kind (long_at inner s r marks) p (record { link = w; world = at; long = same-long v w s r marks same.ended_is h (same-matches v w s.outgoing r.joining h.present same h.matches) }))
-inner-follows v count s r marks inner step (step_ended w part number at p o q l e) h =
-    let now = marks ++ present_long_mark (long_at (world_of v count) s r marks) ∷ [] in
-    let f = plain-then step.kind (long_at inner (given_up s) r now) p (record { link = w; world = at; long = ended-long v w (world_of v count) s r marks part number o q l e h }) in
-    subst FollowsStep (sym (happened-end (world_of v count) s r marks inner step (ends v w count inner at e))) (step-then step (after_kind step.kind (long_at inner (given_up s) r now)) f)
-inner-follows v count s r marks inner step (step_delivered w number part at k o c p d e) h =
-    on v w count s r marks inner step at e (delivered-then v w inner s r marks step.kind number part at k (takes-part v w s r marks part o c p d e h))
-inner-follows v count s r marks inner step (step_syn w number at k is o e) h = on v w count s r marks inner step at e (syn-then v w inner s r marks step.kind number at k is o e h)
-inner-follows v count s r marks inner step (step_acknowledged w number part at k o c p up e) h =
-    on v w count s r marks inner step at e (acknowledged-then v w inner s r marks step.kind number part at k o c p up e h)
-inner-follows v count s r marks inner step (step_opened w number at p o l q e) h =
-    on v w count s r marks inner step at e
-    (plain-then step.kind (long_at inner s r marks) p (record { link = w; world = at; long = same-long v w s r marks e h (opened-matches v w s.outgoing r.joining h.present number o l q h.matches) }))
+pub moved-follows : (w : LongState) (inner : WorldState) (step : Step) (happening : Happening) → Follows w → IsKept inner.link → IsClean w.inner.link happening →
+    Moves w.inner.link happening (inner.link, step.kind) → FollowsStep (inner_happened w (inner, step))
+unfolding IsClean
+moved-follows w inner step h f k c (moves_nothing p o l e) = nothing-follows w inner step f k p o l e
+moved-follows w inner step h f k c (ends number p d i n o l e) =
+    let v = w.inner.link in
+    ended-follows w inner step number f k o (λ (last : inner.link.inbound.receiver.last ≡ number). away (first_number v) (present_session v) v number f.kept.linked d i n (sym l ∙ last)) e
+moved-follows w inner step h f k c (delivers number message is o e) =
+    on w inner step (ap (λ (v : Link). v.outbound.marks) e) (delivered-then w inner step.kind number message is (takes-part w inner message f k o (delivered-is w.inner.link inner.link message f.kept k o e)))
+moved-follows w inner step h f k c (hears_opening number packet heard syn is o e) =
+    let v = w.inner.link in
+    let true_to = subst (IsClean v) heard c in
+    syn-follows w inner step number f k is (no-message (first_number v) (present_session v) v packet f.kept.linked true_to syn) o e
+moved-follows w inner step h f k c (acknowledges number message is o p up e) =
+    on w inner step (ap (λ (v : Link). v.outbound.marks) e) (acknowledged-then w inner step.kind number message f k is o (acknowledged-is w.inner.link inner.link f.kept k p e) p up)
+moved-follows w inner step h f k c (opens_link number p o q n l e) = opened-follows w inner step number f k p o (opened-is number w.inner.link inner.link f.kept k o q n l e) q e

@@ -1,12 +1,31 @@
 -- What contracts see of the fields of a world of long messages.
 use Rattle.std.specs.Prelude.{ℕ, ◌-◌, ◌/◌, min, vec_len, vec_capacity}
 use Rattle.p25_fragments.specs.declared.long_world.LongWorld.TheInside.{Inside}
-use Rattle.p25_fragments.specs.LongState.{LongState}
+use Rattle.p25_fragments.specs.LongState.{LongState, LongParts}
 
 -- the state of such a world
 abbrev pub state_of : Inside → LongState
-state_of w = record { inner = w.inner.state; sender = w.sender.state; receiver = w.receiver.state; marks = w.marks.items }
+state_of w =
+    record {
+      inner = w.inner.state;
+      outstanding = w.outstanding;
+      joining = w.joiner;
+      taken = w.taken.list;
+      whole = w.whole.list;
+      acknowledged = w.acknowledged;
+      marks = w.marks.items;
+    }
 
--- for how many steps there is room: for each two steps of the inner world, one more message on each side, and one more mark
-abbrev pub spare_of : Inside → ℕ
-spare_of w = min (min (w.inner.spare / 2) (min w.sender.spare w.receiver.spare)) (vec_capacity w.marks - vec_len w.marks)
+-- for how many long messages in each list, and marks, there is room
+abbrev pub own_spare_of : Inside → ℕ
+own_spare_of w = min (min w.taken.spare w.whole.spare) (vec_capacity w.marks - vec_len w.marks)
+
+-- what contracts see of it: each step may be two of the inner world
+abbrev pub parts_of : Inside → LongParts
+parts_of w =
+    record {
+      state = state_of w;
+      spare = min (w.inner.spare / 2) (own_spare_of w);
+      inner_spare = w.inner.spare;
+      own_spare = own_spare_of w;
+    }

@@ -1,8 +1,21 @@
--- What a joiner makes of the messages that it is handed.
-use Rattle.std.specs.Prelude.{ℕ, ◌+◌, ◌%◌, Bool, true, false, not, ◌&&◌, ◌||◌, nat_eq, nat_lt, nat_le, List, [], ◌∷◌, ◌++◌, length, if◌then◌else◌}
+-- What a joiner keeps, and what it makes of the messages that it is handed.
+use Rattle.std.specs.Prelude.{◌≡◌, ℕ, ◌+◌, ◌*◌, ◌%◌, ◌<◌, Bool, true, false, not, ◌&&◌, ◌||◌, nat_eq, nat_lt, nat_le, List, [], ◌∷◌, ◌++◌, length, if◌then◌else◌}
 use Rattle.p25_fragments.specs.declared.joiner.Joined.{Joined}
 use Rattle.p25_fragments.specs.declared.joiner.Joined.TheVariants.{Whole, Part, Refused}
-use Rattle.p25_fragments.specs.JoiningState.{Joining, first_joining}
+
+-- the number of the part that is expected, and the octets of the parts before it, joined
+pub record Joining : Type 0 where
+  pub next : ℕ
+  pub octets : List ℕ
+
+-- a joiner before the first part
+abbrev pub first_joining : Joining
+first_joining = record { next = 0; octets = [] }
+
+-- each part before the one expected has 500 octets
+pub record IsJoining (j : Joining) : Type 0 where
+  pub next : j.next < 8
+  pub full : length j.octets ≡ 500 * j.next
 
 -- the parts that are refused: one with another number than the one expected; the last with more than 500 octets, or with
 -- none where it is not the only one; another with other than 500 octets, or with the number 7

@@ -1,9 +1,4 @@
-pub mod JoiningState
 pub mod Joining
-pub mod SendingState
-pub mod LongSenders
-pub mod ReceivingState
-pub mod LongReceivers
 pub mod LongState
 pub mod LongSteps
 pub mod LongRuns

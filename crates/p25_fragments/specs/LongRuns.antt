@@ -1,29 +1,24 @@
 -- Runs of a world of long messages: its state and its steps after a list of events, its sessions, and what is said of the steps
 -- of the inner world.
-use Rattle.std.specs.Prelude.{◌≡◌, ◌≢◌, ◌-◌, ◌≤◌, List, [], ◌∷◌, ◌++◌, length, Option, Some, None}
-use Rattle.p25_bits.specs.Bits.{part}
-use Rattle.p25_delivery.specs.Link.{Session}
+use Rattle.std.specs.Prelude.{◌≡◌, ◌≢◌, ◌≤◌, List, [], ◌∷◌, ◌++◌, length, Option, Some, None}
+use Rattle.p25_delivery.specs.Link.{Session, sessions_of}
 use Rattle.p25_stations.specs.declared.step.Event.{Event}
-use Rattle.p25_stations.specs.declared.step.Event.TheVariants.{Send, Timeout, Reopen, ToReceiver, ToSender}
+use Rattle.p25_stations.specs.declared.step.Event.TheVariants.{Send}
 use Rattle.p25_stations.specs.declared.step.Step.{Step}
 use Rattle.p25_stations.specs.WorldState.{WorldState}
 use Rattle.p25_stations.specs.Runs.{world_run, steps_of, AreClean}
-use Rattle.p25_fragments.specs.declared.long_mark.LongMark.{LongMark}
 use Rattle.p25_fragments.specs.declared.long_step.LongEvent.{LongEvent}
 use Rattle.p25_fragments.specs.declared.long_step.LongEvent.TheVariants.{Long, Inner}
 use Rattle.p25_fragments.specs.declared.long_step.Then.{Then}
 use Rattle.p25_fragments.specs.declared.long_step.Then.TheVariants.{Refused, Next}
 use Rattle.p25_fragments.specs.declared.long_step.LongStep.{LongStep}
-use Rattle.p25_fragments.specs.LongState.{LongState, first_long}
-use Rattle.p25_fragments.specs.LongSteps.{present_long_mark, long_step}
+use Rattle.p25_fragments.specs.LongState.{LongState, first_long, long_link}
+use Rattle.p25_fragments.specs.LongSteps.{long_step}
 
 -- an event of the inner world that offers no message
 unfoldable pub IsNoOffer : Event → Type 0
 IsNoOffer (Send message) = ⊥
-IsNoOffer Timeout = Unit {0}
-IsNoOffer Reopen = Unit {0}
-IsNoOffer (ToReceiver flips) = Unit {0}
-IsNoOffer (ToSender flips) = Unit {0}
+IsNoOffer other = Unit {0}
 
 -- what every event keeps: a long message has at most 4,000 octets, and no other message is offered
 unfoldable pub IsLongEvent : LongEvent → Type 0
@@ -72,20 +67,6 @@ unfoldable pub AreUnrefused : List LongStep → Type 0
 AreUnrefused [] = Unit {0}
 AreUnrefused (step ∷ steps) = (step.then ≢ Refused) × AreUnrefused steps
 
--- a session of long messages between two marks: those taken stand as sent, and those whole as delivered
-abbrev pub long_session_between : LongMark → LongMark → LongState → Session
-long_session_between from to w =
-    record {
-      sent = part from.taken (to.taken - from.taken) w.sender.taken;
-      delivered = part from.whole (to.whole - from.whole) w.receiver.whole;
-      acknowledged = to.acknowledged - from.acknowledged;
-    }
-
--- the sessions from a mark on: each lies between two marks that are neighbors, and the last behind all marks
-unfoldable pub long_sessions_from : LongMark → List LongMark → LongState → List Session
-long_sessions_from from [] w = long_session_between from (present_long_mark w) w ∷ []
-long_sessions_from from (mark ∷ marks) w = long_session_between from mark w ∷ long_sessions_from mark marks w
-
--- the sessions of a world: a mark is made whenever a session of the inner world ends, so they begin together
+-- the sessions of long messages: a mark is made whenever a session of the inner world ends, so they begin together
 abbrev pub long_sessions_of : LongState → List Session
-long_sessions_of w = long_sessions_from (record { taken = 0; whole = 0; acknowledged = 0 }) w.marks w
+long_sessions_of w = sessions_of (long_link w)

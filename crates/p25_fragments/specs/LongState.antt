@@ -1,22 +1,57 @@
 -- What the world of long messages keeps.
-use Rattle.std.specs.Prelude.{ℕ, List, []}
+use Rattle.std.specs.Prelude.{◌≡◌, ℕ, ◌+◌, ◌/◌, ◌<◌, ◌≤◌, min, List, [], length, Option, Some, None, IfSome}
+use Rattle.p25_messages.specs.LongMessages.{part_count}
+use Rattle.p25_delivery.specs.declared.mark.Mark.{Mark}
+use Rattle.p25_delivery.specs.Halves.{first_outgoing, first_incoming}
+use Rattle.p25_delivery.specs.Link.{Link, first_link}
 use Rattle.p25_stations.specs.WorldState.{WorldState, first_world}
-use Rattle.p25_fragments.specs.declared.long_mark.LongMark.{LongMark}
-use Rattle.p25_fragments.specs.SendingState.{LongSending, first_long_sending}
-use Rattle.p25_fragments.specs.ReceivingState.{LongReceiving, first_long_receiving}
+use Rattle.p25_fragments.specs.declared.outstanding_part.OutstandingPart.{OutstandingPart}
+use Rattle.p25_fragments.specs.Joining.{Joining, first_joining}
 
--- the world of the two stations, the two sides of the long messages, and a mark for each session that has ended
+-- the world of the two stations; the long message of which a part is outstanding, and the number of that part; what the joiner
+-- keeps; the long messages taken, those that came whole, how many were acknowledged, and a mark for each session that has ended
 pub record LongState : Type 0 where
   pub inner : WorldState
-  pub sender : LongSending
-  pub receiver : LongReceiving
-  pub marks : List LongMark
+  pub outstanding : Option OutstandingPart
+  pub joining : Joining
+  pub taken : List (List ℕ)
+  pub whole : List (List ℕ)
+  pub acknowledged : ℕ
+  pub marks : List Mark
 
--- what contracts see of such a world: its state, and for how many steps it has room
+-- what contracts see of such a world: its state, and for how many steps it has room; those of the private calls also for how
+-- many steps of the inner world, and for how many long messages and marks
 pub record LongParts : Type 0 where
   pub state : LongState
   pub spare : ℕ
+  pub inner_spare : ℕ
+  pub own_spare : ℕ
+
+-- a private call takes the room of one at most of each
+pub record TakesRoom (before after : LongParts) : Type 0 where
+  pub inner : before.inner_spare ≤ after.inner_spare + 1
+  pub own : before.own_spare ≤ after.own_spare + 1
+  pub spare : after.spare ≡ min (after.inner_spare / 2) after.own_spare
 
 -- a world before the first step
 abbrev pub first_long : LongState
-first_long = record { inner = first_world; sender = first_long_sending; receiver = first_long_receiving; marks = [] }
+first_long = record { inner = first_world; outstanding = None; joining = first_joining; taken = []; whole = []; acknowledged = 0; marks = [] }
+
+-- the long messages as those of a link: what was taken is sent, and what came whole is received
+abbrev pub long_link : LongState → Link
+long_link w =
+    record first_link {
+      outbound = record first_outgoing { sent = w.taken; acknowledged = w.acknowledged; marks = w.marks };
+      inbound = record first_incoming { received = w.whole };
+    }
+
+-- how many long messages are outstanding: one or none
+abbrev pub outstanding_count : Option OutstandingPart → ℕ
+outstanding_count None = 0
+outstanding_count (Some sent) = 1
+
+-- what every such world keeps: the part that is outstanding is one of its message; and of the long messages taken, each that was
+-- acknowledged and the one that is outstanding is another
+pub record IsLongState (w : LongState) : Type 0 where
+  pub part : IfSome w.outstanding (λ sent. sent.number < part_count (length sent.message))
+  pub counted : w.acknowledged + outstanding_count w.outstanding ≤ length w.taken

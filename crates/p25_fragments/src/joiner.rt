@@ -1,6 +1,5 @@
 ghost use Rattle.std.specs.Prelude.{◌≡◌, ℕ, ◌%◌, ◌<◌, ◌≤◌, Bool, nat_le, List, length};
-ghost use Rattle.p25_fragments.specs.JoiningState.{first_joining};
-ghost use Rattle.p25_fragments.specs.Joining.{is_refused, part_taken, message_taken};
+ghost use Rattle.p25_fragments.specs.Joining.{first_joining, is_refused, part_taken, message_taken};
 
 use arrayvec::ArrayVec;
 use p25_messages::{LAST_PART, LongMessage, MOST_LONG, Message, PART_OCTETS};
@@ -27,7 +26,7 @@ pub struct Joiner {
 }
 
 impl Model for Joiner {
-    ghost use Rattle.p25_fragments.specs.JoiningState.{Joining, IsJoining};
+    ghost use Rattle.p25_fragments.specs.Joining.{Joining, IsJoining};
 
     ghost Value = { Joining };
 
@@ -36,7 +35,7 @@ impl Model for Joiner {
     ghost invariant = { λ s. IsJoining (record { next = s.next; octets = s.items.items }) };
 }
 
-// Whether a part is refused: where so many octets stand behind its first one.
+// Whether a part is refused: where so many octets stand after its first one.
 fn is_refused(next: u8, is_last: bool, number: u8, count: usize) -> bool
     ensures { result ≡ is_refused next is_last number count }
 {
@@ -72,8 +71,8 @@ impl Joiner {
 
     /// Answers what a message is: the last part of a long message, which is whole then; another part; or refused. The first
     /// octet is the number of the part, with 80 hex more where it is the last. Refused comes exactly where the message is
-    /// empty, where its number is not the one expected, where it is not the last and has other than 500 octets behind the
-    /// first or the number 7, and where it is the last and has more than 500 octets behind the first, or none though its
+    /// empty, where its number is not the one expected, where it is not the last and has other than 500 octets after the
+    /// first or the number 7, and where it is the last and has more than 500 octets after the first, or none though its
     /// number is above 0. After a part the next number is expected, and else 0, with nothing held.
     #[tactic(auto, unfolding(crate::specs::Joining::message_taken))]
     pub fn take(&mut self, message: &Message) -> Joined

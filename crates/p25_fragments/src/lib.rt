@@ -19,12 +19,9 @@
 
 mod joiner;
 pub mod laws;
-mod long_mark;
-mod long_receiver;
-mod long_sender;
 mod long_step;
 mod long_world;
-mod outgoing;
+mod outstanding_part;
 
 pub use joiner::{Joined, Joiner};
 pub use long_step::{LongEvent, LongStep, Then};

@@ -1,13 +1,12 @@
 ghost use Rattle.std.specs.Prelude.{◌≡◌, ◌+◌, ◌<◌, ◌≤◌, OnOk, OnErr, IfOk};
-ghost use Rattle.p25_fragments.specs.LongSteps.{followed, then_of, long_step};
+ghost use Rattle.p25_fragments.specs.LongSteps.{long_step};
 
-use crate::joiner::Joined;
-use crate::long_mark::LongMark;
-use crate::long_receiver::LongReceiver;
-use crate::long_sender::{Following, LongSender};
+use crate::joiner::{Joined, Joiner};
 use crate::long_step::{LongEvent, LongStep, Then};
-use p25_messages::{LongList, LongMessage};
-use p25_stations::{Event, StepKind, World};
+use crate::outstanding_part::OutstandingPart;
+use p25_delivery::Mark;
+use p25_messages::{LongList, LongMessage, Message};
+use p25_stations::{Event, Step, StepKind, World};
 use std::alloc::{AllocError, Global};
 use std::marker::Model;
 
@@ -15,10 +14,14 @@ use std::marker::Model;
 #[derive(Drop)]
 pub struct LongWorld {
     inner: World,
-    sender: LongSender,
-    receiver: LongReceiver,
+    // the long message of which a part is outstanding
+    outstanding: Option<OutstandingPart>,
+    joiner: Joiner,
+    taken: LongList,
+    whole: LongList,
+    acknowledged: u64,
     // the ends of the sessions before the present one
-    marks: Vec<LongMark>,
+    marks: Vec<Mark>,
 }
 
 impl Model for LongWorld {
@@ -26,9 +29,12 @@ impl Model for LongWorld {
 
     ghost Value = { LongParts };
 
-    ghost use Rattle.p25_fragments.specs.Inside.{state_of, spare_of};
+    ghost use Rattle.p25_fragments.specs.LongState.{IsLongState};
+    ghost use Rattle.p25_fragments.specs.Inside.{state_of, parts_of};
 
-    ghost view = { λ w. record { state = state_of w; spare = spare_of w } };
+    ghost view = { parts_of };
+
+    ghost invariant = { λ w. IsLongState (state_of w) };
 }
 
 impl LongWorld {
@@ -40,8 +46,11 @@ impl LongWorld {
     {
         LongWorld {
             inner: World::new(alloc),
-            sender: LongSender::new(alloc),
-            receiver: LongReceiver::new(alloc),
+            outstanding: None,
+            joiner: Joiner::new(),
+            taken: LongList::new(alloc),
+            whole: LongList::new(alloc),
+            acknowledged: 0,
             marks: Vec::new(alloc),
         }
     }
@@ -55,27 +64,28 @@ impl LongWorld {
 
     /// Answers the long messages that were taken, in order.
     pub fn taken(&self) -> &LongList
-        ensures { result.now.list ≡ self.now.state.sender.taken }
+        ensures { result.now.list ≡ self.now.state.taken }
     {
-        self.sender.taken()
+        &self.taken
     }
 
     /// Answers the long messages of which all parts were delivered, in order.
     pub fn whole(&self) -> &LongList
-        ensures { result.now.list ≡ self.now.state.receiver.whole }
+        ensures { result.now.list ≡ self.now.state.whole }
     {
-        self.receiver.whole()
+        &self.whole
     }
 
     /// Answers how many long messages were acknowledged.
     pub fn acknowledged(&self) -> u64
-        ensures { result ≡ self.now.state.sender.acknowledged }
+        ensures { result ≡ self.now.state.acknowledged }
     {
-        self.sender.acknowledged()
+        self.acknowledged
     }
 
     /// Makes room for 1 to 8 more steps: for each, two steps of the inner world, one long message in each list and one mark.
-    /// Answers AllocError where there is not enough memory; the world stays as it was, and no room is lost.
+    /// Answers AllocError where there is not enough memory, which comes only where there was no such room; the world stays as
+    /// it was, and no room is lost.
     pub fn reserve(&mut self, steps: u32) -> Result<(), AllocError>
         requires some { 0 < steps }
         requires most { steps ≤ 8 }
@@ -85,8 +95,8 @@ impl LongWorld {
         ensures err { OnErr result (self.old.spare < steps) }
     {
         self.inner.reserve(2 * steps)?;
-        self.sender.reserve(steps)?;
-        self.receiver.reserve(steps)?;
+        self.taken.reserve(steps)?;
+        self.whole.reserve(steps)?;
         self.marks.reserve(steps as usize)
     }
 
@@ -107,7 +117,7 @@ impl LongWorld {
     }
 
     /// Answers the step that an event is, and has it happen. AllocError comes where there is not enough memory for it, and
-    /// then the world stays as it was.
+    /// only where no room was left; then the world stays as it was.
     pub fn step(&mut self, event: &LongEvent) -> Result<LongStep, AllocError>
         ensures ok { IfOk result (λ step. (self.new.state, step) ≡ long_step self.old.state event.now) }
         ensures err { OnErr result (self.new.state ≡ self.old.state) }
@@ -125,58 +135,43 @@ fn unmoved(then: Then) -> LongStep
     LongStep { first: None, then }
 }
 
-// Offers the part that follows after an acknowledgement, where there is one.
-#[tactic(auto, unfolding(crate::specs::LongSteps::followed, crate::specs::LongSteps::next_offered))]
-fn follow(following: Following, inner: &mut World) -> Then
-    requires { 0 < inner.old.spare }
-    ensures state { inner.new.state ≡ (followed inner.old.state following).0 }
-    ensures then { result ≡ (followed inner.old.state following).1 }
-    ensures spare { inner.old.spare ≤ inner.new.spare + 1 }
-{
-    match following {
-        Following::Nothing => Then::Plain,
-        Following::Part(part) => Then::Next(inner.step_ready(&Event::Send(part))),
-        Following::Finished => Then::Finished,
-    }
-}
-
-// What a step says of a message that was delivered.
-#[tactic(auto, unfolding(crate::specs::LongSteps::then_of))]
-fn told(joined: Joined) -> Then
-    ensures { result ≡ then_of joined }
-{
-    match joined {
-        Joined::Whole(message) => Then::Whole(message),
-        Joined::Part { number } => Then::Part { number },
-        Joined::Refused => Then::Refused,
-    }
-}
-
 impl LongWorld {
-    ghost use Rattle.std.specs.Prelude.{◌-◌, min, vec_len, vec_capacity};
     ghost use Rattle.p25_stations.specs.Steps.{world_step};
-    ghost use Rattle.p25_fragments.specs.LongSteps.{long_offered, inner_happened};
+    ghost use Rattle.p25_fragments.specs.Joining.{message_taken};
+    ghost use Rattle.p25_fragments.specs.LongState.{TakesRoom};
+    ghost use Rattle.p25_fragments.specs.LongSteps.{started, long_offered, after_acknowledged, after_delivered, after_kind, session_ended, inner_happened};
 
     // Offers a long message.
     fn offer(&mut self, message: &LongMessage) -> LongStep
         requires { 0 < self.old.spare }
-        ensures state { self.new.state ≡ (long_offered self.old.state message.now).0 }
-        ensures step { result ≡ (long_offered self.old.state message.now).1 }
+        ensures step { (self.new.state, result) ≡ long_offered self.old.state message.now }
         ensures spare { self.old.spare ≤ self.new.spare + 1 }
     {
         let step = self.inner.step_ready(&Event::Send(message.part(0)));
         match step.kind {
             StepKind::OfferDown => unmoved(Then::Down),
             StepKind::Busy => unmoved(Then::Busy),
-            _ => {
-                self.sender.take(message);
-                LongStep {
-                    first: Some(step),
-                    then: Then::Started {
-                        parts: message.parts(),
-                    },
-                }
-            }
+            _ => self.start(message, step),
+        }
+    }
+
+    // Takes a long message, whose part 0 was offered in a step.
+    #[tactic(auto, unfolding(crate::specs::LongSteps::started))]
+    fn start(&mut self, message: &LongMessage, step: Step) -> LongStep
+        requires { 0 < self.old.own_spare }
+        ensures step { (self.new.state, result) ≡ started self.old.state message.now (self.old.state.inner, step) }
+        ensures room { TakesRoom self.old self.new }
+    {
+        self.taken.push(message);
+        self.outstanding = Some(OutstandingPart {
+            message: message.clone().unwrap(),
+            number: 0,
+        });
+        LongStep {
+            first: Some(step),
+            then: Then::Started {
+                parts: message.parts(),
+            },
         }
     }
 
@@ -184,34 +179,103 @@ impl LongWorld {
     #[tactic(auto, unfolding(crate::specs::LongSteps::inner_happened))]
     fn happen(&mut self, event: &Event) -> LongStep
         requires { 0 < self.old.spare }
-        ensures state { self.new.state ≡ (inner_happened self.old.state (world_step self.old.state.inner event.now)).0 }
-        ensures step { result ≡ (inner_happened self.old.state (world_step self.old.state.inner event.now)).1 }
+        ensures step { (self.new.state, result) ≡ inner_happened self.old.state (world_step self.old.state.inner event.now) }
         ensures spare { self.old.spare ≤ self.new.spare + 1 }
     {
         let sessions = self.inner.sessions();
         let step = self.inner.step_ready(event);
-        if sessions < self.inner.sessions() {
-            self.marks
-                .push(LongMark {
-                    taken: self.sender.taken().len() as u64,
-                    whole: self.receiver.whole().len() as u64,
-                    acknowledged: self.sender.acknowledged(),
-                })
-                .unwrap();
-            self.sender.give_up();
-        }
-        let then = match &step.kind {
-            StepKind::Acknowledged { .. } => follow(self.sender.go_on(), &mut self.inner),
-            StepKind::Delivered { message, .. } => told(self.receiver.take(message)),
-            StepKind::SynHeard { .. } => {
-                self.receiver.reset();
-                Then::Plain
-            }
-            _ => Then::Plain,
+        let then = if sessions < self.inner.sessions() {
+            self.end_session()
+        } else {
+            self.go_on(&step.kind)
         };
         LongStep {
             first: Some(step),
             then,
+        }
+    }
+
+    // Gives up the long message that is outstanding, where its session has ended.
+    fn end_session(&mut self) -> Then
+        requires { 0 < self.old.own_spare }
+        ensures step { (self.new.state, result) ≡ session_ended self.old.state }
+        ensures room { TakesRoom self.old self.new }
+    {
+        self.outstanding = None;
+        self.marks
+            .push(Mark {
+                sent: self.taken.len() as u64,
+                delivered: self.whole.len() as u64,
+                acknowledged: self.acknowledged,
+            })
+            .unwrap();
+        Then::Plain
+    }
+
+    // Does what follows a step of the inner world of that kind.
+    #[tactic(auto, using(crate::proofs::KindLaws::other_kind), unfolding(crate::specs::LongSteps::after_kind))]
+    fn go_on(&mut self, kind: &StepKind) -> Then
+        requires inner { 0 < self.old.inner_spare }
+        requires own { 0 < self.old.own_spare }
+        ensures step { (self.new.state, result) ≡ after_kind kind.now self.old.state }
+        ensures room { TakesRoom self.old self.new }
+    {
+        match kind {
+            StepKind::Acknowledged { .. } => self.acknowledge(),
+            StepKind::Delivered { message, .. } => self.deliver(message),
+            StepKind::SynHeard { .. } => {
+                self.joiner.reset();
+                Then::Plain
+            }
+            _ => {
+                // All room stays.
+                let _ = &self.joiner;
+                Then::Plain
+            }
+        }
+    }
+
+    // Offers the part after the one that was acknowledged, or has its long message acknowledged.
+    #[tactic(auto, unfolding(crate::specs::LongSteps::after_acknowledged, crate::specs::LongSteps::next_offered))]
+    fn acknowledge(&mut self) -> Then
+        requires inner { 0 < self.old.inner_spare }
+        ensures step { (self.new.state, result) ≡ after_acknowledged self.old.state.outstanding self.old.state }
+        ensures room { TakesRoom self.old self.new }
+    {
+        let Some(sent) = self.outstanding.take() else {
+            return Then::Plain;
+        };
+        let number = sent.number + 1;
+        if number < sent.message.parts() {
+            let step = self
+                .inner
+                .step_ready(&Event::Send(sent.message.part(number)));
+            self.outstanding = Some(OutstandingPart {
+                message: sent.message,
+                number,
+            });
+            return Then::Next(step);
+        }
+        // No more are acknowledged than were taken, whose number fits.
+        let _ = self.taken.len();
+        self.acknowledged += 1;
+        Then::Finished
+    }
+
+    // Hands the joiner a message that was delivered, and keeps the long message that is whole with it.
+    #[tactic(auto, unfolding(crate::specs::LongSteps::after_delivered))]
+    fn deliver(&mut self, message: &Message) -> Then
+        requires { 0 < self.old.own_spare }
+        ensures step { (self.new.state, result) ≡ after_delivered self.old.state (message_taken self.old.state.joining message.now) }
+        ensures room { TakesRoom self.old self.new }
+    {
+        match self.joiner.take(message) {
+            Joined::Whole(message) => {
+                self.whole.push(&message);
+                Then::Whole(message)
+            }
+            Joined::Part { number } => Then::Part { number },
+            Joined::Refused => Then::Refused,
         }
     }
 }

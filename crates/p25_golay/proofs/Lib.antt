@@ -1,0 +1,2 @@
+pub mod Golay18Numbers
+pub mod Golay24Tables

@@ -1,5 +1,5 @@
 -- The laws of the shortened Golay code (18,6).
-use Rattle.std.specs.Prelude.{◌≡◌, ℕ, ◌++◌, Bool, true, false, List, [], ◌∷◌, refl}
+use Rattle.std.specs.Prelude.{◌≡◌, ℕ, ◌≤◌, ◌++◌, Bool, true, false, List, [], ◌∷◌, refl}
 use Rattle.std.specs.Int.Bits.{xor_zero_l}
 use Rattle.std.proofs.Common.{arith, sym, ◌∙◌}
 use Rattle.std.specs.Bool.{beq}
@@ -57,3 +57,7 @@ from_short word is = record {
 -- the laws of the code
 pub golay18_is_code : IsBlockCode beq IsGolay18 18 6 3 8
 golay18_is_code = is_code short_code IsGolay18 to_short 18 3 refl (omega arith)
+
+-- a word fits a number of 32 bits
+pub golay18_fits : 18 ≤ 32
+golay18_fits = omega arith

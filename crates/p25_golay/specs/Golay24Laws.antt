@@ -7,17 +7,22 @@ use Rattle.std.specs.Bool.{beq}
 use Rattle.p25_bits.specs.Bits.{bits_of}
 use Rattle.p25_bits.specs.Divisible.{HasDegree}
 use Rattle.p25_code.specs.Binary.{IsChecked, check_columns, systematic, syndrome_of, weight_of}
+use Rattle.p25_code.specs.WrongBits.{number_sum}
 use Rattle.p25_code.proofs.ReadingLaws.{IsBlockCode}
 use Rattle.p25_code.proofs.WeightLaws.{all_bits}
 use Rattle.p25_code.proofs.SyndromeLaws.{syndrome_of-append}
 use Rattle.p25_code.proofs.BinaryLaws.{IsSystematic, is_heavy, length_checked, is_code}
 use Rattle.p25_code.proofs.RemainderLaws.{power_remainder, remainders, remainders-divisible, divisible-remainders}
-use Rattle.p25_code.proofs.ParityLaws.{mixed, mixed_passes, with_parity, syndrome_of-with_parity}
+use Rattle.p25_code.proofs.ParityLaws.{mixed_passes, with_parity, syndrome_of-with_parity}
 use Rattle.p25_golay.specs.Golay24.{IsGolay24}
 
 -- the check bits of the messages with one 1: the remainder by the generator, then the bit that makes the weight even
 abbrev pub check_rows : List ℕ
 check_rows = 0xC75 ∷ 0x63B ∷ 0xF68 ∷ 0x7B4 ∷ 0x3DA ∷ 0xD99 ∷ 0x6CD ∷ 0x367 ∷ 0xDC6 ∷ 0xA97 ∷ 0x93E ∷ 0x8EB ∷ []
+
+-- the messages of the words with one 1 among the check bits
+abbrev pub message_rows : List ℕ
+message_rows = 0xA4F ∷ 0xF68 ∷ 0x7B4 ∷ 0x3DA ∷ 0x1ED ∷ 0xAB9 ∷ 0xF13 ∷ 0xDC6 ∷ 0x6E3 ∷ 0x93E ∷ 0x49F ∷ 0xC75 ∷ []
 
 -- every word but that of zeros has at least eight ones
 heavy : all_bits 12 (is_heavy check_rows 12 8) ≡ true
@@ -45,12 +50,12 @@ mix : List ℕ
 mix = 0x801 ∷ 0x401 ∷ 0x201 ∷ 0x101 ∷ 0x081 ∷ 0x041 ∷ 0x021 ∷ 0x011 ∷ 0x009 ∷ 0x005 ∷ 0x003 ∷ 0x001 ∷ []
 
 -- so the columns of the matrix are sums of the stated ones, and these are sums of those
-matrix-stated : map (mixed mix) stated_columns ≡ check_rows ++ check_columns 12
-unfolding stated_columns mix mixed syndrome_of bits_of check_columns remainders power_remainder
+matrix-stated : map (number_sum mix) stated_columns ≡ check_rows ++ check_columns 12
+unfolding stated_columns mix number_sum syndrome_of bits_of check_columns remainders power_remainder
 matrix-stated = refl
 
-stated-matrix : map (mixed mix) (check_rows ++ check_columns 12) ≡ stated_columns
-unfolding stated_columns mix mixed syndrome_of bits_of check_columns remainders power_remainder
+stated-matrix : map (number_sum mix) (check_rows ++ check_columns 12) ≡ stated_columns
+unfolding stated_columns mix number_sum syndrome_of bits_of check_columns remainders power_remainder
 stated-matrix = refl
 
 length-remainders : length (remainders 0xC75 11 23) ≡ 23
@@ -113,3 +118,7 @@ from_checked word is =
 -- the laws of the code
 pub golay24_is_code : IsBlockCode beq IsGolay24 24 12 3 8
 golay24_is_code = is_code code IsGolay24 to_checked 24 3 refl (omega arith)
+
+-- a word fits a number of 32 bits
+pub golay24_fits : 24 ≤ 32
+golay24_fits = omega arith

@@ -1,11 +1,12 @@
 //! The shortened Golay code (18,6).
 
 ghost use Rattle.p25_golay.specs.Golay18.{IsGolay18};
-ghost use Rattle.p25_golay.specs.Golay18Laws.{golay18_is_code};
+ghost use Rattle.p25_golay.specs.Golay18Laws.{golay18_fits, golay18_is_code};
 ghost use Rattle.p25_golay.specs.Golay18Readings.{golay18_reading_of, golay18_reads_as};
 
-use crate::golay24::{CHECK_ROWS, RADIUS};
-use p25_code::{BlockCode, Reading, encode_systematic, read_systematic};
+use crate::golay24::{Golay24, RADIUS};
+use p25_bits::{number_of, put_number};
+use p25_code::{BlockCode, NumberCode, Reading, put_reading};
 
 /// The shortened Golay code (18,6): the words of the Golay code (24,12) that begin with six zeros, without those six. Any
 /// two words differ in at least 8 bits; three wrong bits are corrected. A list that is near to a word of the longer code
@@ -52,10 +53,28 @@ impl BlockCode for Golay18 {
     }
 
     fn encode(info: &[bool], word: &mut [bool]) {
-        encode_systematic(&CHECK_ROWS[6..], info, word);
+        put_number(
+            u64::from(Golay18::encode_number(number_of(info) as u32)),
+            word,
+        );
     }
 
     fn read(word: &mut [bool]) -> Reading {
-        read_systematic(&CHECK_ROWS[6..], RADIUS, word)
+        let received = number_of(word) as u32;
+        put_reading(received, Golay18::read_number(received), word)
+    }
+}
+
+impl NumberCode for Golay18 {
+    ghost fits_number = { λ _. golay18_fits };
+
+    fn encode_number(info: u32) -> u32 {
+        Golay24::encode_number(info)
+    }
+
+    // A word of the longer code that does not begin with six zeros is none of this one.
+    fn read_number(received: u32) -> Option<u32> {
+        let sent = Golay24::read_number(received)?;
+        if sent < 1 << 18 { Some(sent) } else { None }
     }
 }

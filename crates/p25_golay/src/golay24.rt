@@ -1,14 +1,34 @@
 //! The Golay code (24,12).
 
+ghost use Rattle.std.specs.Prelude.{◌≡◌, ◌<◌};
+ghost use Rattle.p25_code.specs.WrongBits.{number_sum};
 ghost use Rattle.p25_golay.specs.Golay24.{IsGolay24};
-ghost use Rattle.p25_golay.specs.Golay24Laws.{golay24_is_code};
+ghost use Rattle.p25_golay.specs.Golay24Laws.{check_rows, message_rows, golay24_fits, golay24_is_code};
 ghost use Rattle.p25_golay.specs.Golay24Readings.{golay24_reading_of, golay24_reads_as};
 
-use p25_code::{BlockCode, Reading, encode_systematic, read_systematic};
+use p25_bits::{number_of, put_number, sums};
+use p25_code::{BlockCode, NumberCode, Reading, put_reading, wrong_by_halves};
 
 // The check bits of the messages with one 1, in order.
-pub(crate) const CHECK_ROWS: [u16; 12] = [
+const CHECK_ROWS: [u16; 12] = [
     0xC75, 0x63B, 0xF68, 0x7B4, 0x3DA, 0xD99, 0x6CD, 0x367, 0xDC6, 0xA97, 0x93E, 0x8EB,
+];
+
+// The messages of the words with one 1 among the check bits, in order.
+const MESSAGE_ROWS: [u16; 12] = [
+    0xA4F, 0xF68, 0x7B4, 0x3DA, 0x1ED, 0xAB9, 0xF13, 0xDC6, 0x6E3, 0x93E, 0x49F, 0xC75,
+];
+
+// The check bits of the messages whose last six bits are 0, and of those whose first six are.
+static CHECKS: [[u16; 64]; 2] = [
+    sums! { CHECK_ROWS[0], CHECK_ROWS[1], CHECK_ROWS[2], CHECK_ROWS[3], CHECK_ROWS[4], CHECK_ROWS[5] },
+    sums! { CHECK_ROWS[6], CHECK_ROWS[7], CHECK_ROWS[8], CHECK_ROWS[9], CHECK_ROWS[10], CHECK_ROWS[11] },
+];
+
+// The messages of the check bits whose last six are 0, and of those whose first six are.
+static MESSAGES: [[u16; 64]; 2] = [
+    sums! { MESSAGE_ROWS[0], MESSAGE_ROWS[1], MESSAGE_ROWS[2], MESSAGE_ROWS[3], MESSAGE_ROWS[4], MESSAGE_ROWS[5] },
+    sums! { MESSAGE_ROWS[6], MESSAGE_ROWS[7], MESSAGE_ROWS[8], MESSAGE_ROWS[9], MESSAGE_ROWS[10], MESSAGE_ROWS[11] },
 ];
 
 pub(crate) const RADIUS: u32 = 3;
@@ -59,10 +79,47 @@ impl BlockCode for Golay24 {
     }
 
     fn encode(info: &[bool], word: &mut [bool]) {
-        encode_systematic(&CHECK_ROWS, info, word);
+        put_number(
+            u64::from(Golay24::encode_number(number_of(info) as u32)),
+            word,
+        );
     }
 
     fn read(word: &mut [bool]) -> Reading {
-        read_systematic(&CHECK_ROWS, RADIUS, word)
+        let received = number_of(word) as u32;
+        put_reading(received, Golay24::read_number(received), word)
     }
+}
+
+impl NumberCode for Golay24 {
+    ghost fits_number = { λ _. golay24_fits };
+
+    fn encode_number(info: u32) -> u32 {
+        (info << 12) | u32::from(check_bits(info))
+    }
+
+    fn read_number(received: u32) -> Option<u32> {
+        let sum = check_bits(received >> 12) ^ (received % 4096) as u16;
+        if sum == 0 {
+            return Some(received);
+        }
+        let wrong = wrong_by_halves(&CHECK_ROWS, &MESSAGE_ROWS, RADIUS, sum, message(sum))?;
+        Some(received ^ wrong)
+    }
+}
+
+// Answers the check bits of a message of twelve bits.
+fn check_bits(info: u32) -> u16
+    requires { info < 4096 }
+    ensures { result ≡ number_sum check_rows info }
+{
+    CHECKS[0][(info / 64) as usize] ^ CHECKS[1][(info % 64) as usize]
+}
+
+// Answers the message of twelve bits that has these check bits.
+fn message(checks: u16) -> u16
+    requires { checks < 4096 }
+    ensures { result ≡ number_sum message_rows checks }
+{
+    MESSAGES[0][(checks / 64) as usize] ^ MESSAGES[1][(checks % 64) as usize]
 }

@@ -1,0 +1,2 @@
+pub mod Hamming10Tables
+pub mod Lsd16Tables

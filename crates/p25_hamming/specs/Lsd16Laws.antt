@@ -1,5 +1,5 @@
 -- The laws of the code (16,8) of the low speed data.
-use Rattle.std.specs.Prelude.{◌≡◌, ℕ, ◌<◌, ◌^◌, ◌++◌, Bool, true, List, [], ◌∷◌, length, refl}
+use Rattle.std.specs.Prelude.{◌≡◌, ℕ, ◌<◌, ◌≤◌, ◌^◌, ◌++◌, Bool, true, List, [], ◌∷◌, length, refl}
 use Rattle.std.proofs.Common.{arith, ap, sym, ◌∙◌}
 use Rattle.std.specs.Bool.{beq}
 use Rattle.p25_bits.specs.Bits.{bits_of}
@@ -14,6 +14,10 @@ use Rattle.p25_hamming.specs.Lsd16.{IsLsd16}
 -- the remainders of x^15 to x^8 by the generator: the check bits of the messages with one 1
 abbrev pub check_rows : List ℕ
 check_rows = 0x4E ∷ 0x27 ∷ 0x8F ∷ 0xDB ∷ 0xF1 ∷ 0xE4 ∷ 0x72 ∷ 0x39 ∷ []
+
+-- the messages of the words with one 1 among the check bits
+abbrev pub message_rows : List ℕ
+message_rows = 0x9C ∷ 0x4E ∷ 0x27 ∷ 0x8F ∷ 0xDB ∷ 0xF1 ∷ 0xE4 ∷ 0x72 ∷ []
 
 -- with the check columns they are the remainders of x^15 to x^0
 columns-remainders : check_rows ++ check_columns 8 ≡ remainders 0x139 8 16
@@ -55,3 +59,7 @@ from_checked word is =
 -- the laws of the code
 pub lsd16_is_code : IsBlockCode beq IsLsd16 16 8 2 5
 lsd16_is_code = is_code code IsLsd16 to_checked 16 2 refl (omega arith)
+
+-- a word fits a number of 32 bits
+pub lsd16_fits : 16 ≤ 32
+lsd16_fits = omega arith

@@ -14,7 +14,8 @@
 //! assert_eq!(Hamming10::read(&mut word), Reading::Found { fixes: 1 });
 //! ```
 //!
-//! No call takes memory or fails. A word without wrong bits is read in one pass.
+//! Both are a `NumberCode`, so their words are numbers of 10 and 16 bits too. No call takes memory or fails. A word takes one
+//! table and, where bits are wrong, as many counts of ones as there are rows.
 #![tactic(auto)]
 
 mod hamming10;

@@ -1,13 +1,31 @@
 //! The code of the low speed data (16,8).
 
+ghost use Rattle.std.specs.Prelude.{◌≡◌, ◌<◌};
+ghost use Rattle.p25_code.specs.WrongBits.{number_sum};
 ghost use Rattle.p25_hamming.specs.Lsd16.{IsLsd16};
-ghost use Rattle.p25_hamming.specs.Lsd16Laws.{lsd16_is_code};
+ghost use Rattle.p25_hamming.specs.Lsd16Laws.{check_rows, message_rows, lsd16_fits, lsd16_is_code};
 ghost use Rattle.p25_hamming.specs.Lsd16Readings.{lsd16_reading_of, lsd16_reads_as};
 
-use p25_code::{BlockCode, Reading, encode_systematic, read_systematic};
+use p25_bits::{number_of, put_number, sums};
+use p25_code::{BlockCode, NumberCode, Reading, put_reading, wrong_by_halves};
 
 // The check bits of the messages with one 1, in order: the remainders of x^15 to x^8 by the generator 139 hex.
 const CHECK_ROWS: [u16; 8] = [0x4E, 0x27, 0x8F, 0xDB, 0xF1, 0xE4, 0x72, 0x39];
+
+// The messages of the words with one 1 among the check bits, in order.
+const MESSAGE_ROWS: [u16; 8] = [0x9C, 0x4E, 0x27, 0x8F, 0xDB, 0xF1, 0xE4, 0x72];
+
+// The check bits of all messages.
+static CHECKS: [u16; 256] = sums! {
+    CHECK_ROWS[0], CHECK_ROWS[1], CHECK_ROWS[2], CHECK_ROWS[3],
+    CHECK_ROWS[4], CHECK_ROWS[5], CHECK_ROWS[6], CHECK_ROWS[7]
+};
+
+// The messages of all check bits.
+static MESSAGES: [u16; 256] = sums! {
+    MESSAGE_ROWS[0], MESSAGE_ROWS[1], MESSAGE_ROWS[2], MESSAGE_ROWS[3],
+    MESSAGE_ROWS[4], MESSAGE_ROWS[5], MESSAGE_ROWS[6], MESSAGE_ROWS[7]
+};
 
 const RADIUS: u32 = 2;
 
@@ -56,10 +74,47 @@ impl BlockCode for Lsd16 {
     }
 
     fn encode(info: &[bool], word: &mut [bool]) {
-        encode_systematic(&CHECK_ROWS, info, word);
+        put_number(
+            u64::from(Lsd16::encode_number(number_of(info) as u32)),
+            word,
+        );
     }
 
     fn read(word: &mut [bool]) -> Reading {
-        read_systematic(&CHECK_ROWS, RADIUS, word)
+        let received = number_of(word) as u32;
+        put_reading(received, Lsd16::read_number(received), word)
     }
+}
+
+impl NumberCode for Lsd16 {
+    ghost fits_number = { λ _. lsd16_fits };
+
+    fn encode_number(info: u32) -> u32 {
+        (info << 8) | u32::from(check_bits(info))
+    }
+
+    fn read_number(received: u32) -> Option<u32> {
+        let sum = check_bits(received >> 8) ^ (received % 256) as u16;
+        if sum == 0 {
+            return Some(received);
+        }
+        let wrong = wrong_by_halves(&CHECK_ROWS, &MESSAGE_ROWS, RADIUS, sum, message(sum))?;
+        Some(received ^ wrong)
+    }
+}
+
+// Answers the check bits of a message of eight bits.
+fn check_bits(info: u32) -> u16
+    requires { info < 256 }
+    ensures { result ≡ number_sum check_rows info }
+{
+    CHECKS[info as usize]
+}
+
+// Answers the message of eight bits that has these check bits.
+fn message(checks: u16) -> u16
+    requires { checks < 256 }
+    ensures { result ≡ number_sum message_rows checks }
+{
+    MESSAGES[checks as usize]
 }

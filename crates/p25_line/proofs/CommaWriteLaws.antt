@@ -1,4 +1,4 @@
--- A list with commas that is written entry by entry, as a loop does it: each entry but the first stands behind a comma.
+-- A list with commas that is written entry by entry, as a loop does it: each entry but the first stands after a comma.
 use Rattle.std.proofs.Common.{◌≡◌, ℕ, ◌+◌, ◌<◌, List, [], ◌∷◌, ◌++◌, length, take, map, slice_get, Some, refl, sym, ap, ◌∙◌, arith, append-nil, append_assoc, length-take}
 use Rattle.std.specs.List.{join_with_byte}
 use Rattle.std.proofs.lemmas.List.{length-map, take_more, map_push}
@@ -39,7 +39,7 @@ module _ {X : Type 0} (text : X → List ℕ) where
       ∙ ap (join_with_byte 44) (map_push text (take i entries) entry)
       ∙ join-more 44 (map text (take i entries)) (text entry) (omega (arith, length-map (take i entries) text, length-take i entries))
 
-  -- the first entry behind a text
+  -- the first entry after a text
   pub first-entry : (entries : List X) (i : ℕ) (entry : X) (start out new : List ℕ) → i ≡ 0 → slice_get entries i ≡ Some entry
       → out ≡ start ++ comma_text text (take i entries) → new ≡ out ++ text entry → new ≡ start ++ comma_text text (take (i + 1) entries)
   first-entry entries i entry start out new none read before after =
@@ -47,7 +47,7 @@ module _ {X : Type 0} (text : X → List ℕ) where
       after ∙ ap (λ l. l ++ text entry) (before ∙ ap (λ n. start ++ comma_text text (take n entries)) none ∙ ap (λ l. start ++ l) (comma_text-none entries) ∙ append-nil start)
       ∙ ap (λ l. start ++ l) (sym (ap (λ n. comma_text text (take (n + 1) entries)) none ∙ comma_text-first entries entry at_first))
 
-  -- a comma and the next entry behind a text
+  -- a comma and the next entry after a text
   pub next-entry : (entries : List X) (i : ℕ) (entry : X) (start out new : List ℕ) → 0 < i → slice_get entries i ≡ Some entry
       → out ≡ start ++ comma_text text (take i entries) → new ≡ (out ++ 44 ∷ []) ++ text entry → new ≡ start ++ comma_text text (take (i + 1) entries)
   next-entry entries i entry start out new some read before after =

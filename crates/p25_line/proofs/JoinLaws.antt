@@ -43,6 +43,7 @@ pub record Accepted (line : List ℕ) (words : List (List ℕ)) : Type 0 where
   pub all : list_all is_word words ≡ true
   pub some : 0 < length words
   pub join : join_with_byte 32 words ≡ line
+  pub parts : parts_of line ≡ words
 
 accepted-words : (line : List ℕ) (words : List (List ℕ)) → length line ≤ 8192 → or_form (words_in line) ≡ Ok words → Accepted line words
 accepted-words line words short found =
@@ -54,6 +55,7 @@ accepted-words line words short found =
             all = ap (list_all is_word) (sym same) ∙ all;
             some = omega (arith, ap length same, length-slice_split (λ octet. octet == 32) line);
             join = ap (join_with_byte 32) (sym same) ∙ join_with_byte-slice_split 32 line;
+            parts = same;
           }
       | inr other ↦ let known = ap or_form (words_in-none line other) in cc
     ]

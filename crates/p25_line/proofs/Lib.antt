@@ -3,7 +3,11 @@ pub mod WordsSteps
 pub mod HexLaws
 pub mod ValuesSteps
 pub mod JoinLaws
+pub mod LineWordsLaws
+pub mod LineReadLaws
 pub mod DecimalLaws
+pub mod NumberLaws
+pub mod OctetsLaws
 pub mod CommaPartLaws
 pub mod CommaListLaws
 pub mod CommaReadLaws

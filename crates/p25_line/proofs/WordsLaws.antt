@@ -1,11 +1,14 @@
 -- Laws of the words of a line. Splitting is followed octet by octet: a line has allowed octets alone where each of its parts is printed.
-use Rattle.std.proofs.Common.{◌≡◌, ℕ, ◌<◌, ◌≤◌, ◌==◌, ◌&&◌, ◌||◌, Bool, true, false, cond, List, [], ◌∷◌, length, Some, None, Err, refl, ap, ap₂, ◌∙◌, arith}
+use Rattle.std.proofs.Common.{◌≡◌, ℕ, ◌<◌, ◌≤◌, ◌==◌, ◌&&◌, ◌||◌, Bool, true, false, cond, List, [], ◌∷◌, length, Some, None, Err, inl, inr, refl, sym, ap, ap₂, ◌∙◌, arith}
 use Rattle.std.specs.Prelude.{nat_lt}
-use Rattle.std.specs.List.{onto_first, list_all, All}
+use Rattle.std.specs.List.{find, onto_first, list_all, All}
+use Rattle.std.specs.Str.{bytes_eq}
 use Rattle.std.proofs.Math.Bool.{and_assoc}
-use Rattle.std.proofs.lemmas.Bool.{and_parts, cond-true, cond-false}
+use Rattle.std.proofs.lemmas.Bool.{and_parts, cases_Bool, cond-true, cond-false}
 use Rattle.std.proofs.lemmas.List.Elements.{All-nil, All-cons}
 use Rattle.std.proofs.lemmas.List.Splits.{length-slice_split}
+use Rattle.std.proofs.lemmas.Slice.Eq.{bytes_eq-Decides}
+use Rattle.p25_line.specs.Values.{is_lower_digit}
 use Rattle.p25_line.specs.Words.{is_printed, is_word, parts_of, words_in, words_or_fault, or_form}
 use Rattle.p25_line.specs.declared.fault.LineFault.TheVariants.{Long}
 
@@ -64,3 +67,33 @@ words_or_fault-long line long = grind arith
 pub words_or_fault-words : (line : List ℕ) → length line ≤ 8192 → words_or_fault line ≡ or_form (words_in line)
 unfolding words_or_fault
 words_or_fault-words line short = grind arith
+
+-- what a search finds passes its test
+pub find-passes : {X : Type 0} (test : X → Bool) (xs : List X) (x : X) → find test xs ≡ Some x → test x ≡ true
+find-passes test [] x found = cc found
+find-passes test (y ∷ xs) x found =
+    elim (cases_Bool (test y)) [
+      | inl passed ↦
+          let first = cond-true (test y) (Some y) (find test xs) passed in
+          let same : y ≡ x = cc in
+          ap test (sym same) ∙ passed
+      | inr failed ↦ find-passes test xs x (sym (cond-false (test y) (Some y) (find test xs) failed) ∙ found)
+    ]
+
+-- digits are printed
+digit-printed : (digit : ℕ) → is_lower_digit digit ≡ true → is_printed digit ≡ true
+digit-printed digit lower = grind arith
+
+-- what passes one test, element by element, passes another that follows from it
+pub all-also : {X : Type 0} (first second : X → Bool) → ((x : X) → first x ≡ true → second x ≡ true) → (xs : List X) → list_all first xs ≡ true → list_all second xs ≡ true
+all-also first second also [] all = refl
+all-also first second also (x ∷ xs) all =
+    let parts = and_parts (first x) (list_all first xs) all in
+    ap₂ ◌&&◌ (also x parts.0) (all-also first second also xs parts.1)
+
+pub digits-printed : (digits : List ℕ) → list_all is_lower_digit digits ≡ true → list_all is_printed digits ≡ true
+digits-printed digits lower = all-also is_lower_digit is_printed digit-printed digits lower
+
+-- the value of a list that is found by its word has that word
+pub named-word : {X : Type 0} (word_of : X → List ℕ) (xs : List X) (word : List ℕ) (x : X) → find (λ y. bytes_eq word (word_of y)) xs ≡ Some x → word_of x ≡ word
+named-word word_of xs word x found = sym ((bytes_eq-Decides word (word_of x)).0 (find-passes (λ y. bytes_eq word (word_of y)) xs x found))

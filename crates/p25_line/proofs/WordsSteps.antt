@@ -101,7 +101,7 @@ parts-space line list start i cut inside space =
     ap parts_of (rest-space line start i cut.order inside space)
     ∙ slice_split_at (λ octet. octet == 32) word 32 (drop (i + 1) line) (printed-spaces word cut.printed) refl
 
--- one more part: the parts up to it and those behind it
+-- one more part: the parts up to it and those after it
 more-parts : (parts : List (List ℕ)) (count : ℕ) (part : List ℕ) (others : List (List ℕ)) → drop count parts ≡ part ∷ others
     → (take (count + 1) parts ≡ take count parts ++ part ∷ []) × (drop (count + 1) parts ≡ others)
 more-parts [] zero part others rest = cc rest
@@ -216,7 +216,7 @@ space-words line start i order inside bad all =
           absurd (true≢false (sym allowed ∙ list_all_at is_allowed (drop start line) (i - start) 0 there here))
     ]
 
--- an octet that is neither printed nor the space behind a word
+-- an octet that is neither printed nor the space after a word
 pub none-bad : (line : List ℕ) (list : Marks) (start i : ℕ) → Cut line list start i → i < length line → is_printed (get_or line i 0) ≡ false
     → ((get_or line i 0 ≡ 32) × (i ≤ start)) ⊎ (get_or line i 0 ≡ 32 → ⊥) → words_in line ≡ None
 none-bad line list start i cut inside bad other =

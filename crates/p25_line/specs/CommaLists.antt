@@ -20,7 +20,7 @@ list_text text (entry ∷ entries) = comma_text text (entry ∷ entries)
 abbrev pub comma_parts : List ℕ → List (List ℕ)
 comma_parts word = slice_split (λ octet. octet == 44) word
 
--- the parts from a place of a word on; behind the end of the word there is none
+-- the parts from a place of a word on; after the end of the word there is none
 unfoldable pub parts_from : List ℕ → ℕ → List (List ℕ)
 parts_from word start = cond (nat_le start (length word)) (comma_parts (drop start word)) []
 

@@ -1,4 +1,6 @@
 pub mod Marks
 pub mod Words
+pub mod LineReadings
 pub mod Values
 pub mod CommaLists
+pub mod Octets

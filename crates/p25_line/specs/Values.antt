@@ -1,5 +1,7 @@
 -- The octets and digits of values.
-use Rattle.std.specs.Prelude.{ℕ, ◌+◌, ◌*◌, ◌-◌, ◌<◌, ◌&&◌, ◌||◌, nat_le, nat_lt, Bool, cond, List, [], ◌∷◌, All}
+use Rattle.std.specs.Prelude.{ℕ, zero, suc, ◌+◌, ◌*◌, ◌/◌, ◌%◌, ◌-◌, ◌<◌, ◌&&◌, ◌||◌, nat_le, nat_lt, Bool, cond, List, [], ◌∷◌, drop, All, Option, Some, None, decimal}
+use Rattle.std.specs.Str.{bytes_eq}
+use Rattle.hex.specs.Hex.{encode_lower}
 
 -- numbers below 256
 abbrev pub AllOctets : List ℕ → Type 0
@@ -18,3 +20,12 @@ unfoldable pub octets_of : List ℕ → List ℕ
 octets_of [] = []
 octets_of (digit ∷ []) = []
 octets_of (high ∷ low ∷ digits) = (16 * nibble_of high + nibble_of low) ∷ octets_of digits
+
+-- the last three lower-case hexadecimal digits of a number below 65,536
+abbrev pub three_digits : ℕ → List ℕ
+three_digits number = drop 1 (encode_lower (number / 256 ∷ number % 256 ∷ []))
+
+-- the number below a bound whose decimal text a word is: no leading zero, and no sign
+unfoldable pub number_below : ℕ → List ℕ → Option ℕ
+number_below zero word = None
+number_below (suc number) word = cond (bytes_eq word (decimal number)) (Some number) (number_below number word)

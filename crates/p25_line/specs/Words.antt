@@ -53,3 +53,10 @@ WordsFound line list result (Err fault) = (result ≡ Err fault) × (list.count 
 -- the answer to a line
 abbrev pub WordsAnswer : List ℕ → Marks → Result (Unit {0}) LineFault → Type 0
 WordsAnswer line list result = WordsFound line list result (words_or_fault line)
+
+-- what is kept of a line that has words: they are what stands between its spaces
+pub record AreWordsOf (line : List ℕ) (list : Marks) : Type 0 where
+  pub found : words_or_fault line ≡ Ok (parts_of line)
+  pub count : list.count ≡ length (parts_of line)
+  pub places : marked line list.places ≡ take 16 (parts_of line)
+  pub lies : All (LiesIn line) list.places

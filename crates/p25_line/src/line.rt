@@ -1,5 +1,7 @@
 ghost use Rattle.std.specs.Prelude.{◌≡◌, ℕ, ◌+◌, ◌*◌, ◌<◌, ◌≤◌, List, [], ◌∷◌, ◌++◌, length, take, decimal};
 ghost use Rattle.hex.specs.Hex.{encode_lower};
+ghost use Rattle.p25_line.specs.Octets.{octets_text};
+ghost use Rattle.p25_line.specs.Values.{three_digits};
 
 use itoa::Buffer;
 use std::marker::Model;
@@ -76,6 +78,17 @@ impl Line {
         self.put(buffer.format(value).as_bytes());
     }
 
+    /// Appends a label and a number in decimal, for which there must be room with 20 digits.
+    #[tactic(auto, using(crate::proofs::DecimalLaws::decimal_short))]
+    pub fn put_labelled(&mut self, label: &[u8], number: u64)
+        requires { length self.old + length label.now + 20 ≤ 8192 }
+        ensures text { self.new ≡ self.old ++ label.now ++ decimal number }
+        ensures short { length self.new ≤ length self.old + length label.now + 20 }
+    {
+        self.put(label);
+        self.put_number(number);
+    }
+
     /// Appends octets in lower-case hexadecimal, two digits each.
     pub fn put_hex(&mut self, octets: &[u8])
         requires { length self.old + 2 * length octets.now ≤ 8192 }
@@ -85,5 +98,29 @@ impl Line {
         let end = self.len + 2 * octets.len();
         let _ = hex::encode_to_slice(octets, &mut self.text[self.len..end]);
         self.len = end;
+    }
+
+    /// Appends octets in lower-case hexadecimal, two digits each, or `-` where there are none.
+    pub fn put_octets(&mut self, octets: &[u8])
+        requires { length self.old + 2 * length octets.now < 8192 }
+        ensures text { self.new ≡ self.old ++ octets_text octets.now }
+        ensures short { length self.new ≤ length self.old + 2 * length octets.now + 1 }
+    {
+        if octets.is_empty() {
+            self.put(b"-");
+        } else {
+            self.put_hex(octets);
+        }
+    }
+
+    /// Appends the last three digits of a number in lower-case hexadecimal.
+    pub fn put_three_digits(&mut self, number: u16)
+        requires { length self.old + 3 ≤ 8192 }
+        ensures list { self.new ≡ self.old ++ three_digits number }
+        ensures len { length self.new ≡ length self.old + 3 }
+    {
+        let mut digits = [0; 4];
+        let _ = hex::encode_to_slice(number.to_be_bytes(), &mut digits);
+        self.put(&digits[1..]);
     }
 }

@@ -1,6 +1,9 @@
 //! Values computed apart from this code, and each call once.
 
-use super::{Line, LineFault, WordList, comma_part, hex_value, is_dash, number_value, words_of};
+use super::{
+    Line, LineFault, LineWords, WordList, comma_part, hex_value, is_dash, number_value,
+    octets_or_dash, words_of,
+};
 use std::process::Abort;
 use std::test::Fail;
 
@@ -17,6 +20,18 @@ fn line_of_pieces(rt: HostRuntime) {
     assert_eq!(rt;
         line.octets(),
         b"nac=029f at=18446744073709551615".as_slice()
+    );
+    line.clear();
+    line.put_labelled(b"at=", 0);
+    line.put_labelled(b" bits=", 18_446_744_073_709_551_615);
+    line.put(b" nac=");
+    line.put_three_digits(0x02A);
+    line.put_three_digits(0xF293);
+    line.put_octets(&[]);
+    line.put_octets(&[0x0A, 0xFF]);
+    assert_eq!(rt;
+        line.octets(),
+        b"at=0 bits=18446744073709551615 nac=02a293-0aff".as_slice()
     );
 }
 
@@ -47,6 +62,23 @@ fn words_of_lines(rt: HostRuntime) {
 }
 
 #[test]
+fn words_of_a_line_that_is_read(rt: HostRuntime) -> Result<(), Fail> {
+    let words = LineWords::read(b"a b c d e f g h i j k l m n o p q r")?;
+    assert_eq!(rt; words.first(), b"a".as_slice());
+    assert_eq!(rt; words.count(), 18);
+    assert_eq!(rt; words.get(15), b"p".as_slice());
+    let long = [b'a'; 8_193];
+    assert_eq!(rt; LineWords::read(&long[..8_192])?.count(), 1);
+    assert_eq!(rt; LineWords::read(&long).err(), Some(LineFault::Long));
+    assert_eq!(rt; LineWords::read(b"").err(), Some(LineFault::Form));
+    assert_eq!(rt;
+        LineWords::read(b"tdu  nac=293").err(),
+        Some(LineFault::Form)
+    );
+    Ok(())
+}
+
+#[test]
 fn second_word(rt: HostRuntime) -> Result<(), Fail> {
     let line: &[u8] = b"tdu nac=293";
     let mut words = WordList::new();
@@ -74,6 +106,32 @@ fn values_of_words(rt: HostRuntime) {
     assert_eq!(rt; octets, [10]);
     for (word, most, number) in &NUMBERS {
         assert_eq!(rt; number_value(word, *most), *number);
+    }
+}
+
+// A word, and the octets that it is, of which there are two at most.
+const OCTETS: [(&[u8], Option<&[u8]>); 8] = [
+    (b"-", Some(b"")),
+    (b"0a", Some(b"\x0A")),
+    (b"0aff", Some(b"\x0A\xFF")),
+    (b"0aff00", None),
+    (b"0af", None),
+    (b"0A", None),
+    (b"", None),
+    (b"--", None),
+];
+
+#[test]
+fn octets_of_words(rt: HostRuntime) {
+    for (word, octets) in OCTETS {
+        let mut room = [7; 2];
+        let count = octets_or_dash(word, &mut room);
+        assert_eq!(rt; count, octets.map(|octets| octets.len()));
+        if let Some(count) = count {
+            assert_eq!(rt; Some(&room[..count]), octets);
+        } else {
+            assert_eq!(rt; room, [7; 2]);
+        }
     }
 }
 

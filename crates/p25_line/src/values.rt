@@ -1,9 +1,12 @@
-ghost use Rattle.std.specs.Prelude.{◌≡◌, ◌≢◌, ℕ, ◌≤◌, List, length, decimal, IsTrue, MatchOption};
+ghost use Rattle.std.specs.Prelude.{◌≡◌, ◌≢◌, ℕ, ◌≤◌, List, length, take, drop, decimal, IsTrue, IfSome, MatchOption};
 ghost use Rattle.std.specs.Bool.{OnTrue, OnFalse};
 ghost use Rattle.std.specs.List.{list_all};
+ghost use Rattle.std.specs.Option.{option_map};
 ghost use Rattle.hex.specs.Hex.{encode_lower};
+ghost use Rattle.p25_line.specs.Octets.{octets_up_to};
 ghost use Rattle.p25_line.specs.Values.{AllOctets, is_lower_digit};
 
+use super::comma_lists::is_dash;
 use itoa::Buffer;
 use std::str;
 
@@ -20,6 +23,28 @@ pub fn hex_value(word: &[u8], out: &mut [u8]) -> bool
     }
     let _ = hex::decode_to_slice(word, out);
     true
+}
+
+/// Sets the beginning of `out` to the octets that a word is, two lower-case hexadecimal digits each or `-` for none, and
+/// answers how many they are. It is `None` exactly where the word is neither, or there are more of them than `out` has, and then
+/// `out` is as before.
+pub fn octets_or_dash(word: &[u8], out: &mut [u8]) -> Option<usize>
+    ensures value { option_map (λ count. take count out.new) result ≡ octets_up_to (length out.old) word.now }
+    ensures few { IfSome result (λ count. count ≤ length out.new) }
+    ensures rest { MatchOption result (out.new ≡ out.old) (λ count. drop count out.new ≡ drop count out.old) }
+{
+    if is_dash(word) {
+        return Some(0);
+    }
+    let count = word.len() / 2;
+    if count == 0 || count > out.len() {
+        return None;
+    }
+    if hex_value(word, &mut out[..count]) {
+        Some(count)
+    } else {
+        None
+    }
 }
 
 /// Answers the number whose decimal text a word is. It is `None` exactly where the word is not the text of a number that

@@ -61,14 +61,6 @@ impl WordList {
         &line[place.start..place.start + place.len]
     }
 
-    /// Answers where word `i`, counted from 0, stands in its line.
-    pub fn place(&self, i: usize) -> Place
-        requires { i < length self.now.places }
-        ensures { slice_get self.now.places i ≡ Some result }
-    {
-        self.places.as_slice()[i]
-    }
-
     // Empties the list.
     fn clear(&mut self)
         ensures { self.new ≡ record { places = []; count = 0 } }

@@ -1,5 +1,6 @@
 //! Lines and texts written by hand by their grammar, and each call once.
 
+mod calls;
 mod fields;
 mod items;
 mod lines;

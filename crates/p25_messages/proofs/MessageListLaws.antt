@@ -34,14 +34,14 @@ start_before-most start [] count (suc i) are h = absurd (omega arith)
 start_before-most start (end ∷ ends) count zero are h = let later = start_before-most end ends count zero are.1 (omega arith) in omega arith
 start_before-most start (end ∷ ends) count (suc i) are h = start_before-most end ends count i are.1 (omega arith)
 
--- the start behind a piece is its end
+-- the start after a piece is its end
 pub start_before-suc : (start : ℕ) (ends : List ℕ) (i : ℕ) → i < length ends → start_before start ends (suc i) ≡ get_or ends i 0
 unfolding start_before
 start_before-suc start [] i h = absurd (omega arith)
 start_before-suc start (end ∷ ends) zero h = refl
 start_before-suc start (end ∷ ends) (suc i) h = start_before-suc end ends i (omega arith)
 
--- one more end, behind so many more octets
+-- one more end, after so many more octets
 pub AreEnds-push : (start : ℕ) (ends : List ℕ) (count more : ℕ) → AreEnds start ends count → AreEnds start (ends ++ (count + more) ∷ []) (count + more)
 unfolding AreEnds
 AreEnds-push start [] count more are = (omega arith, refl)
@@ -55,7 +55,7 @@ part-second : (octets more : List ℕ) (start : ℕ) → start ≡ length octets
 part-second octets more start e =
     between_to_end (octets ++ more) start (length octets + length more) (omega (arith, length-append octets more)) ∙ drop_at octets more start (sym e)
 
--- one more piece: the octets behind all others
+-- one more piece: the octets after all others
 pub pieces_between-push : (start : ℕ) (ends octets more : List ℕ) → AreEnds start ends (length octets) → pieces_between start (ends ++ (length octets + length more) ∷ []) (octets ++ more) ≡ pieces_between start ends octets ++ more ∷ []
 unfolding pieces_between AreEnds start_before
 pieces_between-push start [] octets more are = ap (λ (piece : List ℕ). piece ∷ []) (part-second octets more start are)

@@ -1,4 +1,4 @@
--- A list of messages, kept as all their octets and the place behind the last octet of each.
+-- A list of messages, kept as all their octets and the place after the last octet of each.
 use Rattle.std.specs.Prelude.{◌≡◌, ℕ, zero, suc, ◌-◌, ◌/◌, ◌^◌, ◌<◌, ◌≤◌, min, List, [], ◌∷◌, slice_range, vec_len, vec_capacity}
 use Rattle.std.specs.Global.{Vec}
 

@@ -14,7 +14,7 @@ pub type MessageList = MessageListOf<2028>;
 pub struct MessageListOf<const MOST: usize> {
     // the octets of all messages, one after another
     octets: Vec<u8>,
-    // the place behind the last octet of each message
+    // the place after the last octet of each message
     ends: Vec<usize>,
 }
 
@@ -29,7 +29,7 @@ impl<const MOST: usize> Model for MessageListOf<MOST> {
     ghost invariant = { λ s. IsKept MOST s.ends.items (vec_len s.octets) };
 }
 
-// The place of the first octet of message `i`, which is the place behind the message before it.
+// The place of the first octet of message `i`, which is the place after the message before it.
 fn start(ends: &[usize], i: usize) -> usize
     requires { i ≤ length ends.now }
     ensures { result ≡ start_before 0 ends.now i }

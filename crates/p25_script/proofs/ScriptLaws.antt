@@ -1,13 +1,11 @@
 -- The line of an event is read as that event, and a line that is read is the line of its event. By cases on what each step of the reading found.
-use Rattle.std.proofs.Common.{◌≡◌, ℕ, ◌+◌, ◌*◌, ◌<◌, ◌≤◌, ◌&&◌, true, List, [], ◌∷◌, length, Option, Some, None, Result, Ok, Err, refl, sym, ap, ap₂, subst, ◌∙◌, arith}
+use Rattle.std.proofs.Common.{◌≡◌, ℕ, ◌+◌, ◌*◌, ◌<◌, ◌≤◌, ◌&&◌, true, List, [], ◌∷◌, length, Option, Some, None, Result, Ok, refl, ap, ap₂, subst, ◌∙◌, arith}
 use Rattle.std.specs.Prelude.{IfOk}
-use Rattle.std.specs.List.{join_with_byte, list_all}
-use Rattle.std.specs.Str.{bytes_eq}
-use Rattle.std.proofs.lemmas.Slice.Eq.{bytes_eq-Decides}
-use Rattle.p25_line.specs.Words.{is_word, words_or_fault}
+use Rattle.std.specs.List.{list_all}
+use Rattle.p25_line.specs.Words.{is_word}
 use Rattle.p25_line.specs.declared.fault.LineFault.{LineFault}
-use Rattle.p25_line.proofs.JoinLaws.{words_or_fault-join, Accepted-words}
-use Rattle.p25_text.proofs.WordLaws.{find-passes}
+use Rattle.p25_line.proofs.LineReadLaws.{IsLineOf, WordLaws, line_read-facts, line_read-words, words-line_read}
+use Rattle.p25_line.proofs.WordsLaws.{named-word}
 use Rattle.p25_stations.specs.Runs.{IsEvent}
 use Rattle.p25_delivery.specs.SoundHalves.{IsMessage}
 use Rattle.p25_stations.specs.declared.step.Event.{Event}
@@ -38,21 +36,16 @@ event_words-some (ToReceiver places) = omega arith
 event_words-some (ToSender places) = omega arith
 
 -- and they are read as it
-event_by_words-words : (event : Event) → IsScripted event → event_by_words (Ok (event_words event)) ≡ Ok event
+event_by_words-words : (event : Event) → IsScripted event → event_by_words (event_words event) ≡ Ok event
 event_by_words-words (Send message) fits = ap send_or_fault (message_in-text message fits)
 event_by_words-words Timeout fits = refl
 event_by_words-words Reopen fits = refl
 event_by_words-words (ToReceiver places) fits = ap (delivery_or_fault (Some Packets)) (places_in-text places fits)
 event_by_words-words (ToSender places) fits = ap (delivery_or_fault (Some Answers)) (places_in-text places fits)
 
-pub event_of-event_text : (event : Event) → IsScripted event → length (event_text event) ≤ 8192 → event_of (event_text event) ≡ Ok event
-unfolding event_of event_text
-event_of-event_text event fits short =
-    ap event_by_words (words_or_fault-join (event_words event) (event_words-some event) (event_words-words event fits) short) ∙ event_by_words-words event fits
-
 -- ---- a line that is read is the line of its event
 
--- what was read from the words behind the first
+-- what was read from the words after the first
 abbrev ReadFrom : List (List ℕ) → Event → Type 0
 ReadFrom words event = (event_words event ≡ words) × IsScripted event
 
@@ -72,7 +65,7 @@ delivered_fits Packets places are = are
 delivered_fits Answers places are = are
 
 way-way_named : (word : List ℕ) (way : Way) → way_named word ≡ Some way → way_word way ≡ word
-way-way_named word way found = sym ((bytes_eq-Decides word (way_word way)).0 (find-passes (λ w. bytes_eq word (way_word w)) ways way found))
+way-way_named word way found = named-word way_word ways word way found
 
 from_delivery : (first word : List ℕ) (way : Option Way) (made : Option (List ℕ)) (event : Event) → way_named first ≡ way → places_in word ≡ made
     → delivery_or_fault way made ≡ Ok event → ReadFrom (event_word DeliverLine ∷ first ∷ word ∷ []) event
@@ -103,33 +96,31 @@ from_kind : (first : List ℕ) (others : List (List ℕ)) (kind : Option EventKi
     → ReadFrom (first ∷ others) event
 from_kind first others None event named found = cc found
 from_kind first others (Some kind) event named found =
-    let word = sym ((bytes_eq-Decides first (event_word kind)).0 (find-passes (λ k. bytes_eq first (event_word k)) event_kinds kind named)) in
+    let word = named-word event_word event_kinds first kind named in
     let read = from_others kind others event found in
     (read.0 ∙ ap (λ w. w ∷ others) word, read.1)
 
--- what a line that is read shows
-pub record IsLineOf (line : List ℕ) (event : Event) : Type 0 where
-  pub text : event_text event ≡ line
-  pub fits : IsScripted event
-  pub short : length line ≤ 8192
+from_words : (words : List (List ℕ)) (event : Event) → event_by_words words ≡ Ok event → ReadFrom words event
+from_words [] event found = cc found
+from_words (first ∷ others) event found = from_kind first others (event_named first) event refl found
 
-from_words : (line : List ℕ) (words : Result (List (List ℕ)) LineFault) (event : Event) → words_or_fault line ≡ words → event_by_words words ≡ Ok event → IsLineOf line event
-unfolding event_text
-from_words line (Err fault) event same found = cc found
-from_words line (Ok []) event same found = cc found
-from_words line (Ok (first ∷ others)) event same found =
-    let read = from_kind first others (event_named first) event refl found in
-    let accepted = Accepted-words line (first ∷ others) same in
-    record { text = ap (join_with_byte 32) read.0 ∙ accepted.join; fits = read.1; short = accepted.short }
+-- ---- so lines and events tell each other
 
-pub IsLineOf-event_of : (line : List ℕ) (event : Event) → event_of line ≡ Ok event → IsLineOf line event
+pub event_laws : WordLaws event_words event_by_words IsScripted
+event_laws = record { some = event_words-some; are_words = event_words-words; back = event_by_words-words; again = from_words }
+
+pub event_of-event_text : (event : Event) → IsScripted event → length (event_text event) ≤ 8192 → event_of (event_text event) ≡ Ok event
+unfolding event_of event_text
+event_of-event_text event fits short = line_read-words event_laws event fits short
+
+pub IsLineOf-event_of : (line : List ℕ) (event : Event) → event_of line ≡ Ok event → IsLineOf event_words IsScripted line event
 unfolding event_of
-IsLineOf-event_of line event found = from_words line (words_or_fault line) event refl found
+IsLineOf-event_of line event found = words-line_read event_laws line event found
 
 -- the two, as the reader tells them
 pub read-facts : (line : List ℕ) (result : Result Event LineFault) → result ≡ event_of line → (IfOk result (λ event. event_text event ≡ line)) × (IfOk result (λ event. IsScripted event))
-read-facts line (Err fault) same = (tt, tt)
-read-facts line (Ok event) same = let facts = IsLineOf-event_of line event (sym same) in (facts.text, facts.fits)
+unfolding event_of event_text
+read-facts line result same = line_read-facts event_laws line result same
 
 -- ---- how long lines are
 

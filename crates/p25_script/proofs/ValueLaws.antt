@@ -1,206 +1,41 @@
 -- Messages and places are read from their texts, and a word that is read as one is its text. By cases on what each test found.
-use Rattle.std.proofs.Common.{◌≡◌, ℕ, zero, suc, ◌+◌, ◌*◌, ◌/◌, ◌%◌, ◌^◌, ◌<◌, ◌≤◌, ◌==◌, ◌&&◌, ◌||◌, Bool, true, false, cond, List, [], ◌∷◌, length, map, decimal, Option, Some, None, inl, inr, refl, sym, ap, ap₂, subst, ◌∙◌, arith, length-append}
-use Rattle.std.specs.Prelude.{nat_le, All, IsSome, IfSome, ◌↔◌}
+use Rattle.std.proofs.Common.{◌≡◌, ℕ, ◌+◌, ◌*◌, ◌^◌, ◌<◌, ◌≤◌, ◌==◌, ◌&&◌, ◌||◌, Bool, true, false, List, [], ◌∷◌, length, map, decimal, Option, Some, None, inl, inr, refl, sym, ap, ap₂, ◌∙◌, arith, length-append}
+use Rattle.std.specs.Prelude.{All}
 use Rattle.std.specs.Char.{is_ascii_digit}
 use Rattle.std.specs.List.{join_with_byte, list_all}
 use Rattle.std.specs.Str.{all_ascii_digits, bytes_eq}
-use Rattle.std.proofs.lemmas.Bool.{and_parts, cases_Bool, cases_lt, cond-true, cond-false, eq-eqb, eqb-true, le-leb, leb-true, lt-ltb, true≢false}
-use Rattle.std.proofs.lemmas.Fmt.{decimal_injective, decimal_nonempty, digits_decimal, length-decimal-le}
+use Rattle.std.proofs.lemmas.Bool.{and_parts, cases_Bool, cond-true, cond-false, lt-ltb, true≢false}
+use Rattle.std.proofs.lemmas.Fmt.{decimal_nonempty, digits_decimal, length-decimal-le}
 use Rattle.std.proofs.lemmas.List.Elements.{All-nil, All-cons, All-head, All-tail}
 use Rattle.std.proofs.lemmas.List.Folds.{list_all-append}
 use Rattle.std.proofs.lemmas.Slice.Eq.{bytes_eq-Decides}
 use Rattle.std.proofs.lemmas.Str.Parse.{numerals_by_value, tells_all_ascii_digits}
-use Rattle.hex.specs.Hex.{encode_lower, lower_digits}
-use Rattle.hex.proofs.HexLemmas.{length-encode_with}
-use Rattle.p25_line.specs.Values.{AllOctets, is_lower_digit, octets_of}
+use Rattle.p25_line.specs.Octets.{octets_text}
 use Rattle.p25_line.specs.Words.{is_printed, is_word}
-use Rattle.p25_line.proofs.HexLaws.{list_all-encode_lower, octets_of-encode_lower, octets_of-facts}
+use Rattle.p25_line.proofs.NumberLaws.{decimal-number_below, number_below-decimal}
+use Rattle.p25_line.proofs.OctetsLaws.{length-octets_text, octets-word, octets_up_to-text, text-octets_up_to}
 use Rattle.p25_line.proofs.JoinLaws.{Lacks}
-use Rattle.p25_text.proofs.WordLaws.{digits-printed}
 use Rattle.p25_delivery.specs.SoundHalves.{IsMessage}
 use Rattle.p25_line.specs.CommaLists.{comma_text, dash, list_in}
-use Rattle.p25_script.specs.Values.{ArePlaces, has_digits_up_to, is_ascending, message_in, message_text, number_below, octets_up_to, place_in, places_in, places_text, where_ascending}
+use Rattle.p25_script.specs.Values.{ArePlaces, is_ascending, message_in, place_in, places_in, places_text, where_ascending}
 use Rattle.p25_line.proofs.CommaListLaws.{AllFit, EntryLaws, list_in-text, text-list_in}
 use Rattle.p25_script.proofs.PlacesLaws.{increasing-is_ascending, is_ascending-increasing}
 
 -- ---- messages
 
--- a word of two octets or more is no `-`
-no_dash : (word : List ℕ) → 2 ≤ length word → bytes_eq word dash ≡ false
-no_dash word long =
-    elim (cases_Bool (bytes_eq word dash)) [
-      | inl same ↦ let text = (bytes_eq-Decides word dash).0 same in absurd (omega (arith, ap length text))
-      | inr other ↦ other
-    ]
-
--- what the digits of a word say
-record Digits (most : ℕ) (word : List ℕ) : Type 0 where
-  some : 2 ≤ length word
-  few : length word ≤ 2 * most
-  even : length word ≡ 2 * (length word / 2)
-  digits : list_all is_lower_digit word ≡ true
-
-Digits-passed : (most : ℕ) (word : List ℕ) → has_digits_up_to most word ≡ true → Digits most word
-Digits-passed most word passed =
-    let third = and_parts (nat_le 2 (length word) && nat_le (length word) (2 * most) && (length word % 2 == 0)) (list_all is_lower_digit word) passed in
-    let second = and_parts (nat_le 2 (length word) && nat_le (length word) (2 * most)) (length word % 2 == 0) third.0 in
-    let first = and_parts (nat_le 2 (length word)) (nat_le (length word) (2 * most)) second.0 in
-    let none : length word % 2 ≡ 0 = eqb-true (length word % 2) 0 second.1 in
-    record {
-      some = leb-true 2 (length word) first.0;
-      few = leb-true (length word) (2 * most) first.1;
-      even = omega (arith, none);
-      digits = third.1;
-    }
-
--- the text of one octet or more is read as them
-pub octets_up_to-digits : (most : ℕ) (word octets : List ℕ) → 0 < length octets → length octets ≤ most → AllOctets octets → encode_lower octets ≡ word → octets_up_to most word ≡ Some octets
-octets_up_to-digits most word octets some few fits text =
-    let count : length word ≡ 2 * length octets = sym (ap length text) ∙ length-encode_with lower_digits octets in
-    let digits : list_all is_lower_digit word ≡ true = ap (list_all is_lower_digit) (sym text) ∙ list_all-encode_lower octets fits in
-    let even : length word % 2 ≡ 0 = omega (arith, count) in
-    let long : 2 ≤ length word = omega (arith, count, some) in
-    let passed : has_digits_up_to most word ≡ true =
-    ap₂ ◌&&◌ (ap₂ ◌&&◌ (ap₂ ◌&&◌ (le-leb 2 (length word) long) (le-leb (length word) (2 * most) (omega (arith, count, few)))) (eq-eqb (length word % 2) 0 even)) digits in
-    cond-false (bytes_eq word dash) (Some []) (cond (has_digits_up_to most word) (Some (octets_of word)) None) (no_dash word long)
-    ∙ cond-true (has_digits_up_to most word) (Some (octets_of word)) None passed
-    ∙ ap Some (ap octets_of (sym text) ∙ octets_of-encode_lower octets fits)
-
--- octets are read from their text
-pub octets_up_to-text : (most : ℕ) (octets : List ℕ) → length octets ≤ most → AllOctets octets → octets_up_to most (message_text octets) ≡ Some octets
-octets_up_to-text most [] few fits = refl
-octets_up_to-text most (octet ∷ octets) few fits = octets_up_to-digits most (encode_lower (octet ∷ octets)) (octet ∷ octets) (omega arith) few fits refl
-
-pub message_in-text : (message : List ℕ) → IsMessage message → message_in (message_text message) ≡ Some message
+pub message_in-text : (message : List ℕ) → IsMessage message → message_in (octets_text message) ≡ Some message
 message_in-text message fits = octets_up_to-text 2028 message fits.short fits.octets
 
-message_text-some : (octets : List ℕ) → 0 < length octets → message_text octets ≡ encode_lower octets
-message_text-some [] some = absurd (omega arith)
-message_text-some (octet ∷ octets) some = refl
-
--- and a word that is read as octets is their text
-pub record IsTextOf (most : ℕ) (word octets : List ℕ) : Type 0 where
-  pub text : message_text octets ≡ word
-  pub few : length octets ≤ most
-  pub fits : AllOctets octets
-
-digits-octets : (most : ℕ) (word octets : List ℕ) → cond (has_digits_up_to most word) (Some (octets_of word)) None ≡ Some octets → IsTextOf most word octets
-digits-octets most word octets found =
-    elim (cases_Bool (has_digits_up_to most word)) [
-      | inl passed ↦
-          let digits = Digits-passed most word passed in
-          let facts = octets_of-facts (length word / 2) word digits.even digits.digits in
-          let read = cond-true (has_digits_up_to most word) (Some (octets_of word)) None passed in
-          let same : octets_of word ≡ octets = cc in
-          let some : 0 < length (octets_of word) = omega (arith, facts.2, digits.some) in
-          subst (IsTextOf most word) same
-          (record { text = message_text-some (octets_of word) some ∙ facts.0; few = omega (arith, facts.2, digits.few); fits = facts.1 })
-      | inr failed ↦ let none = cond-false (has_digits_up_to most word) (Some (octets_of word)) None failed in cc
-    ]
-
-pub text-octets_up_to : (most : ℕ) (word octets : List ℕ) → octets_up_to most word ≡ Some octets → IsTextOf most word octets
-text-octets_up_to most word octets found =
-    let empty : List ℕ = [] in
-    let others = cond (has_digits_up_to most word) (Some (octets_of word)) None in
-    elim (cases_Bool (bytes_eq word dash)) [
-      | inl same_dash ↦
-          let none = cond-true (bytes_eq word dash) (Some empty) others same_dash in
-          let same : empty ≡ octets = cc in
-          subst (IsTextOf most word) same
-          (record { text = sym ((bytes_eq-Decides word dash).0 same_dash); few = omega arith; fits = All-nil (λ octet. octet < 256) })
-      | inr other ↦ digits-octets most word octets (sym (cond-false (bytes_eq word dash) (Some empty) others other) ∙ found)
-    ]
-
-pub message-message_in : (word message : List ℕ) → message_in word ≡ Some message → (message_text message ≡ word) × IsMessage message
+pub message-message_in : (word message : List ℕ) → message_in word ≡ Some message → (octets_text message ≡ word) × IsMessage message
 message-message_in word message found =
     let is = text-octets_up_to 2028 word message found in
     (is.text, record { short = is.few; octets = is.fits })
 
--- a word that is no text of octets is none
-pub octets_up_to-none : (most : ℕ) (word : List ℕ) (count : ℕ) → bytes_eq word dash ≡ false → count ≡ length word / 2
-    → ((octets : List ℕ) → length octets ≡ count → AllOctets octets → encode_lower octets ≡ word → ⊥) → octets_up_to most word ≡ None
-octets_up_to-none most word count other same refused =
-    cond-false (bytes_eq word dash) (Some []) (cond (has_digits_up_to most word) (Some (octets_of word)) None) other
-    ∙ elim (cases_Bool (has_digits_up_to most word)) [
-      | inl passed ↦
-          let digits = Digits-passed most word passed in
-          let facts = octets_of-facts (length word / 2) word digits.even digits.digits in
-          absurd (refused (octets_of word) (facts.2 ∙ sym same) facts.1 facts.0)
-      | inr failed ↦ cond-false (has_digits_up_to most word) (Some (octets_of word)) None failed
-    ]
-
--- what is made of octets that are few enough
-pub made-message : (most : ℕ) (octets : List ℕ) (result : Option (List ℕ)) → IsSome result ↔ (length octets ≤ most) → IfSome result (λ message. message ≡ octets) → length octets ≤ most → result ≡ Some octets
-made-message most octets None fits same few = absurd (true≢false (sym (fits.1 few)))
-made-message most octets (Some message) fits same few = ap Some same
-
--- the text of octets is a word
-pub octets-word : (octets : List ℕ) → AllOctets octets → is_word (message_text octets) ≡ true
-octets-word [] fits = refl
-octets-word (octet ∷ octets) fits =
-    let count = length-encode_with lower_digits (octet ∷ octets) in
-    ap₂ ◌&&◌ (lt-ltb 0 (length (encode_lower (octet ∷ octets))) (omega (arith, count)))
-    (digits-printed (encode_lower (octet ∷ octets)) (list_all-encode_lower (octet ∷ octets) fits))
-
-pub message-word : (message : List ℕ) → IsMessage message → is_word (message_text message) ≡ true
+pub message-word : (message : List ℕ) → IsMessage message → is_word (octets_text message) ≡ true
 message-word message fits = octets-word message fits.octets
 
-pub length-octets_text : (most : ℕ) (octets : List ℕ) → 0 < most → length octets ≤ most → length (message_text octets) ≤ 2 * most
-length-octets_text most [] some few = omega arith
-length-octets_text most (octet ∷ octets) some few = omega (arith, length-encode_with lower_digits (octet ∷ octets))
-
-pub length-message_text : (message : List ℕ) → IsMessage message → length (message_text message) ≤ 4056
+pub length-message_text : (message : List ℕ) → IsMessage message → length (octets_text message) ≤ 4056
 length-message_text message fits = length-octets_text 2028 message (omega arith) fits.short
-
--- ---- numbers
-
--- a number below a bound is read from its text
-pub number_below-decimal : (most number : ℕ) → number < most → most ≤ 2 ^ 64 → number_below most (decimal number) ≡ Some number
-unfolding number_below
-number_below-decimal zero number below fits = absurd (omega arith)
-number_below-decimal (suc top) number below fits =
-    elim (cases_Bool (bytes_eq (decimal number) (decimal top))) [
-      | inl same ↦
-          let text = (bytes_eq-Decides (decimal number) (decimal top)).0 same in
-          let here : number ≡ top = decimal_injective number top (omega arith) (omega arith) text in
-          cond-true (bytes_eq (decimal number) (decimal top)) (Some top) (number_below top (decimal number)) same ∙ ap Some (sym here)
-      | inr other ↦
-          let lower : number < top = elim (cases_lt number top) [
-            | inl less ↦ less
-            | inr not_less ↦
-                let here : number ≡ top = omega (arith, not_less, below) in
-                absurd (true≢false (sym ((bytes_eq-Decides (decimal number) (decimal top)).1 (ap decimal here)) ∙ other))
-          ] in
-          cond-false (bytes_eq (decimal number) (decimal top)) (Some top) (number_below top (decimal number)) other
-          ∙ number_below-decimal top number lower (omega arith)
-    ]
-
--- a word that is read as a number is its text
-pub decimal-number_below : (most : ℕ) (word : List ℕ) (number : ℕ) → number_below most word ≡ Some number → (decimal number ≡ word) × (number < most)
-unfolding number_below
-decimal-number_below zero word number found = cc found
-decimal-number_below (suc top) word number found =
-    elim (cases_Bool (bytes_eq word (decimal top))) [
-      | inl same ↦
-          let read = cond-true (bytes_eq word (decimal top)) (Some top) (number_below top word) same in
-          let here : top ≡ number = cc in
-          (ap decimal (sym here) ∙ sym ((bytes_eq-Decides word (decimal top)).0 same), omega (arith, here))
-      | inr other ↦
-          let facts = decimal-number_below top word number (sym (cond-false (bytes_eq word (decimal top)) (Some top) (number_below top word) other) ∙ found) in
-          (facts.0, omega (arith, facts.1))
-    ]
-
--- a word that is no such text is read as none
-pub number_below-none : (most : ℕ) (word : List ℕ) → ((number : ℕ) → number < most → decimal number ≡ word → ⊥) → number_below most word ≡ None
-unfolding number_below
-number_below-none zero word refused = refl
-number_below-none (suc top) word refused =
-    elim (cases_Bool (bytes_eq word (decimal top))) [
-      | inl same ↦ absurd (refused top (omega arith) (sym ((bytes_eq-Decides word (decimal top)).0 same)))
-      | inr other ↦
-          cond-false (bytes_eq word (decimal top)) (Some top) (number_below top word) other
-          ∙ number_below-none top word (λ number below. refused number (omega (arith, below)))
-    ]
 
 -- ---- places
 

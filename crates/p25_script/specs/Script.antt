@@ -2,7 +2,8 @@
 use Rattle.std.specs.Prelude.{ℕ, List, [], ◌∷◌, codes, Option, Some, None, Result, Ok, Err}
 use Rattle.std.specs.List.{find, join_with_byte}
 use Rattle.std.specs.Str.{bytes_eq}
-use Rattle.p25_line.specs.Words.{words_or_fault}
+use Rattle.p25_line.specs.LineReadings.{line_read}
+use Rattle.p25_line.specs.Octets.{octets_text}
 use Rattle.p25_line.specs.declared.fault.LineFault.{LineFault}
 use Rattle.p25_line.specs.declared.fault.LineFault.TheVariants.{Form, Key, Value, Kind as WrongKind}
 use Rattle.p25_delivery.specs.SoundHalves.{IsMessage}
@@ -10,7 +11,7 @@ use Rattle.p25_stations.specs.declared.step.Event.{Event}
 use Rattle.p25_stations.specs.declared.step.Event.TheVariants.{Send, Timeout, Reopen, ToReceiver, ToSender}
 use Rattle.p25_delivery.specs.declared.step_kind.Way.{Way}
 use Rattle.p25_delivery.specs.declared.step_kind.Way.TheVariants.{Packets, Answers}
-use Rattle.p25_script.specs.Values.{ArePlaces, message_in, message_text, places_in, places_text}
+use Rattle.p25_script.specs.Values.{ArePlaces, message_in, places_in, places_text}
 use Rattle.p25_script.specs.declared.names.EventKind.{EventKind}
 use Rattle.p25_script.specs.declared.names.EventKind.TheVariants.{Send as SendLine, Timeout as TimeoutLine, Reopen as ReopenLine, Deliver as DeliverLine}
 
@@ -63,7 +64,7 @@ IsScripted (ToSender places) = ArePlaces places
 
 -- the words of an event
 abbrev pub event_words : Event → List (List ℕ)
-event_words (Send message) = event_word SendLine ∷ message_text message ∷ []
+event_words (Send message) = event_word SendLine ∷ octets_text message ∷ []
 event_words Timeout = event_word TimeoutLine ∷ []
 event_words Reopen = event_word ReopenLine ∷ []
 event_words (ToReceiver places) = event_word DeliverLine ∷ way_word Packets ∷ places_text places ∷ []
@@ -91,7 +92,7 @@ delivery_or_fault None places = Err Key
 delivery_or_fault (Some way) None = Err Value
 delivery_or_fault (Some way) (Some places) = Ok (delivery way places)
 
--- the event of the words behind the first, or the first cause for which they are refused
+-- the event of the words after the first, or the first cause for which they are refused
 abbrev pub event_in : EventKind → List (List ℕ) → Result Event LineFault
 event_in SendLine (message ∷ []) = send_or_fault (message_in message)
 event_in TimeoutLine [] = Ok Timeout
@@ -99,17 +100,16 @@ event_in ReopenLine [] = Ok Reopen
 event_in DeliverLine (way ∷ places ∷ []) = delivery_or_fault (way_named way) (places_in places)
 event_in kind others = Err Key
 
--- and where the first word names a kind
+-- the event of the words after a first word that names a kind, or none
 abbrev pub event_by_kind : List (List ℕ) → Option EventKind → Result Event LineFault
 event_by_kind others (Some kind) = event_in kind others
 event_by_kind others None = Err WrongKind
 
--- the event of the words of a line
-abbrev pub event_by_words : Result (List (List ℕ)) LineFault → Result Event LineFault
-event_by_words (Ok (first ∷ others)) = event_by_kind others (event_named first)
-event_by_words (Ok []) = Err Form
-event_by_words (Err fault) = Err fault
+-- the event of the words of a line, of which there is one at least
+abbrev pub event_by_words : List (List ℕ) → Result Event LineFault
+event_by_words (first ∷ others) = event_by_kind others (event_named first)
+event_by_words [] = Err Form
 
 -- the event of a line, or the first cause for which the line is refused: Long, Form, Kind, Key, Value
 unfoldable pub event_of : List ℕ → Result Event LineFault
-event_of line = event_by_words (words_or_fault line)
+event_of line = line_read event_by_words line

@@ -8,8 +8,8 @@ use Rattle.p25_stations.specs.declared.step.Step.{Step}
 use Rattle.p25_delivery.specs.declared.step_kind.StepKind.{StepKind}
 use Rattle.p25_delivery.specs.declared.step_kind.StepKind.TheVariants.{Taken, Busy, OfferDown, Resent, Idle, TimeoutDown, Reopened, Up, Nothing, Lost, Ignored, Delivered, SynHeard, Again, Kept, RefusedCrc, RefusedOrder, Acknowledged, LinkOpened, Retry, Repeat, AnswerDown}
 use Rattle.p25_line.specs.CommaLists.{comma_text}
+use Rattle.p25_line.specs.Octets.{octets_text}
 use Rattle.p25_script.specs.Script.{way_word}
-use Rattle.p25_script.specs.Values.{message_text}
 
 -- the octets of flags, two digits each: the first flag is the most significant bit of the first octet
 unfoldable pub flags_text : List Bool → List ℕ
@@ -36,7 +36,7 @@ kind_text Up = codes "reopen up"
 kind_text (Nothing way) = way_word way ++ codes " none"
 kind_text (Lost way field) = way_word way ++ codes " lost " ++ field_name field
 kind_text (Ignored way) = way_word way ++ codes " ignored"
-kind_text (Delivered number message) = codes "data delivered ns=" ++ decimal number ++ codes " message=" ++ message_text message
+kind_text (Delivered number message) = codes "data delivered ns=" ++ decimal number ++ codes " message=" ++ octets_text message
 kind_text (SynHeard number) = codes "data opened ns=" ++ decimal number
 kind_text (Again number) = codes "data again ack=" ++ decimal number
 kind_text (Kept number flags) = codes "data kept ns=" ++ decimal number ++ codes " flags=" ++ flags_text flags

@@ -1,6 +1,6 @@
 //! The text that closes a run.
 
-ghost use Rattle.std.specs.Prelude.{◌≡◌, ◌+◌, ◌<◌, ◌≤◌, ◌++◌, length, decimal};
+ghost use Rattle.std.specs.Prelude.{◌≡◌, ◌+◌, ◌<◌, ◌≤◌, ◌++◌, length};
 ghost use Rattle.p25_script.specs.StepTexts.{closing_text_of, sessions_text};
 
 use p25_line::Line;
@@ -14,22 +14,11 @@ pub fn closing_text(world: &World, out: &mut Line)
     ensures short { length out.new ≤ 200 }
 {
     out.clear();
-    put_count(b"sent=", world.sent().len() as u64, out);
-    put_count(b" delivered=", world.delivered().len() as u64, out);
-    put_count(b" acknowledged=", world.acknowledged(), out);
-    put_count(b" false=", world.false_passes(), out);
+    out.put_labelled(b"sent=", world.sent().len() as u64);
+    out.put_labelled(b" delivered=", world.delivered().len() as u64);
+    out.put_labelled(b" acknowledged=", world.acknowledged());
+    out.put_labelled(b" false=", world.false_passes());
     put_sessions(world.sessions(), out);
-}
-
-/// Appends a label and a number in decimal.
-#[tactic(auto, using(p25_line::proofs::DecimalLaws::decimal_short))]
-pub fn put_count(label: &[u8], number: u64, out: &mut Line)
-    requires { length out.old + length label.now + 20 ≤ 8192 }
-    ensures text { out.new ≡ out.old ++ label.now ++ decimal number }
-    ensures short { length out.new ≤ length out.old + length label.now + 20 }
-{
-    out.put(label);
-    out.put_number(number);
 }
 
 /// Appends ` sessions=` and the number of sessions in decimal, where there was more than one.
@@ -39,6 +28,6 @@ pub fn put_sessions(sessions: u64, out: &mut Line)
     ensures short { length out.new ≤ length out.old + 30 }
 {
     if sessions > 1 {
-        put_count(b" sessions=", sessions, out);
+        out.put_labelled(b" sessions=", sessions);
     }
 }

@@ -8,7 +8,7 @@ ghost use Rattle.p25_stations.specs.declared.step.Event.TheVariants.{Send, ToRec
 ghost use Rattle.p25_script.specs.Script.{IsScripted, event_of, event_text};
 ghost use Rattle.p25_script.specs.Values.{ArePlaces};
 
-/// Answers nothing: its clauses say that lines and events tell each other. The line of each event that is not too long is
+/// **Theorem.** That lines and events tell each other. The line of each event that is not too long is
 /// read as that event; a line that is read is the line of its event, which a script can tell of, and no line is read as an
 /// event whose line is too long. Each message has a line that is not too long, and so have deliveries with at most 1,360
 /// places. And the laws of the world speak of all that a script can tell of.

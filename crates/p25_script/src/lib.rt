@@ -22,10 +22,10 @@ mod read;
 mod steps;
 mod values;
 
-pub use closing::{closing_text, put_count, put_sessions};
+pub use closing::{closing_text, put_sessions};
 pub use names::EventKind;
 pub use p25_line::{Line, LineFault};
 pub use p25_stations::{Event, Step, StepKind, Way, World};
-pub use read::read_event;
-pub use steps::{put_octets, step_text};
+pub use read::{read_event, read_event_words};
+pub use steps::step_text;
 pub use values::{message_value, places_value};

@@ -1,14 +1,13 @@
 //! Events read from lines.
 
-ghost use Rattle.std.specs.Prelude.{◌≡◌, ◌≤◌, Ok, IfOk, length, drop, All};
-ghost use Rattle.p25_line.specs.Words.{LiesIn, WordsAnswer, marked};
+ghost use Rattle.std.specs.Prelude.{◌≡◌, ◌≤◌, IfOk, length, drop};
 ghost use Rattle.p25_stations.specs.declared.step.Event.{Event as event_type};
-ghost use Rattle.p25_script.specs.Script.{IsScripted, delivery_or_fault, event_in, event_of, event_text, way_named, word_count};
+ghost use Rattle.p25_script.specs.Script.{IsScripted, delivery_or_fault, event_by_words, event_in, event_of, event_text, way_named, word_count};
 ghost use Rattle.p25_script.specs.Values.{places_in};
 
 use super::names::{EventKind, named_way};
 use super::values::{message_value, places_value};
-use p25_line::{LineFault, WordList, words_of};
+use p25_line::{LineFault, LineWords};
 use p25_stations::{Event, Way};
 
 /// Answers the event whose line this is. Each line that is accepted is the line of its event, and the line of each event,
@@ -22,49 +21,35 @@ pub fn read_event(line: &[u8]) -> Result<Event, LineFault>
     ensures fits { IfOk result (λ event. IsScripted event) }
     ensures each { (event : event_type) → IsScripted event → length line.now ≤ 8192 → event_text event ≡ line.now → result ≡ Ok event }
 {
-    read_whole(line)
+    read_event_words(&LineWords::read(line)?)
 }
 
-// The same, by the definition.
-fn read_whole(line: &[u8]) -> Result<Event, LineFault>
-    ensures { result ≡ event_of line.now }
+/// Answers the event of the words of a line, or why they are refused: Kind, Key or Value, as `read_event` says.
+pub fn read_event_words(words: &LineWords) -> Result<Event, LineFault>
+    ensures { result ≡ event_by_words words.now }
 {
-    let mut words = WordList::new();
-    match words_of(line, &mut words) {
-        Ok(()) => read_words(line, &words),
-        Err(fault) => Err(fault),
-    }
-}
-
-// The event of a line whose words were found.
-fn read_words(line: &[u8], words: &WordList) -> Result<Event, LineFault>
-    requires { WordsAnswer line.now words.now (Ok tt) }
-    ensures { result ≡ event_of line.now }
-{
-    let Some(kind) = EventKind::named(words.word(line, 0)) else {
+    let Some(kind) = EventKind::named(words.first()) else {
         return Err(LineFault::Kind);
     };
     if words.count() != kind.words() {
         return Err(LineFault::Key);
     }
-    read_kind(kind, line, words)
+    read_kind(kind, words)
 }
 
 // The event of a line of a kind, which has as many words as that kind.
-fn read_kind(kind: EventKind, line: &[u8], words: &WordList) -> Result<Event, LineFault>
-    requires count { length words.now.places ≡ word_count kind }
-    requires lies { All (LiesIn line.now) words.now.places }
-    requires short { length line.now ≤ 8192 }
-    ensures { result ≡ event_in kind (drop 1 (marked line.now words.now.places)) }
+fn read_kind(kind: EventKind, words: &LineWords) -> Result<Event, LineFault>
+    requires { length words.now ≡ word_count kind }
+    ensures { result ≡ event_in kind (drop 1 words.now) }
 {
     match kind {
-        EventKind::Send => match message_value(words.word(line, 1)) {
+        EventKind::Send => match message_value(words.get(1)) {
             Some(message) => Ok(Event::Send(message)),
             None => Err(LineFault::Value),
         },
         EventKind::Timeout => Ok(Event::Timeout),
         EventKind::Reopen => Ok(Event::Reopen),
-        EventKind::Deliver => read_delivery(words.word(line, 1), words.word(line, 2)),
+        EventKind::Deliver => read_delivery(words.get(1), words.get(2)),
     }
 }
 

@@ -3,16 +3,16 @@
 ghost use Rattle.std.specs.Prelude.{◌≡◌, ◌+◌, ◌*◌, ◌<◌, ◌≤◌, Bool, true, ◌++◌, [], ◌∷◌, length, cond, codes, decimal};
 ghost use Rattle.p25_delivery.specs.declared.step_kind.StepKind.TheVariants.{Taken, Retry};
 ghost use Rattle.p25_line.specs.CommaLists.{comma_text};
+ghost use Rattle.p25_line.specs.Octets.{octets_text};
 ghost use Rattle.p25_script.specs.StepTexts.{flags_text, kind_text, serials_of, step_text_of};
 ghost use Rattle.p25_script.specs.Script.{way_word};
-ghost use Rattle.p25_script.specs.Values.{message_text};
 
 use super::names::word_of_way;
 use p25_line::Line;
 use p25_messages::Message;
 use p25_packet_blocks::{Flags, flags_make};
 use p25_stations::{Step, StepKind, Way};
-use p25_text::put_field;
+use p25_text::put_field_name;
 
 /// Sets `out` to the text of a step, without the end of its line. The texts of deliveries begin with `data` or `answer`; that
 /// of a false pass ends with ` false`.
@@ -42,22 +42,34 @@ fn put_kind(kind: &StepKind, out: &mut Line)
         StepKind::Resent { number, tries } => put_sent(b"timeout sent ns=", *number, *tries, out),
         StepKind::Idle => out.put(b"timeout idle"),
         StepKind::TimeoutDown => out.put(b"timeout down"),
-        StepKind::Reopened { number } => put_labelled(b"reopen sent ns=", *number, out),
+        StepKind::Reopened { number } => out.put_labelled(b"reopen sent ns=", u64::from(*number)),
         StepKind::Up => out.put(b"reopen up"),
         StepKind::Nothing { way } => put_way(*way, b" none", out),
         StepKind::Lost { way, field } => {
             put_way(*way, b" lost ", out);
-            put_field(*field, out);
+            put_field_name(*field, out);
         }
         StepKind::Ignored { way } => put_way(*way, b" ignored", out),
         StepKind::Delivered { number, message } => put_delivered(*number, message, out),
-        StepKind::SynHeard { number } => put_labelled(b"data opened ns=", *number, out),
-        StepKind::Again { number } => put_labelled(b"data again ack=", *number, out),
+        StepKind::SynHeard { number } => out.put_labelled(b"data opened ns=", u64::from(*number)),
+        StepKind::Again { number } => out.put_labelled(b"data again ack=", u64::from(*number)),
         StepKind::Kept { number, flags } => put_kept(*number, flags, out),
-        StepKind::RefusedCrc { number } => put_labelled(b"data refused crc ns=", *number, out),
-        StepKind::RefusedOrder { last } => put_labelled(b"data refused order vr=", *last, out),
-        StepKind::Acknowledged { number } => put_labelled(b"answer acknowledged ns=", *number, out),
-        StepKind::LinkOpened { number } => put_labelled(b"answer opened ns=", *number, out),
+        StepKind::RefusedCrc { number } => out.put_labelled(
+            b"data refused crc ns=",
+            u64::from(*number),
+        ),
+        StepKind::RefusedOrder { last } => out.put_labelled(
+            b"data refused order vr=",
+            u64::from(*last),
+        ),
+        StepKind::Acknowledged { number } => out.put_labelled(
+            b"answer acknowledged ns=",
+            u64::from(*number),
+        ),
+        StepKind::LinkOpened { number } => out.put_labelled(
+            b"answer opened ns=",
+            u64::from(*number),
+        ),
         StepKind::Retry {
             number,
             wanted,
@@ -66,17 +78,6 @@ fn put_kind(kind: &StepKind, out: &mut Line)
         StepKind::Repeat { number, tries } => put_sent(b"answer repeat ns=", *number, *tries, out),
         StepKind::AnswerDown => out.put(b"answer down"),
     }
-}
-
-// Appends a label and a number in decimal.
-#[tactic(auto, using(p25_line::proofs::DecimalLaws::decimal_octet))]
-fn put_labelled(label: &[u8], number: u8, out: &mut Line)
-    requires { length out.old + length label.now + 3 ≤ 8192 }
-    ensures text { out.new ≡ out.old ++ label.now ++ decimal number }
-    ensures short { length out.new ≤ length out.old + length label.now + 3 }
-{
-    out.put(label);
-    out.put_number(u64::from(number));
 }
 
 // Appends the word of a way, and what follows it.
@@ -95,8 +96,8 @@ fn put_taken(number: u8, blocks: u8, out: &mut Line)
     ensures text { out.new ≡ out.old ++ codes "send taken ns=" ++ decimal number ++ codes " blocks=" ++ decimal blocks }
     ensures short { length out.new ≤ length out.old + 100 }
 {
-    put_labelled(b"send taken ns=", number, out);
-    put_labelled(b" blocks=", blocks, out);
+    out.put_labelled(b"send taken ns=", u64::from(number));
+    out.put_labelled(b" blocks=", u64::from(blocks));
 }
 
 // Appends a label, a number, and how often it was sent.
@@ -105,32 +106,19 @@ fn put_sent(label: &[u8], number: u8, tries: u8, out: &mut Line)
     ensures text { out.new ≡ out.old ++ label.now ++ decimal number ++ codes " try=" ++ decimal tries }
     ensures short { length out.new ≤ length out.old + length label.now + 100 }
 {
-    put_labelled(label, number, out);
-    put_labelled(b" try=", tries, out);
+    out.put_labelled(label, u64::from(number));
+    out.put_labelled(b" try=", u64::from(tries));
 }
 
 // Appends the text of a message that was delivered.
 fn put_delivered(number: u8, message: &Message, out: &mut Line)
-    requires { length out.old + 4100 ≤ 8192 }
-    ensures text { out.new ≡ out.old ++ codes "data delivered ns=" ++ decimal number ++ codes " message=" ++ message_text message.now }
-    ensures short { length out.new ≤ length out.old + 4100 }
+    requires { length out.old + 4150 ≤ 8192 }
+    ensures text { out.new ≡ out.old ++ codes "data delivered ns=" ++ decimal number ++ codes " message=" ++ octets_text message.now }
+    ensures short { length out.new ≤ length out.old + 4150 }
 {
-    put_labelled(b"data delivered ns=", number, out);
+    out.put_labelled(b"data delivered ns=", u64::from(number));
     out.put(b" message=");
-    put_octets(message.octets(), out);
-}
-
-/// Appends octets, two lower-case hexadecimal digits each, or `-` where there are none.
-pub fn put_octets(octets: &[u8], out: &mut Line)
-    requires { length out.old + 2 * length octets.now < 8192 }
-    ensures text { out.new ≡ out.old ++ message_text octets.now }
-    ensures short { length out.new ≤ length out.old + 2 * length octets.now + 1 }
-{
-    if octets.is_empty() {
-        out.put(b"-");
-    } else {
-        out.put_hex(octets);
-    }
+    out.put_octets(message.octets());
 }
 
 // Appends the text of blocks that are kept.
@@ -139,7 +127,7 @@ fn put_kept(number: u8, flags: &Flags, out: &mut Line)
     ensures text { out.new ≡ out.old ++ codes "data kept ns=" ++ decimal number ++ codes " flags=" ++ flags_text flags.now }
     ensures short { length out.new ≤ length out.old + 100 }
 {
-    put_labelled(b"data kept ns=", number, out);
+    out.put_labelled(b"data kept ns=", u64::from(number));
     out.put(b" flags=");
     put_flags(flags, out);
 }
@@ -160,10 +148,10 @@ fn put_retry(number: u8, wanted: &Flags, tries: u8, out: &mut Line)
     ensures text { out.new ≡ out.old ++ kind_text (Retry number wanted.now tries) }
     ensures short { length out.new ≤ length out.old + 700 }
 {
-    put_labelled(b"answer retry ns=", number, out);
+    out.put_labelled(b"answer retry ns=", u64::from(number));
     out.put(b" blocks=");
     put_serials(wanted, out);
-    put_labelled(b" try=", tries, out);
+    out.put_labelled(b" try=", u64::from(tries));
 }
 
 // Appends the serial numbers of the flags that are true, with commas between them.
@@ -181,7 +169,7 @@ fn put_serials(wanted: &Flags, out: &mut Line)
     }
 }
 
-// Appends a serial number, with a comma before it where it stands behind another.
+// Appends a serial number, with a comma before it where it stands after another.
 #[tactic(auto, using(p25_line::proofs::DecimalLaws::decimal_octet))]
 fn put_serial(behind: bool, serial: usize, out: &mut Line)
     requires below { serial < 128 }

@@ -1,14 +1,12 @@
 //! The values of script lines.
 
-ghost use Rattle.std.specs.Prelude.{◌≡◌, ◌/◌, ◌<◌, ◌≤◌, false, length, IfSome};
-ghost use Rattle.std.specs.Str.{bytes_eq};
-ghost use Rattle.p25_line.specs.CommaLists.{dash};
+ghost use Rattle.std.specs.Prelude.{◌≡◌, ◌<◌, ◌≤◌, length, IfSome};
 ghost use Rattle.p25_script.specs.Values.{message_in, place_in, places_in};
 
-use p25_line::{comma_part, hex_value, is_dash, number_value};
+use p25_line::{comma_part, is_dash, number_value, octets_or_dash};
 use p25_messages::{Flips, Message};
 
-/// The number of octets of the longest message.
+// The number of octets of the longest message.
 const MESSAGE_MOST: usize = 2_028;
 
 /// Answers the message that a word is. `None` comes exactly where the word is neither `-` nor 2 to 4,056 lower-case
@@ -16,29 +14,9 @@ const MESSAGE_MOST: usize = 2_028;
 pub fn message_value(word: &[u8]) -> Option<Message>
     ensures { result ≡ message_in word.now }
 {
-    if is_dash(word) {
-        return Message::new(&[]);
-    }
-    let count = word.len() / 2;
-    if count == 0 || count > MESSAGE_MOST {
-        return None;
-    }
     let mut room = [0; MESSAGE_MOST];
-    message_of_digits(word, &mut room[..count])
-}
-
-// The message that a word of digits is, which has half as many octets.
-fn message_of_digits(word: &[u8], room: &mut [u8]) -> Option<Message>
-    requires digits { bytes_eq word.now dash ≡ false }
-    requires half { length room.old ≡ length word.now / 2 }
-    requires some { 0 < length room.old }
-    requires few { length room.old ≤ 2028 }
-    ensures { result ≡ message_in word.now }
-{
-    if !hex_value(word, room) {
-        return None;
-    }
-    Message::new(room)
+    let count = octets_or_dash(word, &mut room)?;
+    Message::new(&room[..count])
 }
 
 // The place that a text is: a number below 25,920.

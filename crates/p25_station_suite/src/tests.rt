@@ -46,7 +46,7 @@ fn ends(alloc: Global, call: &Call, outcome: Outcome, text: &[u8]) -> bool {
     run(alloc, &words, &mut source, &mut sink) == outcome && sink.written() == text
 }
 
-// Puts parts one behind the other, and answers whether there is room for them.
+// Puts parts one after the other, and answers whether there is room for them.
 fn are_joined(parts: &[&[u8]], sink: &mut SliceSink) -> bool {
     for part in parts {
         if sink.write(part).is_err() {

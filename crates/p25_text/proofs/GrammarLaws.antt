@@ -1,13 +1,11 @@
 -- The line of a unit is read as that unit, and a line that is read is the line of its unit. By cases on what each step of the reading found.
-use Rattle.std.proofs.Common.{◌≡◌, ℕ, suc, ◌≤◌, ◌&&◌, true, List, [], ◌∷◌, length, Option, Some, None, Result, Ok, Err, inl, inr, refl, sym, ap, ap₂, subst, ◌∙◌, arith}
-use Rattle.std.specs.List.{join_with_byte, list_all}
+use Rattle.std.proofs.Common.{◌≡◌, ℕ, suc, ◌≤◌, ◌&&◌, true, List, [], ◌∷◌, length, Option, Some, None, Result, Ok, inl, inr, refl, ap, ap₂, subst, ◌∙◌, arith}
+use Rattle.std.specs.List.{list_all}
 use Rattle.std.specs.Option.{option_map}
 use Rattle.std.specs.Prelude.{IfOk}
-use Rattle.std.specs.Str.{bytes_eq}
-use Rattle.std.proofs.lemmas.Slice.Eq.{bytes_eq-Decides}
-use Rattle.p25_line.specs.Words.{is_printed, is_word, words_or_fault}
+use Rattle.p25_line.specs.Words.{is_printed, is_word}
 use Rattle.p25_line.specs.declared.fault.LineFault.{LineFault}
-use Rattle.p25_line.proofs.JoinLaws.{words_or_fault-join, Accepted-words}
+use Rattle.p25_line.proofs.LineReadLaws.{WordLaws, line_read-facts, line_read-words, words-line_read}
 use Rattle.p25_voice_units.specs.declared.unit.VoiceUnit.{VoiceUnit}
 use Rattle.p25_voice_units.specs.declared.unit.VoiceUnit.TheVariants.{Header, Link1, Link2, End, EndLink}
 use Rattle.p25_packet_blocks.specs.declared.packet.Packet.{Packet as BlockPacket}
@@ -20,7 +18,8 @@ use Rattle.p25_units.specs.Units.{IsSendableBody, IsSendableUnit}
 use Rattle.p25_text.specs.Grammar.{body_in, body_values, keyed, kind_of, or_value, read_kind, read_line_of, read_values, read_words, text_of, unit_from, unit_in, unit_words, values_behind, values_of}
 use Rattle.p25_text.specs.Names.{kind_named, kind_word, kinds, keys_of}
 use Rattle.p25_text.specs.Packets.{confirmed_in, packet_kind, packet_values, plain_in}
-use Rattle.p25_text.specs.Values.{nac_in, three_digits}
+use Rattle.p25_text.specs.Values.{nac_in}
+use Rattle.p25_line.specs.Values.{three_digits}
 use Rattle.p25_text.specs.Voices.{voice_in, voice_kind, voice_values}
 use Rattle.p25_text.specs.declared.names.UnitKind.{UnitKind}
 use Rattle.p25_text.specs.declared.names.UnitKind.TheVariants.{Hdu, Ldu1, Ldu2, Tdu, Tdulc, Confirmed, Plain, Response}
@@ -28,7 +27,8 @@ use Rattle.p25_text.proofs.OptionLaws.{option_map-found}
 use Rattle.p25_text.proofs.PacketLaws.{IsPacketRead, confirmed_in-values, packet-count, packet-printed, packet-short, plain_in-values, plain_kind, values-confirmed_in, values-plain_in}
 use Rattle.p25_text.proofs.ValueLaws.{length-three_digits, nac_in-text, nac_in-three_digits, printed-three_digits}
 use Rattle.p25_text.proofs.VoiceLaws.{values-voice_in, voice-count, voice-printed, voice-short, voice_in-values}
-use Rattle.p25_text.proofs.WordLaws.{digits-printed, find-passes, keyed-values_behind, keyed-words, length-join, size_of, size_of-keyed, values_behind-keyed}
+use Rattle.p25_line.proofs.WordsLaws.{digits-printed, named-word}
+use Rattle.p25_text.proofs.WordLaws.{keyed-values_behind, keyed-words, length-join, size_of, size_of-keyed, values_behind-keyed}
 
 -- ---- what is shown for each kind, in the order of their table
 
@@ -44,7 +44,7 @@ kind_named-word Plain = refl
 kind_named-word Response = refl
 
 pub word-kind_named : (word : List ℕ) (kind : UnitKind) → kind_named word ≡ Some kind → kind_word kind ≡ word
-word-kind_named word kind found = sym ((bytes_eq-Decides word (kind_word kind)).0 (find-passes (λ k. bytes_eq word (kind_word k)) kinds kind found))
+word-kind_named word kind found = named-word kind_word kinds word kind found
 
 -- the word of a kind is a word of at most nine octets
 kind-word : (kind : UnitKind) → is_word (kind_word kind) ≡ true
@@ -181,15 +181,12 @@ length-text_of unit fits =
     let kind = kind_of unit.body in
     omega (arith, length-join 32 (unit_words unit), size_of-keyed (keys_of kind) (values_of unit), kind-short kind, keys-few kind, length-three_digits unit.nac, body-short unit.body fits.body)
 
--- the line of a unit is read as the unit
-pub read_line-text_of : (unit : UnitParts) → IsSendableUnit unit → read_line_of (text_of unit) ≡ Ok unit
-unfolding read_line_of text_of
-read_line-text_of unit fits =
+-- the words of a unit are read as the unit
+read_words-unit_words : (unit : UnitParts) → IsSendableUnit unit → read_words (unit_words unit) ≡ Ok unit
+read_words-unit_words unit fits =
     let kind = kind_of unit.body in
-    let short : length (text_of unit) ≤ 8192 = omega (arith, length-text_of unit fits) in
     let count : length (keys_of kind) ≡ length (values_of unit) = body-count unit.body fits.body in
-    ap read_words (words_or_fault-join (unit_words unit) (omega arith) (unit_words-words unit fits) short)
-    ∙ ap (read_kind (keyed (keys_of kind) (values_of unit))) (kind_named-word kind)
+    ap (read_kind (keyed (keys_of kind) (values_of unit))) (kind_named-word kind)
     ∙ ap (read_values kind) (values_behind-keyed (keys_of kind) (values_of unit) count)
     ∙ ap or_value (ap₂ unit_from (nac_in-three_digits unit.nac (omega (arith, fits.nac_fits))) (body_in-values unit.body fits.body))
 
@@ -229,23 +226,27 @@ from-kind first words (Some kind) unit same found =
     let read = from-keys kind words (values_behind (keys_of kind) words) unit refl found in
     (ap₂ ◌∷◌ (ap kind_word read.0 ∙ word-kind_named first kind same) (ap (λ k. keyed (keys_of k) (values_of unit)) read.0 ∙ read.1), read.2)
 
-from-words : (line : List ℕ) (words : Result (List (List ℕ)) LineFault) (unit : UnitParts) → words_or_fault line ≡ words → read_words words ≡ Ok unit
-    → (text_of unit ≡ line) × IsSendableUnit unit
-unfolding text_of
-from-words line (Err fault) unit same found = cc found
-from-words line (Ok []) unit same found = cc found
-from-words line (Ok (first ∷ words)) unit same found =
-    let read = from-kind first words (kind_named first) unit refl found in
-    let accepted = Accepted-words line (first ∷ words) same in
-    (ap (join_with_byte 32) read.0 ∙ accepted.join, read.1)
+from-words : (words : List (List ℕ)) (unit : UnitParts) → read_words words ≡ Ok unit → (unit_words unit ≡ words) × IsSendableUnit unit
+from-words [] unit found = cc found
+from-words (first ∷ words) unit found = from-kind first words (kind_named first) unit refl found
+
+-- ---- so lines and units tell each other
+
+unit_laws : WordLaws unit_words read_words IsSendableUnit
+unit_laws = record { some = λ unit. omega arith; are_words = unit_words-words; back = read_words-unit_words; again = from-words }
+
+-- the line of a unit is read as the unit
+pub read_line-text_of : (unit : UnitParts) → IsSendableUnit unit → read_line_of (text_of unit) ≡ Ok unit
+unfolding read_line_of text_of
+read_line-text_of unit fits = line_read-words unit_laws unit fits (omega (arith, length-text_of unit fits))
 
 -- a line that is read is the line of its unit
 pub text_of-read_line : (line : List ℕ) (unit : UnitParts) → read_line_of line ≡ Ok unit → (text_of unit ≡ line) × IsSendableUnit unit
-unfolding read_line_of
-text_of-read_line line unit found = from-words line (words_or_fault line) unit refl found
+unfolding read_line_of text_of
+text_of-read_line line unit found = let is = words-line_read unit_laws line unit found in (is.text, is.fits)
 
 -- the two laws, as the reader tells them
 pub read-facts : (line : List ℕ) (result : Result UnitParts LineFault) → result ≡ read_line_of line
     → (IfOk result (λ unit. text_of unit ≡ line)) × (IfOk result (λ unit. IsSendableUnit unit))
-read-facts line (Err fault) same = (tt, tt)
-read-facts line (Ok unit) same = text_of-read_line line unit (sym same)
+unfolding read_line_of text_of
+read-facts line result same = line_read-facts unit_laws line result same

@@ -16,7 +16,7 @@ unfolding status_digits
 status_digits-more statuses i status read =
     ap (map (λ s. 48 + status_number s)) (take-read statuses i status read) ∙ map_push (λ s. 48 + status_number s) (take i statuses) status
 
--- the digit of the next status symbol behind a text
+-- the digit of the next status symbol after a text
 pub next-status : (statuses : List Status) (i : ℕ) (status : Status) (start out new : List ℕ) (number : ℕ) → slice_get statuses i ≡ Some status
     → out ≡ start ++ status_digits (take i statuses) → number ≡ status_number status → new ≡ out ++ (48 + number) ∷ [] → new ≡ start ++ status_digits (take (i + 1) statuses)
 next-status statuses i status start out new number read before same after =

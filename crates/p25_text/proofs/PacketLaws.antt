@@ -22,14 +22,16 @@ use Rattle.p25_packet_blocks.proofs.HeadLaws.{head_blocks-lt}
 use Rattle.p25_line.specs.CommaLists.{counted, dash, list_in, list_text}
 use Rattle.p25_text.specs.Names.{other_keys}
 use Rattle.p25_text.specs.Packets.{confirmed_from, confirmed_in, confirmed_of, head_in, packet_kind, packet_values, plain_from, plain_in, plain_of, slot_in, slot_text}
-use Rattle.p25_text.specs.Values.{octets_in, octets_or_none, octets_text}
+use Rattle.p25_text.specs.Values.{octets_in, octets_or_none}
+use Rattle.p25_line.specs.Octets.{octets_text}
 use Rattle.p25_text.specs.declared.names.UnitKind.{UnitKind}
 use Rattle.p25_text.specs.declared.names.UnitKind.TheVariants.{Confirmed as ConfirmedKind, Plain as PlainKind, Response as ResponseKind}
 use Rattle.p25_line.proofs.CommaListLaws.{AllFit, list_in-text, text-list_in}
 use Rattle.p25_text.proofs.OptionLaws.{cond-found, counted-found, option_and_then-found, option_map-found}
 use Rattle.p25_text.proofs.PacketValueLaws.{IsGoodSlot, AllFit-slots, slots-AllFit, slots-printed, slots-size, slot_laws}
 use Rattle.p25_text.proofs.ValueLaws.{octets_in-encode_lower, octets_in-text, octets_or_none-text, text-octets_or_none}
-use Rattle.p25_text.proofs.WordLaws.{digits-printed, size_of}
+use Rattle.p25_line.proofs.WordsLaws.{digits-printed}
+use Rattle.p25_text.proofs.WordLaws.{size_of}
 
 -- ---- headers
 

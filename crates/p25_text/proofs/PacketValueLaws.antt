@@ -21,7 +21,8 @@ use Rattle.p25_text.specs.Packets.{block_from, block_in, block_text, slot_in, sl
 use Rattle.p25_text.specs.Values.{octets_in}
 use Rattle.p25_line.proofs.CommaListLaws.{AllFit, EntryLaws}
 use Rattle.p25_text.proofs.ValueLaws.{octets_in-encode_lower, octets_in-text, one_octet}
-use Rattle.p25_text.proofs.WordLaws.{all-also, length-join, size_of}
+use Rattle.p25_line.proofs.WordsLaws.{all-also}
+use Rattle.p25_text.proofs.WordLaws.{length-join, size_of}
 
 -- ---- the texts of slots
 

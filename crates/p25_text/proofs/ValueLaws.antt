@@ -8,10 +8,11 @@ use Rattle.std.proofs.lemmas.List.Elements.{All-nil, All-cons, All-head, All-tai
 use Rattle.std.proofs.lemmas.Slice.Eq.{bytes_eq-Decides}
 use Rattle.hex.specs.Hex.{encode_with, encode_lower, lower_digits}
 use Rattle.hex.proofs.HexLemmas.{length-encode_with}
-use Rattle.p25_line.specs.Values.{AllOctets, is_lower_digit, nibble_of, octets_of}
+use Rattle.p25_line.specs.Values.{AllOctets, is_lower_digit, nibble_of, octets_of, three_digits}
 use Rattle.p25_line.proofs.HexLaws.{digit_facts, list_all-encode_lower, octets_of-encode_lower, octets_of-facts}
 use Rattle.p25_line.specs.CommaLists.{dash}
-use Rattle.p25_text.specs.Values.{three_digits, octets_in, octets_or_none, octets_text, number_in, nac_in}
+use Rattle.p25_text.specs.Values.{octets_in, octets_or_none, number_in, nac_in}
+use Rattle.p25_line.specs.Octets.{octets_text}
 
 -- one number below 256, and two
 pub one_octet : (octet : ℕ) → octet < 256 → AllOctets (octet ∷ [])

@@ -23,7 +23,8 @@ use Rattle.p25_text.specs.declared.names.UnitKind.{UnitKind}
 use Rattle.p25_text.specs.declared.names.UnitKind.TheVariants.{Hdu, Ldu1, Ldu2, Tdu, Tdulc, Confirmed, Plain, Response}
 use Rattle.p25_text.proofs.OptionLaws.{option_and_then-found}
 use Rattle.p25_text.proofs.ValueLaws.{octets_in-encode_lower, octets_in-text, one_octet, two_octets}
-use Rattle.p25_text.proofs.WordLaws.{digits-printed, size_of}
+use Rattle.p25_line.proofs.WordsLaws.{digits-printed}
+use Rattle.p25_text.proofs.WordLaws.{size_of}
 
 -- ---- octets of any keys
 
@@ -215,8 +216,8 @@ header_of : List ℕ → List ℕ → List ℕ → List ℕ → List ℕ → Voi
 header_of mi mfid algid kid tgid =
     Header (record { mi = mi; mfid = octet_number mfid; algid = octet_number algid; kid = pair_number kid; tgid = pair_number tgid })
 
-link2_of : List ℕ → List ℕ → List ℕ → List ℕ → List ℕ → VoiceUnit
-link2_of mi algid kid low voice = Link2 (record { mi = mi; algid = octet_number algid; kid = pair_number kid }) low (frames_of 9 voice)
+ldu2_of : List ℕ → List ℕ → List ℕ → List ℕ → List ℕ → VoiceUnit
+ldu2_of mi algid kid low voice = Link2 (record { mi = mi; algid = octet_number algid; kid = pair_number kid }) low (frames_of 9 voice)
 
 speech_of : (low voice : List ℕ) → HasOctets 2 low → HasOctets 162 voice → (frame_octets (frames_of 9 voice) ≡ voice) × IsSpeech low (frames_of 9 voice)
 speech_of low voice two all =
@@ -224,7 +225,7 @@ speech_of low voice two all =
     (facts.0, record { two = two.long; small = two.small; nine = facts.1; frames = facts.2 })
 
 octets-voice_from : (kind : UnitKind) (octets : List (List ℕ)) (unit : VoiceUnit) → AllWide (other_keys kind) octets → voice_from kind octets ≡ Some unit → IsMadeOf kind octets unit
-unfolding header_of link2_of IsSendableVoice
+unfolding header_of ldu2_of IsSendableVoice
 octets-voice_from Hdu (mi ∷ mfid ∷ algid ∷ kid ∷ tgid ∷ []) unit wide found =
     let one = octet_back mfid wide.1.0 in
     let two = octet_back algid wide.1.1.0 in
@@ -246,7 +247,7 @@ octets-voice_from Ldu2 (mi ∷ algid ∷ kid ∷ low ∷ voice ∷ []) unit wide
     let one = octet_back algid wide.1.0 in
     let two = pair_back kid wide.1.1.0 in
     let facts = speech_of low voice wide.1.1.1.0 wide.1.1.1.1.0 in
-    made Ldu2 (mi ∷ algid ∷ kid ∷ low ∷ voice ∷ []) (link2_of mi algid kid low voice) unit found (record {
+    made Ldu2 (mi ∷ algid ∷ kid ∷ low ∷ voice ∷ []) (ldu2_of mi algid kid low voice) unit found (record {
       same_kind = refl;
       same_octets = λ i. mi ∷ one.0 i ∷ two.0 i ∷ low ∷ facts.0 i ∷ [];
       fits = record { word = record { mi = octets_nine mi wide.0; algid = one.1; kid = two.1 }; speech = facts.1 };

@@ -1,13 +1,12 @@
 -- Keys with their values: put together and taken apart, and that they are words of a line that is not too long.
-use Rattle.std.proofs.Common.{◌≡◌, ℕ, suc, ◌+◌, ◌*◌, ◌<◌, ◌≤◌, ◌&&◌, Bool, true, List, [], ◌∷◌, ◌++◌, length, drop, Option, Some, None, inl, inr, refl, sym, ap, ap₂, ◌∙◌, arith, length-append}
+use Rattle.std.proofs.Common.{◌≡◌, ℕ, suc, ◌+◌, ◌*◌, ◌<◌, ◌≤◌, ◌&&◌, true, List, [], ◌∷◌, ◌++◌, length, drop, Option, Some, None, inl, inr, refl, sym, ap, ap₂, ◌∙◌, arith, length-append}
 use Rattle.std.specs.Prelude.{nat_lt, nat_eq}
-use Rattle.std.specs.List.{join_with_byte, list_all, starts_with, find}
+use Rattle.std.specs.List.{join_with_byte, list_all, starts_with}
 use Rattle.std.proofs.lemmas.Bool.{and_parts, cases_Bool, cond-true, cond-false, lt-ltb}
 use Rattle.std.proofs.lemmas.Bool.Decides.{Decides-eqb}
 use Rattle.std.proofs.lemmas.List.{drop_at}
 use Rattle.std.proofs.lemmas.List.Folds.{list_all-append}
 use Rattle.std.proofs.lemmas.Slice.Eq.{starts_is}
-use Rattle.p25_line.specs.Values.{is_lower_digit}
 use Rattle.p25_line.specs.Words.{is_printed, is_word}
 use Rattle.p25_text.specs.Grammar.{behind, keyed, values_behind}
 use Rattle.p25_text.specs.Names.{key_text}
@@ -15,7 +14,7 @@ use Rattle.p25_text.specs.Values.{with_value}
 use Rattle.p25_text.specs.declared.names.UnitKey.{UnitKey}
 use Rattle.p25_text.specs.declared.names.UnitKey.TheVariants.{Nac, Mi, Mfid, Algid, Kid, Tgid, Lc, Lsd, Frames, Head, Blocks, Octets}
 
--- what stands behind a key
+-- what stands after a key
 pub behind-append : (key value : List ℕ) → behind key (key ++ value) ≡ Some value
 behind-append key value =
     let starts = (starts_is {E = nat_eq} Decides-eqb (key ++ value) key (starts_with nat_eq (key ++ value) key) refl).1 value refl in
@@ -73,33 +72,7 @@ values_behind-other (key ∷ keys) [] other = refl
 values_behind-other (key ∷ keys) (word ∷ words) other =
     ap (with_value (behind (key_text key) word)) (values_behind-other keys words (λ same. other (ap suc same))) ∙ with_value-none (behind (key_text key) word)
 
--- what a search finds passes its test
-pub find-passes : {X : Type 0} (test : X → Bool) (xs : List X) (x : X) → find test xs ≡ Some x → test x ≡ true
-find-passes test [] x found = cc found
-find-passes test (y ∷ xs) x found =
-    elim (cases_Bool (test y)) [
-      | inl passed ↦
-          let first = cond-true (test y) (Some y) (find test xs) passed in
-          let same : y ≡ x = cc in
-          ap test (sym same) ∙ passed
-      | inr failed ↦ find-passes test xs x (sym (cond-false (test y) (Some y) (find test xs) failed) ∙ found)
-    ]
-
--- digits are printed
-digit-printed : (digit : ℕ) → is_lower_digit digit ≡ true → is_printed digit ≡ true
-digit-printed digit lower = grind arith
-
--- what passes one test, element by element, passes another that follows from it
-pub all-also : {X : Type 0} (first second : X → Bool) → ((x : X) → first x ≡ true → second x ≡ true) → (xs : List X) → list_all first xs ≡ true → list_all second xs ≡ true
-all-also first second also [] all = refl
-all-also first second also (x ∷ xs) all =
-    let parts = and_parts (first x) (list_all first xs) all in
-    ap₂ ◌&&◌ (also x parts.0) (all-also first second also xs parts.1)
-
-pub digits-printed : (digits : List ℕ) → list_all is_lower_digit digits ≡ true → list_all is_printed digits ≡ true
-digits-printed digits lower = all-also is_lower_digit is_printed digit-printed digits lower
-
--- a word stays a word with more printed octets behind it
+-- a word stays a word with more printed octets after it
 word-more : (word value : List ℕ) → is_word word ≡ true → list_all is_printed value ≡ true → is_word (word ++ value) ≡ true
 word-more [] value some printed = cc some
 word-more (octet ∷ word) value some printed =

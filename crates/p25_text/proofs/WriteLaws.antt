@@ -1,4 +1,4 @@
--- The lines of units, as they are put together: the words of a line are its kind and, behind a space each, its keys with their values.
+-- The lines of units, as they are put together: the words of a line are its kind and, after a space each, its keys with their values.
 use Rattle.std.proofs.Common.{◌≡◌, ℕ, ◌+◌, ◌/◌, ◌%◌, ◌==◌, Bool, true, false, cond, List, [], ◌∷◌, ◌++◌, take, map, slice_get, slice_index, Some, refl, sym, ap, ap₂, ◌∙◌, append-nil, append_assoc}
 use Rattle.std.specs.List.{join_with_byte}
 use Rattle.hex.specs.Hex.{encode_lower, encode_with, lower_digits}
@@ -16,7 +16,9 @@ use Rattle.p25_line.specs.CommaLists.{list_text}
 use Rattle.p25_text.specs.Grammar.{keyed, kind_of, text_of, values_of}
 use Rattle.p25_text.specs.Names.{key_text, keys_of, kind_word, other_keys}
 use Rattle.p25_text.specs.Packets.{packet_kind, slot_text}
-use Rattle.p25_text.specs.Values.{field_text, octets_text, three_digits}
+use Rattle.p25_text.specs.Values.{key_value_text}
+use Rattle.p25_line.specs.Octets.{octets_text}
+use Rattle.p25_line.specs.Values.{three_digits}
 use Rattle.p25_text.specs.Voices.{frame_octets, voice_kind, voice_octets, voice_values}
 use Rattle.p25_text.specs.declared.names.UnitKey.{UnitKey}
 use Rattle.p25_text.specs.declared.names.UnitKey.TheVariants.{Nac, Head, Blocks, Octets}
@@ -64,27 +66,27 @@ two_more : (start first second a b : List ℕ) → start ++ ((first ++ a) ++ ((s
 two_more start first second a b = simp (append_assoc, append-nil)
 
 pub text-confirmed : (nac : ℕ) (packet : ConfirmedParts) (head : PacketHead) (slots : List Slot) → head ≡ packet.head → slots ≡ packet.slots
-    → text_of (record { nac = nac; body = Packet (Confirmed packet) }) ≡ ((start_text ConfirmedKind nac ++ field_text Head head.0) ++ 32 ∷ key_text Blocks) ++ list_text slot_text slots
+    → text_of (record { nac = nac; body = Packet (Confirmed packet) }) ≡ ((start_text ConfirmedKind nac ++ key_value_text Head head.0) ++ 32 ∷ key_text Blocks) ++ list_text slot_text slots
 text-confirmed nac packet head slots same_head same_slots =
     text-start (record { nac = nac; body = Packet (Confirmed packet) }) ConfirmedKind (Head ∷ Blocks ∷ []) (encode_lower packet.head.0 ∷ list_text slot_text packet.slots ∷ []) refl refl refl
     ∙ two_more (start_text ConfirmedKind nac) (32 ∷ key_text Head) (32 ∷ key_text Blocks) (encode_lower packet.head.0) (list_text slot_text packet.slots)
-    ∙ ap₂ (λ (h : PacketHead) s. ((start_text ConfirmedKind nac ++ field_text Head h.0) ++ 32 ∷ key_text Blocks) ++ list_text slot_text s) (sym same_head) (sym same_slots)
+    ∙ ap₂ (λ (h : PacketHead) s. ((start_text ConfirmedKind nac ++ key_value_text Head h.0) ++ 32 ∷ key_text Blocks) ++ list_text slot_text s) (sym same_head) (sym same_slots)
 
 plain_keys : (response : Bool) → keys_of (cond response ResponseKind PlainKind) ≡ Nac ∷ Head ∷ Octets ∷ []
 plain_keys true = refl
 plain_keys false = refl
 
 pub text-plain : (nac : ℕ) (packet : PlainParts) (kind : UnitKind) (head : PacketHead) (octets : List ℕ) → kind ≡ packet_kind (Plain packet) → head ≡ packet.head → octets ≡ packet.octets
-    → text_of (record { nac = nac; body = Packet (Plain packet) }) ≡ ((start_text kind nac ++ field_text Head head.0) ++ 32 ∷ key_text Octets) ++ octets_text octets
+    → text_of (record { nac = nac; body = Packet (Plain packet) }) ≡ ((start_text kind nac ++ key_value_text Head head.0) ++ 32 ∷ key_text Octets) ++ octets_text octets
 text-plain nac packet kind head octets same_kind same_head same_octets =
     let is = packet_kind (Plain packet) in
     text-start (record { nac = nac; body = Packet (Plain packet) }) is (Head ∷ Octets ∷ []) (encode_lower packet.head.0 ∷ octets_text packet.octets ∷ [])
     refl (plain_keys (head_format packet.head == 0x03)) refl
     ∙ two_more (start_text is nac) (32 ∷ key_text Head) (32 ∷ key_text Octets) (encode_lower packet.head.0) (octets_text packet.octets)
-    ∙ ap₂ (λ (h : PacketHead) o. ((start_text is nac ++ field_text Head h.0) ++ 32 ∷ key_text Octets) ++ octets_text o) (sym same_head) (sym same_octets)
-    ∙ ap (λ k. ((start_text k nac ++ field_text Head head.0) ++ 32 ∷ key_text Octets) ++ octets_text octets) (sym same_kind)
+    ∙ ap₂ (λ (h : PacketHead) o. ((start_text is nac ++ key_value_text Head h.0) ++ 32 ∷ key_text Octets) ++ octets_text o) (sym same_head) (sym same_octets)
+    ∙ ap (λ k. ((start_text k nac ++ key_value_text Head head.0) ++ 32 ∷ key_text Octets) ++ octets_text octets) (sym same_kind)
 
--- a line behind a text, by the four parts that are put
+-- a line after a text, by the four parts that are put
 pub four_parts : (out start head key value one two three four whole : List ℕ) → one ≡ out ++ start → two ≡ one ++ head → three ≡ two ++ key → four ≡ three ++ value
     → whole ≡ ((start ++ head) ++ key) ++ value → four ≡ out ++ whole
 four_parts out start head key value one two three four whole first second third fourth same =
@@ -100,22 +102,22 @@ pub text-voice : (nac : ℕ) (unit : VoiceUnit)
     → text_of (record { nac = nac; body = Voice unit }) ≡ start_text (voice_kind unit) nac ++ tail_text (other_keys (voice_kind unit)) (voice_values unit)
 text-voice nac unit = text-start (record { nac = nac; body = Voice unit }) (voice_kind unit) (other_keys (voice_kind unit)) (voice_values unit) refl refl refl
 
--- texts behind each other
+-- texts after each other
 abbrev joined : List ℕ → List (List ℕ) → List ℕ
 joined out [] = out
 joined out (part ∷ parts) = joined (out ++ part) parts
 
--- the fields of a unit, each behind those before
+-- the fields of a unit, each after those before
 abbrev fields_text : List UnitKey → List (List ℕ) → List (List ℕ)
 fields_text [] fields = []
 fields_text (key ∷ keys) [] = []
-fields_text (key ∷ keys) (octets ∷ fields) = field_text key octets ∷ fields_text keys fields
+fields_text (key ∷ keys) (octets ∷ fields) = key_value_text key octets ∷ fields_text keys fields
 
 joined-tail : (keys : List UnitKey) (fields : List (List ℕ)) (out : List ℕ) → joined out (fields_text keys fields) ≡ out ++ tail_text keys (map encode_lower fields)
 joined-tail [] fields out = sym (append-nil out)
 joined-tail (key ∷ keys) [] out = sym (append-nil out)
 joined-tail (key ∷ keys) (octets ∷ fields) out =
-    joined-tail keys fields (out ++ field_text key octets) ∙ append_assoc out (field_text key octets) (tail_text keys (map encode_lower fields))
+    joined-tail keys fields (out ++ key_value_text key octets) ∙ append_assoc out (key_value_text key octets) (tail_text keys (map encode_lower fields))
 
 -- a line is put by its beginning and then each field
 pub voice-put : (nac : ℕ) (unit : VoiceUnit) (out : List ℕ)
@@ -125,7 +127,7 @@ voice-put nac unit out =
     ∙ append_assoc out (start_text (voice_kind unit) nac) (tail_text (other_keys (voice_kind unit)) (voice_values unit))
     ∙ ap (λ l. out ++ l) (sym (text-voice nac unit))
 
--- frames one behind the other
+-- frames one after the other
 pub frames-none : (frames : List VoiceFrame) → encode_lower (frame_octets (take 0 frames)) ≡ []
 unfolding frame_octets encode_with
 frames-none frames = refl

@@ -2,7 +2,8 @@
 use Rattle.std.specs.Option.{option_map}
 use Rattle.std.specs.Prelude.{ℕ, nat_eq, cond, List, [], ◌∷◌, ◌++◌, length, drop, Option, Some, None, Result, Ok, Err}
 use Rattle.std.specs.List.{join_with_byte, starts_with}
-use Rattle.p25_line.specs.Words.{words_or_fault}
+use Rattle.p25_line.specs.Values.{three_digits}
+use Rattle.p25_line.specs.LineReadings.{line_read}
 use Rattle.p25_line.specs.declared.fault.LineFault.{LineFault}
 use Rattle.p25_line.specs.declared.fault.LineFault.TheVariants.{Form, Key, Value, Kind as WrongKind}
 use Rattle.p25_units.specs.UnitParts.{UnitParts}
@@ -10,7 +11,7 @@ use Rattle.p25_units.specs.declared.unit.Body.{Body}
 use Rattle.p25_units.specs.declared.unit.Body.TheVariants.{Voice, Packet}
 use Rattle.p25_text.specs.Names.{kind_word, kind_named, keys_of, key_text}
 use Rattle.p25_text.specs.Packets.{confirmed_in, packet_kind, packet_values, plain_in}
-use Rattle.p25_text.specs.Values.{nac_in, three_digits, with_value}
+use Rattle.p25_text.specs.Values.{nac_in, with_value}
 use Rattle.p25_text.specs.Voices.{voice_in, voice_kind, voice_values}
 use Rattle.p25_text.specs.declared.names.UnitKey.{UnitKey}
 use Rattle.p25_text.specs.declared.names.UnitKind.{UnitKind}
@@ -23,12 +24,12 @@ abbrev pub kind_of : Body → UnitKind
 kind_of (Voice voice) = voice_kind voice
 kind_of (Packet packet) = packet_kind packet
 
--- the values behind the network access code, in the order of the keys
+-- the values after the network access code, in the order of the keys
 abbrev pub body_values : Body → List (List ℕ)
 body_values (Voice voice) = voice_values voice
 body_values (Packet packet) = packet_values packet
 
--- what the values behind the network access code are read as
+-- what the values after the network access code are read as
 abbrev pub body_in : UnitKind → List (List ℕ) → Option Body
 body_in Confirmed (head ∷ blocks ∷ []) = option_map Packet (confirmed_in head blocks)
 body_in Confirmed values = None
@@ -60,11 +61,11 @@ text_of unit = join_with_byte 32 (unit_words unit)
 
 -- ---- the unit of a line
 
--- what stands behind a key in a word that begins with it
+-- what stands after a key in a word that begins with it
 abbrev pub behind : List ℕ → List ℕ → Option (List ℕ)
 behind key word = cond (starts_with nat_eq word key) (Some (drop (length key) word)) None
 
--- the values behind keys: none where there are more or fewer words than keys, or where some word does not begin with its key
+-- the values after keys: none where there are more or fewer words than keys, or where some word does not begin with its key
 abbrev pub values_behind : List UnitKey → List (List ℕ) → Option (List (List ℕ))
 values_behind [] [] = Some []
 values_behind [] (word ∷ words) = None
@@ -92,17 +93,16 @@ abbrev pub read_values : UnitKind → Option (List (List ℕ)) → Result UnitPa
 read_values kind (Some values) = or_value (unit_in kind values)
 read_values kind None = Err Key
 
--- the unit of the words behind a kind, or that the kind is wrong
+-- the unit of the words after a kind, or that the kind is wrong
 abbrev pub read_kind : List (List ℕ) → Option UnitKind → Result UnitParts LineFault
 read_kind words (Some kind) = read_values kind (values_behind (keys_of kind) words)
 read_kind words None = Err WrongKind
 
--- the unit of the words of a line, or why they could not be told
-abbrev pub read_words : Result (List (List ℕ)) LineFault → Result UnitParts LineFault
-read_words (Ok (first ∷ words)) = read_kind words (kind_named first)
-read_words (Ok []) = Err Form
-read_words (Err fault) = Err fault
+-- the unit of the words of a line, of which there is one at least
+abbrev pub read_words : List (List ℕ) → Result UnitParts LineFault
+read_words (first ∷ words) = read_kind words (kind_named first)
+read_words [] = Err Form
 
 -- the unit of a line, or the first cause for which the line is refused
 unfoldable pub read_line_of : List ℕ → Result UnitParts LineFault
-read_line_of line = read_words (words_or_fault line)
+read_line_of line = line_read read_words line

@@ -9,8 +9,8 @@ use Rattle.p25_units.specs.Units.{frame_length_of}
 use Rattle.p25_units.specs.declared.item.Item.{Item}
 use Rattle.p25_units.specs.declared.item.Item.TheVariants.{Whole, Broken, NoUnit, Gap, Cut}
 use Rattle.p25_line.specs.CommaLists.{comma_text}
+use Rattle.p25_line.specs.Values.{three_digits}
 use Rattle.p25_text.specs.Grammar.{text_of}
-use Rattle.p25_text.specs.Values.{three_digits}
 
 -- the name of a field
 abbrev pub field_name : Field → List ℕ

@@ -4,3 +4,4 @@ pub mod Packets
 pub mod Voices
 pub mod Grammar
 pub mod ItemTexts
+pub mod CallTexts

@@ -1,4 +1,4 @@
--- The values of packets behind the network access code, and the packets that values are read as.
+-- The values of packets after the network access code, and the packets that values are read as.
 use Rattle.std.specs.Prelude.{ℕ, ◌-◌, ◌*◌, ◌==◌, ◌&&◌, nat_lt, cond, List, [], ◌∷◌, ◌++◌, length, take, drop, slice_index, Option, Some, None}
 use Rattle.std.specs.Option.{option_and_then, option_map}
 use Rattle.hex.specs.Hex.{encode_lower}
@@ -10,7 +10,8 @@ use Rattle.p25_packet_blocks.specs.declared.packet.Packet.{Packet}
 use Rattle.p25_packet_blocks.specs.declared.packet.Packet.TheVariants.{Confirmed, Plain}
 use Rattle.p25_packet_blocks.specs.Heads.{head_blocks, head_format}
 use Rattle.p25_line.specs.CommaLists.{counted, list_in, list_text}
-use Rattle.p25_text.specs.Values.{octets_in, octets_or_none, octets_text}
+use Rattle.p25_line.specs.Octets.{octets_text}
+use Rattle.p25_text.specs.Values.{octets_in, octets_or_none}
 use Rattle.p25_text.specs.declared.names.UnitKind.{UnitKind}
 use Rattle.p25_text.specs.declared.names.UnitKind.TheVariants.{Confirmed as ConfirmedKind, Plain as PlainKind, Response as ResponseKind}
 
@@ -25,7 +26,7 @@ abbrev pub slot_text : Slot → List ℕ
 slot_text (Good block) = block_text block
 slot_text Bad = []
 
--- the values of a packet, in the order of the keys behind the network access code
+-- the values of a packet, in the order of the keys after the network access code
 abbrev pub packet_values : Packet → List (List ℕ)
 packet_values (Confirmed packet) = encode_lower packet.head.0 ∷ list_text slot_text packet.slots ∷ []
 packet_values (Plain packet) = encode_lower packet.head.0 ∷ octets_text packet.octets ∷ []

@@ -1,5 +1,5 @@
 -- Values of keys, and the words that they are written as: digits two for each octet, or `-` for none.
-use Rattle.std.specs.Prelude.{ℕ, ◌+◌, ◌*◌, ◌/◌, ◌%◌, ◌==◌, ◌&&◌, cond, List, [], ◌∷◌, ◌++◌, length, drop, Option, Some, None}
+use Rattle.std.specs.Prelude.{ℕ, ◌+◌, ◌*◌, ◌==◌, ◌&&◌, cond, List, [], ◌∷◌, ◌++◌, length, Option, Some, None}
 use Rattle.std.specs.List.{list_all}
 use Rattle.std.specs.Str.{bytes_eq}
 use Rattle.hex.specs.Hex.{encode_lower}
@@ -7,10 +7,6 @@ use Rattle.p25_line.specs.CommaLists.{dash}
 use Rattle.p25_line.specs.Values.{is_lower_digit, octets_of}
 use Rattle.p25_text.specs.Names.{key_text}
 use Rattle.p25_text.specs.declared.names.UnitKey.{UnitKey}
-
--- the last three hexadecimal digits of a number
-abbrev pub three_digits : ℕ → List ℕ
-three_digits number = drop 1 (encode_lower (number / 256 ∷ number % 256 ∷ []))
 
 -- the octets whose text a word is, where it has two digits for each of so many octets
 abbrev pub octets_in : ℕ → List ℕ → Option (List ℕ)
@@ -27,13 +23,8 @@ abbrev pub nac_in : List ℕ → Option ℕ
 nac_in word = number_in (octets_in 2 (48 ∷ word))
 
 -- a space, a key and its value, two digits for each octet
-abbrev pub field_text : UnitKey → List ℕ → List ℕ
-field_text key octets = 32 ∷ key_text key ++ encode_lower octets
-
--- the text of octets of which there may be none
-abbrev pub octets_text : List ℕ → List ℕ
-octets_text [] = dash
-octets_text (octet ∷ octets) = encode_lower (octet ∷ octets)
+abbrev pub key_value_text : UnitKey → List ℕ → List ℕ
+key_value_text key octets = 32 ∷ key_text key ++ encode_lower octets
 
 -- the octets whose text a word is, where there are so many, maybe none
 abbrev pub octets_or_none : ℕ → List ℕ → Option (List ℕ)

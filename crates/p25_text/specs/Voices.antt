@@ -1,4 +1,4 @@
--- The values of voice units behind the network access code, and the voice units that values are read as.
+-- The values of voice units after the network access code, and the voice units that values are read as.
 use Rattle.std.specs.Prelude.{ℕ, zero, suc, ◌+◌, ◌*◌, ◌/◌, ◌%◌, List, [], ◌∷◌, take, drop, map, slice_index, Option, Some, None}
 use Rattle.std.specs.List.{flat_map}
 use Rattle.std.specs.Option.{option_and_then}
@@ -18,11 +18,11 @@ use Rattle.p25_text.specs.declared.names.UnitKind.TheVariants.{Hdu, Ldu1, Ldu2, 
 abbrev pub pair_of : ℕ → List ℕ
 pair_of number = number / 256 ∷ number % 256 ∷ []
 
--- the octets of voice frames, one frame behind the other
+-- the octets of voice frames, one frame after the other
 unfoldable pub frame_octets : List VoiceFrame → List ℕ
 frame_octets frames = flat_map (λ frame. frame.0) frames
 
--- the octets of a unit's fields, in the order of the keys behind the network access code
+-- the octets of a unit's fields, in the order of the keys after the network access code
 abbrev pub voice_octets : VoiceUnit → List (List ℕ)
 voice_octets (Header word) = word.mi ∷ (word.mfid ∷ []) ∷ (word.algid ∷ []) ∷ pair_of word.kid ∷ pair_of word.tgid ∷ []
 voice_octets (Link1 link low voice) = link.0 ∷ low ∷ frame_octets voice ∷ []

@@ -1,10 +1,10 @@
 //! The texts of items.
 
-ghost use Rattle.std.specs.Prelude.{◌≡◌, ◌+◌, ◌*◌, ◌<◌, ◌≤◌, ◌++◌, [], length, decimal};
+ghost use Rattle.std.specs.Prelude.{◌≡◌, ◌+◌, ◌*◌, ◌<◌, ◌≤◌, ◌++◌, [], length};
 ghost use Rattle.p25_units.specs.Items.{IsSoundItem};
 ghost use Rattle.p25_text.specs.ItemTexts.{field_name, field_names, item_text_of, one_digit, status_digits};
 
-use super::write::{put_nac, put_unit};
+use super::write::put_unit;
 use p25_line::Line;
 use p25_units::{Field, FieldList, Frame, Item, Statuses, frame_length};
 
@@ -30,17 +30,17 @@ pub fn item_text(item: &Item, out: &mut Line)
             fields,
         } => put_broken(*place, *length, (*nac, *duid), fields, out),
         Item::NoUnit { place, field } => {
-            put_labelled(b"nounit at=", *place, out);
+            out.put_labelled(b"nounit at=", *place);
             out.put(b" field=");
-            put_field(*field, out);
+            put_field_name(*field, out);
         }
         Item::Gap { place, length } => {
-            put_labelled(b"gap at=", *place, out);
-            put_labelled(b" bits=", u64::from(*length), out);
+            out.put_labelled(b"gap at=", *place);
+            out.put_labelled(b" bits=", u64::from(*length));
         }
         Item::Cut { place, have } => {
-            put_labelled(b"cut at=", *place, out);
-            put_labelled(b" bits=", u64::from(*have), out);
+            out.put_labelled(b"cut at=", *place);
+            out.put_labelled(b" bits=", u64::from(*have));
         }
     }
 }
@@ -51,9 +51,9 @@ fn put_whole(place: u64, frame: &Frame, fixes: u32, out: &mut Line)
     ensures text { out.new ≡ item_text_of (Item.Whole place frame.now fixes) }
     ensures short { length out.new < 8192 }
 {
-    put_labelled(b"unit at=", place, out);
-    put_labelled(b" bits=", frame_length(&frame.unit) as u64, out);
-    put_labelled(b" fix=", u64::from(fixes), out);
+    out.put_labelled(b"unit at=", place);
+    out.put_labelled(b" bits=", frame_length(&frame.unit) as u64);
+    out.put_labelled(b" fix=", u64::from(fixes));
     out.put(b" status=");
     put_statuses(&frame.statuses, out);
     out.put(b" ");
@@ -67,25 +67,14 @@ fn put_broken(place: u64, count: u32, identifier: (u16, u8), fields: &FieldList,
     ensures text { out.new ≡ item_text_of (Item.Broken place count identifier.0 identifier.1 fields.now) }
     ensures short { length out.new < 8192 }
 {
-    put_labelled(b"broken at=", place, out);
-    put_labelled(b" bits=", u64::from(count), out);
+    out.put_labelled(b"broken at=", place);
+    out.put_labelled(b" bits=", u64::from(count));
     out.put(b" nac=");
-    put_nac(identifier.0, out);
+    out.put_three_digits(identifier.0);
     out.put(b" duid=");
     put_digit(identifier.1, out);
     out.put(b" fields=");
-    put_fields(fields, out);
-}
-
-// Appends a label and a number in decimal.
-#[tactic(auto, using(p25_line::proofs::DecimalLaws::decimal_short))]
-fn put_labelled(label: &[u8], number: u64, out: &mut Line)
-    requires { length out.old + length label.now + 20 ≤ 8192 }
-    ensures text { out.new ≡ out.old ++ label.now ++ decimal number }
-    ensures short { length out.new ≤ length out.old + length label.now + 20 }
-{
-    out.put(label);
-    out.put_number(number);
+    put_field_names(fields, out);
 }
 
 // Appends the last hexadecimal digit of a number.
@@ -111,7 +100,7 @@ fn put_statuses(statuses: &Statuses, out: &mut Line)
 }
 
 // Appends the names of fields, with commas between them.
-fn put_fields(fields: &FieldList, out: &mut Line)
+fn put_field_names(fields: &FieldList, out: &mut Line)
     requires { length out.old + 2032 ≤ 8192 }
     ensures text { out.new ≡ out.old ++ field_names fields.now }
     ensures short { length out.new ≤ length out.old + 2032 }
@@ -120,13 +109,13 @@ fn put_fields(fields: &FieldList, out: &mut Line)
         if i > 0 {
             out.put(b",");
         }
-        put_field(fields.get(i), out);
+        put_field_name(fields.get(i), out);
     }
 }
 
 /// Appends the name of a field.
 #[tactic(auto, using(p25_line::proofs::DecimalLaws::decimal_octet))]
-pub fn put_field(field: Field, out: &mut Line)
+pub fn put_field_name(field: Field, out: &mut Line)
     requires { length out.old + 15 ≤ 8192 }
     ensures text { out.new ≡ out.old ++ field_name field }
     ensures short { length out.new ≤ length out.old + 15 }

@@ -1,4 +1,4 @@
-//! The texts of units and items, and units read from lines.
+//! The texts of units, items and calls, and units read from lines.
 //!
 //! A unit line is words with single spaces between them: the kind of the unit, and then each key of that kind with `=` and
 //! its value, in one order. Digits are hexadecimal in lower case, two for each octet.
@@ -16,8 +16,8 @@
 //! The blocks of a confirmed packet have commas between them, and each is its serial number, two digits that are at most
 //! `7f`, a colon and 32 digits. `-` stands for no blocks and for no octets. `text_of unit` is the line of a unit,
 //! `read_line_of line` what a line is read as, and each undoes the other. An item's text tells the place of the item, in bits
-//! from the beginning of the stream, and what stands there: `item_text_of item`. A `Line` is seen as the list of its octets,
-//! first to last.
+//! from the beginning of the stream, and what stands there: `item_text_of item`. The text of a call is `call_text_of call`. A
+//! `Line` is seen as the list of its octets, first to last.
 //!
 //! ```text
 //! let unit = read_line(b"tdulc nac=293 lc=000000000001000001")?;
@@ -27,6 +27,7 @@
 //! ```
 #![tactic(auto)]
 
+mod calls;
 mod items;
 mod names;
 mod packet_texts;
@@ -37,7 +38,8 @@ mod voice_texts;
 mod voices;
 mod write;
 
-pub use items::{item_text, put_field};
+pub use calls::call_text;
+pub use items::{item_text, put_field_name};
 pub use names::{UnitKey, UnitKind};
 pub use p25_line::{Line, LineFault};
 pub use read::read_line;

@@ -4,12 +4,11 @@ ghost use Rattle.std.specs.Prelude.{◌≡◌, ◌+◌, ◌≤◌, ◌++◌, len
 ghost use Rattle.p25_line.specs.CommaLists.{list_text};
 ghost use Rattle.p25_text.specs.Grammar.{text_of};
 ghost use Rattle.p25_text.specs.Packets.{block_text, packet_kind, slot_text};
-ghost use Rattle.p25_text.specs.Values.{octets_text};
 
 use super::names::{UnitKey, UnitKind};
-use super::write::{put_field, put_key, put_start};
+use super::write::{put_key, put_key_value, put_start};
 use p25_line::Line;
-use p25_packet_blocks::{Block, Confirmed, Octets, Packet, Plain, Slot, Slots};
+use p25_packet_blocks::{Block, Confirmed, Packet, Plain, RESPONSE_FORMAT, Slot, Slots};
 use p25_units::Body;
 
 /// Appends the line of a packet.
@@ -31,7 +30,7 @@ fn put_confirmed(nac: u16, packet: &Confirmed, out: &mut Line)
     ensures short { length out.new ≤ length out.old + 4700 }
 {
     put_start(UnitKind::Confirmed, nac, out);
-    put_field(UnitKey::Head, &packet.head().0, out);
+    put_key_value(UnitKey::Head, &packet.head().0, out);
     put_key(UnitKey::Blocks, out);
     put_slots(packet.slots(), out);
 }
@@ -43,32 +42,19 @@ fn put_plain(nac: u16, packet: &Plain, out: &mut Line)
     ensures short { length out.new ≤ length out.old + 4700 }
 {
     put_start(plain_kind(packet), nac, out);
-    put_field(UnitKey::Head, &packet.head().0, out);
+    put_key_value(UnitKey::Head, &packet.head().0, out);
     put_key(UnitKey::Octets, out);
-    put_octets(packet.octets(), out);
+    out.put_octets(packet.octets().octets());
 }
 
 // The kind of the line of a packet that is not confirmed.
 fn plain_kind(packet: &Plain) -> UnitKind
     ensures { result ≡ packet_kind (Packet.Plain packet.now) }
 {
-    if packet.head().format() == 0x03 {
+    if packet.head().format() == RESPONSE_FORMAT {
         UnitKind::Response
     } else {
         UnitKind::Plain
-    }
-}
-
-// Appends octets, or `-` where there are none.
-fn put_octets(octets: &Octets, out: &mut Line)
-    requires { length out.old + 3040 ≤ 8192 }
-    ensures text { out.new ≡ out.old ++ octets_text octets.now }
-    ensures short { length out.new ≤ length out.old + 3040 }
-{
-    if octets.len() == 0 {
-        out.put(b"-");
-    } else {
-        out.put_hex(octets.octets());
     }
 }
 

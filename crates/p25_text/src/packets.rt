@@ -8,7 +8,9 @@ ghost use Rattle.p25_text.specs.Values.{octets_in, octets_or_none};
 
 use super::values::octets_value;
 use p25_line::{comma_part, hex_value, is_dash};
-use p25_packet_blocks::{Block, Confirmed, Octets, Packet, PacketHead, Plain, Slot, Slots};
+use p25_packet_blocks::{
+    Block, CONFIRMED_FORMAT, Confirmed, Octets, Packet, PacketHead, Plain, Slot, Slots,
+};
 
 /// Answers the confirmed packet of a header and of its blocks. `None` comes exactly where a value is not of its form, the
 /// format is not 16 hex, or there are not as many blocks as the header has to follow.
@@ -16,7 +18,7 @@ pub fn confirmed_value(head: &[u8], blocks: &[u8]) -> Option<Packet>
     ensures { result ≡ confirmed_in head.now blocks.now }
 {
     let head = head_value(head)?;
-    if head.format() != 0x16 {
+    if head.format() != CONFIRMED_FORMAT {
         return None;
     }
     let slots = slots_value(blocks, usize::from(head.blocks()))?;
@@ -97,7 +99,7 @@ fn slots_value(word: &[u8], count: usize) -> Option<Slots>
         slots.push(Slot::Good(block_value(part)?));
         start += part.len() + 1;
     }
-    // Behind the last part stands the end, and no comma.
+    // After the last part stands the end, and no comma.
     if start <= word.len() {
         return None;
     }

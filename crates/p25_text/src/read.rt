@@ -1,11 +1,10 @@
 //! Units read from lines.
 
-ghost use Rattle.std.specs.Prelude.{◌≡◌, ℕ, ◌<◌, Ok, IfOk, length, drop};
+ghost use Rattle.std.specs.Prelude.{◌≡◌, ℕ, ◌<◌, IfOk, length, drop};
 ghost use Rattle.std.specs.Option.{option_map};
-ghost use Rattle.p25_line.specs.Words.{WordsAnswer};
 ghost use Rattle.p25_units.specs.UnitParts.{UnitParts};
 ghost use Rattle.p25_units.specs.Units.{IsSendableUnit};
-ghost use Rattle.p25_text.specs.Grammar.{body_in, read_line_of, text_of, unit_in};
+ghost use Rattle.p25_text.specs.Grammar.{body_in, read_line_of, read_words as unit_of_words, text_of, unit_in};
 ghost use Rattle.p25_text.specs.Names.{keys_of};
 ghost use Rattle.p25_text.specs.Voices.{voice_in};
 ghost use Rattle.p25_text.specs.declared.names.UnitKind.TheVariants.{Hdu, Ldu2};
@@ -13,9 +12,9 @@ ghost use Rattle.p25_text.specs.declared.names.UnitKind.TheVariants.{Hdu, Ldu2};
 use super::names::UnitKind;
 use super::packets::{confirmed_value, plain_value};
 use super::values::{Values, nac_value, values_of_words};
-use super::voices::{end_link_value, header_value, link1_value, link2_value};
-use p25_line::{LineFault, WordList, words_of};
-use p25_packet_blocks::Packet;
+use super::voices::{header_value, ldu1_value, ldu2_value, tdulc_value};
+use p25_line::{LineFault, LineWords};
+use p25_packet_blocks::{PLAIN_FORMAT, Packet, RESPONSE_FORMAT};
 use p25_units::{Body, Unit, VoiceUnit};
 
 /// Answers the unit whose text a line is. Each line that is accepted is the text of its unit, and the text of each unit of
@@ -30,33 +29,21 @@ pub fn read_line(line: &[u8]) -> Result<Unit, LineFault>
     ensures fits { IfOk result (λ unit. IsSendableUnit unit) }
     ensures each { (unit : UnitParts) → IsSendableUnit unit → text_of unit ≡ line.now → result ≡ Ok unit }
 {
-    read_whole(line)
+    read_words(&LineWords::read(line)?)
 }
 
-// The same, by the definition.
-fn read_whole(line: &[u8]) -> Result<Unit, LineFault>
-    ensures { result ≡ read_line_of line.now }
+// The unit of the words of a line.
+fn read_words(words: &LineWords) -> Result<Unit, LineFault>
+    ensures { result ≡ unit_of_words words.now }
 {
-    let mut words = WordList::new();
-    match words_of(line, &mut words) {
-        Ok(()) => read_words(line, &words),
-        Err(fault) => Err(fault),
-    }
-}
-
-// The unit of a line whose words were found.
-fn read_words(line: &[u8], words: &WordList) -> Result<Unit, LineFault>
-    requires { WordsAnswer line.now words.now (Ok tt) }
-    ensures { result ≡ read_line_of line.now }
-{
-    let Some(kind) = UnitKind::named(words.word(line, 0)) else {
+    let Some(kind) = UnitKind::named(words.first()) else {
         return Err(LineFault::Kind);
     };
     let keys = kind.keys();
     if words.count() != keys.len() + 1 {
         return Err(LineFault::Key);
     }
-    let Some(values) = values_of_words(line, words, keys) else {
+    let Some(values) = values_of_words(words, keys) else {
         return Err(LineFault::Key);
     };
     match read_values(kind, &values) {
@@ -75,20 +62,24 @@ fn read_values(kind: UnitKind, values: &Values) -> Option<Unit>
     Some(Unit::new(nac, body))
 }
 
-// What a unit of a kind carries, by the values behind the network access code.
+// What a unit of a kind carries, by the values after the network access code.
 fn read_body(kind: UnitKind, values: &Values) -> Option<Body>
     requires { length values.now ≡ length (keys_of kind) }
     ensures { result ≡ body_in kind (drop 1 values.now) }
 {
     match kind {
         UnitKind::Tdu => Some(Body::Voice(VoiceUnit::End)),
-        UnitKind::Tdulc => voice_body(end_link_value(values.get(1))),
+        UnitKind::Tdulc => voice_body(tdulc_value(values.get(1))),
         UnitKind::Hdu => voice_body(read_header(values)),
-        UnitKind::Ldu1 => voice_body(link1_value(values.get(1), values.get(2), values.get(3))),
-        UnitKind::Ldu2 => voice_body(read_link2(values)),
+        UnitKind::Ldu1 => voice_body(ldu1_value(values.get(1), values.get(2), values.get(3))),
+        UnitKind::Ldu2 => voice_body(read_ldu2(values)),
         UnitKind::Confirmed => packet_body(confirmed_value(values.get(1), values.get(2))),
-        UnitKind::Plain => packet_body(plain_value(0x15, values.get(1), values.get(2))),
-        UnitKind::Response => packet_body(plain_value(0x03, values.get(1), values.get(2))),
+        UnitKind::Plain => packet_body(plain_value(PLAIN_FORMAT, values.get(1), values.get(2))),
+        UnitKind::Response => packet_body(plain_value(
+            RESPONSE_FORMAT,
+            values.get(1),
+            values.get(2),
+        )),
     }
 }
 
@@ -107,11 +98,11 @@ fn read_header(values: &Values) -> Option<VoiceUnit>
 }
 
 // The voice with encryption sync of the values of a line.
-fn read_link2(values: &Values) -> Option<VoiceUnit>
+fn read_ldu2(values: &Values) -> Option<VoiceUnit>
     requires { length values.now ≡ 6 }
     ensures { result ≡ voice_in Ldu2 (drop 1 values.now) }
 {
-    link2_value(
+    ldu2_value(
         values.get(1),
         values.get(2),
         values.get(3),

@@ -1,15 +1,14 @@
-//! The values of a unit line.
+//! The values of the keys of a unit line.
 
-ghost use Rattle.std.specs.Prelude.{◌≡◌, ℕ, ◌+◌, ◌<◌, ◌≤◌, List, [], ◌∷◌, ◌++◌, length, drop, slice_get, All, IfSome};
-ghost use Rattle.std.specs.Option.{option_and_then, option_map};
-ghost use Rattle.p25_line.specs.Words.{LiesIn, marked, word_at};
+ghost use Rattle.std.specs.Prelude.{◌≡◌, ℕ, ◌+◌, ◌<◌, ◌≤◌, List, [], ◌∷◌, ◌++◌, length, drop, map, slice_get, IfSome};
+ghost use Rattle.std.specs.Option.{option_map};
 ghost use Rattle.p25_text.specs.Grammar.{behind, values_behind};
 ghost use Rattle.p25_text.specs.Names.{key_text};
 ghost use Rattle.p25_text.specs.Values.{nac_in, octets_in};
 
 use super::names::UnitKey;
 use arrayvec::ArrayVec;
-use p25_line::{Place, WordList, hex_value};
+use p25_line::{LineWords, hex_value};
 use std::marker::Model;
 
 /// The most values of a unit line.
@@ -18,19 +17,15 @@ pub const VALUES_MOST: usize = 6;
 /// The values of a line, in the order of their keys.
 #[derive(Drop)]
 pub struct Values<'a> {
-    line: &'a [u8],
-    places: ArrayVec<Place, 6>,
+    values: ArrayVec<&'a [u8], 6>,
 }
 
 impl<'a> Model for Values<'a> {
-    ghost use Rattle.std.specs.Prelude.{List, ℕ, All};
-    ghost use Rattle.p25_line.specs.Words.{LiesIn, marked};
+    ghost use Rattle.std.specs.Prelude.{List, ℕ, map};
 
     ghost Value = { List (List ℕ) };
 
-    ghost view = { λ s. marked s.line.now s.places.items };
-
-    ghost invariant = { λ s. All (LiesIn s.line.now) s.places.items };
+    ghost view = { λ s. map (λ value. value.now) s.values.items };
 }
 
 impl<'a> Values<'a> {
@@ -39,45 +34,37 @@ impl<'a> Values<'a> {
         requires { i < length self.now }
         ensures { slice_get self.now i ≡ Some result.now }
     {
-        let place = self.places.as_slice()[i];
-        &self.line[place.start..place.start + place.len]
+        self.values.as_slice()[i]
     }
 }
 
-/// Answers the values behind keys in the words of a line but the first. `None` comes exactly where some word does not
-/// begin with its key.
-pub fn values_of_words<'a>(line: &'a [u8], words: &WordList, keys: &[UnitKey]) -> Option<Values<'a>>
-    requires lies { All (LiesIn line.now) words.now.places }
-    requires count { length words.now.places ≡ length keys.now + 1 }
+/// Answers the values after keys in the words of a line but the first. `None` comes exactly where some word does not begin
+/// with its key.
+pub fn values_of_words<'a>(words: &LineWords<'a>, keys: &[UnitKey]) -> Option<Values<'a>>
+    requires count { length words.now ≡ length keys.now + 1 }
     requires few { length keys.now ≤ 6 }
-    ensures { result ≡ values_behind keys.now (drop 1 (marked line.now words.now.places)) }
+    ensures { result ≡ values_behind keys.now (drop 1 words.now) }
 {
-    let mut places = ArrayVec::new();
+    let mut values = ArrayVec::new();
     for (i, key) in keys.iter().enumerate() {
-        let Some(place) = value_place(line, words, i + 1, *key) else {
+        let Some(value) = value_after(words.get(i + 1), *key) else {
             return None;
         };
-        places.push(place);
+        values.push(value);
     }
-    Some(Values { line, places })
+    Some(Values { values })
 }
 
-// Where the value of word `i` stands, where the word begins with a key.
-fn value_place(line: &[u8], words: &WordList, i: usize, key: UnitKey) -> Option<Place>
-    requires lies { All (LiesIn line.now) words.now.places }
-    requires held { i < length words.now.places }
-    ensures value { option_map (word_at line.now) result ≡ option_and_then (behind (key_text key)) (slice_get (marked line.now words.now.places) i) }
-    ensures lies { IfSome result (LiesIn line.now) }
+// What stands after a key in a word, where the word begins with it.
+fn value_after(word: &[u8], key: UnitKey) -> Option<&[u8]>
+    ensures { option_map (λ value. value.now) result ≡ behind (key_text key) word.now }
 {
     let text = key.text();
-    let place = words.place(i);
-    if !words.word(line, i).starts_with(text) {
-        return None;
+    if word.starts_with(text) {
+        Some(&word[text.len()..])
+    } else {
+        None
     }
-    Some(Place {
-        start: place.start + text.len(),
-        len: place.len - text.len(),
-    })
 }
 
 /// Answers the network access code that a word is. `None` comes exactly where the word is not three digits.

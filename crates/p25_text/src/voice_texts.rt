@@ -2,12 +2,12 @@
 
 ghost use Rattle.std.specs.Prelude.{◌≡◌, ◌+◌, ◌*◌, ◌≤◌, ◌++◌, length};
 ghost use Rattle.p25_text.specs.Grammar.{text_of};
-ghost use Rattle.p25_text.specs.Values.{field_text};
+ghost use Rattle.p25_text.specs.Values.{key_value_text};
 ghost use Rattle.p25_text.specs.Voices.{frame_octets, pair_of};
 ghost use Rattle.p25_text.specs.declared.names.UnitKey.TheVariants.{Frames};
 
 use super::names::{UnitKey, UnitKind};
-use super::write::{put_field, put_key, put_start};
+use super::write::{put_key, put_key_value, put_start};
 use p25_line::Line;
 use p25_link::{EncryptionSync, HeaderWord, LinkControl};
 use p25_units::Body;
@@ -21,10 +21,10 @@ pub fn put_voice(nac: u16, unit: &VoiceUnit, out: &mut Line)
 {
     match unit {
         VoiceUnit::Header(word) => put_header(nac, word, out),
-        VoiceUnit::Link1 { link, low, voice } => put_link1(nac, link, low, voice, out),
-        VoiceUnit::Link2 { sync, low, voice } => put_link2(nac, sync, low, voice, out),
+        VoiceUnit::Link1 { link, low, voice } => put_ldu1(nac, link, low, voice, out),
+        VoiceUnit::Link2 { sync, low, voice } => put_ldu2(nac, sync, low, voice, out),
         VoiceUnit::End => put_end(nac, out),
-        VoiceUnit::EndLink { link } => put_end_link(nac, link, out),
+        VoiceUnit::EndLink { link } => put_tdulc(nac, link, out),
     }
 }
 
@@ -35,36 +35,36 @@ fn put_header(nac: u16, word: &HeaderWord, out: &mut Line)
     ensures short { length out.new ≤ length out.old + 4700 }
 {
     put_start(UnitKind::Hdu, nac, out);
-    put_field(UnitKey::Mi, &word.mi, out);
-    put_field(UnitKey::Mfid, &[word.mfid], out);
-    put_field(UnitKey::Algid, &[word.algid], out);
+    put_key_value(UnitKey::Mi, &word.mi, out);
+    put_key_value(UnitKey::Mfid, &[word.mfid], out);
+    put_key_value(UnitKey::Algid, &[word.algid], out);
     put_pair(UnitKey::Kid, word.kid, out);
     put_pair(UnitKey::Tgid, word.tgid, out);
 }
 
 // Appends the line of voice with link control.
-fn put_link1(nac: u16, link: &LinkControl, low: &[u8; 2], voice: &Voice, out: &mut Line)
+fn put_ldu1(nac: u16, link: &LinkControl, low: &[u8; 2], voice: &Voice, out: &mut Line)
     requires { length out.old + 4700 ≤ 8192 }
     ensures text { out.new ≡ out.old ++ text_of (record { nac = nac; body = Body.Voice (VoiceUnit.Link1 link.now low.now voice.now) }) }
     ensures short { length out.new ≤ length out.old + 4700 }
 {
     put_start(UnitKind::Ldu1, nac, out);
-    put_field(UnitKey::Lc, &link.0, out);
-    put_field(UnitKey::Lsd, low, out);
+    put_key_value(UnitKey::Lc, &link.0, out);
+    put_key_value(UnitKey::Lsd, low, out);
     put_frames(voice, out);
 }
 
 // Appends the line of voice with encryption sync.
-fn put_link2(nac: u16, sync: &EncryptionSync, low: &[u8; 2], voice: &Voice, out: &mut Line)
+fn put_ldu2(nac: u16, sync: &EncryptionSync, low: &[u8; 2], voice: &Voice, out: &mut Line)
     requires { length out.old + 4700 ≤ 8192 }
     ensures text { out.new ≡ out.old ++ text_of (record { nac = nac; body = Body.Voice (VoiceUnit.Link2 sync.now low.now voice.now) }) }
     ensures short { length out.new ≤ length out.old + 4700 }
 {
     put_start(UnitKind::Ldu2, nac, out);
-    put_field(UnitKey::Mi, &sync.mi, out);
-    put_field(UnitKey::Algid, &[sync.algid], out);
+    put_key_value(UnitKey::Mi, &sync.mi, out);
+    put_key_value(UnitKey::Algid, &[sync.algid], out);
     put_pair(UnitKey::Kid, sync.kid, out);
-    put_field(UnitKey::Lsd, low, out);
+    put_key_value(UnitKey::Lsd, low, out);
     put_frames(voice, out);
 }
 
@@ -78,28 +78,28 @@ fn put_end(nac: u16, out: &mut Line)
 }
 
 // Appends the line of a terminator with link control.
-fn put_end_link(nac: u16, link: &LinkControl, out: &mut Line)
+fn put_tdulc(nac: u16, link: &LinkControl, out: &mut Line)
     requires { length out.old + 4700 ≤ 8192 }
     ensures text { out.new ≡ out.old ++ text_of (record { nac = nac; body = Body.Voice (VoiceUnit.EndLink link.now) }) }
     ensures short { length out.new ≤ length out.old + 4700 }
 {
     put_start(UnitKind::Tdulc, nac, out);
-    put_field(UnitKey::Lc, &link.0, out);
+    put_key_value(UnitKey::Lc, &link.0, out);
 }
 
 // Appends a key and a number of two octets, the higher first.
 fn put_pair(key: UnitKey, number: u16, out: &mut Line)
     requires { length out.old + 12 ≤ 8192 }
-    ensures text { out.new ≡ out.old ++ field_text key (pair_of number) }
+    ensures text { out.new ≡ out.old ++ key_value_text key (pair_of number) }
     ensures short { length out.new ≤ length out.old + 12 }
 {
-    put_field(key, &number.to_be_bytes(), out);
+    put_key_value(key, &number.to_be_bytes(), out);
 }
 
 // Appends the key of voice frames and their octets.
 fn put_frames(voice: &Voice, out: &mut Line)
     requires { length out.old + 332 ≤ 8192 }
-    ensures text { out.new ≡ out.old ++ field_text Frames (frame_octets voice.now) }
+    ensures text { out.new ≡ out.old ++ key_value_text Frames (frame_octets voice.now) }
     ensures short { length out.new ≤ length out.old + 332 }
 {
     put_key(UnitKey::Frames, out);

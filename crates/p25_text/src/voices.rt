@@ -35,7 +35,7 @@ pub fn header_value(
 }
 
 /// Answers the voice with link control of the values of its fields. `None` comes exactly where a value is not of its form.
-pub fn link1_value(link: &[u8], low: &[u8], voice: &[u8]) -> Option<VoiceUnit>
+pub fn ldu1_value(link: &[u8], low: &[u8], voice: &[u8]) -> Option<VoiceUnit>
     ensures { result ≡ voice_in Ldu1 (link.now ∷ low.now ∷ voice.now ∷ []) }
 {
     let link = octets_value::<9>(link)?;
@@ -50,7 +50,7 @@ pub fn link1_value(link: &[u8], low: &[u8], voice: &[u8]) -> Option<VoiceUnit>
 
 /// Answers the voice with encryption sync of the values of its fields. `None` comes exactly where a value is not of its
 /// form.
-pub fn link2_value(
+pub fn ldu2_value(
     mi: &[u8],
     algid: &[u8],
     kid: &[u8],
@@ -76,7 +76,7 @@ pub fn link2_value(
 }
 
 /// Answers the terminator with link control of the value of its field. `None` comes exactly where it is not of its form.
-pub fn end_link_value(link: &[u8]) -> Option<VoiceUnit>
+pub fn tdulc_value(link: &[u8]) -> Option<VoiceUnit>
     ensures { result ≡ voice_in Tdulc (link.now ∷ []) }
 {
     let link = octets_value::<9>(link)?;

@@ -4,7 +4,8 @@ ghost use Rattle.std.specs.Prelude.{◌≡◌, ◌+◌, ◌*◌, ◌<◌, ◌≤
 ghost use Rattle.hex.specs.Hex.{encode_lower};
 ghost use Rattle.p25_text.specs.Grammar.{text_of};
 ghost use Rattle.p25_text.specs.Names.{key_text, kind_word};
-ghost use Rattle.p25_text.specs.Values.{field_text, three_digits};
+ghost use Rattle.p25_line.specs.Values.{three_digits};
+ghost use Rattle.p25_text.specs.Values.{key_value_text};
 ghost use Rattle.p25_text.specs.declared.names.UnitKey.TheVariants.{Nac};
 
 use super::names::{UnitKey, UnitKind};
@@ -42,7 +43,7 @@ pub fn put_start(kind: UnitKind, nac: u16, out: &mut Line)
 {
     out.put(kind.word());
     put_key(UnitKey::Nac, out);
-    put_nac(nac, out);
+    out.put_three_digits(nac);
 }
 
 /// Appends a space and a key.
@@ -56,22 +57,11 @@ pub fn put_key(key: UnitKey, out: &mut Line)
 }
 
 /// Appends a space, a key and its value: octets with two digits each.
-pub fn put_field(key: UnitKey, octets: &[u8], out: &mut Line)
+pub fn put_key_value(key: UnitKey, octets: &[u8], out: &mut Line)
     requires { length out.old + 8 + 2 * length octets.now ≤ 8192 }
-    ensures text { out.new ≡ out.old ++ field_text key octets.now }
+    ensures text { out.new ≡ out.old ++ key_value_text key octets.now }
     ensures short { length out.new ≤ length out.old + 8 + 2 * length octets.now }
 {
     put_key(key, out);
     out.put_hex(octets);
-}
-
-/// Appends the last three hexadecimal digits of a number.
-pub fn put_nac(nac: u16, out: &mut Line)
-    requires { length out.old + 3 ≤ 8192 }
-    ensures text { out.new ≡ out.old ++ three_digits nac }
-    ensures len { length out.new ≡ length out.old + 3 }
-{
-    let mut digits = [0; 4];
-    let _ = hex::encode_to_slice(nac.to_be_bytes(), &mut digits);
-    out.put(&digits[1..]);
 }

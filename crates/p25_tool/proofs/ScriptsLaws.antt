@@ -21,7 +21,7 @@ use Rattle.p25_fragments.specs.declared.long_step.LongEvent.TheVariants.{Long, I
 use Rattle.p25_fragments.proofs.LongRunLaws.{long-orderly, long-unrefused}
 use Rattle.p25_fragment_script.specs.LongScript.{IsLongScripted, long_event_of}
 use Rattle.p25_fragment_script.specs.LongTexts.{long_step_text_of}
-use Rattle.p25_fragment_script.proofs.LongScriptLaws.{IsLongLineOf-of}
+use Rattle.p25_fragment_script.proofs.LongScriptLaws.{IsLineOf-long_event_of}
 use Rattle.p25_filter.specs.declared.ending.Ending.{Ending}
 use Rattle.p25_filter.specs.declared.ending.Ending.TheVariants.{Done as EndDone, Found, BadLine}
 use Rattle.p25_filter.specs.declared.ending.FilterEnd.{FilterEnd}
@@ -172,7 +172,7 @@ are-long_events lines [] same = tt
 are-long_events [] (event ∷ events) same = cc same
 are-long_events (line ∷ lines) (event ∷ events) same =
     let parts = head_of long_event_of line lines event events same in
-    (is-long_event event (IsLongLineOf-of line event parts.0).fits, are-long_events lines events parts.1)
+    (is-long_event event (IsLineOf-long_event_of line event parts.0).fits, are-long_events lines events parts.1)
 
 fragments-text : List LongEvent → Bool → Option Ending → List ℕ
 fragments-text events ended refusal = flat_map long_step_text_of (long_steps_of first_long events) ++ closing_by ended refusal (long_closing_line (long_run first_long events))

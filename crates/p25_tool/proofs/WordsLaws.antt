@@ -5,8 +5,8 @@ use Rattle.std.proofs.lemmas.Bool.{cases_eq}
 use Rattle.std.proofs.lemmas.Bool.Decides.{nat_tests}
 use Rattle.p25_status.specs.Status.{same_status, status_at_number, status_number}
 use Rattle.p25_status.specs.declared.symbols.Status.{Status}
-use Rattle.p25_script.specs.Values.{number_below}
-use Rattle.p25_script.proofs.ValueLaws.{number_below-decimal, number_below-none}
+use Rattle.p25_line.specs.Values.{number_below}
+use Rattle.p25_line.proofs.NumberLaws.{number_below-decimal, number_below-none}
 use Rattle.p25_tool.specs.Words.{status_in}
 
 -- what is made of a number below 4 is its symbol

@@ -8,7 +8,6 @@ use p25_duplex::{DuplexStep, DuplexWorld, Side};
 use p25_duplex_script::{duplex_closing, duplex_step_text, read_duplex_event};
 use p25_filter::{LineMachine, LineRefusal};
 use p25_line::Line;
-use p25_script::put_count;
 use std::alloc::Global;
 use std::marker::Model;
 
@@ -83,6 +82,6 @@ fn put_closing_lines(world: &DuplexWorld, out: &mut Line)
     duplex_closing(world, Side::A, out);
     out.put(b"\n");
     out.put(other.octets());
-    put_count(b"\nfalse=", world.false_passes(), out);
+    out.put_labelled(b"\nfalse=", world.false_passes());
     out.put(b"\n");
 }

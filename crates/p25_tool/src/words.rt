@@ -1,6 +1,6 @@
 ghost use Rattle.std.specs.Prelude.{◌≡◌, ℕ, ◌≤◌, List, [], length, take, IfSome};
 ghost use Rattle.p25_tool.specs.Words.{IsSoundCommand, build_of, one_word_command, sample_of, status_in, three_word_command, two_word_command};
-ghost use Rattle.p25_script.specs.Values.{number_below};
+ghost use Rattle.p25_line.specs.Values.{number_below};
 
 use super::command::Command;
 use p25_line::number_value;

@@ -1,4 +1,4 @@
-//! Each field of a unit stands behind its own key.
+//! Each field of a unit stands after its own key.
 
 use super::repeated;
 use p25_packet_blocks::{Block, Packet, Slot};

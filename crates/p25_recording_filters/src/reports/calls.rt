@@ -4,9 +4,10 @@ ghost use Rattle.p25_recording_filters.specs.ItemOutputs.{call_line, calls_line}
 
 use crate::report::Report;
 use p25_bits::BitBuf;
-use p25_calls::{Call, Caller, call_text};
+use p25_calls::{Call, Caller};
 use p25_filter::Ending;
 use p25_line::Line;
+use p25_text::call_text;
 use p25_units::Item;
 use std::marker::Model;
 

@@ -1,4 +1,4 @@
-//! Each read and each write of a script fails in turn, the sink takes less than the text, and the script is cut off behind each of its
+//! Each read and each write of a script fails in turn, the sink takes less than the text, and the script is cut off after each of its
 //! octets.
 
 ghost use Rattle.std.specs.Prelude.{◌≤◌};
@@ -40,7 +40,7 @@ fn each_read_of_a_script_fails_in_turn(rt: HostRuntime) {
             "failing at {read}"
         );
     }
-    // No read is made behind the end.
+    // No read is made after the end.
     let call = Call {
         failing_read: 44,
         ..calm(b"stations", SCRIPT, 1)
@@ -82,7 +82,7 @@ fn a_sink_may_take_less_than_the_text(rt: HostRuntime) {
     }
 }
 
-// How the script ends that is cut off behind so many octets: with the fault of its last line, if it has one.
+// How the script ends that is cut off after so many octets: with the fault of its last line, if it has one.
 fn cut_fault(octets: usize) -> Option<LineFault> {
     match octets {
         1..=3 | 11..=16 | 26..=31 => Some(LineFault::Kind),
@@ -103,7 +103,7 @@ fn cut_text(octets: usize) -> (usize, &'static [u8]) {
     }
 }
 
-// Whether the script that is cut off behind so many octets ends and is told as it should.
+// Whether the script that is cut off after so many octets ends and is told as it should.
 fn is_cut_off(alloc: Global, octets: usize) -> bool {
     let call = calm(b"stations", &SCRIPT[..octets.min(42)], 7);
     if let Some(fault) = cut_fault(octets) {

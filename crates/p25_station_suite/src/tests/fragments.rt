@@ -5,7 +5,7 @@ use super::{Row, calm, ends, tells};
 use p25_line::LineFault;
 use p25_tool::Outcome;
 
-// The digits of 501 octets of 0 or, behind the mark of a part, of 500; and those of 4,000 octets of 77 hex, and of 500.
+// The digits of 501 octets of 0 or, after the mark of a part, of 500; and those of 4,000 octets of 77 hex, and of 500.
 const ZEROS_501: &[u8] = &[b'0'; 1_002];
 
 const SEVENS_4000: &[u8] = &[b'7'; 8_000];

@@ -61,7 +61,7 @@ fn long_messages_of_a_list(rt: HostRuntime) -> Result<(), Fail> {
     Ok(())
 }
 
-// What is done to a joiner: a part comes, by its first octet and the number of octets behind it, or one of no octets; or it is set
+// What is done to a joiner: a part comes, by its first octet and the number of octets after it, or one of no octets; or it is set
 // back.
 #[derive(Clone, Copy)]
 enum Act {

@@ -251,7 +251,7 @@ fn answer(receiver: &mut Receiver, packet: &Packet) -> &'static str {
     }
 }
 
-// What stands behind a header: nothing, a slot that is bad, or a block by its serial number and its first octet.
+// What stands after a header: nothing, a slot that is bad, or a block by its serial number and its first octet.
 #[derive(Clone, Copy)]
 enum Behind {
     Nothing,
@@ -283,7 +283,7 @@ fn packet(head: PacketHead, slots: Slots) -> Option<Packet> {
     Some(Packet::Confirmed(Confirmed::new(head, slots)))
 }
 
-// A packet of data by its LLID, the full message flag, its pad, its number and what stands behind its header.
+// A packet of data by its LLID, the full message flag, its pad, its number and what stands after its header.
 type Data = (u32, bool, u8, u8, Behind);
 
 fn data(row: Data) -> Option<Packet> {

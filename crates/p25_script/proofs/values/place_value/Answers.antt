@@ -1,7 +1,8 @@
 use Rattle.std.proofs.Common.{length, sym, ap, ◌∙◌, arith}
 use Rattle.std.proofs.lemmas.Fmt.{decimal_nonempty}
 use Rattle.p25_script.specs.Values.{place_in}
-use Rattle.p25_script.proofs.ValueLaws.{number_below-none, place_in-decimal}
+use Rattle.p25_line.proofs.NumberLaws.{number_below-none}
+use Rattle.p25_script.proofs.ValueLaws.{place_in-decimal}
 use Rattle.p25_script.proofs.values.place_value.Goals as goal
 
 pub returns-in-Some-clause-place : goal.returns-in-Some-clause-place

@@ -1,10 +1,10 @@
-use Rattle.std.proofs.Common.{◌≡◌, ◌-◌, length, refl, arith}
-use Rattle.p25_code.proofs.BinaryLaws.{encodes}
+use Rattle.std.proofs.Common.{◌∙◌, ap₂}
+use Rattle.p25_bits.specs.Bits.{bits_of}
+use Rattle.p25_code.proofs.NumberCodeLaws.{encode_by_number}
 use Rattle.p25_golay.specs.Golay18.{IsGolay18}
-use Rattle.p25_golay.specs.Golay18Laws.{short_code, from_short}
 use Rattle.p25_golay.proofs.golay18.Golay18BlockCode.encode.Goals as goal
 
 pub returns : goal.returns
 returns c =
-    let places : length c.args.word.now - length c.args.info.now ≡ 12 = omega arith in
-    encodes short_code IsGolay18 from_short _ _ c.args.info.now c.encode_systematic.new.word refl places c.requires.info c.encode_systematic.ensures
+    encode_by_number IsGolay18 6 18 c.args.info.now c.put_number.new.bits c.number_of.result c.encode_number.result c.requires.info c.number_of.ensures.value c.encode_number.ensures.encoding
+    (c.put_number.ensures ∙ ap₂ bits_of c.requires.word c.from.ensures)

@@ -1,10 +1,10 @@
-use Rattle.std.proofs.Common.{◌≡◌, ◌-◌, length, refl, arith}
-use Rattle.p25_code.proofs.BinaryLaws.{encodes}
+use Rattle.std.proofs.Common.{◌∙◌, ap₂}
+use Rattle.p25_bits.specs.Bits.{bits_of}
+use Rattle.p25_code.proofs.NumberCodeLaws.{encode_by_number}
 use Rattle.p25_golay.specs.Golay24.{IsGolay24}
-use Rattle.p25_golay.specs.Golay24Laws.{code, from_checked}
 use Rattle.p25_golay.proofs.golay24.Golay24BlockCode.encode.Goals as goal
 
 pub returns : goal.returns
 returns c =
-    let places : length c.args.word.now - length c.args.info.now ≡ 12 = omega arith in
-    encodes code IsGolay24 from_checked _ _ c.args.info.now c.encode_systematic.new.word refl places c.requires.info c.encode_systematic.ensures
+    encode_by_number IsGolay24 12 24 c.args.info.now c.put_number.new.bits c.number_of.result c.encode_number.result c.requires.info c.number_of.ensures.value c.encode_number.ensures.encoding
+    (c.put_number.ensures ∙ ap₂ bits_of c.requires.word c.from.ensures)

@@ -1,10 +1,9 @@
-use Rattle.std.proofs.Common.{◌≡◌, ◌-◌, length, refl, arith}
-use Rattle.p25_code.proofs.BinaryLaws.{reads}
+use Rattle.p25_code.proofs.NumberCodeLaws.{read_by_number}
 use Rattle.p25_golay.specs.Golay24.{IsGolay24}
-use Rattle.p25_golay.specs.Golay24Laws.{code, to_checked, from_checked}
+use Rattle.p25_golay.specs.Golay24Readings.{golay24_reading_of, golay24_reads_as}
 use Rattle.p25_golay.proofs.golay24.Golay24BlockCode.read.Goals as goal
 
 pub returns : goal.returns
 returns c =
-    let places : length c.args.word.now - 12 ≡ 12 = omega (arith, c.requires.word) in
-    reads code IsGolay24 to_checked from_checked _ _ 3 c.args.word.now c.read_systematic.new.word c.read_systematic.result refl places c.read_systematic.ensures
+    read_by_number IsGolay24 3 24 golay24_reading_of golay24_reads_as c.args.word.now c.put_reading.new.word c.number_of-received.result c.read_number.result c.put_reading.result
+    c.requires.word c.number_of-received.ensures.value c.read_number.ensures.reading c.put_reading.ensures

@@ -1,10 +1,10 @@
-use Rattle.std.proofs.Common.{◌≡◌, ◌-◌, length, refl, arith}
-use Rattle.p25_code.proofs.BinaryLaws.{encodes}
+use Rattle.std.proofs.Common.{◌∙◌, ap₂}
+use Rattle.p25_bits.specs.Bits.{bits_of}
+use Rattle.p25_code.proofs.NumberCodeLaws.{encode_by_number}
 use Rattle.p25_hamming.specs.Lsd16.{IsLsd16}
-use Rattle.p25_hamming.specs.Lsd16Laws.{code, from_checked}
 use Rattle.p25_hamming.proofs.lsd16.Lsd16BlockCode.encode.Goals as goal
 
 pub returns : goal.returns
 returns c =
-    let places : length c.args.word.now - length c.args.info.now ≡ 8 = omega arith in
-    encodes code IsLsd16 from_checked _ _ c.args.info.now c.encode_systematic.new.word refl places c.requires.info c.encode_systematic.ensures
+    encode_by_number IsLsd16 8 16 c.args.info.now c.put_number.new.bits c.number_of.result c.encode_number.result c.requires.info c.number_of.ensures.value c.encode_number.ensures.encoding
+    (c.put_number.ensures ∙ ap₂ bits_of c.requires.word c.from.ensures)

@@ -1,0 +1,26 @@
+# Completion for bash of the words of p25 and of its companions: read it by `. completion.bash`, or from the folder of
+# completions.
+
+_p25() {
+    local word=${COMP_WORDS[COMP_CWORD]} words=''
+    if [ "$COMP_CWORD" -eq 1 ]; then
+        words='show check repair bridge calls soft build stations fragments duplex sample'
+    else
+        case ${COMP_WORDS[1]}:$COMP_CWORD in
+            build:2 | bridge:3) words='0 1 2 3' ;;
+        esac
+    fi
+    COMPREPLY=($(compgen -W "$words" -- "$word"))
+}
+complete -o default -F _p25 p25 ./p25
+
+_p25_companion() {
+    local word=${COMP_WORDS[COMP_CWORD]} words=-h
+    case ${COMP_WORDS[0]##*/} in
+        p25-octets) words='-h -p -s -l dibits digits bits octets floats' ;;
+        p25-rate) words='-h -t -g' ;;
+        p25-talkers) words='-h -c' ;;
+    esac
+    COMPREPLY=($(compgen -W "$words" -- "$word"))
+}
+complete -o default -F _p25_companion p25-octets p25-guess p25-rate p25-talkers p25-json p25-damage p25-flip p25-split

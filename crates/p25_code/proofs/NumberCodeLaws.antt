@@ -1,0 +1,188 @@
+-- Words that are read as numbers: by the wrong bits of what was received, and what a reader of bits makes of them.
+use Rattle.std.proofs.Common.{◌≡◌, ℕ, ◌^◌, ◌<◌, ◌≤◌, Bool, List, length, Option, Some, None, bit_xor, refl, ap, ap₂, sym, ◌∙◌, subst, arith, ◌++◌, ◌/◌, ◌%◌, bit_or, ◌+◌, ◌*◌}
+use Rattle.std.proofs.Math.Nat.{mul_comm}
+use Rattle.std.specs.Bool.{beq}
+use Rattle.std.specs.Int.Bits.{xor_self, xor_zero_r}
+use Rattle.std.specs.Int.RustNames.{count_ones}
+use Rattle.std.specs.Option.{MatchOption, option_map}
+use Rattle.std.proofs.lemmas.Nat.{mod_below, pow-add, mul-add-lt, or_shifted, shl_whole, xor_lt, pow_pos, ones_le_self, zero_from_ones}
+use Rattle.p25_bits.specs.Bits.{bits_of, field_of}
+use Rattle.p25_bits.specs.Distance.{distance_by, distance_of}
+use Rattle.p25_bits.proofs.BitsLaws.{length-bits_of, bits_of-joined, bits_of-field_of, field_of-lt}
+use Rattle.p25_bits.proofs.DistanceLaws.{distance_of-bits_of}
+use Rattle.p25_bits.proofs.DivisibleLaws.{same_from_xor}
+use Rattle.p25_code.specs.declared.code.Reading.{Reading}
+use Rattle.p25_code.specs.declared.code.Reading.TheVariants.{Found, Beyond}
+use Rattle.p25_code.specs.Words.{IsEncoding, IsReading}
+use Rattle.p25_code.specs.Readings.{IsReadAs}
+use Rattle.p25_code.specs.Binary.{syndrome_of, IsChecked, check_columns, systematic}
+use Rattle.p25_code.specs.WrongBits.{number_sum, AreWrong, NoneWrong}
+use Rattle.p25_code.proofs.ReadingLaws.{IsBlockCode, one_reading}
+use Rattle.p25_code.proofs.ParityLaws.{number_sum-xor, number_sum-zero}
+use Rattle.p25_code.proofs.BinaryLaws.{IsSystematic, encodes}
+use Rattle.p25_code.proofs.WrongLaws.{twice, length-columns, number_sum-lt, number_sum-parts}
+
+module _ (columns : List ℕ) (radius received sum : ℕ) (fits : received < 2 ^ length columns) (sums : number_sum columns received ≡ sum) where
+  -- what was received without its wrong bits is a word that passes, within the radius
+  without_wrong : (wrong : ℕ) → AreWrong columns radius sum wrong → IsReadAs beq (IsChecked columns) radius (bits_of (length columns) received) (Some (bits_of (length columns) (bit_xor received wrong)))
+  unfolding IsReadAs number_sum
+  without_wrong wrong are =
+      let n = length columns in
+      let sent = bit_xor received wrong in
+      let sent_fits : sent < 2 ^ n = xor_lt n received wrong fits are.fits in
+      record {
+        word_of_set = record {
+          long = length-bits_of n sent;
+          passes = number_sum-xor columns received wrong ∙ ap₂ bit_xor sums are.sums ∙ xor_self sum;
+        };
+        within = subst (λ m. m ≤ radius) (sym (distance_of-bits_of n received sent fits sent_fits ∙ ap count_ones (twice received wrong))) are.within;
+      }
+
+  -- where no wrong bits are few enough, no word that passes is within the radius
+  none_within : NoneWrong columns radius sum → IsReadAs beq (IsChecked columns) radius (bits_of (length columns) received) None
+  unfolding IsReadAs number_sum
+  none_within none = record { farther = farther }
+    where
+      farther : (word : List Bool) → IsChecked columns word → radius < distance_by beq (bits_of (length columns) received) word
+      farther word is =
+          let n = length columns in
+          let number = field_of word in
+          let small : number < 2 ^ n = subst (λ m. number < 2 ^ m) is.long (field_of-lt word) in
+          let bits : bits_of n number ≡ word = ap (λ m. bits_of m number) (sym is.long) ∙ bits_of-field_of word in
+          let wrong = bit_xor received number in
+          let made : number_sum columns wrong ≡ sum
+          = number_sum-xor columns received number ∙ ap₂ bit_xor sums (ap (syndrome_of columns) bits ∙ is.passes) ∙ xor_zero_r sum in
+          let far = none.farther wrong (xor_lt n received number fits small) made in
+          subst (λ w. radius < distance_of (bits_of n received) w) bits (subst (λ m. radius < m) (sym (distance_of-bits_of n received number fits small)) far)
+
+-- a reading depends on the set alone, not on how it is written
+read_as_same_set : (A B : List Bool → Type 0) (radius : ℕ) (received : List Bool) (answer : Option (List Bool)) → ((w : List Bool) → A w → B w) → ((w : List Bool) → B w → A w)
+    → IsReadAs beq A radius received answer → IsReadAs beq B radius received answer
+unfolding IsReadAs
+read_as_same_set A B radius received (Some word) to from is = record { word_of_set = to word is.word_of_set; within = is.within }
+read_as_same_set A B radius received None to from is = record { farther = λ w b. is.farther w (from w b) }
+
+-- a sum of 0 is that of no wrong bits
+none_are_wrong : (columns : List ℕ) (radius : ℕ) → AreWrong columns radius 0 0
+none_are_wrong columns radius = record { fits = pow_pos (length columns); sums = number_sum-zero columns; within = omega (arith, ones_le_self 0) }
+
+-- a received number, and the check bits of its information
+module _ {rows : List ℕ} {checks apart n radius : ℕ} {IsWord : List Bool → Type 0} (code : IsSystematic rows checks apart) (laws : IsBlockCode beq IsWord n (length rows) radius apart) (long : length rows + checks ≡ n)
+    (from : (w : List Bool) → IsChecked (rows ++ check_columns checks) w → IsWord w) (to : (w : List Bool) → IsWord w → IsChecked (rows ++ check_columns checks) w)
+    (reading : List Bool → Option (List Bool)) (reads : (received : List Bool) → IsReadAs beq IsWord radius received (reading received))
+    (received check : ℕ) (fits : received < 2 ^ n) (is : check ≡ number_sum rows (received / 2 ^ checks)) where
+  columns_are : length (rows ++ check_columns checks) ≡ n
+  columns_are = length-columns rows checks ∙ long
+
+  fits_columns : received < 2 ^ length (rows ++ check_columns checks)
+  fits_columns = subst (λ m. received < 2 ^ m) (sym columns_are) fits
+
+  -- the sum of those and of the received check bits is the sum of all
+  sum_is : number_sum (rows ++ check_columns checks) received ≡ bit_xor check (received % 2 ^ checks)
+  sum_is = number_sum-parts rows checks received ∙ ap (λ m. bit_xor m (received % 2 ^ checks)) (sym is)
+
+  pub sum_fits : bit_xor check (received % 2 ^ checks) < 2 ^ checks
+  sum_fits =
+      xor_lt checks check (received % 2 ^ checks) (subst (λ m. m < 2 ^ checks) (sym is) (number_sum-lt checks rows (received / 2 ^ checks) code.fit)) (mod_below received (2 ^ checks) (pow_pos checks))
+
+  -- what is read as a number is the reading of the bits
+  read_as : (answer : Option (List Bool)) → IsReadAs beq (IsChecked (rows ++ check_columns checks)) radius (bits_of n received) answer → answer ≡ reading (bits_of n received)
+  read_as answer is_read =
+      one_reading laws (bits_of n received) answer (reading (bits_of n received)) (length-bits_of n received)
+      (read_as_same_set (IsChecked (rows ++ check_columns checks)) IsWord radius (bits_of n received) answer from to is_read)
+      (reads (bits_of n received))
+
+  -- the word without the wrong bits
+  pub read_without : (wrong : ℕ) → AreWrong (rows ++ check_columns checks) radius (bit_xor check (received % 2 ^ checks)) wrong → Some (bits_of n (bit_xor received wrong)) ≡ reading (bits_of n received)
+  read_without wrong are =
+      let columns = rows ++ check_columns checks in
+      read_as (Some (bits_of n (bit_xor received wrong)))
+      (subst (λ m. IsReadAs beq (IsChecked columns) radius (bits_of m received) (Some (bits_of m (bit_xor received wrong)))) columns_are (without_wrong columns radius received _ fits_columns sum_is wrong are))
+
+  pub without_fits : (wrong : ℕ) → AreWrong (rows ++ check_columns checks) radius (bit_xor check (received % 2 ^ checks)) wrong → bit_xor received wrong < 2 ^ n
+  without_fits wrong are = xor_lt n received wrong fits (subst (λ m. wrong < 2 ^ m) columns_are are.fits)
+
+  -- a word whose check bits are those of its information is read as it is
+  pub read_clean : bit_xor check (received % 2 ^ checks) ≡ 0 → Some (bits_of n received) ≡ reading (bits_of n received)
+  read_clean none =
+      ap (λ m. Some (bits_of n m)) (sym (xor_zero_r received))
+      ∙ read_without 0 (subst (λ s. AreWrong (rows ++ check_columns checks) radius s 0) (sym none) (none_are_wrong (rows ++ check_columns checks) radius))
+
+  -- where none are few enough there is no reading
+  pub read_none : NoneWrong (rows ++ check_columns checks) radius (bit_xor check (received % 2 ^ checks)) → (answer : Option ℕ) → answer ≡ None → option_map (bits_of n) answer ≡ reading (bits_of n received)
+  read_none none answer e =
+      let columns = rows ++ check_columns checks in
+      ap (option_map (bits_of n)) e
+      ∙ read_as None (subst (λ m. IsReadAs beq (IsChecked columns) radius (bits_of m received) None) columns_are (none_within columns radius received _ fits_columns sum_is none))
+
+-- as many bits change as the two numbers differ in
+pub changed_bits : (received number : ℕ) (old new : List Bool) → received ≡ field_of old → number < 2 ^ length old → new ≡ bits_of (length old) number
+    → (new ≡ bits_of (length old) number) × (Found (count_ones (bit_xor received number)) ≡ Found (distance_of old new))
+changed_bits received number old new e small is =
+    let n = length old in
+    let fits : received < 2 ^ n = subst (λ m. m < 2 ^ n) (sym e) (field_of-lt old) in
+    let bits : old ≡ bits_of n received = sym (bits_of-field_of old) ∙ ap (bits_of n) (sym e) in
+    (is, ap Found (sym (distance_of-bits_of n received number fits small) ∙ ap₂ distance_of (sym bits) (sym is)))
+
+-- none do where the numbers are one
+pub unchanged_bits : (received number : ℕ) (old : List Bool) → received ≡ field_of old → number < 2 ^ length old → count_ones (bit_xor received number) ≡ 0
+    → (old ≡ bits_of (length old) number) × (Found (count_ones (bit_xor received number)) ≡ Found (distance_of old old))
+unchanged_bits received number old e small none =
+    let same = same_from_xor received number (zero_from_ones (bit_xor received number) none) in
+    let bits : old ≡ bits_of (length old) number = sym (bits_of-field_of old) ∙ ap (bits_of (length old)) (sym e ∙ same) in
+    changed_bits received number old old e small bits
+
+-- what was put into the bits that were received is the reading
+pub reading_put : (IsWord : List Bool → Type 0) (radius n : ℕ) (old new : List Bool) (sent : Option ℕ) (reading : Reading) → IsReadAs beq IsWord radius old (option_map (bits_of n) sent)
+    → MatchOption sent ((reading ≡ Beyond) × (new ≡ old)) (λ number. (new ≡ bits_of n number) × (reading ≡ Found (distance_of old new))) → IsReading beq IsWord radius old new reading
+unfolding IsReadAs IsReading
+reading_put IsWord radius n old new (Some number) reading is put =
+    subst (IsReading beq IsWord radius old new) (sym put.1) (record {
+      word_of_set = subst IsWord (sym put.0) is.word_of_set;
+      fixes_is = refl;
+      within = subst (λ w. distance_of old w ≤ radius) (sym put.0) is.within;
+    })
+reading_put IsWord radius n old new None reading is put = subst (IsReading beq IsWord radius old new) (sym put.0) (record { unchanged = put.1; none_within = is })
+
+-- the information and then its check bits, as a number
+module _ {rows : List ℕ} {checks apart : ℕ} (code : IsSystematic rows checks apart) (info check word : ℕ) (small : info < 2 ^ length rows) (few : length rows + checks ≤ 32)
+    (sums : check ≡ number_sum rows info) (joined : word ≡ bit_or (info * 2 ^ checks % 2 ^ 32) check) where
+  check_fits : check < 2 ^ checks
+  check_fits = subst (λ n. n < 2 ^ checks) (sym sums) (number_sum-lt checks rows info code.fit)
+
+  word_is : word ≡ info * 2 ^ checks + check
+  word_is = joined ∙ ap (λ n. bit_or n check) (shl_whole info (length rows) checks 32 small few) ∙ or_shifted info checks check check_fits
+
+  pub word_fits : word < 2 ^ (length rows + checks)
+  word_fits =
+      let bound : 2 ^ checks * 2 ^ length rows ≡ 2 ^ (length rows + checks) = mul_comm (2 ^ checks) (2 ^ length rows) ∙ sym (pow-add 2 (length rows) checks) in
+      subst (λ n. n < 2 ^ (length rows + checks)) (sym word_is) (subst (λ n. info * 2 ^ checks + check < n) bound (mul-add-lt info (2 ^ checks) check (2 ^ length rows) small check_fits))
+
+  -- it is the encoding in a set whose words are those that pass
+  pub encodes_number : (IsWord : List Bool → Type 0) → ((w : List Bool) → IsChecked (rows ++ check_columns checks) w → IsWord w)
+      → IsEncoding IsWord (length rows) (bits_of (length rows) info) (bits_of (length rows + checks) word)
+  unfolding systematic number_sum
+  encodes_number IsWord from =
+      encodes code IsWord from rows checks (bits_of (length rows) info) (bits_of (length rows + checks) word) refl refl (length-bits_of (length rows) info)
+      (
+      ap (bits_of (length rows + checks)) word_is
+      ∙ bits_of-joined (length rows) checks info check check_fits
+      ∙ ap (λ n. bits_of (length rows) info ++ bits_of checks n) sums
+      )
+
+-- what a reader by numbers leaves and answers is the reading of the bits
+pub read_by_number : (IsWord : List Bool → Type 0) (radius n : ℕ) (reading_of : List Bool → Option (List Bool)) → ((bits : List Bool) → IsReadAs beq IsWord radius bits (reading_of bits)) → (old new : List Bool) (received : ℕ)
+    (sent : Option ℕ) (reading : Reading) → length old ≡ n → received ≡ field_of old → option_map (bits_of n) sent ≡ reading_of (bits_of n received)
+    → MatchOption sent ((reading ≡ Beyond) × (new ≡ old)) (λ number. (new ≡ bits_of (length old) number) × (reading ≡ Found (distance_of old new))) → IsReading beq IsWord radius old new reading
+read_by_number IsWord radius n reading_of reads old new received sent reading long e read put =
+    let bits : bits_of n received ≡ old = ap₂ bits_of (sym long) e ∙ bits_of-field_of old in
+    let is = subst (IsReadAs beq IsWord radius old) (sym (read ∙ ap reading_of bits)) (reads old) in
+    reading_put IsWord radius n old new sent reading is
+    (subst (λ m. MatchOption sent ((reading ≡ Beyond) × (new ≡ old)) (λ number. (new ≡ bits_of m number) × (reading ≡ Found (distance_of old new)))) long put)
+
+-- what an encoder by numbers writes is the encoding of the bits
+pub encode_by_number : (IsWord : List Bool → Type 0) (k n : ℕ) (info word : List Bool) (number made : ℕ) → length info ≡ k → number ≡ field_of info → IsEncoding IsWord k (bits_of k number) (bits_of n made)
+    → word ≡ bits_of n made → IsEncoding IsWord k info word
+encode_by_number IsWord k n info word number made long e is whole =
+    let bits : bits_of k number ≡ info = ap₂ bits_of (sym long) e ∙ bits_of-field_of info in
+    subst (λ i. IsEncoding IsWord k i word) bits (subst (IsEncoding IsWord k (bits_of k number)) (sym whole) is)

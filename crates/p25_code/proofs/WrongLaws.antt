@@ -1,0 +1,289 @@
+-- Which bits are wrong, by their sum: those of a word are those of its information and of its check bits, at most one wrong bit of
+-- information is one row or none, and where two lists of rows undo each other the two halves of a word may change places.
+use Rattle.std.proofs.Common.{◌≡◌, ◌⊎◌, ℕ, zero, suc, ◌+◌, ◌-◌, ◌*◌, ◌/◌, ◌%◌, ◌^◌, ◌<◌, ◌≤◌, inl, inr, true, cond, eqb, ltb, List, [], ◌∷◌, ◌++◌, length, map, get_or, bit_or, bit_xor, refl, ap, ap₂, sym, ◌∙◌, subst, arith, length-append, mod-eq_of_lt}
+use Rattle.std.specs.Int.{bit_at}
+use Rattle.std.specs.Int.Bits.{xor_assoc, xor_self, xor_zero_l, xor_zero_r}
+use Rattle.std.specs.Int.RustNames.{count_ones}
+use Rattle.std.proofs.Math.Nat.{pow-suc, mul_comm}
+use Rattle.std.proofs.lemmas.Bool.{cases_lt, and_parts, ltb-true}
+use Rattle.std.proofs.lemmas.Nat.{xor_comm, ones_cat, zero_from_ones, pow_pos, pow-add, pow_below, shr_high, mod_low, shr_split, shr_below, mod_below, mul-add-lt, one_shl, or_shifted, shl_whole}
+use Rattle.std.proofs.lemmas.Nat.Bits.{bit_at-pow_same, bit_at-pow_other}
+use Rattle.p25_bits.specs.Bits.{bits_of}
+use Rattle.p25_bits.proofs.BitsLaws.{length-bits_of, bits_of-add, bits_of-above, bits_of-mod, bits_of-suc, field_of-bits_of}
+use Rattle.p25_code.specs.Binary.{syndrome_of, check_columns, rows_fit}
+use Rattle.p25_code.specs.WrongBits.{number_sum, AreWrong, NoneWrong, NoneByRows, AreInverse}
+use Rattle.p25_code.proofs.SyndromeLaws.{syndrome_of-append, syndrome_of-check_columns, length-check_columns}
+use Rattle.p25_code.proofs.BinaryLaws.{syndrome_of-lt}
+use Rattle.p25_code.proofs.ParityLaws.{number_sum-xor, number_sum-zero, syndrome_of-mixed}
+use Rattle.p25_code.proofs.WeightLaws.{weight_of-bits_of, syndrome_of-zeros}
+
+-- a column for each row and each check
+pub length-columns : (rows : List ℕ) (checks : ℕ) → length (rows ++ check_columns checks) ≡ length rows + checks
+length-columns rows checks = length-append rows (check_columns checks) ∙ ap (λ n. length rows + n) (length-check_columns checks)
+
+-- the sum of two lists of columns: each takes its part of the number
+pub number_sum-append : (first last : List ℕ) (number : ℕ) → number_sum (first ++ last) number ≡ bit_xor (number_sum first (number / 2 ^ length last)) (number_sum last number)
+unfolding number_sum
+number_sum-append first last number =
+    let high = bits_of (length first) (number / 2 ^ length last) in
+    let low = bits_of (length last) number in
+    ap (λ n. syndrome_of (first ++ last) (bits_of n number)) (length-append first last)
+    ∙ ap (syndrome_of (first ++ last)) (bits_of-add (length first) (length last) number)
+    ∙ syndrome_of-append first last high low (length-bits_of (length first) (number / 2 ^ length last))
+
+-- what stands above the places of a number does not matter
+pub number_sum-mod : (columns : List ℕ) (number : ℕ) → number_sum columns (number % 2 ^ length columns) ≡ number_sum columns number
+unfolding number_sum
+number_sum-mod columns number = ap (syndrome_of columns) (bits_of-mod (length columns) number)
+
+-- a word's sum is that of its information and its check bits
+pub number_sum-parts : (rows : List ℕ) (checks number : ℕ) → number_sum (rows ++ check_columns checks) number ≡ bit_xor (number_sum rows (number / 2 ^ checks)) (number % 2 ^ checks)
+unfolding number_sum
+number_sum-parts rows checks number =
+    number_sum-append rows (check_columns checks) number
+    ∙ ap (λ n. bit_xor (number_sum rows (number / 2 ^ n)) (syndrome_of (check_columns checks) (bits_of n number))) (length-check_columns checks)
+    ∙ ap (bit_xor (number_sum rows (number / 2 ^ checks))) (syndrome_of-check_columns checks (bits_of checks number) (length-bits_of checks number) ∙ field_of-bits_of checks number)
+
+-- the first column is in the sum where the highest bit is 1
+number_sum-cons : (column : ℕ) (columns : List ℕ) (number : ℕ) → number_sum (column ∷ columns) number ≡ bit_xor (cond (eqb (bit_at number (length columns)) 1) column 0) (number_sum columns number)
+unfolding number_sum syndrome_of
+number_sum-cons column columns number = ap (syndrome_of (column ∷ columns)) (bits_of-suc (length columns) number)
+
+-- what stands above all places adds nothing
+number_sum-above : (columns : List ℕ) → number_sum columns (2 ^ length columns) ≡ 0
+unfolding number_sum
+number_sum-above columns =
+    let k = length columns in
+    let alone : 2 ^ k ≡ 1 * 2 ^ k + 0 = omega arith in
+    ap (λ n. syndrome_of columns (bits_of k n)) alone ∙ ap (syndrome_of columns) (bits_of-above k k 1 0 (omega arith)) ∙ syndrome_of-zeros columns (bits_of k 0) (weight_of-bits_of k)
+
+-- one place has the sum of its column
+pub number_sum-one : (columns : List ℕ) (i : ℕ) → i < length columns → number_sum columns (2 ^ (length columns - 1 - i)) ≡ get_or columns i 0
+number_sum-one [] i inside = absurd (omega arith)
+number_sum-one (column ∷ columns) zero inside =
+    let k = length columns in
+    let place : suc k - 1 - 0 ≡ k = omega arith in
+    ap (λ n. number_sum (column ∷ columns) (2 ^ n)) place
+    ∙ number_sum-cons column columns (2 ^ k)
+    ∙ ap₂ (λ b n. bit_xor (cond (eqb b 1) column 0) n) (bit_at-pow_same k) (number_sum-above columns)
+    ∙ xor_zero_r column
+number_sum-one (column ∷ columns) (suc i) inside =
+    let k = length columns in
+    let place : suc k - 1 - suc i ≡ k - 1 - i = omega arith in
+    ap (λ n. number_sum (column ∷ columns) (2 ^ n)) place
+    ∙ number_sum-cons column columns (2 ^ (k - 1 - i))
+    ∙ ap₂ (λ b n. bit_xor (cond (eqb b 1) column 0) n) (bit_at-pow_other (k - 1 - i) k (omega arith)) (number_sum-one columns i (omega arith))
+    ∙ xor_zero_l (get_or columns i 0)
+
+-- a number with at most one 1 is 0 or a power of two
+one_place : (k number : ℕ) → number < 2 ^ k → count_ones number ≤ 1 → (number ≡ 0) ⊎ ((i : ℕ) × (i < k) × (number ≡ 2 ^ (k - 1 - i)))
+unfolding count_ones
+one_place zero number small few = inl (omega arith)
+one_place (suc k) number small few =
+    elim (cases_lt number (2 ^ k)) [
+      | inl low ↦ elim (one_place k number low few) [
+        | inl none ↦ inl none
+        | inr found ↦
+            let place : k - 1 - found.0 ≡ suc k - 1 - suc found.0 = omega arith in
+            inr (suc found.0, omega (arith, found.1), found.2 ∙ ap (λ n. 2 ^ n) place)
+      ]
+      | inr high ↦
+          let rest = number - 2 ^ k in
+          let rest_fits : rest < 2 ^ k = omega (arith, pow-suc 2 k) in
+          let split : number ≡ 1 * 2 ^ k + rest = omega arith in
+          let ones : count_ones number ≡ 1 + count_ones rest = ap count_ones split ∙ ones_cat k 1 rest rest_fits in
+          let none : rest ≡ 0 = zero_from_ones rest (omega arith) in
+          let place : k ≡ suc k - 1 - 0 = omega arith in
+          let whole : number ≡ 2 ^ k = omega arith in
+          inr (0, omega arith, whole ∙ ap (λ n. 2 ^ n) place)
+    ]
+
+-- a power of two has one 1
+ones-pow : (k : ℕ) → count_ones (2 ^ k) ≡ 1
+unfolding count_ones
+ones-pow k = let alone : 2 ^ k ≡ 1 * 2 ^ k + 0 = omega arith in ap count_ones alone ∙ ones_cat k 1 0 (pow_pos k)
+
+-- the ones of a number are those of its two parts
+ones-parts : (checks number : ℕ) → count_ones number ≡ count_ones (number / 2 ^ checks) + count_ones (number % 2 ^ checks)
+ones-parts checks number = ap count_ones (sym (shr_split number checks)) ∙ ones_cat checks (number / 2 ^ checks) (number % 2 ^ checks) (mod_below number (2 ^ checks) (pow_pos checks))
+
+-- a number of two parts has a place for each column
+parts_fit : (rows : List ℕ) (checks high low : ℕ) → high < 2 ^ length rows → low < 2 ^ checks → high * 2 ^ checks + low < 2 ^ length (rows ++ check_columns checks)
+parts_fit rows checks high low above below =
+    let bound : 2 ^ checks * 2 ^ length rows ≡ 2 ^ length (rows ++ check_columns checks)
+    = mul_comm (2 ^ checks) (2 ^ length rows) ∙ sym (pow-add 2 (length rows) checks) ∙ ap (λ n. 2 ^ n) (sym (length-columns rows checks)) in
+    subst (λ n. high * 2 ^ checks + low < n) bound (mul-add-lt high (2 ^ checks) low (2 ^ length rows) above below)
+
+-- and the parts of such a number
+pub high_fits : (rows : List ℕ) (checks number : ℕ) → number < 2 ^ length (rows ++ check_columns checks) → number / 2 ^ checks < 2 ^ length rows
+high_fits rows checks number fits = shr_below number (length rows) checks (subst (λ n. number < 2 ^ n) (length-columns rows checks) fits)
+
+low_fits : (checks number : ℕ) → number % 2 ^ checks < 2 ^ checks
+low_fits checks number = mod_below number (2 ^ checks) (pow_pos checks)
+
+-- what is added twice is not there
+pub twice : (a b : ℕ) → bit_xor a (bit_xor a b) ≡ b
+twice a b = sym (xor_assoc a a b) ∙ ap (λ n. bit_xor n b) (xor_self a) ∙ xor_zero_l b
+
+-- check bits alone are wrong
+pub checks_wrong : (rows : List ℕ) (checks radius sum : ℕ) → sum < 2 ^ checks → count_ones sum ≤ radius → AreWrong (rows ++ check_columns checks) radius sum sum
+checks_wrong rows checks radius sum small few =
+    let alone : 0 * 2 ^ checks + sum ≡ sum = omega arith in
+    let high : sum / 2 ^ checks ≡ 0 = ap (λ n. n / 2 ^ checks) (sym alone) ∙ shr_high 0 checks sum small in
+    record {
+      fits = subst (λ n. n < 2 ^ length (rows ++ check_columns checks)) alone (parts_fit rows checks 0 sum (pow_pos (length rows)) small);
+      sums = number_sum-parts rows checks sum ∙ ap₂ bit_xor (ap (number_sum rows) high ∙ number_sum-zero rows) (mod-eq_of_lt small) ∙ xor_zero_l sum;
+      within = few;
+    }
+
+-- one bit of information is wrong, and the check bits that are then left of the sum
+pub row_wrong : (rows : List ℕ) (checks radius sum i rest wrong : ℕ) → i < length rows → rest < 2 ^ checks → rest ≡ bit_xor sum (get_or rows i 0) → count_ones rest < radius
+    → wrong ≡ 2 ^ (length rows - 1 - i) * 2 ^ checks + rest → AreWrong (rows ++ check_columns checks) radius sum wrong
+row_wrong rows checks radius sum i rest wrong inside small e few whole =
+    let place = length rows - 1 - i in
+    let lower : place < length rows = omega arith in
+    let high : wrong / 2 ^ checks ≡ 2 ^ place = ap (λ n. n / 2 ^ checks) whole ∙ shr_high (2 ^ place) checks rest small in
+    let low : wrong % 2 ^ checks ≡ rest = ap (λ n. n % 2 ^ checks) whole ∙ mod_low (2 ^ place) checks rest small in
+    record {
+      fits = subst (λ n. n < 2 ^ length (rows ++ check_columns checks)) (sym whole) (parts_fit rows checks (2 ^ place) rest (pow_below place (length rows) lower) small);
+      sums =
+          number_sum-parts rows checks wrong
+          ∙ ap₂ bit_xor (ap (number_sum rows) high ∙ number_sum-one rows i inside) (low ∙ e ∙ xor_comm sum (get_or rows i 0))
+          ∙ twice (get_or rows i 0) sum;
+      within = omega (arith, ones-parts checks wrong, ap count_ones high, ap count_ones low, ones-pow place);
+    }
+
+-- a row's bit shifted to its place, and check bits after it
+pub row_bits : (place checks rest : ℕ) → place + checks < 32 → rest < 2 ^ checks → bit_or (1 * 2 ^ (place + checks) % 2 ^ 32) rest ≡ 2 ^ place * 2 ^ checks + rest
+row_bits place checks rest fits small =
+    ap (λ n. bit_or n rest) (one_shl (place + checks) 32 fits ∙ pow-add 2 place checks) ∙ or_shifted (2 ^ place) checks rest small
+
+-- neither are check bits alone few enough, nor those that each row leaves of the sum
+pub none_by_rows : (rows : List ℕ) (checks radius sum : ℕ) → radius < count_ones sum → ((i : ℕ) → i < length rows → radius ≤ count_ones (bit_xor sum (get_or rows i 0)))
+    → NoneByRows (rows ++ check_columns checks) checks radius sum
+none_by_rows rows checks radius sum many each = record { farther = farther }
+  where
+    farther : (wrong : ℕ) → wrong < 2 ^ length (rows ++ check_columns checks) → count_ones (wrong / 2 ^ checks) ≤ 1 → number_sum (rows ++ check_columns checks) wrong ≡ sum → radius < count_ones wrong
+    farther wrong fits few sums =
+        let low = wrong % 2 ^ checks in
+        let parts = sym (number_sum-parts rows checks wrong) ∙ sums in
+        elim (one_place (length rows) (wrong / 2 ^ checks) (high_fits rows checks wrong fits) few) [
+          | inl none ↦
+              let whole : low ≡ sum = sym (xor_zero_l low) ∙ ap (λ n. bit_xor n low) (sym (ap (number_sum rows) none ∙ number_sum-zero rows)) ∙ parts in
+              omega (arith, ones-parts checks wrong, ap count_ones whole, many)
+          | inr found ↦
+              let row = get_or rows found.0 0 in
+              let place = length rows - 1 - found.0 in
+              let joined : bit_xor row low ≡ sum = ap (λ n. bit_xor n low) (sym (ap (number_sum rows) found.2 ∙ number_sum-one rows found.0 found.1)) ∙ parts in
+              let rest : low ≡ bit_xor sum row = sym (twice row low) ∙ ap (bit_xor row) joined ∙ xor_comm row sum in
+              omega (arith, ones-parts checks wrong, ap count_ones rest, ap count_ones found.2, ones-pow place, each found.0 found.1)
+        ]
+
+-- the two halves of a number change places
+unfoldable pub halves_turned : ℕ → ℕ → ℕ
+halves_turned half number = number % 2 ^ half * 2 ^ half + number / 2 ^ half
+
+-- they do so by shifts
+pub shifted_halves : (half number : ℕ) → half ≤ 16 → number / 2 ^ half < 2 ^ half → bit_or (number % (1 * 2 ^ half % 2 ^ 32) * 2 ^ half % 2 ^ 32) (number / 2 ^ half) ≡ halves_turned half number
+unfolding halves_turned
+shifted_halves half number fits high_small =
+    let low = number % 2 ^ half in
+    let high = number / 2 ^ half in
+    let below : half < 32 = omega arith in
+    let both : half + half ≤ 32 = omega arith in
+    ap (λ n. bit_or (number % n * 2 ^ half % 2 ^ 32) high) (one_shl half 32 below)
+    ∙ ap (λ n. bit_or n high) (shl_whole low half half 32 (low_fits half number) both)
+    ∙ or_shifted low half high high_small
+
+-- then the sum is that by the other rows
+turned_wrong : (rows turned : List ℕ) (half radius sum wrong : ℕ) → length rows ≡ half → length turned ≡ half → ((number : ℕ) → number < 2 ^ half → number_sum turned (number_sum rows number) ≡ number)
+    → AreWrong (rows ++ check_columns half) radius sum wrong → AreWrong (turned ++ check_columns half) radius (number_sum turned sum) (halves_turned half wrong)
+unfolding halves_turned
+turned_wrong rows turned half radius sum wrong long long' undone are =
+    let high = wrong / 2 ^ half in
+    let low = wrong % 2 ^ half in
+    let number = low * 2 ^ half + high in
+    let high_small : high < 2 ^ half = subst (λ n. high < 2 ^ n) long (high_fits rows half wrong are.fits) in
+    let new_high : number / 2 ^ half ≡ low = shr_high low half high high_small in
+    let new_low : number % 2 ^ half ≡ high = mod_low low half high high_small in
+    record {
+      fits = parts_fit turned half low high (subst (λ n. low < 2 ^ n) (sym long') (low_fits half wrong)) high_small;
+      sums =
+          number_sum-parts turned half number
+          ∙ ap₂ bit_xor (ap (number_sum turned) new_high) (new_low ∙ sym (undone high high_small))
+          ∙ xor_comm (number_sum turned low) (number_sum turned (number_sum rows high))
+          ∙ sym (number_sum-xor turned (number_sum rows high) low)
+          ∙ ap (number_sum turned) (sym (number_sum-parts rows half wrong) ∙ are.sums);
+      within = omega (arith, are.within, ones-parts half wrong, ones-parts half number, ap count_ones new_high, ap count_ones new_low);
+    }
+
+module _ (rows turned : List ℕ) (inverse : AreInverse rows turned) (radius sum turned_sum : ℕ) (turns : turned_sum ≡ number_sum turned sum) where
+  -- what is wrong by the other rows is wrong by these, when the halves change places
+  pub halves_wrong : (wrong : ℕ) → sum < 2 ^ length rows → AreWrong (turned ++ check_columns (length rows)) radius turned_sum wrong
+      → AreWrong (rows ++ check_columns (length rows)) radius sum (halves_turned (length rows) wrong)
+  halves_wrong wrong small are =
+      subst (λ n. AreWrong (rows ++ check_columns (length rows)) radius n (halves_turned (length rows) wrong)) (ap (number_sum rows) turns ∙ inverse.second sum small)
+      (turned_wrong turned rows (length rows) radius turned_sum wrong inverse.long refl inverse.second are)
+
+  -- of at most three bits at most one is in one of the halves
+  pub none_by_halves : radius ≤ 3 → NoneByRows (rows ++ check_columns (length rows)) (length rows) radius sum → NoneByRows (turned ++ check_columns (length rows)) (length rows) radius turned_sum
+      → NoneWrong (rows ++ check_columns (length rows)) radius sum
+  unfolding halves_turned
+  none_by_halves three first second = record { farther = farther }
+    where
+      farther : (wrong : ℕ) → wrong < 2 ^ length (rows ++ check_columns (length rows)) → number_sum (rows ++ check_columns (length rows)) wrong ≡ sum → radius < count_ones wrong
+      farther wrong fits sums =
+          let half = length rows in
+          let high = wrong / 2 ^ half in
+          let low = wrong % 2 ^ half in
+          let high_small = high_fits rows half wrong fits in
+          let are = turned_wrong rows turned half (count_ones wrong) sum wrong refl inverse.long inverse.first (record { fits = fits; sums = sums; within = omega arith }) in
+          let new_high : (low * 2 ^ half + high) / 2 ^ half ≡ low = shr_high low half high high_small in
+          elim (cases_lt (count_ones high) 2) [
+            | inl few ↦ first.farther wrong fits (omega arith) sums
+            | inr many ↦ elim (cases_lt (count_ones low) 2) [
+              | inl few ↦
+                  let far = second.farther (halves_turned half wrong) are.fits (omega (arith, ap count_ones new_high)) (are.sums ∙ sym turns) in
+                  omega (arith, far, are.within)
+              | inr more ↦ omega (arith, ones-parts half wrong)
+            ]
+          ]
+
+-- a sum of rows has a bit for each check and no other
+pub number_sum-lt : (checks : ℕ) (rows : List ℕ) (number : ℕ) → rows_fit checks rows ≡ true → number_sum rows number < 2 ^ checks
+unfolding number_sum
+number_sum-lt checks rows number fit = syndrome_of-lt checks rows (bits_of (length rows) number) fit
+
+-- and so has each row
+pub row-lt : (checks : ℕ) (rows : List ℕ) (i : ℕ) → rows_fit checks rows ≡ true → i < length rows → get_or rows i 0 < 2 ^ checks
+row-lt checks [] i fit inside = absurd (omega arith)
+row-lt checks (row ∷ rows) zero fit inside = ltb-true row (2 ^ checks) (and_parts (ltb row (2 ^ checks)) (rows_fit checks rows) fit).0
+row-lt checks (row ∷ rows) (suc i) fit inside = row-lt checks rows i (and_parts (ltb row (2 ^ checks)) (rows_fit checks rows) fit).1 (omega arith)
+
+-- where one bit at most is wrong, at most one bit of information is
+pub none_by_one_row : (columns : List ℕ) (checks sum : ℕ) → NoneByRows columns checks 1 sum → NoneWrong columns 1 sum
+none_by_one_row columns checks sum none = record {
+  farther = λ wrong fits sums. elim (cases_lt 1 (count_ones wrong)) [
+    | inl many ↦ many
+    | inr few ↦ none.farther wrong fits (omega (arith, ones-parts checks wrong)) sums
+  ];
+}
+
+-- where the sums by one list of rows, of the other's rows, are single bits in order, the one undoes the other
+undone : (rows turned : List ℕ) → map (number_sum turned) rows ≡ check_columns (length rows) → (number : ℕ) → number < 2 ^ length rows → number_sum turned (number_sum rows number) ≡ number
+unfolding number_sum
+undone rows turned single number small =
+    let bits = bits_of (length rows) number in
+    let places = length-bits_of (length rows) number in
+    sym (syndrome_of-mixed turned rows bits)
+    ∙ ap (λ columns. syndrome_of columns bits) single
+    ∙ syndrome_of-check_columns (length rows) bits places
+    ∙ field_of-bits_of (length rows) number
+    ∙ mod-eq_of_lt small
+
+pub are_inverse : (rows turned : List ℕ) → length turned ≡ length rows → map (number_sum turned) rows ≡ check_columns (length rows) → map (number_sum rows) turned ≡ check_columns (length rows) → AreInverse rows turned
+are_inverse rows turned long single back = record {
+  long = long;
+  first = undone rows turned single;
+  second = λ number small. undone turned rows (back ∙ ap check_columns (sym long)) number (subst (λ n. number < 2 ^ n) (sym long) small);
+}

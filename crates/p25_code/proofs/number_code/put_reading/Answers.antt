@@ -1,0 +1,26 @@
+use Rattle.std.proofs.Common.{◌≡◌, ◌^◌, ◌<◌, length, bit_xor, arith, sym, subst, ap, ◌∙◌}
+use Rattle.std.specs.Int.RustNames.{count_ones}
+use Rattle.std.specs.Option.{MatchOption, IfSome}
+use Rattle.p25_bits.specs.Bits.{bits_of}
+use Rattle.p25_bits.specs.Distance.{distance_of}
+use Rattle.p25_code.specs.declared.code.Reading.TheVariants.{Found, Beyond}
+use Rattle.p25_code.proofs.NumberCodeLaws.{changed_bits, unchanged_bits}
+use Rattle.p25_code.proofs.number_code.put_reading.Goals as goal
+
+pub returns-then-fixes-gt0 : goal.returns-then-fixes-gt0
+returns-then-fixes-gt0 c =
+    let old = c.args.word.now in
+    let new = c.put_number.new.bits in
+    let reading = Found (count_ones (bit_xor c.args.received c.in-Some.number)) in
+    let small : c.in-Some.number < 2 ^ length old = subst (λ sent. IfSome sent (λ number. number < 2 ^ length old)) c.in-Some.is c.requires.fits in
+    subst (λ sent. MatchOption sent ((reading ≡ Beyond) × (new ≡ old)) (λ number. (new ≡ bits_of (length old) number) × (reading ≡ Found (distance_of old new)))) (sym c.in-Some.is)
+    (changed_bits c.args.received c.in-Some.number old new c.requires.received small (c.put_number.ensures ∙ ap (bits_of (length old)) c.from.ensures))
+
+pub returns-else-fixes-gt0 : goal.returns-else-fixes-gt0
+returns-else-fixes-gt0 c =
+    let old = c.args.word.now in
+    let reading = Found (count_ones (bit_xor c.args.received c.in-Some.number)) in
+    let small : c.in-Some.number < 2 ^ length old = subst (λ sent. IfSome sent (λ number. number < 2 ^ length old)) c.in-Some.is c.requires.fits in
+    let none : count_ones (bit_xor c.args.received c.in-Some.number) ≡ 0 = omega arith in
+    subst (λ sent. MatchOption sent ((reading ≡ Beyond) × (old ≡ old)) (λ number. (old ≡ bits_of (length old) number) × (reading ≡ Found (distance_of old old)))) (sym c.in-Some.is)
+    (unchanged_bits c.args.received c.in-Some.number old c.requires.received small none)

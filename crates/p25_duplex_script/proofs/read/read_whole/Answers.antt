@@ -1,5 +1,0 @@
-use Rattle.p25_duplex_script.proofs.DuplexReadSteps.{refused-answer}
-use Rattle.p25_duplex_script.proofs.read.read_whole.Goals as goal
-
-pub returns-in-Err : goal.returns-in-Err
-returns-in-Err c = refused-answer c.args.line.now c.words_of.new.out c.in-Err.fault c.in-Err.ensures

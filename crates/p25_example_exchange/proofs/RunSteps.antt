@@ -1,0 +1,15 @@
+-- A run step by step: the first event makes a world and a step, and the run goes on from there.
+use Rattle.std.proofs.Common.{◌≡◌, List, ◌∷◌, ap, sym}
+use Rattle.p25_stations.specs.declared.step.Event.{Event}
+use Rattle.p25_stations.specs.declared.step.Step.{Step}
+use Rattle.p25_stations.specs.WorldState.{WorldState}
+use Rattle.p25_stations.specs.Steps.{world_step}
+use Rattle.p25_stations.specs.Runs.{steps_of, world_run}
+
+pub steps-cons : (w now : WorldState) (event : Event) (step : Step) (events : List Event) → (now, step) ≡ world_step w event → steps_of w (event ∷ events) ≡ step ∷ steps_of now events
+unfolding steps_of
+steps-cons w now event step events same = ap (λ (p : WorldState × Step). p.1 ∷ steps_of p.0 events) (sym same)
+
+pub run-cons : (w now : WorldState) (event : Event) (step : Step) (events : List Event) → (now, step) ≡ world_step w event → world_run w (event ∷ events) ≡ world_run now events
+unfolding world_run
+run-cons w now event step events same = ap (λ (p : WorldState × Step). world_run p.0 events) (sym same)

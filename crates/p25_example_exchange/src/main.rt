@@ -1,0 +1,77 @@
+//! Two stations, one message, and one bit that comes inverted: prints what each step is.
+//!
+//! A `World` holds both stations and the newest transmission of each direction. Each event is one call of `step`, which
+//! answers what happened. Nothing is sent by itself: that a transmission comes to the other station is an event too.
+#![tactic(auto)]
+
+ghost use Rattle.std.specs.Prelude.{◌≡◌, ◌<◌, [], ◌∷◌, OnOk, IfOk};
+ghost use Rattle.p25_stations.specs.Runs.{steps_of, world_run};
+ghost use Rattle.p25_stations.specs.WorldState.{first_world};
+ghost use Rattle.p25_example_exchange.specs.Exchanges.{events_of};
+
+use p25_stations::{Event, Flips, Message, Step, StepKind, World};
+use std::alloc::AllocError;
+use std::fmt;
+use std::io;
+
+fn main(rt: HostRuntime) -> io::Result<()> {
+    let mut world = World::new(rt.alloc());
+    let Some(message) = Message::new(b"meet at the gate") else {
+        // The contract of `new` says that so few octets are a message, so the check proves that no call comes here.
+        unreachable!();
+    };
+    let steps = exchange(&mut world, message, 400)?;
+    for step in &steps {
+        let kind = Told(&step.kind);
+        println!(rt; "{kind}")?;
+    }
+    let sent = world.sent().len();
+    let delivered = world.delivered().len();
+    let acknowledged = world.acknowledged();
+    println!(rt; "sent {sent}, delivered {delivered}, acknowledged {acknowledged}")
+}
+
+// Offers a message to the sender of a new world, has its transmission come to the receiver with the bit at one place
+// inverted, and has the answer come back as it was sent. Answers the three steps. What is said of them here is what the
+// theorems in `p25_stations::laws` speak of: `steps_of` and `world_run` of a list of events.
+fn exchange(world: &mut World, message: Message, place: u16) -> Result<[Step; 3], AllocError>
+    requires first { world.old.state ≡ first_world }
+    requires place { place < 25920 }
+    ensures steps { IfOk result (λ steps. steps ≡ steps_of first_world (events_of message place)) }
+    ensures world { OnOk result (world.new.state ≡ world_run first_world (events_of message place)) }
+{
+    let offered = world.step(&Event::Send(message))?;
+    let heard = world.step(&Event::ToReceiver(one_place(place)))?;
+    let answered = world.step(&Event::ToSender(Flips::new()))?;
+    Ok([offered, heard, answered])
+}
+
+// The list of one place.
+fn one_place(place: u16) -> Flips
+    requires { place < 25920 }
+    ensures { result ≡ place ∷ [] }
+{
+    let mut flips = Flips::new();
+    flips.push(place);
+    flips
+}
+
+/// What a step was, in words.
+struct Told<'a>(&'a StepKind);
+
+impl fmt::Display for Told<'_> {
+    fn fmt<W: fmt::Write>(&self, f: &mut fmt::Formatter<W>) -> fmt::Result {
+        match self.0 {
+            StepKind::Taken { number, blocks } => {
+                write!(f, "sent: packet {number}, blocks {blocks}")
+            }
+            StepKind::Delivered { number, message } => {
+                let count = message.octets().len();
+                write!(f, "delivered: packet {number}, octets {count}")
+            }
+            StepKind::Acknowledged { number } => write!(f, "acknowledged: packet {number}"),
+            StepKind::Lost { field, .. } => write!(f, "lost: {field:?}"),
+            _ => write!(f, "something else"),
+        }
+    }
+}

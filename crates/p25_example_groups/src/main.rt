@@ -1,0 +1,101 @@
+//! Prints the group and the radio of each voice unit with link control (`ldu1`) on standard input, in decimal, as it comes.
+//!
+//! The order of the calls is what this program shows. Push octets, take every item that they decide, and only then push
+//! more. At the end of the input call `finish`, and take items once more: the end decides what no octet decided.
+#![tactic(auto)]
+
+ghost use Rattle.std.specs.Prelude.{◌≡◌, ◌+◌, ◌*◌, ◌^◌, ◌<◌, ◌≤◌, ◌++◌, Some, [], true, false, length, OnOk, codes, decimal};
+ghost use Rattle.p25_stream.specs.Scan.{given};
+ghost use Rattle.p25_example_groups.specs.Talks.{talk_of, talk_text};
+
+use p25_bits::BitBuf;
+use p25_link::LinkKind;
+use p25_stream::{Item, Scanner};
+use p25_units::{Body, VoiceUnit};
+use std::fmt;
+use std::io;
+use std::io::Read;
+
+/// Who speaks to which group.
+#[derive(Clone, Copy, Debug, PartialEq, Eq)]
+struct Talk {
+    group: u16,
+    radio: u32,
+}
+
+impl fmt::Display for Talk {
+    ghost output = { λ talk. Some (talk_text talk) };
+
+    fn fmt<W: fmt::Write>(&self, f: &mut fmt::Formatter<W>) -> fmt::Result {
+        let Talk { group, radio } = *self;
+        write!(f, "group {group} radio {radio}")
+    }
+}
+
+fn main(rt: HostRuntime) -> io::Result<()> {
+    let mut input = rt.stdin();
+    let mut scanner = Scanner::new();
+    let mut raw = BitBuf::new();
+    let mut octets = [0; 4_096];
+    // A scanner takes up to 2^60 bits: these reads give no more than 2^55.
+    for _ in 0..1_u64 << 40 {
+        let count = input.read(&mut octets)?;
+        if count == 0 {
+            break;
+        }
+        scan(&rt, &octets[..count], &mut scanner, &mut raw)?;
+    }
+    scanner.finish();
+    print_talks(&rt, &mut scanner, &mut raw)
+}
+
+// Pushes octets, a few at a time, and prints what each few decide. A scanner takes octets only while it has no item to give,
+// which is what `drained` says.
+fn scan(rt: &impl Print, octets: &[u8], scanner: &mut Scanner, raw: &mut BitBuf) -> io::Result<()>
+    requires drained { given scanner.old ≡ [] }
+    requires going { scanner.old.finished ≡ false }
+    requires few { scanner.old.place + length scanner.old.held + 8 * length octets.now < 2 ^ 60 }
+    ensures drained { OnOk result (given scanner.new ≡ []) }
+    ensures going { OnOk result (scanner.new.finished ≡ false) }
+    ensures bits { OnOk result (scanner.new.place + length scanner.new.held ≡ scanner.old.place + length scanner.old.held + 8 * length octets.now) }
+{
+    let mut taken = 0;
+    while taken < octets.len() {
+        taken += scanner.push_some(&octets[taken..]);
+        print_talks(rt, scanner, raw)?;
+    }
+    Ok(())
+}
+
+// Prints a line for each talk among the items that the scanner can give, until it can give no more.
+fn print_talks(rt: &impl Print, scanner: &mut Scanner, raw: &mut BitBuf) -> io::Result<()>
+    ensures drained { OnOk result (given scanner.new ≡ []) }
+    ensures same { scanner.new.finished ≡ scanner.old.finished }
+    ensures bits { scanner.new.place + length scanner.new.held ≡ scanner.old.place + length scanner.old.held }
+{
+    while let Some(item) = scanner.next(raw) {
+        if let Some(talk) = read_talk(&item) {
+            println!(rt; "{talk}")?;
+        }
+    }
+    Ok(())
+}
+
+// Who speaks to which group, where the item is a whole `ldu1` whose link control says it.
+fn read_talk(item: &Item) -> Option<Talk>
+    ensures { result ≡ talk_of item.now }
+{
+    let Item::Whole { frame, .. } = item else {
+        return None;
+    };
+    let Body::Voice(VoiceUnit::Link1 { link, .. }) = frame.unit.body() else {
+        return None;
+    };
+    match link.kind() {
+        LinkKind::Group { group, source, .. } => Some(Talk {
+            group,
+            radio: source,
+        }),
+        LinkKind::Individual { .. } | LinkKind::Other => None,
+    }
+}

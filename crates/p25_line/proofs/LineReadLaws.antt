@@ -1,0 +1,63 @@
+-- Reading a line by its words and writing it undo each other, where they do for words. For all that lines tell of.
+use Rattle.std.proofs.Common.{◌≡◌, ℕ, ◌<◌, ◌≤◌, true, List, length, Result, Ok, Err, refl, ap, ◌∙◌, sym}
+use Rattle.std.specs.Prelude.{IfOk}
+use Rattle.std.specs.List.{join_with_byte, list_all}
+use Rattle.p25_line.specs.LineReadings.{found_read, line_read}
+use Rattle.p25_line.specs.Words.{is_word, words_or_fault}
+use Rattle.p25_line.specs.declared.fault.LineFault.{LineFault}
+use Rattle.p25_line.specs.declared.fault.LineFault.TheVariants.{Long}
+use Rattle.p25_line.proofs.JoinLaws.{Accepted-words, words_or_fault-join}
+use Rattle.p25_line.proofs.WordsLaws.{words_or_fault-long}
+
+-- a line that is too long is refused as such
+pub line_read-long : {X : Type 0} (read : List (List ℕ) → Result X LineFault) (line : List ℕ) → 8192 < length line → line_read read line ≡ Err Long
+unfolding line_read
+line_read-long read line long = ap (found_read read) (words_or_fault-long line long)
+
+-- a line is read as its words are, and refused as it has none
+pub line_read-found : {X : Type 0} (read : List (List ℕ) → Result X LineFault) (line : List ℕ) (words : List (List ℕ)) → words_or_fault line ≡ Ok words → line_read read line ≡ read words
+unfolding line_read
+line_read-found read line words found = ap (found_read read) found
+
+pub line_read-refused : {X : Type 0} (read : List (List ℕ) → Result X LineFault) (line : List ℕ) (fault : LineFault) → words_or_fault line ≡ Err fault → line_read read line ≡ Err fault
+unfolding line_read
+line_read-refused read line fault refused = ap (found_read read) refused
+
+-- what is kept between values, their words, and what words are read as: each undoes the other for values that fit
+pub record WordLaws {X : Type 0} (words : X → List (List ℕ)) (read : List (List ℕ) → Result X LineFault) (Fits : X → Type 0) : Type 0 where
+  pub some : (value : X) → 0 < length (words value)
+  pub are_words : (value : X) → Fits value → list_all is_word (words value) ≡ true
+  pub back : (value : X) → Fits value → read (words value) ≡ Ok value
+  pub again : (others : List (List ℕ)) (value : X) → read others ≡ Ok value → (words value ≡ others) × Fits value
+
+-- the line of a value is read as it, where the line is not too long
+pub line_read-words : {X : Type 0} {words : X → List (List ℕ)} {read : List (List ℕ) → Result X LineFault} {Fits : X → Type 0} → WordLaws words read Fits → (value : X) → Fits value
+    → length (join_with_byte 32 (words value)) ≤ 8192 → line_read read (join_with_byte 32 (words value)) ≡ Ok value
+unfolding line_read
+line_read-words {words = words} {read = read} laws value fits short =
+    ap (found_read read) (words_or_fault-join (words value) (laws.some value) (laws.are_words value fits) short) ∙ laws.back value fits
+
+-- what a line shows that is read as a value
+pub record IsLineOf {X : Type 0} (words : X → List (List ℕ)) (Fits : X → Type 0) (line : List ℕ) (value : X) : Type 0 where
+  pub text : join_with_byte 32 (words value) ≡ line
+  pub fits : Fits value
+  pub short : length line ≤ 8192
+
+from_found : {X : Type 0} {words : X → List (List ℕ)} {read : List (List ℕ) → Result X LineFault} {Fits : X → Type 0} → WordLaws words read Fits → (line : List ℕ) (found : Result (List (List ℕ)) LineFault) (value : X)
+    → words_or_fault line ≡ found → found_read read found ≡ Ok value → IsLineOf words Fits line value
+from_found laws line (Err fault) value same found = cc found
+from_found laws line (Ok others) value same found =
+    let is = laws.again others value found in
+    let accepted = Accepted-words line others same in
+    record { text = ap (join_with_byte 32) is.0 ∙ accepted.join; fits = is.1; short = accepted.short }
+
+pub words-line_read : {X : Type 0} {words : X → List (List ℕ)} {read : List (List ℕ) → Result X LineFault} {Fits : X → Type 0} → WordLaws words read Fits → (line : List ℕ) (value : X)
+    → line_read read line ≡ Ok value → IsLineOf words Fits line value
+unfolding line_read
+words-line_read laws line value found = from_found laws line (words_or_fault line) value refl found
+
+-- as a reader tells it
+pub line_read-facts : {X : Type 0} {words : X → List (List ℕ)} {read : List (List ℕ) → Result X LineFault} {Fits : X → Type 0} → WordLaws words read Fits → (line : List ℕ) (result : Result X LineFault)
+    → result ≡ line_read read line → (IfOk result (λ value. join_with_byte 32 (words value) ≡ line)) × (IfOk result Fits)
+line_read-facts laws line (Err fault) same = (tt, tt)
+line_read-facts laws line (Ok value) same = let is = words-line_read laws line value (sym same) in (is.text, is.fits)

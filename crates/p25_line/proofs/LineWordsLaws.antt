@@ -1,0 +1,104 @@
+-- What is kept of the words of a line: the places of the first 16, and how many there are.
+use Rattle.std.proofs.Common.{◌≡◌, ℕ, zero, suc, ◌<◌, ◌≤◌, List, [], ◌∷◌, length, take, drop, slice_get, Option, Some, None, Result, Ok, Err, inl, inr, refl, sym, ap, ap₂, ◌∙◌, arith, length-take, length-drop}
+use Rattle.std.specs.Prelude.{◌↔◌}
+use Rattle.std.proofs.lemmas.Bool.{cases_lt}
+use Rattle.std.proofs.lemmas.List.{length-map}
+use Rattle.p25_line.specs.Marks.{Marks}
+use Rattle.p25_line.specs.Words.{AreWordsOf, marked, or_form, parts_of, word_at, words_in, words_or_fault, WordsAnswer, WordsFound}
+use Rattle.p25_line.specs.declared.fault.LineFault.{LineFault}
+use Rattle.p25_line.specs.declared.fault.LineFault.TheVariants.{Long}
+use Rattle.p25_line.specs.declared.word_list.Place.{Place}
+use Rattle.p25_line.proofs.JoinLaws.{Accepted-words, Known, Known-words}
+use Rattle.p25_line.proofs.WordsLaws.{words_or_fault-long, words_or_fault-words}
+
+-- a line that has words has what stands between its spaces
+are-words : (line : List ℕ) (list : Marks) (words : List (List ℕ)) → Known line list words → AreWordsOf line list
+are-words line list words known =
+    let parts = (Accepted-words line words known.found).parts in
+    record {
+      found = known.found ∙ ap Ok (sym parts);
+      count = known.count ∙ ap length (sym parts);
+      places = known.places ∙ ap (take 16) (sym parts);
+      lies = known.lies;
+    }
+
+pub AreWordsOf-answer : (line : List ℕ) (list : Marks) → WordsAnswer line list (Ok tt) → AreWordsOf line list
+AreWordsOf-answer line list answer = let words = Known-words line list answer in are-words line list words.0 words.1
+
+-- a line that has none is refused
+refused : (line : List ℕ) (list : Marks) (fault : LineFault) (answer : Result (List (List ℕ)) LineFault) → words_or_fault line ≡ answer → WordsFound line list (Err fault) answer
+    → Err fault ≡ words_or_fault line
+refused line list fault (Ok words) same facts = cc facts.0
+refused line list fault (Err other) same facts = let known : fault ≡ other = cc facts.0 in ap Err known ∙ sym same
+
+pub refused-answer : (line : List ℕ) (list : Marks) (fault : LineFault) → WordsAnswer line list (Err fault) → Err fault ≡ words_or_fault line
+refused-answer line list fault answer = refused line list fault (words_or_fault line) refl answer
+
+-- too long is a line of more than 8,192 octets, and no other
+form-long : (words : Option (List (List ℕ))) → or_form words ≡ Err Long → ⊥
+form-long (Some words) same = cc same
+form-long None same = cc same
+
+pub words_or_fault-Long : (line : List ℕ) → (words_or_fault line ≡ Err Long) ↔ (8192 < length line)
+words_or_fault-Long line = (
+  λ same. elim (cases_lt 8192 (length line)) [
+    | inl long ↦ long
+    | inr short ↦ absurd (form-long (words_in line) (sym (words_or_fault-words line short) ∙ same))
+  ],
+  words_or_fault-long line,
+)
+
+-- there is a word
+pub some_words : (line : List ℕ) (list : Marks) → AreWordsOf line list → 0 < length (parts_of line)
+some_words line list are = (Accepted-words line (parts_of line) are.found).some
+
+-- the place of each of the first 16 words is kept
+pub places_kept : (line : List ℕ) (list : Marks) (i : ℕ) → AreWordsOf line list → i < length (parts_of line) → i < 16 → i < length list.places
+places_kept line list i are held kept = omega (arith, length-map list.places (word_at line), ap length are.places, length-take 16 (parts_of line))
+
+slice_get-take : {X : Type 0} (n : ℕ) (xs : List X) (i : ℕ) → i < n → slice_get (take n xs) i ≡ slice_get xs i
+slice_get-take zero xs i below = absurd (omega arith)
+slice_get-take (suc n) [] i below = refl
+slice_get-take (suc n) (x ∷ xs) zero below = refl
+slice_get-take (suc n) (x ∷ xs) (suc i) below = slice_get-take n xs i (omega arith)
+
+pub word_kept : (line : List ℕ) (list : Marks) (i : ℕ) (word : List ℕ) → AreWordsOf line list → i < 16 → slice_get (marked line list.places) i ≡ Some word → slice_get (parts_of line) i ≡ Some word
+word_kept line list i word are kept at = sym (slice_get-take 16 (parts_of line) i kept) ∙ ap (λ (l : List (List ℕ)). slice_get l i) (sym are.places) ∙ at
+
+-- a word is no longer than its line
+short_word : (line : List ℕ) (places : List Place) (i : ℕ) (word : List ℕ) → slice_get (marked line places) i ≡ Some word → length word ≤ length line
+short_word line [] i word at = cc at
+short_word line (place ∷ places) zero word at =
+    let same : word_at line place ≡ word = cc at in
+    omega (arith, ap length same, length-take place.len (drop place.start line), length-drop place.start line)
+short_word line (place ∷ places) (suc i) word at = short_word line places i word at
+
+pub word_short : (line : List ℕ) (list : Marks) (i : ℕ) (word : List ℕ) → AreWordsOf line list → slice_get (marked line list.places) i ≡ Some word → length word ≤ 8192
+word_short line list i word are at = omega (arith, short_word line list.places i word at, (Accepted-words line (parts_of line) are.found).short)
+
+-- ---- the words after the first
+
+pub first-others : {X : Type 0} (words : List X) (first : X) → slice_get words 0 ≡ Some first → words ≡ first ∷ drop 1 words
+first-others [] first at = cc at
+first-others (word ∷ words) first at = let same : word ≡ first = cc at in ap (λ w. w ∷ words) same
+
+pub no-others : {X : Type 0} (words : List X) → length words ≡ 1 → drop 1 words ≡ []
+no-others [] count = absurd (omega arith)
+no-others (first ∷ []) count = refl
+no-others (first ∷ second ∷ words) count = absurd (omega arith)
+
+pub one-other : {X : Type 0} (words : List X) (x : X) → length words ≡ 2 → slice_get words 1 ≡ Some x → drop 1 words ≡ x ∷ []
+one-other [] x count at = absurd (omega arith)
+one-other (first ∷ []) x count at = absurd (omega arith)
+one-other (first ∷ second ∷ []) x count at = let same : second ≡ x = cc at in ap (λ y. y ∷ []) same
+one-other (first ∷ second ∷ third ∷ words) x count at = absurd (omega arith)
+
+pub two-others : {X : Type 0} (words : List X) (x y : X) → length words ≡ 3 → slice_get words 1 ≡ Some x → slice_get words 2 ≡ Some y → drop 1 words ≡ x ∷ y ∷ []
+two-others [] x y count at next = absurd (omega arith)
+two-others (first ∷ []) x y count at next = absurd (omega arith)
+two-others (first ∷ second ∷ []) x y count at next = absurd (omega arith)
+two-others (first ∷ second ∷ third ∷ []) x y count at next =
+    let same : second ≡ x = cc at in
+    let last : third ≡ y = cc next in
+    ap₂ (λ a b. a ∷ b ∷ []) same last
+two-others (first ∷ second ∷ third ∷ fourth ∷ words) x y count at next = absurd (omega arith)

@@ -1,0 +1,65 @@
+ghost use Rattle.std.specs.Prelude.{◌≡◌, ◌↔◌, ◌<◌, ◌≤◌, length, slice_get, Err};
+ghost use Rattle.p25_line.specs.Words.{words_or_fault};
+ghost use Rattle.p25_line.specs.declared.fault.LineFault.TheVariants.{Long};
+
+use super::fault::LineFault;
+use super::word_list::{WordList, words_of};
+use std::marker::Model;
+
+/// The words of a line: all are counted, and the first 16 can be had. There is one at least.
+#[derive(Drop)]
+pub struct LineWords<'a> {
+    line: &'a [u8],
+    words: WordList,
+}
+
+impl<'a> Model for LineWords<'a> {
+    ghost use Rattle.std.specs.Prelude.{List, ℕ};
+    ghost use Rattle.p25_line.specs.Words.{AreWordsOf, parts_of};
+
+    ghost Value = { List (List ℕ) };
+
+    ghost view = { λ s. parts_of s.line.now };
+
+    ghost invariant = { λ s. AreWordsOf s.line.now s.words };
+}
+
+impl<'a> LineWords<'a> {
+    /// Answers the words of a line, or why it has none. Long comes exactly where the line has more than 8,192 octets, else
+    /// Form exactly where it is not one or more words of octets 21 to 7E hex with single spaces between them.
+    pub fn read(line: &'a [u8]) -> Result<LineWords<'a>, LineFault>
+        ensures words { result ≡ words_or_fault line.now }
+        ensures long { (result ≡ Err Long) ↔ (8192 < length line.now) }
+    {
+        let mut words = WordList::new();
+        match words_of(line, &mut words) {
+            Ok(()) => Ok(LineWords { line, words }),
+            Err(fault) => Err(fault),
+        }
+    }
+
+    /// Answers the number of words, at least 1.
+    pub fn count(&self) -> usize
+        ensures count { result ≡ length self.now }
+        ensures some { 0 < result }
+    {
+        self.words.count()
+    }
+
+    /// Answers the first word.
+    pub fn first(&self) -> &'a [u8]
+        ensures { slice_get self.now 0 ≡ Some result.now }
+    {
+        self.words.word(self.line, 0)
+    }
+
+    /// Answers word `i`, counted from 0, of the first 16. It has at most 8,192 octets.
+    pub fn get(&self, i: usize) -> &'a [u8]
+        requires held { i < length self.now }
+        requires kept { i < 16 }
+        ensures word { slice_get self.now i ≡ Some result.now }
+        ensures short { length result.now ≤ 8192 }
+    {
+        self.words.word(self.line, i)
+    }
+}
