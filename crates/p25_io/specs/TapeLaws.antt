@@ -12,7 +12,7 @@ TapeGoes-stays tape = record { told = λ whole. (whole, sym (append-nil (events_
 pub TapeGoes-joins : (first next last : Tape) (xs ys : List Event) → TapeGoes first xs next → TapeGoes next ys last → TapeGoes first (xs ++ ys) last
 TapeGoes-joins first next last xs ys went goes = record {
   told = λ whole.
-    let later = goes.told whole in
-    let earlier = went.told later.0 in
-    (earlier.0, later.1 ∙ ap (λ (es : List Event). es ++ ys) earlier.1 ∙ append_assoc (events_of first.calls.items) xs ys);
+      let later = goes.told whole in
+      let earlier = went.told later.0 in
+      (earlier.0, later.1 ∙ ap (λ (es : List Event). es ++ ys) earlier.1 ∙ append_assoc (events_of first.calls.items) xs ys);
 }
