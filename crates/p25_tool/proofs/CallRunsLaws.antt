@@ -156,9 +156,9 @@ module _ {S K : Type 0} (left : S → Option (List ℕ)) (source_faults : S → 
   command-complete command call input told no_read no_write =
       subst (λ (o : Outcome). (o ≡ answer_of command input) ⊎ ((o ≡ Memory) × CanWantMemory command)) (sym call.outcome_is)
       (answer-without-faults command (left source) (left source_now) (written sink) (written sink_now) call.end (command-filtered command call)
-          (λ is. no_read (run-read_fault left source_faults written sink_faults source source_now sink sink_now (command_future command) events call.end call.run read is))
-          (λ is. no_write (run-write_fault left source_faults written sink_faults source source_now sink sink_now (command_future command) events call.end call.run wrote is))
-          input told)
+      (λ is. no_read (run-read_fault left source_faults written sink_faults source source_now sink sink_now (command_future command) events call.end call.run read is))
+      (λ is. no_write (run-write_fault left source_faults written sink_faults source source_now sink sink_now (command_future command) events call.end call.run wrote is))
+      input told)
 
   pub call-complete : (named : Option Command) → IsCallRun named events outcome → (command : Command) (input : List ℕ) → named ≡ Some command → left source ≡ Some input
       → (Rose (source_faults source) (source_faults source_now) → ⊥) → (Rose (sink_faults sink) (sink_faults sink_now) → ⊥)

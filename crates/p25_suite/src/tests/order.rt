@@ -37,7 +37,15 @@ const ROWS: [Row; 12] = [
         failing_read: 0,
         failing_write: 0,
         outcome: Outcome::Done,
-        tape: &[(b'r', 20), (b'w', 47), (b'r', 20), (b'w', 68), (b'r', 16), (b'w', 49), (b'r', 0)],
+        tape: &[
+            (b'r', 20),
+            (b'w', 47),
+            (b'r', 20),
+            (b'w', 68),
+            (b'r', 16),
+            (b'w', 49),
+            (b'r', 0),
+        ],
     },
     Row {
         words: &[b"soft"],
@@ -64,7 +72,14 @@ const ROWS: [Row; 12] = [
         failing_read: 0,
         failing_write: 0,
         outcome: Outcome::Done,
-        tape: &[(b'r', 21), (b'w', 25), (b'r', 21), (b'w', 58), (b'r', 0), (b'w', 42)],
+        tape: &[
+            (b'r', 21),
+            (b'w', 25),
+            (b'r', 21),
+            (b'w', 58),
+            (b'r', 0),
+            (b'w', 42),
+        ],
     },
     Row {
         words: &[b"fragments"],
@@ -73,7 +88,14 @@ const ROWS: [Row; 12] = [
         failing_read: 0,
         failing_write: 0,
         outcome: Outcome::Done,
-        tape: &[(b'r', 22), (b'w', 91), (b'r', 17), (b'w', 43), (b'r', 0), (b'w', 39)],
+        tape: &[
+            (b'r', 22),
+            (b'w', 91),
+            (b'r', 17),
+            (b'w', 43),
+            (b'r', 0),
+            (b'w', 39),
+        ],
     },
     Row {
         words: &[b"duplex"],
@@ -108,7 +130,10 @@ const ROWS: [Row; 12] = [
         piece: 10,
         failing_read: 0,
         failing_write: 0,
-        outcome: Outcome::BadLine { line: 2, fault: LineFault::Value },
+        outcome: Outcome::BadLine {
+            line: 2,
+            fault: LineFault::Value,
+        },
         tape: &[(b'r', 10), (b'w', 25), (b'r', 10)],
     },
     Row {
