@@ -11,8 +11,7 @@ ghost use Rattle.p25_example_exchange.specs.Exchanges.{events_of};
 
 use p25_stations::{Event, Flips, Message, Step, StepKind, World};
 use std::alloc::AllocError;
-use std::fmt;
-use std::io;
+use std::{fmt, io};
 
 fn main(rt: HostRuntime) -> io::Result<()> {
     let mut world = World::new(rt.alloc());

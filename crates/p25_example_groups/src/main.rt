@@ -12,9 +12,8 @@ use p25_bits::BitBuf;
 use p25_link::LinkKind;
 use p25_stream::{Item, Scanner};
 use p25_units::{Body, VoiceUnit};
-use std::fmt;
-use std::io;
 use std::io::Read;
+use std::{fmt, io};
 
 /// Who speaks to which group.
 #[derive(Clone, Copy, Debug, PartialEq, Eq)]

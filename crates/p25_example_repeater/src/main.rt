@@ -38,7 +38,12 @@ fn main(rt: HostRuntime) -> Result<(), Failed> {
 }
 
 // Pushes octets, a few at a time, and writes the items that each few decide.
-fn repeat<K: Sink>(octets: &[u8], scanner: &mut Scanner, kept: &mut BitBuf, sink: &mut K) -> Result<(), Failed>
+fn repeat<K: Sink>(
+    octets: &[u8],
+    scanner: &mut Scanner,
+    kept: &mut BitBuf,
+    sink: &mut K,
+) -> Result<(), Failed>
     requires drained { given scanner.old ≡ [] }
     requires going { scanner.old.finished ≡ false }
     requires bits { scanner.old.place + length scanner.old.held + 8 * length octets.now < 2 ^ 60 }
@@ -57,7 +62,11 @@ fn repeat<K: Sink>(octets: &[u8], scanner: &mut Scanner, kept: &mut BitBuf, sink
 }
 
 // Writes the items that the scanner can give, until it can give no more, each whole unit under the access code.
-fn repeat_items<K: Sink>(scanner: &mut Scanner, kept: &mut BitBuf, sink: &mut K) -> Result<(), Failed>
+fn repeat_items<K: Sink>(
+    scanner: &mut Scanner,
+    kept: &mut BitBuf,
+    sink: &mut K,
+) -> Result<(), Failed>
     requires kept { length kept.old < 8 }
     ensures drained { OnOk result (given scanner.new ≡ []) }
     ensures same { scanner.new.finished ≡ scanner.old.finished }

@@ -1,6 +1,9 @@
+pub mod WritesLaws
 pub mod FuturesLaws
 pub mod InputLaws
+pub mod TracesLaws
 pub mod RunsLaws
+pub mod OrdersLaws
 pub mod SameLaws
 pub mod LinesLaws
 pub mod LineFiltersLaws

@@ -1,261 +1,31 @@
--- What stands when the work ends, from how far it has come: what was written begins all that is to be written, and each end
--- is one case of the octets that come.
-use Rattle.std.proofs.Common.{◌≡◌, ℕ, ◌+◌, ◌-◌, ◌<◌, ◌≤◌, Bool, true, false, cond, nat_lt, zero, suc, List, [], ◌∷◌, ◌++◌, length, take, drop, Option, Some, None, inl, inr, refl, ap, sym, subst, ◌∙◌, arith, append_assoc, append-nil, length-append, length-take, length-drop, ◌↔◌}
+-- What stands when the work between a source and a sink ends, by the events that they went through: what was taken, what was
+-- written, and what the end says of both.
+use Rattle.std.proofs.Common.{◌≡◌, ℕ, ◌+◌, ◌<◌, ◌≤◌, Bool, true, false, cond, nat_lt, zero, suc, List, [], ◌∷◌, ◌++◌, length, take, Option, Some, None, refl, ap, sym, subst, ◌∙◌, arith, append-nil, length-append}
 use Rattle.std.specs.Prelude.{Contains, IfSome}
-use Rattle.std.proofs.lemmas.List.{take-append-drop, take_all}
+use Rattle.std.proofs.lemmas.List.{take_all}
 use Rattle.std.proofs.lemmas.Bool.Decides.{nat_tests}
-use Rattle.std.proofs.Math.Seq.{take-add, take-append-add}
-use Rattle.p25_io.specs.Octets.{Taken, Gives, Appended, AppendedFront}
-use Rattle.p25_io.proofs.OctetsLaws.{Taken-trans, Taken-told, Taken-ended, Appended-same, Appended-trans, AppendedFront-same, AppendedFront-next}
-use Rattle.p25_filter.specs.declared.ending.Stop.{Stop}
-use Rattle.p25_filter.specs.declared.ending.Stop.TheVariants.{Fault, Refused}
-use Rattle.p25_filter.specs.declared.ending.Refusal.TheVariants.{Ended, Memory as NoMemory}
-use Rattle.p25_filter.specs.declared.ending.FilterEnd.TheVariants.{ReadFault, TooLong}
-use Rattle.p25_filter.specs.Endings.{end_of}
-use Rattle.p25_filter.specs.Futures.{Future, IsIdle, Moved, IsStopped, EndsBy}
-use Rattle.p25_filter.proofs.FuturesLaws.{Moved-trans}
-use Rattle.p25_filter.proofs.InputLaws.{stopped-after, on-blank_page}
-use Rattle.p25_filter.specs.Runs.{input_most, read_most, all_written, Filtered}
-
--- the first octets of an input and so many more
-pub first-take : (octets more : List ℕ) → length octets ≤ input_most → take input_most (octets ++ more) ≡ octets ++ take (input_most - length octets) more
-first-take octets more few =
-    let e : input_most ≡ length octets + (input_most - length octets) = omega arith in
-    ap (λ (n : ℕ). take n (octets ++ more)) e ∙ take-append-add octets more (input_most - length octets)
-
--- what holds of what is written for octets and any that come, holds of all that is to be written
-pub all_written-from : (future : Future) (P : List ℕ → Type 0) (octets more : List ℕ) → length octets ≤ input_most → ((is : Bool) (m : List ℕ) → P (future.writes is (octets ++ m))) → P (all_written future (octets ++ more))
-all_written-from future P octets more few each =
-    by_length (nat_lt input_most (length (octets ++ more)))
-  where
-    by_length : (long : Bool) → P (cond long (future.writes false (take input_most (octets ++ more))) (future.writes true (octets ++ more)))
-    by_length true = subst (λ (zs : List ℕ). P (future.writes false zs)) (sym (first-take octets more few)) (each false (take (input_most - length octets) more))
-    by_length false = each true more
+use Rattle.std.proofs.Math.Seq.{take-append-add}
+use Rattle.p25_io.specs.Events.{Event, Read, ReadFailed, Wrote, WriteFailed}
+use Rattle.p25_io.specs.Faults.{Rose}
+use Rattle.p25_io.specs.Octets.{Taken, Appended, AppendedFront}
+use Rattle.p25_io.specs.Pairs.{SinkGoes, SourceGoes}
+use Rattle.p25_io.proofs.OctetsLaws.{Appended-none, Appended-same, Appended-trans, AppendedFront-longer, AppendedFront-same, Rose-within, Taken-none, Taken-told, Taken-trans}
+use Rattle.p25_filter.specs.declared.ending.Ending.{Ending}
+use Rattle.p25_filter.specs.declared.ending.FilterEnd.{FilterEnd}
+use Rattle.p25_filter.specs.declared.ending.FilterEnd.TheVariants.{Ended, ReadFault, WriteFault, TooLong, Memory}
+use Rattle.p25_filter.specs.Futures.{Future}
+use Rattle.p25_filter.specs.Runs.{Filtered, IsFinal, IsMemory, IsReadFault, IsWriteFault, Meets, all_written, input_most, read_most}
+use Rattle.p25_filter.specs.Traces.{Broken, Going, IsDecided, IsFinalAt, IsLive, IsMemoryAt, IsRun, IsSettled, Over, Phase, Standing, after_all, at_first, standing_after, standing_at}
+use Rattle.p25_filter.specs.Writes.{Begins}
+use Rattle.p25_filter.proofs.TracesLaws.{IsLive-parts, after_all-append}
+pub use Rattle.p25_filter.proofs.TracesLaws.{first-take}
 
 -- of an input that is not too long all is written
 not-long : (most count : ℕ) (x y : List ℕ) → count ≤ most → cond (nat_lt most count) x y ≡ y
 not-long most count x y few = grind (arith, nat_tests)
 
--- a read is what was fed of it and the rest
-read-parts : (buf : List ℕ) (count fits fed : ℕ) → fits ≤ count → take count buf ≡ take fed (take fits buf) ++ (drop fed (take fits buf) ++ take (count - fits) (drop fits buf))
-read-parts buf count fits fed fit =
-    let e : count ≡ fits + (count - fits) = omega arith in
-    ap (λ (n : ℕ). take n buf) e
-    ∙ take-add fits (count - fits) buf
-    ∙ ap (λ (zs : List ℕ). zs ++ take (count - fits) (drop fits buf)) (sym (take-append-drop fed (take fits buf)))
-    ∙ append_assoc (take fed (take fits buf)) (drop fed (take fits buf)) (take (count - fits) (drop fits buf))
-
-fed-few : (buf : List ℕ) (fits fed : ℕ) → length (take fed (take fits buf)) ≤ fits
-fed-few buf fits fed = omega (arith, length-take fed (take fits buf), length-take fits buf)
-
-module _ {K : Type 0} (written : K → Option (List ℕ)) (first last : K) (future now : Future) (octets : List ℕ) (moved : Moved written first [] future octets last [] now) where
-  -- what is written for the octets so far and any that come
-  pub writes-more : (is : Bool) (more : List ℕ) → future.writes is (octets ++ more) ≡ moved.text ++ now.writes is more
-  writes-more is more = moved.writes is more
-
-  -- with nothing to give, what the octets so far decide is written, and nothing refuses them
-  pub decided-written : IsIdle false now → (future.ends false octets ≡ None) × Appended (written first) (future.writes false octets) (written last)
-  decided-written idle =
-      let is : (now.writes false [] ≡ []) × (now.ends false [] ≡ None) = unfold IsIdle in idle in
-      let same : octets ++ [] ≡ octets = append-nil octets in (
-        ap (future.ends false) (sym same) ∙ moved.ends false [] ∙ is.1,
-        Appended-same (sym (append-nil moved.text) ∙ ap (λ (zs : List ℕ). moved.text ++ zs) (sym is.0) ∙ sym (writes-more false []) ∙ ap (future.writes false) same) moved.appended,
-      )
-
-  -- an input of which nothing is written leaves the sink as it was
-  pub nothing-touched : (input rest : List ℕ) → length octets ≤ input_most → input ≡ octets ++ rest → all_written future input ≡ [] → last ≡ first
-  nothing-touched input rest few is none =
-      elim moved.touched [
-        | inl same ↦ same
-        | inr some ↦
-            let long = all_written-from future (λ (zs : List ℕ). 0 < length zs) octets rest few
-            (λ b m. subst (λ (zs : List ℕ). 0 < length zs) (sym (writes-more b m)) (omega (arith, length-append moved.text (now.writes b m), some))) in
-            absurd (omega (arith, ap length (ap (all_written future) (sym is) ∙ none), long))
-      ]
-
-  -- a read failed
-  pub read-failed : (told left : Option (List ℕ)) → length octets ≤ input_most → Taken told octets left → IsIdle false now → Filtered told left (written first) (written last) future ReadFault
-  read-failed told left few taken idle =
-      let decided = decided-written idle in
-      record {
-        octets = octets;
-        taken = taken;
-        few = omega arith;
-        meets = record { few = few; ends = decided.0; wrote = decided.1 };
-      }
-
-  -- the input ended
-  pub ends-final : (told left : Option (List ℕ)) (stop : Stop) (third : K) → length octets ≤ input_most → Taken told octets left
-      → ((rest : List ℕ) → left ≡ Some rest → rest ≡ []) → IfSome told (λ input. input ≡ octets) → EndsBy written last now stop third
-      → Filtered told left (written first) (written third) future (end_of stop)
-  unfolding EndsBy
-  ends-final told left Fault third few taken none all cut =
-      record {
-        octets = octets;
-        taken = taken;
-        few = omega arith;
-        meets = record {
-          front = λ rest is.
-              let e : octets ++ rest ≡ octets = ap (λ (zs : List ℕ). octets ++ zs) (none rest is) ∙ append-nil octets in
-              let whole : moved.text ++ now.writes true [] ≡ future.writes true octets = sym (writes-more true []) ∙ ap (future.writes true) (append-nil octets) in
-              AppendedFront-same
-              (whole ∙ sym (not-long input_most (length octets) (future.writes false (take input_most octets)) (future.writes true octets) few) ∙ ap (all_written future) (sym e))
-              (AppendedFront-next moved.appended cut.0);
-        };
-      }
-  ends-final told left (Refused NoMemory) third few taken none all paused =
-      let before = moved.pauses true [] paused.text paused.pauses in
-      record {
-        octets = octets;
-        taken = taken;
-        few = omega arith;
-        meets = record {
-          ended = true;
-          all = λ same. (few, all);
-          text = moved.text ++ paused.text;
-          pauses = subst (λ (zs : List ℕ). Contains (future.pauses true zs) (moved.text ++ paused.text)) (append-nil octets ∙ sym (take_all input_most octets few))
-              (subst (λ (zs : List ℕ). Contains (future.pauses true (octets ++ [])) zs) before.whole before.is);
-          wrote = Appended-trans moved.appended paused.appended;
-        };
-      }
-  ends-final told left (Refused (Ended ending)) third few taken none all ended =
-      let whole : moved.text ++ now.writes true [] ≡ future.writes true octets = sym (writes-more true []) ∙ ap (future.writes true) (append-nil octets) in
-      let first_octets : take input_most octets ≡ octets = take_all input_most octets few in
-      record {
-        octets = octets;
-        taken = taken;
-        few = omega arith;
-        meets = record {
-          ended = true;
-          all = λ same. (few, all);
-          stays = λ same. cc;
-          ends = ap (future.ends true) first_octets ∙ ap (future.ends true) (sym (append-nil octets)) ∙ moved.ends true [] ∙ ended.1;
-          wrote = Appended-same (whole ∙ ap (future.writes true) (sym first_octets)) (Appended-trans moved.appended ended.0);
-        };
-      }
-
--- the work stopped within the octets of a read
-pub stops-final : {K : Type 0} (written : K → Option (List ℕ)) (first third : K) (future : Future) (fed tail : List ℕ) (told left : Option (List ℕ)) (stop : Stop)
-    → length fed ≤ input_most → length (fed ++ tail) ≤ input_most + read_most → Taken told (fed ++ tail) left → IsStopped written first [] future fed stop third
-    → Filtered told left (written first) (written third) future (end_of stop)
-unfolding IsStopped
-stops-final written first third future fed tail told left Fault few most taken cut =
-    record {
-      octets = fed ++ tail;
-      taken = taken;
-      few = most;
-      meets = record {
-        front = λ rest is.
-            subst (λ (zs : List ℕ). AppendedFront (written first) (all_written future zs) (written third)) (sym (append_assoc fed tail rest))
-            (all_written-from future (λ (zs : List ℕ). AppendedFront (written first) zs (written third)) fed (tail ++ rest) few (λ b m. cut.front b m));
-      };
-    }
-stops-final written first third future fed tail told left (Refused NoMemory) few most taken paused =
-    let before = paused.pauses false (take (input_most - length fed) tail) in
-    record {
-      octets = fed ++ tail;
-      taken = taken;
-      few = most;
-      meets = record {
-        ended = false;
-        all = λ same. cc;
-        text = paused.text;
-        pauses = subst (λ (zs : List ℕ). Contains (future.pauses false zs) paused.text) (sym (first-take fed tail few))
-            (subst (λ (zs : List ℕ). Contains (future.pauses false (fed ++ take (input_most - length fed) tail)) zs) before.whole before.is);
-        wrote = paused.appended;
-      };
-    }
-stops-final written first third future fed tail told left (Refused (Ended ending)) few most taken ended =
-    let e = first-take fed tail few in
-    record {
-      octets = fed ++ tail;
-      taken = taken;
-      few = most;
-      meets = record {
-        ended = false;
-        all = λ same. cc;
-        ends = ap (future.ends false) e ∙ ended.ends false (take (input_most - length fed) tail);
-        stays = λ same is more.
-            ap (λ (zs : List ℕ). future.ends is (zs ++ more)) e
-            ∙ ap (future.ends is) (append_assoc fed (take (input_most - length fed) tail) more)
-            ∙ ended.ends is (take (input_most - length fed) tail ++ more);
-        wrote = Appended-same (ap (future.writes false) (sym e)) (ended.wrote false (take (input_most - length fed) tail));
-      };
-    }
-
--- where the work stopped, an input of which nothing is written leaves the sink as it was
-pub nothing-stopped : {K : Type 0} (written : K → Option (List ℕ)) (first third : K) (future : Future) (fed more : List ℕ) (stop : Stop)
-    → length fed ≤ input_most → IsStopped written first [] future fed stop third → all_written future (fed ++ more) ≡ [] → third ≡ first
-unfolding IsStopped
-nothing-stopped written first third future fed more Fault few cut none =
-    let long = all_written-from future (λ (zs : List ℕ). 0 < length zs) fed more few (λ b m. cut.some b m) in
-    absurd (omega (arith, ap length none, long))
-nothing-stopped written first third future fed more (Refused NoMemory) few paused none =
-    elim paused.touched [
-      | inl same ↦ same
-      | inr some ↦
-          let long = all_written-from future (λ (zs : List ℕ). 0 < length zs) fed more few
-          (λ b m. let rest = paused.begins b m in subst (λ (zs : List ℕ). 0 < length zs) (sym rest.1) (omega (arith, length-append paused.text rest.0, some))) in
-          absurd (omega (arith, ap length none, long))
-    ]
-nothing-stopped written first third future fed more (Refused (Ended ending)) few ended none =
-    elim ended.touched [
-      | inl same ↦ same
-      | inr some ↦
-          let long = all_written-from future (λ (zs : List ℕ). 0 < length zs) fed more few (λ b m. some b m) in
-          absurd (omega (arith, ap length none, long))
-    ]
-
--- at the end of the input, where nothing more is written
-pub nothing-ended : {K : Type 0} (written : K → Option (List ℕ)) (first third : K) (now : Future) (stop : Stop) → EndsBy written first now stop third → now.writes true [] ≡ [] → third ≡ first
-unfolding EndsBy
-nothing-ended written first third now Fault cut none = absurd (omega (arith, ap length none, cut.1))
-nothing-ended written first third now (Refused NoMemory) paused none =
-    elim paused.touched [
-      | inl same ↦ same
-      | inr some ↦
-          let rest = paused.begins in
-          absurd (omega (arith, ap length none, ap length rest.1, length-append paused.text rest.0, some))
-    ]
-nothing-ended written first third now (Refused (Ended ending)) ended none = elim ended.2 [ inl same ↦ same | inr some ↦ absurd (omega (arith, ap length none, some)) ]
-
--- the input is too long: its first octets were fed
-pub too-long : {K : Type 0} (written : K → Option (List ℕ)) (first third : K) (future now : Future) (fed tail : List ℕ) (told left : Option (List ℕ))
-    → length fed ≡ input_most → 0 < length tail → length tail ≤ read_most → Taken told (fed ++ tail) left → Moved written first [] future fed third [] now → IsIdle false now
-    → Filtered told left (written first) (written third) future TooLong
-too-long written first third future now fed tail told left full some few taken moved idle =
-    let decided = decided-written written first third future now fed moved idle in
-    let none : input_most - length fed ≡ 0 = omega arith in
-    let e : take input_most (fed ++ tail) ≡ fed = first-take fed tail (omega arith) ∙ ap (λ (n : ℕ). fed ++ take n tail) none ∙ append-nil fed in
-    record {
-      octets = fed ++ tail;
-      taken = taken;
-      few = omega (arith, length-append fed tail);
-      meets = record {
-        many = omega (arith, length-append fed tail);
-        ends = ap (future.ends false) e ∙ decided.0;
-        wrote = Appended-same (ap (future.writes false) (sym e)) decided.1;
-      };
-    }
-
--- a source that tells what is left has nothing left where a read gave nothing
-pub left-none : (before now : Option (List ℕ)) (buf : List ℕ) (count : ℕ) → Gives before now buf count → count ≡ 0 → (rest : List ℕ) → now ≡ Some rest → rest ≡ []
-left-none before None buf count given none rest same = cc
-left-none before (Some left) buf zero given none rest same =
-    let told : before ≡ Some left = given.octets.left in
-    left-none_told left (subst (λ (o : Option (List ℕ)). IfSome o (λ l. (zero ≡ zero) ↔ (l ≡ []))) told given.ending) rest same
-  where
-    left-none_told : (left : List ℕ) → ((zero ≡ zero) ↔ (left ≡ [])) → (rest : List ℕ) → Some left ≡ Some rest → rest ≡ []
-    left-none_told left ending rest same = let e : left ≡ rest = cc in sym e ∙ ending.0 refl
-left-none before (Some left) buf (suc count) given none rest same = absurd (omega arith)
-
--- the octets taken before a read that gave nothing are those taken, and all that a source told
-pub ended-taken : (told before now : Option (List ℕ)) (octets buf : List ℕ) (count : ℕ) → Taken told octets before → Gives before now buf count → count ≡ 0 → Taken told octets now
-ended-taken told before now octets buf count taken given none =
-    subst (λ (zs : List ℕ). Taken told zs now) (ap (λ (n : ℕ). octets ++ take n buf) none ∙ append-nil octets) (Taken-trans taken given.octets)
-
-pub ended-all : (told before now : Option (List ℕ)) (octets buf : List ℕ) (count : ℕ) → Taken told octets before → Gives before now buf count → count ≡ 0 → IfSome told (λ input. input ≡ octets)
-ended-all told before now octets buf count taken given none = Taken-ended taken (subst (λ (n : ℕ). Gives before now buf n) none given)
+is-few : (most count : ℕ) → nat_lt most count ≡ false → count ≤ most
+is-few most count is = grind (arith, nat_tests)
 
 pub ended-input : (told : Option (List ℕ)) (octets input : List ℕ) → IfSome told (λ all. all ≡ octets) → told ≡ Some input → input ≡ octets
 ended-input None octets input all same = cc
@@ -267,83 +37,332 @@ told-parts told now octets input taken same =
     let parts = Taken-told (subst (λ (o : Option (List ℕ)). Taken o octets now) same taken) in
     (parts.0, parts.2)
 
-module _ {K : Type 0} (written : K → Option (List ℕ)) (first second third : K) (future now : Future) (octets : List ℕ) (few : length octets ≤ input_most) (moved : Moved written first [] future octets second [] now) where
-  -- an input that ended, and of which nothing is written, leaves the sink as it was
-  pub nothing-at_end : (stop : Stop) → EndsBy written second now stop third → (input : List ℕ) → input ≡ octets → all_written future input ≡ [] → third ≡ first
-  nothing-at_end stop ends input is none =
-      let whole : all_written future octets ≡ moved.text ++ now.writes true [] =
-      not-long input_most (length octets) (future.writes false (take input_most octets)) (future.writes true octets) few
-      ∙ sym (ap (future.writes true) (append-nil octets))
-      ∙ writes-more written first second future now octets moved true [] in
-      let all_none : moved.text ++ now.writes true [] ≡ [] = sym whole ∙ ap (all_written future) (sym is) ∙ none in
-      let none_left : now.writes true [] ≡ [] = nil_part moved.text (now.writes true []) all_none in
-      nothing-ended written second third now stop ends none_left
-      ∙ nothing-touched written first second future now octets moved octets [] few (sym (append-nil octets)) (whole ∙ all_none)
+-- where nothing is left of what a source told, all of it was taken
+taken-all : (told now : Option (List ℕ)) (octets : List ℕ) → Taken told octets now → IfSome now (λ rest. rest ≡ []) → IfSome told (λ input. input ≡ octets)
+taken-all None now octets taken none = tt
+taken-all (Some input) None octets taken none = let wrong : Some input ≡ None = taken.left in cc
+taken-all (Some input) (Some rest) octets taken none =
+    let same : Some input ≡ Some (octets ++ rest) = taken.left in
+    let whole : input ≡ octets ++ rest = cc in
+    whole ∙ ap (λ (zs : List ℕ). octets ++ zs) none ∙ append-nil octets
+
+-- the first octets of some are the first of those before, and maybe more
+take-some : (n : ℕ) (xs ys : List ℕ) → (more : List ℕ) × (take n (xs ++ ys) ≡ take n xs ++ more)
+take-some zero xs ys = ([], refl)
+take-some (suc n) [] ys = (take (suc n) ys, refl)
+take-some (suc n) (x ∷ xs) ys = let next = take-some n xs ys in (next.0, ap (λ (zs : List ℕ). x ∷ zs) next.1)
+
+-- a decided text begins all that is to be written
+decided-begins : (future : Future) (phase : Phase) (octets rest text : List ℕ) → IsDecided future phase octets text
+    → (phase ≡ Over → (length octets ≤ input_most) × (rest ≡ [])) → Begins text (all_written future (octets ++ rest))
+decided-begins future Going octets rest text decided over = by_length (nat_lt input_most (length (octets ++ rest))) refl
+  where
+    by_length : (long : Bool) → nat_lt input_most (length (octets ++ rest)) ≡ long
+        → Begins text (cond long (future.writes false (take input_most (octets ++ rest))) (future.writes true (octets ++ rest)))
+    by_length true is =
+        let first = take-some input_most octets rest in
+        subst (λ (zs : List ℕ). Begins text (future.writes false zs)) (sym first.1) (decided false first.0)
+    by_length false is =
+        let few : length octets ≤ input_most = omega (arith, is-few input_most (length (octets ++ rest)) is, length-append octets rest) in
+        subst (λ (zs : List ℕ). Begins text (future.writes true (zs ++ rest))) (take_all input_most octets few) (decided true rest)
+decided-begins future Over octets rest text decided over =
+    let ended = over refl in
+    let same : octets ++ rest ≡ octets = ap (λ (zs : List ℕ). octets ++ zs) ended.1 ∙ append-nil octets in
+    let whole : all_written future octets ≡ future.writes true octets =
+    not-long input_most (length octets) (future.writes false (take input_most octets)) (future.writes true octets) ended.0 in
+    subst (λ (zs : List ℕ). Begins text zs) (sym (ap (all_written future) same ∙ whole)) decided
+decided-begins future Broken octets rest text decided over = absurd decided
+
+-- what a source that told its octets says of how far the work has come
+record Reached (told : Option (List ℕ)) (at : Standing) (left : Option (List ℕ)) : Type 0 where
+  taken : Taken told at.octets left
+  few : length at.octets ≤ input_most + read_most
+  over : at.phase ≡ Over → (length at.octets ≤ input_most) × IfSome told (λ input. input ≡ at.octets)
+
+Reached-first : (told : Option (List ℕ)) → Reached told at_first told
+Reached-first told = record { taken = Taken-none told; few = omega arith; over = λ (same : Going ≡ Over). cc }
+
+Reached-read : (told before now : Option (List ℕ)) (future : Future) (at : Standing) (octets : List ℕ) → Reached told at before → IsSettled future at
+    → length octets ≤ read_most → Taken before octets now → (octets ≡ [] → IfSome before (λ rest. rest ≡ [])) → Reached told (standing_after at (Read octets)) now
+Reached-read told before now future at [] reached settled few taken ending =
+    record {
+      taken = Taken-trans reached.taken taken;
+      few = omega (arith, length-append at.octets [], settled.few);
+      over = λ same. (
+        omega (arith, length-append at.octets [], settled.few),
+        subst (λ (zs : List ℕ). IfSome told (λ input. input ≡ zs)) (sym (append-nil at.octets)) (taken-all told before at.octets reached.taken (ending refl)),
+      );
+    }
+Reached-read told before now future at (octet ∷ octets) reached settled few taken ending =
+    record {
+      taken = Taken-trans reached.taken taken;
+      few = omega (arith, length-append at.octets (octet ∷ octets), settled.few, few);
+      over = λ (same : Going ≡ Over). cc;
+    }
+
+Reached-broken : (told before now : Option (List ℕ)) (at : Standing) (text : List ℕ) → Reached told at before → now ≡ before → Reached told (standing_at Broken at.octets text) now
+Reached-broken told before now at text reached kept =
+    record { taken = subst (λ (o : Option (List ℕ)). Taken told at.octets o) (sym kept) reached.taken; few = reached.few; over = λ (same : Broken ≡ Over). cc }
+
+module _ {S : Type 0} (left : S → Option (List ℕ)) (faults : S → ℕ) where
+  -- a source's count of faults never falls
+  pub SourceGoes-later : (first last : S) (events : List Event) → SourceGoes left faults first events last → faults first ≤ faults last
+  SourceGoes-later first last [] goes = omega (arith, ap faults goes)
+  SourceGoes-later first last (Read octets ∷ events) goes = omega (arith, goes.1.later, SourceGoes-later goes.0 last events goes.2)
+  SourceGoes-later first last (ReadFailed ∷ events) goes = omega (arith, goes.1.later, SourceGoes-later goes.0 last events goes.2)
+  SourceGoes-later first last (Wrote piece ∷ events) goes = SourceGoes-later first last events goes
+  SourceGoes-later first last (WriteFailed piece count ∷ events) goes = SourceGoes-later first last events goes
+
+  -- and it rose where a read failed
+  SourceGoes-rose : (first last : S) (before : List Event) → SourceGoes left faults first (before ++ ReadFailed ∷ []) last → Rose (faults first) (faults last)
+  SourceGoes-rose first last [] goes = subst (λ (s : S). Rose (faults first) (faults s)) (sym goes.2) goes.1.cause
+  SourceGoes-rose first last (Read octets ∷ events) goes =
+      Rose-within (faults first) (faults goes.0) (faults last) (faults last) goes.1.later (SourceGoes-rose goes.0 last events goes.2) (omega arith)
+  SourceGoes-rose first last (ReadFailed ∷ events) goes =
+      Rose-within (faults first) (faults goes.0) (faults last) (faults last) goes.1.later (SourceGoes-rose goes.0 last events goes.2) (omega arith)
+  SourceGoes-rose first last (Wrote piece ∷ events) goes = SourceGoes-rose first last events goes
+  SourceGoes-rose first last (WriteFailed piece count ∷ events) goes = SourceGoes-rose first last events goes
+
+  Reached-all : (told : Option (List ℕ)) (future : Future) (at : Standing) (first last : S) (events : List Event) → IsLive future at events
+      → SourceGoes left faults first events last → Reached told at (left first) → Reached told (after_all at events) (left last)
+  Reached-all told future at first last [] live goes reached = subst (λ (s : S). Reached told at (left s)) (sym goes) reached
+  Reached-all told future at first last (Read octets ∷ events) live goes reached =
+      Reached-all told future (standing_after at (Read octets)) goes.0 last events live.1 goes.2
+      (Reached-read told (left first) (left goes.0) future at octets reached live.0.0 live.0.1 goes.1.taken goes.1.ending)
+  Reached-all told future at first last (ReadFailed ∷ events) live goes reached =
+      Reached-all told future (standing_after at ReadFailed) goes.0 last events live.1 goes.2
+      (Reached-broken told (left first) (left goes.0) at at.text reached goes.1.kept)
+  Reached-all told future at first last (Wrote piece ∷ events) live goes reached =
+      Reached-all told future (standing_after at (Wrote piece)) first last events live.1 goes
+      (record { taken = reached.taken; few = reached.few; over = reached.over })
+  Reached-all told future at first last (WriteFailed piece count ∷ events) live goes reached =
+      Reached-all told future (standing_after at (WriteFailed piece count)) first last events live.1 goes
+      (Reached-broken told (left first) (left first) at (at.text ++ take count piece) reached refl)
+
+module _ {K : Type 0} (written : K → Option (List ℕ)) (faults : K → ℕ) where
+  -- a sink's count of faults never falls
+  pub SinkGoes-later : (first last : K) (events : List Event) → SinkGoes written faults first events last → faults first ≤ faults last
+  SinkGoes-later first last [] goes = omega (arith, ap faults goes)
+  SinkGoes-later first last (Read octets ∷ events) goes = SinkGoes-later first last events goes
+  SinkGoes-later first last (ReadFailed ∷ events) goes = SinkGoes-later first last events goes
+  SinkGoes-later first last (Wrote piece ∷ events) goes = omega (arith, goes.1.later, SinkGoes-later goes.0 last events goes.2)
+  SinkGoes-later first last (WriteFailed piece count ∷ events) goes = omega (arith, goes.1.later, SinkGoes-later goes.0 last events goes.2)
+
+  -- and it rose where a write failed
+  SinkGoes-rose : (first last : K) (before : List Event) (piece : List ℕ) (count : ℕ) → SinkGoes written faults first (before ++ WriteFailed piece count ∷ []) last
+      → Rose (faults first) (faults last)
+  SinkGoes-rose first last [] piece count goes = subst (λ (s : K). Rose (faults first) (faults s)) (sym goes.2) goes.1.cause
+  SinkGoes-rose first last (Read octets ∷ events) piece count goes = SinkGoes-rose first last events piece count goes
+  SinkGoes-rose first last (ReadFailed ∷ events) piece count goes = SinkGoes-rose first last events piece count goes
+  SinkGoes-rose first last (Wrote other ∷ events) piece count goes =
+      Rose-within (faults first) (faults goes.0) (faults last) (faults last) goes.1.later (SinkGoes-rose goes.0 last events piece count goes.2) (omega arith)
+  SinkGoes-rose first last (WriteFailed other so_many ∷ events) piece count goes =
+      Rose-within (faults first) (faults goes.0) (faults last) (faults last) goes.1.later (SinkGoes-rose goes.0 last events piece count goes.2) (omega arith)
+
+  -- what the events wrote stands on the sink
+  text-appended : (base : Option (List ℕ)) (at : Standing) (first last : K) (events : List Event) → SinkGoes written faults first events last
+      → Appended base at.text (written first) → Appended base (after_all at events).text (written last)
+  text-appended base at first last [] goes appended = subst (λ (s : K). Appended base at.text (written s)) (sym goes) appended
+  text-appended base at first last (Read octets ∷ events) goes appended = text-appended base (standing_after at (Read octets)) first last events goes appended
+  text-appended base at first last (ReadFailed ∷ events) goes appended = text-appended base (standing_after at ReadFailed) first last events goes appended
+  text-appended base at first last (Wrote piece ∷ events) goes appended =
+      text-appended base (standing_after at (Wrote piece)) goes.0 last events goes.2 (Appended-trans appended goes.1.appended)
+  text-appended base at first last (WriteFailed piece count ∷ events) goes appended =
+      text-appended base (standing_after at (WriteFailed piece count)) goes.0 last events goes.2 (Appended-trans appended goes.1.appended)
+
+-- the end of an input or a refusal within it
+final-meets : (told first last : Option (List ℕ)) (future : Future) (phase : Phase) (octets text : List ℕ) (ending : Ending)
+    → IsFinalAt future phase octets text ending → (phase ≡ Over → (length octets ≤ input_most) × IfSome told (λ input. input ≡ octets))
+    → Appended first text last → IsFinal told first last future octets ending
+final-meets told first last future Going octets text ending final over appended =
+    let e = append-nil (take input_most octets) in
+    record {
+      ended = false;
+      all = λ same. cc;
+      ends = ap (future.ends false) (sym e) ∙ final.0 false [];
+      stays = λ same is more. final.0 is more;
+      wrote = Appended-same (sym (final.1 false []) ∙ ap (future.writes false) e) appended;
+    }
+final-meets told first last future Over octets text ending final over appended =
+    let ended = over refl in
+    let e = take_all input_most octets ended.0 in
+    record {
+      ended = true;
+      all = λ same. ended;
+      ends = ap (future.ends true) e ∙ final.0;
+      stays = λ same. cc;
+      wrote = Appended-same (final.1 ∙ ap (future.writes true) (sym e)) appended;
+    }
+final-meets told first last future Broken octets text ending final over appended = absurd final
+
+-- memory was wanting
+memory-meets : (told first last : Option (List ℕ)) (future : Future) (phase : Phase) (octets text : List ℕ)
+    → IsMemoryAt future phase octets text → (phase ≡ Over → (length octets ≤ input_most) × IfSome told (λ input. input ≡ octets))
+    → Appended first text last → IsMemory told first last future octets
+memory-meets told first last future Going octets text pauses over appended =
+    record { ended = false; all = λ same. cc; text = text; pauses = pauses; wrote = appended }
+memory-meets told first last future Over octets text pauses over appended =
+    let ended = over refl in
+    record {
+      ended = true;
+      all = λ same. ended;
+      text = text;
+      pauses = subst (λ (zs : List ℕ). Contains (future.pauses true zs) text) (sym (take_all input_most octets ended.0)) pauses;
+      wrote = appended;
+    }
+memory-meets told first last future Broken octets text pauses over appended = absurd pauses
+
+-- a write failed
+cut-front : (first last : Option (List ℕ)) (text piece whole : List ℕ) (count : ℕ) → Appended first (text ++ take count piece) last → Begins (text ++ piece) whole
+    → AppendedFront first whole last
+cut-front first last text piece whole count appended begins =
+    let front : AppendedFront first (text ++ piece) last =
+    record { count = length text + count; front = Appended-same (sym (take-append-add text piece count)) appended } in
+    AppendedFront-same (sym begins.is) (AppendedFront-longer begins.rest front)
+
+-- of the octets that a source told, none are left where the input is over
+none-left : (told left : Option (List ℕ)) (octets rest : List ℕ) → Taken told octets left → IfSome told (λ input. input ≡ octets) → left ≡ Some rest → rest ≡ []
+none-left None (Some some) octets rest taken all same = let wrong : None ≡ Some (octets ++ some) = taken.left in cc
+none-left None None octets rest taken all same = cc
+none-left (Some input) None octets rest taken all same = cc
+none-left (Some input) (Some some) octets rest taken all same =
+    let told : Some input ≡ Some (octets ++ some) = taken.left in
+    let whole : input ≡ octets ++ some = cc in
+    let equal : some ≡ rest = cc in
+    by_length rest (omega (arith, length-append octets rest, ap length (sym all ∙ whole ∙ ap (λ (zs : List ℕ). octets ++ zs) equal)))
+  where
+    by_length : (zs : List ℕ) → length zs ≡ 0 → zs ≡ []
+    by_length [] none = refl
+    by_length (z ∷ zs) none = absurd (omega (arith, none))
+
+write-meets : (told left first last : Option (List ℕ)) (future : Future) (at : Standing) (piece : List ℕ) (count : ℕ) → Reached told at left
+    → IsDecided future at.phase at.octets (at.text ++ piece) → Appended first (at.text ++ take count piece) last → IsWriteFault left first last future at.octets
+write-meets told left first last future at piece count reached decided appended = record {
+  front = λ rest is.
+      cut-front first last at.text piece (all_written future (at.octets ++ rest)) count appended
+      (decided-begins future at.phase at.octets rest (at.text ++ piece) decided
+      (λ same. let over = reached.over same in (over.0, none-left told left at.octets rest reached.taken over.1 is)));
+}
+
+module _ {S K : Type 0} (left : S → Option (List ℕ)) (source_faults : S → ℕ) (written : K → Option (List ℕ)) (sink_faults : K → ℕ)
+    (source source_now : S) (sink sink_now : K) (future : Future) where
+  -- what was taken, what was written and what the end says of it
+  meets : (events : List Event) (end : FilterEnd) → IsRun future events end → SourceGoes left source_faults source events source_now
+      → SinkGoes written sink_faults sink events sink_now
+      → Meets (left source) (left source_now) (written sink) (written sink_now) future (after_all at_first events).octets end
+  meets events (Ended ending) run read wrote =
+      let at = after_all at_first events in
+      let reached = Reached-all left source_faults (left source) future at_first source source_now events run.live read (Reached-first (left source)) in
+      final-meets (left source) (written sink) (written sink_now) future at.phase at.octets at.text ending run.ends reached.over
+      (text-appended written sink_faults (written sink) at_first sink sink_now events wrote (Appended-none (written sink)))
+  meets events Memory run read wrote =
+      let at = after_all at_first events in
+      let reached = Reached-all left source_faults (left source) future at_first source source_now events run.live read (Reached-first (left source)) in
+      memory-meets (left source) (written sink) (written sink_now) future at.phase at.octets at.text run.ends reached.over
+      (text-appended written sink_faults (written sink) at_first sink sink_now events wrote (Appended-none (written sink)))
+  meets events TooLong run read wrote =
+      record {
+        many = run.ends.many;
+        ends = run.ends.ends;
+        wrote =
+            Appended-same run.ends.wrote
+            (text-appended written sink_faults (written sink) at_first sink sink_now events wrote (Appended-none (written sink)));
+      }
+  meets events ReadFault run read wrote =
+      let before = run.ends.0 in
+      let at = after_all at_first before in
+      let last : after_all at_first events ≡ standing_after at ReadFailed =
+      ap (after_all at_first) run.ends.1 ∙ after_all-append at_first before (ReadFailed ∷ []) in
+      let live = IsLive-parts future at_first before (ReadFailed ∷ []) (subst (λ (es : List Event). IsLive future at_first es) run.ends.1 run.live) in
+      let settled : IsSettled future at = live.1.0 in
+      let appended = text-appended written sink_faults (written sink) at_first sink sink_now events wrote (Appended-none (written sink)) in
+      subst (λ (s : Standing). IsReadFault (written sink) (written sink_now) future s.octets) (sym last)
+      (record {
+        few = settled.few;
+        ends = settled.ends;
+        wrote = Appended-same (ap (λ (s : Standing). s.text) last ∙ settled.wrote) appended;
+      })
+  meets events WriteFault run read wrote =
+      let piece = run.ends.0 in
+      let count = run.ends.1 in
+      let before = run.ends.2.0 in
+      let same = run.ends.2.1 in
+      let at = after_all at_first before in
+      let last : after_all at_first events ≡ standing_after at (WriteFailed piece count) =
+      ap (after_all at_first) same ∙ after_all-append at_first before (WriteFailed piece count ∷ []) in
+      let live = IsLive-parts future at_first before (WriteFailed piece count ∷ []) (subst (λ (es : List Event). IsLive future at_first es) same run.live) in
+      let reached =
+      Reached-all left source_faults (left source) future at_first source source_now before live.0
+      (source-before before piece count source (subst (λ (es : List Event). SourceGoes left source_faults source es source_now) same read))
+      (Reached-first (left source)) in
+      subst (λ (s : Standing). IsWriteFault (left source_now) (written sink) (written sink_now) future s.octets) (sym last)
+      (write-meets (left source) (left source_now) (written sink) (written sink_now) future at piece count reached live.1.0.decided
+      (Appended-same (ap (λ (s : Standing). s.text) last)
+      (text-appended written sink_faults (written sink) at_first sink sink_now events wrote (Appended-none (written sink)))))
     where
-      nil_part : (xs ys : List ℕ) → xs ++ ys ≡ [] → ys ≡ []
-      nil_part [] ys e = e
-      nil_part (x ∷ xs) ys e = cc
+      source-before : (before : List Event) (piece : List ℕ) (count : ℕ) (s : S) → SourceGoes left source_faults s (before ++ WriteFailed piece count ∷ []) source_now
+          → SourceGoes left source_faults s before source_now
+      source-before [] piece count s goes = goes
+      source-before (Read octets ∷ es) piece count s goes = (goes.0, goes.1, source-before es piece count goes.0 goes.2)
+      source-before (ReadFailed ∷ es) piece count s goes = (goes.0, goes.1, source-before es piece count goes.0 goes.2)
+      source-before (Wrote other ∷ es) piece count s goes = source-before es piece count s goes
+      source-before (WriteFailed other so_many ∷ es) piece count s goes = source-before es piece count s goes
 
-  module _ (told before left : Option (List ℕ)) (buf : List ℕ) (count fits : ℕ) (room : length octets + fits ≤ input_most) (fit : fits ≤ count) (most : count ≤ read_most)
-      (taken : Taken told octets before) (given : Gives before left buf count) where
-    -- what was taken with a read: what was fed, and the rest
-    read-taken : (fed : ℕ) → Taken told ((octets ++ take fed (take fits buf)) ++ (drop fed (take fits buf) ++ take (count - fits) (drop fits buf))) left
-    read-taken fed =
-        subst (λ (zs : List ℕ). Taken told zs left)
-        (ap (λ (zs : List ℕ). octets ++ zs) (read-parts buf count fits fed fit) ∙ sym (append_assoc octets (take fed (take fits buf)) (drop fed (take fits buf) ++ take (count - fits) (drop fits buf))))
-        (Taken-trans taken given.octets)
+  pub run-filtered : (events : List Event) (end : FilterEnd) → IsRun future events end → SourceGoes left source_faults source events source_now
+      → SinkGoes written sink_faults sink events sink_now → Filtered (left source) (left source_now) (written sink) (written sink_now) future end
+  run-filtered events end run read wrote =
+      let reached = Reached-all left source_faults (left source) future at_first source source_now events run.live read (Reached-first (left source)) in
+      record {
+        octets = (after_all at_first events).octets;
+        taken = reached.taken;
+        few = reached.few;
+        meets = meets events end run read wrote;
+      }
 
-    read-few : length (take count buf) ≤ read_most
-    read-few = omega (arith, length-take count buf)
+  -- a piece that is due is some, so something is to be written
+  due-some : (input : List ℕ) (at : Standing) (s : S) (piece : List ℕ) → left source ≡ Some input → all_written future input ≡ [] → Reached (left source) at (left s)
+      → 0 < length piece → IsDecided future at.phase at.octets (at.text ++ piece) → ⊥
+  due-some input at s piece told none reached some decided =
+      let parts = told-parts (left source) (left s) at.octets input reached.taken told in
+      let begins =
+      decided-begins future at.phase at.octets parts.0 (at.text ++ piece) decided
+      (λ same. let over = reached.over same in
+      (over.0, nothing (omega (arith, length-append at.octets parts.0, ap length (sym parts.1 ∙ ended-input (left source) at.octets input over.1 told))))) in
+      omega (arith, some, ap length begins.is, ap length (ap (all_written future) (sym parts.1) ∙ none), length-append (at.text ++ piece) begins.rest, length-append at.text piece)
+    where
+      nothing : {zs : List ℕ} → length zs ≡ 0 → zs ≡ []
+      nothing {zs = []} none = refl
+      nothing {zs = z ∷ zs} none = absurd (omega (arith, none))
 
-    fed-within : (fed : ℕ) → length (octets ++ take fed (take fits buf)) ≤ input_most
-    fed-within fed = omega (arith, length-append octets (take fed (take fits buf)), fed-few buf fits fed)
+  -- an input of which nothing is to be written leaves the sink as it was
+  untouched-by : (input : List ℕ) → left source ≡ Some input → all_written future input ≡ [] → (at : Standing) (events : List Event) (s : S) (k : K) → IsLive future at events
+      → SourceGoes left source_faults s events source_now → SinkGoes written sink_faults k events sink_now → Reached (left source) at (left s) → sink_now ≡ k
+  untouched-by input told none at [] s k live read wrote reached = wrote
+  untouched-by input told none at (Read octets ∷ events) s k live read wrote reached =
+      untouched-by input told none (standing_after at (Read octets)) events read.0 k live.1 read.2 wrote
+      (Reached-read (left source) (left s) (left read.0) future at octets reached live.0.0 live.0.1 read.1.taken read.1.ending)
+  untouched-by input told none at (ReadFailed ∷ events) s k live read wrote reached =
+      untouched-by input told none (standing_after at ReadFailed) events read.0 k live.1 read.2 wrote
+      (Reached-broken (left source) (left s) (left read.0) at at.text reached read.1.kept)
+  untouched-by input told none at (Wrote piece ∷ events) s k live read wrote reached = absurd (due-some input at s piece told none reached live.0.some live.0.decided)
+  untouched-by input told none at (WriteFailed piece count ∷ events) s k live read wrote reached =
+      absurd (due-some input at s piece told none reached live.0.some live.0.decided)
 
-    -- the work stopped within a read
-    pub stops-in_read : (page : List ℕ) (fed : ℕ) (stop : Stop) → page ≡ [] → IsStopped written second page now (take fed (take fits buf)) stop third → Filtered told left (written first) (written third) future (end_of stop)
-    stops-in_read page fed stop empty stopped =
-        let part = take fed (take fits buf) in
-        let tail = drop fed (take fits buf) ++ take (count - fits) (drop fits buf) in
-        let whole : octets ++ take count buf ≡ (octets ++ part) ++ tail = ap (λ (zs : List ℕ). octets ++ zs) (read-parts buf count fits fed fit) ∙ sym (append_assoc octets part tail) in
-        let long : length ((octets ++ part) ++ tail) ≤ input_most + read_most = omega (arith, ap length whole, length-append octets (take count buf), read-few) in
-        stops-final written first third future (octets ++ part) tail told left stop (fed-within fed) long (read-taken fed)
-        (stopped-after written first second third [] [] octets part future now stop moved (on-blank_page written second third page part now stop empty stopped))
+  pub run-untouched : (events : List Event) (end : FilterEnd) → IsRun future events end → SourceGoes left source_faults source events source_now
+      → SinkGoes written sink_faults sink events sink_now → (input : List ℕ) → left source ≡ Some input → all_written future input ≡ [] → sink_now ≡ sink
+  run-untouched events end run read wrote input told none =
+      untouched-by input told none at_first events source sink run.live read wrote (Reached-first (left source))
 
-    pub nothing-in_read : (page : List ℕ) (fed : ℕ) (stop : Stop) → page ≡ [] → IsStopped written second page now (take fed (take fits buf)) stop third
-        → (input : List ℕ) → told ≡ Some input → all_written future input ≡ [] → third ≡ first
-    nothing-in_read page fed stop empty stopped input same none =
-        let part = take fed (take fits buf) in
-        let tail = drop fed (take fits buf) ++ take (count - fits) (drop fits buf) in
-        let parts = told-parts told left ((octets ++ part) ++ tail) input (read-taken fed) same in
-        nothing-stopped written first third future (octets ++ part) (tail ++ parts.0) stop (fed-within fed)
-        (stopped-after written first second third [] [] octets part future now stop moved (on-blank_page written second third page part now stop empty stopped))
-        (ap (all_written future) (sym (append_assoc (octets ++ part) tail parts.0) ∙ sym parts.1) ∙ none)
+  -- a fault has its cause
+  pub run-read_fault : (events : List Event) (end : FilterEnd) → IsRun future events end → SourceGoes left source_faults source events source_now
+      → end ≡ ReadFault → Rose (source_faults source) (source_faults source_now)
+  run-read_fault events end run read same =
+      let ends = (subst (λ (e : FilterEnd). IsRun future events e) same run).ends in
+      SourceGoes-rose left source_faults source source_now ends.0 (subst (λ (es : List Event). SourceGoes left source_faults source es source_now) ends.1 read)
 
-    module _ (last : Future) (page : List ℕ) (empty : page ≡ []) (fed_moved : Moved written second page now (take fits buf) third [] last) where
-      -- a read was fed
-      pub read-moved : Moved written first [] future (octets ++ take fits buf) third [] last
-      read-moved = Moved-trans written first second third [] [] [] future now last octets (take fits buf) moved (subst (λ (zs : List ℕ). Moved written second zs now (take fits buf) third [] last) empty fed_moved)
-
-      -- and the input was too long
-      pub too-long-read : length octets + fits ≡ input_most → fits < count → IsIdle false last → Filtered told left (written first) (written third) future TooLong
-      too-long-read full more idle =
-          let tail = take (count - fits) (drop fits buf) in
-          let whole : octets ++ take count buf ≡ (octets ++ take fits buf) ++ tail = ap (λ (zs : List ℕ). octets ++ zs) (take-fits) ∙ sym (append_assoc octets (take fits buf) tail) in
-          let long : length (take fits buf) ≡ fits = omega (arith, length-take fits buf, given.fits) in
-          let rest : length tail ≡ count - fits = omega (arith, length-take (count - fits) (drop fits buf), length-drop fits buf, given.fits) in
-          too-long written first third future last (octets ++ take fits buf) tail told left (omega (arith, length-append octets (take fits buf))) (omega arith) (omega arith)
-          (subst (λ (zs : List ℕ). Taken told zs left) whole (Taken-trans taken given.octets)) read-moved idle
-        where
-          take-fits : take count buf ≡ take fits buf ++ take (count - fits) (drop fits buf)
-          take-fits = let e : count ≡ fits + (count - fits) = omega arith in ap (λ (n : ℕ). take n buf) e ∙ take-add fits (count - fits) buf
-
-      pub nothing-too_long : (input : List ℕ) → told ≡ Some input → all_written future input ≡ [] → third ≡ first
-      nothing-too_long input same none =
-          let tail = take (count - fits) (drop fits buf) in
-          let e : count ≡ fits + (count - fits) = omega arith in
-          let take-fits : take count buf ≡ take fits buf ++ tail = ap (λ (n : ℕ). take n buf) e ∙ take-add fits (count - fits) buf in
-          let parts = told-parts told left (octets ++ take count buf) input (Taken-trans taken given.octets) same in
-          let long : length (octets ++ take fits buf) ≤ input_most = omega (arith, length-append octets (take fits buf), length-take fits buf) in
-          nothing-touched written first third future last (octets ++ take fits buf) read-moved input (tail ++ parts.0) long
-          (parts.1 ∙ ap (λ (zs : List ℕ). (octets ++ zs) ++ parts.0) take-fits ∙ ap (λ (zs : List ℕ). zs ++ parts.0) (sym (append_assoc octets (take fits buf) tail)) ∙ append_assoc (octets ++ take fits buf) tail parts.0)
-          none
+  pub run-write_fault : (events : List Event) (end : FilterEnd) → IsRun future events end → SinkGoes written sink_faults sink events sink_now
+      → end ≡ WriteFault → Rose (sink_faults sink) (sink_faults sink_now)
+  run-write_fault events end run wrote same =
+      let ends = (subst (λ (e : FilterEnd). IsRun future events e) same run).ends in
+      SinkGoes-rose written sink_faults sink sink_now ends.2.0 ends.0 ends.1
+      (subst (λ (es : List Event). SinkGoes written sink_faults sink es sink_now) ends.2.1 wrote)

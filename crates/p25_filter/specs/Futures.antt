@@ -1,11 +1,12 @@
 -- What a command at work still writes, and how it ends, for the octets that may still come.
-use Rattle.std.specs.Prelude.{◌≡◌, ℕ, ◌<◌, Bool, true, false, List, [], ◌++◌, length, Contains, Option, Some, None, Result, Ok, Err, ◌⊎◌}
-use Rattle.p25_io.specs.Octets.{Appended, AppendedFront}
+use Rattle.std.specs.Prelude.{◌≡◌, ℕ, Bool, true, false, List, [], ◌++◌, Contains, Option, Some, None, Result, Ok, Err}
+use Rattle.p25_io.specs.Events.{Event}
 use Rattle.p25_filter.specs.declared.ending.Ending.{Ending}
 use Rattle.p25_filter.specs.declared.ending.Refusal.{Refusal}
 use Rattle.p25_filter.specs.declared.ending.Refusal.TheVariants.{Ended, Memory}
 use Rattle.p25_filter.specs.declared.ending.Stop.{Stop}
 use Rattle.p25_filter.specs.declared.ending.Stop.TheVariants.{Fault, Refused}
+use Rattle.p25_filter.specs.Writes.{Begins, Written, CutShort}
 
 -- for each list of octets that may come, the last ones of the input or not: what is written for them, how the call ends by
 -- them, if it does, and the texts after which memory may be wanting
@@ -59,56 +60,60 @@ pub record HasPause (future : Future) (gathered : List ℕ) (ended : Bool) (octe
   pub whole : gathered ++ pause ≡ text
 
 -- some octets came; of what was gathered before and what was given out for them, a part was written and the rest is gathered
-pub record Moved {K : Type 0} (written : K → Option (List ℕ)) (first : K) (gathered : List ℕ) (before : Future) (octets : List ℕ) (last : K) (kept : List ℕ)
-    (now : Future) : Type 0 where
+pub record Moved {P : Type 0} (moves : P → List Event → P → Type 0) (first : P) (gathered : List ℕ) (before : Future) (octets : List ℕ) (last : P)
+    (kept : List ℕ) (now : Future) : Type 0 where
   pub text : List ℕ
-  pub appended : Appended (written first) text (written last)
+  pub written : Written moves first text last
   pub writes : (ended : Bool) (more : List ℕ) → gathered ++ before.writes ended (octets ++ more) ≡ text ++ (kept ++ now.writes ended more)
   pub ends : (ended : Bool) (more : List ℕ) → before.ends ended (octets ++ more) ≡ now.ends ended more
   pub pauses : (ended : Bool) (more pause : List ℕ) → Contains (now.pauses ended more) pause
       → HasPause before gathered ended (octets ++ more) (text ++ (kept ++ pause))
-  pub touched : (last ≡ first) ⊎ (0 < length text)
 
--- a write failed: whatever octets come later, the beginning of all that was to be written is written, and that is something
-pub record IsCutOff {K : Type 0} (written : K → Option (List ℕ)) (first : K) (gathered : List ℕ) (before : Future) (octets : List ℕ) (last : K) : Type 0 where
-  pub front : (ended : Bool) (more : List ℕ) → AppendedFront (written first) (gathered ++ before.writes ended (octets ++ more)) (written last)
-  pub some : (ended : Bool) (more : List ℕ) → 0 < length (gathered ++ before.writes ended (octets ++ more))
+-- a write failed: what was written and the piece that failed begin, whatever octets come later, all that was to be written
+pub record IsCutOff {P : Type 0} (moves : P → List Event → P → Type 0) (first : P) (gathered : List ℕ) (before : Future) (octets : List ℕ) (last : P)
+    : Type 0 where
+  pub text : List ℕ
+  pub cut : CutShort moves first text last
+  pub begins : (ended : Bool) (more : List ℕ) → Begins text (gathered ++ before.writes ended (octets ++ more))
 
 -- the input ended or was refused: all before that is written
-pub record IsEnded {K : Type 0} (written : K → Option (List ℕ)) (first : K) (gathered : List ℕ) (before : Future) (octets : List ℕ) (ending : Ending) (last : K)
-    : Type 0 where
-  pub wrote : (ended : Bool) (more : List ℕ) → Appended (written first) (gathered ++ before.writes ended (octets ++ more)) (written last)
+pub record IsEnded {P : Type 0} (moves : P → List Event → P → Type 0) (first : P) (gathered : List ℕ) (before : Future) (octets : List ℕ) (ending : Ending)
+    (last : P) : Type 0 where
+  pub text : List ℕ
+  pub written : Written moves first text last
+  pub whole : (ended : Bool) (more : List ℕ) → gathered ++ before.writes ended (octets ++ more) ≡ text
   pub ends : (ended : Bool) (more : List ℕ) → before.ends ended (octets ++ more) ≡ Some ending
-  pub touched : (last ≡ first) ⊎ ((ended : Bool) (more : List ℕ) → 0 < length (gathered ++ before.writes ended (octets ++ more)))
 
 -- memory was wanting: what is written is, whatever octets come later, a text after which it may be, and the beginning of all
 -- that was to be written
-pub record IsPaused {K : Type 0} (written : K → Option (List ℕ)) (first : K) (gathered : List ℕ) (before : Future) (octets : List ℕ) (last : K) : Type 0 where
+pub record IsPaused {P : Type 0} (moves : P → List Event → P → Type 0) (first : P) (gathered : List ℕ) (before : Future) (octets : List ℕ) (last : P)
+    : Type 0 where
   pub text : List ℕ
-  pub appended : Appended (written first) text (written last)
+  pub written : Written moves first text last
   pub pauses : (ended : Bool) (more : List ℕ) → HasPause before gathered ended (octets ++ more) text
-  pub begins : (ended : Bool) (more : List ℕ) → (rest : List ℕ) × (gathered ++ before.writes ended (octets ++ more) ≡ text ++ rest)
-  pub touched : (last ≡ first) ⊎ (0 < length text)
+  pub begins : (ended : Bool) (more : List ℕ) → Begins text (gathered ++ before.writes ended (octets ++ more))
+
+-- a write failed after the input ended
+pub record IsCutOffAtEnd {P : Type 0} (moves : P → List Event → P → Type 0) (first : P) (before : Future) (last : P) : Type 0 where
+  pub text : List ℕ
+  pub cut : CutShort moves first text last
+  pub begins : Begins text (before.writes true [])
 
 -- memory was wanting after the input ended: what was written is a text after which it may be
-pub record IsPausedAtEnd {K : Type 0} (written : K → Option (List ℕ)) (first : K) (before : Future) (last : K) : Type 0 where
+pub record IsPausedAtEnd {P : Type 0} (moves : P → List Event → P → Type 0) (first : P) (before : Future) (last : P) : Type 0 where
   pub text : List ℕ
-  pub appended : Appended (written first) text (written last)
+  pub written : Written moves first text last
   pub pauses : Contains (before.pauses true []) text
-  pub begins : (rest : List ℕ) × (before.writes true [] ≡ text ++ rest)
-  pub touched : (last ≡ first) ⊎ (0 < length text)
+  pub begins : Begins text (before.writes true [])
 
 -- why the work stopped
-unfoldable pub IsStopped : {K : Type 0} → (K → Option (List ℕ)) → K → List ℕ → Future → List ℕ → Stop → K → Type 0
-IsStopped written first gathered before octets Fault last = IsCutOff written first gathered before octets last
-IsStopped written first gathered before octets (Refused (Ended ending)) last = IsEnded written first gathered before octets ending last
-IsStopped written first gathered before octets (Refused Memory) last = IsPaused written first gathered before octets last
+unfoldable pub IsStopped : {P : Type 0} → (P → List Event → P → Type 0) → P → List ℕ → Future → List ℕ → Stop → P → Type 0
+IsStopped moves first gathered before octets Fault last = IsCutOff moves first gathered before octets last
+IsStopped moves first gathered before octets (Refused (Ended ending)) last = IsEnded moves first gathered before octets ending last
+IsStopped moves first gathered before octets (Refused Memory) last = IsPaused moves first gathered before octets last
 
 -- the input ended, and so the work
-unfoldable pub EndsBy : {K : Type 0} → (K → Option (List ℕ)) → K → Future → Stop → K → Type 0
-EndsBy written first before Fault last = AppendedFront (written first) (before.writes true []) (written last) × (0 < length (before.writes true []))
-EndsBy written first before (Refused Memory) last = IsPausedAtEnd written first before last
-EndsBy written first before (Refused (Ended ending)) last =
-    Appended (written first) (before.writes true []) (written last)
-    × (before.ends true [] ≡ Some ending)
-    × ((last ≡ first) ⊎ (0 < length (before.writes true [])))
+unfoldable pub EndsBy : {P : Type 0} → (P → List Event → P → Type 0) → P → Future → Stop → P → Type 0
+EndsBy moves first before Fault last = IsCutOffAtEnd moves first before last
+EndsBy moves first before (Refused Memory) last = IsPausedAtEnd moves first before last
+EndsBy moves first before (Refused (Ended ending)) last = Written moves first (before.writes true []) last × (before.ends true [] ≡ Some ending)

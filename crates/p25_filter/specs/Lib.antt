@@ -1,7 +1,11 @@
+pub mod Writes
 pub mod Futures
 pub mod Pages
 pub mod Endings
 pub mod Runs
+pub mod Traces
+pub mod Orders
 pub mod Lines
 pub mod LineRules
 pub mod LineFilters
+pub mod Echoes

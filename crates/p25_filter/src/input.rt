@@ -1,116 +1,160 @@
 //! The work on an input: reading it in pieces, handing its octets to a command, and writing what the command gives.
 
 ghost use Rattle.std.specs.Prelude.{◌≡◌, ℕ, ◌+◌, ◌*◌, ◌^◌, ◌<◌, ◌≤◌, ◌⊎◌, false, true, List, [], ◌∷◌, length, take, Some, OnOk, IfOk, IfErr};
+ghost use Rattle.p25_io.specs.Events.{Event};
 ghost use Rattle.p25_io.specs.Faults.{Rose};
-ghost use Rattle.p25_io.specs.Octets.{Appended, AppendedFront};
+ghost use Rattle.p25_io.specs.Pairs.{SourceGoes, SinkGoes};
 ghost use Rattle.p25_filter.specs.Endings.{end_of};
 ghost use Rattle.p25_filter.specs.Futures.{EndsBy, IsIdle, IsStopped, Moved};
 ghost use Rattle.p25_filter.specs.Runs.{Filtered, all_written};
+ghost use Rattle.p25_filter.specs.Traces.{IsRun};
+ghost use Rattle.p25_filter.specs.Writes.{Written, CutShort};
 
 use super::ending::{FilterEnd, Refusal, Stop};
 use super::filter::Filter;
 use super::page::{flush, gather};
-use p25_io::{Sink, Source};
+use p25_io::{Pair, Port, Sink, Source};
 use p25_line::Line;
 
 // The most octets of an input.
 const INPUT_MOST: usize = 16_777_216;
 
 // Writes the page, after which there is no further piece.
-fn refused<K: Sink>(refusal: Refusal, page: &mut Line, sink: &mut K) -> Stop
-    ensures refused { result ≡ Stop.Refused refusal → Appended (K.written sink.old) page.old (K.written sink.new) }
-    ensures fault { result ≡ Stop.Fault
-        → AppendedFront (K.written sink.old) page.old (K.written sink.new) × (0 < length page.old) × Rose (K.faults sink.old) (K.faults sink.new) }
+fn refused<P: Port>(refusal: Refusal, page: &mut Line, port: &mut P) -> Stop
+    ensures refused { result ≡ Stop.Refused refusal → Written P.moves port.old page.old port.new }
+    ensures fault { result ≡ Stop.Fault → CutShort P.moves port.old page.old port.new }
     ensures one { (result ≡ Stop.Refused refusal) ⊎ (result ≡ Stop.Fault) }
-    ensures touched { (sink.new ≡ sink.old) ⊎ (0 < length page.old) }
-    ensures later { K.faults sink.old ≤ K.faults sink.new }
 {
-    match flush(page, sink) {
+    match flush(page, port) {
         Ok(()) => Stop::Refused(refusal),
         Err(_) => Stop::Fault,
     }
 }
 
 // Gathers all pieces that the command has to give.
-fn drain<W: Filter, K: Sink>(
+fn drain<W: Filter, P: Port>(
     filter: &mut W,
     page: &mut Line,
     piece: &mut Line,
-    sink: &mut K,
+    port: &mut P,
 ) -> Result<(), Stop>
-    ensures moved { OnOk result (Moved K.written sink.old page.old (W.future filter.old) [] sink.new page.new (W.future filter.new)) }
+    ensures moved { OnOk result (Moved P.moves port.old page.old (W.future filter.old) [] port.new page.new (W.future filter.new)) }
     ensures drained { OnOk result (W.IsDrained filter.new) }
     ensures idle { OnOk result (IsIdle (W.is_finished filter.new) (W.future filter.new)) }
-    ensures stopped { IfErr result (λ stop. IsStopped K.written sink.old page.old (W.future filter.old) [] stop sink.new) }
+    ensures stopped { IfErr result (λ stop. IsStopped P.moves port.old page.old (W.future filter.old) [] stop port.new) }
     ensures same { W.is_finished filter.new ≡ W.is_finished filter.old }
     ensures size { W.size filter.new ≤ W.size filter.old }
-    ensures later { K.faults sink.old ≤ K.faults sink.new }
-    ensures cause { IfErr result (λ stop. stop ≡ Stop.Fault → Rose (K.faults sink.old) (K.faults sink.new)) }
 {
     loop {
         match filter.next(piece) {
             Ok(true) => {
-                let Ok(()) = gather(page, piece, sink) else {
+                let Ok(()) = gather(page, piece, port) else {
                     return Err(Stop::Fault);
                 };
             }
             Ok(false) => return Ok(()),
-            Err(refusal) => return Err(refused(refusal, page, sink)),
+            Err(refusal) => return Err(refused(refusal, page, port)),
         }
     }
 }
 
 // Hands octets to the command, and writes all that it gives for them.
-fn feed<W: Filter, K: Sink>(
+fn feed<W: Filter, P: Port>(
     filter: &mut W,
     octets: &[u8],
     page: &mut Line,
     piece: &mut Line,
-    sink: &mut K,
+    port: &mut P,
 ) -> Result<(), Stop>
     requires drained { W.IsDrained filter.old }
     requires idle { IsIdle false (W.future filter.old) }
     requires going { W.is_finished filter.old ≡ false }
     requires few { W.size filter.old + 8 * length octets.now < 2 ^ 28 }
-    ensures moved { OnOk result (Moved K.written sink.old page.old (W.future filter.old) octets.now sink.new [] (W.future filter.new)) }
+    ensures moved { OnOk result (Moved P.moves port.old page.old (W.future filter.old) octets.now port.new [] (W.future filter.new)) }
     ensures empty { OnOk result (page.new ≡ []) }
     ensures drained { OnOk result (W.IsDrained filter.new) }
     ensures idle { OnOk result (IsIdle false (W.future filter.new)) }
-    ensures stopped { IfErr result (λ stop. (count : ℕ) × IsStopped K.written sink.old page.old (W.future filter.old) (take count octets.now) stop sink.new) }
+    ensures stopped { IfErr result (λ stop. (count : ℕ) × IsStopped P.moves port.old page.old (W.future filter.old) (take count octets.now) stop port.new) }
     ensures going { W.is_finished filter.new ≡ false }
     ensures size { W.size filter.new ≤ W.size filter.old + 8 * length octets.now }
-    ensures later { K.faults sink.old ≤ K.faults sink.new }
-    ensures cause { IfErr result (λ stop. stop ≡ Stop.Fault → Rose (K.faults sink.old) (K.faults sink.new)) }
 {
     let mut done = 0;
     while done < octets.len() {
         done += filter.push_some(&octets[done..]);
-        match drain(filter, page, piece, sink) {
+        match drain(filter, page, piece, port) {
             Ok(()) => {}
             Err(stop) => return Err(stop),
         }
     }
-    match flush(page, sink) {
+    match flush(page, port) {
         Ok(()) => Ok(()),
         Err(_) => Err(Stop::Fault),
     }
 }
 
 // Tells the command that the input has ended, and writes all that it gives.
-fn end<W: Filter, K: Sink>(filter: &mut W, page: &mut Line, piece: &mut Line, sink: &mut K) -> Stop
+fn end<W: Filter, P: Port>(filter: &mut W, page: &mut Line, piece: &mut Line, port: &mut P) -> Stop
     requires drained { W.IsDrained filter.old }
     requires going { W.is_finished filter.old ≡ false }
     requires few { W.size filter.old < 2 ^ 28 }
     requires empty { page.old ≡ [] }
-    ensures ended { EndsBy K.written sink.old (W.future filter.old) result sink.new }
-    ensures later { K.faults sink.old ≤ K.faults sink.new }
-    ensures cause { result ≡ Stop.Fault → Rose (K.faults sink.old) (K.faults sink.new) }
+    ensures { EndsBy P.moves port.old (W.future filter.old) result port.new }
 {
     filter.finish();
-    if let Err(stop) = drain(filter, page, piece, sink) {
+    if let Err(stop) = drain(filter, page, piece, port) {
         return stop;
     }
-    refused(Refusal::Ended(filter.ending()), page, sink)
+    refused(Refusal::Ended(filter.ending()), page, port)
+}
+
+/// Reads the port to the end of the input, at most 16,777,216 octets, hands the octets to the command and writes what it gives.
+/// All that the octets read so far decide is written before the next read, and nothing else; nothing is read or written after a
+/// fault. Where there is not enough memory, what came before is written.
+pub fn run_on<W: Filter, P: Port>(filter: &mut W, port: &mut P) -> FilterEnd
+    requires drained { W.IsDrained filter.old }
+    requires idle { IsIdle false (W.future filter.old) }
+    requires going { W.is_finished filter.old ≡ false }
+    requires few { W.size filter.old ≡ 0 }
+    ensures { (events : List Event) × P.moves port.old events port.new × IsRun (W.future filter.old) events result }
+{
+    let mut page = Line::new();
+    let mut piece = Line::new();
+    let mut buf = [0; 4_096];
+    let mut taken = 0;
+    loop {
+        let Ok(count) = port.read(&mut buf) else {
+            return FilterEnd::ReadFault;
+        };
+        if count == 0 {
+            return end(filter, &mut page, &mut piece, port).end();
+        }
+        let fits = count.min(INPUT_MOST - taken);
+        match feed(filter, &buf[..fits], &mut page, &mut piece, port) {
+            Ok(()) => {}
+            Err(stop) => return stop.end(),
+        }
+        if fits < count {
+            return FilterEnd::TooLong;
+        }
+        taken += count;
+    }
+}
+
+// The work on the port of a source and a sink: what each went through.
+fn run_between<W: Filter, S: Source, K: Sink>(
+    filter: &mut W,
+    source: &mut S,
+    sink: &mut K,
+) -> FilterEnd
+    requires drained { W.IsDrained filter.old }
+    requires idle { IsIdle false (W.future filter.old) }
+    requires going { W.is_finished filter.old ≡ false }
+    requires few { W.size filter.old ≡ 0 }
+    ensures { (events : List Event) × SourceGoes S.left S.faults source.old events source.new
+        × SinkGoes K.written K.faults sink.old events sink.new × IsRun (W.future filter.old) events result }
+{
+    let mut pair = Pair::new(source, sink);
+    run_on(filter, &mut pair)
 }
 
 /// Reads the source to its end, at most 16,777,216 octets, hands the octets to the command and writes what it gives. All
@@ -132,25 +176,5 @@ pub fn run_filter<W: Filter, S: Source, K: Sink>(
     ensures read_fault { result ≡ FilterEnd.ReadFault → Rose (S.faults source.old) (S.faults source.new) }
     ensures write_fault { result ≡ FilterEnd.WriteFault → Rose (K.faults sink.old) (K.faults sink.new) }
 {
-    let mut page = Line::new();
-    let mut piece = Line::new();
-    let mut buf = [0; 4_096];
-    let mut taken = 0;
-    loop {
-        let Ok(count) = source.read(&mut buf) else {
-            return FilterEnd::ReadFault;
-        };
-        if count == 0 {
-            return end(filter, &mut page, &mut piece, sink).end();
-        }
-        let fits = count.min(INPUT_MOST - taken);
-        match feed(filter, &buf[..fits], &mut page, &mut piece, sink) {
-            Ok(()) => {}
-            Err(stop) => return stop.end(),
-        }
-        if fits < count {
-            return FilterEnd::TooLong;
-        }
-        taken += count;
-    }
+    run_between(filter, source, sink)
 }

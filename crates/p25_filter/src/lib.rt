@@ -2,9 +2,12 @@
 //! command gives for them is written to a sink in few pieces.
 //!
 //! A command is a `Filter`. Contracts see it by its `Future`: what it still writes, how the call ends, and after which texts
-//! memory may be wanting, for each list of octets that may still come. `run_filter` reads to the end of the input, at most
-//! 16,777,216 octets; all that the octets taken so far decide is written before the next read. What stands after each way to
-//! end is `Filtered`.
+//! memory may be wanting, for each list of octets that may still come.
+//!
+//! `run_on` does the work on any port, and reads to the end of the input, at most 16,777,216 octets. Its contract says which
+//! reads and writes it makes, and in which order: they are a live run of events (`IsRun`), in which all that the octets read so
+//! far decide is written before the next read, no write is empty, and nothing comes after a fault. `laws::order_laws` says what
+//! this comes to. `run_filter` is that work between a source and a sink; what stands after each way to end is `Filtered`.
 //!
 //! A command over lines is a `LineMachine`, which answers each line with a text, and `LineFilter` is the filter that it makes.
 //! Contracts see it by its `LineRules`: the text of a line and the machine after it, or the fault of the line.
@@ -13,12 +16,16 @@
 mod ending;
 mod filter;
 mod input;
+pub mod laws;
 mod line_filter;
 mod line_machine;
 mod page;
 
 pub use ending::{Ending, FilterEnd, Refusal};
 pub use filter::Filter;
-pub use input::run_filter;
+pub use input::{run_filter, run_on};
 pub use line_filter::LineFilter;
 pub use line_machine::{LineMachine, LineRefusal};
+
+#[cfg(test)]
+mod tests;

@@ -20,27 +20,35 @@
 //!   say what a terminal, a pipe or a file holds; [`CountSink`] keeps a number alone.
 //! - Each fault raises a count, which never falls and stands still at 2^64 - 1. A call fails only where its count
 //!   rose, so that no answer `Failed` comes without a fault.
-//! - No call takes memory.
+//! - A [`Port`] is both, and tells the order of its calls. [`Pair`] is the port of a source and a sink, and [`Tape`] one in
+//!   memory that keeps every call.
+//! - No call takes memory, but for those of [`Tape`].
 #![tactic(auto)]
 
 mod count_sink;
 mod failed;
 mod memory_source;
+mod pair;
+mod port;
 mod read_source;
 mod sink;
 mod slice_sink;
 mod source;
 mod steady_source;
+mod tape;
 mod write_sink;
 
 pub use count_sink::CountSink;
 pub use failed::Failed;
 pub use memory_source::MemorySource;
+pub use pair::Pair;
+pub use port::Port;
 pub use read_source::ReadSource;
 pub use sink::Sink;
 pub use slice_sink::SliceSink;
 pub use source::Source;
 pub use steady_source::SteadySource;
+pub use tape::{Call, Tape};
 pub use write_sink::WriteSink;
 
 #[cfg(test)]

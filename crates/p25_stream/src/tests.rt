@@ -2,7 +2,8 @@
 
 ghost use Rattle.p25_units.specs.Units.{IsWholeBody};
 
-use super::{Item, Scanner, bridge_item, item_laws, repair_item, repair_item_in};
+use super::laws::item_laws;
+use super::{Item, Scanner, bridge_item, repair_item, repair_item_in};
 use p25_bits::BitBuf;
 use p25_units::{Body, Frame, Status, Statuses, Unit, VoiceUnit, frame_length};
 use std::test::Fail;

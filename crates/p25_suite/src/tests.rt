@@ -4,6 +4,7 @@ mod calls;
 mod damaged;
 mod drawn;
 mod faults;
+mod order;
 mod packets;
 mod refusals;
 mod rows;

@@ -3,6 +3,7 @@ pub mod SamplingLaws
 pub mod CommandsLaws
 pub mod RunsLaws
 pub mod ScriptsLaws
+pub mod CallRunsLaws
 pub mod RecordedLaws
 pub mod BuiltLaws
 pub mod FoundLaws

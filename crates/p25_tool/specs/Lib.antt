@@ -8,6 +8,7 @@ pub mod FragmentRules
 pub mod Scripts
 pub mod LongLines
 pub mod Runs
+pub mod CallRuns
 pub mod Recorded
 pub mod Built
 pub mod Written

@@ -1,12 +1,16 @@
 //! The call that the program makes.
 
 ghost use Rattle.std.specs.Prelude.{◌≡◌, ℕ, ◌≤◌, ◌↔◌, ◌⊎◌, List, [], None, Some, IfSome};
+ghost use Rattle.p25_io.specs.Events.{Event};
 ghost use Rattle.p25_io.specs.Faults.{Rose};
-ghost use Rattle.p25_filter.specs.Runs.{Filtered, all_written};
+ghost use Rattle.p25_io.specs.Pairs.{SinkGoes, SourceGoes};
+ghost use Rattle.p25_filter.specs.Runs.{all_written};
+ghost use Rattle.p25_filter.specs.Traces.{IsRun};
 ghost use Rattle.p25_filter.specs.LineFilters.{first_line, line_future};
 ghost use Rattle.p25_tool.specs.Outputs.{CanWantMemory};
 ghost use Rattle.p25_recording_filters.specs.Recordings.{fresh, recording_future};
 ghost use Rattle.p25_recording_filters.specs.Softs.{fresh_soft, soft_future};
+ghost use Rattle.p25_tool.specs.CallRuns.{AreWrites, IsCallRun};
 ghost use Rattle.p25_tool.specs.Runs.{Ran, answer_of, command_future};
 ghost use Rattle.p25_tool.specs.Scripts.{HasLongRun, HasRun, IsLongScriptOf, IsScriptOf};
 ghost use Rattle.p25_tool.specs.Words.{IsSoundCommand, command_of};
@@ -22,8 +26,8 @@ use super::outcome::{Outcome, outcome_of};
 use super::sampling::run_sample;
 use super::stations::Stations;
 use super::words::Words;
-use p25_filter::{FilterEnd, LineFilter, LineMachine, run_filter};
-use p25_io::{Sink, Source};
+use p25_filter::{FilterEnd, LineFilter, LineMachine};
+use p25_io::{Pair, Port, Sink, Source};
 use p25_recording_filters::{Calls, Change, Changed, Check, Recording, Report, Show, Soft};
 use std::alloc::Global;
 
@@ -75,94 +79,84 @@ pub fn run<S: Source, K: Sink>(
     ensures write_fault { result ≡ Outcome.WriteFault → Rose (K.faults sink.old) (K.faults sink.new) }
     ensures memory { result ≡ Outcome.Memory → IfSome (command_of words.now) CanWantMemory }
 {
+    run_between(alloc, words, source, sink)
+}
+
+// A call on the port of a source and a sink: what each went through.
+fn run_between<S: Source, K: Sink>(
+    alloc: Global,
+    words: &Words,
+    source: &mut S,
+    sink: &mut K,
+) -> Outcome
+    ensures { (events : List Event) × SourceGoes S.left S.faults source.old events source.new
+        × SinkGoes K.written K.faults sink.old events sink.new × IsCallRun (command_of words.now) events result }
+{
+    let mut pair = Pair::new(source, sink);
+    run_on(alloc, words, &mut pair)
+}
+
+/// Does what the words say on any port: `run` is this call on the port of a source and a sink.
+///
+/// The contract says which reads and writes the call makes, and in which order. Where the words name no command there are none,
+/// and the outcome is `Usage`. The reads and writes of a command are a live run of events: all that the octets read so far
+/// decide is written before the next read, no write is empty, nothing is read after a refusal or after the end of the input, and
+/// nothing comes after a fault; `order_laws` of p25_filter has this in nine laws. `sample` reads nothing.
+pub fn run_on<P: Port>(alloc: Global, words: &Words, port: &mut P) -> Outcome
+    ensures usage { (result ≡ Outcome.Usage) ↔ (command_of words.now ≡ None) }
+    ensures called { (events : List Event) × P.moves port.old events port.new × IsCallRun (command_of words.now) events result }
+{
     match words.command() {
         None => Outcome::Usage,
-        Some(command) => outcome_of(run_command(alloc, command, source, sink)),
+        Some(command) => outcome_of(run_command(alloc, command, port)),
     }
 }
 
 // The work of a command.
-fn run_command<S: Source, K: Sink>(
-    alloc: Global,
-    command: Command,
-    source: &mut S,
-    sink: &mut K,
-) -> FilterEnd
+fn run_command<P: Port>(alloc: Global, command: Command, port: &mut P) -> FilterEnd
     requires { IsSoundCommand command }
-    ensures worked { Filtered (S.left source.old) (S.left source.new) (K.written sink.old) (K.written sink.new) (command_future command) result }
-    ensures unread { (count : ℕ) → command ≡ Command.Sample count → source.new ≡ source.old }
-    ensures quiet { (input : List ℕ) → S.left source.old ≡ Some input → all_written (command_future command) input ≡ [] → sink.new ≡ sink.old }
-    ensures source_later { S.faults source.old ≤ S.faults source.new }
-    ensures sink_later { K.faults sink.old ≤ K.faults sink.new }
-    ensures read_fault { result ≡ FilterEnd.ReadFault → Rose (S.faults source.old) (S.faults source.new) }
-    ensures write_fault { result ≡ FilterEnd.WriteFault → Rose (K.faults sink.old) (K.faults sink.new) }
+    ensures { (events : List Event) × P.moves port.old events port.new × IsRun (command_future command) events result
+        × ((count : ℕ) → command ≡ Command.Sample count → AreWrites events) }
 {
     match command {
-        Command::Show => run_report(Show, source, sink),
-        Command::Check => run_report(Check::new(), source, sink),
-        Command::Repair => run_report(Changed::new(Change::Repaired), source, sink),
+        Command::Show => run_report(Show, port),
+        Command::Check => run_report(Check::new(), port),
+        Command::Repair => run_report(Changed::new(Change::Repaired), port),
         Command::Bridge { nac, status } => {
-            run_report(Changed::new(Change::Bridged { nac, status }), source, sink)
+            run_report(Changed::new(Change::Bridged { nac, status }), port)
         }
-        Command::Build { status } => run_lines(Build::new(status), source, sink),
-        Command::Stations => run_lines(Stations::new(alloc), source, sink),
-        Command::Calls => run_report(Calls::new(), source, sink),
-        Command::Duplex => run_lines(Duplex::new(alloc), source, sink),
-        Command::Fragments => run_lines(Fragments::new(alloc), source, sink),
-        Command::Soft => run_soft(source, sink),
-        Command::Sample { count } => run_sample(count, sink),
+        Command::Build { status } => run_lines(Build::new(status), port),
+        Command::Stations => run_lines(Stations::new(alloc), port),
+        Command::Calls => run_report(Calls::new(), port),
+        Command::Duplex => run_lines(Duplex::new(alloc), port),
+        Command::Fragments => run_lines(Fragments::new(alloc), port),
+        Command::Soft => run_soft(port),
+        Command::Sample { count } => run_sample(count, port),
     }
 }
 
 // The work of a report on a recording.
-fn run_report<R: Report + Drop, S: Source, K: Sink>(
-    report: R,
-    source: &mut S,
-    sink: &mut K,
-) -> FilterEnd
+fn run_report<R: Report + Drop, P: Port>(report: R, port: &mut P) -> FilterEnd
     requires counted { R.counted report ≡ 0 }
     requires reached { R.HasReached report 0 }
-    ensures worked { Filtered (S.left source.old) (S.left source.new) (K.written sink.old) (K.written sink.new)
-        (recording_future R.reporting (fresh report)) result }
-    ensures quiet { (input : List ℕ) → S.left source.old ≡ Some input → all_written (recording_future R.reporting (fresh report)) input ≡ []
-        → sink.new ≡ sink.old }
-    ensures source_later { S.faults source.old ≤ S.faults source.new }
-    ensures sink_later { K.faults sink.old ≤ K.faults sink.new }
-    ensures read_fault { result ≡ FilterEnd.ReadFault → Rose (S.faults source.old) (S.faults source.new) }
-    ensures write_fault { result ≡ FilterEnd.WriteFault → Rose (K.faults sink.old) (K.faults sink.new) }
+    ensures { (events : List Event) × P.moves port.old events port.new × IsRun (recording_future R.reporting (fresh report)) events result }
 {
     let mut recording = Recording::new(report);
-    run_filter(&mut recording, source, sink)
+    p25_filter::run_on(&mut recording, port)
 }
 
 // The work of a machine on the lines of its input.
-fn run_lines<M: LineMachine + Drop, S: Source, K: Sink>(
-    machine: M,
-    source: &mut S,
-    sink: &mut K,
-) -> FilterEnd
-    ensures worked { Filtered (S.left source.old) (S.left source.new) (K.written sink.old) (K.written sink.new)
-        (line_future M.rules (first_line machine)) result }
-    ensures quiet { (input : List ℕ) → S.left source.old ≡ Some input → all_written (line_future M.rules (first_line machine)) input ≡ []
-        → sink.new ≡ sink.old }
-    ensures source_later { S.faults source.old ≤ S.faults source.new }
-    ensures sink_later { K.faults sink.old ≤ K.faults sink.new }
-    ensures read_fault { result ≡ FilterEnd.ReadFault → Rose (S.faults source.old) (S.faults source.new) }
-    ensures write_fault { result ≡ FilterEnd.WriteFault → Rose (K.faults sink.old) (K.faults sink.new) }
+fn run_lines<M: LineMachine + Drop, P: Port>(machine: M, port: &mut P) -> FilterEnd
+    ensures { (events : List Event) × P.moves port.old events port.new × IsRun (line_future M.rules (first_line machine)) events result }
 {
     let mut lines = LineFilter::new(machine);
-    run_filter(&mut lines, source, sink)
+    p25_filter::run_on(&mut lines, port)
 }
 
 // The work of `soft`.
-fn run_soft<S: Source, K: Sink>(source: &mut S, sink: &mut K) -> FilterEnd
-    ensures worked { Filtered (S.left source.old) (S.left source.new) (K.written sink.old) (K.written sink.new) (soft_future fresh_soft) result }
-    ensures quiet { (input : List ℕ) → S.left source.old ≡ Some input → all_written (soft_future fresh_soft) input ≡ [] → sink.new ≡ sink.old }
-    ensures source_later { S.faults source.old ≤ S.faults source.new }
-    ensures sink_later { K.faults sink.old ≤ K.faults sink.new }
-    ensures read_fault { result ≡ FilterEnd.ReadFault → Rose (S.faults source.old) (S.faults source.new) }
-    ensures write_fault { result ≡ FilterEnd.WriteFault → Rose (K.faults sink.old) (K.faults sink.new) }
+fn run_soft<P: Port>(port: &mut P) -> FilterEnd
+    ensures { (events : List Event) × P.moves port.old events port.new × IsRun (soft_future fresh_soft) events result }
 {
     let mut soft = Soft::new();
-    run_filter(&mut soft, source, sink)
+    p25_filter::run_on(&mut soft, port)
 }

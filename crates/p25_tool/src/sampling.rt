@@ -1,30 +1,28 @@
 //! The work of `sample`: a line that tells of sample units.
 
-ghost use Rattle.std.specs.Prelude.{◌≡◌, ◌≢◌, ℕ, ◌≤◌, Option, List};
-ghost use Rattle.p25_io.specs.Faults.{Rose};
-ghost use Rattle.p25_filter.specs.Runs.{Filtered};
+ghost use Rattle.std.specs.Prelude.{◌≡◌, ◌≤◌, List};
+ghost use Rattle.p25_io.specs.Events.{Event};
+ghost use Rattle.p25_filter.specs.Traces.{IsRun};
 ghost use Rattle.p25_vectors.specs.Samples.{flips_of};
+ghost use Rattle.p25_tool.specs.CallRuns.{AreWrites};
 ghost use Rattle.p25_tool.specs.Outputs.{sample_line};
 ghost use Rattle.p25_tool.specs.Runs.{command_future};
 ghost use Rattle.p25_tool.specs.declared.command.Command.TheVariants.{Sample};
 
 use p25_filter::{Ending, FilterEnd};
-use p25_io::Sink;
+use p25_io::Port;
 use p25_line::Line;
 use p25_vectors::{SampleReport, sample};
 
-// Writes the line that tells of the first sample units. No source is read.
-pub(crate) fn run_sample<K: Sink>(count: u64, sink: &mut K) -> FilterEnd
+// Writes the line that tells of the first sample units. Nothing is read.
+pub(crate) fn run_sample<P: Port>(count: u64, port: &mut P) -> FilterEnd
     requires some { 1 ≤ count }
     requires most { count ≤ 10000 }
-    ensures worked { (told : Option (List ℕ)) → Filtered told told (K.written sink.old) (K.written sink.new) (command_future (Sample count)) result }
-    ensures unread { result ≢ FilterEnd.ReadFault }
-    ensures later { K.faults sink.old ≤ K.faults sink.new }
-    ensures write_fault { result ≡ FilterEnd.WriteFault → Rose (K.faults sink.old) (K.faults sink.new) }
+    ensures { (events : List Event) × P.moves port.old events port.new × IsRun (command_future (Sample count)) events result × AreWrites events }
 {
     let mut line = Line::new();
     put_sample_line(&sample(count), &mut line);
-    match sink.write(line.octets()) {
+    match port.write(line.octets()) {
         Ok(()) => FilterEnd::Ended(Ending::Done),
         Err(_) => FilterEnd::WriteFault,
     }

@@ -4,17 +4,15 @@ use Rattle.p25_filter.proofs.input.feed.Given as goal
 
 abbrev pub invariant-loop-done : goal.invariant-loop-done
 invariant-loop-done g l =
-    let written = g.K.Sink.written in
+    let moves = g.P.Port.moves in
     let future = g.W.Filter.future in
-    let faults = g.K.Sink.faults in
     record {
       there : l.done ≤ length l.octets;
-      moved : Moved written l.initial.sink l.initial.page (future l.initial.filter) (take l.done l.octets) l.sink l.page (future l.filter);
+      moved : Moved moves l.initial.port l.initial.page (future l.initial.filter) (take l.done l.octets) l.port l.page (future l.filter);
       drained : g.W.Filter.IsDrained l.filter;
       idle : IsIdle false (future l.filter);
       going : g.W.Filter.is_finished l.filter ≡ false;
       size : g.W.Filter.size l.filter ≤ g.W.Filter.size l.initial.filter + 8 * l.done;
-      later : faults l.initial.sink ≤ faults l.sink;
     }
 
 abbrev pub decreases-loop-done : goal.decreases-loop-done

@@ -1,0 +1,26 @@
+use Rattle.std.proofs.Common.{◌<◌, ℕ, List, Result, Ok, Err, ap, length, subst, arith}
+use Rattle.std.specs.Prelude.{OnErr}
+use Rattle.p25_filter.specs.Writes.{CutShort, Written}
+use Rattle.p25_filter.proofs.WritesLaws.{CutShort-one, Written-one}
+use Rattle.p25_filter.proofs.page.flush.Goals as goal
+
+-- what holds anyway holds at an error
+at-error : {T E : Type 0} (result : Result T E) (X : Type 0) → X → OnErr result X
+at-error (Ok value) X x = tt
+at-error (Err fault) X x = x
+
+pub returns-in_err-write-clause-err : goal.returns-in_err-write-clause-err
+returns-in_err-write-clause-err g c =
+    let err = c.in_err-write.ensures.err in
+    let piece = c.octets.result.now in
+    let some : 0 < length piece = omega (arith, c.len.ensures.value, c.if-len-eq0.false, ap length c.octets.ensures) in
+    at-error c.from_residual.result (CutShort g.P.Port.moves c.args.port.now c.args.page.now c.write.new.self)
+    (subst (λ (zs : List ℕ). CutShort g.P.Port.moves c.args.port.now zs c.write.new.self) c.octets.ensures
+    (CutShort-one g.P.Port.moves g.met.P.Port.stays g.met.P.Port.joins c.args.port.now c.write.new.self piece err.0 some err.1))
+
+pub returns-clause-ok : goal.returns-clause-ok
+returns-clause-ok g c =
+    let piece = c.octets.result.now in
+    let some : 0 < length piece = omega (arith, c.len.ensures.value, c.if-len-eq0.false, ap length c.octets.ensures) in
+    subst (λ (zs : List ℕ). Written g.P.Port.moves c.args.port.now zs c.write.new.self) c.octets.ensures
+    (Written-one g.P.Port.moves g.met.P.Port.stays g.met.P.Port.joins c.args.port.now c.write.new.self piece some c.in_ok-write.ensures.ok)

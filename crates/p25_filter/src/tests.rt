@@ -1,0 +1,110 @@
+//! The order of reads and writes, as a tape tells it: of an input that is read to its end, of a line that is refused, and of a
+//! fault of each kind.
+
+use super::*;
+use p25_io::{Call, MemorySource, SliceSink, Tape};
+use p25_line::{Line, LineFault};
+
+// Gives each line back, and refuses an empty one.
+#[derive(Drop)]
+struct Echo;
+
+impl LineMachine for Echo {
+    ghost use Rattle.p25_filter.specs.Echoes.{echo_rules, echo_long};
+
+    ghost rules = { echo_rules };
+
+    fn take(&mut self, line: &[u8], out: &mut Line, behind: &mut Line) -> Result<(), LineRefusal> {
+        let _ = &behind;
+        if line.len() > 8_192 {
+            return Err(LineRefusal::Fault(LineFault::Long));
+        }
+        if line.len() == 0 {
+            return Err(LineRefusal::Fault(LineFault::Form));
+        }
+        out.clear();
+        out.put(line);
+        Ok(())
+    }
+
+    fn close(&self, out: &mut Line) {
+        out.clear();
+    }
+
+    ghost long = { echo_long };
+}
+
+// A call by a letter and how many octets it read or was to write; a fault has a capital letter.
+fn told(call: &Call) -> (u8, usize) {
+    match call {
+        Call::Read(octets) => (b'r', octets.len()),
+        Call::ReadFailed => (b'R', 0),
+        Call::Wrote(piece) => (b'w', piece.len()),
+        Call::WriteFailed(piece, _) => (b'W', piece.len()),
+    }
+}
+
+// The input, the number of the read that fails, that of the write that fails, the calls, and the end. At most 4 octets come with
+// a read.
+const TAPES: [(&[u8], u64, u64, &[(u8, usize)], FilterEnd); 5] = [
+    (
+        b"ab\ncdefg\nij",
+        0,
+        0,
+        &[
+            (b'r', 4),
+            (b'w', 2),
+            (b'r', 4),
+            (b'r', 3),
+            (b'w', 5),
+            (b'r', 0),
+            (b'w', 2),
+        ],
+        FilterEnd::Ended(Ending::Done),
+    ),
+    (
+        b"ab\ncde\n\nij\n",
+        0,
+        0,
+        &[(b'r', 4), (b'w', 2), (b'r', 4), (b'w', 3)],
+        FilterEnd::Ended(Ending::BadLine {
+            line: 3,
+            fault: LineFault::Form,
+        }),
+    ),
+    (
+        b"ab\ncdefg\nij",
+        2,
+        0,
+        &[(b'r', 4), (b'w', 2), (b'R', 0)],
+        FilterEnd::ReadFault,
+    ),
+    (
+        b"ab\ncdefg\nij",
+        0,
+        2,
+        &[(b'r', 4), (b'w', 2), (b'r', 4), (b'r', 3), (b'W', 5)],
+        FilterEnd::WriteFault,
+    ),
+    (b"", 0, 0, &[(b'r', 0)], FilterEnd::Ended(Ending::Done)),
+];
+
+#[test]
+fn tapes(rt: HostRuntime) {
+    for (input, read, write, calls, end) in TAPES {
+        let reads = [read];
+        let writes = [write];
+        let source = MemorySource::new(input, 4, &reads);
+        let mut room = [0; 64];
+        let sink = SliceSink::new(&mut room, &writes);
+        let mut tape = Tape::new(rt.alloc(), source, sink);
+        let mut lines = LineFilter::new(Echo);
+        assert_eq!(rt; run_on(&mut lines, &mut tape), end);
+        assert!(rt; !tape.is_torn());
+        let made = tape.calls();
+        assert_eq!(rt; made.len(), calls.len());
+        for (call, want) in made.iter().zip(calls) {
+            assert_eq!(rt; told(call), *want);
+        }
+    }
+}

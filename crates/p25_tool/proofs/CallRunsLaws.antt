@@ -1,0 +1,183 @@
+-- What a call between a source and a sink leaves, by the events that they went through.
+use Rattle.std.proofs.Common.{◌≡◌, ℕ, List, [], ◌∷◌, Option, Some, None, refl, sym, subst, ◌∙◌, ◌⊎◌, ◌↔◌}
+use Rattle.std.specs.Prelude.{IfSome}
+use Rattle.p25_io.specs.Events.{Event, Read, ReadFailed, Wrote, WriteFailed}
+use Rattle.p25_io.specs.Faults.{Rose}
+use Rattle.p25_io.specs.Pairs.{SinkGoes, SourceGoes}
+use Rattle.p25_filter.specs.Futures.{Future}
+use Rattle.p25_filter.specs.Runs.{Filtered, all_written}
+use Rattle.p25_filter.specs.Traces.{IsRun}
+use Rattle.p25_filter.specs.declared.ending.Ending.{Ending}
+use Rattle.p25_filter.specs.declared.ending.Ending.TheVariants.{Done, Found, BadLine}
+use Rattle.p25_filter.specs.declared.ending.FilterEnd.{FilterEnd}
+use Rattle.p25_filter.specs.declared.ending.FilterEnd.TheVariants.{Ended, ReadFault as EndedReadFault, WriteFault as EndedWriteFault, TooLong, Memory as NoMemory}
+use Rattle.p25_filter.proofs.RunsLaws.{run-filtered, run-read_fault, run-untouched, run-write_fault}
+use Rattle.p25_filter.proofs.SameLaws.{IsRun-same}
+use Rattle.p25_stations.specs.declared.step.Event.{Event as StationsEvent}
+use Rattle.p25_fragments.specs.declared.long_step.LongEvent.{LongEvent}
+use Rattle.p25_tool.specs.CallRuns.{AreWrites, IsCallRun, IsCommandRun}
+use Rattle.p25_tool.specs.declared.command.Command.{Command}
+use Rattle.p25_tool.specs.declared.command.Command.TheVariants.{Fragments, Sample, Stations}
+use Rattle.p25_tool.specs.declared.outcome.Outcome.{Outcome}
+use Rattle.p25_tool.specs.declared.outcome.Outcome.TheVariants.{Memory, ReadFault, Usage, WriteFault}
+use Rattle.p25_tool.specs.Outcomes.{ending_outcome, filter_outcome}
+use Rattle.p25_tool.specs.Outputs.{CanWantMemory}
+use Rattle.p25_tool.specs.Runs.{Ran, answer_of, command_future}
+use Rattle.p25_tool.specs.Scripts.{HasLongRun, HasRun, IsLongScriptOf, IsScriptOf}
+use Rattle.p25_tool.proofs.CommandsLaws.{AreAlike}
+use Rattle.p25_tool.proofs.RunsLaws.{answer-without-faults, memory-command}
+use Rattle.p25_tool.proofs.ScriptsLaws.{long-script-run, script-run}
+
+-- the run of a future that is alike to that of a command that reads
+pub alike-run : {P : Type 0} (moves : P → List Event → P → Type 0) (first last : P) (f : Future) (command : Command) (end : FilterEnd)
+    → AreAlike f (command_future command) → ((count : ℕ) → command ≡ Sample count → ⊥)
+    → ((events : List Event) × moves first events last × IsRun f events end)
+    → (events : List Event) × moves first events last × IsRun (command_future command) events end × ((count : ℕ) → command ≡ Sample count → AreWrites events)
+alike-run moves first last f command end alike other went = (
+  went.0,
+  went.1,
+  IsRun-same f (command_future command) alike.writes alike.ends alike.pauses went.0 end went.2,
+  λ count is. absurd (other count is),
+)
+
+-- the outcome of an end tells the fault, and is not that of words that name no command
+ending-not_usage : (ending : Ending) → ending_outcome ending ≡ Usage → ⊥
+ending-not_usage Done is = cc
+ending-not_usage (Found faults) is = cc
+ending-not_usage (BadLine line fault) is = cc
+
+not-usage : (end : FilterEnd) → filter_outcome end ≡ Usage → ⊥
+not-usage (Ended ending) is = ending-not_usage ending is
+not-usage EndedReadFault is = cc
+not-usage EndedWriteFault is = cc
+not-usage TooLong is = cc
+not-usage NoMemory is = cc
+
+ending-not_read : (ending : Ending) → ending_outcome ending ≡ ReadFault → ⊥
+ending-not_read Done is = cc
+ending-not_read (Found faults) is = cc
+ending-not_read (BadLine line fault) is = cc
+
+is-read_fault : (end : FilterEnd) → filter_outcome end ≡ ReadFault → end ≡ EndedReadFault
+is-read_fault (Ended ending) is = absurd (ending-not_read ending is)
+is-read_fault EndedReadFault is = cc
+is-read_fault EndedWriteFault is = cc
+is-read_fault TooLong is = cc
+is-read_fault NoMemory is = cc
+
+ending-not_write : (ending : Ending) → ending_outcome ending ≡ WriteFault → ⊥
+ending-not_write Done is = cc
+ending-not_write (Found faults) is = cc
+ending-not_write (BadLine line fault) is = cc
+
+is-write_fault : (end : FilterEnd) → filter_outcome end ≡ WriteFault → end ≡ EndedWriteFault
+is-write_fault (Ended ending) is = absurd (ending-not_write ending is)
+is-write_fault EndedReadFault is = cc
+is-write_fault EndedWriteFault is = cc
+is-write_fault TooLong is = cc
+is-write_fault NoMemory is = cc
+
+-- a source of which nothing is read stays as it was
+unread-source : {S : Type 0} (left : S → Option (List ℕ)) (faults : S → ℕ) (first last : S) (events : List Event) → SourceGoes left faults first events last → AreWrites events
+    → last ≡ first
+unread-source left faults first last [] goes writes = goes
+unread-source left faults first last (Read octets ∷ events) goes writes = absurd writes
+unread-source left faults first last (ReadFailed ∷ events) goes writes = absurd writes
+unread-source left faults first last (Wrote piece ∷ events) goes writes = unread-source left faults first last events goes writes
+unread-source left faults first last (WriteFailed piece count ∷ events) goes writes = unread-source left faults first last events goes writes
+
+-- the run of the command that the words name
+pub named-run : (named : Option Command) (command : Command) (events : List Event) (outcome : Outcome) → named ≡ Some command → IsCallRun named events outcome
+    → IsCommandRun command events outcome
+named-run named command events outcome same call = subst (λ (o : Option Command). IsCallRun o events outcome) same call
+
+pub call-usage : (named : Option Command) (events : List Event) (outcome : Outcome) → IsCallRun named events outcome → (outcome ≡ Usage) ↔ (named ≡ None)
+call-usage None events outcome call = (λ is. refl, λ none. call.1)
+call-usage (Some command) events outcome call = (λ is. absurd (not-usage call.end (sym call.outcome_is ∙ is)), λ none. cc)
+
+module _ {S K : Type 0} (left : S → Option (List ℕ)) (source_faults : S → ℕ) (written : K → Option (List ℕ)) (sink_faults : K → ℕ)
+    (source source_now : S) (sink sink_now : K) (events : List Event) (outcome : Outcome) (read : SourceGoes left source_faults source events source_now)
+    (wrote : SinkGoes written sink_faults sink events sink_now) where
+  pub call-untouched : (named : Option Command) → IsCallRun named events outcome → outcome ≡ Usage → (source_now ≡ source) × (sink_now ≡ sink)
+  call-untouched None call is = (
+    subst (λ (es : List Event). SourceGoes left source_faults source es source_now) call.0 read,
+    subst (λ (es : List Event). SinkGoes written sink_faults sink es sink_now) call.0 wrote,
+  )
+  call-untouched (Some command) call is = absurd (not-usage call.end (sym call.outcome_is ∙ is))
+
+  command-filtered : (command : Command) → (call : IsCommandRun command events outcome)
+      → Filtered (left source) (left source_now) (written sink) (written sink_now) (command_future command) call.end
+  command-filtered command call =
+      run-filtered left source_faults written sink_faults source source_now sink sink_now (command_future command) events call.end call.run read wrote
+
+  pub call-ran : (named : Option Command) → IsCallRun named events outcome
+      → IfSome named (λ command. Ran (left source) (left source_now) (written sink) (written sink_now) command outcome)
+  call-ran None call = tt
+  call-ran (Some command) call = record { end = call.end; outcome_is = call.outcome_is; worked = command-filtered command call }
+
+  pub call-unread : (named : Option Command) → IsCallRun named events outcome → (count : ℕ) → named ≡ Some (Sample count) → source_now ≡ source
+  call-unread named call count same =
+      unread-source left source_faults source source_now events read ((named-run named (Sample count) events outcome same call).unread count refl)
+
+  pub call-quiet : (named : Option Command) → IsCallRun named events outcome → (command : Command) (input : List ℕ) → named ≡ Some command → left source ≡ Some input
+      → all_written (command_future command) input ≡ [] → sink_now ≡ sink
+  call-quiet named call command input same told none =
+      let run = named-run named command events outcome same call in
+      run-untouched left source_faults written sink_faults source source_now sink sink_now (command_future command) events run.end run.run read wrote input told none
+
+  -- a fault has its cause
+  command-read_fault : (command : Command) → IsCommandRun command events outcome → outcome ≡ ReadFault → Rose (source_faults source) (source_faults source_now)
+  command-read_fault command call is =
+      run-read_fault left source_faults written sink_faults source source_now sink sink_now (command_future command) events call.end call.run read
+      (is-read_fault call.end (sym call.outcome_is ∙ is))
+
+  command-write_fault : (command : Command) → IsCommandRun command events outcome → outcome ≡ WriteFault → Rose (sink_faults sink) (sink_faults sink_now)
+  command-write_fault command call is =
+      run-write_fault left source_faults written sink_faults source source_now sink sink_now (command_future command) events call.end call.run wrote
+      (is-write_fault call.end (sym call.outcome_is ∙ is))
+
+  pub call-read_fault : (named : Option Command) → IsCallRun named events outcome → outcome ≡ ReadFault → Rose (source_faults source) (source_faults source_now)
+  call-read_fault None call is = let wrong : Usage ≡ ReadFault = sym call.1 ∙ is in cc
+  call-read_fault (Some command) call is = command-read_fault command call is
+
+  pub call-write_fault : (named : Option Command) → IsCallRun named events outcome → outcome ≡ WriteFault → Rose (sink_faults sink) (sink_faults sink_now)
+  call-write_fault None call is = let wrong : Usage ≡ WriteFault = sym call.1 ∙ is in cc
+  call-write_fault (Some command) call is = command-write_fault command call is
+
+  pub call-memory : (named : Option Command) → IsCallRun named events outcome → outcome ≡ Memory → IfSome named CanWantMemory
+  call-memory None call is = tt
+  call-memory (Some command) call is =
+      memory-command command (left source) (left source_now) (written sink) (written sink_now) call.end (command-filtered command call) (sym call.outcome_is ∙ is)
+
+  -- without a fault the outcome is the answer for the input, or memory was wanting
+  command-complete : (command : Command) → IsCommandRun command events outcome → (input : List ℕ) → left source ≡ Some input
+      → (Rose (source_faults source) (source_faults source_now) → ⊥) → (Rose (sink_faults sink) (sink_faults sink_now) → ⊥)
+      → (outcome ≡ answer_of command input) ⊎ ((outcome ≡ Memory) × CanWantMemory command)
+  command-complete command call input told no_read no_write =
+      subst (λ (o : Outcome). (o ≡ answer_of command input) ⊎ ((o ≡ Memory) × CanWantMemory command)) (sym call.outcome_is)
+      (answer-without-faults command (left source) (left source_now) (written sink) (written sink_now) call.end (command-filtered command call)
+      (λ is. no_read (run-read_fault left source_faults written sink_faults source source_now sink sink_now (command_future command) events call.end call.run read is))
+      (λ is. no_write (run-write_fault left source_faults written sink_faults source source_now sink sink_now (command_future command) events call.end call.run wrote is))
+      input told)
+
+  pub call-complete : (named : Option Command) → IsCallRun named events outcome → (command : Command) (input : List ℕ) → named ≡ Some command → left source ≡ Some input
+      → (Rose (source_faults source) (source_faults source_now) → ⊥) → (Rose (sink_faults sink) (sink_faults sink_now) → ⊥)
+      → (outcome ≡ answer_of command input) ⊎ ((outcome ≡ Memory) × CanWantMemory command)
+  call-complete named call command input same told no_read no_write =
+      command-complete command (named-run named command events outcome same call) input told no_read no_write
+
+  pub call-stations : (named : Option Command) → IsCallRun named events outcome → (input : List ℕ) (script : List StationsEvent) → named ≡ Some Stations → left source ≡ Some input
+      → IsScriptOf input script → (Rose (source_faults source) (source_faults source_now) → ⊥) → (Rose (sink_faults sink) (sink_faults sink_now) → ⊥)
+      → HasRun (written sink) (written sink_now) script outcome
+  call-stations named call input script same told is no_read no_write =
+      let run = named-run named Stations events outcome same call in
+      script-run (left source) (left source_now) (written sink) (written sink_now) input script is told run.end outcome run.outcome_is (command-filtered Stations run)
+      (command-complete Stations run input told no_read no_write)
+
+  pub call-fragments : (named : Option Command) → IsCallRun named events outcome → (input : List ℕ) (script : List LongEvent) → named ≡ Some Fragments → left source ≡ Some input
+      → IsLongScriptOf input script → (Rose (source_faults source) (source_faults source_now) → ⊥) → (Rose (sink_faults sink) (sink_faults sink_now) → ⊥)
+      → HasLongRun (written sink) (written sink_now) script outcome
+  call-fragments named call input script same told is no_read no_write =
+      let run = named-run named Fragments events outcome same call in
+      long-script-run (left source) (left source_now) (written sink) (written sink_now) input script is told run.end outcome run.outcome_is
+      (command-filtered Fragments run) (command-complete Fragments run input told no_read no_write)
