@@ -31,13 +31,14 @@ impl fmt::Display for Talk {
     }
 }
 
+#[tactic(auto, unfolding(p25_stream::specs::Items::items_by, p25_stream::specs::Items::items_in))]
 fn main(rt: HostRuntime) -> io::Result<()> {
     let mut input = rt.stdin();
     let mut scanner = Scanner::new();
     let mut raw = BitBuf::new();
     let mut octets = [0; 4_096];
-    // A scanner takes up to 2^60 bits: these reads give no more than 2^55.
-    for _ in 0..1_u64 << 40 {
+    // A scanner takes up to 2^60 bits: so many reads give fewer than 2^47.
+    for _ in 0..u32::MAX {
         let count = input.read(&mut octets)?;
         if count == 0 {
             break;

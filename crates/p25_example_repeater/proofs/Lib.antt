@@ -1,1 +1,2 @@
 pub mod OctetSteps
+pub mod PartSteps

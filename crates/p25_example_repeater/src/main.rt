@@ -18,14 +18,15 @@ use p25_stream::{Item, Scanner};
 /// The access code that each whole unit gets.
 const ACCESS_CODE: u16 = 0x2A1;
 
+#[tactic(auto, unfolding(p25_stream::specs::Items::items_by, p25_stream::specs::Items::items_in))]
 fn main(rt: HostRuntime) -> Result<(), Failed> {
     let mut source = ReadSource::new(rt.stdin());
     let mut sink = WriteSink::new(rt.stdout());
     let mut scanner = Scanner::new();
     let mut kept = BitBuf::new();
     let mut octets = [0; 4_096];
-    // A scanner takes up to 2^60 bits: these reads give no more than 2^55.
-    for _ in 0..1_u64 << 40 {
+    // A scanner takes up to 2^60 bits: so many reads give fewer than 2^47.
+    for _ in 0..u32::MAX {
         let count = source.read(&mut octets)?;
         if count == 0 {
             break;
