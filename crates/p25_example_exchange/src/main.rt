@@ -56,6 +56,7 @@ fn one_place(place: u16) -> Flips
 }
 
 /// What a step was, in words.
+#[derive(Drop)]
 struct Told<'a>(&'a StepKind);
 
 impl fmt::Display for Told<'_> {
