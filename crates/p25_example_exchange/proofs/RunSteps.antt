@@ -1,5 +1,5 @@
 -- A run step by step: the first event makes a world and a step, and the run goes on from there.
-use Rattle.std.proofs.Common.{◌≡◌, List, ◌∷◌, ap, sym}
+use Rattle.std.proofs.Common.{◌≡◌, List, [], ◌∷◌, refl, ap, sym}
 use Rattle.p25_stations.specs.declared.step.Event.{Event}
 use Rattle.p25_stations.specs.declared.step.Step.{Step}
 use Rattle.p25_stations.specs.WorldState.{WorldState}
@@ -13,3 +13,11 @@ steps-cons w now event step events same = ap (λ (p : WorldState × Step). p.1 �
 pub run-cons : (w now : WorldState) (event : Event) (step : Step) (events : List Event) → (now, step) ≡ world_step w event → world_run w (event ∷ events) ≡ world_run now events
 unfolding world_run
 run-cons w now event step events same = ap (λ (p : WorldState × Step). world_run p.0 events) (sym same)
+
+pub steps-nil : (w : WorldState) → steps_of w [] ≡ []
+unfolding steps_of
+steps-nil w = refl
+
+pub run-nil : (w : WorldState) → world_run w [] ≡ w
+unfolding world_run
+run-nil w = refl
