@@ -1,2 +1,0 @@
-pub mod OctetSteps
-pub mod PartSteps
