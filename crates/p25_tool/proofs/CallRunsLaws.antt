@@ -15,18 +15,19 @@ use Rattle.p25_filter.proofs.RunsLaws.{run-filtered, run-read_fault, run-untouch
 use Rattle.p25_filter.proofs.SameLaws.{IsRun-same}
 use Rattle.p25_stations.specs.declared.step.Event.{Event as StationsEvent}
 use Rattle.p25_fragments.specs.declared.long_step.LongEvent.{LongEvent}
+use Rattle.p25_duplex.specs.declared.event.DuplexEvent.{DuplexEvent}
 use Rattle.p25_tool.specs.CallRuns.{AreWrites, IsCallRun, IsCommandRun}
 use Rattle.p25_tool.specs.declared.command.Command.{Command}
-use Rattle.p25_tool.specs.declared.command.Command.TheVariants.{Fragments, Sample, Stations}
+use Rattle.p25_tool.specs.declared.command.Command.TheVariants.{Duplex, Fragments, Sample, Stations}
 use Rattle.p25_tool.specs.declared.outcome.Outcome.{Outcome}
 use Rattle.p25_tool.specs.declared.outcome.Outcome.TheVariants.{Memory, ReadFault, Usage, WriteFault}
 use Rattle.p25_tool.specs.Outcomes.{ending_outcome, filter_outcome}
 use Rattle.p25_tool.specs.Outputs.{CanWantMemory}
 use Rattle.p25_tool.specs.Runs.{Ran, answer_of, command_future}
-use Rattle.p25_tool.specs.Scripts.{HasLongRun, HasRun, IsLongScriptOf, IsScriptOf}
+use Rattle.p25_tool.specs.Scripts.{HasDuplexRun, HasLongRun, HasRun, IsDuplexScriptOf, IsLongScriptOf, IsScriptOf}
 use Rattle.p25_tool.proofs.CommandsLaws.{AreAlike}
 use Rattle.p25_tool.proofs.RunsLaws.{answer-without-faults, memory-command}
-use Rattle.p25_tool.proofs.ScriptsLaws.{long-script-run, script-run}
+use Rattle.p25_tool.proofs.ScriptsLaws.{duplex-script-run, long-script-run, script-run}
 
 -- the run of a future that is alike to that of a command that reads
 pub alike-run : {P : Type 0} (moves : P → List Event → P → Type 0) (first last : P) (f : Future) (command : Command) (end : FilterEnd)
@@ -181,3 +182,11 @@ module _ {S K : Type 0} (left : S → Option (List ℕ)) (source_faults : S → 
       let run = named-run named Fragments events outcome same call in
       long-script-run (left source) (left source_now) (written sink) (written sink_now) input script is told run.end outcome run.outcome_is
       (command-filtered Fragments run) (command-complete Fragments run input told no_read no_write)
+
+  pub call-duplex : (named : Option Command) → IsCallRun named events outcome → (input : List ℕ) (script : List DuplexEvent) → named ≡ Some Duplex → left source ≡ Some input
+      → IsDuplexScriptOf input script → (Rose (source_faults source) (source_faults source_now) → ⊥) → (Rose (sink_faults sink) (sink_faults sink_now) → ⊥)
+      → HasDuplexRun (written sink) (written sink_now) script outcome
+  call-duplex named call input script same told is no_read no_write =
+      let run = named-run named Duplex events outcome same call in
+      duplex-script-run (left source) (left source_now) (written sink) (written sink_now) input script is told run.end outcome run.outcome_is
+      (command-filtered Duplex run) (command-complete Duplex run input told no_read no_write)

@@ -22,6 +22,12 @@ use Rattle.p25_fragments.proofs.LongRunLaws.{long-orderly, long-unrefused}
 use Rattle.p25_fragment_script.specs.LongScript.{IsLongScripted, long_event_of}
 use Rattle.p25_fragment_script.specs.LongTexts.{long_step_text_of}
 use Rattle.p25_fragment_script.proofs.LongScriptLaws.{IsLineOf-long_event_of}
+use Rattle.p25_duplex.specs.declared.event.DuplexEvent.{DuplexEvent}
+use Rattle.p25_duplex.specs.DuplexState.{first_duplex}
+use Rattle.p25_duplex.specs.DuplexRuns.{AreDuplexEvents, IsDuplexEvent, duplex_run, duplex_steps}
+use Rattle.p25_duplex.proofs.RunLaws.{run-orderly as duplex-orderly}
+use Rattle.p25_duplex_script.specs.DuplexLines.{duplex_event_of}
+use Rattle.p25_duplex_script.proofs.DuplexLineLaws.{read-event}
 use Rattle.p25_filter.specs.declared.ending.Ending.{Ending}
 use Rattle.p25_filter.specs.declared.ending.Ending.TheVariants.{Done as EndDone, Found, BadLine}
 use Rattle.p25_filter.specs.declared.ending.FilterEnd.{FilterEnd}
@@ -31,13 +37,13 @@ use Rattle.p25_filter.specs.Runs.{IsFinal, Filtered, input_most}
 use Rattle.p25_filter.proofs.RulesLaws.{read_of-nil, read_of-ok, refusal_in-err, refusal_in-nil, refusal_in-ok}
 use Rattle.p25_filter.proofs.RunsLaws.{ended-input}
 use Rattle.p25_tool.specs.declared.command.Command.{Command}
-use Rattle.p25_tool.specs.declared.command.Command.TheVariants.{Stations, Fragments}
+use Rattle.p25_tool.specs.declared.command.Command.TheVariants.{Stations, Fragments, Duplex}
 use Rattle.p25_tool.specs.declared.outcome.Outcome.{Outcome}
 use Rattle.p25_tool.specs.declared.outcome.Outcome.TheVariants.{Done, Memory, TooLong as OutcomeTooLong}
 use Rattle.p25_tool.specs.Outcomes.{ending_outcome, filter_outcome}
-use Rattle.p25_tool.specs.Outputs.{CanWantMemory, closing_line, ending_by, long_closing_line, output_by, step_line}
+use Rattle.p25_tool.specs.Outputs.{CanWantMemory, closing_line, duplex_closing_lines, duplex_step_line, ending_by, long_closing_line, output_by, step_line}
 use Rattle.p25_tool.specs.Runs.{answer_of, command_future, ending_or}
-use Rattle.p25_tool.specs.Scripts.{HasLongRun, HasRun, IsLongScriptOf, IsScriptOf, long_script_text, script_text}
+use Rattle.p25_tool.specs.Scripts.{HasDuplexRun, HasLongRun, HasRun, IsDuplexScriptOf, IsLongScriptOf, IsScriptOf, duplex_script_text, long_script_text, script_text}
 
 -- how a line is read
 abbrev Reading : Type 0 → Type 0
@@ -192,3 +198,32 @@ long-script-run told left first last input events script is_told end outcome sam
       unrefused = λ clean. long-unrefused events fit clean;
       orderly = λ clean. long-orderly events fit clean;
     }
+
+-- Scripts of both stations.
+
+is-duplex_event : (line : List ℕ) (event : DuplexEvent) → duplex_event_of line ≡ Ok event → IsDuplexEvent event
+is-duplex_event line event same = read-event line (Ok event) (sym same)
+
+are-duplex_events : (lines : List (List ℕ)) (events : List DuplexEvent) → map duplex_event_of lines ≡ map (λ e. Ok e) events → AreDuplexEvents events
+unfolding AreDuplexEvents
+are-duplex_events lines [] same = tt
+are-duplex_events [] (event ∷ events) same = cc same
+are-duplex_events (line ∷ lines) (event ∷ events) same =
+    let parts = head_of duplex_event_of line lines event events same in
+    (is-duplex_event line event parts.0, are-duplex_events lines events parts.1)
+
+duplex-text : List DuplexEvent → Bool → Option Ending → List ℕ
+duplex-text events ended refusal = flat_map duplex_step_line (duplex_steps first_duplex events) ++ closing_by ended refusal (duplex_closing_lines (duplex_run first_duplex events))
+
+duplex-scripted : IsLineCommand duplex_event_of Duplex duplex-text
+unfolding duplex-text
+duplex-scripted = record { writes = λ ended octets. refl; ends = λ ended octets. refl }
+
+pub duplex-script-run : (told left first last : Option (List ℕ)) (input : List ℕ) (events : List DuplexEvent) → IsDuplexScriptOf input events → told ≡ Some input → (end : FilterEnd) (outcome : Outcome) → outcome ≡ filter_outcome end
+    → Filtered told left first last (command_future Duplex) end → (outcome ≡ answer_of Duplex input) ⊎ ((outcome ≡ Memory) × CanWantMemory Duplex) → HasDuplexRun first last events outcome
+unfolding duplex-text
+duplex-script-run told left first last input events script is_told end outcome same worked complete = record {
+  ended = script-ended duplex_event_of Duplex duplex-text duplex-scripted told left first last input events script.short script.lines is_told outcome complete;
+  wrote = λ done. wrote-done duplex_event_of Duplex duplex-text duplex-scripted told left first last input events script.short script.lines is_told end worked (sym same ∙ done);
+  orderly = λ side clean. duplex-orderly events side (are-duplex_events (lines_in true [] input) events script.lines) clean;
+}

@@ -13,11 +13,16 @@ use Rattle.p25_fragments.specs.LongRuns.{AreUnrefused, IsCleanLongRun, long_run,
 use Rattle.p25_fragments.specs.declared.long_step.LongEvent.{LongEvent}
 use Rattle.p25_fragment_script.specs.LongScript.{long_event_of}
 use Rattle.p25_fragment_script.specs.LongTexts.{long_step_text_of}
+use Rattle.p25_duplex.specs.declared.side.Side.{Side}
+use Rattle.p25_duplex.specs.declared.event.DuplexEvent.{DuplexEvent}
+use Rattle.p25_duplex.specs.DuplexState.{first_duplex, link_at}
+use Rattle.p25_duplex.specs.DuplexRuns.{IsCleanDuplex, duplex_run, duplex_steps}
+use Rattle.p25_duplex_script.specs.DuplexLines.{duplex_event_of}
 use Rattle.p25_filter.specs.Lines.{lines_in}
 use Rattle.p25_filter.specs.Runs.{input_most}
 use Rattle.p25_tool.specs.declared.outcome.Outcome.{Outcome}
 use Rattle.p25_tool.specs.declared.outcome.Outcome.TheVariants.{Done, Memory}
-use Rattle.p25_tool.specs.Outputs.{closing_line, long_closing_line, step_line}
+use Rattle.p25_tool.specs.Outputs.{closing_line, duplex_closing_lines, duplex_step_line, long_closing_line, step_line}
 
 -- an input is a script of events: it is not too long, and each of its lines is read as the event at its place
 pub record IsScriptOf (input : List ℕ) (events : List Event) : Type 0 where
@@ -52,3 +57,19 @@ pub record HasLongRun (first last : Option (List ℕ)) (events : List LongEvent)
   pub wrote : outcome ≡ Done → Appended first (long_script_text events) last
   pub unrefused : IsCleanLongRun events → AreUnrefused (long_steps_of first_long events)
   pub orderly : IsCleanLongRun events → AreOrderly (long_sessions_of (long_run first_long events))
+
+-- the lines of an input are events of both stations
+pub record IsDuplexScriptOf (input : List ℕ) (events : List DuplexEvent) : Type 0 where
+  pub short : length input ≤ input_most
+  pub lines : map duplex_event_of (lines_in true [] input) ≡ map (λ event. Ok event) events
+
+-- the lines that tell of their run: its steps, and the lines that close it
+abbrev pub duplex_script_text : List DuplexEvent → List ℕ
+duplex_script_text events = flat_map duplex_step_line (duplex_steps first_duplex events) ++ duplex_closing_lines (duplex_run first_duplex events)
+
+-- all lines that tell of their run are written, or memory was wanting. Where no step is a false pass, each session of each side's
+-- messages is orderly
+pub record HasDuplexRun (first last : Option (List ℕ)) (events : List DuplexEvent) (outcome : Outcome) : Type 0 where
+  pub ended : (outcome ≡ Done) ⊎ (outcome ≡ Memory)
+  pub wrote : outcome ≡ Done → Appended first (duplex_script_text events) last
+  pub orderly : (side : Side) → IsCleanDuplex events → AreOrderly (sessions_of (link_at side (duplex_run first_duplex events)))

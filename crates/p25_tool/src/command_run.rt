@@ -12,11 +12,12 @@ ghost use Rattle.p25_recording_filters.specs.Recordings.{fresh, recording_future
 ghost use Rattle.p25_recording_filters.specs.Softs.{fresh_soft, soft_future};
 ghost use Rattle.p25_tool.specs.CallRuns.{AreWrites, IsCallRun};
 ghost use Rattle.p25_tool.specs.Runs.{Ran, answer_of, command_future};
-ghost use Rattle.p25_tool.specs.Scripts.{HasLongRun, HasRun, IsLongScriptOf, IsScriptOf};
+ghost use Rattle.p25_tool.specs.Scripts.{HasDuplexRun, HasLongRun, HasRun, IsDuplexScriptOf, IsLongScriptOf, IsScriptOf};
 ghost use Rattle.p25_tool.specs.Words.{IsSoundCommand, command_of};
 ghost use Rattle.p25_tool.specs.declared.command.Command.{Command};
 ghost use Rattle.p25_stations.specs.declared.step.Event.{Event as event_type};
 ghost use Rattle.p25_fragments.specs.declared.long_step.LongEvent.{LongEvent as long_event_type};
+ghost use Rattle.p25_duplex.specs.declared.event.DuplexEvent.{DuplexEvent as duplex_event_type};
 
 use super::build::Build;
 use super::command::Command;
@@ -43,6 +44,9 @@ use std::alloc::Global;
 ///
 /// `stations`, `fragments` and `duplex` alone take memory, for each line that is accepted, before its step is made. Where there
 /// is not enough the outcome is `Memory`, and the sink holds the steps before, without the closing line.
+///
+/// Of a script whose lines are all read as events, the steps of its run and its closing lines are written, and where no step is
+/// a false pass each session is orderly.
 pub fn run<S: Source, K: Sink>(
     alloc: Global,
     words: &Words,
@@ -71,6 +75,11 @@ pub fn run<S: Source, K: Sink>(
     ensures fragments { (input : List ℕ) (events : List long_event_type) → command_of words.now ≡ Some Command.Fragments
         → S.left source.old ≡ Some input → IsLongScriptOf input events → ¬ Rose (S.faults source.old) (S.faults source.new)
         → ¬ Rose (K.faults sink.old) (K.faults sink.new) → HasLongRun (K.written sink.old) (K.written sink.new) events result }
+
+    // What comes of a script of both stations.
+    ensures duplex { (input : List ℕ) (events : List duplex_event_type) → command_of words.now ≡ Some Command.Duplex
+        → S.left source.old ≡ Some input → IsDuplexScriptOf input events → ¬ Rose (S.faults source.old) (S.faults source.new)
+        → ¬ Rose (K.faults sink.old) (K.faults sink.new) → HasDuplexRun (K.written sink.old) (K.written sink.new) events result }
 
     // Why it was refused.
     ensures source_later { S.faults source.old ≤ S.faults source.new }
