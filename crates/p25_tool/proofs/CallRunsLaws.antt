@@ -1,11 +1,11 @@
 -- What a call between a source and a sink leaves, by the events that they went through.
-use Rattle.std.proofs.Common.{◌≡◌, ℕ, List, [], ◌∷◌, Option, Some, None, refl, sym, subst, ◌∙◌, ◌⊎◌, ◌↔◌}
+use Rattle.std.proofs.Common.{◌≡◌, ℕ, ◌≤◌, List, [], ◌∷◌, length, Option, Some, None, refl, ap, sym, subst, ◌∙◌, ◌⊎◌, ◌↔◌}
 use Rattle.std.specs.Prelude.{IfSome}
 use Rattle.p25_io.specs.Events.{Event, Read, ReadFailed, Wrote, WriteFailed}
 use Rattle.p25_io.specs.Faults.{Rose}
 use Rattle.p25_io.specs.Pairs.{SinkGoes, SourceGoes}
 use Rattle.p25_filter.specs.Futures.{Future}
-use Rattle.p25_filter.specs.Runs.{Filtered, all_written}
+use Rattle.p25_filter.specs.Runs.{Filtered, all_written, input_most}
 use Rattle.p25_filter.specs.Traces.{IsRun}
 use Rattle.p25_filter.specs.declared.ending.Ending.{Ending}
 use Rattle.p25_filter.specs.declared.ending.Ending.TheVariants.{Done, Found, BadLine}
@@ -24,8 +24,13 @@ use Rattle.p25_tool.specs.declared.outcome.Outcome.TheVariants.{Memory, ReadFaul
 use Rattle.p25_tool.specs.Outcomes.{ending_outcome, filter_outcome}
 use Rattle.p25_tool.specs.Outputs.{CanWantMemory}
 use Rattle.p25_tool.specs.Runs.{Ran, answer_of, command_future}
+use Rattle.p25_tool.specs.Recorded.{IsRecording}
+use Rattle.p25_tool.specs.RecordedRuns.{HasWrittenUnits, IsUnitCommand}
+use Rattle.p25_tool.specs.Words.{command_of}
 use Rattle.p25_tool.specs.Scripts.{HasDuplexRun, HasLongRun, HasRun, IsDuplexScriptOf, IsLongScriptOf, IsScriptOf}
 use Rattle.p25_tool.proofs.CommandsLaws.{AreAlike}
+use Rattle.p25_stream.specs.Arrivals.{Arrival}
+use Rattle.p25_tool.proofs.RecordedRunsLaws.{command-fit, units-run}
 use Rattle.p25_tool.proofs.RunsLaws.{answer-without-faults, memory-command}
 use Rattle.p25_tool.proofs.ScriptsLaws.{duplex-script-run, long-script-run, script-run}
 
@@ -190,3 +195,13 @@ module _ {S K : Type 0} (left : S → Option (List ℕ)) (source_faults : S → 
       let run = named-run named Duplex events outcome same call in
       duplex-script-run (left source) (left source_now) (written sink) (written sink_now) input script is told run.end outcome run.outcome_is
       (command-filtered Duplex run) (command-complete Duplex run input told no_read no_write)
+
+  pub call-recorded : (words : List (List ℕ)) → IsCallRun (command_of words) events outcome → (command : Command) (arrivals : List Arrival) (input : List ℕ) → command_of words ≡ Some command
+      → IsUnitCommand command → left source ≡ Some input → IsRecording arrivals input → length input ≤ input_most
+      → (Rose (source_faults source) (source_faults source_now) → ⊥) → (Rose (sink_faults sink) (sink_faults sink_now) → ⊥)
+      → HasWrittenUnits (written sink) (written sink_now) command arrivals outcome
+  call-recorded words call command arrivals input same units told recorded few no_read no_write =
+      let run = named-run (command_of words) command events outcome same call in
+      units-run arrivals input recorded command (left source) (left source_now) (written sink) (written sink_now)
+      (λ nac status is. command-fit nac status words (same ∙ ap (λ (c : Command). Some c) is)) units few told run.end outcome run.outcome_is
+      (command-filtered command run) (command-complete command run input told no_read no_write)

@@ -5,6 +5,7 @@ pub mod RunsLaws
 pub mod ScriptsLaws
 pub mod CallRunsLaws
 pub mod RecordedLaws
+pub mod RecordedRunsLaws
 pub mod BuiltLaws
 pub mod FoundLaws
 pub mod WrittenLaws

@@ -49,7 +49,7 @@ module _ (command : Command) (input : List ℕ) where
       by_length true same = sym is
       by_length false same = cc
 
-  answer-short : (outcome : Outcome) → length input ≤ input_most → ending_or (ending_by command true input) TooLong ≡ outcome → outcome ≡ answer_of command input
+  pub answer-short : (outcome : Outcome) → length input ≤ input_most → ending_or (ending_by command true input) TooLong ≡ outcome → outcome ≡ answer_of command input
   answer-short outcome short is = by_length (nat_lt input_most (length input)) (grind (arith, nat_tests))
     where
       by_length : (b : Bool) → b ≡ false → outcome ≡ cond b (ending_or (ending_by command false (take input_most input)) TooLong) (ending_or (ending_by command true input) TooLong)

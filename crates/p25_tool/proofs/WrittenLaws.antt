@@ -1,8 +1,9 @@
 -- A call that came to the end of its input wrote the output of all of it: what ends a call before that is a line that is refused.
-use Rattle.std.proofs.Common.{◌≡◌, ℕ, ◌+◌, ◌≤◌, Bool, true, false, List, [], ◌∷◌, ◌++◌, length, take, Option, Some, None, Result, Ok, Err, refl, ap, sym, ◌∙◌, subst}
+use Rattle.std.proofs.Common.{◌≡◌, ℕ, ◌+◌, ◌≤◌, Bool, true, false, List, [], ◌∷◌, length, take, Option, Some, None, Result, Ok, Err, refl, ap, sym, ◌∙◌, subst}
 use Rattle.std.specs.Prelude.{IfSome}
 use Rattle.std.proofs.lemmas.List.{take_all}
 use Rattle.p25_io.specs.Octets.{Appended}
+use Rattle.p25_io.proofs.OctetsLaws.{Appended-same}
 use Rattle.p25_line.specs.declared.fault.LineFault.{LineFault}
 use Rattle.p25_text.specs.Grammar.{read_line_of}
 use Rattle.p25_script.specs.Script.{event_of}
@@ -10,6 +11,7 @@ use Rattle.p25_fragment_script.specs.LongScript.{long_event_of}
 use Rattle.p25_filter.specs.Lines.{lines_ending, lines_in, refusal_in}
 use Rattle.p25_filter.proofs.RulesLaws.{refusal_in-err, refusal_in-nil, refusal_in-ok}
 use Rattle.p25_filter.specs.Runs.{IsFinal, Filtered, input_most}
+use Rattle.p25_filter.proofs.RunsLaws.{ended-input}
 use Rattle.p25_filter.specs.declared.ending.Ending.{Ending}
 use Rattle.p25_filter.specs.declared.ending.Ending.TheVariants.{BadLine}
 use Rattle.p25_filter.specs.declared.ending.FilterEnd.{FilterEnd}
@@ -57,25 +59,26 @@ before_end Fragments octets input ending is end = absurd (lines-go_on long_event
 before_end Duplex octets input ending is end = absurd (lines-go_on duplex_event_of (lines_in false [] octets) ending is end)
 before_end (Sample count) octets input ending is end = refl
 
-module _ (command : Command) (input written : List ℕ) (last : Option (List ℕ)) where
-  wrote-all : (ending : Ending) (octets : List ℕ) → HasEnded (ending_outcome ending) → IsFinal (Some input) (Some written) last (command_future command) octets ending → last ≡ Some (written ++ output_by command true input)
+module _ (command : Command) (input : List ℕ) (told first last : Option (List ℕ)) (is_told : told ≡ Some input) where
+  wrote-all : (ending : Ending) (octets : List ℕ) → HasEnded (ending_outcome ending) → IsFinal told first last (command_future command) octets ending → Appended first (output_by command true input) last
   wrote-all ending octets end final = by_end final.ended final.all final.ends final.wrote
     where
-      by_end : (ended : Bool) → (ended ≡ true → (length octets ≤ input_most) × IfSome (Some input) (λ all. all ≡ octets)) → ending_by command ended (take input_most octets) ≡ Some ending
-          → Appended (Some written) (output_by command ended (take input_most octets)) last → last ≡ Some (written ++ output_by command true input)
+      by_end : (ended : Bool) → (ended ≡ true → (length octets ≤ input_most) × IfSome told (λ all. all ≡ octets)) → ending_by command ended (take input_most octets) ≡ Some ending
+          → Appended first (output_by command ended (take input_most octets)) last → Appended first (output_by command true input) last
       by_end true all ends wrote =
           let few : length octets ≤ input_most = (all refl).0 in
-          let same : input ≡ octets = (all refl).1 in
-          wrote.written ∙ ap (λ (xs : List ℕ). Some (written ++ output_by command true xs)) (take_all input_most octets few ∙ sym same)
-      by_end false all ends wrote =
-          wrote.written ∙ ap (λ (xs : List ℕ). Some (written ++ xs)) (before_end command (take input_most octets) input ending ends end)
+          let same : input ≡ octets = ended-input told octets input (all refl).1 is_told in
+          Appended-same (ap (output_by command true) (take_all input_most octets few ∙ sym same)) wrote
+      by_end false all ends wrote = Appended-same (before_end command (take input_most octets) input ending ends end) wrote
 
-  by-filter_end : (left : Option (List ℕ)) (end : FilterEnd) → HasEnded (filter_outcome end) → Filtered (Some input) left (Some written) last (command_future command) end → last ≡ Some (written ++ output_by command true input)
-  by-filter_end left (Ended ending) is worked = wrote-all ending worked.octets is worked.meets
-  by-filter_end left ReadFault is worked = absurd is
-  by-filter_end left WriteFault is worked = absurd is
-  by-filter_end left TooLong is worked = absurd is
-  by-filter_end left Memory is worked = absurd is
+  -- work that came to the end of its input wrote all of its output, whether it is told what was written or not
+  pub ended-wrote : (left : Option (List ℕ)) (end : FilterEnd) → HasEnded (filter_outcome end) → Filtered told left first last (command_future command) end → Appended first (output_by command true input) last
+  ended-wrote left (Ended ending) is worked = wrote-all ending worked.octets is worked.meets
+  ended-wrote left ReadFault is worked = absurd is
+  ended-wrote left WriteFault is worked = absurd is
+  ended-wrote left TooLong is worked = absurd is
+  ended-wrote left Memory is worked = absurd is
 
 pub all-written : AllIsWritten
-all-written command input written left last outcome ran ended = by-filter_end command input written last left ran.end (subst HasEnded ran.outcome_is ended) ran.worked
+all-written command input written left last outcome ran ended =
+    (ended-wrote command input (Some input) (Some written) last refl left ran.end (subst HasEnded ran.outcome_is ended) ran.worked).written

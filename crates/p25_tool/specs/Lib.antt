@@ -10,5 +10,6 @@ pub mod LongLines
 pub mod Runs
 pub mod CallRuns
 pub mod Recorded
+pub mod RecordedRuns
 pub mod Built
 pub mod Written

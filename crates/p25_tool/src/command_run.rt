@@ -1,10 +1,10 @@
 //! The call that the program makes.
 
-ghost use Rattle.std.specs.Prelude.{◌≡◌, ℕ, ◌≤◌, ◌↔◌, ◌⊎◌, List, [], None, Some, IfSome};
+ghost use Rattle.std.specs.Prelude.{◌≡◌, ℕ, ◌≤◌, ◌↔◌, ◌⊎◌, List, [], length, None, Some, IfSome};
 ghost use Rattle.p25_io.specs.Events.{Event};
 ghost use Rattle.p25_io.specs.Faults.{Rose};
 ghost use Rattle.p25_io.specs.Pairs.{SinkGoes, SourceGoes};
-ghost use Rattle.p25_filter.specs.Runs.{all_written};
+ghost use Rattle.p25_filter.specs.Runs.{all_written, input_most};
 ghost use Rattle.p25_filter.specs.Traces.{IsRun};
 ghost use Rattle.p25_filter.specs.LineFilters.{first_line, line_future};
 ghost use Rattle.p25_tool.specs.Outputs.{CanWantMemory};
@@ -12,9 +12,12 @@ ghost use Rattle.p25_recording_filters.specs.Recordings.{fresh, recording_future
 ghost use Rattle.p25_recording_filters.specs.Softs.{fresh_soft, soft_future};
 ghost use Rattle.p25_tool.specs.CallRuns.{AreWrites, IsCallRun};
 ghost use Rattle.p25_tool.specs.Runs.{Ran, answer_of, command_future};
+ghost use Rattle.p25_tool.specs.Recorded.{IsRecording};
+ghost use Rattle.p25_tool.specs.RecordedRuns.{HasWrittenUnits, IsUnitCommand};
 ghost use Rattle.p25_tool.specs.Scripts.{HasDuplexRun, HasLongRun, HasRun, IsDuplexScriptOf, IsLongScriptOf, IsScriptOf};
 ghost use Rattle.p25_tool.specs.Words.{IsSoundCommand, command_of};
 ghost use Rattle.p25_tool.specs.declared.command.Command.{Command};
+ghost use Rattle.p25_stream.specs.Arrivals.{Arrival};
 ghost use Rattle.p25_stations.specs.declared.step.Event.{Event as event_type};
 ghost use Rattle.p25_fragments.specs.declared.long_step.LongEvent.{LongEvent as long_event_type};
 ghost use Rattle.p25_duplex.specs.declared.event.DuplexEvent.{DuplexEvent as duplex_event_type};
@@ -46,7 +49,8 @@ use std::alloc::Global;
 /// is not enough the outcome is `Memory`, and the sink holds the steps before, without the closing line.
 ///
 /// Of a script whose lines are all read as events, the steps of its run and its closing lines are written, and where no step is
-/// a false pass each session is orderly.
+/// a false pass each session is orderly. Of a recording of units within radius that is not too long, `show`, `check`, `repair`
+/// and `bridge` write what `recorded_laws` says.
 pub fn run<S: Source, K: Sink>(
     alloc: Global,
     words: &Words,
@@ -80,6 +84,12 @@ pub fn run<S: Source, K: Sink>(
     ensures duplex { (input : List ℕ) (events : List duplex_event_type) → command_of words.now ≡ Some Command.Duplex
         → S.left source.old ≡ Some input → IsDuplexScriptOf input events → ¬ Rose (S.faults source.old) (S.faults source.new)
         → ¬ Rose (K.faults sink.old) (K.faults sink.new) → HasDuplexRun (K.written sink.old) (K.written sink.new) events result }
+
+    // What comes of a recording of units within radius.
+    ensures recorded { (command : Command) (arrivals : List Arrival) (input : List ℕ) → command_of words.now ≡ Some command → IsUnitCommand command
+        → S.left source.old ≡ Some input → IsRecording arrivals input → length input ≤ input_most
+        → ¬ Rose (S.faults source.old) (S.faults source.new) → ¬ Rose (K.faults sink.old) (K.faults sink.new)
+        → HasWrittenUnits (K.written sink.old) (K.written sink.new) command arrivals result }
 
     // Why it was refused.
     ensures source_later { S.faults source.old ≤ S.faults source.new }

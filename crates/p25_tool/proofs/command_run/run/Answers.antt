@@ -1,5 +1,5 @@
 use Rattle.p25_filter.proofs.RunsLaws.{SinkGoes-later, SourceGoes-later}
-use Rattle.p25_tool.proofs.CallRunsLaws.{call-complete, call-duplex, call-fragments, call-memory, call-quiet, call-ran, call-read_fault, call-stations, call-unread, call-untouched, call-usage, call-write_fault}
+use Rattle.p25_tool.proofs.CallRunsLaws.{call-complete, call-duplex, call-fragments, call-memory, call-quiet, call-ran, call-read_fault, call-recorded, call-stations, call-unread, call-untouched, call-usage, call-write_fault}
 use Rattle.p25_tool.proofs.command_run.run.Goals as goal
 
 pub returns-clause-usage : goal.returns-clause-usage
@@ -44,6 +44,11 @@ pub returns-clause-duplex : goal.returns-clause-duplex
 returns-clause-duplex g c =
     let went = c.run_between.ensures in
     call-duplex g.S.Source.left g.S.Source.faults g.K.Sink.written g.K.Sink.faults _ _ _ _ went.0 c.run_between.result went.1 went.2 _ went.3
+
+pub returns-clause-recorded : goal.returns-clause-recorded
+returns-clause-recorded g c =
+    let went = c.run_between.ensures in
+    call-recorded g.S.Source.left g.S.Source.faults g.K.Sink.written g.K.Sink.faults _ _ _ _ went.0 c.run_between.result went.1 went.2 c.args.words.now went.3
 
 pub returns-clause-read_fault : goal.returns-clause-read_fault
 returns-clause-read_fault g c =

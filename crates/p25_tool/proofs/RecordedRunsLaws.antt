@@ -1,0 +1,134 @@
+-- A recording of units within radius: a command that works on units ends as Done, and wrote what its law of recordings says.
+use Rattle.std.proofs.Common.{◌≡◌, ℕ, ◌<◌, ◌≤◌, Bool, true, false, cond, nat_eq, List, [], ◌∷◌, length, codes, Option, Some, None, ◌⊎◌, inl, inr, refl, ap, sym, subst, ◌∙◌}
+use Rattle.std.specs.Str.{bytes_eq}
+use Rattle.p25_status.specs.declared.symbols.Status.{Status}
+use Rattle.p25_text.specs.Values.{nac_in}
+use Rattle.p25_text.proofs.ValueLaws.{nac_in-text}
+use Rattle.p25_line.specs.Values.{number_below}
+use Rattle.p25_stream.specs.Arrivals.{Arrival}
+use Rattle.p25_filter.specs.Runs.{Filtered, input_most}
+use Rattle.p25_filter.specs.declared.ending.Ending.{Ending}
+use Rattle.p25_filter.specs.declared.ending.Ending.TheVariants.{Done as EndDone}
+use Rattle.p25_filter.specs.declared.ending.FilterEnd.{FilterEnd}
+use Rattle.p25_tool.specs.declared.command.Command.{Command}
+use Rattle.p25_tool.specs.declared.command.Command.TheVariants.{Show, Check, Repair, Bridge, Build, Stations, Calls, Duplex, Fragments, Soft, Sample}
+use Rattle.p25_tool.specs.declared.outcome.Outcome.{Outcome}
+use Rattle.p25_tool.specs.declared.outcome.Outcome.TheVariants.{Done, Memory, TooLong}
+use Rattle.p25_tool.specs.Outcomes.{filter_outcome}
+use Rattle.p25_tool.specs.Outputs.{CanWantMemory, ending_by, output_by}
+use Rattle.p25_tool.specs.Recorded.{IsRecording}
+use Rattle.p25_tool.specs.RecordedRuns.{AreWrittenOf, HasWrittenUnits, IsUnitCommand}
+use Rattle.p25_tool.specs.Runs.{answer_of, command_future, ending_or}
+use Rattle.p25_tool.specs.Words.{bridge_of, build_of, command_of, one_word_command, sample_of, status_in, three_word_command, two_word_command}
+use Rattle.p25_tool.specs.Written.{HasEnded}
+use Rattle.p25_tool.proofs.RecordedLaws.{bridges-units, checks-units, repairs-units, shows-units}
+use Rattle.p25_tool.proofs.RunsLaws.{answer-short}
+use Rattle.p25_tool.proofs.WrittenLaws.{ended-wrote}
+
+-- the network access code of a command that words name is one
+module _ (nac : ℕ) (status : Status) where
+  -- where this is the command of that code, the code is one
+  abbrev IsFit : Option Command → Type 0
+  IsFit named = named ≡ Some (Bridge nac status) → nac < 4096
+
+  either : (which : Bool) (x y : Option Command) → IsFit x → IsFit y → IsFit (cond which x y)
+  either true x y one other = one
+  either false x y one other = other
+
+  one-fit : (word : List ℕ) → IsFit (one_word_command word)
+  one-fit word =
+      either (bytes_eq word (codes "show")) _ _ (λ is. absurd (cc is))
+      (either (bytes_eq word (codes "check")) _ _ (λ is. absurd (cc is))
+      (either (bytes_eq word (codes "repair")) _ _ (λ is. absurd (cc is))
+      (either (bytes_eq word (codes "calls")) _ _ (λ is. absurd (cc is))
+      (either (bytes_eq word (codes "soft")) _ _ (λ is. absurd (cc is))
+      (either (bytes_eq word (codes "stations")) _ _ (λ is. absurd (cc is))
+      (either (bytes_eq word (codes "fragments")) _ _ (λ is. absurd (cc is))
+      (either (bytes_eq word (codes "duplex")) _ _ (λ is. absurd (cc is)) (λ is. absurd (cc is)))))))))
+
+  build-fit : (symbol : Option Status) → IsFit (build_of symbol)
+  build-fit None is = absurd (cc is)
+  build-fit (Some symbol) is = absurd (cc is)
+
+  sample-fit : (count : Option ℕ) → IsFit (sample_of count)
+  sample-fit None = λ is. absurd (cc is)
+  sample-fit (Some count) = either (nat_eq count 0) None (Some (Sample count)) (λ is. absurd (cc is)) (λ is. absurd (cc is))
+
+  bridge-fit : (word : List ℕ) (code : Option ℕ) (symbol : Option Status) → nac_in word ≡ code → IsFit (bridge_of code symbol)
+  bridge-fit word None symbol read is = absurd (cc is)
+  bridge-fit word (Some code) None read is = absurd (cc is)
+  bridge-fit word (Some code) (Some symbol) read is =
+      let same : code ≡ nac = cc is in
+      (nac_in-text word nac (read ∙ ap (λ (n : ℕ). Some n) same)).1
+
+  pub command-fit : (words : List (List ℕ)) → IsFit (command_of words)
+  command-fit [] = λ is. absurd (cc is)
+  command-fit (word ∷ []) = one-fit word
+  command-fit (first ∷ second ∷ []) =
+      either (bytes_eq first (codes "build")) (build_of (status_in second)) _ (build-fit (status_in second))
+      (either (bytes_eq first (codes "sample")) (sample_of (number_below 10001 second)) None (sample-fit (number_below 10001 second)) (λ is. absurd (cc is)))
+  command-fit (first ∷ second ∷ third ∷ []) =
+      either (bytes_eq first (codes "bridge")) (bridge_of (nac_in second) (status_in third)) None
+      (bridge-fit second (nac_in second) (status_in third) refl) (λ is. absurd (cc is))
+  command-fit (first ∷ second ∷ third ∷ fourth ∷ others) = λ is. absurd (cc is)
+
+-- a command that works on units takes no memory
+no-memory : (command : Command) → IsUnitCommand command → CanWantMemory command → ⊥
+no-memory Show units wants = wants
+no-memory Check units wants = wants
+no-memory Repair units wants = wants
+no-memory (Bridge nac status) units wants = wants
+no-memory (Build status) units wants = units
+no-memory Stations units wants = units
+no-memory Calls units wants = units
+no-memory Duplex units wants = units
+no-memory Fragments units wants = units
+no-memory Soft units wants = units
+no-memory (Sample count) units wants = units
+
+module _ (arrivals : List Arrival) (input : List ℕ) (recorded : IsRecording arrivals input) where
+  units-end : (command : Command) → IsUnitCommand command → ending_by command true input ≡ Some EndDone
+  units-end Show units = refl
+  units-end Check units = (checks-units arrivals input recorded).2
+  units-end Repair units = refl
+  units-end (Bridge nac status) units = refl
+  units-end (Build status) units = absurd units
+  units-end Stations units = absurd units
+  units-end Calls units = absurd units
+  units-end Duplex units = absurd units
+  units-end Fragments units = absurd units
+  units-end Soft units = absurd units
+  units-end (Sample count) units = absurd units
+
+  units-written : (command : Command) → ((nac : ℕ) (status : Status) → command ≡ Bridge nac status → nac < 4096) → IsUnitCommand command
+      → AreWrittenOf command arrivals (output_by command true input)
+  units-written Show fits units = shows-units true arrivals input recorded
+  units-written Check fits units = (checks-units arrivals input recorded).0
+  units-written Repair fits units = repairs-units true arrivals input recorded
+  units-written (Bridge nac status) fits units = bridges-units true nac status arrivals input (fits nac status refl) recorded
+  units-written (Build status) fits units = absurd units
+  units-written Stations fits units = absurd units
+  units-written Calls fits units = absurd units
+  units-written Duplex fits units = absurd units
+  units-written Fragments fits units = absurd units
+  units-written Soft fits units = absurd units
+  units-written (Sample count) fits units = absurd units
+
+  units-done : (command : Command) (outcome : Outcome) → IsUnitCommand command → length input ≤ input_most
+      → (outcome ≡ answer_of command input) ⊎ ((outcome ≡ Memory) × CanWantMemory command) → outcome ≡ Done
+  units-done command outcome units few (inl same) =
+      same ∙ sym (answer-short command input Done few (ap (λ (e : Option Ending). ending_or e TooLong) (units-end command units)))
+  units-done command outcome units few (inr wanting) = absurd (no-memory command units wanting.1)
+
+  pub units-run : (command : Command) (told left first last : Option (List ℕ)) → ((nac : ℕ) (status : Status) → command ≡ Bridge nac status → nac < 4096) → IsUnitCommand command
+      → length input ≤ input_most → told ≡ Some input → (end : FilterEnd) (outcome : Outcome) → outcome ≡ filter_outcome end
+      → Filtered told left first last (command_future command) end → (outcome ≡ answer_of command input) ⊎ ((outcome ≡ Memory) × CanWantMemory command)
+      → HasWrittenUnits first last command arrivals outcome
+  units-run command told left first last fits units few is_told end outcome same worked complete =
+      let is_done = units-done command outcome units few complete in
+      record {
+        done = is_done;
+        octets = output_by command true input;
+        of_units = units-written command fits units;
+        wrote = ended-wrote command input told first last is_told left end (subst HasEnded (sym is_done ∙ same) tt) worked;
+      }

@@ -1,0 +1,35 @@
+-- What a call makes of a recording of units within radius.
+use Rattle.std.specs.Prelude.{◌≡◌, ℕ, List, length, Option}
+use Rattle.std.specs.List.{flat_map}
+use Rattle.p25_io.specs.Octets.{Appended}
+use Rattle.p25_stream.specs.Arrivals.{Arrival, wholes_of}
+use Rattle.p25_recording_filters.specs.ItemOutputs.{check_line, shown}
+use Rattle.p25_tool.specs.declared.command.Command.{Command}
+use Rattle.p25_tool.specs.declared.command.Command.TheVariants.{Show, Check, Repair, Bridge}
+use Rattle.p25_tool.specs.declared.outcome.Outcome.{Outcome}
+use Rattle.p25_tool.specs.declared.outcome.Outcome.TheVariants.{Done}
+use Rattle.p25_tool.specs.Recorded.{AreOctetsOf, images_arrived, images_bridged}
+
+-- the commands that work on each unit by itself
+abbrev pub IsUnitCommand : Command → Type 0
+IsUnitCommand Show = Unit {0}
+IsUnitCommand Check = Unit {0}
+IsUnitCommand Repair = Unit {0}
+IsUnitCommand (Bridge nac status) = Unit {0}
+IsUnitCommand command = ⊥
+
+-- what they write of a recording of units: a line for each, whole and as received; the line that counts them and no fault; their
+-- images as received; and these under another network access code and with one status symbol
+abbrev pub AreWrittenOf : Command → List Arrival → List ℕ → Type 0
+AreWrittenOf Show arrivals octets = octets ≡ flat_map shown (wholes_of 0 arrivals)
+AreWrittenOf Check arrivals octets = octets ≡ check_line (length arrivals) 0
+AreWrittenOf Repair arrivals octets = AreOctetsOf (images_arrived arrivals) octets
+AreWrittenOf (Bridge nac status) arrivals octets = AreOctetsOf (images_bridged nac status arrivals) octets
+AreWrittenOf command arrivals octets = ⊥
+
+-- a recording of units was worked on to its end, and this was written
+pub record HasWrittenUnits (first last : Option (List ℕ)) (command : Command) (arrivals : List Arrival) (outcome : Outcome) : Type 0 where
+  pub done : outcome ≡ Done
+  pub octets : List ℕ
+  pub of_units : AreWrittenOf command arrivals octets
+  pub wrote : Appended first octets last
