@@ -1,0 +1,12 @@
+use Rattle.std.proofs.Common.{◌≡◌, ◌+◌, ◌<◌, length}
+use Rattle.p25_example_repeater.proofs.write_items.Given as goal
+
+abbrev pub invariant-loop-item : goal.invariant-loop-item
+invariant-loop-item g l = record {
+  left : length l.page < 8;
+  same : l.scanner.finished ≡ l.initial.scanner.finished;
+  bits : l.scanner.place + length l.scanner.held ≡ l.initial.scanner.place + length l.initial.scanner.held;
+}
+
+abbrev pub decreases-loop-item : goal.decreases-loop-item
+decreases-loop-item g l = length l.scanner.held
