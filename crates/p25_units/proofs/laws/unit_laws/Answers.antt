@@ -15,5 +15,5 @@ returns c = record {
   again = unit_reading_of-image_of;
   none = fixes_of-image_of;
   fails = unit_fails;
-  whole_is_near = whole-near;
+  whole_is_read = whole-near;
 }
