@@ -23,6 +23,7 @@
 
 mod comma_lists;
 mod fault;
+pub mod laws;
 mod line;
 mod line_words;
 #[cfg(test)]

@@ -16,6 +16,7 @@
 
 mod fields;
 mod frame_sync;
+pub mod laws;
 mod symbols;
 #[cfg(test)]
 mod tests;

@@ -8,6 +8,7 @@ ghost use Rattle.p25_trellis.specs.Nearest.{nearest_octets, nearest_distance, bl
 ghost use Rattle.p25_trellis.specs.Tables.{half_point, three_quarter_point, point_nibbles, half_rows, three_quarter_rows};
 ghost use Rattle.p25_trellis.specs.Trellis.{IsBlock, IsFirstLeastReading, SomeApart, ArePathsApart, distance_from};
 
+use super::least::BLOCK_COSTS;
 use super::rate::{HALF_POINTS, Half, NIBBLES, Rate, THREE_QUARTER_POINTS, ThreeQuarter};
 
 /// The sent bits of two different paths of a rate differ in at least `APART` places, and those of some two in no more.
@@ -71,4 +72,9 @@ pub fn tables_are_as_defined()
     ensures nibbles { NIBBLES ≡ point_nibbles }
     ensures half { HALF_POINTS ≡ concat half_rows }
     ensures three_quarter { THREE_QUARTER_POINTS ≡ concat three_quarter_rows }
+{}
+
+/// **Theorem.** A block has a cost for each of the 16 nibbles at each of its 49 places.
+pub fn numbers()
+    ensures costs { BLOCK_COSTS ≡ 49 * 16 }
 {}

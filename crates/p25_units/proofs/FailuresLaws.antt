@@ -1,21 +1,13 @@
 -- A unit that is refused has a field that fails: by its kind, and by what was read of each of its fields.
-use Rattle.std.proofs.Common.{◌≡◌, ℕ, ◌%◌, ◌<◌, inl, inr, Bool, List, [], ◌∷◌, length, take, Option, Some, None, Result, Ok, Err, refl, ap, sym, ◌∙◌, subst, arith}
+use Rattle.std.proofs.Common.{◌≡◌, ℕ, ◌%◌, ◌<◌, inl, inr, Bool, List, [], ◌∷◌, length, take, Some, Result, Ok, Err, refl, ap, sym, ◌∙◌, arith}
 use Rattle.std.specs.Prelude.{IfErr}
 use Rattle.p25_status.specs.Woven.{plain_of, statuses_of}
 use Rattle.p25_status.specs.declared.fields.Field.{Field}
 use Rattle.p25_unit_front.specs.Front.{identifier_of}
 use Rattle.p25_unit_front.proofs.FrontLaws.{identifier_of-take}
-use Rattle.p25_link.specs.declared.encryption_sync.EncryptionSync.{EncryptionSync}
-use Rattle.p25_link.specs.declared.header_word.HeaderWord.{HeaderWord}
-use Rattle.p25_link.specs.declared.link_control.LinkControl.{LinkControl}
 use Rattle.p25_voice_units.specs.declared.unit.VoiceUnit.{VoiceUnit}
-use Rattle.p25_voice_units.specs.declared.unit.VoiceUnit.TheVariants.{End}
-use Rattle.p25_voice_units.specs.declared.voice.VoiceFrame.{VoiceFrame}
-use Rattle.p25_voice_units.specs.FieldLayouts.{link_layout, tdulc_layout}
-use Rattle.p25_voice_units.specs.Lengths.{voice_length_of}
-use Rattle.p25_voice_units.specs.Readings.{missing, failing, header_from, ldu1_from, ldu2_from, tdulc_from, ldu1_in, ldu2_in, header_in, link_in, sync_in, low_in, voice_in, voice_reading_of}
-use Rattle.p25_voice_units.proofs.KindsLaws.{reading-header, reading-end, reading-ldu1, reading-ldu2, reading-tdulc}
-use Rattle.p25_voice_units.proofs.LengthsLaws.{length-cases}
+use Rattle.p25_voice_units.specs.Readings.{voice_reading_of}
+use Rattle.p25_voice_units.proofs.FailuresLaws.{first_fails, voice_fails}
 use Rattle.p25_packet_blocks.specs.declared.packet.Packet.{Packet as packet_type}
 use Rattle.p25_packet_blocks.specs.Reading.{packet_reading_of}
 use Rattle.p25_units.specs.Needs.{need_of}
@@ -27,49 +19,7 @@ use Rattle.p25_units.proofs.NeedsLaws.{IsIdentified-from, need_of-there}
 use Rattle.p25_units.proofs.KindsLaws.{IsUnitOf, IsUnitOf-need}
 use Rattle.p25_units.proofs.ReadingsLaws.{body_reading_of-packet, body_reading_of-voice, reading_from-some, unit_reading_of-read}
 
--- there is a first field
-first_fails : (fields : List Field) (field : Field) (others : List Field) → field ∷ others ≡ fields → 0 < length fields
-first_fails fields field others is = subst (λ (xs : List Field). 0 < length xs) is (omega arith)
-
--- an answer with a field gives it
-some_field : {X : Type 0} (field : Field) (others fields : List Field) (answer : Result X (List Field)) → answer ≡ Err (field ∷ others) → answer ≡ Err fields → 0 < length fields
-some_field field others fields answer is e = first_fails fields field others (let two : Err (field ∷ others) ≡ Err fields = sym is ∙ e in cc)
-
 -- Voice units.
-
-header_fails : (found : Option HeaderWord) (fields : List Field) → header_from found ≡ Err fields → 0 < length fields
-unfolding header_from
-header_fails (Some word) fields e = absurd (cc)
-header_fails None fields e = some_field _ _ fields (header_from None) refl e
-
-tdulc_fails : (found : Option LinkControl) (fields : List Field) → tdulc_from found ≡ Err fields → 0 < length fields
-unfolding tdulc_from
-tdulc_fails (Some link) fields e = absurd (cc)
-tdulc_fails None fields e = some_field _ _ fields (tdulc_from None) refl e
-
-ldu1_fails : (voice : List VoiceFrame) (found : Option LinkControl) (first second : Option ℕ) (fields : List Field) → ldu1_from voice found first second ≡ Err fields → 0 < length fields
-unfolding ldu1_from failing missing
-ldu1_fails voice (Some link) (Some first) (Some second) fields e = absurd (cc)
-ldu1_fails voice (Some link) (Some first) None fields e = some_field _ _ fields (ldu1_from voice (Some link) (Some first) None) refl e
-ldu1_fails voice (Some link) None second fields e = some_field _ _ fields (ldu1_from voice (Some link) None second) refl e
-ldu1_fails voice None first second fields e = some_field _ _ fields (ldu1_from voice None first second) refl e
-
-ldu2_fails : (voice : List VoiceFrame) (found : Option EncryptionSync) (first second : Option ℕ) (fields : List Field) → ldu2_from voice found first second ≡ Err fields → 0 < length fields
-unfolding ldu2_from failing missing
-ldu2_fails voice (Some sync) (Some first) (Some second) fields e = absurd (cc)
-ldu2_fails voice (Some sync) (Some first) None fields e = some_field _ _ fields (ldu2_from voice (Some sync) (Some first) None) refl e
-ldu2_fails voice (Some sync) None second fields e = some_field _ _ fields (ldu2_from voice (Some sync) None second) refl e
-ldu2_fails voice None first second fields e = some_field _ _ fields (ldu2_from voice None first second) refl e
-
-voice_fails : (plain : List Bool) (fields : List Field) (duid count : ℕ) → voice_length_of duid ≡ Some count → voice_reading_of duid plain ≡ Err fields → 0 < length fields
-unfolding ldu1_in ldu2_in
-voice_fails plain fields =
-    length-cases (λ duid count. voice_reading_of duid plain ≡ Err fields → 0 < length fields)
-    (λ e. header_fails (header_in plain) fields (sym (reading-header plain) ∙ e))
-    (λ e. let two : Ok End ≡ Err fields = sym (reading-end plain) ∙ e in absurd (cc))
-    (λ e. ldu1_fails (voice_in plain) (link_in link_layout plain) (low_in 0 plain) (low_in 1 plain) fields (sym (reading-ldu1 plain) ∙ e))
-    (λ e. ldu2_fails (voice_in plain) (sync_in plain) (low_in 0 plain) (low_in 1 plain) fields (sym (reading-ldu2 plain) ∙ e))
-    (λ e. tdulc_fails (link_in tdulc_layout plain) fields (sym (reading-tdulc plain) ∙ e))
 
 voice_body_fails : (reading : Result VoiceUnit (List Field)) (fields : List Field) → body_from reading ≡ Err fields → reading ≡ Err fields
 voice_body_fails (Ok voice) fields e = absurd (cc)

@@ -1,4 +1,5 @@
 pub mod UnitsLaws
+pub mod ImagePlacesLaws
 pub mod NeedsLaws
 pub mod KindsLaws
 pub mod ReadingsLaws

@@ -13,7 +13,7 @@ use Rattle.p25_units.specs.Units.{body_duid, image_of, IsSendableUnit}
 use Rattle.p25_units.specs.Fixes.{fixes_of}
 use Rattle.p25_units.specs.Items.{item_from}
 use Rattle.p25_units.specs.Readings.{reading_from}
-use Rattle.p25_units.specs.WholeLaws.{WholeIsNear}
+use Rattle.p25_units.specs.WholeLaws.{WholeUnitIsRead}
 use Rattle.p25_units.specs.WithinRadius.{IsFrontWithin}
 use Rattle.p25_units.specs.declared.frame.Frame.{Frame}
 use Rattle.p25_units.specs.declared.item.Item.TheVariants.{Whole}
@@ -54,7 +54,7 @@ near-from nid sent frame synced read is sendable =
           subst (λ (xs : List Bool). distance_of (take 63 (identifier_bits sent)) (take 63 xs) ≤ 11) (sym word) (identifier_of-word sent nid read);
     }
 
-pub whole-near : WholeIsNear
+pub whole-near : WholeUnitIsRead
 whole-near at bits count place frame fixes synced need e =
     let sent = take count bits in
     let found = IsIdentified-from bits count need in

@@ -1,5 +1,6 @@
 pub mod UnitParts
 pub mod Units
+pub mod ImagePlaces
 pub mod Begins
 pub mod Needs
 pub mod Readings

@@ -34,8 +34,8 @@ pub record IsWholeOf (at : ℕ) (sent : List Bool) (place : ℕ) (frame : Frame)
   pub fixes_is : fixes ≡ fixes_of frame sent
 
 -- at a sync, the bits of a unit are a whole one only where they read as its frame
-abbrev pub WholeIsNear : Type 0
-WholeIsNear =
+abbrev pub WholeUnitIsRead : Type 0
+WholeUnitIsRead =
     (at : ℕ) (bits : List Bool) (count place : ℕ) (frame : Frame) (fixes : ℕ)
     → has_sync bits ≡ true → need_of bits ≡ Length count → unit_item_of at (take count bits) ≡ Whole place frame fixes
     → IsWholeOf at (take count bits) place frame fixes

@@ -4,12 +4,13 @@
 ghost use Rattle.std.specs.Prelude.{◌≡◌, ℕ, ◌<◌, Bool, List, ◌++◌, Ok, Err, length, take, ◌↔◌};
 ghost use Rattle.p25_status.specs.declared.fields.Field.{Field};
 ghost use Rattle.p25_units.specs.Fixes.{fixes_of};
+ghost use Rattle.p25_units.specs.ImagePlaces.{IsImage};
 ghost use Rattle.p25_units.specs.Items.{unit_item_of};
 ghost use Rattle.p25_units.specs.NeedLaws.{BegunStays, ItemCovers, ItemHasPlace, ItemIsNoGap, ItemIsSound, KnownStays, LengthIsThere, MoreIsFew, MoreWaits, SyncIsSeen};
 ghost use Rattle.p25_units.specs.Needs.{need_of};
 ghost use Rattle.p25_units.specs.Readings.{unit_reading_of};
 ghost use Rattle.p25_units.specs.Units.{IsSendableUnit, IsSoundFrame, image_of};
-ghost use Rattle.p25_units.specs.WholeLaws.{WholeIsNear};
+ghost use Rattle.p25_units.specs.WholeLaws.{WholeUnitIsRead};
 ghost use Rattle.p25_units.specs.WithinRadius.{IsWithinRadius, received_frame};
 ghost use Rattle.p25_units.specs.declared.frame.Frame.{Frame};
 ghost use Rattle.p25_units.specs.declared.needs.Need.TheVariants.{Length};
@@ -37,15 +38,18 @@ pub fn need_laws()
     ensures begun { BegunStays }
 {}
 
-/// **Theorem.** What units read as.
+/// **Theorem.** What units are sent as, and what they read as.
 ///
+/// - `form`: bits are the image of a sound frame that can be sent exactly where they stand as `IsImage` says by places. So each such
+///   frame has exactly one image.
 /// - `length`, `near`, `item`: bits within radius of the image of a sound frame that can be sent have its length, whatever bits
 ///   follow, and read as the frame, with the voice frames and the status symbols that were received; their item is `Whole`.
 /// - `undamaged`, `again`, `none`: an image is within its own radius, reads as its frame, and has no fixes.
 /// - `fails`: a unit whose length is known is read, or some field of it fails.
-/// - `whole_is_near`: a unit at a sync is `Whole` only where its bits read as its frame: those of its front and of its voice
+/// - `whole_is_read`: a unit at a sync is `Whole` only where its bits read as its frame: those of its front and of its voice
 ///   words lie within radius, and of a packet the first nearest paths carry it, with all its checks.
 pub fn unit_laws()
+    ensures form { (frame : Frame) (sent : List Bool) → IsSoundFrame frame → IsSendableUnit frame.unit → IsImage frame sent ↔ (sent ≡ image_of frame) }
     ensures length { (frame : Frame) (sent more : List Bool) → IsSoundFrame frame → IsSendableUnit frame.unit → IsWithinRadius frame sent
         → need_of (sent ++ more) ≡ Length (length sent) }
     ensures near { (frame : Frame) (sent : List Bool) → IsSoundFrame frame → IsSendableUnit frame.unit → IsWithinRadius frame sent
@@ -57,7 +61,7 @@ pub fn unit_laws()
     ensures none { (frame : Frame) → IsSoundFrame frame → IsSendableUnit frame.unit → fixes_of frame (image_of frame) ≡ 0 }
     ensures fails { (bits : List Bool) (count : ℕ) (fields : List Field) → need_of bits ≡ Length count
         → unit_reading_of (take count bits) ≡ Err fields → 0 < length fields }
-    ensures whole_is_near { WholeIsNear }
+    ensures whole_is_read { WholeUnitIsRead }
 {}
 
 /// **Theorem.** What terminators are among all units.

@@ -3,6 +3,7 @@ pub mod LengthsLaws
 pub mod SendableLaws
 pub mod ImageSteps
 pub mod KindsLaws
+pub mod FailuresLaws
 pub mod ReadLaws
 pub mod RowsLaws
 pub mod FieldRowsLaws

@@ -1,6 +1,6 @@
 //! Voice units read from bits.
 
-ghost use Rattle.std.specs.Prelude.{◌≡◌, ◌+◌, ◌*◌, ◌/◌, ◌<◌, ◌≤◌, [], ◌∷◌, ◌++◌, All, Some, length};
+ghost use Rattle.std.specs.Prelude.{◌≡◌, ◌+◌, ◌*◌, ◌/◌, ◌<◌, ◌≤◌, [], ◌∷◌, ◌++◌, All, IfErr, Some, length};
 ghost use Rattle.p25_reed_solomon.specs.Words.{IsCode};
 ghost use Rattle.p25_reed_solomon.specs.RsReadings.{rs_marked_reading_of};
 ghost use Rattle.p25_coded_fields.specs.Layouts.{Layout, field_layout, field_reading_of};
@@ -234,12 +234,13 @@ fn read_tdulc(plain: &BitBuf) -> Result<VoiceUnit, FieldList>
 /// as `read_field` does, each low speed word where one of its code lies within 2 bits. Voice frames are answered as received;
 /// the bits of the front and nulls are not looked at.
 ///
-/// The refusal is the list of exactly the fields that fail, in order: of a header HeaderWord; of voice with link control
+/// The refusal is the list of exactly the fields that fail, in order, and never empty: of a header HeaderWord; of voice with link control
 /// LinkControl, LowSpeed1 and LowSpeed2; of voice with encryption sync EncryptionSync, LowSpeed1 and LowSpeed2; of a
 /// terminator with link control LinkControl. Of a terminator none fails. TIA-102.BAAA, Voice Data Units.
 pub fn read_voice(duid: u8, plain: &BitBuf) -> Result<VoiceUnit, FieldList>
     requires { voice_length_of duid ≡ Some (length plain.now) }
-    ensures { result ≡ voice_reading_of duid plain.now }
+    ensures reading { result ≡ voice_reading_of duid plain.now }
+    ensures some { IfErr result (λ fields. 0 < length fields) }
 {
     match duid {
         HDU => read_header(plain),

@@ -1,3 +1,4 @@
+use Rattle.p25_units.proofs.ImagePlacesLaws.{IsImage-iff}
 use Rattle.p25_units.proofs.FailuresLaws.{unit_fails}
 use Rattle.p25_units.proofs.FixesLaws.{fixes_of-image_of}
 use Rattle.p25_units.proofs.WholeLaws.{whole-near}
@@ -6,6 +7,7 @@ use Rattle.p25_units.proofs.laws.unit_laws.Goals as goal
 
 pub returns : goal.returns
 returns c = record {
+  form = IsImage-iff;
   length = need_of-near;
   near = unit_reading_of-near;
   item = unit_item_of-near;
@@ -13,5 +15,5 @@ returns c = record {
   again = unit_reading_of-image_of;
   none = fixes_of-image_of;
   fails = unit_fails;
-  whole_is_near = whole-near;
+  whole_is_read = whole-near;
 }

@@ -1,0 +1,19 @@
+-- The sent bits of a frame by places, as the standard has them.
+use Rattle.std.specs.Prelude.{ℕ, Bool, List}
+use Rattle.p25_status.specs.Woven.{StandsByPlaces}
+use Rattle.p25_voice_units.specs.Places.{IsVoiceImage}
+use Rattle.p25_packet_blocks.specs.Places.{IsPacketImage}
+use Rattle.p25_units.specs.declared.unit.Body.{Body}
+use Rattle.p25_units.specs.declared.unit.Body.TheVariants.{Voice, Packet}
+use Rattle.p25_units.specs.declared.frame.Frame.{Frame}
+
+-- bits are those of what a unit carries: the front, the words of each code at their places, and every other bit 0
+unfoldable pub IsBodyImage : ℕ → Body → List Bool → Type 0
+IsBodyImage nac (Voice voice) plain = IsVoiceImage nac voice plain
+IsBodyImage nac (Packet packet) plain = IsPacketImage nac packet plain
+
+-- sent bits are the image of a frame: such bits of its unit, with its status symbols after every 70 of them
+pub record IsImage (frame : Frame) (sent : List Bool) : Type 0 where
+  pub plain : List Bool
+  pub laid_out : IsBodyImage frame.unit.nac frame.unit.body plain
+  pub woven : StandsByPlaces plain frame.statuses sent
