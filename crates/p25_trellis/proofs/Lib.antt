@@ -11,3 +11,4 @@ pub mod DistanceLaws
 pub mod ApartLaws
 pub mod ExactSteps
 pub mod NearSteps
+pub mod NearestBlockLaws
