@@ -13,3 +13,5 @@ pub mod RadiusLaws
 pub mod SentLaws
 pub mod NearLaws
 pub mod WholeLaws
+pub mod FixesLaws
+pub mod PacketFixesLaws

@@ -12,3 +12,4 @@ pub mod Sendable
 pub mod Places
 pub mod Within
 pub mod UnitReading
+pub mod Fixes

@@ -42,7 +42,10 @@ pub use head::{CONFIRMED_FORMAT, PLAIN_FORMAT, PacketHead, RESPONSE_FORMAT};
 pub use image::{packet_image, packet_length};
 pub use octets::Octets;
 pub use packet::{Confirmed, Packet, Plain};
-pub use read::{BLOCK_LENGTH, BLOCKS_AT, HEADER_AT, read_head, read_packet, read_packet_of_head};
+pub use read::{
+    BLOCK_LENGTH, BLOCKS_AT, HEADER_AT, read_head, read_packet, read_packet_and_fixes,
+    read_packet_of_head,
+};
 pub use slots::Slots;
 pub use unit::{read_packet_unit, read_sent_head};
 pub use whole::is_whole;

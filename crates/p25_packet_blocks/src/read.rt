@@ -1,11 +1,14 @@
 //! Units of packets read, without their status symbols.
 
-ghost use Rattle.std.specs.Prelude.{◌≡◌, ◌+◌, ◌*◌, ◌≤◌, ◌<◌, eqb, length, take, drop};
+ghost use Rattle.std.specs.Prelude.{◌≡◌, ℕ, ◌+◌, ◌*◌, ◌≤◌, ◌<◌, eqb, length, take, drop, Ok};
 ghost use Rattle.p25_bits.specs.Numbers.{octets_number};
 ghost use Rattle.p25_crc.specs.Values.{crc32_of};
+ghost use Rattle.p25_packet_blocks.specs.declared.packet.Packet.{Packet as packet_type};
+ghost use Rattle.p25_packet_blocks.specs.Fixes.{half_distance, three_quarter_distance, packet_fixes_of};
 ghost use Rattle.p25_packet_blocks.specs.Heads.{head_format, head_blocks};
 ghost use Rattle.p25_packet_blocks.specs.Kinds.{IsPlainFormat};
 ghost use Rattle.p25_packet_blocks.specs.Reading.{head_from, head_reading_of, slot_from, slots_read, octets_read, plain_from, packet_of_head, packet_reading_of, HasItsLength};
+ghost use Rattle.p25_packet_blocks.specs.Whole.{IsWholePacket};
 
 use crate::block::{Block, Slot};
 use crate::head::{CONFIRMED_FORMAT, PLAIN_FORMAT, PacketHead, RESPONSE_FORMAT};
@@ -66,31 +69,35 @@ fn slot_in(octets: &[u8; 18]) -> Slot
     }
 }
 
-// The slots of the blocks to follow of a confirmed packet.
-fn read_slots(plain: &BitBuf, blocks: usize) -> Slots
+// The slots of the blocks to follow of a confirmed packet. Adds the distances of their nearest paths to `fixes`.
+fn read_slots(plain: &BitBuf, blocks: usize, fixes: &mut u32) -> Slots
     requires blocks { blocks ≤ 127 }
     requires there { 308 + 196 * blocks ≤ length plain.now }
+    requires few { fixes.old ≤ 196 }
     ensures list { result ≡ slots_read blocks plain.now }
     ensures len { length result ≡ blocks }
+    ensures fixes { fixes.new ≡ fixes.old + three_quarter_distance blocks plain.now }
 {
     let mut slots = Slots::new();
     let mut octets = [0; 18];
     for j in 0..blocks {
-        read_block::<ThreeQuarter>(plain, BLOCKS_AT + BLOCK_LENGTH * j, &mut octets);
+        *fixes += read_block::<ThreeQuarter>(plain, BLOCKS_AT + BLOCK_LENGTH * j, &mut octets);
         slots.push(slot_in(&octets));
     }
     slots
 }
 
-// Sets the octets to those of the blocks to follow at half rate.
-fn read_octets(plain: &BitBuf, blocks: usize, octets: &mut [u8])
+// Sets the octets to those of the blocks to follow at half rate. Adds the distances of their nearest paths to `fixes`.
+fn read_octets(plain: &BitBuf, blocks: usize, octets: &mut [u8], fixes: &mut u32)
     requires blocks { blocks ≤ 127 }
     requires octets { length octets.old ≡ 12 * blocks }
     requires there { 308 + 196 * blocks ≤ length plain.now }
-    ensures { octets.new ≡ octets_read blocks plain.now }
+    requires few { fixes.old ≤ 196 }
+    ensures octets { octets.new ≡ octets_read blocks plain.now }
+    ensures fixes { fixes.new ≡ fixes.old + half_distance blocks plain.now }
 {
     for j in 0..blocks {
-        read_block::<Half>(
+        *fixes += read_block::<Half>(
             plain,
             BLOCKS_AT + BLOCK_LENGTH * j,
             &mut octets[12 * j..12 * j + 12],
@@ -128,16 +135,18 @@ fn plain_in(head: PacketHead, octets: &[u8]) -> Result<Packet, Field>
     Ok(Packet::Plain(Plain::new(head, carried)))
 }
 
-// The packet of a header and the bits of its unit, where it is not confirmed.
-fn read_plain(head: PacketHead, plain: &BitBuf) -> Result<Packet, Field>
+// The packet of a header and the bits of its unit, where it is not confirmed. Adds the distances of the nearest paths to `fixes`.
+fn read_plain(head: PacketHead, plain: &BitBuf, fixes: &mut u32) -> Result<Packet, Field>
     requires format { IsPlainFormat (head_format head) }
     requires there { 308 + 196 * head_blocks head ≤ length plain.now }
-    ensures { result ≡ plain_from head (octets_read (head_blocks head) plain.now) }
+    requires few { fixes.old ≤ 196 }
+    ensures packet { result ≡ plain_from head (octets_read (head_blocks head) plain.now) }
+    ensures fixes { fixes.new ≡ fixes.old + half_distance (head_blocks head) plain.now }
 {
     let blocks = usize::from(head.blocks());
     let mut room = [0; 1524];
     let octets = &mut room[..12 * blocks];
-    read_octets(plain, blocks, octets);
+    read_octets(plain, blocks, octets, fixes);
     plain_in(head, octets)
 }
 
@@ -147,14 +156,43 @@ pub fn read_packet_of_head(head: PacketHead, plain: &BitBuf) -> Result<Packet, F
     requires { 308 + 196 * head_blocks head ≤ length plain.now }
     ensures { result ≡ packet_of_head head plain.now }
 {
+    read_blocks(head, plain, &mut 0)
+}
+
+// The packet of a header and of its unit, by the format. Adds the distances of the nearest paths of its blocks to `fixes`.
+fn read_blocks(head: PacketHead, plain: &BitBuf, fixes: &mut u32) -> Result<Packet, Field>
+    requires there { 308 + 196 * head_blocks head ≤ length plain.now }
+    requires few { fixes.old ≤ 196 }
+    ensures packet { result ≡ packet_of_head head plain.now }
+    ensures confirmed { head_format head ≡ 0x16 → fixes.new ≡ fixes.old + three_quarter_distance (head_blocks head) plain.now }
+    ensures plain { IsPlainFormat (head_format head) → fixes.new ≡ fixes.old + half_distance (head_blocks head) plain.now }
+{
     match head.format() {
         CONFIRMED_FORMAT => {
-            let slots = read_slots(plain, usize::from(head.blocks()));
+            let slots = read_slots(plain, usize::from(head.blocks()), fixes);
             Ok(Packet::Confirmed(Confirmed::new(head, slots)))
         }
-        PLAIN_FORMAT | RESPONSE_FORMAT => read_plain(head, plain),
+        PLAIN_FORMAT | RESPONSE_FORMAT => read_plain(head, plain, fixes),
         _ => Err(Field::Format),
     }
+}
+
+/// Answers the packet of the header that a unit without status symbols holds, as `read_packet_of_head` does. Sets `fixes`, where a
+/// packet is answered and none of its slots is Bad, to the number of bits in which the header block and the blocks to follow were
+/// received otherwise than they are sent for it.
+pub fn read_packet_and_fixes(
+    head: PacketHead,
+    plain: &BitBuf,
+    fixes: &mut u32,
+) -> Result<Packet, Field>
+    requires head { head_reading_of plain.now ≡ Ok head }
+    requires there { 308 + 196 * head_blocks head ≤ length plain.now }
+    ensures packet { result ≡ packet_of_head head plain.now }
+    ensures fixes { (nac : ℕ) (packet : packet_type) → result ≡ Ok packet → IsWholePacket packet → fixes.new ≡ packet_fixes_of nac packet plain.now }
+{
+    let mut octets = [0; 12];
+    *fixes = read_block::<Half>(plain, HEADER_AT, &mut octets);
+    read_blocks(head, plain, fixes)
 }
 
 /// Answers the packet that a unit holds. `plain` is the unit without status symbols, from its front on: it has at least 308

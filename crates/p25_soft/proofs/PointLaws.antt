@@ -125,6 +125,6 @@ path_cost-soft states point levels costs some small table many path is =
     let sent_whole : 0 + length (interleaved nibbles) ≡ 49 = omega (arith, length-interleaved nibbles) in
     let sent_long : length (interleaved table.places) ≡ 49 = length-interleaved table.places ∙ table.long in
     let all = All-nibbles_from states point small 0 path some is.below in
-    total_cost-weighed (point_deviation levels) table.places 0 costs table.at table.long 0 nibbles whole all
+    total_cost-weighed (point_deviation levels) table.places 0 (cost_in costs) table.at table.long 0 nibbles whole all
     ∙ sym (weighed-interleaved (point_deviation levels) nibbles table.places (count ∙ sym table.long))
     ∙ weighed-places levels (interleaved table.places) many sent_long table.in_order (interleaved nibbles) 0 sent_whole (All-interleaved (λ (n : ℕ). n < 16) nibbles all)

@@ -80,26 +80,26 @@ unfolding rest_in
 rest_in-same table step state value inside = get_or-set_same table (8 * step + state) value 0 inside
 
 -- what the lowest least symbol of a step costs is the least that can follow the state
-pub IsLeastEnd-step : (states : ℕ) (point : ℕ → ℕ → ℕ) (costs rests : List ℕ) (step before state symbol least : ℕ)
-    → HasLeastFrom states point (cost_in costs) rests (suc step) → step + suc before ≡ 48
-    → IsLowestLeast states (step_cost point costs rests step state) symbol least
-    → IsLeastEnd states (suc before) (symbols_cost point (cost_in costs) step state) least
+pub IsLeastEnd-step : (states : ℕ) (point cost : ℕ → ℕ → ℕ) (rests : List ℕ) (step before state symbol least : ℕ)
+    → HasLeastFrom states point cost rests (suc step) → step + suc before ≡ 48
+    → IsLowestLeast states (step_cost point cost rests step state) symbol least
+    → IsLeastEnd states (suc before) (symbols_cost point cost step state) least
 unfolding step_cost
-IsLeastEnd-step states point costs rests step before state symbol least after place choice =
+IsLeastEnd-step states point cost rests step before state symbol least after place choice =
     let next : suc step + before ≡ 48 = omega arith in
     let rest = after.at (suc step) before symbol (omega arith) next choice.below in record {
       end = symbol ∷ rest.end;
       is_end = (choice.below, rest.is_end);
-      costs = symbols_cost-cons point (cost_in costs) step state symbol rest.end ∙ ap (λ n. cost_in costs step (point state symbol) + n) rest.costs ∙ choice.is;
+      costs = symbols_cost-cons point cost step state symbol rest.end ∙ ap (λ n. cost step (point state symbol) + n) rest.costs ∙ choice.is;
       none_less = no_end;
     }
   where
-    no_end : (other : List ℕ) → IsEnd states (suc before) other → least ≤ symbols_cost point (cost_in costs) step state other
+    no_end : (other : List ℕ) → IsEnd states (suc before) other → least ≤ symbols_cost point cost step state other
     no_end [] is = absurd is
     no_end (y ∷ ys) is =
         let next : suc step + before ≡ 48 = omega arith in
         let rest = after.at (suc step) before y (omega arith) next is.0 in
-        omega (arith, choice.none_less y is.0, rest.none_less ys is.1, symbols_cost-cons point (cost_in costs) step state y ys)
+        omega (arith, choice.none_less y is.0, rest.none_less ys is.1, symbols_cost-cons point cost step state y ys)
 
 -- the costs of a table with small costs have small sums
 pub least-le : (states before step state least : ℕ) (point cost : ℕ → ℕ → ℕ) (limit : ℕ) → ((i n : ℕ) → cost i n ≤ limit) → IsLeastEnd states before (symbols_cost point cost step state) least → least ≤ limit * suc before
@@ -108,56 +108,60 @@ least-le states before step state least point cost limit low is =
     let long : length (nibbles_from point state is.end) ≡ suc before = length-nibbles_from point state is.end ∙ length-end states before is.end is.is_end in
     omega (arith, is.costs, total_cost-le cost limit step (nibbles_from point state is.end) low, ap (λ n. limit * n) long)
 
-pub step_cost-lt : (states : ℕ) (point : ℕ → ℕ → ℕ) (costs rests : List ℕ) (step state symbol : ℕ) → All (λ cost. cost ≤ 2 ^ 24) costs
-    → HasLeastFrom states point (cost_in costs) rests (suc step) → step < 48 → symbol < states → step_cost point costs rests step state symbol < 2 ^ 32
-unfolding step_cost
-step_cost-lt states point costs rests step state symbol low after early below =
+pub rest-le : (states : ℕ) (point cost : ℕ → ℕ → ℕ) (rests : List ℕ) (limit step symbol : ℕ) → ((i n : ℕ) → cost i n ≤ limit)
+    → HasLeastFrom states point cost rests (suc step) → step < 48 → symbol < states → rest_in rests (suc step) symbol ≤ limit * 48
+rest-le states point cost rests limit step symbol low after early below =
     let before = 47 - step in
     let place : suc step + before ≡ 48 = omega arith in
-    let here = cost_in-le costs (2 ^ 24) step (point state symbol) low in
-    let rest = least-le states before (suc step) symbol (rest_in rests (suc step) symbol) point (cost_in costs) (2 ^ 24) (λ i n. cost_in-le costs (2 ^ 24) i n low) (after.at (suc step) before symbol (omega arith) place below) in
+    let rest = least-le states before (suc step) symbol (rest_in rests (suc step) symbol) point cost limit low (after.at (suc step) before symbol (omega arith) place below) in
     let short : suc before ≤ 48 = omega arith in
-    omega (arith, here, rest, mul-le-mul_left (2 ^ 24) short)
+    omega (arith, rest, mul-le-mul_left limit short)
+
+pub step_cost-lt : (states : ℕ) (point : ℕ → ℕ → ℕ) (costs rests : List ℕ) (step state symbol : ℕ) → All (λ cost. cost ≤ 2 ^ 24) costs
+    → HasLeastFrom states point (cost_in costs) rests (suc step) → step < 48 → symbol < states → step_cost point (cost_in costs) rests step state symbol < 2 ^ 32
+unfolding step_cost
+step_cost-lt states point costs rests step state symbol low after early below =
+    let each : (i n : ℕ) → cost_in costs i n ≤ 2 ^ 24 = λ i n. cost_in-le costs (2 ^ 24) i n low in
+    omega (arith, each step (point state symbol), rest-le states point (cost_in costs) rests (2 ^ 24) step symbol each after early below)
 
 -- the sum of what two tables have is the cost of the step
 pub step_cost-sum : (point : ℕ → ℕ → ℕ) (costs rests : List ℕ) (step state symbol nibble column : ℕ) → nibble ≡ point state symbol → column ≡ symbol
-    → get_or costs (16 * step + nibble) 0 + get_or rests (8 * (step + 1) + column) 0 ≡ step_cost point costs rests step state symbol
+    → get_or costs (16 * step + nibble) 0 + get_or rests (8 * (step + 1) + column) 0 ≡ step_cost point (cost_in costs) rests step state symbol
 unfolding step_cost cost_in rest_in
 step_cost-sum point costs rests step state symbol nibble column is same =
     ap₂ ◌+◌ (ap (λ n. get_or costs (16 * step + n) 0) is) (rw add-one (ap (λ n. get_or rests (8 * suc step + n) 0) same))
 
 -- one more state of the last step is filled in
-pub last_more : (point : ℕ → ℕ → ℕ) (costs rests : List ℕ) (state column nibble : ℕ) → state < 8 → length rests ≡ 392 → column ≡ state → nibble ≡ point state 0
-    → ((s : ℕ) → s < state → rest_in rests 48 s ≡ cost_in costs 48 (point s 0)) → (s : ℕ) → s < state + 1
-    → rest_in (set rests (384 + column) (get_or costs (768 + nibble) 0)) 48 s ≡ cost_in costs 48 (point s 0)
-unfolding rest_in cost_in
-last_more point costs rests state column nibble row long same is so_far =
-    let value = get_or costs (768 + nibble) 0 in
+pub last_more : (rests : List ℕ) (state column value : ℕ) (wanted : ℕ → ℕ) → state < 8 → length rests ≡ 392 → column ≡ state → value ≡ wanted state
+    → ((s : ℕ) → s < state → rest_in rests 48 s ≡ wanted s) → (s : ℕ) → s < state + 1 → rest_in (set rests (384 + column) value) 48 s ≡ wanted s
+unfolding rest_in
+last_more rests state column value wanted row long same is so_far =
     let inside : 384 + column < length rests = omega arith in
-    below_more (λ s. get_or (set rests (384 + column) value) (384 + s) 0 ≡ get_or costs (768 + point s 0) 0) state
+    below_more (λ s. get_or (set rests (384 + column) value) (384 + s) 0 ≡ wanted s) state
     (λ s below. let other : 384 + s ≢ 384 + column = omega arith in get_or-set_other rests (384 + column) (384 + s) value 0 other ∙ so_far s below)
-    (
-    ap (λ n. get_or (set rests (384 + column) value) (384 + n) 0) (sym same)
-    ∙ get_or-set_same rests (384 + column) value 0 inside
-    ∙ ap (λ n. get_or costs (768 + n) 0) is
-    )
+    (ap (λ n. get_or (set rests (384 + column) value) (384 + n) 0) (sym same) ∙ get_or-set_same rests (384 + column) value 0 inside ∙ is)
+
+-- the cost of a nibble at the last step, as it is read
+pub cost_in-last : (costs : List ℕ) (nibble point : ℕ) → nibble ≡ point → get_or costs (768 + nibble) 0 ≡ cost_in costs 48 point
+unfolding cost_in
+cost_in-last costs nibble point is = ap (λ n. get_or costs (768 + n) 0) is
 
 -- the least that can follow the last step is the cost of its symbol 0
-pub HasLeastFrom-last : (states : ℕ) (point : ℕ → ℕ → ℕ) (costs rests : List ℕ) → ((s : ℕ) → s < states → rest_in rests 48 s ≡ cost_in costs 48 (point s 0)) → HasLeastFrom states point (cost_in costs) rests 48
-HasLeastFrom-last states point costs rests last = record { at = at_last }
+pub HasLeastFrom-last : (states : ℕ) (point cost : ℕ → ℕ → ℕ) (rests : List ℕ) → ((s : ℕ) → s < states → rest_in rests 48 s ≡ cost 48 (point s 0)) → HasLeastFrom states point cost rests 48
+HasLeastFrom-last states point cost rests last = record { at = at_last }
   where
-    at_last : (step before state : ℕ) → 48 ≤ step → step + before ≡ 48 → state < states → IsLeastEnd states before (symbols_cost point (cost_in costs) step state) (rest_in rests step state)
+    at_last : (step before state : ℕ) → 48 ≤ step → step + before ≡ 48 → state < states → IsLeastEnd states before (symbols_cost point cost step state) (rest_in rests step state)
     at_last step (suc before) state late place row = absurd (omega arith)
     at_last step zero state late place row =
         let at_end : 48 ≡ step = omega arith in
-        let value : rest_in rests step state ≡ cost_in costs step (point state 0)
-        = subst (λ (i : ℕ). rest_in rests i state ≡ cost_in costs i (point state 0)) at_end (last state row) in
-        let cost : symbols_cost point (cost_in costs) step state (0 ∷ []) ≡ rest_in rests step state
-        = symbols_cost-last point (cost_in costs) step state ∙ sym value in record {
+        let value : rest_in rests step state ≡ cost step (point state 0)
+        = subst (λ (i : ℕ). rest_in rests i state ≡ cost i (point state 0)) at_end (last state row) in
+        let whole : symbols_cost point cost step state (0 ∷ []) ≡ rest_in rests step state
+        = symbols_cost-last point cost step state ∙ sym value in record {
           end = 0 ∷ [];
           is_end = refl;
-          costs = cost;
-          none_less = λ other is. omega (arith, ap (symbols_cost point (cost_in costs) step state) is, cost);
+          costs = whole;
+          none_less = λ other is. omega (arith, ap (symbols_cost point cost step state) is, whole);
         }
 
 -- a write for a state of a step changes nothing of the steps after it
@@ -213,12 +217,12 @@ HasLeastFrom-more states point cost rests step after here = record { at = at_ste
     ]
 
 -- a least end, where the step tells the number of symbols before it
-pub IsLeastEnd-at : (states : ℕ) (point : ℕ → ℕ → ℕ) (costs rests : List ℕ) (step state symbol least : ℕ) → step < 48
-    → HasLeastFrom states point (cost_in costs) rests (suc step) → IsLowestLeast states (step_cost point costs rests step state) symbol least → (before : ℕ)
-    → step + before ≡ 48 → IsLeastEnd states before (symbols_cost point (cost_in costs) step state) least
-IsLeastEnd-at states point costs rests step state symbol least early after choice zero place = absurd (omega arith)
-IsLeastEnd-at states point costs rests step state symbol least early after choice (suc before) place =
-    IsLeastEnd-step states point costs rests step before state symbol least after place choice
+pub IsLeastEnd-at : (states : ℕ) (point cost : ℕ → ℕ → ℕ) (rests : List ℕ) (step state symbol least : ℕ) → step < 48
+    → HasLeastFrom states point cost rests (suc step) → IsLowestLeast states (step_cost point cost rests step state) symbol least → (before : ℕ)
+    → step + before ≡ 48 → IsLeastEnd states before (symbols_cost point cost step state) least
+IsLeastEnd-at states point cost rests step state symbol least early after choice zero place = absurd (omega arith)
+IsLeastEnd-at states point cost rests step state symbol least early after choice (suc before) place =
+    IsLeastEnd-step states point cost rests step before state symbol least after place choice
 
 -- what a table has from a step on it has from a later one on
 pub HasLeastFrom-later : (states : ℕ) (point cost : ℕ → ℕ → ℕ) (rests : List ℕ) (from later : ℕ) → from ≤ later → HasLeastFrom states point cost rests from → HasLeastFrom states point cost rests later
@@ -229,3 +233,63 @@ HasLeastFrom-later states point cost rests from later order has = record {
 pub rest_in-first : (table : List ℕ) → rest_in table 0 0 ≡ get_or table 0 0
 unfolding rest_in
 rest_in-first table = refl
+
+-- the lowest symbol at which a value is the least
+pub IsLowestLeast-first : (states : ℕ) (value : ℕ → ℕ) (symbol least : ℕ) → symbol < states → value symbol ≡ least
+    → ((other : ℕ) → other < states → least ≤ value other) → ((other : ℕ) → other < symbol → value other ≢ least) → IsLowestLeast states value symbol least
+IsLowestLeast-first states value symbol least below is none_less before = record {
+  below = below;
+  is = is;
+  none_less = none_less;
+  lowest = λ other lower.
+      let more = none_less other (omega (arith, below, lower)) in
+      let differ = before other lower in
+      omega (arith, more, differ);
+}
+
+-- where no symbol before the last has the least value, the last has
+pub IsLowestLeast-last : (states last : ℕ) (value : ℕ → ℕ) (least : ℕ) → last + 1 ≡ states → (symbol : ℕ) × (symbol < states) × (value symbol ≡ least)
+    → ((other : ℕ) → other < states → least ≤ value other) → ((other : ℕ) → other < last → value other ≢ least) → IsLowestLeast states value last least
+IsLowestLeast-last states last value least count some none_less before = elim (cases_lt some.0 last) [
+  | inl lower ↦ absurd (before some.0 lower some.2)
+  | inr not_lower ↦
+      let same : some.0 ≡ last = omega (arith, some.1) in
+      IsLowestLeast-first states value last least (omega arith) (ap value (sym same) ∙ some.2) none_less before
+]
+
+-- no symbol of a step costs less, with what follows it, than the least that can follow the state
+pub rest-least : (states : ℕ) (point cost : ℕ → ℕ → ℕ) (rests : List ℕ) (step state : ℕ) → HasLeastFrom states point cost rests 0 → step < 48 → state < states
+    → (symbol : ℕ) → symbol < states → rest_in rests step state ≤ step_cost point cost rests step state symbol
+unfolding step_cost
+rest-least states point cost rests step state has early row symbol below =
+    let before = 47 - step in
+    let next : suc step + before ≡ 48 = omega arith in
+    let here : step + suc before ≡ 48 = omega arith in
+    let rest = has.at (suc step) before symbol (omega arith) next below in
+    omega (
+      arith,
+      (has.at step (suc before) state (omega arith) here row).none_less (symbol ∷ rest.end) (below, rest.is_end),
+      symbols_cost-cons point cost step state symbol rest.end,
+      rest.costs,
+    )
+
+-- and some symbol costs just that
+pub rest-reached : (states : ℕ) (point cost : ℕ → ℕ → ℕ) (rests : List ℕ) (step state : ℕ) → HasLeastFrom states point cost rests 0 → step < 48 → state < states
+    → (symbol : ℕ) × (symbol < states) × (step_cost point cost rests step state symbol ≡ rest_in rests step state)
+unfolding step_cost
+rest-reached states point cost rests step state has early row =
+    let before = 47 - step in
+    let next : suc step + before ≡ 48 = omega arith in
+    let here : step + suc before ≡ 48 = omega arith in
+    let least = has.at step (suc before) state (omega arith) here row in
+    found least.end least.is_end least.costs before next
+  where
+    found : (end : List ℕ) → IsEnd states (suc (47 - step)) end → symbols_cost point cost step state end ≡ rest_in rests step state
+        → (before : ℕ) → suc step + before ≡ 48
+        → (symbol : ℕ) × (symbol < states) × (cost step (point state symbol) + rest_in rests (suc step) symbol ≡ rest_in rests step state)
+    found [] is costs before next = absurd is
+    found (y ∷ ys) is costs before next =
+        let count : 47 - step ≡ before = omega arith in
+        let rest = has.at (suc step) before y (omega arith) next is.0 in
+        let low : rest_in rests step state ≤ cost step (point state y) + rest_in rests (suc step) y = rest-least states point cost rests step state has early row y is.0 in
+        (y, is.0, omega (arith, costs, symbols_cost-cons point cost step state y ys, rest.none_less ys (subst (λ (k : ℕ). IsEnd states k ys) count is.1), low))

@@ -11,8 +11,7 @@ use Rattle.p25_trellis.specs.Interleave.{interleaved}
 use Rattle.p25_trellis.specs.Tables.{nibble_distance}
 use Rattle.p25_bits.specs.Numbers.{number_bits}
 use Rattle.p25_trellis.specs.Trellis.{nibbles_from, sent_bits, distance_from, IsPath, IsFirstLeastReading}
-use Rattle.p25_trellis.specs.Costs.{total_cost, symbols_cost, path_cost, cost_in}
-use Rattle.p25_trellis.specs.Least.{IsDistanceTable}
+use Rattle.p25_trellis.specs.Costs.{total_cost, symbols_cost, path_cost, received_cost}
 use Rattle.p25_trellis.proofs.InterleaveLaws.{weighed, weighed-interleaved, length-interleaved}
 use Rattle.p25_trellis.proofs.PathLaws.{length-nibbles_from}
 
@@ -56,29 +55,29 @@ weighed-drop weight nibble nibbles received step d inside =
     ∙ ap (λ i. weight nibble (get_or received step d) + weighed weight nibbles (drop i received)) more
 
 -- what nibbles cost in a table is what they weigh against what was received, where each cost in the table is a weight
-pub total_cost-weighed : {Y : Type 0} (weight : ℕ → Y → ℕ) (received : List Y) (d : Y) (costs : List ℕ)
-    → ((step nibble : ℕ) → step < 49 → nibble < 16 → cost_in costs step nibble ≡ weight nibble (get_or received step d)) → length received ≡ 49
+pub total_cost-weighed : {Y : Type 0} (weight : ℕ → Y → ℕ) (received : List Y) (d : Y) (cost : ℕ → ℕ → ℕ)
+    → ((step nibble : ℕ) → step < 49 → nibble < 16 → cost step nibble ≡ weight nibble (get_or received step d)) → length received ≡ 49
     → (step : ℕ) (nibbles : List ℕ) → step + length nibbles ≡ 49 → All (λ n. n < 16) nibbles
-    → total_cost (cost_in costs) step nibbles ≡ weighed weight nibbles (drop step received)
+    → total_cost cost step nibbles ≡ weighed weight nibbles (drop step received)
 unfolding total_cost weighed
-total_cost-weighed weight received d costs table long step [] place small = refl
-total_cost-weighed weight received d costs table long step (nibble ∷ nibbles) place small =
+total_cost-weighed weight received d cost table long step [] place small = refl
+total_cost-weighed weight received d cost table long step (nibble ∷ nibbles) place small =
     let P : ℕ → Type 0 = λ n. n < 16 in
     let inside : step < length received = omega arith in
     let next : suc step + length nibbles ≡ 49 = omega arith in
-    ap₂ ◌+◌ (table step nibble (omega arith) (All-head P nibble nibbles small)) (total_cost-weighed weight received d costs table long (suc step) nibbles next (All-tail P nibble nibbles small))
+    ap₂ ◌+◌ (table step nibble (omega arith) (All-head P nibble nibbles small)) (total_cost-weighed weight received d cost table long (suc step) nibbles next (All-tail P nibble nibbles small))
     ∙ sym (weighed-drop weight nibble nibbles received step d inside)
 
--- what a path costs in the table is its distance from what was received
-pub path_cost-distance : (states : ℕ) (point : ℕ → ℕ → ℕ) (received costs : List ℕ) (bits : List Bool) → 0 < states
-    → ((state symbol : ℕ) → state < states → symbol < states → point state symbol < 16) → IsDistanceTable received costs → length received ≡ 49
-    → bits ≡ number_bits 4 (interleaved received) → (path : List ℕ) → IsPath states path → path_cost point (cost_in costs) path ≡ distance_from point bits path
-unfolding symbols_cost sent_bits
-path_cost-distance states point received costs bits some small table long are path is =
+-- what a path costs against nibbles received is its distance from them
+pub path_cost-distance : (states : ℕ) (point : ℕ → ℕ → ℕ) (received : List ℕ) (bits : List Bool) → 0 < states
+    → ((state symbol : ℕ) → state < states → symbol < states → point state symbol < 16) → length received ≡ 49
+    → bits ≡ number_bits 4 (interleaved received) → (path : List ℕ) → IsPath states path → path_cost point (received_cost received) path ≡ distance_from point bits path
+unfolding symbols_cost sent_bits received_cost
+path_cost-distance states point received bits some small long are path is =
     let nibbles = nibbles_from point 0 path in
     let count : length nibbles ≡ 49 = length-nibbles_from point 0 path ∙ is.long in
     let whole : 0 + length nibbles ≡ 49 = omega arith in
-    total_cost-weighed nibble_distance received 0 costs table.at long 0 nibbles whole (All-nibbles_from states point small 0 path some is.below)
+    total_cost-weighed nibble_distance received 0 (received_cost received) (λ step nibble early low. refl) long 0 nibbles whole (All-nibbles_from states point small 0 path some is.below)
     ∙ sym (distance_of-interleaved nibbles received (count ∙ sym long))
     ∙ ap (distance_of (number_bits 4 (interleaved nibbles))) (sym are)
 

@@ -5,7 +5,7 @@ use Rattle.std.proofs.lemmas.List.{take_more_set}
 use Rattle.std.proofs.lemmas.List.Elements.{All-cons, All-nil, All-head, All-tail, All-same}
 use Rattle.p25_trellis.specs.Trellis.{IsPath, IsNotAfter, IsFirstLeast, IsFirstLeastReading, Carries}
 use Rattle.p25_trellis.proofs.PathLaws.{same_octets}
-use Rattle.p25_trellis.specs.Costs.{symbols_cost, cost_in}
+use Rattle.p25_trellis.specs.Costs.{symbols_cost}
 use Rattle.p25_trellis.specs.Least.{rest_in, step_cost, IsEnd, IsLeastEnd, HasLeastFrom, IsLowestLeast}
 use Rattle.p25_trellis.proofs.CostLaws.{symbols_cost-cons, length-end, HasLeastFrom-later}
 
@@ -24,55 +24,55 @@ IsFirstLeastEnd-last states cost = record {
 }
 
 -- what an end costs that is the first least
-least_is : (states : ℕ) (point : ℕ → ℕ → ℕ) (costs rests : List ℕ) (step before state : ℕ) (end : List ℕ)
-    → IsLeastEnd states before (symbols_cost point (cost_in costs) step state) (rest_in rests step state)
-    → IsFirstLeastEnd states before (symbols_cost point (cost_in costs) step state) end
-    → symbols_cost point (cost_in costs) step state end ≡ rest_in rests step state
-least_is states point costs rests step before state end rest first = omega (arith, first.least rest.end rest.is_end, rest.costs, rest.none_less end first.is_end)
+least_is : (states : ℕ) (point cost : ℕ → ℕ → ℕ) (rests : List ℕ) (step before state : ℕ) (end : List ℕ)
+    → IsLeastEnd states before (symbols_cost point cost step state) (rest_in rests step state)
+    → IsFirstLeastEnd states before (symbols_cost point cost step state) end
+    → symbols_cost point cost step state end ≡ rest_in rests step state
+least_is states point cost rests step before state end rest first = omega (arith, first.least rest.end rest.is_end, rest.costs, rest.none_less end first.is_end)
 
 -- the lowest of the symbols that cost least goes before the first least end after it
-pub IsFirstLeastEnd-cons : (states : ℕ) (point : ℕ → ℕ → ℕ) (costs rests : List ℕ) (step before state symbol least : ℕ) (end : List ℕ)
-    → HasLeastFrom states point (cost_in costs) rests (suc step) → step + suc before ≡ 48
-    → IsLowestLeast states (step_cost point costs rests step state) symbol least
-    → IsFirstLeastEnd states before (symbols_cost point (cost_in costs) (suc step) symbol) end
-    → IsFirstLeastEnd states (suc before) (symbols_cost point (cost_in costs) step state) (symbol ∷ end)
+pub IsFirstLeastEnd-cons : (states : ℕ) (point cost : ℕ → ℕ → ℕ) (rests : List ℕ) (step before state symbol least : ℕ) (end : List ℕ)
+    → HasLeastFrom states point cost rests (suc step) → step + suc before ≡ 48
+    → IsLowestLeast states (step_cost point cost rests step state) symbol least
+    → IsFirstLeastEnd states before (symbols_cost point cost (suc step) symbol) end
+    → IsFirstLeastEnd states (suc before) (symbols_cost point cost step state) (symbol ∷ end)
 unfolding step_cost
-IsFirstLeastEnd-cons states point costs rests step before state symbol least end after place choice rest =
+IsFirstLeastEnd-cons states point cost rests step before state symbol least end after place choice rest =
     record { is_end = (choice.below, rest.is_end); least = no_less; first = first_of_all }
   where
     next : suc step + before ≡ 48
     next = omega arith
 
-    there : (y : ℕ) → y < states → IsLeastEnd states before (symbols_cost point (cost_in costs) (suc step) y) (rest_in rests (suc step) y)
+    there : (y : ℕ) → y < states → IsLeastEnd states before (symbols_cost point cost (suc step) y) (rest_in rests (suc step) y)
     there y row = after.at (suc step) before y (omega arith) next row
 
-    total : symbols_cost point (cost_in costs) step state (symbol ∷ end) ≡ least
+    total : symbols_cost point cost step state (symbol ∷ end) ≡ least
     total = omega (
       arith,
-      symbols_cost-cons point (cost_in costs) step state symbol end,
-      least_is states point costs rests (suc step) before symbol end (there symbol choice.below) rest,
+      symbols_cost-cons point cost step state symbol end,
+      least_is states point cost rests (suc step) before symbol end (there symbol choice.below) rest,
       choice.is,
     )
 
-    no_less : (other : List ℕ) → IsEnd states (suc before) other → symbols_cost point (cost_in costs) step state (symbol ∷ end) ≤ symbols_cost point (cost_in costs) step state other
+    no_less : (other : List ℕ) → IsEnd states (suc before) other → symbols_cost point cost step state (symbol ∷ end) ≤ symbols_cost point cost step state other
     no_less [] is = absurd is
-    no_less (y ∷ ys) is = omega (arith, total, choice.none_less y is.0, (there y is.0).none_less ys is.1, symbols_cost-cons point (cost_in costs) step state y ys)
+    no_less (y ∷ ys) is = omega (arith, total, choice.none_less y is.0, (there y is.0).none_less ys is.1, symbols_cost-cons point cost step state y ys)
 
-    first_of_all : (other : List ℕ) → IsEnd states (suc before) other → symbols_cost point (cost_in costs) step state other ≡ symbols_cost point (cost_in costs) step state (symbol ∷ end) → IsNotAfter (symbol ∷ end) other
+    first_of_all : (other : List ℕ) → IsEnd states (suc before) other → symbols_cost point cost step state other ≡ symbols_cost point cost step state (symbol ∷ end) → IsNotAfter (symbol ∷ end) other
     first_of_all [] is same = absurd is
     first_of_all (y ∷ ys) is same = elim (cases_lt symbol y) [
       | inl lower ↦ inl lower
       | inr not_lower ↦ elim (cases_lt y symbol) [
-        | inl higher ↦ absurd (omega (arith, total, same, choice.lowest y higher, (there y is.0).none_less ys is.1, symbols_cost-cons point (cost_in costs) step state y ys))
+        | inl higher ↦ absurd (omega (arith, total, same, choice.lowest y higher, (there y is.0).none_less ys is.1, symbols_cost-cons point cost step state y ys))
         | inr not_higher ↦
             let one : y ≡ symbol = omega arith in
-            let ends : symbols_cost point (cost_in costs) (suc step) symbol ys ≡ symbols_cost point (cost_in costs) (suc step) symbol end
+            let ends : symbols_cost point cost (suc step) symbol ys ≡ symbols_cost point cost (suc step) symbol end
             = omega (
               arith,
               same,
-              symbols_cost-cons point (cost_in costs) step state y ys,
-              symbols_cost-cons point (cost_in costs) step state symbol end,
-              ap (λ s. cost_in costs step (point state s) + symbols_cost point (cost_in costs) (suc step) s ys) one,
+              symbols_cost-cons point cost step state y ys,
+              symbols_cost-cons point cost step state symbol end,
+              ap (λ s. cost step (point state s) + symbols_cost point cost (suc step) s ys) one,
             ) in
             inr (sym one, rest.first ys is.1 ends)
       ]
@@ -124,21 +124,21 @@ IsFirstLeast-total states cost path least some is first = omega (
 )
 
 -- one more symbol of the path
-pub completes_more : (states : ℕ) (point : ℕ → ℕ → ℕ) (costs rests path : List ℕ) (step state symbol least : ℕ)
-    → HasLeastFrom states point (cost_in costs) rests 0 → step < 48 → length path ≡ 49
-    → IsLowestLeast states (step_cost point costs rests step state) symbol least
-    → ((before : ℕ) (end : List ℕ) → step + before ≡ 48 → IsFirstLeastEnd states before (symbols_cost point (cost_in costs) step state) end → IsFirstLeastEnd states 48 (symbols_cost point (cost_in costs) 0 0) (take step path ++ end))
-    → (before : ℕ) (end : List ℕ) → step + 1 + before ≡ 48 → IsFirstLeastEnd states before (symbols_cost point (cost_in costs) (step + 1) symbol) end
-    → IsFirstLeastEnd states 48 (symbols_cost point (cost_in costs) 0 0) (take (step + 1) (set path step symbol) ++ end)
-completes_more states point costs rests path step state symbol least has early long choice so_far before end place rest =
+pub completes_more : (states : ℕ) (point cost : ℕ → ℕ → ℕ) (rests path : List ℕ) (step state symbol least : ℕ)
+    → HasLeastFrom states point cost rests 0 → step < 48 → length path ≡ 49
+    → IsLowestLeast states (step_cost point cost rests step state) symbol least
+    → ((before : ℕ) (end : List ℕ) → step + before ≡ 48 → IsFirstLeastEnd states before (symbols_cost point cost step state) end → IsFirstLeastEnd states 48 (symbols_cost point cost 0 0) (take step path ++ end))
+    → (before : ℕ) (end : List ℕ) → step + 1 + before ≡ 48 → IsFirstLeastEnd states before (symbols_cost point cost (step + 1) symbol) end
+    → IsFirstLeastEnd states 48 (symbols_cost point cost 0 0) (take (step + 1) (set path step symbol) ++ end)
+completes_more states point cost rests path step state symbol least has early long choice so_far before end place rest =
     let inside : step < length path = omega arith in
     let there : step + suc before ≡ 48 = omega arith in
     let more : step + 1 ≡ suc step = omega arith in
-    let after = HasLeastFrom-later states point (cost_in costs) rests 0 (suc step) (omega arith) has in
-    let next = subst (λ (i : ℕ). IsFirstLeastEnd states before (symbols_cost point (cost_in costs) i symbol) end) more rest in
-    let whole = so_far (suc before) (symbol ∷ end) there (IsFirstLeastEnd-cons states point costs rests step before state symbol least end after there choice next) in
+    let after = HasLeastFrom-later states point cost rests 0 (suc step) (omega arith) has in
+    let next = subst (λ (i : ℕ). IsFirstLeastEnd states before (symbols_cost point cost i symbol) end) more rest in
+    let whole = so_far (suc before) (symbol ∷ end) there (IsFirstLeastEnd-cons states point cost rests step before state symbol least end after there choice next) in
     subst
-    (λ (whole_path : List ℕ). IsFirstLeastEnd states 48 (symbols_cost point (cost_in costs) 0 0) whole_path)
+    (λ (whole_path : List ℕ). IsFirstLeastEnd states 48 (symbols_cost point cost 0 0) whole_path)
     (sym (ap (λ (front : List ℕ). front ++ end) (take_more_set path step symbol inside) ∙ append_assoc (take step path) (symbol ∷ []) end))
     whole
 

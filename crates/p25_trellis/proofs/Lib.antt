@@ -1,4 +1,5 @@
 pub mod RateSteps
+mod TablesSteps
 pub mod InterleaveLaws
 pub mod QueueSteps
 pub mod PathSteps
@@ -7,6 +8,7 @@ pub mod CostLaws
 pub mod FirstPathLaws
 pub mod NearestLaws
 pub mod DistanceLaws
-pub mod ReceivedCostsSteps
 pub mod ApartLaws
 pub mod ExactSteps
+pub mod NearSteps
+pub mod NearestBlockLaws

@@ -1,5 +1,6 @@
 -- The cost of a path, where each step has a cost for each nibble.
 use Rattle.std.specs.Prelude.{ℕ, suc, ◌+◌, ◌*◌, List, [], ◌∷◌, slice_index}
+use Rattle.p25_trellis.specs.Tables.{nibble_distance}
 use Rattle.p25_trellis.specs.Trellis.{nibbles_from}
 
 -- the cost of nibbles sent from a step on, where each step has a cost for each nibble
@@ -18,3 +19,7 @@ path_cost point cost path = symbols_cost point cost 0 0 path
 -- a table of costs has 16 for each step
 unfoldable pub cost_in : List ℕ → ℕ → ℕ → ℕ
 cost_in table step nibble = slice_index table (16 * step + nibble)
+
+-- where nibbles were received, a nibble costs its distance from the one received at its step
+unfoldable pub received_cost : List ℕ → ℕ → ℕ → ℕ
+received_cost received step nibble = nibble_distance nibble (slice_index received step)

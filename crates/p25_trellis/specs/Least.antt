@@ -1,7 +1,6 @@
 -- The least cost of what follows a state, for the two passes over a path.
 use Rattle.std.specs.Prelude.{◌≡◌, ℕ, zero, suc, ◌+◌, ◌*◌, ◌<◌, ◌≤◌, List, [], ◌∷◌, slice_index}
-use Rattle.p25_trellis.specs.Tables.{nibble_distance}
-use Rattle.p25_trellis.specs.Costs.{symbols_cost, cost_in}
+use Rattle.p25_trellis.specs.Costs.{symbols_cost}
 
 -- a table of what the rest of a path costs has 8 for each step, one for each state
 unfoldable pub rest_in : List ℕ → ℕ → ℕ → ℕ
@@ -33,9 +32,5 @@ pub record IsLowestLeast (states : ℕ) (value : ℕ → ℕ) (symbol least : �
   pub lowest : (other : ℕ) → other < symbol → least < value other
 
 -- the cost of a symbol and what follows it
-unfoldable pub step_cost : (ℕ → ℕ → ℕ) → List ℕ → List ℕ → ℕ → ℕ → ℕ → ℕ
-step_cost point costs rests step state symbol = cost_in costs step (point state symbol) + rest_in rests (suc step) symbol
-
--- a table of costs where a nibble costs its distance from the one received at its step
-pub record IsDistanceTable (received table : List ℕ) : Type 0 where
-  pub at : (step nibble : ℕ) → step < 49 → nibble < 16 → cost_in table step nibble ≡ nibble_distance nibble (slice_index received step)
+unfoldable pub step_cost : (ℕ → ℕ → ℕ) → (ℕ → ℕ → ℕ) → List ℕ → ℕ → ℕ → ℕ → ℕ
+step_cost point cost rests step state symbol = cost step (point state symbol) + rest_in rests (suc step) symbol

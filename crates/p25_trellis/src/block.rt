@@ -9,10 +9,9 @@ ghost use Rattle.p25_trellis.specs.Nearest.{nearest_octets, nearest_distance, bl
 
 use super::exact::path_along;
 use super::interleave::{gather, spread};
-use super::least::read_costs;
+use super::near::{near_path, near_rests};
 use super::path::{nibbles_of, octets_of, path_of};
 use super::rate::Rate;
-use super::received_costs::distance_costs;
 use p25_bits::BitBuf;
 
 /// Appends the block of octets: 196 bits, the sent bits of the one path that carries them (TIA-102.BAAA, Trellis Coding
@@ -53,12 +52,25 @@ fn read_nibbles<R: Rate>(received: &[u8; 49], octets: &mut [u8]) -> u32
     requires octets { length octets.old ≡ R.OCTETS }
     ensures { IsFirstLeastReading R.STATES R.BITS_PER_SYMBOL (distance_from R.point_of (number_bits 4 (interleaved received.now))) octets.new result }
 {
-    let path = path_along::<R>(received);
-    if nibbles_of::<R>(&path) == *received {
-        octets_of::<R>(&path, octets);
-        return 0;
+    match path_along::<R>(received) {
+        Some(path) => {
+            octets_of::<R>(&path, octets);
+            0
+        }
+        None => search::<R>(received, octets),
     }
-    read_costs::<R>(&distance_costs(received), octets)
+}
+
+// Reads a block of nibbles that no path sends.
+fn search<R: Rate>(received: &[u8; 49], octets: &mut [u8]) -> u32
+    requires nibbles { All (λ n. n < 16) received.now }
+    requires octets { length octets.old ≡ R.OCTETS }
+    ensures { IsFirstLeastReading R.STATES R.BITS_PER_SYMBOL (distance_from R.point_of (number_bits 4 (interleaved received.now))) octets.new result }
+{
+    let rests = near_rests::<R>(received);
+    let path = near_path::<R>(received, &rests);
+    octets_of::<R>(&path, octets);
+    u32::from(rests[0])
 }
 
 #[cfg(test)]

@@ -29,8 +29,8 @@ fn symbol_cost<R: Rate>(costs: &[u32], rests: &[u32], step: usize, state: u8, sy
     requires step { step < 48 }
     requires state { state < R.STATES }
     requires symbol { symbol < R.STATES }
-    requires fits { step_cost R.point_of costs.now rests.now step state symbol < 2 ^ 32 }
-    ensures { result ≡ step_cost R.point_of costs.now rests.now step state symbol }
+    requires fits { step_cost R.point_of (cost_in costs.now) rests.now step state symbol < 2 ^ 32 }
+    ensures { result ≡ step_cost R.point_of (cost_in costs.now) rests.now step state symbol }
 {
     costs[16 * step + usize::from(R::point(state, symbol))]
         + rests[8 * (step + 1) + usize::from(symbol)]
@@ -42,8 +42,8 @@ fn best_symbol<R: Rate>(costs: &[u32], rests: &[u32], step: usize, state: u8) ->
     requires rests { length rests.now ≡ 392 }
     requires step { step < 48 }
     requires state { state < R.STATES }
-    requires fits { (symbol : ℕ) → symbol < R.STATES → step_cost R.point_of costs.now rests.now step state symbol < 2 ^ 32 }
-    ensures { IsLowestLeast R.STATES (step_cost R.point_of costs.now rests.now step state) result.symbol result.cost }
+    requires fits { (symbol : ℕ) → symbol < R.STATES → step_cost R.point_of (cost_in costs.now) rests.now step state symbol < 2 ^ 32 }
+    ensures { IsLowestLeast R.STATES (step_cost R.point_of (cost_in costs.now) rests.now step state) result.symbol result.cost }
 {
     let mut best = Choice {
         symbol: 0,

@@ -26,10 +26,11 @@ mod exact;
 mod interleave;
 pub mod laws;
 mod least;
+mod near;
 mod path;
 mod queue;
 mod rate;
-mod received_costs;
+mod tables;
 
 pub use block::{encode_block, read_block};
 pub use interleave::{gather, spread};

@@ -1,8 +1,10 @@
 //! The two rates: their tables of points, and the nibbles of the points.
 
-ghost use Rattle.std.specs.Prelude.{◌≡◌, ◌≢◌, ℕ, ◌+◌, ◌*◌, ◌^◌, ◌<◌, ◌≤◌};
+ghost use Rattle.std.specs.Prelude.{◌≡◌, ◌≢◌, ℕ, ◌+◌, ◌*◌, ◌^◌, ◌<◌, ◌≤◌, length, slice_index};
 ghost use Rattle.p25_trellis.specs.Trellis.{SomeApart};
 ghost use Rattle.p25_trellis.specs.Tables.{nibble_distance, point_nibbles};
+
+use super::tables::{HALF_DISTANCES, HALF_SYMBOLS, THREE_QUARTER_DISTANCES, THREE_QUARTER_SYMBOLS};
 
 /// A rate of the trellis code: a table of points with a row for each state and a column for each symbol. The state after
 /// a symbol is that symbol (TIA-102.BAAA, Trellis Coding).
@@ -39,6 +41,21 @@ pub trait Rate {
         requires column { symbol < STATES }
         ensures value { result ≡ point_of state symbol }
         ensures nibble { result < 16 };
+
+    /// Answers a symbol that sends a nibble from a state, or 8 where none does.
+    fn symbol_sending(state: u8, nibble: u8) -> u8
+        requires row { state < STATES }
+        requires nibble { nibble < 16 }
+        ensures { result < STATES → point_of state result ≡ nibble };
+
+    /// Answers in how many bits the points of a symbol differ from a nibble, the point of each state at its place. There are
+    /// eight places; those after the last state mean nothing.
+    fn distances(symbol: u8, nibble: u8) -> &'static [u8]
+        requires column { symbol < STATES }
+        requires nibble { nibble < 16 }
+        ensures each { (state : ℕ) → state < STATES → slice_index result.now state ≡ nibble_distance (point_of state symbol) nibble }
+        ensures low { (state : ℕ) → slice_index result.now state ≤ 4 }
+        ensures len { length result.now ≡ 8 };
 
     // There is a state for each symbol, and a symbol for each of its bits' values.
     ghost states_of_bits: { STATES ≡ 2 ^ BITS_PER_SYMBOL };
@@ -133,6 +150,15 @@ impl Rate for Half {
         NIBBLES[usize::from(HALF_POINTS[usize::from(4 * state + symbol)])]
     }
 
+    fn symbol_sending(state: u8, nibble: u8) -> u8 {
+        HALF_SYMBOLS[8 * usize::from(nibble) + usize::from(state)]
+    }
+
+    fn distances(symbol: u8, nibble: u8) -> &'static [u8] {
+        let at = 32 * usize::from(nibble) + 8 * usize::from(symbol);
+        &HALF_DISTANCES[at..at + 8]
+    }
+
     ghost states_of_bits = { refl };
 
     ghost few_bits = { Prim.omega arith };
@@ -181,6 +207,15 @@ impl Rate for ThreeQuarter {
 
     fn point(state: u8, symbol: u8) -> u8 {
         NIBBLES[usize::from(THREE_QUARTER_POINTS[usize::from(8 * state + symbol)])]
+    }
+
+    fn symbol_sending(state: u8, nibble: u8) -> u8 {
+        THREE_QUARTER_SYMBOLS[8 * usize::from(nibble) + usize::from(state)]
+    }
+
+    fn distances(symbol: u8, nibble: u8) -> &'static [u8] {
+        let at = 64 * usize::from(nibble) + 8 * usize::from(symbol);
+        &THREE_QUARTER_DISTANCES[at..at + 8]
     }
 
     ghost states_of_bits = { refl };

@@ -1,11 +1,14 @@
 use Rattle.std.proofs.Common.{◌++◌, ◌∷◌, [], List, refl, ap, ap₂, sym, ◌∙◌, arith}
 use Rattle.p25_packet_blocks.specs.declared.block.Slot.{Slot}
-use Rattle.p25_packet_blocks.specs.Reading.{slot_from}
+use Rattle.p25_trellis.specs.Tables.{three_quarter_point}
+use Rattle.p25_trellis.proofs.NearestBlockLaws.{nearest_distance-le}
+use Rattle.p25_packet_blocks.specs.Reading.{slot_from, block_bits}
+use Rattle.p25_packet_blocks.proofs.FixesLaws.{blocks_distance-zero, blocks_distance-more, three_quarter_distance-le}
 use Rattle.p25_packet_blocks.proofs.ReadingLaws.{slots_read-zero, slots_read-more}
 use Rattle.p25_packet_blocks.proofs.read.read_slots.Goals as goal
 
 pub loop-j-init : goal.loop-j-init
-loop-j-init c = record { so_far = c.new-slots.ensures ∙ sym (slots_read-zero c.args.plain.now); len = rw c.new-slots.ensures refl }
+loop-j-init c = record { so_far = c.new-slots.ensures ∙ sym (slots_read-zero c.args.plain.now); len = rw c.new-slots.ensures refl; counted = omega (arith, blocks_distance-zero 8 three_quarter_point c.args.plain.now) }
 
 pub loop-j-preserved : goal.loop-j-preserved
 loop-j-preserved c = record {
@@ -14,4 +17,16 @@ loop-j-preserved c = record {
       ∙ ap₂ (λ (xs : List Slot) x. xs ++ x ∷ []) c.loop-j.invariant.so_far (c.slot_in.ensures ∙ ap slot_from c.read_block.ensures.octets)
       ∙ sym (slots_read-more c.loop-j.j c.args.plain.now);
   len = omega arith;
+  counted = omega (arith, c.loop-j.invariant.counted, c.read_block.ensures.distance, blocks_distance-more 8 three_quarter_point c.loop-j.j c.args.plain.now);
 }
+
+pub overflow_add-fixes : goal.overflow_add-fixes
+overflow_add-fixes c =
+    omega (
+      arith,
+      c.requires.few,
+      c.loop-j.invariant.counted,
+      c.read_block.ensures.distance,
+      three_quarter_distance-le c.loop-j.j c.args.plain.now,
+      nearest_distance-le 8 3 three_quarter_point (block_bits c.args.plain.now c.loop-j.j) (omega arith),
+    )

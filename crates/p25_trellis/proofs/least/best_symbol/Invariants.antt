@@ -1,5 +1,6 @@
+use Rattle.p25_trellis.specs.Costs.{cost_in}
 use Rattle.p25_trellis.specs.Least.{IsLowestLeast, step_cost}
 use Rattle.p25_trellis.proofs.least.best_symbol.Given as goal
 
 abbrev pub invariant-loop-symbol : goal.invariant-loop-symbol
-invariant-loop-symbol g l = IsLowestLeast l.symbol (step_cost g.R.Rate.point_of l.costs l.rests l.step l.state) l.best.symbol l.best.cost
+invariant-loop-symbol g l = IsLowestLeast l.symbol (step_cost g.R.Rate.point_of (cost_in l.costs) l.rests l.step l.state) l.best.symbol l.best.cost

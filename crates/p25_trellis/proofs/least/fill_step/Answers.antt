@@ -23,7 +23,7 @@ loop-state-preserved g c =
       here =
           here_more states point (cost_in costs) rests step state c.from.result least g.met.R.Rate.few_states below c.requires.step long c.from.ensures
           c.loop-state.invariant.here
-          (IsLeastEnd-at states point costs rests step state c.best_symbol.result.symbol least c.requires.step c.loop-state.invariant.after c.best_symbol.ensures);
+          (IsLeastEnd-at states point (cost_in costs) rests step state c.best_symbol.result.symbol least c.requires.step c.loop-state.invariant.after c.best_symbol.ensures);
     }
 
 pub returns : goal.returns

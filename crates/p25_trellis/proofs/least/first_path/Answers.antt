@@ -18,7 +18,7 @@ loop-step-preserved g c =
     let path = c.loop-step.path in
     let symbol = c.best_symbol-state.result.symbol in record {
       completes
-          = completes_more g.R.Rate.STATES g.R.Rate.point_of c.args.costs.now c.args.rests.now path step c.loop-step.state symbol
+          = completes_more g.R.Rate.STATES g.R.Rate.point_of (cost_in c.args.costs.now) c.args.rests.now path step c.loop-step.state symbol
           c.best_symbol-state.result.cost
           c.requires.least c.loop-step-test.true c.loop-step.invariant.long c.best_symbol-state.ensures c.loop-step.invariant.completes;
       row = c.best_symbol-state.ensures.below;

@@ -1,0 +1,30 @@
+-- In how many bits the blocks of a unit were received otherwise than its packet is sent.
+use Rattle.std.specs.Prelude.{ℕ, zero, suc, ◌+◌, ◌*◌, Bool, List}
+use Rattle.p25_bits.specs.Bits.{part}
+use Rattle.p25_bits.specs.Distance.{distance_of}
+use Rattle.p25_trellis.specs.Nearest.{nearest_distance}
+use Rattle.p25_trellis.specs.Tables.{half_point, three_quarter_point}
+use Rattle.p25_packet_blocks.specs.declared.packet.Packet.{Packet}
+use Rattle.p25_packet_blocks.specs.Heads.{head_blocks}
+use Rattle.p25_packet_blocks.specs.Whole.{packet_head}
+use Rattle.p25_packet_blocks.specs.Reading.{block_bits}
+use Rattle.p25_packet_blocks.specs.Image.{packet_image_of}
+
+-- in how many of the bits from place 112 on, as many as the header block and the blocks to follow have, the image of a packet
+-- differs from the bits of a unit that was received
+unfoldable pub packet_fixes_of : ℕ → Packet → List Bool → ℕ
+packet_fixes_of nac packet plain =
+    let count = 196 * (1 + head_blocks (packet_head packet)) in distance_of (part 112 count plain) (part 112 count (packet_image_of nac packet))
+
+-- the distances of the nearest paths of n blocks to follow, one to the other
+unfoldable pub blocks_distance : ℕ → (ℕ → ℕ → ℕ) → ℕ → List Bool → ℕ
+blocks_distance states point zero plain = 0
+blocks_distance states point (suc n) plain = blocks_distance states point n plain + nearest_distance states point (block_bits plain n)
+
+-- those of blocks at half rate
+abbrev pub half_distance : ℕ → List Bool → ℕ
+half_distance n plain = blocks_distance 4 half_point n plain
+
+-- those of blocks at three-quarter rate
+abbrev pub three_quarter_distance : ℕ → List Bool → ℕ
+three_quarter_distance n plain = blocks_distance 8 three_quarter_point n plain

@@ -1,0 +1,50 @@
+use Rattle.std.proofs.Common.{◌≡◌, ◌≢◌, suc, ◌+◌, ◌-◌, ◌<◌, below_more, sym, ◌∙◌, arith}
+use Rattle.p25_trellis.specs.Costs.{received_cost}
+use Rattle.p25_trellis.specs.Least.{rest_in, step_cost}
+use Rattle.p25_trellis.proofs.CostLaws.{HasLeastFrom-later, IsLowestLeast-first, IsLowestLeast-last, rest-least, rest-reached}
+use Rattle.p25_trellis.proofs.NearSteps.{near_rest-le, rest_read}
+use Rattle.p25_trellis.proofs.PathLaws.{power-pos}
+use Rattle.p25_trellis.proofs.near.first_symbol.Goals as goal
+
+pub symbol_distance-requires-clause-low : goal.symbol_distance-requires-clause-low
+symbol_distance-requires-clause-low g c =
+    let below : c.loop-symbol.symbol < g.R.Rate.STATES = omega (arith, c.loop-symbol-test.true, c.STATES-symbol-end.ensures) in
+    near_rest-le g.R.Rate.STATES g.R.Rate.point_of c.args.received.now c.args.rests.now c.args.step c.loop-symbol.symbol
+    (HasLeastFrom-later g.R.Rate.STATES g.R.Rate.point_of (received_cost c.args.received.now) c.args.rests.now 0 (suc c.args.step) (omega arith) c.requires.least)
+    c.requires.step below
+
+pub loop-symbol-preserved : goal.loop-symbol-preserved
+loop-symbol-preserved g c =
+    below_more (λ other. step_cost g.R.Rate.point_of (received_cost c.args.received.now) c.args.rests.now c.args.step c.args.state other ≢ rest_in c.args.rests.now c.args.step c.args.state) c.loop-symbol.symbol
+    c.loop-symbol.invariant
+    (λ equal. c.if-symbol_distance-least.false (c.symbol_distance.ensures ∙ equal ∙ sym (rest_read c.args.rests.now c.args.step c.args.state c.from.result c.from.ensures)))
+
+pub returns-then-symbol_distance-least : goal.returns-then-symbol_distance-least
+returns-then-symbol_distance-least g c =
+    let states = g.R.Rate.STATES in
+    let point = g.R.Rate.point_of in
+    let cost = received_cost c.args.received.now in
+    let rests = c.args.rests.now in
+    let step = c.args.step in
+    let state = c.args.state in
+    IsLowestLeast-first states (step_cost point cost rests step state) c.loop-symbol.symbol (rest_in rests step state)
+    (omega (arith, c.loop-symbol-test.true, c.STATES-symbol-end.ensures))
+    (sym c.symbol_distance.ensures ∙ c.if-symbol_distance-least.true ∙ rest_read rests step state c.from.result c.from.ensures)
+    (rest-least states point cost rests step state c.requires.least c.requires.step c.requires.state)
+    c.loop-symbol.invariant
+
+pub returns : goal.returns
+returns g c =
+    let states = g.R.Rate.STATES in
+    let point = g.R.Rate.point_of in
+    let cost = received_cost c.args.received.now in
+    let rests = c.args.rests.now in
+    let step = c.args.step in
+    let state = c.args.state in
+    let last = c.STATES.result - 1 in
+    let some = power-pos g.R.Rate.BITS_PER_SYMBOL states g.met.R.Rate.states_of_bits in
+    let count : last + 1 ≡ states = omega (arith, c.STATES.ensures, some) in
+    IsLowestLeast-last states last (step_cost point cost rests step state) (rest_in rests step state) count
+    (rest-reached states point cost rests step state c.requires.least c.requires.step c.requires.state)
+    (rest-least states point cost rests step state c.requires.least c.requires.step c.requires.state)
+    (λ other lower. c.loop-symbol.invariant other (omega (arith, lower, c.loop-symbol-test.false, c.STATES.ensures, c.STATES-symbol-end.ensures)))
