@@ -36,6 +36,30 @@ fn one_octet(rt: HostRuntime) {
 }
 
 #[test]
+fn a_place_within_an_octet(rt: HostRuntime) {
+    let mut scanner = Scanner::at(11, 0xA7);
+    let mut raw = BitBuf::new();
+    assert_eq!(rt; scanner.held(), 5);
+    scanner.finish();
+    match scanner.next(&mut raw) {
+        Some(item) => assert!(rt;
+            matches!(
+                item,
+                Item::Gap {
+                    place: 11,
+                    length: 5
+                }
+            )
+        ),
+        None => assert!(rt; false),
+    }
+    assert_eq!(rt; raw.len(), 5);
+    if raw.len() == 5 {
+        assert_eq!(rt; raw.field(0, 5), 0x07);
+    }
+}
+
+#[test]
 fn octets_as_many_as_there_are(rt: HostRuntime) {
     let mut scanner = Scanner::new();
     let octets = [0; 9];
