@@ -1,0 +1,5 @@
+#![tactic(auto)]
+
+mod answers;
+mod checks;
+mod solomon;

@@ -1,0 +1,167 @@
+//! The Reed-Solomon codes (36,20), (24,12) and (24,16) over octets.
+//!
+//! A word is an array of octets from 0 to 63, one for each symbol of six bits, in the order of sending: first those of the
+//! information, then the check symbols.
+
+ghost use Rattle.std.specs.Prelude.{◌≡◌, ◌<◌, ◌≤◌, All, length, map, IsTrue};
+ghost use Rattle.p25_code.specs.Marks.{marked};
+ghost use Rattle.p25_gf64.specs.Symbol.{number};
+ghost use Rattle.p25_reed_solomon.specs.Words.{IsCode};
+ghost use Rattle.p25_reed_solomon.specs.RsReadings.{rs_marked_reading_of, rs_reading_of};
+ghost use Rattle.p25_c.specs.Solomon.{IsSymbolReading, IsSymbolWriting};
+
+use crate::answers::{OUTSIDE, answer_of};
+use p25_code::{BlockCode, read_marked, read_received};
+use p25_gf64::Sym;
+use p25_reed_solomon::Rs;
+
+/// Reads a received word of the code (36,20) and answers how many symbols were wrong, at most 8: the octets become those of the
+/// one word that differs in so few. Answers -1 where there is none, and -2 where an octet is above 63; nothing is changed then.
+#[unsafe(no_mangle)]
+pub extern "C" fn p25_rs_36_20_read(symbols: &mut [u8; 36]) -> i32
+    ensures { IsSymbolReading (rs_reading_of 36 20) symbols.old symbols.new result }
+{
+    read_symbols::<36, 20>(symbols)
+}
+
+/// Reads a received word of the code (24,12), as `p25_rs_36_20_read` does. At most 6 wrong symbols are corrected.
+#[unsafe(no_mangle)]
+pub extern "C" fn p25_rs_24_12_read(symbols: &mut [u8; 24]) -> i32
+    ensures { IsSymbolReading (rs_reading_of 24 12) symbols.old symbols.new result }
+{
+    read_symbols::<24, 12>(symbols)
+}
+
+/// Reads a received word of the code (24,16), as `p25_rs_36_20_read` does. At most 4 wrong symbols are corrected.
+#[unsafe(no_mangle)]
+pub extern "C" fn p25_rs_24_16_read(symbols: &mut [u8; 24]) -> i32
+    ensures { IsSymbolReading (rs_reading_of 24 16) symbols.old symbols.new result }
+{
+    read_symbols::<24, 16>(symbols)
+}
+
+/// Reads a received word of the code (36,20) of which the symbols where `erased` is true are not known. Answers how many symbols
+/// changed where twice the wrong ones among the others, and the erased ones, are at most 16 together for some word: the octets
+/// become those of that word. Answers -1 where there is none, and -2 where an octet is above 63, an erased one too; nothing is
+/// changed then.
+#[unsafe(no_mangle)]
+pub extern "C" fn p25_rs_36_20_read_erased(symbols: &mut [u8; 36], erased: &[bool; 36]) -> i32
+    ensures { IsSymbolReading (λ received. rs_marked_reading_of 36 20 (marked received erased.now)) symbols.old symbols.new result }
+{
+    read_with_marks::<36, 20>(symbols, erased)
+}
+
+/// Reads a received word of the code (24,12) of which some symbols are not known, as `p25_rs_36_20_read_erased` does, with 12 for
+/// 16.
+#[unsafe(no_mangle)]
+pub extern "C" fn p25_rs_24_12_read_erased(symbols: &mut [u8; 24], erased: &[bool; 24]) -> i32
+    ensures { IsSymbolReading (λ received. rs_marked_reading_of 24 12 (marked received erased.now)) symbols.old symbols.new result }
+{
+    read_with_marks::<24, 12>(symbols, erased)
+}
+
+/// Reads a received word of the code (24,16) of which some symbols are not known, as `p25_rs_36_20_read_erased` does, with 8 for
+/// 16.
+#[unsafe(no_mangle)]
+pub extern "C" fn p25_rs_24_16_read_erased(symbols: &mut [u8; 24], erased: &[bool; 24]) -> i32
+    ensures { IsSymbolReading (λ received. rs_marked_reading_of 24 16 (marked received erased.now)) symbols.old symbols.new result }
+{
+    read_with_marks::<24, 16>(symbols, erased)
+}
+
+/// Sets the last 16 octets to the check symbols of the first 20, so that all are a word of the code (36,20), and answers 0.
+/// Answers -2 where one of the first 20 is above 63; nothing is changed then.
+#[unsafe(no_mangle)]
+pub extern "C" fn p25_rs_36_20_write(symbols: &mut [u8; 36]) -> i32
+    ensures { IsSymbolWriting 36 20 symbols.old symbols.new result }
+{
+    write_symbols::<36, 20>(symbols)
+}
+
+/// Sets the last 12 octets to the check symbols of the first 12, as `p25_rs_36_20_write` does.
+#[unsafe(no_mangle)]
+pub extern "C" fn p25_rs_24_12_write(symbols: &mut [u8; 24]) -> i32
+    ensures { IsSymbolWriting 24 12 symbols.old symbols.new result }
+{
+    write_symbols::<24, 12>(symbols)
+}
+
+/// Sets the last 8 octets to the check symbols of the first 16, as `p25_rs_36_20_write` does.
+#[unsafe(no_mangle)]
+pub extern "C" fn p25_rs_24_16_write(symbols: &mut [u8; 24]) -> i32
+    ensures { IsSymbolWriting 24 16 symbols.old symbols.new result }
+{
+    write_symbols::<24, 16>(symbols)
+}
+
+// Reads the symbols that octets name to the radius.
+fn read_symbols<const N: usize, const K: usize>(octets: &mut [u8]) -> i32
+    requires code { IsCode N K }
+    requires long { length octets.old ≡ N }
+    ensures { IsSymbolReading (rs_reading_of N K) octets.old octets.new result }
+{
+    let mut word = [Sym::default(); N];
+    if !name_symbols(octets, &mut word) {
+        return OUTSIDE;
+    }
+    let reading = read_received::<Rs<N, K>>(&mut word);
+    put_numbers(&word, octets);
+    answer_of(reading)
+}
+
+// Reads the symbols that octets name, of which some are erased.
+fn read_with_marks<const N: usize, const K: usize>(octets: &mut [u8], erased: &[bool]) -> i32
+    requires code { IsCode N K }
+    requires long { length octets.old ≡ N }
+    requires erased { length erased.now ≡ N }
+    ensures { IsSymbolReading (λ received. rs_marked_reading_of N K (marked received erased.now)) octets.old octets.new result }
+{
+    let mut word = [Sym::default(); N];
+    if !name_symbols(octets, &mut word) {
+        return OUTSIDE;
+    }
+    let reading = read_marked::<Rs<N, K>>(&mut word, erased);
+    put_numbers(&word, octets);
+    answer_of(reading)
+}
+
+// Sets octets to the word of the symbols that the first K name.
+fn write_symbols<const N: usize, const K: usize>(octets: &mut [u8]) -> i32
+    requires code { IsCode N K }
+    requires long { length octets.old ≡ N }
+    ensures { IsSymbolWriting N K octets.old octets.new result }
+{
+    let mut info = [Sym::default(); K];
+    if !name_symbols(&octets[..K], &mut info) {
+        return OUTSIDE;
+    }
+    let mut word = [Sym::default(); N];
+    Rs::<N, K>::encode(&info, &mut word);
+    put_numbers(&word, octets);
+    0
+}
+
+// Sets the symbols to those that octets name, and answers whether each octet names one.
+fn name_symbols(octets: &[u8], symbols: &mut [Sym]) -> bool
+    requires { length symbols.old ≡ length octets.now }
+    ensures named { IsTrue result → map number symbols.new ≡ octets.now }
+    ensures other { (All (λ octet. octet < 64) octets.now) → IsTrue result }
+{
+    for i in 0..octets.len() {
+        match Sym::new(octets[i]) {
+            Some(symbol) => symbols[i] = symbol,
+            None => return false,
+        }
+    }
+    true
+}
+
+// Sets octets to the numbers of symbols.
+fn put_numbers(symbols: &[Sym], octets: &mut [u8])
+    requires { length symbols.now ≡ length octets.old }
+    ensures { octets.new ≡ map number symbols.now }
+{
+    for i in 0..symbols.len() {
+        octets[i] = symbols[i].value();
+    }
+}
