@@ -1,0 +1,198 @@
+/* The Project 25 Common Air Interface (Phase 1, TIA-102.BAAA) for C and C++: recordings of bits, read item by item, units built,
+   repaired and bridged, and the words, blocks and checks of the air interface.
+
+   The library is written in Rattle, and each call below is proved to meet its contract, in the crate p25_c: what it answers, and what
+   it writes, in every case. This header is not proved. Neither is the compiler, the linker, nor the program that calls. See
+   docs/PROVED.md and, for two short programs, docs/LIBRARY.md.
+
+   Bits. A recording is octets, each octet's most significant bit first. Places count bits from the first one of the recording. Of a
+   number that stands for bits the highest is the first.
+
+   What the caller owes, which nothing checks:
+   - each pointer leads to as many objects as is said beside it, which may be read, and written where it is no pointer to const;
+   - no pointer is NULL, also where its length is 0;
+   - what a call writes overlaps nothing else that this call is given;
+   - a bool is true or false: as an octet, 1 or 0;
+   - while a call runs no thread writes what it reads, and none reads or writes what it writes.
+   A call checks all else itself, and answers by one of the numbers named below. It takes no memory, keeps nothing, and calls
+   nothing but memcpy and memset, so calls from several threads on different octets do not meet.
+
+   Stack. @STACK@ */
+#ifndef P25_H
+#define P25_H
+
+#include <stdbool.h>
+#include <stddef.h>
+#include <stdint.h>
+
+#ifdef __cplusplus
+extern "C" {
+#endif
+
+/* Answers the release of the library: 10000 times its first number, 100 times its second, and its third. 10000 is release 1.0. */
+uint32_t p25_version(void);
+
+/* Items of a recording ---------------------------------------------------------------------------------------------------- */
+
+/* The kinds of items, and with what the line of each begins. */
+enum {
+    P25_UNIT = 1,   /* unit: a whole unit */
+    P25_BROKEN = 2, /* broken: a unit of which some fields fail */
+    P25_NOUNIT = 3, /* nounit: a sync after which no unit is read; one bit */
+    P25_GAP = 4,    /* gap: bits with which no sync begins, at most 4,096 */
+    P25_CUT = 5     /* cut: a sync with too few bits after it, at the end */
+};
+
+/* A stretch of a recording. Items lie end to end and cover every bit. */
+typedef struct p25_item {
+    uint64_t place;       /* the bit at which it begins */
+    uint32_t bits;        /* how many bits it covers, at least 1: the next item begins at place + bits */
+    uint32_t fixes;       /* of a unit how many of the bits that are looked at were wrong, else 0 */
+    uint32_t text_length; /* the octets of its text, without the zero at its end: at most 8,191 */
+    uint16_t nac;         /* of a unit or a broken one the network access code, 0 to 4095, else 0 */
+    uint8_t duid;         /* of a unit or a broken one the data unit identifier, 0 to 15, else 0 */
+    uint8_t kind;         /* one of the kinds above */
+} p25_item;
+
+/* What p25_next_item answers. */
+enum {
+    P25_ITEM = 1,    /* there is an item */
+    P25_NONE = 0,    /* there is none: more octets decide, or, where they have ended, all items have been told */
+    P25_OUTSIDE = -1 /* begin is no multiple of 8, from is not one of 0 to 2^59, or lies before or after the octets */
+};
+
+/* Room that is always enough: for a text with its zero, and for the octets of a unit. And the most octets, from the one that holds
+   bit `from` on, that are needed to decide an item. */
+enum { P25_TEXT_ROOM = 8192, P25_UNIT_ROOM = 3240, P25_NEEDED = 3241 };
+
+/* Sets *item to the item that begins at bit `from` of a recording, and answers P25_ITEM. Of the recording the n octets are given, the
+   first of which stands at bit `begin`, a multiple of 8; `ended` says that no octets follow. A first call has begin and from 0, and each
+   later one from = item.place + item.bits; octets that end at or before that bit may be dropped.
+
+   Where item.text_length < room, text becomes the line of `p25 show`, with a zero in place of the end of the line; else it stays.
+   With ended false an item comes as soon as no octet that may follow can change it. P25_NONE and P25_OUTSIDE leave *item and text as
+   they are. */
+int32_t p25_next_item(const uint8_t *octets, size_t n, uint64_t begin, uint64_t from, bool ended, p25_item *item, char *text,
+                      size_t room);
+
+/* Units ------------------------------------------------------------------------------------------------------------------- */
+
+/* What the three calls answer that write the octets of a unit, where they write none. Of several causes the first counts: of
+   p25_build the status, the line, the room; of p25_bridge the nac, the status, the unit, the room; of p25_repair the unit, the room. */
+enum {
+    P25_NO_ROOM = -2,      /* the unit has more octets than there is room for */
+    P25_NO_UNIT = -3,      /* the octets do not begin with a whole unit */
+    P25_WRONG_NAC = -4,    /* the network access code is above 4095 */
+    P25_WRONG_STATUS = -5, /* the status symbol is above 3 */
+    P25_LINE_LONG = -11,   /* long: the line has more than 8,192 octets */
+    P25_LINE_FORM = -12,   /* form: it is not words of octets 21 to 7E hex with single spaces between them */
+    P25_LINE_KIND = -13,   /* kind: its first word is no kind of unit */
+    P25_LINE_KEY = -14,    /* key: too few or too many words, or a key that is not the next of its kind */
+    P25_LINE_VALUE = -15   /* value: a value is not of its form, or values do not fit each other */
+};
+
+/* Writes the unit of a line of n octets, as `p25 build` reads it, without its end: hdu, ldu1, ldu2, tdu, tdulc, confirmed, plain or
+   response, with its keys and values. The status symbol, 0 to 3, stands everywhere. Answers how many octets it wrote, 18 to 3,240, or
+   one of the numbers above, and then writes nothing. */
+int32_t p25_build(const char *line, size_t n, uint8_t status, uint8_t *octets, size_t room);
+
+/* Writes the unit with which the n octets begin, each wrong bit that its codes undo put right, and its status symbols as they came: what
+   `p25 repair` writes of it. Answers how many octets it wrote, 18 to 3,240, or P25_NO_UNIT or P25_NO_ROOM, and then writes nothing. */
+int32_t p25_repair(const uint8_t *octets, size_t n, uint8_t *into, size_t room);
+
+/* Writes the unit with which the n octets begin under the network access code nac, 0 to 4095, and with the status symbol, 0 to 3,
+   everywhere: what `p25 bridge` writes of it. Answers how many octets it wrote, 18 to 3,240, or one of the numbers above, and then
+   writes nothing. */
+int32_t p25_bridge(const uint8_t *octets, size_t n, uint16_t nac, uint8_t status, uint8_t *into, size_t room);
+
+/* Code words ---------------------------------------------------------------------------------------------------------------- */
+
+/* What a call that reads a word answers where it is not the number of letters, symbols or bits, that were wrong. The word stays then. */
+enum {
+    P25_BEYOND = -1,    /* no word of the code is near enough */
+    P25_NO_LETTERS = -2 /* what is given is no list of letters: an octet is above 63, or a number has a bit above those of a word */
+};
+
+/* The Reed-Solomon codes over GF(64). A word is an array of octets from 0 to 63, one for each symbol of six bits, the first one sent
+   first: 20, 12 or 16 of information and then 16, 12 or 8 of check. (36,20) is that of the header, (24,12) of the link control, (24,16)
+   of the encryption sync.
+
+   A `read` puts right at most 8, 6 or 4 wrong symbols, and answers how many there were, or P25_BEYOND or P25_NO_LETTERS. A
+   `read_erased` is told the symbols that are not known, which must be 0 to 63 too: it reads a word where twice the wrong ones among the
+   others, and the erased ones, are at most 16, 12 or 8 together, and answers how many symbols it changed. A `write` sets the check
+   symbols, whatever stands there, and answers 0, or P25_NO_LETTERS. */
+int32_t p25_rs_36_20_read(uint8_t symbols[36]);
+int32_t p25_rs_24_12_read(uint8_t symbols[24]);
+int32_t p25_rs_24_16_read(uint8_t symbols[24]);
+int32_t p25_rs_36_20_read_erased(uint8_t symbols[36], const bool erased[36]);
+int32_t p25_rs_24_12_read_erased(uint8_t symbols[24], const bool erased[24]);
+int32_t p25_rs_24_16_read_erased(uint8_t symbols[24], const bool erased[24]);
+int32_t p25_rs_36_20_write(uint8_t symbols[36]);
+int32_t p25_rs_24_12_write(uint8_t symbols[24]);
+int32_t p25_rs_24_16_write(uint8_t symbols[24]);
+
+/* What a `write` below answers where the information has more bits than the code takes. */
+#define P25_NO_WORD UINT32_C(0xFFFFFFFF)
+
+/* The Golay codes (24,12) and (18,6), the Hamming code (10,6), and the code (16,8) of the low speed data. A word is a number of 24, 18,
+   10 or 16 bits, and its 12, 6, 6 or 8 highest are the information. A `read` puts right at most 3, 3, 1 or 2 wrong bits, and answers
+   how many there were, or P25_BEYOND or P25_NO_LETTERS. A `write` answers the word of an information, or P25_NO_WORD. */
+int32_t p25_golay24_read(uint32_t *word);
+int32_t p25_golay18_read(uint32_t *word);
+int32_t p25_hamming10_read(uint32_t *word);
+int32_t p25_lsd16_read(uint32_t *word);
+uint32_t p25_golay24_write(uint32_t info);
+uint32_t p25_golay18_write(uint32_t info);
+uint32_t p25_hamming10_write(uint32_t info);
+uint32_t p25_lsd16_write(uint32_t info);
+
+/* Network identifiers: 64 bits as a number, 12 of the network access code, 4 of the data unit identifier, 47 of check, and the bit P. */
+
+/* Sets *nac and *duid to those of a received identifier of which at most 11 of the first 63 bits are wrong, and answers how many are;
+   or P25_BEYOND, and then they stay. P is not looked at. */
+int32_t p25_nid_read(uint64_t bits, uint16_t *nac, uint8_t *duid);
+
+/* What p25_nid_write answers where nac is above 4095 or duid above 15. */
+#define P25_NO_NID UINT64_C(0xFFFFFFFFFFFFFFFF)
+
+/* Answers the bits of an identifier, or P25_NO_NID. P is 1 for the data unit identifiers 5 and 10. */
+uint64_t p25_nid_write(uint16_t nac, uint8_t duid);
+
+/* Blocks of packets ------------------------------------------------------------------------------------------------------- */
+
+/* A block at half rate carries 12 octets, at three-quarter rate 18, by a trellis path of 196 bits, interleaved as they are sent. Bits
+   fill 25 octets; the last four bits of the last octet are 0 where they are written, and are not looked at where they are read. */
+
+/* Sets the octets to those of the first path that differs from the bits in fewest, and answers in how many. It always answers: the
+   check of the block decides. Two wrong bits at half rate, and one at three-quarter rate, are put right in any case. */
+uint32_t p25_half_rate_read(const uint8_t bits[25], uint8_t octets[12]);
+uint32_t p25_three_quarter_rate_read(const uint8_t bits[25], uint8_t octets[18]);
+
+/* Sets the octets to those of the first path that is nearest to levels, one for each two bits in the order of sending: 96 is 01, 32 is
+   00, -32 is 10, and -96 is 11. Answers how far it is: the sum of the squares of what each level is off, which no path has less. */
+uint32_t p25_half_rate_read_levels(const int8_t levels[98], uint8_t octets[12]);
+uint32_t p25_three_quarter_rate_read_levels(const int8_t levels[98], uint8_t octets[18]);
+
+/* Sets the bits to those that carry the octets. */
+void p25_half_rate_write(const uint8_t octets[12], uint8_t bits[25]);
+void p25_three_quarter_rate_write(const uint8_t octets[18], uint8_t bits[25]);
+
+/* Checks ------------------------------------------------------------------------------------------------------------------ */
+
+/* What p25_crc9 answers where the serial number is above 127. */
+#define P25_NO_CRC9 0xFFFF
+
+/* Answers the nine check bits of a block of a confirmed packet: of its serial number, at most 127, and its sixteen octets. */
+uint16_t p25_crc9(uint8_t serial, const uint8_t octets[16]);
+
+/* Answers the sixteen check bits of the ten octets of a packet's header; of any other number of octets too. */
+uint16_t p25_crc16(const uint8_t *octets, size_t n);
+
+/* Answers the 32 check bits of the data and pad octets of a packet. */
+uint32_t p25_crc32(const uint8_t *octets, size_t n);
+
+#ifdef __cplusplus
+}
+#endif
+
+#endif

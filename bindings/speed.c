@@ -1,0 +1,170 @@
+/* Times the calls on words, blocks and checks, and p25_next_item on a recording from a file, for bindings/speed.
+
+   usage: speed                prints a line NAME|CASE|TENTHS OF A NANOSECOND|SUM for each call, as bench/libfec.c does
+          speed FILE           prints the user seconds that the items of the file take, and how many there are
+
+   Words are 64 of random information, with random wrong letters at random places; the least of 400 rounds counts. */
+#include "p25.h"
+
+#include <stdio.h>
+#include <stdlib.h>
+#include <string.h>
+#include <time.h>
+
+enum { ROUNDS = 400, WORDS = 64, LONGEST = 36, BLOCKS = 98 };
+
+static uint64_t state = 0x9E3779B97F4A7C15u;
+
+static uint64_t next(void) {
+    state ^= state << 13;
+    state ^= state >> 7;
+    state ^= state << 17;
+    return state;
+}
+
+static unsigned below(unsigned limit) { return (unsigned)(next() >> 20) % limit; }
+
+static uint64_t nanoseconds(void) {
+    struct timespec now;
+    clock_gettime(CLOCK_MONOTONIC, &now);
+    return (uint64_t)now.tv_sec * 1000000000u + (uint64_t)now.tv_nsec;
+}
+
+/* A Reed-Solomon code. */
+struct code {
+    const char *name;
+    int n;
+    int k;
+    int32_t (*read)(uint8_t *);
+    int32_t (*read_erased)(uint8_t *, const bool *);
+    int32_t (*write)(uint8_t *);
+};
+
+static const struct code codes[3] = {
+    {"Reed-Solomon (36,20)", 36, 20, p25_rs_36_20_read, p25_rs_36_20_read_erased, p25_rs_36_20_write},
+    {"Reed-Solomon (24,12)", 24, 12, p25_rs_24_12_read, p25_rs_24_12_read_erased, p25_rs_24_12_write},
+    {"Reed-Solomon (24,16)", 24, 16, p25_rs_24_16_read, p25_rs_24_16_read_erased, p25_rs_24_16_write}};
+
+/* How many symbols are marked, how many more are wrong, and how that is called. */
+struct row {
+    int marks;
+    int wrong;
+    const char *label;
+};
+
+static uint8_t symbols[WORDS][LONGEST];
+static bool erased[WORDS][LONGEST];
+
+/* Makes a word of a code, and changes so many of its symbols. */
+static void make_word(const struct code *code, const struct row *row, int j) {
+    memset(erased[j], 0, sizeof erased[j]);
+    for (int i = 0; i < code->k; i++) {
+        symbols[j][i] = (uint8_t)below(64);
+    }
+    code->write(symbols[j]);
+    bool changed[LONGEST] = {false};
+    for (int count = 0; count < row->marks + row->wrong;) {
+        unsigned place = below((unsigned)code->n);
+        unsigned error = below(64);
+        if (changed[place] || error == 0) {
+            continue;
+        }
+        changed[place] = true;
+        erased[j][place] = count < row->marks;
+        symbols[j][place] ^= (uint8_t)error;
+        count++;
+    }
+}
+
+static void time_symbols(const struct code *code, const struct row *row) {
+    uint64_t least = UINT64_MAX;
+    unsigned found = 0;
+    for (int j = 0; j < WORDS; j++) {
+        make_word(code, row, j);
+    }
+    for (int round = 0; round < ROUNDS; round++) {
+        uint64_t start = nanoseconds();
+        for (int j = 0; j < WORDS; j++) {
+            uint8_t word[LONGEST];
+            memcpy(word, symbols[j], (size_t)code->n);
+            int32_t answer = row->marks > 0 ? code->read_erased(word, erased[j]) : code->read(word);
+            found += answer >= 0 ? word[0] + 1u : 0;
+        }
+        uint64_t time = nanoseconds() - start;
+        least = time < least ? time : least;
+    }
+    printf("%s|%s|%llu|%u\n", code->name, row->label, (unsigned long long)(least * 10 / WORDS), found);
+}
+
+static void time_identifiers(const struct row *row) {
+    uint64_t words[WORDS];
+    uint64_t least = UINT64_MAX;
+    unsigned found = 0;
+    for (int j = 0; j < WORDS; j++) {
+        uint64_t changed = 0;
+        words[j] = p25_nid_write((uint16_t)below(4096), (uint8_t)below(16));
+        for (int count = 0; count < row->wrong;) {
+            uint64_t bit = (uint64_t)1 << (1 + below(63));
+            count += (changed & bit) == 0;
+            changed |= bit;
+        }
+        words[j] ^= changed;
+    }
+    for (int round = 0; round < ROUNDS; round++) {
+        uint64_t start = nanoseconds();
+        for (int j = 0; j < WORDS; j++) {
+            uint16_t nac = 0;
+            uint8_t duid = 0;
+            int32_t answer = p25_nid_read(words[j], &nac, &duid);
+            found += answer >= 0 ? nac + 1u : 0;
+        }
+        uint64_t time = nanoseconds() - start;
+        least = time < least ? time : least;
+    }
+    printf("network identifier|%s|%llu|%u\n", row->label, (unsigned long long)(least * 10 / WORDS), found);
+}
+
+/* Tells the items of a file, and prints the user seconds and how many they are. */
+static int time_items(const char *path) {
+    static uint8_t octets[1 << 24];
+    static char text[P25_TEXT_ROOM];
+    FILE *file = fopen(path, "rb");
+    if (file == NULL) {
+        perror(path);
+        return 1;
+    }
+    size_t n = fread(octets, 1, sizeof octets, file);
+    fclose(file);
+    p25_item item = {0};
+    unsigned long count = 0;
+    clock_t start = clock();
+    while (p25_next_item(octets, n, 0, item.place + item.bits, true, &item, text, sizeof text) == P25_ITEM) {
+        count++;
+    }
+    printf("%.3f %lu\n", (double)(clock() - start) / CLOCKS_PER_SEC, count);
+    return 0;
+}
+
+int main(int count, char **words) {
+    static const struct row rows[3][9] = {
+        {{0, 0, "0"}, {0, 1, "1"}, {0, 4, "4"}, {0, 8, "8, the radius"}, {0, 9, "9, beyond"},
+         {1, 0, "1 marked"}, {8, 0, "8 marked"}, {8, 4, "8 marked, 4 more"}, {16, 0, "16 marked"}},
+        {{0, 0, "0"}, {0, 1, "1"}, {0, 3, "3"}, {0, 6, "6, the radius"}, {0, 7, "7, beyond"},
+         {1, 0, "1 marked"}, {6, 0, "6 marked"}, {6, 3, "6 marked, 3 more"}, {12, 0, "12 marked"}},
+        {{0, 0, "0"}, {0, 1, "1"}, {0, 2, "2"}, {0, 4, "4, the radius"}, {0, 5, "5, beyond"},
+         {1, 0, "1 marked"}, {4, 0, "4 marked"}, {4, 2, "4 marked, 2 more"}, {8, 0, "8 marked"}}};
+    static const struct row bits[5] = {
+        {0, 0, "0"}, {0, 1, "1"}, {0, 3, "3"}, {0, 11, "11, the radius"}, {0, 12, "12, beyond"}};
+    if (count > 1) {
+        return time_items(words[1]);
+    }
+    for (int code = 0; code < 3; code++) {
+        for (int i = 0; i < 9; i++) {
+            time_symbols(&codes[code], &rows[code][i]);
+        }
+    }
+    for (int i = 0; i < 5; i++) {
+        time_identifiers(&bits[i]);
+    }
+    return 0;
+}

@@ -1,0 +1,108 @@
+/* Measures how much stack the calls take: each runs in a thread whose stack is painted before, and the paint that is left is counted.
+
+   usage: stack FILE           FILE is a recording; prints the octets that the items of it take, its units repaired and bridged, a unit
+                               built of a line of 127 blocks, and the words and blocks. A thread of its own takes some of each */
+#include "p25.h"
+
+#include <pthread.h>
+#include <stdio.h>
+#include <stdlib.h>
+#include <string.h>
+
+enum { SIZE = 1 << 20, PAINT = 0x5A, MOST = 1 << 24 };
+
+static uint8_t octets[MOST];
+static size_t n;
+static char text[P25_TEXT_ROOM];
+static uint8_t unit[P25_UNIT_ROOM];
+static p25_item item;
+
+static void *nothing(void *unused) { return unused; }
+
+static void *items(void *unused) {
+    memset(&item, 0, sizeof item);
+    while (p25_next_item(octets, n, 0, item.place + item.bits, true, &item, text, sizeof text) == P25_ITEM) {
+    }
+    return unused;
+}
+
+/* The units that begin with an octet. */
+static void *repairs(void *unused) {
+    for (size_t at = 0; at < n; at++) {
+        p25_repair(octets + at, n - at, unit, sizeof unit);
+    }
+    return unused;
+}
+
+static void *bridges(void *unused) {
+    for (size_t at = 0; at < n; at++) {
+        p25_bridge(octets + at, n - at, 0x293, 0, unit, sizeof unit);
+    }
+    return unused;
+}
+
+static void *builds(void *unused) {
+    static char line[P25_TEXT_ROOM];
+    size_t length = (size_t)sprintf(line, "confirmed nac=293 head=56c000000001ff000800 blocks=");
+    for (int i = 0; i < 127; i++) {
+        length += (size_t)sprintf(line + length, "%s%02x:%032d", i > 0 ? "," : "", (unsigned)i, i);
+    }
+    if (p25_build(line, length, 1, unit, sizeof unit) != 3240) {
+        puts("no unit is built");
+    }
+    return unused;
+}
+
+static void *words(void *unused) {
+    uint8_t symbols[36] = {1, 1, 1, 1, 1, 1, 1, 1};
+    bool erased[36] = {true, true};
+    uint8_t bits[25] = {0xFF, 1, 2, 3};
+    uint8_t carried[18];
+    int8_t levels[98] = {1, 2, 3};
+    uint32_t word = 7;
+    uint16_t nac;
+    uint8_t duid;
+    p25_rs_36_20_read_erased(symbols, erased);
+    p25_rs_24_12_read(symbols);
+    p25_rs_24_16_write(symbols);
+    p25_golay24_read(&word);
+    p25_nid_read(UINT64_C(0x293555EF2C654BC7), &nac, &duid);
+    p25_three_quarter_rate_read(bits, carried);
+    p25_three_quarter_rate_read_levels(levels, carried);
+    p25_half_rate_read(bits, carried);
+    p25_three_quarter_rate_write(carried, bits);
+    return unused;
+}
+
+/* Answers how many octets of a painted stack a function took. */
+static size_t taken(void *(*call)(void *)) {
+    void *stack;
+    pthread_attr_t how;
+    pthread_t thread;
+    size_t left = 0;
+    if (posix_memalign(&stack, 4096, SIZE) != 0 || pthread_attr_init(&how) != 0 || pthread_attr_setstack(&how, stack, SIZE) != 0) {
+        exit(1);
+    }
+    memset(stack, PAINT, SIZE);
+    if (pthread_create(&thread, &how, call, NULL) != 0 || pthread_join(thread, NULL) != 0) {
+        exit(1);
+    }
+    while (left < SIZE && ((uint8_t *)stack)[left] == PAINT) {
+        left++;
+    }
+    free(stack);
+    return SIZE - left;
+}
+
+int main(int count, char **argument) {
+    FILE *file = count == 2 ? fopen(argument[1], "rb") : NULL;
+    if (file == NULL) {
+        fputs("usage: stack FILE\n", stderr);
+        return 1;
+    }
+    n = fread(octets, 1, sizeof octets, file);
+    fclose(file);
+    printf("a thread %zu, items %zu, repaired %zu, bridged %zu, built %zu, words %zu\n", taken(nothing), taken(items), taken(repairs),
+           taken(bridges), taken(builds), taken(words));
+    return 0;
+}

@@ -1,0 +1,201 @@
+"""Makes the calls of p25.py, one kind in a run, so that bindings/test can compare what they answer. The status is 0 where all is as wanted.
+
+usage: try.py recording FILE SHOWN REPAIRED BRIDGED      what p25 writes of the file; bridged under 123 with status 2
+       try.py build LINES UNITS                          the units of the lines with status 3
+       try.py fault LINES                                prints the fault of the one line
+       try.py words                                      standard input is lines CODE RECEIVED, as those of words.txt
+       try.py codes                                      the other calls on words, blocks and checks
+       try.py others                                     refusals, numbers and docstrings
+"""
+
+import inspect
+import os
+import sys
+
+import p25
+
+
+def read(path):
+    """Answers the octets of a file."""
+    with open(path, "rb") as file:
+        return file.read()
+
+
+def raised(cause, call, *arguments):
+    """Checks that a call raises ValueError with this cause."""
+    try:
+        call(*arguments)
+    except ValueError as error:
+        assert str(error) == cause, (call, arguments, str(error), cause)
+    else:
+        raise AssertionError((call, arguments, "raises nothing"))
+
+
+def in_pieces(octets, size):
+    """Answers the items of a recording that comes in pieces of a size, and checks that each is one of the whole as it is decided."""
+    stream, found = p25.Stream(), []
+    for place in range(0, len(octets), size):
+        found += stream.feed(octets[place : place + size])
+        assert len(stream._octets) < 3241 + size, len(stream._octets)
+    return found + list(stream.finish())
+
+
+def try_recording(path, shown, repaired, bridged):
+    octets, lines = read(path), read(shown).decode().splitlines()
+    whole = list(p25.items(octets))
+    assert [it.text for it in whole] == lines
+    end = 0
+    for it in whole:
+        assert it.place == end and it.bits > 0 and it.text.startswith(f"{it.kind} at={it.place} ")
+        assert it.value("at") == str(it.place) and it.value("bits") in (None, str(it.bits)) and it.value("a") is None
+        assert (it.value("fix") or "0") == str(it.fixes)
+        assert it.value("nac") == (None if it.nac is None else f"{it.nac:03x}")
+        assert it.value("duid") in (None, f"{it.duid or 0:x}")
+        end += it.bits
+    assert end == 8 * len(octets)
+    for size in range(1, 21):
+        assert in_pieces(octets, size) == whole, size
+    stream = p25.Stream()
+    stream.feed(octets)
+    stream.feed(bytearray())
+    assert list(stream.finish()) == whole, "items that were not taken come later"
+    assert p25.repair(memoryview(octets)) == read(repaired)
+    assert p25.bridge(octets, 0x123, 2) == read(bridged)
+
+
+def try_build(lines, units):
+    built = [p25.build(line, 3) for line in read(lines).decode().splitlines()]
+    assert b"".join(built) == read(units)
+    for line, unit in zip(read(lines).decode().splitlines(), built):
+        (item,) = p25.items(unit)
+        assert item.kind == "unit" and item.text.endswith(line) and p25.build(line.encode(), 3) == unit
+        assert p25.repair_unit(unit + b"more") == unit
+        assert p25.bridge_unit(unit, item.nac, 3) == unit
+
+
+def try_fault(lines):
+    try:
+        p25.build(read(lines)[:-1], 1)
+    except ValueError as error:
+        print(error)
+
+
+def release():
+    """Answers the numbers of the release that lies here."""
+    number = read(os.path.join(os.path.dirname(os.path.dirname(os.path.abspath(__file__))), "RELEASE")).decode().split()[-1]
+    return tuple(int(it) for it in f"{number}.0.0".split(".")[:3])
+
+
+def try_others():
+    unit = p25.build("tdu nac=293")
+    assert unit == p25.build("tdu nac=293", 0) and len(unit) == 18
+    raised("status", p25.build, "tdu nac=293", 4)
+    raised("status", p25.build, "tdu nac=293", -1)
+    raised("status", p25.build, "tdu nac=293", 256)
+    raised("unit", p25.repair_unit, b"")
+    raised("unit", p25.repair_unit, unit[:17])
+    raised("unit", p25.bridge_unit, bytes(100), 0, 0)
+    raised("nac", p25.bridge_unit, unit, 4096, 0)
+    raised("nac", p25.bridge_unit, unit, -1, 0)
+    raised("nac", p25.bridge_unit, unit, 65536, 0)
+    raised("status", p25.bridge_unit, unit, 0, 4)
+    raised("nac", p25.bridge, b"", 4096, 4)
+    stream = p25.Stream()
+    # An item comes with the octet that decides it, and the last one at the end.
+    counts = [len(list(stream.feed(bytes([octet])))) for octet in unit]
+    assert counts == [0] * 17 + [1], counts
+    assert list(stream.finish()) == [] and list(stream.finish()) == []
+    raised("finished", stream.feed, b"")
+    assert list(p25.items(b"")) == []
+    assert p25.version() == release(), p25.version()
+    for name, value in vars(p25).items():
+        if not name.startswith("_") and getattr(value, "__module__", None) == "p25" and callable(value):
+            assert inspect.getdoc(value), name
+
+
+CODES = {
+    "golay24": p25.GOLAY_24,
+    "golay18": p25.GOLAY_18,
+    "hamming10": p25.HAMMING_10,
+    "lsd16": p25.LSD_16,
+    "rs36_20": p25.RS_36_20,
+    "rs24_12": p25.RS_24_12,
+    "rs24_16": p25.RS_24_16,
+}
+
+
+def read_as(name, received):
+    """Answers what a word is read as, in the form of words.txt."""
+    if name == "bch63":
+        reading = p25.read_nid(int(received, 16) << 1)
+        return reading and (f"{p25.write_nid(*reading[:2]) >> 1:016X}", reading[2])
+    code = CODES[name]
+    if not isinstance(code, p25.SymbolCode):
+        reading = code.read(int(received, 16))
+        assert reading is None or code.write(reading[0] >> (code.n - code.k)) == reading[0]
+        return reading and (f"{reading[0]:0{len(received)}X}", reading[1])
+    reading = code.read(int(received[at : at + 2], 8) for at in range(0, 2 * code.n, 2))
+    assert reading is None or code.write(reading[0][: code.k]) == reading[0]
+    return reading and ("".join(f"{it:02o}" for it in reading[0]), reading[1])
+
+
+def try_words():
+    for line in sys.stdin:
+        name, received = line.split()
+        reading = read_as(name, received)
+        print(name, received, *(("Found", *reading) if reading else ("Beyond",)))
+
+
+def try_codes():
+    """Makes the calls of codes.c that words.txt has not, and what they refuse."""
+    for code in (p25.RS_36_20, p25.RS_24_12, p25.RS_24_16):
+        word = code.write(range(1, code.k + 1))
+        lost = code.n - code.k
+        assert code.read(bytes(lost) + word[lost:], [at < lost for at in range(code.n)]) == (word, lost - word[:lost].count(0))
+        assert code.read(word, [0] * code.n) == code.read(word) == (word, 0)
+        assert code.read(bytes([1]) * lost + bytes(code.k)) is None
+        raised("length", code.read, word[1:])
+        raised("length", code.read, word, [True])
+        raised("length", code.write, word)
+        raised("letters", code.read, [64] + [0] * (code.n - 1))
+        raised("letters", code.read, [64] + [0] * (code.n - 1), [True] + [False] * (code.n - 1))
+        raised("letters", code.write, [64] * code.k)
+    for code in (p25.GOLAY_24, p25.GOLAY_18, p25.HAMMING_10, p25.LSD_16):
+        raised("letters", code.read, 1 << code.n)
+        raised("letters", code.read, -1)
+        raised("letters", code.write, 1 << code.k)
+        raised("letters", code.write, 1 << 32)
+    carried = bytes.fromhex("56C0001234568100089ABCDEF00F1E2D3C4B")
+    for code, sent in (
+        (p25.HALF_RATE, "C4229CAE21AF9052CF092274B022EB0221D83D221EDC29A560"),
+        (p25.THREE_QUARTER_RATE, "EF2F227A148A60275F264EE8892A7EDD0FCF162C3AE5A2A980"),
+    ):
+        octets, bits = carried[: code.length], bytes.fromhex(sent)
+        levels = [(32, 96, -32, -96)[bits[at // 4] >> (6 - 2 * (at % 4)) & 3] for at in range(98)]
+        assert code.write(octets) == bits and code.read(bits) == (octets, 0) and code.read_levels(levels) == (octets, 0)
+        assert code.read(bytes([bits[0] ^ 1]) + bits[1:]) == (octets, 1)
+        assert code.read_levels([levels[0] + 6] + levels[1:]) == (octets, 36)
+        raised("length", code.write, octets[1:])
+        raised("length", code.read, bits[1:])
+        raised("length", code.read_levels, levels[1:])
+        raised("letters", code.read_levels, [128] + levels[1:])
+    assert p25.write_nid(0x293, 5) == 0x293555EF2C653437 and p25.read_nid(0x293555EF2C653437 ^ 0x7FF0) == (0x293, 5, 11)
+    raised("nac", p25.write_nid, 4096, 16)
+    raised("duid", p25.write_nid, 4095, 16)
+    raised("letters", p25.read_nid, 1 << 64)
+    assert (p25.crc9(0, bytes(16)), p25.crc16(b"123456789"), p25.crc32(b"123456789")) == (0x1FF, 0xCE3C, 0x765E7680)
+    raised("serial", p25.crc9, 128, bytes(16))
+    raised("length", p25.crc9, 127, bytes(15))
+
+
+CALLS = {
+    "recording": try_recording,
+    "build": try_build,
+    "fault": try_fault,
+    "words": try_words,
+    "codes": try_codes,
+    "others": try_others,
+}
+
+if __name__ == "__main__":
+    CALLS[sys.argv[1]](*sys.argv[2:])
