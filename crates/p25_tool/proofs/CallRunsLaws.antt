@@ -1,17 +1,18 @@
 -- What a call between a source and a sink leaves, by the events that they went through.
-use Rattle.std.proofs.Common.{◌≡◌, ℕ, ◌≤◌, List, [], ◌∷◌, length, Option, Some, None, refl, ap, sym, subst, ◌∙◌, ◌⊎◌, ◌↔◌}
+use Rattle.std.proofs.Common.{◌≡◌, ℕ, ◌≤◌, false, List, [], ◌∷◌, ◌++◌, length, Option, Some, None, refl, ap, sym, subst, ◌∙◌, ◌⊎◌, ◌↔◌}
 use Rattle.std.specs.Prelude.{IfSome}
 use Rattle.p25_io.specs.Events.{Event, Read, ReadFailed, Wrote, WriteFailed}
 use Rattle.p25_io.specs.Faults.{Rose}
 use Rattle.p25_io.specs.Pairs.{SinkGoes, SourceGoes}
 use Rattle.p25_filter.specs.Futures.{Future}
 use Rattle.p25_filter.specs.Runs.{Filtered, all_written, input_most}
-use Rattle.p25_filter.specs.Traces.{IsRun}
+use Rattle.p25_filter.specs.Traces.{IsFinalAt, IsMemoryAt, IsRun, Phase, Going, Over, Broken, after_all, at_first}
 use Rattle.p25_filter.specs.declared.ending.Ending.{Ending}
 use Rattle.p25_filter.specs.declared.ending.Ending.TheVariants.{Done, Found, BadLine}
 use Rattle.p25_filter.specs.declared.ending.FilterEnd.{FilterEnd}
 use Rattle.p25_filter.specs.declared.ending.FilterEnd.TheVariants.{Ended, ReadFault as EndedReadFault, WriteFault as EndedWriteFault, TooLong, Memory as NoMemory}
 use Rattle.p25_filter.proofs.RunsLaws.{run-filtered, run-read_fault, run-untouched, run-write_fault}
+use Rattle.p25_filter.proofs.LinesLaws.{Contains-none}
 use Rattle.p25_filter.proofs.SameLaws.{IsRun-same}
 use Rattle.p25_stations.specs.declared.step.Event.{Event as StationsEvent}
 use Rattle.p25_fragments.specs.declared.long_step.LongEvent.{LongEvent}
@@ -20,7 +21,7 @@ use Rattle.p25_tool.specs.CallRuns.{AreWrites, IsCallRun, IsCommandRun}
 use Rattle.p25_tool.specs.declared.command.Command.{Command}
 use Rattle.p25_tool.specs.declared.command.Command.TheVariants.{Duplex, Fragments, Sample, Stations}
 use Rattle.p25_tool.specs.declared.outcome.Outcome.{Outcome}
-use Rattle.p25_tool.specs.declared.outcome.Outcome.TheVariants.{Memory, ReadFault, Usage, WriteFault}
+use Rattle.p25_tool.specs.declared.outcome.Outcome.TheVariants.{Done as DoneOutcome, Memory, ReadFault, Usage, WriteFault}
 use Rattle.p25_tool.specs.Outcomes.{ending_outcome, filter_outcome}
 use Rattle.p25_tool.specs.Outputs.{CanWantMemory}
 use Rattle.p25_tool.specs.Runs.{Ran, answer_of, command_future}
@@ -91,6 +92,35 @@ unread-source left faults first last (Read octets ∷ events) goes writes = absu
 unread-source left faults first last (ReadFailed ∷ events) goes writes = absurd writes
 unread-source left faults first last (Wrote piece ∷ events) goes writes = unread-source left faults first last events goes writes
 unread-source left faults first last (WriteFailed piece count ∷ events) goes writes = unread-source left faults first last events goes writes
+
+-- no read fails among writes
+writes-end : (before : List Event) → AreWrites (before ++ ReadFailed ∷ []) → ⊥
+writes-end [] writes = writes
+writes-end (Read octets ∷ before) writes = writes
+writes-end (ReadFailed ∷ before) writes = writes
+writes-end (Wrote piece ∷ before) writes = writes-end before writes
+writes-end (WriteFailed piece count ∷ before) writes = writes-end before writes
+
+-- `sample` ends as Done by any octets, and never for want of memory
+sample-final : (count : ℕ) (phase : Phase) (octets text : List ℕ) (ending : Ending) → IsFinalAt (command_future (Sample count)) phase octets text ending → ending ≡ Done
+sample-final count Going octets text ending final = let same : Some Done ≡ Some ending = final.0 false [] in cc
+sample-final count Over octets text ending final = let same : Some Done ≡ Some ending = final.0 in cc
+sample-final count Broken octets text ending final = absurd final
+
+sample-memory : (count : ℕ) (phase : Phase) (octets text : List ℕ) → IsMemoryAt (command_future (Sample count)) phase octets text → ⊥
+sample-memory count Going octets text wants = Contains-none text wants
+sample-memory count Over octets text wants = Contains-none text wants
+sample-memory count Broken octets text wants = wants
+
+-- so it ends as Done where no write fails
+sample-done : (count : ℕ) (events : List Event) (end : FilterEnd) → IsRun (command_future (Sample count)) events end → AreWrites events → (end ≡ EndedWriteFault → ⊥) → filter_outcome end ≡ DoneOutcome
+sample-done count events (Ended ending) run writes no_fault =
+    let at = after_all at_first events in
+    ap ending_outcome (sample-final count at.phase at.octets at.text ending run.ends)
+sample-done count events EndedReadFault run writes no_fault = absurd (writes-end run.ends.0 (subst AreWrites run.ends.1 writes))
+sample-done count events EndedWriteFault run writes no_fault = absurd (no_fault refl)
+sample-done count events TooLong run writes no_fault = let none : Some Done ≡ None = run.ends.ends in absurd (cc)
+sample-done count events NoMemory run writes no_fault = let at = after_all at_first events in absurd (sample-memory count at.phase at.octets at.text run.ends)
 
 -- the run of the command that the words name
 pub named-run : (named : Option Command) (command : Command) (events : List Event) (outcome : Outcome) → named ≡ Some command → IsCallRun named events outcome
@@ -171,6 +201,15 @@ module _ {S K : Type 0} (left : S → Option (List ℕ)) (source_faults : S → 
       → (outcome ≡ answer_of command input) ⊎ ((outcome ≡ Memory) × CanWantMemory command)
   call-complete named call command input same told no_read no_write =
       command-complete command (named-run named command events outcome same call) input told no_read no_write
+
+  -- `sample` is done where no write fails, whatever the source is
+  pub call-sampled : (named : Option Command) → IsCallRun named events outcome → (count : ℕ) → named ≡ Some (Sample count) → (Rose (sink_faults sink) (sink_faults sink_now) → ⊥)
+      → outcome ≡ DoneOutcome
+  call-sampled named call count same no_write =
+      let run = named-run named (Sample count) events outcome same call in
+      run.outcome_is
+      ∙ sample-done count events run.end run.run (run.unread count refl)
+      (λ is. no_write (run-write_fault left source_faults written sink_faults source source_now sink sink_now (command_future (Sample count)) events run.end run.run wrote is))
 
   pub call-stations : (named : Option Command) → IsCallRun named events outcome → (input : List ℕ) (script : List StationsEvent) → named ≡ Some Stations → left source ≡ Some input
       → IsScriptOf input script → (Rose (source_faults source) (source_faults source_now) → ⊥) → (Rose (sink_faults sink) (sink_faults sink_now) → ⊥)

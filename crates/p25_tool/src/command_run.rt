@@ -43,7 +43,7 @@ use std::alloc::Global;
 /// fault or an input that is too long the sink holds what the octets before decide, in whole octets and without a last line
 /// of a check; after a refused line what the lines before ask for; and after a write fault a beginning of the output.
 ///
-/// `sample` reads nothing, and ends as `Done` or `WriteFault`.
+/// `sample` reads nothing, and ends as `Done`, or as `WriteFault` where a write failed; the source has no part in that.
 ///
 /// `stations`, `fragments` and `duplex` alone take memory, for each line that is accepted, before its step is made. Where there
 /// is not enough the outcome is `Memory`, and the sink holds the steps before, without the closing line.
@@ -69,6 +69,8 @@ pub fn run<S: Source, K: Sink>(
     ensures complete { (command : Command) (input : List ℕ) → command_of words.now ≡ Some command → S.left source.old ≡ Some input
         → ¬ Rose (S.faults source.old) (S.faults source.new) → ¬ Rose (K.faults sink.old) (K.faults sink.new)
         → (result ≡ answer_of command input) ⊎ ((result ≡ Outcome.Memory) × CanWantMemory command) }
+    ensures sampled { (count : ℕ) → command_of words.now ≡ Some (Command.Sample count) → ¬ Rose (K.faults sink.old) (K.faults sink.new)
+        → result ≡ Outcome.Done }
 
     // What comes of a script of the stations.
     ensures stations { (input : List ℕ) (events : List event_type) → command_of words.now ≡ Some Command.Stations → S.left source.old ≡ Some input

@@ -1,5 +1,5 @@
 use Rattle.p25_filter.proofs.RunsLaws.{SinkGoes-later, SourceGoes-later}
-use Rattle.p25_tool.proofs.CallRunsLaws.{call-complete, call-duplex, call-fragments, call-memory, call-quiet, call-ran, call-read_fault, call-recorded, call-stations, call-unread, call-untouched, call-usage, call-write_fault}
+use Rattle.p25_tool.proofs.CallRunsLaws.{call-complete, call-duplex, call-fragments, call-memory, call-quiet, call-ran, call-read_fault, call-recorded, call-sampled, call-stations, call-unread, call-untouched, call-usage, call-write_fault}
 use Rattle.p25_tool.proofs.command_run.run.Goals as goal
 
 pub returns-clause-usage : goal.returns-clause-usage
@@ -29,6 +29,11 @@ pub returns-clause-complete : goal.returns-clause-complete
 returns-clause-complete g c =
     let went = c.run_between.ensures in
     call-complete g.S.Source.left g.S.Source.faults g.K.Sink.written g.K.Sink.faults _ _ _ _ went.0 c.run_between.result went.1 went.2 _ went.3
+
+pub returns-clause-sampled : goal.returns-clause-sampled
+returns-clause-sampled g c =
+    let went = c.run_between.ensures in
+    call-sampled g.S.Source.left g.S.Source.faults g.K.Sink.written g.K.Sink.faults _ _ _ _ went.0 c.run_between.result went.1 went.2 _ went.3
 
 pub returns-clause-stations : goal.returns-clause-stations
 returns-clause-stations g c =
