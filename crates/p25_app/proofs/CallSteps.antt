@@ -1,7 +1,11 @@
--- The end of a line, by whether there is a line.
-use Rattle.std.proofs.Common.{false, ◌==◌, ◌≡◌, ℕ, ◌<◌, List, [], ◌∷◌, ◌++◌, length, drop, map, Option, Some, None, refl, ap, sym, ◌∙◌, arith}
-use Rattle.std.specs.Option.{option_to_list}
-use Rattle.p25_app.specs.Calls.{with_end}
+-- The end of a line, by whether there is a line; and what was told, by whether the write failed.
+use Rattle.std.proofs.Common.{false, ◌==◌, ◌≡◌, ℕ, ◌<◌, List, [], ◌∷◌, ◌++◌, length, Option, Result, Ok, Err, refl, sym, subst, arith}
+use Rattle.std.specs.Prelude.{OnOk, OnErr}
+use Rattle.std.proofs.lemmas.List.{take_all}
+use Rattle.p25_io.specs.Faults.{HasCause}
+use Rattle.p25_io.specs.Octets.{Appended, AppendedFront}
+use Rattle.p25_io.specs.declared.failed.Failed.{Failed}
+use Rattle.p25_app.specs.Calls.{IsTold, with_end}
 
 -- a line gets its LF
 pub with_end-some : (line : List ℕ) → 0 < length line → with_end line ≡ line ++ 10 ∷ []
@@ -18,14 +22,21 @@ pub none_of : {X : Type 0} (len : ℕ) (items : List X) → len ≡ length items
 none_of len [] long none = refl
 none_of len (item ∷ items) long none = absurd (omega arith)
 
--- what is left after the first of some items, each shown as octets
-pub dropped_first : {X : Type 0} (shows : X → List ℕ) (first : Option X) (old new : List X) → old ≡ option_to_list first ++ new → (first ≡ None → old ≡ []) → map shows new ≡ drop 1 (map shows old)
-dropped_first shows (Some x) old new is none = sym (ap (λ (xs : List _). drop 1 (map shows xs)) is)
-dropped_first shows None old new is none =
-    let empty = none refl in
-    ap (map shows) (sym is ∙ empty) ∙ sym (ap (λ (xs : List _). drop 1 (map shows xs)) empty)
-
 -- a list with an element, as a test of its length tells
 pub filled : (octets : List ℕ) → false ≡ (length octets == 0) → 0 < length octets
 filled [] tested = absurd (cc)
 filled (octet ∷ octets) tested = omega arith
+
+-- a write of a text tells it, or a beginning of it where the write failed
+pub told : {T : Type 0} (before after : Option (List ℕ)) (faults later : ℕ) (piece text : List ℕ) (result : Result T Failed) → piece ≡ text
+    → OnOk result (Appended before piece after) → OnErr result (AppendedFront before piece after) → HasCause faults later result → IsTold before after faults later text
+told before after faults later piece text (Ok value) same ok err cause =
+    let wrote : Appended before text after = subst (λ (octets : List ℕ). Appended before octets after) same ok in
+    record {
+      front = record { count = length text; front = subst (λ (octets : List ℕ). Appended before octets after) (sym (take_all (length text) text (omega arith))) wrote };
+      whole = λ none. wrote;
+    }
+told before after faults later piece text (Err failed) same ok err cause = record {
+  front = subst (λ (octets : List ℕ). AppendedFront before octets after) same err;
+  whole = λ none. absurd (none cause.failed);
+}

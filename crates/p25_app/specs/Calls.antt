@@ -1,13 +1,40 @@
--- What the program makes of its arguments and of the outcome of a call.
-use Rattle.std.specs.Prelude.{ℕ, List, [], ◌∷◌, ◌++◌, drop}
+-- One call of the program: the words among its arguments, the run of these words, the line of its outcome and its status.
+use Rattle.std.specs.Prelude.{◌≡◌, ℕ, List, [], ◌∷◌, ◌++◌, codes, drop, map, string_bytes, Option, Some, None, Result, Ok, Err}
 use Rattle.std.specs.List.{fold}
+use Rattle.std.specs.Vec.Iter.{into_iter_items}
+use Rattle.std.specs.declared.vec.IntoIter.{IntoIter}
+use Rattle.std.specs.declared.string.String.{String}
+use Rattle.std.specs.declared.io.Error.{Error}
+use Rattle.std.specs.declared.io.ErrorKind.{ErrorKind}
+use Rattle.std.specs.declared.io.ErrorKind.TheVariants.{OutOfMemory}
+use Rattle.std.specs.IoError.{error_kind}
+use Rattle.p25_io.specs.Events.{Event}
+use Rattle.p25_io.specs.Faults.{Rose}
+use Rattle.p25_io.specs.Octets.{Appended, AppendedFront}
 use Rattle.p25_tool.specs.declared.outcome.Outcome.{Outcome}
-use Rattle.p25_tool.specs.Outcomes.{line_of}
-use Rattle.p25_tool.specs.Words.{added}
+use Rattle.p25_tool.specs.declared.outcome.Outcome.TheVariants.{Memory}
+use Rattle.p25_tool.specs.CallRuns.{IsCallRun}
+use Rattle.p25_tool.specs.Outcomes.{line_of, status_of}
+use Rattle.p25_tool.specs.Words.{added, command_of}
 
 -- the words of a call: its arguments one after another, but for the first, which is the program's own name
 abbrev pub call_words : List (List ℕ) → List (List ℕ)
 call_words arguments = fold added [] (drop 1 arguments)
+
+-- the words where the arguments were not given: none where there was not enough memory for them, and else one that names no command
+abbrev pub words_without : ErrorKind → Option (List (List ℕ))
+words_without OutOfMemory = None
+words_without kind = Some (codes "?" ∷ [])
+
+-- the words of a call, by what was given as its arguments
+abbrev pub words_given : {Z : Type 0} → Result (IntoIter (String Z) Z) Error → Option (List (List ℕ))
+words_given (Ok arguments) = Some (call_words (map string_bytes (into_iter_items arguments)))
+words_given (Err error) = words_without (error_kind error)
+
+-- the events of a call, and its outcome: those of its words, or none where there was not enough memory for them
+abbrev pub IsRunOf : Option (List (List ℕ)) → List Event → Outcome → Type 0
+IsRunOf None events outcome = (events ≡ []) × (outcome ≡ Memory)
+IsRunOf (Some words) events outcome = IsCallRun (command_of words) events outcome
 
 -- a line and its LF; where there is no line, nothing
 abbrev pub with_end : List ℕ → List ℕ
@@ -17,3 +44,17 @@ with_end (octet ∷ octets) = (octet ∷ octets) ++ 10 ∷ []
 -- what stands on standard error after a call
 unfoldable pub error_text : Outcome → List ℕ
 error_text outcome = with_end (line_of outcome)
+
+-- a text was written to a sink, or a beginning of it where the sink's count of faults rose
+pub record IsTold (before after : Option (List ℕ)) (faults faults_after : ℕ) (text : List ℕ) : Type 0 where
+  pub front : AppendedFront before text after
+  pub whole : (Rose faults faults_after → ⊥) → Appended before text after
+
+-- one call of the program, by its words: the events of one run of them, the line of its outcome, which is told on the sink of
+-- errors, and its status
+pub record IsOneCall (words : Option (List (List ℕ))) (events : List Event) (before after : Option (List ℕ)) (faults faults_after status : ℕ)
+    : Type 0 where
+  pub outcome : Outcome
+  pub run : IsRunOf words events outcome
+  pub told : IsTold before after faults faults_after (error_text outcome)
+  pub status_is : status ≡ status_of outcome

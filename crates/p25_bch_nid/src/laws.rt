@@ -32,7 +32,7 @@ pub fn reading_laws()
     ensures first { (a b : List Bool) → take 63 a ≡ take 63 b → nid_reading_of a ≡ nid_reading_of b }
 {}
 
-/// **Theorem.** The data unit identifiers are those of the standard, as numbers.
+/// **Theorem.** The data unit identifiers as numbers.
 pub fn identifiers()
     ensures hdu { HDU ≡ 0 }
     ensures tdu { TDU ≡ 3 }

@@ -43,8 +43,8 @@ pub fn packet_radius()
     three_quarter_rate_near();
 }
 
-/// **Theorem.** The formats of packets are those of the standard, and the header block and the blocks to follow stand where its
-/// places say.
+/// **Theorem.** The formats of packets as numbers, and the places of the header block and of the blocks to follow: those of the
+/// definitions.
 pub fn numbers()
     ensures confirmed { CONFIRMED_FORMAT ≡ 0x16 }
     ensures plain { PLAIN_FORMAT ≡ 0x15 }

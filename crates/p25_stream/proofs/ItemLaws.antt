@@ -20,7 +20,7 @@ use Rattle.p25_units.proofs.WholeLaws.{whole-near}
 use Rattle.p25_units.proofs.WithinRadiusLaws.{has_sync-near, need_of-near, unit_item_of-near, IsWithinRadius-image_of, received-image_of}
 use Rattle.p25_status.proofs.SyncLaws.{has_sync-length}
 use Rattle.p25_stream.specs.Items.{sync_place, first_item, items_by, items_of}
-use Rattle.p25_stream.specs.ItemLaws.{NearIsWhole, WholeIsWithin, ImageIsWhole}
+use Rattle.p25_stream.specs.ItemLaws.{NearIsWhole, WholeIsRead, ImageIsWhole}
 use Rattle.p25_stream.proofs.SyncPlaceLaws.{sync_place-left, sync_place-unsynced}
 use Rattle.p25_stream.proofs.ItemsLaws.{covered-first_item, place_of-first_item, IsSoundItem-first_item, first_item-cases, gap-first, items_by-nil, items_by-more, items_by-first, first_item-synced, is_decided-synced}
 
@@ -109,7 +109,7 @@ near-whole at frame sent more sound sendable near =
     )
 
 -- a first item that is whole is the item of a unit, so its bits read as its frame
-pub whole-within : WholeIsWithin
+pub whole-within : WholeIsRead
 whole-within at bits place frame fixes first =
     first_item-cases (λ item. item ≡ Whole place frame fixes → IsWholeOf at (take (frame_length_of frame.unit) bits) place frame fixes) at bits
     (λ no' e. absurd (cc))

@@ -77,8 +77,8 @@ NearIsWhole =
     × (covered (first_item at (sent ++ more)) ≡ length sent)
 
 -- the first item is a whole unit only where the bits that it covers read as its frame, those of its front within radius
-abbrev pub WholeIsWithin : Type 0
-WholeIsWithin =
+abbrev pub WholeIsRead : Type 0
+WholeIsRead =
     (at : ℕ) (bits : List Bool) (place : ℕ) (frame : Frame) (fixes : ℕ) → first_item at bits ≡ Whole place frame fixes
     → IsWholeOf at (take (frame_length_of frame.unit) bits) place frame fixes
 

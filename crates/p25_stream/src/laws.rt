@@ -1,7 +1,7 @@
 //! The laws of a stream's items.
 
 ghost use Rattle.p25_stream.specs.Arrivals.{UnitIsFound, UnitsAreWhole};
-ghost use Rattle.p25_stream.specs.ItemLaws.{DecidedStay, FirstStays, GapsAreFull, GaveItems, ImageIsWhole, ItemsAreSound, ItemsCoverAll, ItemsLieEndToEnd, ItemsUnfold, NearIsWhole, SentTerminatorIsRead, SyncPlaceIsLeast, TerminatorIsRead, TerminatorIsThere, WholeIsWithin};
+ghost use Rattle.p25_stream.specs.ItemLaws.{DecidedStay, FirstStays, GapsAreFull, GaveItems, ImageIsWhole, ItemsAreSound, ItemsCoverAll, ItemsLieEndToEnd, ItemsUnfold, NearIsWhole, SentTerminatorIsRead, SyncPlaceIsLeast, TerminatorIsRead, TerminatorIsThere, WholeIsRead};
 
 /// **Theorem.** The laws of the items of a stream, over all bits.
 ///
@@ -29,7 +29,7 @@ pub fn item_laws()
     ensures first_stays { FirstStays }
     ensures decided_stay { DecidedStay }
     ensures near { NearIsWhole }
-    ensures whole { WholeIsWithin }
+    ensures whole { WholeIsRead }
     ensures undamaged { ImageIsWhole }
     ensures terminator { TerminatorIsRead }
     ensures terminator_is_there { TerminatorIsThere }

@@ -49,7 +49,8 @@ pub fn need_laws()
 /// - `whole_is_read`: a unit at a sync is `Whole` only where its bits read as its frame: those of its front and of its voice
 ///   words lie within radius, and of a packet the first nearest paths carry it, with all its checks.
 pub fn unit_laws()
-    ensures form { (frame : Frame) (sent : List Bool) → IsSoundFrame frame → IsSendableUnit frame.unit → IsImage frame sent ↔ (sent ≡ image_of frame) }
+    ensures form { (frame : Frame) (sent : List Bool) → IsSoundFrame frame → IsSendableUnit frame.unit
+        → IsImage frame sent ↔ (sent ≡ image_of frame) }
     ensures length { (frame : Frame) (sent more : List Bool) → IsSoundFrame frame → IsSendableUnit frame.unit → IsWithinRadius frame sent
         → need_of (sent ++ more) ≡ Length (length sent) }
     ensures near { (frame : Frame) (sent : List Bool) → IsSoundFrame frame → IsSendableUnit frame.unit → IsWithinRadius frame sent

@@ -120,12 +120,15 @@ fn a_recording_is_cut_off_behind_each_octet(rt: HostRuntime) {
     }
 }
 
+// A line that is taken, and one with a value that is refused.
+const REFUSED_SECOND_LINE: &[u8] = b"tdu nac=000\nhdu nac=000 mi=0 mfid=00 algid=00 kid=0000 tgid=0000\n";
+
 // What the lines before a refused one ask for is written first.
 #[test]
 fn a_write_fault_comes_before_a_refused_line(rt: HostRuntime) {
     let call = Call {
         failing_write: 1,
-        ..calm(&[b"build", b"1"], b"tdu nac=000\nfoo\n", 4_096)
+        ..calm(&[b"build", b"1"], REFUSED_SECOND_LINE, 4_096)
     };
     assert!(rt; ends(rt.alloc(), &call, Outcome::WriteFault, b""));
 }

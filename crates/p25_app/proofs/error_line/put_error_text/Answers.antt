@@ -2,7 +2,7 @@ use Rattle.std.proofs.Common.{◌≡◌, ℕ, ◌<◌, List, length, ap, sym, su
 use Rattle.std.proofs.lemmas.Bool.{eqb-true}
 use Rattle.p25_app.specs.Calls.{error_text, with_end}
 use Rattle.p25_app.proofs.CallSteps.{with_end-some, with_end-none, filled}
-use Rattle.p25_app.proofs.put_error_text.Goals as goal
+use Rattle.p25_app.proofs.error_line.put_error_text.Goals as goal
 
 pub returns-then-not-is_empty : goal.returns-then-not-is_empty
 unfolding error_text
