@@ -12,3 +12,5 @@ pub mod ApartLaws
 pub mod ExactSteps
 pub mod NearSteps
 pub mod NearestBlockLaws
+pub mod NibbleSteps
+pub mod GroupSteps

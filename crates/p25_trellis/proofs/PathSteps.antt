@@ -50,12 +50,6 @@ octet_left width i taken waiting most early count few whole =
     let more : i + 1 ≤ 48 = omega arith in
     omega (arith, count_more width i, mul-le-mul_left width more)
 
--- an octet is free where eight bits wait
-pub octet_free : (width i written waiting most : ℕ) → i < 48 → 8 * written + waiting ≡ width * i + width → 8 ≤ waiting → 48 * width ≡ 8 * most → written < most
-octet_free width i written waiting most early count many whole =
-    let more : i + 1 ≤ 48 = omega arith in
-    omega (arith, count_more width i, mul-le-mul_left width more)
-
 -- where all bits are out none waits
 pub none_wait : (queue : List Bool) (written most : ℕ) → 8 * written + length queue ≡ 8 * most → length queue < 8 → (queue ≡ []) × (written ≡ most)
 none_wait [] written most count short = (refl, omega arith)

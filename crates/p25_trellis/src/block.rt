@@ -10,6 +10,7 @@ ghost use Rattle.p25_trellis.specs.Nearest.{nearest_octets, nearest_distance, bl
 use super::exact::path_along;
 use super::interleave::{gather, spread};
 use super::near::{near_path, near_rests};
+use super::nibbles::take_nibbles;
 use super::path::{nibbles_of, octets_of, path_of};
 use super::rate::Rate;
 use p25_bits::BitBuf;
@@ -40,9 +41,7 @@ pub fn read_block<R: Rate>(bits: &BitBuf, at: usize, octets: &mut [u8]) -> u32
     ensures distance { result ≡ nearest_distance R.STATES R.point_of (part at 196 bits.now) }
     ensures near { IsNearReading R.STATES R.BITS_PER_SYMBOL R.point_of R.APART (part at 196 bits.now) octets.new result }
 {
-    let mut received = [0; 49];
-    bits.take_numbers(at, 4, &mut received);
-    read_nibbles::<R>(&gather(&received), octets)
+    read_nibbles::<R>(&gather(&take_nibbles(bits, at)), octets)
 }
 
 // Reads a block by the nibbles that were received, as they are before they are interleaved. Mostly they are those of a path: then

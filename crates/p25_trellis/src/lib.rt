@@ -27,6 +27,7 @@ mod interleave;
 pub mod laws;
 mod least;
 mod near;
+mod nibbles;
 mod path;
 mod queue;
 mod rate;

@@ -14,3 +14,4 @@ pub mod UnitPlaceLaws
 pub mod FixingLaws
 pub mod ItemSteps
 pub mod PacketNeedLaws
+pub mod PacketItemLaws

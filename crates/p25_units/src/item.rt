@@ -10,9 +10,9 @@ ghost use Rattle.p25_units.specs.declared.needs.Need.TheVariants.{Length};
 ghost use Rattle.p25_units.specs.Readings.{reading_from};
 
 use crate::begun::Begun;
-use crate::fixing::{coded_fixes, fixes};
+use crate::fixing::coded_fixes;
 use crate::frame::{Frame, frame_length};
-use crate::read::read_identified;
+use crate::packets::read_packet_body;
 use crate::unit::{Body, Unit};
 use p25_bch_nid::{Nid, PDU};
 use p25_bits::BitBuf;
@@ -155,7 +155,7 @@ pub fn set_unit_item(
         }
         Some(nid) => {
             if nid.duid == PDU {
-                set_packet_item(bits, at, count, &nid, &mut begun, place, item);
+                set_packet_item(bits, at, count, &nid, &mut begun, place, room, item);
             } else {
                 set_voice_item(bits, at, count, &nid, place, room, item);
             }
@@ -199,43 +199,31 @@ fn set_packet_item(
     nid: &Nid,
     begun: &mut Begun,
     place: u64,
+    room: &mut BitBuf,
     item: &mut Item,
 )
     requires there { at ≤ length bits.now }
     requires kind { kind_need nid.now.duid (drop at bits.now) ≡ Length count }
+    requires packet { nid.now.duid ≡ 0xC }
     requires begun { IsBegun begun.old (drop at bits.now) }
     ensures { item.new ≡ item_from place (nid.now.nac, nid.now.duid) (part at count bits.now)
         (reading_from (Some (nid.now.nac, nid.now.duid)) (part at count bits.now)) }
 {
-    *item = packet_item(bits, at, count, nid, begun, place);
-}
-
-// The item of a packet whose identifier was read.
-fn packet_item(
-    bits: &BitBuf,
-    at: usize,
-    count: usize,
-    nid: &Nid,
-    begun: &mut Begun,
-    place: u64,
-) -> Item
-    requires there { at ≤ length bits.now }
-    requires kind { kind_need nid.now.duid (drop at bits.now) ≡ Length count }
-    requires begun { IsBegun begun.old (drop at bits.now) }
-    ensures { result ≡ item_from place (nid.now.nac, nid.now.duid) (part at count bits.now)
-        (reading_from (Some (nid.now.nac, nid.now.duid)) (part at count bits.now)) }
-{
-    match read_identified(bits, at, count, nid, begun) {
-        Ok(frame) => {
-            let fixes = fixes(bits, at, &frame);
-            Item::Whole {
-                place,
-                frame,
-                fixes,
-            }
-        }
+    let mut statuses = Statuses::new();
+    unweave(bits, at, count, room, &mut statuses);
+    let head = begun.read_head(bits, at);
+    let mut body_fixes = 0;
+    *item = match read_packet_body(head, room, &mut body_fixes) {
+        Ok(body) => Item::Whole {
+            place,
+            frame: Frame {
+                unit: Unit::new(nid.nac, body),
+                statuses,
+            },
+            fixes: front_fixes(bits, at, nid) + body_fixes,
+        },
         Err(fields) => broken_item(place, count, nid, fields),
-    }
+    };
 }
 
 // The item of a unit some fields of which fail.

@@ -1,26 +1,31 @@
 //! Packets as what units carry.
 
-ghost use Rattle.std.specs.Prelude.{◌≡◌, ◌+◌, ◌<◌, ◌≤◌, [], ◌∷◌, ◌++◌, length};
+ghost use Rattle.std.specs.Prelude.{◌≡◌, ℕ, ◌+◌, ◌<◌, ◌≤◌, [], ◌∷◌, ◌++◌, length, Ok};
 ghost use Rattle.p25_packet_blocks.specs.Reading.{head_reading_of, packet_reading_of, HasItsLength};
+ghost use Rattle.p25_units.specs.Fixes.{body_fixes_of};
+ghost use Rattle.p25_units.specs.declared.unit.Body.{Body as body_type};
 ghost use Rattle.p25_units.specs.Readings.{failing_blocks_of, failing_slot, failing_slots_of, packet_body_from, whole_from};
 
 use crate::unit::Body;
 use p25_bits::BitBuf;
-use p25_packet_blocks::{Packet, PacketHead, Slot, Slots, read_packet_of_head};
+use p25_packet_blocks::{Packet, PacketHead, Slot, Slots, read_packet_and_fixes};
 use p25_status::{Field, FieldList};
 
-// The packet of a unit without status symbols, by its header that was read or fails.
+// The packet of a unit without status symbols, by its header that was read or fails. Sets `fixes`, where a packet is answered, to
+// the number of wrong bits of its blocks.
 pub(crate) fn read_packet_body(
     head: Result<PacketHead, Field>,
     plain: &BitBuf,
+    fixes: &mut u32,
 ) -> Result<Body, FieldList>
     requires head { head ≡ head_reading_of plain.now }
     requires there { HasItsLength plain.now }
-    ensures { result ≡ packet_body_from (packet_reading_of plain.now) }
+    ensures body { result ≡ packet_body_from (packet_reading_of plain.now) }
+    ensures fixes { (nac : ℕ) (body : body_type) → result ≡ Ok body → fixes.new ≡ body_fixes_of (record { nac = nac; body = body }) plain.now }
 {
     match head {
         Err(field) => Err(FieldList::one(field)),
-        Ok(head) => packet_body(read_packet_of_head(head, plain)),
+        Ok(head) => packet_body(read_packet_and_fixes(head, plain, fixes)),
     }
 }
 

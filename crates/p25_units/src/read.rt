@@ -82,7 +82,7 @@ fn read_body(
     unweave(bits, at, count, &mut plain, statuses);
     if duid == PDU {
         let head = begun.read_head(bits, at);
-        return read_packet_body(head, &plain);
+        return read_packet_body(head, &plain, &mut 0);
     }
     read_voice_body(duid, &plain)
 }

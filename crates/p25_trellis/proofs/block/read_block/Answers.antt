@@ -16,12 +16,12 @@ pub read_nibbles-requires-clause-nibbles : goal.read_nibbles-requires-clause-nib
 read_nibbles-requires-clause-nibbles g c =
     let P : ℕ → Type 0 = λ n. n < 16 in
     All-from_interleaved P c.gather.result
-    (All-same P (interleaved c.gather.result) (numbers_from 4 49 (drop c.args.at c.args.bits.now)) (c.gather.ensures.sent ∙ c.take_numbers.ensures) (All-numbers_from 4 49 (drop c.args.at c.args.bits.now)))
+    (All-same P (interleaved c.gather.result) (numbers_from 4 49 (drop c.args.at c.args.bits.now)) (c.gather.ensures.sent ∙ c.take_nibbles.ensures.value) (All-numbers_from 4 49 (drop c.args.at c.args.bits.now)))
 
 pub returns-clause-nearest : goal.returns-clause-nearest
 returns-clause-nearest g c =
     let there : 4 * 49 ≤ length (drop c.args.at c.args.bits.now) = omega (arith, length-drop c.args.at c.args.bits.now, c.requires.there) in
-    let are = sym (number_bits-numbers_from 4 49 (drop c.args.at c.args.bits.now) there) ∙ ap (number_bits 4) (sym c.take_numbers.ensures ∙ sym c.gather.ensures.sent) in
+    let are = sym (number_bits-numbers_from 4 49 (drop c.args.at c.args.bits.now) there) ∙ ap (number_bits 4) (sym c.take_nibbles.ensures.value ∙ sym c.gather.ensures.sent) in
     subst (λ (bits : List Bool). IsFirstLeastReading g.R.Rate.STATES g.R.Rate.BITS_PER_SYMBOL (distance_from g.R.Rate.point_of bits) c.read_nibbles.new.octets c.read_nibbles.result)
     (sym are) c.read_nibbles.ensures
 

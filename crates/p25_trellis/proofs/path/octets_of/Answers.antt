@@ -1,75 +1,65 @@
-use Rattle.std.proofs.Common.{◌≡◌, ℕ, ◌+◌, ◌*◌, ◌<◌, ◌≤◌, ◌++◌, [], ◌∷◌, List, Bool, length, take, get_or, refl, sym, ap, ap₂, ◌∙◌, arith, append-nil}
-use Rattle.std.proofs.Math.Nat.{mul-zero}
-use Rattle.std.proofs.lemmas.List.{take_all, take_more_set}
-use Rattle.std.proofs.lemmas.List.Elements.{All-nil, All-push, All-same}
-use Rattle.p25_bits.specs.Bits.{bits_of}
+use Rattle.std.proofs.Common.{◌≡◌, ℕ, ◌+◌, ◌-◌, ◌*◌, ◌<◌, ◌≤◌, [], length, take, drop, ap, sym, ◌∙◌, arith}
+use Rattle.std.proofs.Math.Nat.{mul-zero, mul_comm, mul-le-mul_left}
+use Rattle.std.proofs.lemmas.List.{take_all}
+use Rattle.std.proofs.lemmas.List.Elements.{All-nil, All-same}
+use borrow.Rule.Slice.PartMut.{mid_of}
+use Rattle.p25_bits.specs.Bits.{bits_of, part}
 use Rattle.p25_bits.specs.Numbers.{number_bits}
 use Rattle.p25_bits.proofs.NumbersLaws.{number_bits-nil, number_bits-octets}
-use Rattle.p25_trellis.proofs.PathSteps.{goes_in, comes_out, count_more, octet_free, none_wait}
+use Rattle.p25_bits.proofs.PartLaws.{length-part}
+use Rattle.p25_trellis.proofs.GroupSteps.{groups_more, groups_more-All}
+use Rattle.p25_trellis.proofs.PathSteps.{count_more}
 use Rattle.p25_trellis.proofs.path.octets_of.Goals as goal
-use Rattle.p25_trellis.proofs.path.octets_of.Goals.{then-len-ge8, else-len-ge8}
 
-pub loop-i-init : goal.loop-i-init
-loop-i-init g c = record {
-  bits = ap₂ (λ (xs ys : List Bool). xs ++ ys) (number_bits-nil 8) c.new-queue.ensures ∙ sym (number_bits-nil g.R.Rate.BITS_PER_SYMBOL);
-  count = omega (arith, mul-zero g.R.Rate.BITS_PER_SYMBOL, ap length c.new-queue.ensures);
-  short = omega (arith, ap length c.new-queue.ensures);
-  small = All-nil (λ (octet : ℕ). octet < 256);
-}
-
-pub loop-i-preserved : goal.loop-i-preserved
-loop-i-preserved g c =
+pub loop-g-init : goal.loop-g-init
+loop-g-init g c =
     let width = g.R.Rate.BITS_PER_SYMBOL in
-    let i = c.loop-i.i in
+    let octets = c.args.octets.now in record {
+      bits = ap (λ n. number_bits 8 (take n octets)) (mul-zero width) ∙ number_bits-nil 8 ∙ sym (number_bits-nil width);
+      small = All-same (λ (n : ℕ). n < 256) (take (width * 0) octets) [] (ap (λ n. take n octets) (mul-zero width)) (All-nil (λ (n : ℕ). n < 256));
+    }
+
+pub loop-g-preserved : goal.loop-g-preserved
+loop-g-preserved g c =
+    let width = g.R.Rate.BITS_PER_SYMBOL in
+    let step = c.loop-g.g in
+    let size = c.BITS_PER_SYMBOL-size.result in
+    let same : size ≡ width = c.BITS_PER_SYMBOL-size.ensures in
     let path = c.args.path.now in
-    let octets = c.loop-i.octets in
-    let written = c.loop-i.written in
-    let inside : i < length path = omega (arith, c.requires.path.long) in
-    let is = c.BITS_PER_SYMBOL.ensures in
-    let grown : 8 * written + length c.push.new.self ≡ width * i + width = omega (arith, c.loop-i.invariant.count, c.push.ensures.len, is) in
-    let bits : number_bits 8 (take written octets) ++ c.push.new.self ≡ number_bits width (take (i + 1) path)
-    = goes_in (number_bits 8 (take written octets)) c.loop-i.queue c.push.new.self width path i (get_or path i 0) inside refl (c.push.ensures.list ∙ ap (λ n. c.loop-i.queue ++ bits_of n (get_or path i 0)) is) c.loop-i.invariant.bits in
-    elim c.if-len-ge8.branch [
-      | then-len-ge8 w ↦
-          let many : 8 ≤ length c.push.new.self = omega (arith, w.if-len-ge8.true, c.len.ensures) in
-          let free : written < length octets
-          = omega (arith, octet_free width i written (length c.push.new.self) g.R.Rate.OCTETS c.loop-i-test.true grown many g.met.R.Rate.octets_of_bits, c.loop-i.auto.octets, c.requires.octets) in
-          let left : length c.if-len-ge8.queue + 8 ≡ length c.push.new.self = ap (λ (queue : List Bool). length queue + 8) w.queue-is ∙ w.pop.ensures.len in
-          let octet = w.pop.result in record {
-            bits
-                = ap₂ (λ (xs : List ℕ) (ys : List Bool). number_bits 8 xs ++ ys) (ap₂ (λ n (xs : List ℕ). take n xs) w.written-is w.octets-is) w.queue-is
-                ∙ comes_out c.push.new.self w.pop.new.self 8 octets written octet free many w.pop.ensures.value w.pop.ensures.list
-                ∙ bits;
-            count = omega (arith, grown, left, w.written-is, count_more width i);
-            short = omega (arith, c.loop-i.invariant.short, c.push.ensures.len, is, left, g.met.R.Rate.few_bits);
-            small
-                = All-same (λ (n : ℕ). n < 256) (take c.if-len-ge8.written c.if-len-ge8.octets) (take written octets ++ octet ∷ []) (ap₂ (λ n (xs : List ℕ). take n xs) w.written-is w.octets-is ∙ take_more_set octets written octet free)
-                (All-push (λ (n : ℕ). n < 256) (take written octets) octet c.loop-i.invariant.small w.pop.ensures.fits);
-          }
-      | else-len-ge8 w ↦
-          let same : length c.if-len-ge8.queue ≡ length c.push.new.self = ap length w.queue-is in record {
-            bits = ap₂ (λ (xs : List ℕ) (ys : List Bool). number_bits 8 xs ++ ys) (ap₂ (λ n (xs : List ℕ). take n xs) w.written-is w.octets-is) w.queue-is ∙ bits;
-            count = omega (arith, grown, same, w.written-is, count_more width i);
-            short = omega (arith, w.if-len-ge8.false, c.len.ensures, same);
-            small = All-same (λ (n : ℕ). n < 256) (take c.if-len-ge8.written c.if-len-ge8.octets) (take written octets) (ap₂ (λ n (xs : List ℕ). take n xs) w.written-is w.octets-is) c.loop-i.invariant.small;
-          }
-    ]
+    let octets = c.loop-g.octets in
+    let group = c.put_octets.new.octets in
+    let early : step + 1 ≤ 6 = omega (arith, c.loop-g-test.true) in
+    let here : size * step ≡ width * step = ap (λ n. n * step) same in
+    let fits : width * step + width ≤ length octets
+    = omega (arith, mul-le-mul_left width early, count_more width step, c.loop-g.auto.octets, c.requires.octets, g.met.R.Rate.octets_of_bits) in
+    let there : width * step ≤ length octets = omega (arith, fits) in
+    let all : size * step + size ≤ length octets = omega (arith, fits, here, same) in
+    let count : size * step + size - size * step ≡ size = omega arith in
+    let held : length (mid_of (size * step) (size * step + size - size * step) octets) ≡ width
+    = ap (λ k. length (take k (drop (size * step) octets))) count ∙ length-part (size * step) size octets all ∙ same in
+    let long : length group ≡ width = c.put_octets.auto.octets ∙ held in
+    let eight : 8 * step + 8 - 8 * step ≡ 8 = omega arith in
+    let written : number_bits 8 group ≡ number_bits width (part (8 * step) 8 path)
+    = c.put_octets.ensures.bits
+    ∙ ap (λ n. bits_of n c.group_number-number.result) (ap (λ n. 8 * n) held ∙ mul_comm 8 width)
+    ∙ c.group_number-number.ensures
+    ∙ ap (λ k. number_bits width (take k (drop (8 * step) path))) eight in record {
+      bits = groups_more width step size path octets group same long there written c.loop-g.invariant.bits;
+      small = groups_more-All width step size octets group same long there c.put_octets.ensures.octets c.loop-g.invariant.small;
+    }
 
 pub returns : goal.returns
 returns g c =
     let width = g.R.Rate.BITS_PER_SYMBOL in
     let path = c.args.path.now in
-    let octets = c.loop-i.octets in
-    let done : c.loop-i.i ≡ 48 = omega arith in
-    let count : 8 * c.loop-i.written + length c.loop-i.queue ≡ 8 * g.R.Rate.OCTETS = omega (arith, c.loop-i.invariant.count, ap (λ n. width * n) done, g.met.R.Rate.octets_of_bits) in
-    let none = none_wait c.loop-i.queue c.loop-i.written g.R.Rate.OCTETS count c.loop-i.invariant.short in
-    let all : length octets ≤ c.loop-i.written = omega (arith, none.1, c.loop-i.auto.octets, c.requires.octets) in record {
-      are_octets = All-same (λ (octet : ℕ). octet < 256) octets (take c.loop-i.written octets) (sym (take_all c.loop-i.written octets all)) c.loop-i.invariant.small;
+    let octets = c.loop-g.octets in
+    let done : 6 ≡ c.loop-g.g = omega arith in
+    let count : 6 * width ≡ width * c.loop-g.g = mul_comm 6 width ∙ ap (λ n. width * n) done in
+    let all : length octets ≤ width * c.loop-g.g = omega (arith, count, c.loop-g.auto.octets, c.requires.octets, g.met.R.Rate.octets_of_bits) in record {
+      are_octets = All-same (λ (n : ℕ). n < 256) octets (take (width * c.loop-g.g) octets) (sym (take_all (width * c.loop-g.g) octets all)) c.loop-g.invariant.small;
       information
-          = ap (λ n. number_bits width (take n path)) (sym done)
-          ∙ sym c.loop-i.invariant.bits
-          ∙ ap (λ (bits : List Bool). number_bits 8 (take c.loop-i.written octets) ++ bits) none.0
-          ∙ append-nil (number_bits 8 (take c.loop-i.written octets))
-          ∙ ap (number_bits 8) (take_all c.loop-i.written octets all)
+          = ap (λ n. number_bits width (take (8 * n) path)) done
+          ∙ sym c.loop-g.invariant.bits
+          ∙ ap (number_bits 8) (take_all (width * c.loop-g.g) octets all)
           ∙ number_bits-octets octets;
     }

@@ -1,11 +1,9 @@
-use Rattle.std.proofs.Common.{◌≡◌, ℕ, ◌+◌, ◌*◌, ◌<◌, ◌++◌, All, length, take}
+use Rattle.std.proofs.Common.{◌≡◌, ℕ, ◌*◌, ◌<◌, All, take}
 use Rattle.p25_bits.specs.Numbers.{number_bits}
 use Rattle.p25_trellis.proofs.path.octets_of.Given as goal
 
-abbrev pub invariant-loop-i : goal.invariant-loop-i
-invariant-loop-i g l = record {
-  bits : number_bits 8 (take l.written l.octets) ++ l.queue ≡ number_bits g.R.Rate.BITS_PER_SYMBOL (take l.i l.path);
-  count : 8 * l.written + length l.queue ≡ g.R.Rate.BITS_PER_SYMBOL * l.i;
-  short : length l.queue < 8;
-  small : All (λ (octet : ℕ). octet < 256) (take l.written l.octets);
+abbrev pub invariant-loop-g : goal.invariant-loop-g
+invariant-loop-g g l = record {
+  bits : number_bits 8 (take (g.R.Rate.BITS_PER_SYMBOL * l.g) l.octets) ≡ number_bits g.R.Rate.BITS_PER_SYMBOL (take (8 * l.g) l.path);
+  small : All (λ (octet : ℕ). octet < 256) (take (g.R.Rate.BITS_PER_SYMBOL * l.g) l.octets);
 }

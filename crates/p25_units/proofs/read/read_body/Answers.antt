@@ -36,7 +36,7 @@ read_packet_body-requires-clause-there c =
 pub returns-then-duid-eq-PDU-clause-body : goal.returns-then-duid-eq-PDU-clause-body
 returns-then-duid-eq-PDU-clause-body c =
     let plain = plain_of (part c.args.at c.args.count c.args.bits.now) in
-    c.read_packet_body.ensures
+    c.read_packet_body.ensures.body
     ∙ ap (λ xs. packet_body_from (packet_reading_of xs)) c.unweave.ensures.plain
     ∙ sym (body_reading_of-packet plain)
     ∙ ap (λ duid. body_reading_of duid plain) (sym c.if-duid-eq-PDU.true)
