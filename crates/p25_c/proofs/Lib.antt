@@ -1,0 +1,3 @@
+pub mod RoomsLaws
+pub mod ItemsLaws
+pub mod FindingLaws

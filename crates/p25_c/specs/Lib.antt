@@ -1,0 +1,4 @@
+pub mod Rooms
+pub mod Items
+pub mod Finding
+pub mod Version
