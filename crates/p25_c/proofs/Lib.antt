@@ -1,3 +1,5 @@
 pub mod RoomsLaws
 pub mod ItemsLaws
+pub mod CallsLaws
 pub mod FindingLaws
+pub mod BuildingLaws

@@ -1,4 +1,6 @@
 pub mod Rooms
 pub mod Items
+pub mod Calls
 pub mod Finding
+pub mod Building
 pub mod Version

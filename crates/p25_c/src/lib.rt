@@ -13,7 +13,9 @@
 //! ```
 #![tactic(auto)]
 
+mod building;
 mod finding;
 mod items;
+mod laws;
 mod room;
 mod version;

@@ -1,22 +1,10 @@
 //! What calls write into the room that a caller gives.
 
-ghost use Rattle.std.specs.Prelude.{◌≡◌, ◌<◌, ◌≤◌, Result, Ok, length};
-ghost use Rattle.p25_c.specs.Rooms.{IsWriting, text_left};
+ghost use Rattle.std.specs.Prelude.{◌≡◌};
+ghost use Rattle.p25_c.specs.Rooms.{text_left};
 
 // There is too little room: nothing is written.
 pub(crate) const NO_ROOM: i32 = -2;
-
-// Writes octets where there is room for them, and answers how many.
-pub(crate) fn write_octets(octets: &[u8], room: &mut [u8]) -> i32
-    requires { length octets.now ≤ 8192 }
-    ensures { IsWriting (Ok octets.now) room.old room.new result }
-{
-    if octets.len() > room.len() {
-        return NO_ROOM;
-    }
-    room[..octets.len()].copy_from_slice(octets);
-    octets.len() as i32
-}
 
 // Writes a text and a zero after it, where there is room for both.
 pub(crate) fn write_text(text: &[u8], room: &mut [u8])
