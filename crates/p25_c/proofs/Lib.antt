@@ -1,2 +1,7 @@
 pub mod AnswerSteps
 pub mod SymbolSteps
+pub mod RoomsLaws
+pub mod ItemsLaws
+pub mod CallsLaws
+pub mod FindingLaws
+pub mod BuildingLaws

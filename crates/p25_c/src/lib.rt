@@ -1,5 +1,24 @@
+//! The library for programs in C, C++ and Python: items of recordings, units of lines, and the words of the codes, a call each.
+//!
+//! Every call tests its arguments: none of them has a condition, and each answers by a named number, in every case as its
+//! contract says. A call keeps nothing, and takes no memory but its stack. A slice is a pointer and a length in C. What is
+//! written goes into room that the caller gives: where there is too little, nothing is written.
+//!
+//! ```text
+//! int64 place = 0;
+//! while (p25_next_item(octets, count, 0, place, true, &item, text, sizeof text) == 1) {
+//!     puts(text);
+//!     place = item.place + item.bits;
+//! }
+//! ```
 #![tactic(auto)]
 
 mod answers;
+mod building;
 mod checks;
+mod finding;
+mod items;
+mod laws;
+mod room;
 mod solomon;
+mod version;

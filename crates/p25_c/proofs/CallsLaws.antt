@@ -1,0 +1,113 @@
+-- What a series of calls tells, by induction on the calls: each item is the first of those of the whole recording from its place on.
+use Rattle.std.proofs.Common.{◌≡◌, ℕ, ◌+◌, ◌-◌, ◌*◌, ◌<◌, ◌≤◌, Bool, true, List, [], ◌∷◌, ◌++◌, length, take, drop, Option, Some, None, refl, ap, ap₂, sym, subst, ◌∙◌, arith, append-nil}
+use Rattle.std.specs.Cmp.{first_so, second_so}
+use Rattle.std.specs.List.{sum_by}
+use Rattle.std.proofs.lemmas.Bool.{leb-true}
+use Rattle.std.proofs.lemmas.List.{drop-append-le, drop-drop}
+use Rattle.std.proofs.lemmas.List.Sums.{sum_by-cons}
+use Rattle.p25_bits.specs.Bits.{octet_bits}
+use Rattle.p25_bits.proofs.BitsLaws.{length-octet_bits, octet_bits-append, octet_bits-nil}
+use Rattle.p25_bits.proofs.PartLaws.{drop_behind}
+use Rattle.p25_stream.specs.Items.{items_by}
+use Rattle.p25_stream.specs.Scan.{Gave, Scan}
+use Rattle.p25_stream.proofs.ItemsLaws.{covered-first_item, items_by-first}
+use Rattle.p25_stream.proofs.ScanLaws.{gave-items}
+use Rattle.p25_units.specs.Items.{covered}
+use Rattle.p25_units.specs.declared.item.Item.{Item}
+use Rattle.p25_c.specs.Calls.{AreTold, BeginsWith, CallsTellAll, CallsTellTheFirst, Given, IsPiece}
+use Rattle.p25_c.specs.Items.{is_inside, items_asked}
+use Rattle.p25_c.proofs.ItemsLaws.{items_asked-some}
+
+-- a place that may be asked for is one of the bits of the octets, or their end
+inside-bounds : (begin from count : ℕ) → is_inside begin from count ≡ true → (begin ≤ from) × (from ≤ begin + 8 * count)
+inside-bounds begin from count yes' =
+    let before = first_so _ _ yes' in
+    (leb-true begin from (second_so _ _ (first_so _ _ before)), leb-true from (begin + 8 * count) (second_so _ _ before))
+
+module _ (recording : List ℕ) (from : ℕ) (piece : Given) (is : IsPiece recording piece) where
+  abbrev bits : List Bool
+  bits = octet_bits recording
+
+  abbrev here : List Bool
+  here = drop (from - piece.begin) (octet_bits piece.octets)
+
+  -- the bits of a recording from a place on are those of the piece and those after it
+  piece-bits : piece.begin ≤ from → from ≤ piece.begin + 8 * length piece.octets → drop from bits ≡ here ++ octet_bits is.after
+  piece-bits after within =
+      let front = octet_bits is.before in
+      let at_is : from ≡ 8 * length is.before + (from - piece.begin) = omega (arith, is.begins) in
+      let fits : from - piece.begin ≤ length (octet_bits piece.octets) = omega (arith, length-octet_bits piece.octets) in
+      let whole : bits ≡ front ++ (octet_bits piece.octets ++ octet_bits is.after)
+      = ap octet_bits is.whole
+      ∙ octet_bits-append is.before (piece.octets ++ is.after)
+      ∙ ap (λ (zs : List Bool). front ++ zs) (octet_bits-append piece.octets is.after) in
+      ap₂ drop at_is whole
+      ∙ drop_behind (8 * length is.before) (from - piece.begin) front (octet_bits piece.octets ++ octet_bits is.after) (length-octet_bits is.before)
+      ∙ drop-append-le (from - piece.begin) (octet_bits piece.octets) (octet_bits is.after) fits
+
+  -- the item that is told is the first of those of the whole recording
+  by_asked : (asked : Option (List Item)) (item : Item) → items_asked piece.ended piece.begin from piece.octets ≡ asked → BeginsWith asked item
+      → items_by true from (drop from bits) ≡ item ∷ items_by true (from + covered item) (drop (from + covered item) bits)
+  by_asked None item asked_is begins = absurd begins
+  by_asked (Some []) item asked_is begins = absurd begins
+  by_asked (Some (first ∷ items)) item asked_is same =
+      let asked = items_asked-some piece.ended piece.begin from piece.octets (first ∷ items) asked_is in
+      let bounds = inside-bounds piece.begin from (length piece.octets) asked.0 in
+      let more = octet_bits is.after in
+      let joined = piece-bits bounds.0 bounds.1 in
+      let parts = items_by-first piece.ended from here first items asked.1 in
+      let fits = covered-first_item from here parts.0 in
+      let before : Scan = record { place = from; held = here; finished = piece.ended } in
+      let now : Scan = record { place = from + covered first; held = drop (covered first) here; finished = piece.ended } in
+      let there : covered first ≤ length here = subst (λ (i : Item). covered i ≤ length here) (sym parts.1) fits.1 in
+      let gave : Gave before first (take (covered first) here) now = record {
+        items = asked.1 ∙ ap (λ (xs : List Item). first ∷ xs) parts.2;
+        some = subst (λ (i : Item). 0 < covered i) (sym parts.1) fits.0;
+        there = there;
+        raw_bits = refl;
+        left = refl;
+        place = refl;
+        same = refl;
+      } in
+      let later : drop (covered first) here ++ more ≡ drop (from + covered first) bits
+      = sym (drop-append-le (covered first) here more there) ∙ ap (drop (covered first)) (sym joined) ∙ drop-drop (covered first) from bits in
+      let told : items_by true from (drop from bits) ≡ first ∷ items_by true (from + covered first) (drop (from + covered first) bits)
+      = ap (items_by true from) joined
+      ∙ gave-items before now first (take (covered first) here) true more gave (λ ended. (refl, ap octet_bits (is.ends ended) ∙ octet_bits-nil))
+      ∙ ap (λ (zs : List Bool). first ∷ items_by true (from + covered first) zs) later in
+      subst (λ (i : Item). items_by true from (drop from bits) ≡ i ∷ items_by true (from + covered i) (drop (from + covered i) bits)) same told
+
+  -- where none is told at the end of the recording, none is left
+  none-left : piece.ended ≡ true → items_asked true piece.begin from piece.octets ≡ Some [] → items_by true from (drop from bits) ≡ []
+  none-left ended asked_is =
+      let asked = items_asked-some true piece.begin from piece.octets [] asked_is in
+      let bounds = inside-bounds piece.begin from (length piece.octets) asked.0 in
+      let last : drop from bits ≡ here
+      = piece-bits bounds.0 bounds.1 ∙ ap (λ (zs : List ℕ). here ++ octet_bits zs) (is.ends ended) ∙ ap (λ (zs : List Bool). here ++ zs) octet_bits-nil ∙ append-nil here in
+      ap (items_by true from) last ∙ asked.1
+
+-- what is told, and the items after it
+told-items : (recording : List ℕ) (from : ℕ) (givens : List Given) (items : List Item) → AreTold recording from givens items
+    → items_by true from (drop from (octet_bits recording)) ≡ items ++ items_by true (from + sum_by covered items) (drop (from + sum_by covered items) (octet_bits recording))
+told-items recording from [] [] told =
+    let same : from ≡ from + sum_by covered [] = omega arith in
+    ap (λ (n : ℕ). items_by true n (drop n (octet_bits recording))) same
+told-items recording from [] (item ∷ items) told = absurd told
+told-items recording from (piece ∷ pieces) [] told = absurd told
+told-items recording from (piece ∷ pieces) (item ∷ items) told =
+    let same : from + covered item + sum_by covered items ≡ from + sum_by covered (item ∷ items) = omega (arith, sum_by-cons covered item items) in
+    by_asked recording from piece told.0 (items_asked piece.ended piece.begin from piece.octets) item refl told.1
+    ∙ ap (λ (xs : List Item). item ∷ xs) (told-items recording (from + covered item) pieces items told.2)
+    ∙ ap (λ (n : ℕ). item ∷ (items ++ items_by true n (drop n (octet_bits recording)))) same
+
+pub calls-first : CallsTellTheFirst
+calls-first recording pieces items told = (_, told-items recording 0 pieces items told)
+
+pub calls-all : CallsTellAll
+calls-all recording pieces items last told is ended asked =
+    let total = sum_by covered items in
+    let same : 0 + total ≡ total = omega arith in
+    told-items recording 0 pieces items told
+    ∙ ap (λ (n : ℕ). items ++ items_by true n (drop n (octet_bits recording))) same
+    ∙ ap (λ (xs : List Item). items ++ xs) (none-left recording total last is ended asked)
+    ∙ append-nil items

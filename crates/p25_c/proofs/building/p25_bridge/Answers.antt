@@ -1,0 +1,15 @@
+use Rattle.std.proofs.Common.{◌≡◌, ℤ, rules, subst, sym, to_z, of_z, w32, ◌∙◌}
+use Rattle.std.proofs.lemmas.Int.{to_z-of_z}
+use Rattle.p25_c.specs.Building.{unit_bridged}
+use Rattle.p25_c.specs.Rooms.{IsWriting}
+use Rattle.p25_status.specs.Status.{same_status}
+use Rattle.p25_status.specs.declared.symbols.Status.{Status}
+use Rattle.p25_c.proofs.building.p25_bridge.Goals as goal
+use mir.Val.{SFits}
+
+pub returns-clause-bridged : goal.returns-clause-bridged
+returns-clause-bridged c = λ few symbol number.
+    let fits : SFits w32 c.bridge_unit.result = search rules in
+    let same : c.in-Some.symbol ≡ symbol = same_status c.in-Some.symbol symbol (c.in-Some.ensures.number ∙ sym number) in
+    subst (λ (s : Status). IsWriting (unit_bridged c.args.nac s c.args.octets.now) c.args.into.now c.bridge_unit.new.into (to_z w32 (of_z w32 c.bridge_unit.result))) same
+    (subst (λ (z : ℤ). IsWriting (unit_bridged c.args.nac c.in-Some.symbol c.args.octets.now) c.args.into.now c.bridge_unit.new.into z) (sym (to_z-of_z w32 c.bridge_unit.result fits)) c.bridge_unit.ensures)

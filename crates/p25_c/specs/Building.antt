@@ -1,0 +1,65 @@
+-- The octets of units: built from lines, repaired, and under another network access code.
+use Rattle.std.specs.Prelude.{ℕ, ◌/◌, ℤ, negsuc, Bool, cond, List, [], ◌∷◌, length, take, replicate, Result, Ok, Err}
+use Rattle.p25_bits.specs.Bits.{octet_bits}
+use Rattle.p25_bits.specs.Numbers.{octets_from}
+use Rattle.p25_line.specs.declared.fault.LineFault.{LineFault}
+use Rattle.p25_line.specs.declared.fault.LineFault.TheVariants.{Long, Form, Kind, Key, Value}
+use Rattle.p25_status.specs.declared.symbols.Status.{Status}
+use Rattle.p25_stream.specs.Items.{items_of}
+use Rattle.p25_stream.specs.Repeats.{bridged, is_whole_item, repaired}
+use Rattle.p25_text.specs.Grammar.{read_line_of}
+use Rattle.p25_units.specs.Items.{covered}
+use Rattle.p25_units.specs.UnitParts.{UnitParts}
+use Rattle.p25_units.specs.Units.{frame_length_of, image_of}
+use Rattle.p25_units.specs.declared.frame.Frame.{Frame}
+use Rattle.p25_units.specs.declared.item.Item.{Item}
+
+-- -3: no whole unit begins there; -4: a network access code has 12 bits; -5: a status symbol is 0 to 3
+abbrev pub no_unit : ℤ
+no_unit = negsuc 2
+
+abbrev pub wrong_nac : ℤ
+wrong_nac = negsuc 3
+
+abbrev pub wrong_status : ℤ
+wrong_status = negsuc 4
+
+-- -11 to -15: why a line is refused
+abbrev pub fault_answer : LineFault → ℤ
+fault_answer Long = negsuc 10
+fault_answer Form = negsuc 11
+fault_answer Kind = negsuc 12
+fault_answer Key = negsuc 13
+fault_answer Value = negsuc 14
+
+-- the octets that bits fill, most significant bit first
+abbrev pub octets_filled : List Bool → List ℕ
+octets_filled bits = octets_from (length bits / 8) bits
+
+-- the frame of a unit with one status symbol everywhere, and the octets of its image
+abbrev pub unit_frame : Status → UnitParts → Frame
+unit_frame status unit = record { unit = unit; statuses = replicate (frame_length_of unit / 72) status }
+
+abbrev pub unit_octets : Status → UnitParts → List ℕ
+unit_octets status unit = octets_filled (image_of (unit_frame status unit))
+
+-- the octets of the unit that a line is read as, with one status symbol everywhere, or why the line is refused
+abbrev pub unit_built : Status → Result UnitParts LineFault → Result (List ℕ) ℤ
+unit_built status (Ok unit) = Ok (unit_octets status unit)
+unit_built status (Err fault) = Err (fault_answer fault)
+
+abbrev pub built : Status → List ℕ → Result (List ℕ) ℤ
+built status line = unit_built status (read_line_of line)
+
+-- the octets of a whole unit that some items begin with, by a change of the bits that it covers
+abbrev pub first_changed : (Item → List Bool → List Bool) → List Item → List Bool → Result (List ℕ) ℤ
+first_changed change [] bits = Err no_unit
+first_changed change (item ∷ items) bits = cond (is_whole_item item) (Ok (octets_filled (change item (take (covered item) bits)))) (Err no_unit)
+
+-- the unit that octets begin with, repaired
+abbrev pub unit_repaired : List ℕ → Result (List ℕ) ℤ
+unit_repaired octets = first_changed repaired (items_of 0 (octet_bits octets)) (octet_bits octets)
+
+-- and under another network access code, with one status symbol everywhere
+abbrev pub unit_bridged : ℕ → Status → List ℕ → Result (List ℕ) ℤ
+unit_bridged nac status octets = first_changed (λ item raw. bridged nac status item []) (items_of 0 (octet_bits octets)) (octet_bits octets)

@@ -1,0 +1,50 @@
+-- What a series of calls tells: the items of a recording, one after the other, however its octets are cut.
+use Rattle.std.specs.Prelude.{◌≡◌, ℕ, ◌+◌, ◌*◌, Bool, true, List, [], ◌∷◌, ◌++◌, length, Option, Some, None}
+use Rattle.std.specs.List.{sum_by}
+use Rattle.p25_bits.specs.Bits.{octet_bits}
+use Rattle.p25_stream.specs.Items.{items_of}
+use Rattle.p25_units.specs.Items.{covered}
+use Rattle.p25_units.specs.declared.item.Item.{Item}
+use Rattle.p25_c.specs.Items.{items_asked}
+
+-- what a call is given: octets, the bit at which the first of them stands, and whether none come after them
+pub record Given : Type 0 where
+  pub octets : List ℕ
+  pub begin : ℕ
+  pub ended : Bool
+
+-- they are a piece of a recording, and where none come after them it goes to its end
+pub record IsPiece (recording : List ℕ) (given : Given) : Type 0 where
+  pub before : List ℕ
+  pub after : List ℕ
+  pub whole : recording ≡ before ++ (given.octets ++ after)
+  pub begins : given.begin ≡ 8 * length before
+  pub ends : given.ended ≡ true → after ≡ []
+
+-- what is asked for at a place begins with an item
+abbrev pub BeginsWith : Option (List Item) → Item → Type 0
+BeginsWith None item = ⊥
+BeginsWith (Some []) item = ⊥
+BeginsWith (Some (first ∷ items)) item = first ≡ item
+
+-- calls that are given pieces of a recording tell some items: the first asks for a place, each other for the place at which the
+-- item before it ends
+abbrev pub AreTold : List ℕ → ℕ → List Given → List Item → Type 0
+AreTold recording from [] [] = Unit {0}
+AreTold recording from [] (item ∷ items) = ⊥
+AreTold recording from (given ∷ givens) [] = ⊥
+AreTold recording from (given ∷ givens) (item ∷ items) =
+    IsPiece recording given × BeginsWith (items_asked given.ended given.begin from given.octets) item × AreTold recording (from + covered item) givens items
+
+-- the items that calls tell from the first place on are the first items of the recording, whatever pieces they are given
+abbrev pub CallsTellTheFirst : Type 0
+CallsTellTheFirst =
+    (recording : List ℕ) (givens : List Given) (items : List Item) → AreTold recording 0 givens items
+    → (rest : List Item) × (items_of 0 (octet_bits recording) ≡ items ++ rest)
+
+-- where a call that is given the end of the recording then finds none, they are all
+abbrev pub CallsTellAll : Type 0
+CallsTellAll =
+    (recording : List ℕ) (givens : List Given) (items : List Item) (last : Given) → AreTold recording 0 givens items
+    → IsPiece recording last → last.ended ≡ true → items_asked true last.begin (sum_by covered items) last.octets ≡ Some []
+    → items_of 0 (octet_bits recording) ≡ items

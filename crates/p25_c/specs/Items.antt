@@ -1,0 +1,74 @@
+-- What is told of the items of a recording.
+use Rattle.std.specs.Prelude.{ℕ, ℤ, pos, negsuc, ◌+◌, ◌-◌, ◌*◌, ◌%◌, ◌^◌, ◌==◌, ◌&&◌, nat_le, Bool, cond, List, [], ◌∷◌, length, drop, Option, Some, None}
+use Rattle.p25_bits.specs.Bits.{octet_bits}
+use Rattle.p25_stream.specs.Items.{items_by}
+use Rattle.p25_text.specs.ItemTexts.{item_text_of}
+use Rattle.p25_units.specs.Items.{covered, place_of}
+use Rattle.p25_units.specs.Units.{body_duid}
+use Rattle.p25_units.specs.declared.item.Item.{Item}
+use Rattle.p25_units.specs.declared.item.Item.TheVariants.{Whole, Broken, NoUnit, Gap, Cut}
+use Rattle.p25_c.specs.Rooms.{text_left}
+use Rattle.p25_c.specs.declared.items.ItemParts.{ItemParts}
+
+-- an item may be asked for at a place, where so many octets of the recording stand from bit `begin` on, a multiple of 8: at one of
+-- their bits or at their end
+abbrev pub is_inside : ℕ → ℕ → ℕ → Bool
+is_inside begin from count = ((begin % 8) == 0) && nat_le begin from && nat_le from (begin + 8 * count) && nat_le from (2 ^ 59)
+
+-- the items that begin at a place of a recording, where octets of it stand from bit `begin` on: all of them where no octets come
+-- after these, else those that they decide. None where they may not be asked for
+unfoldable pub items_asked : Bool → ℕ → ℕ → List ℕ → Option (List Item)
+items_asked ended begin from octets =
+    cond (is_inside begin from (length octets)) (Some (items_by ended from (drop (from - begin) (octet_bits octets)))) None
+
+-- what is answered: 1 where there is an item, 0 where there is none, and -1 where none may be asked for
+abbrev pub item_answer : Option (List Item) → ℤ
+item_answer None = negsuc 0
+item_answer (Some []) = pos 0
+item_answer (Some (item ∷ items)) = pos 1
+
+-- the number of a kind of item
+abbrev pub kind_number : Item → ℕ
+kind_number (Whole place frame fixes) = 1
+kind_number (Broken place count nac duid fields) = 2
+kind_number (NoUnit place field) = 3
+kind_number (Gap place count) = 4
+kind_number (Cut place have) = 5
+
+-- the fixes of a whole unit
+abbrev pub fixes_told : Item → ℕ
+fixes_told (Whole place frame fixes) = fixes
+fixes_told item = 0
+
+-- the identifier of a unit
+abbrev pub nac_told : Item → ℕ
+nac_told (Whole place frame fixes) = frame.unit.nac
+nac_told (Broken place count nac duid fields) = nac
+nac_told item = 0
+
+abbrev pub duid_told : Item → ℕ
+duid_told (Whole place frame fixes) = body_duid frame.unit.body
+duid_told (Broken place count nac duid fields) = duid
+duid_told item = 0
+
+-- the numbers of an item
+abbrev pub parts_of : Item → ItemParts
+parts_of item = record {
+  place = place_of item;
+  bits = covered item;
+  fixes = fixes_told item;
+  text_length = length (item_text_of item);
+  nac = nac_told item;
+  duid = duid_told item;
+  kind = kind_number item;
+}
+
+-- the numbers that are left once a place was asked for: those of the first item there, where there is one
+abbrev pub item_left : Option (List Item) → ItemParts → ItemParts
+item_left (Some (item ∷ items)) before = parts_of item
+item_left asked before = before
+
+-- and the text
+abbrev pub item_text_left : Option (List Item) → List ℕ → List ℕ
+item_text_left (Some (item ∷ items)) before = text_left (item_text_of item) before
+item_text_left asked before = before

@@ -1,0 +1,178 @@
+//! Octets of units: built from lines, repaired, and under another network access code.
+
+ghost use Rattle.std.specs.Prelude.{◌≡◌, ◌*◌, ◌<◌, ◌≤◌, ◌++◌, pos, Ok, Err, length, drop};
+ghost use Rattle.p25_bits.specs.Numbers.{octets_from};
+ghost use Rattle.p25_c.specs.Building.{built, fault_answer, octets_filled, unit_bridged, unit_octets, unit_repaired, wrong_nac, wrong_status};
+ghost use Rattle.p25_c.specs.Rooms.{IsWriting};
+ghost use Rattle.p25_status.specs.Status.{status_number};
+ghost use Rattle.p25_status.specs.declared.symbols.Status.{Status as Symbol};
+ghost use Rattle.p25_stream.specs.Repeats.{is_whole_item};
+ghost use Rattle.p25_units.specs.Units.{IsSendableBody};
+
+use crate::finding::find_item;
+use crate::room::NO_ROOM;
+use p25_bits::BitBuf;
+use p25_line::LineFault;
+use p25_status::{SENT_BLOCK_LENGTH, Status, Statuses};
+use p25_stream::{bridge_item, repair_item};
+use p25_text::read_line;
+use p25_units::{Frame, Item, Unit, frame_length, image};
+
+// No whole unit begins there; a network access code has 12 bits; a status symbol is 0 to 3.
+const NO_UNIT: i32 = -3;
+
+const WRONG_NAC: i32 = -4;
+
+const WRONG_STATUS: i32 = -5;
+
+/// Writes the octets of the unit of a line into `octets`, as the command `build` writes them, with one status symbol everywhere,
+/// and answers how many. The octets of `octets` after them stay.
+///
+/// Where it does not, all of `octets` stays, and it answers the first of these that applies: -5, `status` is above 3; -11 to -15,
+/// the line is refused as Long, Form, Kind, Key or Value; -2, the unit has more octets than `octets`.
+#[unsafe(no_mangle)]
+pub extern "C" fn p25_build(line: &[u8], status: u8, octets: &mut [u8]) -> i32
+    ensures strange { 4 ≤ status → IsWriting (Err wrong_status) octets.old octets.new result }
+    ensures built { (symbol : Symbol) → status_number symbol ≡ status → IsWriting (built symbol line.now) octets.old octets.new result }
+{
+    let Some(symbol) = Status::new(status) else {
+        return WRONG_STATUS;
+    };
+    build_line(line, symbol, octets)
+}
+
+// Writes the octets of the unit of a line.
+fn build_line(line: &[u8], status: Status, octets: &mut [u8]) -> i32
+    ensures { IsWriting (built status line.now) octets.old octets.new result }
+{
+    match read_line(line) {
+        Ok(unit) => write_unit(unit, status, octets),
+        Err(fault) => fault_answer(fault),
+    }
+}
+
+// The number of a fault.
+fn fault_answer(fault: LineFault) -> i32
+    ensures { result ≡ fault_answer fault }
+{
+    match fault {
+        LineFault::Long => -11,
+        LineFault::Form => -12,
+        LineFault::Kind => -13,
+        LineFault::Key => -14,
+        LineFault::Value => -15,
+    }
+}
+
+// Writes the octets of a unit's image with one status symbol everywhere. No slot of a packet is Bad.
+fn write_unit(unit: Unit, status: Status, octets: &mut [u8]) -> i32
+    requires { IsSendableBody unit.body }
+    ensures { IsWriting (Ok (unit_octets status unit)) octets.old octets.new result }
+{
+    let statuses = Statuses::filled(status, frame_length(&unit) / SENT_BLOCK_LENGTH);
+    let mut bits = BitBuf::new();
+    image(&Frame { unit, statuses }, &mut bits);
+    write_bits(&bits, octets)
+}
+
+// Writes the octets that bits fill where there is room for them, and answers how many.
+fn write_bits(bits: &BitBuf, room: &mut [u8]) -> i32
+    ensures { IsWriting (Ok (octets_filled bits.now)) room.old room.new result }
+{
+    let count = bits.len() / 8;
+    if count > room.len() {
+        return NO_ROOM;
+    }
+    put_octets(bits, count, room);
+    written(count)
+}
+
+// Sets the first `count` octets of the room to those that bits write.
+fn put_octets(bits: &BitBuf, count: usize, room: &mut [u8])
+    requires bits { 8 * count ≤ length bits.now }
+    requires room { count ≤ length room.old }
+    ensures { room.new ≡ octets_from count bits.now ++ drop count room.old }
+{
+    // The number of bits bounds each place.
+    let _ = bits.len();
+    for k in 0..count {
+        room[k] = bits.field(8 * k, 8) as u8;
+    }
+}
+
+// The number of octets that were written.
+fn written(count: usize) -> i32
+    requires { count ≤ 8192 }
+    ensures { result ≡ pos count }
+{
+    count as i32
+}
+
+/// Writes the whole unit that `octets` begin with into `into` as it was sent, as the command `repair` writes it, and answers how
+/// many octets it has. The octets of `into` after them stay.
+///
+/// Where it does not, all of `into` stays, and it answers the first of these that applies: -3, the item at the first bit is no
+/// whole unit; -2, the unit has more octets than `into`.
+#[unsafe(no_mangle)]
+pub extern "C" fn p25_repair(octets: &[u8], into: &mut [u8]) -> i32
+    ensures { IsWriting (unit_repaired octets.now) into.old into.new result }
+{
+    let mut raw = BitBuf::new();
+    let mut found = Item::Cut { place: 0, have: 0 };
+    if !find_item(octets, 0, 0, true, &mut raw, &mut found) {
+        return NO_UNIT;
+    }
+    if !is_whole(&found) {
+        return NO_UNIT;
+    }
+    repair_item(&found, &mut raw);
+    write_bits(&raw, into)
+}
+
+// Whether an item is a whole unit.
+fn is_whole(item: &Item) -> bool
+    ensures { result ≡ is_whole_item item.now }
+{
+    match item {
+        Item::Whole { .. } => true,
+        Item::Broken { .. } | Item::NoUnit { .. } | Item::Gap { .. } | Item::Cut { .. } => false,
+    }
+}
+
+/// Writes the whole unit that `octets` begin with into `into` under another network access code and with one status symbol
+/// everywhere, as the command `bridge` writes it, and answers how many octets it has. The octets of `into` after them stay.
+///
+/// Where it does not, all of `into` stays, and it answers the first of these that applies: -4, `nac` is above 4095; -5, `status`
+/// is above 3; -3, the item at the first bit is no whole unit; -2, the unit has more octets than `into`.
+#[unsafe(no_mangle)]
+pub extern "C" fn p25_bridge(octets: &[u8], nac: u16, status: u8, into: &mut [u8]) -> i32
+    ensures strange_code { 4096 ≤ nac → IsWriting (Err wrong_nac) into.old into.new result }
+    ensures strange_symbol { nac < 4096 → 4 ≤ status → IsWriting (Err wrong_status) into.old into.new result }
+    ensures bridged { nac < 4096 → (symbol : Symbol) → status_number symbol ≡ status
+        → IsWriting (unit_bridged nac symbol octets.now) into.old into.new result }
+{
+    if nac > 4_095 {
+        return WRONG_NAC;
+    }
+    let Some(symbol) = Status::new(status) else {
+        return WRONG_STATUS;
+    };
+    bridge_unit(octets, nac, symbol, into)
+}
+
+// Writes the whole unit that octets begin with under another network access code and with one status symbol everywhere.
+fn bridge_unit(octets: &[u8], nac: u16, status: Status, into: &mut [u8]) -> i32
+    requires { nac < 4096 }
+    ensures { IsWriting (unit_bridged nac status octets.now) into.old into.new result }
+{
+    let mut raw = BitBuf::new();
+    let mut found = Item::Cut { place: 0, have: 0 };
+    if !find_item(octets, 0, 0, true, &mut raw, &mut found) {
+        return NO_UNIT;
+    }
+    raw.clear();
+    if !bridge_item(&found, nac, status, &mut raw) {
+        return NO_UNIT;
+    }
+    write_bits(&raw, into)
+}

@@ -1,0 +1,149 @@
+//! The items of a recording, one a call.
+
+ghost use Rattle.std.specs.Prelude.{◌≡◌, length};
+ghost use Rattle.p25_c.specs.Items.{duid_told, fixes_told, is_inside, item_answer, item_left, item_text_left, items_asked, kind_number, nac_told, parts_of};
+ghost use Rattle.p25_c.specs.Rooms.{text_left};
+ghost use Rattle.p25_text.specs.ItemTexts.{item_text_of};
+ghost use Rattle.p25_units.specs.Items.{IsSoundItem, covered};
+
+use crate::finding::find_item;
+use crate::room::write_text;
+use p25_bits::BitBuf;
+use p25_line::Line;
+use p25_text::item_text;
+use p25_units::Item;
+
+// An item is told; none is; the place is not one of these octets.
+const ITEM: i32 = 1;
+
+const NO_ITEM: i32 = 0;
+
+const OUTSIDE: i32 = -1;
+
+// The largest place at which an item is asked for.
+const PLACE_MOST: u64 = 1 << 59;
+
+/// What is told of an item in numbers. `kind` is 1 of a whole unit, 2 of a broken one, 3 of a sync without a unit, 4 of a gap
+/// and 5 of what is cut off. It covers `bits` bits from bit `place` of the recording on. `fixes` is the number of wrong bits of a
+/// whole unit, `nac` and `duid` are those of a unit, whole or broken; of all others they are 0. `text_length` is the number of
+/// octets of its text.
+#[derive(Clone, Copy)]
+#[repr(C)]
+pub struct ItemParts {
+    pub place: u64,
+    pub bits: u32,
+    pub fixes: u32,
+    pub text_length: u32,
+    pub nac: u16,
+    pub duid: u8,
+    pub kind: u8,
+}
+
+/// Tells the item that begins at bit `from` of a recording, of which these are some octets: the first of them stands at bit
+/// `begin`. `ended` says that no octets come after them. Where it is false, only an item is told that stays, whatever octets come.
+///
+/// Answers 1 where an item is told: `item` is set to its numbers, and `text` begins with its text and a zero after it where there
+/// is room for both, and else stays as it is. Answers 0 where there is none: where more octets decide, or, once the octets have
+/// ended, where `from` is their end. Answers -1 where `begin` is no multiple of 8, or `from` is before `begin`, after the end of
+/// the octets or above 2^59. At 0 and -1 `item` and `text` stay as they are. The items of the whole recording come in order where
+/// each call asks for the place at which the item before it ends.
+#[unsafe(no_mangle)]
+pub extern "C" fn p25_next_item(
+    octets: &[u8],
+    begin: u64,
+    from: u64,
+    ended: bool,
+    item: &mut ItemParts,
+    text: &mut [u8],
+) -> i32
+    ensures answer { result ≡ item_answer (items_asked ended begin from octets.now) }
+    ensures item { item.new ≡ item_left (items_asked ended begin from octets.now) item.old }
+    ensures text { text.new ≡ item_text_left (items_asked ended begin from octets.now) text.old }
+{
+    if !is_inside(begin, from, octets.len()) {
+        return OUTSIDE;
+    }
+    let mut raw = BitBuf::new();
+    let mut found = Item::Cut { place: 0, have: 0 };
+    if !find_item(octets, from - begin, from, ended, &mut raw, &mut found) {
+        return NO_ITEM;
+    }
+    tell_item(&found, raw.len() as u32, item, text);
+    ITEM
+}
+
+// Whether an item may be asked for at a place, where so many octets of the recording stand from bit `begin` on.
+fn is_inside(begin: u64, from: u64, count: usize) -> bool
+    ensures { result ≡ is_inside begin from count }
+{
+    if begin % 8 != 0 || from < begin || from > PLACE_MOST {
+        return false;
+    }
+    (from - begin).div_ceil(8) <= count as u64
+}
+
+// Tells an item that covers so many bits: its numbers, and its text where there is room.
+fn tell_item(found: &Item, bits: u32, item: &mut ItemParts, text: &mut [u8])
+    requires sound { IsSoundItem found.now }
+    requires bits { bits ≡ covered found.now }
+    ensures item { item.new ≡ parts_of found.now }
+    ensures text { text.new ≡ text_left (item_text_of found.now) text.old }
+{
+    let mut line = Line::new();
+    item_text(found, &mut line);
+    *item = item_parts(found, bits, line.len() as u32);
+    write_text(line.octets(), text);
+}
+
+// The numbers of an item that covers so many bits and whose text has so many octets.
+fn item_parts(found: &Item, bits: u32, text_length: u32) -> ItemParts
+    requires bits { bits ≡ covered found.now }
+    requires text { text_length ≡ length (item_text_of found.now) }
+    ensures { result ≡ parts_of found.now }
+{
+    let (nac, duid) = identifier(found);
+    ItemParts {
+        place: found.place(),
+        bits,
+        fixes: fixes(found),
+        text_length,
+        nac,
+        duid,
+        kind: kind(found),
+    }
+}
+
+// The network access code and the data unit identifier of a unit.
+fn identifier(found: &Item) -> (u16, u8)
+    ensures nac { result.0 ≡ nac_told found.now }
+    ensures duid { result.1 ≡ duid_told found.now }
+{
+    match found {
+        Item::Whole { frame, .. } => (frame.unit.nac(), frame.unit.body().duid()),
+        Item::Broken { nac, duid, .. } => (*nac, *duid),
+        Item::NoUnit { .. } | Item::Gap { .. } | Item::Cut { .. } => (0, 0),
+    }
+}
+
+// The number of wrong bits of a whole unit.
+fn fixes(found: &Item) -> u32
+    ensures { result ≡ fixes_told found.now }
+{
+    match found {
+        Item::Whole { fixes, .. } => *fixes,
+        Item::Broken { .. } | Item::NoUnit { .. } | Item::Gap { .. } | Item::Cut { .. } => 0,
+    }
+}
+
+// The number of an item's kind.
+fn kind(found: &Item) -> u8
+    ensures { result ≡ kind_number found.now }
+{
+    match found {
+        Item::Whole { .. } => 1,
+        Item::Broken { .. } => 2,
+        Item::NoUnit { .. } => 3,
+        Item::Gap { .. } => 4,
+        Item::Cut { .. } => 5,
+    }
+}
