@@ -1,2 +1,4 @@
 pub mod AnswerSteps
 pub mod SymbolSteps
+pub mod WordSteps
+pub mod BlockSteps

@@ -1,2 +1,4 @@
 pub mod Answers
+pub mod Blocks
 pub mod Solomon
+pub mod Words

@@ -1,5 +1,7 @@
 #![tactic(auto)]
 
 mod answers;
+mod blocks;
 mod checks;
 mod solomon;
+mod words;
