@@ -5,3 +5,5 @@ pub mod ItemsLaws
 pub mod CallsLaws
 pub mod FindingLaws
 pub mod BuildingLaws
+pub mod WordSteps
+pub mod BlockSteps

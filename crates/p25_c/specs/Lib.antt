@@ -1,4 +1,5 @@
 pub mod Answers
+pub mod Blocks
 pub mod Solomon
 pub mod Rooms
 pub mod Items
@@ -6,3 +7,4 @@ pub mod Calls
 pub mod Finding
 pub mod Building
 pub mod Version
+pub mod Words

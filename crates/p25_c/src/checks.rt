@@ -31,3 +31,6 @@ pub extern "C" fn p25_crc32(octets: &[u8]) -> u32
 {
     p25_crc::crc32(octets)
 }
+
+#[cfg(test)]
+mod tests;

@@ -14,6 +14,7 @@
 #![tactic(auto)]
 
 mod answers;
+mod blocks;
 mod building;
 mod checks;
 mod finding;
@@ -22,3 +23,4 @@ mod laws;
 mod room;
 mod solomon;
 mod version;
+mod words;

@@ -165,3 +165,6 @@ fn put_numbers(symbols: &[Sym], octets: &mut [u8])
         octets[i] = symbols[i].value();
     }
 }
+
+#[cfg(test)]
+mod tests;

@@ -1,0 +1,88 @@
+//! Blocks that another program made from the standard's tables.
+
+use super::*;
+
+#[test]
+fn blocks_of_half_rate(rt: HostRuntime) {
+    let rows: [([u8; 12], [u8; 25]); 2] = [
+        (
+            [0; 12],
+            [
+                0x22, 0x22, 0x22, 0x22, 0x22, 0x22, 0x22, 0x22, 0x22, 0x22, 0x22, 0x22, 0x22, 0x22,
+                0x22, 0x22, 0x22, 0x22, 0x22, 0x22, 0x22, 0x22, 0x22, 0x22, 0x20,
+            ],
+        ),
+        (
+            [
+                0x56, 0xC0, 0x00, 0x12, 0x34, 0x56, 0x81, 0x00, 0x08, 0x9A, 0xBC, 0xDE,
+            ],
+            [
+                0xC4, 0x22, 0x9C, 0xAE, 0x21, 0xAF, 0x90, 0x52, 0xCF, 0x09, 0x22, 0x74, 0xB0, 0x22,
+                0xEB, 0x02, 0x21, 0xD8, 0x3D, 0x22, 0x1E, 0xDC, 0x29, 0xA5, 0x60,
+            ],
+        ),
+    ];
+    for (octets, sent) in rows {
+        let mut bits = [255; 25];
+        p25_half_rate_write(&octets, &mut bits);
+        assert_eq!(rt; bits, sent);
+        bits[0] ^= 0x80;
+        bits[24] ^= 0x1F;
+        let mut read = [9; 12];
+        assert_eq!(rt; p25_half_rate_read(&bits, &mut read), 2);
+        assert_eq!(rt; read, octets);
+    }
+}
+
+#[test]
+fn blocks_of_three_quarter_rate(rt: HostRuntime) {
+    let rows: [([u8; 18], [u8; 25]); 2] = [
+        (
+            [0; 18],
+            [
+                0x22, 0x22, 0x22, 0x22, 0x22, 0x22, 0x22, 0x22, 0x22, 0x22, 0x22, 0x22, 0x22, 0x22,
+                0x22, 0x22, 0x22, 0x22, 0x22, 0x22, 0x22, 0x22, 0x22, 0x22, 0x20,
+            ],
+        ),
+        (
+            [
+                0x56, 0xC0, 0x00, 0x12, 0x34, 0x56, 0x81, 0x00, 0x08, 0x9A, 0xBC, 0xDE, 0xF0, 0x0F,
+                0x1E, 0x2D, 0x3C, 0x4B,
+            ],
+            [
+                0xEF, 0x2F, 0x22, 0x7A, 0x14, 0x8A, 0x60, 0x27, 0x5F, 0x26, 0x4E, 0xE8, 0x89, 0x2A,
+                0x7E, 0xDD, 0x0F, 0xCF, 0x16, 0x2C, 0x3A, 0xE5, 0xA2, 0xA9, 0x80,
+            ],
+        ),
+    ];
+    for (octets, sent) in rows {
+        let mut bits = [255; 25];
+        p25_three_quarter_rate_write(&octets, &mut bits);
+        assert_eq!(rt; bits, sent);
+        bits[7] ^= 0x01;
+        bits[24] ^= 0x0F;
+        let mut read = [9; 18];
+        assert_eq!(rt; p25_three_quarter_rate_read(&bits, &mut read), 1);
+        assert_eq!(rt; read, octets);
+    }
+}
+
+// The levels of the block of zeros, 49 times 00 and 10, and then two that are nearer to others.
+#[test]
+fn levels_of_zeros(rt: HostRuntime) {
+    let mut levels = [32; 98];
+    for i in 0..49 {
+        levels[2 * i + 1] = -32;
+    }
+    let mut halves = [9; 12];
+    assert_eq!(rt; p25_half_rate_read_levels(&levels, &mut halves), 0);
+    assert_eq!(rt; halves, [0; 12]);
+    levels[6] = -1;
+    levels[7] = 0;
+    let mut octets = [9; 18];
+    assert_eq!(rt;
+        p25_three_quarter_rate_read_levels(&levels, &mut octets),
+        2_113
+    );
+    assert_eq!(rt; octets, [0; 18]);
+}

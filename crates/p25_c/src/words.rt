@@ -1,0 +1,145 @@
+//! The binary words as numbers, and network identifiers. The first bit that is sent is the highest of a number.
+
+ghost use Rattle.std.specs.Prelude.{◌≡◌, ℕ, ◌^◌, ◌<◌, ◌≤◌, ◌⊎◌};
+ghost use Rattle.p25_bits.specs.Bits.{bits_of};
+ghost use Rattle.p25_golay.specs.Golay18.{IsGolay18};
+ghost use Rattle.p25_golay.specs.Golay18Readings.{golay18_reading_of};
+ghost use Rattle.p25_golay.specs.Golay24.{IsGolay24};
+ghost use Rattle.p25_golay.specs.Golay24Readings.{golay24_reading_of};
+ghost use Rattle.p25_hamming.specs.Hamming10.{IsHamming10};
+ghost use Rattle.p25_hamming.specs.Hamming10Readings.{hamming10_reading_of};
+ghost use Rattle.p25_hamming.specs.Lsd16.{IsLsd16};
+ghost use Rattle.p25_hamming.specs.Lsd16Readings.{lsd16_reading_of};
+ghost use Rattle.p25_c.specs.Words.{IsIdentifierReading, IsIdentifierWriting, IsNumberReading, IsNumberWriting};
+
+use crate::answers::{BEYOND, OUTSIDE};
+use p25_bch_nid::{Nid, nid_bits, nid_distance, read_nid};
+use p25_code::NumberCode;
+use p25_golay::{Golay18, Golay24};
+use p25_hamming::{Hamming10, Lsd16};
+
+/// Reads a received word of the Golay code (24,12) and answers how many bits were wrong, at most 3: the number becomes that of the
+/// one word that differs in so few. Answers -1 where there is none, and -2 where the number has more than 24 bits; it stays then.
+#[unsafe(no_mangle)]
+pub extern "C" fn p25_golay24_read(word: &mut u32) -> i32
+    ensures { IsNumberReading 24 golay24_reading_of word.old word.new result }
+{
+    read_number::<Golay24>(word)
+}
+
+/// Reads a received word of the Golay code (18,6), of 18 bits, as `p25_golay24_read` does. At most 3 wrong bits are corrected.
+#[unsafe(no_mangle)]
+pub extern "C" fn p25_golay18_read(word: &mut u32) -> i32
+    ensures { IsNumberReading 18 golay18_reading_of word.old word.new result }
+{
+    read_number::<Golay18>(word)
+}
+
+/// Reads a received word of the Hamming code (10,6), of 10 bits, as `p25_golay24_read` does. One wrong bit is corrected.
+#[unsafe(no_mangle)]
+pub extern "C" fn p25_hamming10_read(word: &mut u32) -> i32
+    ensures { IsNumberReading 10 hamming10_reading_of word.old word.new result }
+{
+    read_number::<Hamming10>(word)
+}
+
+/// Reads a received word of the low speed data, of 16 bits, as `p25_golay24_read` does. At most 2 wrong bits are corrected.
+#[unsafe(no_mangle)]
+pub extern "C" fn p25_lsd16_read(word: &mut u32) -> i32
+    ensures { IsNumberReading 16 lsd16_reading_of word.old word.new result }
+{
+    read_number::<Lsd16>(word)
+}
+
+/// Answers the word of the Golay code (24,12) with this information, of 12 bits: they are the word's highest. Answers FFFFFFFF hex,
+/// which is no word, where the information has more bits.
+#[unsafe(no_mangle)]
+pub extern "C" fn p25_golay24_write(info: u32) -> u32
+    ensures { IsNumberWriting IsGolay24 12 24 info result }
+{
+    write_number::<Golay24>(info)
+}
+
+/// Answers the word of the Golay code (18,6) with this information, of 6 bits, as `p25_golay24_write` does.
+#[unsafe(no_mangle)]
+pub extern "C" fn p25_golay18_write(info: u32) -> u32
+    ensures { IsNumberWriting IsGolay18 6 18 info result }
+{
+    write_number::<Golay18>(info)
+}
+
+/// Answers the word of the Hamming code (10,6) with this information, of 6 bits, as `p25_golay24_write` does.
+#[unsafe(no_mangle)]
+pub extern "C" fn p25_hamming10_write(info: u32) -> u32
+    ensures { IsNumberWriting IsHamming10 6 10 info result }
+{
+    write_number::<Hamming10>(info)
+}
+
+/// Answers the word of the low speed data with this information, of 8 bits, as `p25_golay24_write` does.
+#[unsafe(no_mangle)]
+pub extern "C" fn p25_lsd16_write(info: u32) -> u32
+    ensures { IsNumberWriting IsLsd16 8 16 info result }
+{
+    write_number::<Lsd16>(info)
+}
+
+/// Reads a network identifier of 64 bits, sets its NAC and its DUID, and answers how many of the first 63 bits were wrong, at most
+/// 11. Answers -1 where no word of the code lies so near; the two stay then. The last bit is not looked at.
+#[unsafe(no_mangle)]
+pub extern "C" fn p25_nid_read(bits: u64, nac: &mut u16, duid: &mut u8) -> i32
+    ensures { IsIdentifierReading (bits_of 64 bits) (nac.old, duid.old) (nac.new, duid.new) result }
+{
+    match read_nid(bits) {
+        Some(nid) => {
+            *nac = nid.nac;
+            *duid = nid.duid;
+            nid_distance(bits, &nid) as i32
+        }
+        None => BEYOND,
+    }
+}
+
+/// Answers the 64 bits that are sent for a NAC, below 4,096, and a DUID, below 16. Answers a number of ones alone, which is none, where
+/// one of the two is above.
+#[unsafe(no_mangle)]
+pub extern "C" fn p25_nid_write(nac: u16, duid: u8) -> u64
+    ensures { IsIdentifierWriting nac duid result }
+{
+    match Nid::new(nac, duid) {
+        Some(nid) => nid_bits(&nid),
+        None => u64::MAX,
+    }
+}
+
+// Reads a received word of a code.
+fn read_number<C: NumberCode>(word: &mut u32) -> i32
+    requires { C.HasCode }
+    ensures { IsNumberReading C.N C.reading_is word.old word.new result }
+{
+    let received = *word;
+    if u64::from(received) >> C::N > 0 {
+        return OUTSIDE;
+    }
+    match C::read_number(received) {
+        Some(sent) => {
+            *word = sent;
+            (received ^ sent).count_ones() as i32
+        }
+        None => BEYOND,
+    }
+}
+
+// The word of some information.
+fn write_number<C: NumberCode>(info: u32) -> u32
+    requires { C.HasCode }
+    ensures { IsNumberWriting C.IsWord C.K C.N info result }
+{
+    if u64::from(info) >> C::K > 0 {
+        return u32::MAX;
+    }
+    C::encode_number(info)
+}
+
+#[cfg(test)]
+mod tests;
