@@ -1,8 +1,7 @@
 /* Makes the calls of the library from C, one kind in a run, so that bindings/test can compare what they answer with what p25 writes.
 
-   usage: calls repair                 standard input is a recording, as of all that follow but the last four
+   usage: calls repair                 standard input is a recording; so it is of all but build, words and layout
           calls bridge NAC STATUS      NAC as three hexadecimal digits
-          calls stream                 the lines of the items, each with the number of octets that had come, fed one by one
           calls numbers                the numbers of each item
           calls prefixes               checks each beginning of the recording against the whole
           calls build STATUS           standard input is lines
@@ -81,20 +80,6 @@ static void bridge(uint16_t nac, uint8_t status) {
             int32_t length = p25_bridge(item_octets(&item), item.bits / 8, nac, status, unit, sizeof unit);
             check(length == (int32_t)item.bits / 8, "the length of a unit that is bridged");
             fwrite(unit, 1, item.bits / 8, stdout);
-        }
-    }
-}
-
-static void stream(void) {
-    uint64_t begin = 0;
-    uint64_t from = 0;
-    p25_item item;
-    for (size_t come = 0; come <= n + 1; come++) {
-        size_t there = come < n ? come : n;
-        begin = from / 8 * 8;
-        while (p25_next_item(octets + begin / 8, there - begin / 8, begin, from, come > n, &item, text, sizeof text) == P25_ITEM) {
-            printf("%zu %s\n", come, text);
-            from = item.place + item.bits;
         }
     }
 }
@@ -315,7 +300,6 @@ static void word_edges(void) {
     uint8_t symbols[36] = {0};
     bool marks[36] = {false};
     uint8_t block[25];
-    uint8_t before[25];
     uint8_t carried[12] = {0};
     uint32_t word = UINT32_C(1) << 24;
     symbols[35] = 64;
@@ -328,6 +312,7 @@ static void word_edges(void) {
     symbols[19] = 0;
     memset(symbols, 1, 16);
     memset(marks, true, 16);
+    marks[35] = false;
     check(p25_rs_36_20_read(symbols) == P25_BEYOND && symbols[15] == 1, "sixteen wrong symbols are beyond the radius");
     check(p25_rs_36_20_read_erased(symbols, marks) == 16 && symbols[0] == 0 && symbols[15] == 0, "sixteen erased symbols are read");
     check(p25_rs_36_20_read_erased(symbols, marks) == 0, "erased symbols that are right are not counted");
@@ -340,7 +325,6 @@ static void word_edges(void) {
     memset(block, 0xFF, sizeof block);
     p25_half_rate_write(carried, block);
     check(block[24] == 0x20, "the last four bits of a block are 0");
-    memcpy(before, block, sizeof block);
     block[24] |= 0x0F;
     check(p25_half_rate_read(block, carried) == 0, "the last four bits of a block are not looked at");
     block[3] ^= 0x81;
@@ -362,8 +346,6 @@ int main(int count, char **argument) {
         repair();
     } else if (strcmp(name, "bridge") == 0 && count == 4) {
         bridge((uint16_t)strtoul(argument[2], NULL, 16), (uint8_t)atoi(argument[3]));
-    } else if (strcmp(name, "stream") == 0) {
-        stream();
     } else if (strcmp(name, "numbers") == 0) {
         numbers();
     } else if (strcmp(name, "prefixes") == 0) {

@@ -15,6 +15,9 @@ import sys
 import p25
 
 
+DUIDS = {"hdu": 0, "tdu": 3, "ldu1": 5, "ldu2": 10, "confirmed": 12, "plain": 12, "response": 12, "tdulc": 15}
+
+
 def read(path):
     """Answers the octets of a file."""
     with open(path, "rb") as file:
@@ -51,6 +54,7 @@ def try_recording(path, shown, repaired, bridged):
         assert (it.value("fix") or "0") == str(it.fixes)
         assert it.value("nac") == (None if it.nac is None else f"{it.nac:03x}")
         assert it.value("duid") in (None, f"{it.duid or 0:x}")
+        assert it.kind != "unit" or it.duid == DUIDS[it.text.split(" ")[5]]
         end += it.bits
     assert end == 8 * len(octets)
     for size in range(1, 21):
