@@ -14,3 +14,4 @@ pub mod RadiusLaws
 pub mod FixesLaws
 pub mod ImageReadingLaws
 pub mod WholeLaws
+pub mod CountedLaws
