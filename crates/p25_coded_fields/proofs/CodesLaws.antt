@@ -63,6 +63,14 @@ pub field_beyond : (layout : Layout) (plain : List Bool) (answer : Reading) (wor
 unfolding word_read
 field_beyond layout plain answer word beyond is = field_reading_of-none layout plain (sym is ∙ ap (λ a. word_read a word) beyond)
 
+-- the outer word of a field that was read is a word of the outer code
+pub outer_word_found : (places : List ℕ) (size each n information : ℕ) (inner_reading : List Bool → Option (List Bool)) (received : List Bool) (answer : Reading) (word : List Sym) (fixes : ℕ) → answer ≡ Found fixes
+    → word_read answer word ≡ outer_word_of (field_layout places size each inner_reading (rs_marked_reading_of n information) information) received → IsWord n information word
+unfolding word_read outer_word_of
+outer_word_found places size each n information inner_reading received answer word fixes found is =
+    let list = received_in (field_layout places size each inner_reading (rs_marked_reading_of n information) information) received in
+    (within_cost same_symbols (IsWord n information) (n - information) list (rs_marked_reading_of n information list) word (rs_marked_reads_as n information list) (sym is ∙ ap (λ a. word_read a word) found)).word_of_set
+
 -- the words at places that a test finds before an end are there
 pub all_end : (size end len : ℕ) (places : List ℕ) → list_all (λ at. nat_le (at + size) end) places ≡ true → end ≤ len → All (λ at. at + size ≤ len) places
 all_end size end len [] test fits = All-nil (λ at. at + size ≤ len)

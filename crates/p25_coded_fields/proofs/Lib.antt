@@ -5,3 +5,4 @@ pub mod WithinLaws
 pub mod FieldLaws
 pub mod CodesLaws
 pub mod FieldWordsLaws
+pub mod FixesLaws

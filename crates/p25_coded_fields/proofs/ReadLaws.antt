@@ -1,21 +1,26 @@
 -- The reader of fields: what one inner word gives, by whether it is read, and one more inner word in the loop.
-use Rattle.std.proofs.Common.{◌≡◌, ℕ, zero, suc, ◌+◌, ◌*◌, ◌<◌, ◌≤◌, Bool, true, false, cond, List, [], ◌∷◌, ◌++◌, length, take, map, replicate, get_or, Option, Some, None, refl, ap, ap₂, sym, ◌∙◌, arith}
+use Rattle.std.proofs.Common.{◌≡◌, ℕ, zero, suc, ◌+◌, ◌-◌, ◌*◌, ◌/◌, ◌^◌, ◌<◌, ◌≤◌, Bool, true, false, cond, List, [], ◌∷◌, ◌++◌, length, take, map, replicate, get_or, bit_xor, Option, Some, None, refl, subst, ap, ap₂, sym, ◌∙◌, arith}
 use Rattle.std.specs.List.{flat_map}
+use Rattle.std.specs.Int.RustNames.{count_ones}
 use Rattle.std.proofs.lemmas.List.{append-nil, length-take-le, take_all, take_more}
 use Rattle.std.proofs.Math.Nat.{mul_comm}
 use Rattle.std.proofs.lemmas.List.Concat.{flat_map-append}
 use Rattle.std.proofs.lemmas.List.Elements.{All-replicate}
 use Rattle.std.proofs.lemmas.Slice.{take-put_mid}
 use borrow.Rule.Slice.PartMut.{put_mid}
-use Rattle.p25_bits.specs.Bits.{bits_of, field_of, part}
-use Rattle.p25_bits.proofs.NumbersLaws.{bits_of-field}
+use Rattle.p25_bits.specs.Bits.{bits_of, part}
+use Rattle.p25_bits.specs.Distance.{distance_of}
+use Rattle.p25_bits.proofs.BitsLaws.{length-bits_of, take-bits_of}
+use Rattle.p25_bits.proofs.DistanceLaws.{distance_of-bits_of, same_from_distance_by}
+use Rattle.p25_code.specs.Readings.{IsReadAs}
+use Rattle.p25_code.specs.Words.{IsEncoding}
 use Rattle.p25_code.specs.declared.code.Reading.{Reading}
-use Rattle.p25_code.specs.declared.code.Reading.TheVariants.{Found, Beyond}
-use Rattle.p25_code.specs.Readings.{word_read}
-use Rattle.p25_code.specs.Marks.{marked}
+use Rattle.p25_code.specs.declared.code.Reading.TheVariants.{Found}
+use Rattle.p25_code.specs.Marks.{marked, IsMarkedFound, IsMarkedReading}
 use Rattle.p25_code.proofs.MarkedLaws.{marked-plain}
 use Rattle.p25_gf64.specs.declared.symbol.Sym.{Sym}
-use Rattle.p25_link.specs.Symbols.{symbols_in}
+use Rattle.p25_link.specs.Symbols.{symbols_in, symbol_bits}
+use Rattle.p25_link.proofs.SymbolsLaws.{symbol_bits-all}
 use Rattle.p25_coded_fields.specs.Layouts.{Layout, marks_of, received_in, outer_word_of}
 use Rattle.p25_coded_fields.proofs.SymbolsLaws.{one_more, symbols_in-take}
 
@@ -49,39 +54,51 @@ marked-append [] ys (e ∷ es) fs long = absurd (omega arith)
 marked-append (x ∷ xs) ys [] fs long = absurd (omega arith)
 marked-append (x ∷ xs) ys (e ∷ es) fs long = let rest : length xs ≡ length es = omega arith in ap (λ list. cond e None (Some x) ∷ list) (marked-append xs ys es fs rest)
 
--- the bits at a place, by way of the number that they write
-pub bits_taken : (n width value at : ℕ) (front : ℕ) (buffer plain new : List Bool) → new ≡ bits_of (length (take front buffer)) value → front ≡ n → n ≤ length buffer → value ≡ field_of (part at width plain) → width ≡ n
-    → at + n ≤ length plain → new ≡ part at n plain
-bits_taken n width value at front buffer plain new made cut fits is same there =
-    made
-    ∙ ap₂ bits_of (ap (λ k. length (take k buffer)) cut ∙ length-take-le n buffer fits) (is ∙ ap (λ k. field_of (part at k plain)) same)
-    ∙ bits_of-field n at plain there
-
 -- the length of the front of a buffer
 pub cut_long : {X : Type 0} (n : ℕ) (buffer xs : List X) → length xs ≡ length (take n buffer) → n ≤ length buffer → length xs ≡ n
 cut_long n buffer xs same fits = same ∙ length-take-le n buffer fits
 
+-- the information of a word, by the number that it writes
+information_bits : (size k each value : ℕ) → 6 * each ≡ k → k ≤ size → bits_of (6 * each) (value / 2 ^ (size - k)) ≡ take k (bits_of size value)
+information_bits size k each value sixes fits = ap (λ n. bits_of n (value / 2 ^ (size - k))) sixes ∙ sym (take-bits_of k size value fits)
+
 -- an inner word was read
-pub inner_found : (each k fixes : ℕ) (word : List Bool) (value : Option (List Bool)) (answer : Reading) (symbols : List Sym) (erased : List Bool) → 6 * each ≡ k → k ≤ length word → answer ≡ Found fixes → word_read answer word ≡ value
-    → symbols ≡ symbols_in each (take k word) → erased ≡ replicate each false → marked symbols erased ≡ marks_of each value
-unfolding word_read
-inner_found each k fixes word value answer symbols erased sixes fits found is made none =
-    let some : Some word ≡ value = ap (λ a. word_read a word) (sym found) ∙ is in
+pub inner_found : (size k each value : ℕ) (reading : Option (List Bool)) (symbols : List Sym) (erased : List Bool) → 6 * each ≡ k → k ≤ size → Some (bits_of size value) ≡ reading
+    → symbols ≡ symbols_in each (bits_of (6 * each) (value / 2 ^ (size - k))) → erased ≡ replicate each false → marked symbols erased ≡ marks_of each reading
+inner_found size k each value reading symbols erased sixes fits some made none =
+    let word = bits_of size value in
     let inside : 6 * each ≤ k = omega arith in
-    let there : 6 * each ≤ length word = omega arith in
-    ap₂ marked (made ∙ symbols_in-take each k word inside there) none
+    let there : 6 * each ≤ length word = omega (arith, length-bits_of size value) in
+    ap₂ marked (made ∙ ap (symbols_in each) (information_bits size k each value sixes fits) ∙ symbols_in-take each k word inside there) none
     ∙ marked-plain (symbols_in each word) (replicate each false) (All-replicate (λ gone. gone ≡ false) each false refl)
     ∙ sym (marks_of-some each word)
     ∙ ap (marks_of each) some
 
 -- no inner word was read
-pub inner_beyond : (each : ℕ) (word : List Bool) (value : Option (List Bool)) (answer : Reading) (symbols : List Sym) (erased : List Bool) → length symbols ≡ each → answer ≡ Beyond
-    → word_read answer word ≡ value → erased ≡ replicate each true
-    → marked symbols erased ≡ marks_of each value
-unfolding word_read
-inner_beyond each word value answer symbols erased long beyond is gone =
-    let none : None ≡ value = ap (λ a. word_read a word) (sym beyond) ∙ is in
-    ap (marked symbols) gone ∙ marked-erased symbols each long ∙ sym (marks_of-none each) ∙ ap (marks_of each) none
+pub inner_beyond : (each : ℕ) (reading : Option (List Bool)) (symbols : List Sym) (erased : List Bool) → length symbols ≡ each → None ≡ reading → erased ≡ replicate each true → marked symbols erased ≡ marks_of each reading
+inner_beyond each reading symbols erased long none gone = ap (marked symbols) gone ∙ marked-erased symbols each long ∙ sym (marks_of-none each) ∙ ap (marks_of each) none
+
+-- a word that is read is one of the set
+pub read_word_of_set : {L : Type 0} (same : L → L → Bool) (IsWord : List L → Type 0) (radius : ℕ) (received word : List L) (answer : Option (List L)) → IsReadAs same IsWord radius received answer → answer ≡ Some word → IsWord word
+unfolding IsReadAs
+read_word_of_set same IsWord radius received word answer is some = (subst (IsReadAs same IsWord radius received) some is).word_of_set
+
+-- the wrong bits of an inner word: those that differ from the one word with its information
+pub wrong_bits : {IsWord : List Bool → Type 0} (size k : ℕ) → ((v w : List Bool) → IsWord v → IsWord w → take k v ≡ take k w → v ≡ w) → (received value : ℕ) (info bits sent : List Bool) → IsEncoding IsWord k info (bits_of size value)
+    → IsEncoding IsWord k info sent → bits_of size received ≡ bits → received < 2 ^ size → value < 2 ^ size → count_ones (bit_xor received value) ≡ distance_of bits sent
+wrong_bits size k one_word received value info bits sent made is taken small_received small =
+    let same : bits_of size value ≡ sent = one_word (bits_of size value) sent made.word_of_set is.word_of_set (made.begins ∙ sym is.begins) in
+    sym (distance_of-bits_of size received value small_received small) ∙ ap₂ (λ (xs ys : List Bool). distance_of xs ys) taken same
+
+-- a word that was read has the information that its symbols write
+pub read_encoding : {IsWord : List Bool → Type 0} (size k each value : ℕ) (symbols : List Sym) → 6 * each ≡ k → k ≤ size → IsWord (bits_of size value) → symbols ≡ symbols_in each (bits_of (6 * each) (value / 2 ^ (size - k)))
+    → IsEncoding IsWord k (symbol_bits symbols) (bits_of size value)
+read_encoding size k each value symbols sixes fits is_word made =
+    let info = bits_of (6 * each) (value / 2 ^ (size - k)) in
+    record {
+      word_of_set = is_word;
+      begins = sym (ap symbol_bits made ∙ symbol_bits-all each info (length-bits_of (6 * each) (value / 2 ^ (size - k))) ∙ information_bits size k each value sixes fits);
+    }
 
 -- before the first place
 pub marked_before : {L : Type 0} (each : ℕ) (word : List L) (erased : List Bool) → marked (take (each * 0) word) (take (each * 0) erased) ≡ []
@@ -123,3 +140,19 @@ pub outer_read : (layout : Layout) (bits : List Bool) (list : List (Option Sym))
     → list ≡ flat_map (λ at. marks_of layout.each (layout.inner_reading (part at layout.size bits))) layout.places → value ≡ outer_word_of layout bits
 unfolding outer_word_of received_in
 outer_read layout bits list value read is = read ∙ ap layout.outer_reading is
+
+-- an outer word that was read has its letters
+pub found_long : {L : Type 0} (same : L → L → Bool) (IsWord : List L → Type 0) (n most : ℕ) (list : List (Option L)) (received word : List L) (answer : Reading) (fixes : ℕ) → ((w : List L) → IsWord w → length w ≡ n) → answer ≡ Found fixes
+    → IsMarkedReading same IsWord most list received word answer → length word ≡ n
+unfolding IsMarkedReading
+found_long same IsWord n most list received word answer fixes long found is =
+    let read : IsMarkedFound same IsWord most list received word fixes = subst (λ a. IsMarkedReading same IsWord most list received word a) found is in
+    long word read.word_of_set
+
+-- and it is what was received where no letter changed
+pub found_same : {L : Type 0} (same : L → L → Bool) (IsWord : List L → Type 0) (n most : ℕ) (list : List (Option L)) (received word : List L) (answer : Reading) (fixes : ℕ) → ((x y : L) → same x y ≡ true → x ≡ y)
+    → ((w : List L) → IsWord w → length w ≡ n) → length received ≡ n → answer ≡ Found fixes → fixes ≡ 0 → IsMarkedReading same IsWord most list received word answer → received ≡ word
+unfolding IsMarkedReading
+found_same same IsWord n most list received word answer fixes alike long long_received found none is =
+    let read : IsMarkedFound same IsWord most list received word fixes = subst (λ a. IsMarkedReading same IsWord most list received word a) found is in
+    same_from_distance_by same alike received word (long_received ∙ sym (long word read.word_of_set)) (sym read.fixes_is ∙ none)

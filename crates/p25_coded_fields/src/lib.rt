@@ -19,6 +19,7 @@
 //! layout and the unit's bits. Both codes are any that meet the traits of p25_code; no call takes memory or fails.
 #![tactic(auto)]
 
+mod fixes;
 mod put;
 mod read;
 mod symbols;

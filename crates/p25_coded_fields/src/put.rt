@@ -4,13 +4,13 @@ ghost use Rattle.std.specs.Prelude.{◌≡◌, ◌+◌, ◌*◌, ◌/◌, ◌≤
 ghost use Rattle.p25_coded_fields.specs.Layouts.{field_bits};
 ghost use Rattle.p25_coded_fields.specs.Written.{Encodes, IsPut, IsWritten};
 
-use crate::symbols::fill_bits;
-use p25_bits::{BitBuf, number_of};
-use p25_code::BlockCode;
+use crate::symbols::symbols_number;
+use p25_bits::BitBuf;
+use p25_code::NumberCode;
 use p25_gf64::Sym;
 
 // Appends the inner word whose information is the symbols.
-fn put_inner<I: BlockCode<Letter = bool>>(symbols: &[Sym], out: &mut BitBuf)
+fn put_inner<I: NumberCode>(symbols: &[Sym], out: &mut BitBuf)
     requires code { I.HasCode }
     requires small { I.N ≤ 24 }
     requires sixes { 6 * length symbols.now ≡ I.K }
@@ -18,19 +18,14 @@ fn put_inner<I: BlockCode<Letter = bool>>(symbols: &[Sym], out: &mut BitBuf)
     ensures put { IsPut I.IsWord I.K symbols.now out.old out.new }
     ensures len { length out.new ≡ length out.old + I.N }
 {
-    let mut bits = [false; 24];
-    let info = &mut bits[..I::K];
-    fill_bits(symbols, info);
-    let mut buffer = [false; 24];
-    let word = &mut buffer[..I::N];
-    I::encode(info, word);
-    out.put_field(number_of(word), I::N as u32);
+    let word = I::encode_number(symbols_number(symbols));
+    out.put_field(u64::from(word), I::N as u32);
 }
 
 /// Appends `count` inner words, whose information is the symbols in order, so many for each word as its information has. For
 /// every function that encodes, as the inner code does, what is appended is `field_bits` of it. TIA-102.BAAA, Voice Data
 /// Units.
-pub fn put_field<I: BlockCode<Letter = bool>>(symbols: &[Sym], count: usize, out: &mut BitBuf)
+pub fn put_field<I: NumberCode>(symbols: &[Sym], count: usize, out: &mut BitBuf)
     requires code { I.HasCode }
     requires small { I.N ≤ 24 }
     requires sixes { 6 * (I.K / 6) ≡ I.K }

@@ -1,14 +1,20 @@
 //! Fields read.
 
-ghost use Rattle.std.specs.Prelude.{◌≡◌, ◌+◌, ◌*◌, ◌/◌, ◌≤◌, All, length, replicate};
+ghost use Rattle.std.specs.Prelude.{◌≡◌, ℕ, ◌+◌, ◌*◌, ◌/◌, ◌<◌, ◌≤◌, All, Bool, List, IfSome, length, replicate};
 ghost use Rattle.p25_bits.specs.Bits.{part};
+ghost use Rattle.p25_bits.specs.Distance.{distance_of};
 ghost use Rattle.p25_code.specs.Marks.{marked};
 ghost use Rattle.p25_code.specs.Readings.{word_read};
+ghost use Rattle.p25_code.specs.Words.{IsEncoding};
+ghost use Rattle.p25_coded_fields.specs.Fixes.{field_fixes_of, AreCounted, IsTotal};
 ghost use Rattle.p25_coded_fields.specs.Layouts.{field_layout, marks_of, outer_word_of};
+ghost use Rattle.p25_coded_fields.specs.Written.{Encodes};
+ghost use Rattle.p25_link.specs.Symbols.{symbol_bits};
 
-use crate::symbols::fill_symbols;
-use p25_bits::{BitBuf, put_number};
-use p25_code::{BlockCode, ErasedCode, Reading, read_marked, read_received};
+use crate::fixes::{field_fixes, sum_of};
+use crate::symbols::take_symbols;
+use p25_bits::BitBuf;
+use p25_code::{ErasedCode, NumberCode, Reading, read_marked};
 use p25_gf64::Sym;
 
 // Sets all to one truth value.
@@ -20,29 +26,35 @@ fn set_all(erased: &mut [bool], gone: bool)
     }
 }
 
-// Reads the inner word at a place. The symbols become those of its information, or all are erased where no word is read.
-fn read_inner<I: BlockCode<Letter = bool>>(
+// Reads the inner word at a place, and answers how many of its bits were wrong. The symbols become those of its information.
+// Where no word is read all are erased, and the answer is None.
+fn read_inner<I: NumberCode>(
     plain: &BitBuf,
     at: usize,
     symbols: &mut [Sym],
     erased: &mut [bool],
-)
+) -> Option<u32>
     requires code { I.HasCode }
     requires small { I.N ≤ 24 }
     requires sixes { 6 * length symbols.old ≡ I.K }
     requires same { length erased.old ≡ length symbols.old }
     requires there { at + I.N ≤ length plain.now }
-    ensures { marked symbols.new erased.new ≡ marks_of (length symbols.old) (I.reading_is (part at I.N plain.now)) }
+    ensures marks { marked symbols.new erased.new ≡ marks_of (length symbols.old) (I.reading_is (part at I.N plain.now)) }
+    ensures few { IfSome result (λ wrong. wrong ≤ 24) }
+    ensures wrong { IfSome result (λ wrong. (sent : List Bool) → IsEncoding I.IsWord I.K (symbol_bits symbols.new) sent
+        → wrong ≡ distance_of (part at I.N plain.now) sent) }
 {
-    let mut buffer = [false; 24];
-    let word = &mut buffer[..I::N];
-    put_number(plain.field(at, I::N as u32), word);
-    match read_received::<I>(word) {
-        Reading::Found { .. } => {
-            fill_symbols(&word[..I::K], symbols);
+    let received = plain.field(at, I::N as u32) as u32;
+    match I::read_number(received) {
+        Some(sent) => {
+            take_symbols(sent >> (I::N - I::K), symbols);
             set_all(erased, false);
+            Some((received ^ sent).count_ones())
         }
-        Reading::Beyond => set_all(erased, true),
+        None => {
+            set_all(erased, true);
+            None
+        }
     }
 }
 
@@ -50,8 +62,9 @@ fn read_inner<I: BlockCode<Letter = bool>>(
 /// word of the inner code lies within the radius of what was received at a place, the symbols there are erased. `word` gets
 /// the N symbols of the outer word: where the answer is Found those of the word that costs at most N - K, two for each
 /// wrong symbol and one for each erased one. Where the answer is Beyond there is no such word, and nothing is said of
-/// `word`. TIA-102.BAAA, Voice Data Units.
-pub fn read_field<I: BlockCode<Letter = bool>, O: ErasedCode<Letter = Sym>>(
+/// `word`. The fixes of Found are the bits in which the inner words were received otherwise than they are sent for that word.
+/// TIA-102.BAAA, Voice Data Units.
+pub fn read_field<I: NumberCode, O: ErasedCode<Letter = Sym>>(
     plain: &BitBuf,
     places: &[usize],
     word: &mut [Sym],
@@ -64,14 +77,24 @@ pub fn read_field<I: BlockCode<Letter = bool>, O: ErasedCode<Letter = Sym>>(
     requires word { length word.old ≡ O.N }
     requires places { length places.now * (I.K / 6) ≡ O.N }
     requires there { All (λ at. at + I.N ≤ length plain.now) places.now }
-    ensures { word_read result word.new ≡ outer_word_of (field_layout places.now I.N (I.K / 6) I.reading_is O.marked_reading_is O.K) plain.now }
+    ensures value { word_read result word.new ≡ outer_word_of (field_layout places.now I.N (I.K / 6) I.reading_is O.marked_reading_is O.K) plain.now }
+    ensures fixes { 0 < I.K → (encoding : List Bool → List Bool) → Encodes I.IsWord I.K encoding → (fixes : ℕ) → result ≡ Reading.Found fixes
+        → fixes ≡ field_fixes_of encoding I.N (I.K / 6) places.now word.new plain.now }
+    ensures most { 0 < I.K → (fixes : ℕ) → result ≡ Reading.Found fixes → fixes ≤ 24 * length places.now }
 {
     let each = I::K / 6;
     let mut buffer = [false; 36];
     let erased = &mut buffer[..word.len()];
+    let mut wrong = Some(0);
     for (i, at) in places.iter().enumerate() {
         let (start, end) = (each * i, each * i + each);
-        read_inner::<I>(plain, *at, &mut word[start..end], &mut erased[start..end]);
+        let more = read_inner::<I>(plain, *at, &mut word[start..end], &mut erased[start..end]);
+        wrong = sum_of(wrong, more);
     }
-    read_marked::<O>(word, erased)
+    match read_marked::<O>(word, erased) {
+        Reading::Found { fixes } => Reading::Found {
+            fixes: field_fixes::<I>(fixes, wrong, plain, places, word),
+        },
+        Reading::Beyond => Reading::Beyond,
+    }
 }

@@ -1,35 +1,32 @@
-//! Symbols and the bits that write them.
+//! Symbols and the numbers that their bits write.
 
-ghost use Rattle.std.specs.Prelude.{◌≡◌, ◌*◌, length};
-ghost use Rattle.p25_link.specs.Symbols.{symbol_in, symbols_in, symbol_bits};
+ghost use Rattle.std.specs.Prelude.{◌≡◌, ◌*◌, ◌^◌, ◌<◌, ◌≤◌, length};
+ghost use Rattle.p25_bits.specs.Bits.{bits_of, field_of};
+ghost use Rattle.p25_link.specs.Symbols.{symbols_in, symbol_bits};
 
-use p25_bits::{number_of, put_number};
 use p25_gf64::Sym;
 
-// The symbol that six bits write.
-fn symbol_of(bits: &[bool]) -> Sym
-    requires { length bits.now ≡ 6 }
-    ensures { result ≡ symbol_in bits.now }
+/// Sets the symbols to those that the last bits of a number write, six each, the last of them the last symbol's.
+pub(crate) fn take_symbols(number: u32, symbols: &mut [Sym])
+    requires { length symbols.old ≤ 5 }
+    ensures { symbols.new ≡ symbols_in (length symbols.old) (bits_of (6 * length symbols.old) number) }
 {
-    Sym::new(number_of(bits) as u8).unwrap_or(Sym::ZERO)
-}
-
-/// Sets the symbols to those that the bits write, six each.
-pub(crate) fn fill_symbols(bits: &[bool], symbols: &mut [Sym])
-    requires { length bits.now ≡ 6 * length symbols.old }
-    ensures { symbols.new ≡ symbols_in (length symbols.old) bits.now }
-{
-    for i in 0..symbols.len() {
-        symbols[i] = symbol_of(&bits[6 * i..6 * i + 6]);
+    let count = symbols.len();
+    for i in 0..count {
+        let value = (number >> (6 * (count - 1 - i))) % 64;
+        symbols[i] = Sym::new(value as u8).unwrap_or(Sym::ZERO);
     }
 }
 
-/// Sets the bits to those of the symbols, six each.
-pub(crate) fn fill_bits(symbols: &[Sym], bits: &mut [bool])
-    requires { length bits.old ≡ 6 * length symbols.now }
-    ensures { bits.new ≡ symbol_bits symbols.now }
+/// Answers the number that the bits of the symbols write, six each.
+pub(crate) fn symbols_number(symbols: &[Sym]) -> u32
+    requires { length symbols.now ≤ 5 }
+    ensures value { result ≡ field_of (symbol_bits symbols.now) }
+    ensures fits { result < 2 ^ (6 * length symbols.now) }
 {
-    for (i, symbol) in symbols.iter().enumerate() {
-        put_number(u64::from(symbol.value()), &mut bits[6 * i..6 * i + 6]);
+    let mut number = 0;
+    for symbol in symbols {
+        number = 64 * number + u32::from(symbol.value());
     }
+    number
 }

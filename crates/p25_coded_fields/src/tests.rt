@@ -31,12 +31,13 @@ fn invert(bits: &mut BitBuf, place: usize, count: usize)
 fn fields(rt: HostRuntime) {
     let mut sent = [Sym::ZERO; 4];
     Outer::encode(&[Sym::pow_alpha(7), Sym::ONE], &mut sent);
+    // Rows: the wrong bits of both words, and the fixes of the field, where it is read.
     for (first, second, read) in [
-        (0, 0, true),
-        (3, 3, true),
-        (4, 3, true),
-        (2, 4, true),
-        (4, 4, false),
+        (0, 0, Some(0)),
+        (3, 3, Some(6)),
+        (4, 3, Some(7)),
+        (2, 4, Some(6)),
+        (4, 4, None),
     ] {
         let mut plain = BitBuf::new();
         plain.put_field(0xA5, 8);
@@ -48,8 +49,10 @@ fn fields(rt: HostRuntime) {
         assert_eq!(rt; plain.len(), 56);
         let mut word = [Sym::ZERO; 4];
         match read_field::<Golay24, Outer>(&plain, &PLACES, &mut word) {
-            Reading::Found { .. } => assert!(rt; read && word == sent, "{first} {second}"),
-            Reading::Beyond => assert!(rt; !read, "{first} {second}"),
+            Reading::Found { fixes } => {
+                assert!(rt; read == Some(fixes) && word == sent, "{first} {second}");
+            }
+            Reading::Beyond => assert!(rt; read.is_none(), "{first} {second}"),
         }
     }
 }

@@ -8,7 +8,6 @@ use Rattle.p25_status.specs.declared.fields.Field.{Field}
 use Rattle.p25_status.specs.declared.symbols.Status.{Status}
 use Rattle.p25_unit_front.specs.Front.{front_fixes_of}
 use Rattle.p25_voice_units.specs.declared.unit.VoiceUnit.{VoiceUnit}
-use Rattle.p25_voice_units.specs.Lengths.{voice_duid}
 use Rattle.p25_voice_units.specs.Readings.{voice_reading_of}
 use Rattle.p25_units.specs.UnitParts.{UnitParts}
 use Rattle.p25_units.specs.Fixes.{body_fixes_of, fixes_of}
@@ -50,12 +49,6 @@ pub voice_frame-is : (nac duid : ℕ) (bits : List Bool) (at count : ℕ) (voice
 voice_frame-is nac duid bits at count voice statuses inside kind other statuses_is read =
     let sent = part at count bits in
     IsFrameOf-reading (nac, duid) sent (voice_frame nac voice statuses) (IsUnitOf-need count (drop at bits) duid kind) (sym (voice_read nac duid sent voice statuses other statuses_is read))
-
--- it has the kind that its identifier tells
-pub voice_duid-is : (nac duid : ℕ) (bits : List Bool) (at count : ℕ) (voice : VoiceUnit) (statuses : List Status) → at ≤ length bits → kind_need duid (drop at bits) ≡ Length count → duid ≢ 0xC
-    → statuses ≡ statuses_of (part at count bits) → Ok voice ≡ voice_reading_of duid (plain_of (part at count bits)) → voice_duid voice ≡ duid
-unfolding voice_frame
-voice_duid-is nac duid bits at count voice statuses inside kind other statuses_is read = (voice_frame-is nac duid bits at count voice statuses inside kind other statuses_is read).duid
 
 -- the item of a whole voice unit: its fixes are those of its front and those after it
 pub whole_voice-is : (place nac duid : ℕ) (bits : List Bool) (at count : ℕ) (voice : VoiceUnit) (statuses : List Status) → at ≤ length bits → kind_need duid (drop at bits) ≡ Length count → duid ≢ 0xC → nac ≤ 4095

@@ -68,7 +68,7 @@ fn voice_unit_fixes(bits: &BitBuf, at: usize, nac: u16, voice: &VoiceUnit) -> u3
 }
 
 // Counts them by the unit's bits without status symbols. After the front of a terminator stand no words.
-pub(crate) fn coded_fixes(nac: u16, voice: &VoiceUnit, plain: &BitBuf) -> u32
+fn coded_fixes(nac: u16, voice: &VoiceUnit, plain: &BitBuf) -> u32
     requires nac { nac ≤ 4095 }
     requires long { voice_length_of (voice_duid voice.now) ≡ Some (length plain.now) }
     ensures sendable { IsSendableVoice voice.now }

@@ -10,7 +10,6 @@ ghost use Rattle.p25_units.specs.declared.needs.Need.TheVariants.{Length};
 ghost use Rattle.p25_units.specs.Readings.{reading_from};
 
 use crate::begun::Begun;
-use crate::fixing::coded_fixes;
 use crate::frame::{Frame, frame_length};
 use crate::packets::read_packet_body;
 use crate::unit::{Body, Unit};
@@ -18,7 +17,7 @@ use p25_bch_nid::{Nid, PDU};
 use p25_bits::BitBuf;
 use p25_status::{Field, FieldList, Statuses, unweave};
 use p25_unit_front::front_fixes;
-use p25_voice_units::{VoiceUnit, read_voice};
+use p25_voice_units::{VoiceUnit, read_voice_counted};
 
 /// A stretch of a stream. Places count bits from the beginning of the stream.
 #[derive(Drop)]
@@ -181,9 +180,10 @@ fn set_voice_item(
 {
     let mut statuses = Statuses::new();
     unweave(bits, at, count, room, &mut statuses);
-    match read_voice(nid.duid, room) {
+    let mut coded = 0;
+    match read_voice_counted(nid.duid, room, &mut coded) {
         Ok(voice) => {
-            let fixes = front_fixes(bits, at, nid) + coded_fixes(nid.nac, &voice, room);
+            let fixes = front_fixes(bits, at, nid) + coded;
             item.set_voice(place, nid.nac, voice, statuses, fixes);
         }
         Err(fields) => *item = broken_item(place, count, nid, fields),

@@ -1,21 +1,23 @@
 -- A unit's bits by its places: a unit is laid out and carries its coded field exactly where its bits are its front and the pieces of its
 -- rows. One way goes from the words of the field to the pieces and then to the whole, the other way back.
 use Rattle.std.proofs.Common.{◌≡◌, ℕ, ◌+◌, ◌*◌, ◌<◌, ◌≤◌, Bool, true, List, ◌++◌, length, take, get_or, All, ap, ap₂, sym, subst, ◌∙◌, arith, length-append, take-append-drop, Option}
-use Rattle.std.specs.List.{list_all}
+use Rattle.std.specs.List.{flat_map, list_all}
 use Rattle.std.specs.Prelude.{nat_le}
 use Rattle.std.proofs.lemmas.Bool.{leb-true}
 use Rattle.std.proofs.lemmas.List.Sums.{AllPass-from_list_all}
 use Rattle.std.proofs.lemmas.List.{get_or_default}
 use Rattle.p25_bits.specs.Bits.{part}
+use Rattle.p25_bits.proofs.NumbersLaws.{joined_below-same}
 use Rattle.p25_code.specs.Words.{IsEncoding}
-use Rattle.std.proofs.lemmas.List.{take_at}
+use Rattle.std.proofs.lemmas.List.{take_all, take_at}
 use Rattle.p25_gf64.specs.declared.symbol.Sym.{Sym}
 use Rattle.p25_link.specs.Symbols.{symbol_bits}
 use Rattle.p25_unit_front.specs.Front.{unit_front, IsFront}
 use Rattle.p25_unit_front.proofs.FrontLaws.{length-unit_front, IsFront-unit_front, unit_front-only}
-use Rattle.p25_coded_fields.specs.Layouts.{field_layout, sent_in}
+use Rattle.p25_coded_fields.specs.Fixes.{inner_bits}
+use Rattle.p25_coded_fields.specs.Layouts.{field_bits, field_layout, sent_in}
 use Rattle.p25_coded_fields.specs.Within.{HasField}
-use Rattle.p25_coded_fields.proofs.FieldLaws.{field_there, field_word}
+use Rattle.p25_coded_fields.proofs.FieldLaws.{field_there, field_word, flat_map_by_place}
 use Rattle.p25_coded_fields.proofs.FieldWordsLaws.{field_word_there}
 use Rattle.p25_voice_units.specs.declared.layout.Piece.{Piece}
 use Rattle.p25_voice_units.specs.FieldLayouts.{word_places}
@@ -64,6 +66,20 @@ module _ {IsWord : List Bool → Type 0} {size k : ℕ} {carried : Contents} (ca
       sym (take-append-drop 112 plain)
       ∙ ap₂ (λ (xs ys : List Bool). xs ++ ys) (unit_front-only nac duid (take 112 plain) is.front)
       (rows_only size carried rows 112 plain are.stand (is.long ∙ are.fill) (rows_from_words carries rows 0 plain are.counted words is.pieces))
+
+  -- its inner words are those of its symbols
+  pub words_in_unit : (nac duid : ℕ) (plain : List Bool) → plain ≡ unit_front nac duid ++ rows_bits carried rows
+      → inner_bits size (word_places size rows) plain ≡ field_bits carried.encoding carried.each (length (word_places size rows)) carried.symbols
+  unfolding inner_bits field_bits group_word
+  words_in_unit nac duid plain is =
+      let places = word_places size rows in
+      let every : length places ≤ length places = omega arith in
+      let run : ℕ → List Bool = λ at. part at size plain in
+      let word : ℕ → List Bool = λ i. carried.encoding (symbol_bits (part (carried.each * i) carried.each carried.symbols)) in
+      ap (flat_map run) (sym (take_all (length places) places every))
+      ∙ flat_map_by_place run places 0 (length places) every
+      ∙ joined_below-same (length places) (λ i. run (get_or places i 0)) word
+      (λ i inside. let none : 0 + i ≡ i = omega arith in words_from_rows carries rows 0 plain are.counted are.fit (unit_parts nac duid plain is) i inside ∙ ap word none)
 
   module _ (places : AreWordPlaces size count carried (word_places size rows)) where
     within : (plain : List Bool) → length plain ≡ count → All (λ at. at + size ≤ length plain) (word_places size rows)

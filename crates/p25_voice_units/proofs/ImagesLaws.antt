@@ -99,19 +99,19 @@ sync_outer : (sync : EncryptionSync) → IsEncoding (IsWord 24 16) 16 (sync_symb
 sync_outer sync = IsEncoding-rs_word 24 16 (sync_symbols sync) sync_code (length-sync_symbols sync)
 
 -- a header
-abbrev header_contents : (word : HeaderWord) → Contents
+abbrev pub header_contents : (word : HeaderWord) → Contents
 header_contents word = contents golay18_word 1 (rs_word 36 20 (header_symbols word)) [] []
 
-header_carries : (word : HeaderWord) → IsCarried IsGolay18 18 6 (header_contents word)
+pub header_carries : (word : HeaderWord) → IsCarried IsGolay18 18 6 (header_contents word)
 header_carries word = golay18_carried (rs_word 36 20 (header_symbols word))
 
-header_suits : (word : HeaderWord) → AreRows 18 770 (header_contents word) hdu_rows
+pub header_suits : (word : HeaderWord) → AreRows 18 770 (header_contents word) hdu_rows
 header_suits word = header_are (rs_word 36 20 (header_symbols word)) (header_outer word).word_of_set.long
 
 header_stands : (word : HeaderWord) → AreWordPlaces 18 770 (header_contents word) (word_places 18 hdu_rows)
 header_stands word = header_places (rs_word 36 20 (header_symbols word)) (header_outer word).word_of_set.long
 
-header_bits : (nac : ℕ) (word : HeaderWord) → voice_image_of nac (Header word) ≡ unit_front nac 0 ++ rows_bits (header_contents word) hdu_rows
+pub header_bits : (nac : ℕ) (word : HeaderWord) → voice_image_of nac (Header word) ≡ unit_front nac 0 ++ rows_bits (header_contents word) hdu_rows
 unfolding voice_image_of voice_body
 header_bits nac word = refl
 
@@ -135,19 +135,19 @@ header_form nac word plain = (
 )
 
 -- voice with link control
-abbrev ldu1_contents : (link : LinkControl) (low : List ℕ) (voice : List VoiceFrame) → Contents
+abbrev pub ldu1_contents : (link : LinkControl) (low : List ℕ) (voice : List VoiceFrame) → Contents
 ldu1_contents link low voice = contents hamming10_word 1 (rs_word 24 12 (link_symbols link)) low voice
 
-ldu1_carries : (link : LinkControl) (low : List ℕ) (voice : List VoiceFrame) → IsSpeech low voice → IsCarried IsHamming10 10 6 (ldu1_contents link low voice)
+pub ldu1_carries : (link : LinkControl) (low : List ℕ) (voice : List VoiceFrame) → IsSpeech low voice → IsCarried IsHamming10 10 6 (ldu1_contents link low voice)
 ldu1_carries link low voice speech = hamming10_carried (rs_word 24 12 (link_symbols link)) low voice speech.frames
 
-ldu1_suits : (link : LinkControl) (low : List ℕ) (voice : List VoiceFrame) → IsSpeech low voice → AreRows 10 1680 (ldu1_contents link low voice) ldu_rows
+pub ldu1_suits : (link : LinkControl) (low : List ℕ) (voice : List VoiceFrame) → IsSpeech low voice → AreRows 10 1680 (ldu1_contents link low voice) ldu_rows
 ldu1_suits link low voice speech = link_are (rs_word 24 12 (link_symbols link)) low voice (link_outer link).word_of_set.long speech
 
 ldu1_stands : (link : LinkControl) (low : List ℕ) (voice : List VoiceFrame) → AreWordPlaces 10 1680 (ldu1_contents link low voice) (word_places 10 ldu_rows)
 ldu1_stands link low voice = link_places (rs_word 24 12 (link_symbols link)) low voice (link_outer link).word_of_set.long
 
-ldu1_bits : (nac : ℕ) (link : LinkControl) (low : List ℕ) (voice : List VoiceFrame) → voice_image_of nac (Link1 link low voice) ≡ unit_front nac 5 ++ rows_bits (ldu1_contents link low voice) ldu_rows
+pub ldu1_bits : (nac : ℕ) (link : LinkControl) (low : List ℕ) (voice : List VoiceFrame) → voice_image_of nac (Link1 link low voice) ≡ unit_front nac 5 ++ rows_bits (ldu1_contents link low voice) ldu_rows
 unfolding voice_image_of voice_body
 ldu1_bits nac link low voice = refl
 
@@ -171,19 +171,19 @@ ldu1_form nac link low voice plain speech = (
 )
 
 -- voice with encryption sync
-abbrev ldu2_contents : (sync : EncryptionSync) (low : List ℕ) (voice : List VoiceFrame) → Contents
+abbrev pub ldu2_contents : (sync : EncryptionSync) (low : List ℕ) (voice : List VoiceFrame) → Contents
 ldu2_contents sync low voice = contents hamming10_word 1 (rs_word 24 16 (sync_symbols sync)) low voice
 
-ldu2_carries : (sync : EncryptionSync) (low : List ℕ) (voice : List VoiceFrame) → IsSpeech low voice → IsCarried IsHamming10 10 6 (ldu2_contents sync low voice)
+pub ldu2_carries : (sync : EncryptionSync) (low : List ℕ) (voice : List VoiceFrame) → IsSpeech low voice → IsCarried IsHamming10 10 6 (ldu2_contents sync low voice)
 ldu2_carries sync low voice speech = hamming10_carried (rs_word 24 16 (sync_symbols sync)) low voice speech.frames
 
-ldu2_suits : (sync : EncryptionSync) (low : List ℕ) (voice : List VoiceFrame) → IsSpeech low voice → AreRows 10 1680 (ldu2_contents sync low voice) ldu_rows
+pub ldu2_suits : (sync : EncryptionSync) (low : List ℕ) (voice : List VoiceFrame) → IsSpeech low voice → AreRows 10 1680 (ldu2_contents sync low voice) ldu_rows
 ldu2_suits sync low voice speech = link_are (rs_word 24 16 (sync_symbols sync)) low voice (sync_outer sync).word_of_set.long speech
 
 ldu2_stands : (sync : EncryptionSync) (low : List ℕ) (voice : List VoiceFrame) → AreWordPlaces 10 1680 (ldu2_contents sync low voice) (word_places 10 ldu_rows)
 ldu2_stands sync low voice = link_places (rs_word 24 16 (sync_symbols sync)) low voice (sync_outer sync).word_of_set.long
 
-ldu2_bits : (nac : ℕ) (sync : EncryptionSync) (low : List ℕ) (voice : List VoiceFrame) → voice_image_of nac (Link2 sync low voice) ≡ unit_front nac 10 ++ rows_bits (ldu2_contents sync low voice) ldu_rows
+pub ldu2_bits : (nac : ℕ) (sync : EncryptionSync) (low : List ℕ) (voice : List VoiceFrame) → voice_image_of nac (Link2 sync low voice) ≡ unit_front nac 10 ++ rows_bits (ldu2_contents sync low voice) ldu_rows
 unfolding voice_image_of voice_body
 ldu2_bits nac sync low voice = refl
 
@@ -207,19 +207,19 @@ ldu2_form nac sync low voice plain speech = (
 )
 
 -- a terminator with link control
-abbrev tdulc_contents : (link : LinkControl) → Contents
+abbrev pub tdulc_contents : (link : LinkControl) → Contents
 tdulc_contents link = contents golay24_word 2 (rs_word 24 12 (link_symbols link)) [] []
 
-tdulc_carries : (link : LinkControl) → IsCarried IsGolay24 24 12 (tdulc_contents link)
+pub tdulc_carries : (link : LinkControl) → IsCarried IsGolay24 24 12 (tdulc_contents link)
 tdulc_carries link = golay24_carried (rs_word 24 12 (link_symbols link))
 
-tdulc_suits : (link : LinkControl) → AreRows 24 420 (tdulc_contents link) tdulc_rows
+pub tdulc_suits : (link : LinkControl) → AreRows 24 420 (tdulc_contents link) tdulc_rows
 tdulc_suits link = tdulc_are (rs_word 24 12 (link_symbols link)) (link_outer link).word_of_set.long
 
 tdulc_stands : (link : LinkControl) → AreWordPlaces 24 420 (tdulc_contents link) (word_places 24 tdulc_rows)
 tdulc_stands link = tdulc_places (rs_word 24 12 (link_symbols link)) (link_outer link).word_of_set.long
 
-tdulc_bits : (nac : ℕ) (link : LinkControl) → voice_image_of nac (EndLink link) ≡ unit_front nac 15 ++ rows_bits (tdulc_contents link) tdulc_rows
+pub tdulc_bits : (nac : ℕ) (link : LinkControl) → voice_image_of nac (EndLink link) ≡ unit_front nac 15 ++ rows_bits (tdulc_contents link) tdulc_rows
 unfolding voice_image_of voice_body
 tdulc_bits nac link = refl
 

@@ -15,3 +15,4 @@ pub mod RadiusLaws
 pub mod FixesLaws
 pub mod ImageReadingLaws
 pub mod WholeLaws
+pub mod CountedLaws

@@ -64,7 +64,7 @@ voice_keeps plain = (
       record { long = length-numbers_from 8 18 behind; small = All-numbers_from 8 18 behind }),
 )
 
-speech_keeps : (first second : ℕ) (plain : List Bool) → low_in 0 plain ≡ Some first → low_in 1 plain ≡ Some second → IsSpeech (first ∷ second ∷ []) (voice_in plain)
+pub speech_keeps : (first second : ℕ) (plain : List Bool) → low_in 0 plain ≡ Some first → low_in 1 plain ≡ Some second → IsSpeech (first ∷ second ∷ []) (voice_in plain)
 speech_keeps first second plain a b = record {
   two = refl;
   small = All-cons (λ n. n < 256) first (second ∷ []) (low_keeps 0 first plain a) (All-cons (λ n. n < 256) second [] (low_keeps 1 second plain b) (All-nil (λ n. n < 256)));

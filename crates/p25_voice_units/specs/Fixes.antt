@@ -1,12 +1,13 @@
 -- The looked-at places of voice units after their front: there bits that differ from the unit's are counted as fixes.
-use Rattle.std.specs.Prelude.{ℕ, Bool, List, [], ◌++◌, map}
+use Rattle.std.specs.Prelude.{◌≡◌, ℕ, Bool, List, [], ◌++◌, map, slice_index}
 use Rattle.std.specs.List.{flat_map}
-use Rattle.p25_bits.specs.Bits.{part}
+use Rattle.p25_bits.specs.Bits.{bits_of, part}
 use Rattle.p25_bits.specs.Distance.{distance_of}
 use Rattle.p25_voice_units.specs.declared.unit.VoiceUnit.{VoiceUnit}
 use Rattle.p25_voice_units.specs.declared.unit.VoiceUnit.TheVariants.{Header, Link1, Link2, End, EndLink}
 use Rattle.p25_voice_units.specs.Layouts.{hdu_rows, ldu_rows, tdulc_rows}
 use Rattle.p25_voice_units.specs.FieldLayouts.{word_places}
+use Rattle.p25_voice_units.specs.Images.{lsd16_word, voice_image_of}
 use Rattle.p25_voice_units.specs.Readings.{low_places}
 
 -- places with so many bits each
@@ -32,3 +33,11 @@ bits_at places bits = flat_map (λ place. part place.0 place.1 bits) places
 -- in how many of the looked-at places of a unit received bits differ from its image
 unfoldable pub voice_fixes_of : VoiceUnit → List Bool → List Bool → ℕ
 voice_fixes_of unit received image = distance_of (bits_at (voice_looked unit) received) (bits_at (voice_looked unit) image)
+
+-- a count is that of a unit, whatever network access code its image has
+pub record AreFixes (unit : VoiceUnit) (received : List Bool) (fixes : ℕ) : Type 0 where
+  pub value : (nac : ℕ) → fixes ≡ voice_fixes_of unit received (voice_image_of nac unit)
+
+-- in how many bits a low speed word was received otherwise than it is sent for an octet
+unfoldable pub low_fixes_of : ℕ → ℕ → List Bool → ℕ
+low_fixes_of i octet received = distance_of (part (slice_index (low_places ldu_rows) i) 16 received) (lsd16_word (bits_of 8 octet))

@@ -16,8 +16,8 @@ use crate::layout::{HDU_ROWS, LDU_ROWS, Piece, TDU_ROWS, TDULC_ROWS};
 use crate::unit::VoiceUnit;
 use crate::voice::{Voice, VoiceFrame};
 use p25_bch_nid::Nid;
-use p25_bits::{BitBuf, number_of, put_number};
-use p25_code::BlockCode;
+use p25_bits::BitBuf;
+use p25_code::{BlockCode, NumberCode};
 use p25_coded_fields::put_field;
 use p25_gf64::Sym;
 use p25_golay::{Golay18, Golay24};
@@ -41,15 +41,12 @@ fn put_low(octet: u8, out: &mut BitBuf)
     ensures list { out.new ≡ out.old ++ lsd16_word (bits_of 8 octet) }
     ensures len { length out.new ≡ length out.old + 16 }
 {
-    let mut info = [false; 8];
-    put_number(u64::from(octet), &mut info);
-    let mut word = [false; 16];
-    Lsd16::encode(&info, &mut word);
-    out.put_field(number_of(&word), 16);
+    let word = Lsd16::encode_number(u32::from(octet));
+    out.put_field(u64::from(word), 16);
 }
 
 // Appends a piece of a unit, whose inner words carry the symbols.
-fn put_piece<I: BlockCode<Letter = bool>>(
+fn put_piece<I: NumberCode>(
     piece: Piece,
     symbols: &[Sym],
     low: &[u8],
@@ -78,7 +75,7 @@ fn put_piece<I: BlockCode<Letter = bool>>(
 }
 
 // Appends the pieces of the rows of a layout, in order.
-fn put_rows<I: BlockCode<Letter = bool>>(
+fn put_rows<I: NumberCode>(
     rows: &[(usize, Piece)],
     symbols: &[Sym],
     low: &[u8],

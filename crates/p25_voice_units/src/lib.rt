@@ -17,8 +17,9 @@
 //! let unit = VoiceUnit::EndLink { link: LinkControl([0; 9]) };
 //! let mut plain = BitBuf::new();
 //! voice_image(0x293, &unit, &mut plain);
-//! match read_voice(unit.duid(), &received) {
-//!     Ok(read) => …,     // voice_fixes(&read, &received, &plain) places were wrong
+//! let mut fixes = 0;
+//! match read_voice_counted(unit.duid(), &received, &mut fixes) {
+//!     Ok(read) => …,     // so many bits of its code words were wrong
 //!     Err(failing) => …, // exactly the fields that fail, in order
 //! }
 //! ```
@@ -45,6 +46,6 @@ pub use fixes::voice_fixes;
 pub use image::voice_image;
 pub use layout::{HDU_ROWS, LDU_ROWS, Piece, TDU_ROWS, TDULC_ROWS};
 pub use places::{HDU_WORDS, LDU_WORDS, LOW_WORDS, TDULC_WORDS};
-pub use read::read_voice;
+pub use read::{read_voice, read_voice_counted};
 pub use unit::{VoiceUnit, voice_length};
 pub use voice::{Voice, VoiceFrame};

@@ -1,11 +1,17 @@
 //! Voice units read from bits.
 
-ghost use Rattle.std.specs.Prelude.{◌≡◌, ◌+◌, ◌*◌, ◌/◌, ◌<◌, ◌≤◌, [], ◌∷◌, ◌++◌, All, IfErr, Some, length};
+ghost use Rattle.std.specs.Prelude.{◌≡◌, ◌+◌, ◌*◌, ◌/◌, ◌<◌, ◌≤◌, [], ◌∷◌, ◌++◌, All, Bool, List, Some, IfErr, IfOk, IfSome, length};
+ghost use Rattle.p25_reed_solomon.specs.Encoding.{rs_word};
 ghost use Rattle.p25_reed_solomon.specs.Words.{IsCode};
 ghost use Rattle.p25_reed_solomon.specs.RsReadings.{rs_marked_reading_of};
+ghost use Rattle.p25_link.specs.Words.{header_symbols, link_symbols, sync_symbols};
+ghost use Rattle.p25_coded_fields.specs.Fixes.{field_fixes_of};
 ghost use Rattle.p25_coded_fields.specs.Layouts.{Layout, field_layout, field_reading_of};
-ghost use Rattle.p25_voice_units.specs.FieldLayouts.{header_layout, link_layout, sync_layout, tdulc_layout};
-ghost use Rattle.p25_voice_units.specs.Layouts.{ldu_rows};
+ghost use Rattle.p25_coded_fields.specs.Written.{Encodes};
+ghost use Rattle.p25_voice_units.specs.FieldLayouts.{header_layout, link_layout, sync_layout, tdulc_layout, word_places};
+ghost use Rattle.p25_voice_units.specs.Fixes.{AreFixes, low_fixes_of};
+ghost use Rattle.p25_voice_units.specs.Images.{golay18_word, golay24_word, hamming10_word};
+ghost use Rattle.p25_voice_units.specs.Layouts.{hdu_rows, ldu_rows, tdulc_rows};
 ghost use Rattle.p25_voice_units.specs.Lengths.{voice_length_of};
 ghost use Rattle.p25_voice_units.specs.Readings.{frame_in, voice_in, low_places, low_in, header_in, link_in, sync_in, missing, failing, header_from, ldu1_in, ldu2_in, tdulc_from, voice_reading_of};
 
@@ -13,8 +19,8 @@ use crate::places::{FRAMES, HDU_WORDS, LDU_WORDS, LOW_WORDS, TDULC_WORDS};
 use crate::unit::VoiceUnit;
 use crate::voice::{Voice, VoiceFrame};
 use p25_bch_nid::{HDU, LDU1, LDU2, TDU, TDULC};
-use p25_bits::{BitBuf, number_of, put_number};
-use p25_code::{BlockCode, Reading, read_received};
+use p25_bits::BitBuf;
+use p25_code::{NumberCode, Reading};
 use p25_coded_fields::read_field;
 use p25_gf64::Sym;
 use p25_golay::{Golay18, Golay24};
@@ -23,23 +29,32 @@ use p25_link::{EncryptionSync, HeaderWord, LinkControl};
 use p25_reed_solomon::Rs;
 use p25_status::{Field, FieldList};
 
-// The information of a coded field, whose inner words stand at the places. None comes exactly where the field fails.
-fn read_symbols<I: BlockCode<Letter = bool>, const N: usize, const K: usize>(
+// The information of a coded field, whose inner words stand at the places. None comes exactly where the field fails; else the
+// wrong bits of its inner words are added to `fixes`.
+fn read_symbols<I: NumberCode, const N: usize, const K: usize>(
     plain: &BitBuf,
     places: &[usize],
+    fixes: &mut u32,
 ) -> Option<[Sym; K]>
     requires code { I.HasCode }
     requires outer { IsCode N K }
     requires small { I.N ≤ 24 }
     requires sixes { 6 * (I.K / 6) ≡ I.K }
+    requires some { 0 < I.K }
     requires short { N ≤ 36 }
+    requires many { length places.now ≤ 36 }
     requires places { length places.now * (I.K / 6) ≡ N }
     requires there { All (λ at. at + I.N ≤ length plain.now) places.now }
-    ensures { result ≡ field_reading_of (field_layout places.now I.N (I.K / 6) I.reading_is (rs_marked_reading_of N K) K) plain.now }
+    requires few { fixes.old ≤ 1000 }
+    ensures value { result ≡ field_reading_of (field_layout places.now I.N (I.K / 6) I.reading_is (rs_marked_reading_of N K) K) plain.now }
+    ensures fixes { IfSome result (λ symbols. (encoding : List Bool → List Bool) → Encodes I.IsWord I.K encoding
+        → fixes.new ≡ fixes.old + field_fixes_of encoding I.N (I.K / 6) places.now (rs_word N K symbols) plain.now) }
+    ensures most { fixes.new ≤ fixes.old + 24 * length places.now }
 {
     let mut word = [Sym::ZERO; N];
     match read_field::<I, Rs<N, K>>(plain, places, &mut word) {
-        Reading::Found { .. } => {
+        Reading::Found { fixes: wrong } => {
+            *fixes += wrong;
             let mut symbols = [Sym::ZERO; K];
             symbols.copy_from_slice(&word[..K]);
             Some(symbols)
@@ -48,61 +63,82 @@ fn read_symbols<I: BlockCode<Letter = bool>, const N: usize, const K: usize>(
     }
 }
 
-// The header word of a header.
-fn read_header_word(plain: &BitBuf) -> Option<HeaderWord>
-    requires { 770 ≤ length plain.now }
-    ensures { result ≡ header_in plain.now }
+// The header word of a header. Where it is read its wrong bits are added to `fixes`.
+fn read_header_word(plain: &BitBuf, fixes: &mut u32) -> Option<HeaderWord>
+    requires there { 770 ≤ length plain.now }
+    requires few { fixes.old ≤ 1000 }
+    ensures value { result ≡ header_in plain.now }
+    ensures fixes { IfSome result (λ word. fixes.new ≡ fixes.old
+        + field_fixes_of golay18_word 18 1 (word_places 18 hdu_rows) (rs_word 36 20 (header_symbols word)) plain.now) }
+    ensures most { fixes.new ≤ fixes.old + 864 }
 {
-    match read_symbols::<Golay18, 36, 20>(plain, &HDU_WORDS) {
+    match read_symbols::<Golay18, 36, 20>(plain, &HDU_WORDS, fixes) {
         Some(symbols) => Some(HeaderWord::from_symbols(&symbols)),
         None => None,
     }
 }
 
-// The link control of a unit with voice.
-fn read_link_control(plain: &BitBuf) -> Option<LinkControl>
-    requires { 1680 ≤ length plain.now }
-    ensures { result ≡ link_in link_layout plain.now }
+// The link control of a unit with voice. Where it is read its wrong bits are added to `fixes`.
+fn read_link_control(plain: &BitBuf, fixes: &mut u32) -> Option<LinkControl>
+    requires there { 1680 ≤ length plain.now }
+    requires few { fixes.old ≤ 1000 }
+    ensures value { result ≡ link_in link_layout plain.now }
+    ensures fixes { IfSome result (λ link. fixes.new ≡ fixes.old
+        + field_fixes_of hamming10_word 10 1 (word_places 10 ldu_rows) (rs_word 24 12 (link_symbols link)) plain.now) }
+    ensures most { fixes.new ≤ fixes.old + 576 }
 {
-    match read_symbols::<Hamming10, 24, 12>(plain, &LDU_WORDS) {
+    match read_symbols::<Hamming10, 24, 12>(plain, &LDU_WORDS, fixes) {
         Some(symbols) => Some(LinkControl::from_symbols(&symbols)),
         None => None,
     }
 }
 
-// The encryption sync of a unit with voice.
-fn read_encryption_sync(plain: &BitBuf) -> Option<EncryptionSync>
-    requires { 1680 ≤ length plain.now }
-    ensures { result ≡ sync_in plain.now }
+// The encryption sync of a unit with voice. Where it is read its wrong bits are added to `fixes`.
+fn read_encryption_sync(plain: &BitBuf, fixes: &mut u32) -> Option<EncryptionSync>
+    requires there { 1680 ≤ length plain.now }
+    requires few { fixes.old ≤ 1000 }
+    ensures value { result ≡ sync_in plain.now }
+    ensures fixes { IfSome result (λ sync. fixes.new ≡ fixes.old
+        + field_fixes_of hamming10_word 10 1 (word_places 10 ldu_rows) (rs_word 24 16 (sync_symbols sync)) plain.now) }
+    ensures most { fixes.new ≤ fixes.old + 576 }
 {
-    match read_symbols::<Hamming10, 24, 16>(plain, &LDU_WORDS) {
+    match read_symbols::<Hamming10, 24, 16>(plain, &LDU_WORDS, fixes) {
         Some(symbols) => Some(EncryptionSync::from_symbols(&symbols)),
         None => None,
     }
 }
 
-// The link control of a terminator.
-fn read_end_control(plain: &BitBuf) -> Option<LinkControl>
-    requires { 420 ≤ length plain.now }
-    ensures { result ≡ link_in tdulc_layout plain.now }
+// The link control of a terminator. Where it is read its wrong bits are added to `fixes`.
+fn read_end_control(plain: &BitBuf, fixes: &mut u32) -> Option<LinkControl>
+    requires there { 420 ≤ length plain.now }
+    requires few { fixes.old ≤ 1000 }
+    ensures value { result ≡ link_in tdulc_layout plain.now }
+    ensures fixes { IfSome result (λ link. fixes.new ≡ fixes.old
+        + field_fixes_of golay24_word 24 2 (word_places 24 tdulc_rows) (rs_word 24 12 (link_symbols link)) plain.now) }
+    ensures most { fixes.new ≤ fixes.old + 288 }
 {
-    match read_symbols::<Golay24, 24, 12>(plain, &TDULC_WORDS) {
+    match read_symbols::<Golay24, 24, 12>(plain, &TDULC_WORDS, fixes) {
         Some(symbols) => Some(LinkControl::from_symbols(&symbols)),
         None => None,
     }
 }
 
-// The octet of a low speed word, by its number.
-fn read_low(plain: &BitBuf, i: usize) -> Option<u8>
+// The octet of a low speed word, by its number. Where it is read its wrong bits are added to `fixes`.
+fn read_low(plain: &BitBuf, i: usize, fixes: &mut u32) -> Option<u8>
     requires i { i < 2 }
     requires there { 1680 ≤ length plain.now }
-    ensures { result ≡ low_in i plain.now }
+    requires few { fixes.old ≤ 1000 }
+    ensures value { result ≡ low_in i plain.now }
+    ensures fixes { IfSome result (λ octet. fixes.new ≡ fixes.old + low_fixes_of i octet plain.now) }
+    ensures most { fixes.new ≤ fixes.old + 16 }
 {
-    let mut word = [false; 16];
-    put_number(plain.field(LOW_WORDS[i], 16), &mut word);
-    match read_received::<Lsd16>(&mut word) {
-        Reading::Found { .. } => Some(number_of(&word[..8]) as u8),
-        Reading::Beyond => None,
+    let received = plain.field(LOW_WORDS[i], 16) as u32;
+    match Lsd16::read_number(received) {
+        Some(sent) => {
+            *fixes += (received ^ sent).count_ones();
+            Some((sent >> 8) as u8)
+        }
+        None => None,
     }
 }
 
@@ -155,25 +191,31 @@ fn failing_of<T>(
     fields
 }
 
-// A header.
-fn read_header(plain: &BitBuf) -> Result<VoiceUnit, FieldList>
-    requires { 770 ≤ length plain.now }
-    ensures { result ≡ header_from (header_in plain.now) }
+// A header. Where it is read `fixes` becomes the number of its wrong bits.
+fn read_header(plain: &BitBuf, fixes: &mut u32) -> Result<VoiceUnit, FieldList>
+    requires there { 770 ≤ length plain.now }
+    requires none { fixes.old ≡ 0 }
+    ensures value { result ≡ header_from (header_in plain.now) }
+    ensures fixes { IfOk result (λ unit. AreFixes unit plain.now fixes.new) }
+    ensures most { fixes.new ≤ 864 }
 {
-    match read_header_word(plain) {
+    match read_header_word(plain, fixes) {
         Some(word) => Ok(VoiceUnit::Header(word)),
         None => Err(FieldList::one(Field::HeaderWord)),
     }
 }
 
-// Voice with link control.
-fn read_ldu1(plain: &BitBuf) -> Result<VoiceUnit, FieldList>
-    requires { 1680 ≤ length plain.now }
-    ensures { result ≡ ldu1_in plain.now }
+// Voice with link control. Where it is read `fixes` becomes the number of its wrong bits.
+fn read_ldu1(plain: &BitBuf, fixes: &mut u32) -> Result<VoiceUnit, FieldList>
+    requires there { 1680 ≤ length plain.now }
+    requires none { fixes.old ≡ 0 }
+    ensures value { result ≡ ldu1_in plain.now }
+    ensures fixes { IfOk result (λ unit. AreFixes unit plain.now fixes.new) }
+    ensures most { fixes.new ≤ 864 }
 {
-    let link = read_link_control(plain);
-    let first = read_low(plain, 0);
-    let second = read_low(plain, 1);
+    let link = read_link_control(plain, fixes);
+    let first = read_low(plain, 0, fixes);
+    let second = read_low(plain, 1, fixes);
     let fields = failing_of(Field::LinkControl, &link, &first, &second);
     let voice = read_frames(plain);
     let Some(link) = link else {
@@ -192,14 +234,17 @@ fn read_ldu1(plain: &BitBuf) -> Result<VoiceUnit, FieldList>
     })
 }
 
-// Voice with encryption sync.
-fn read_ldu2(plain: &BitBuf) -> Result<VoiceUnit, FieldList>
-    requires { 1680 ≤ length plain.now }
-    ensures { result ≡ ldu2_in plain.now }
+// Voice with encryption sync. Where it is read `fixes` becomes the number of its wrong bits.
+fn read_ldu2(plain: &BitBuf, fixes: &mut u32) -> Result<VoiceUnit, FieldList>
+    requires there { 1680 ≤ length plain.now }
+    requires none { fixes.old ≡ 0 }
+    ensures value { result ≡ ldu2_in plain.now }
+    ensures fixes { IfOk result (λ unit. AreFixes unit plain.now fixes.new) }
+    ensures most { fixes.new ≤ 864 }
 {
-    let sync = read_encryption_sync(plain);
-    let first = read_low(plain, 0);
-    let second = read_low(plain, 1);
+    let sync = read_encryption_sync(plain, fixes);
+    let first = read_low(plain, 0, fixes);
+    let second = read_low(plain, 1, fixes);
     let fields = failing_of(Field::EncryptionSync, &sync, &first, &second);
     let voice = read_frames(plain);
     let Some(sync) = sync else {
@@ -218,12 +263,15 @@ fn read_ldu2(plain: &BitBuf) -> Result<VoiceUnit, FieldList>
     })
 }
 
-// A terminator with link control.
-fn read_tdulc(plain: &BitBuf) -> Result<VoiceUnit, FieldList>
-    requires { 420 ≤ length plain.now }
-    ensures { result ≡ tdulc_from (link_in tdulc_layout plain.now) }
+// A terminator with link control. Where it is read `fixes` becomes the number of its wrong bits.
+fn read_tdulc(plain: &BitBuf, fixes: &mut u32) -> Result<VoiceUnit, FieldList>
+    requires there { 420 ≤ length plain.now }
+    requires none { fixes.old ≡ 0 }
+    ensures value { result ≡ tdulc_from (link_in tdulc_layout plain.now) }
+    ensures fixes { IfOk result (λ unit. AreFixes unit plain.now fixes.new) }
+    ensures most { fixes.new ≤ 864 }
 {
-    match read_end_control(plain) {
+    match read_end_control(plain, fixes) {
         Some(link) => Ok(VoiceUnit::EndLink { link }),
         None => Err(FieldList::one(Field::LinkControl)),
     }
@@ -242,12 +290,29 @@ pub fn read_voice(duid: u8, plain: &BitBuf) -> Result<VoiceUnit, FieldList>
     ensures reading { result ≡ voice_reading_of duid plain.now }
     ensures some { IfErr result (λ fields. 0 < length fields) }
 {
+    let mut fixes = 0;
+    read_voice_counted(duid, plain, &mut fixes)
+}
+
+/// Answers what `read_voice` answers. Where it is a unit, sets `fixes` to what `voice_fixes` answers for it, whatever network
+/// access code its image has: the number of wrong bits in its inner words and its low speed words. No image is made.
+pub fn read_voice_counted(
+    duid: u8,
+    plain: &BitBuf,
+    fixes: &mut u32,
+) -> Result<VoiceUnit, FieldList>
+    requires { voice_length_of duid ≡ Some (length plain.now) }
+    ensures value { result ≡ voice_reading_of duid plain.now }
+    ensures fixes { IfOk result (λ unit. AreFixes unit plain.now fixes.new) }
+    ensures most { fixes.new ≤ 864 }
+{
+    *fixes = 0;
     match duid {
-        HDU => read_header(plain),
+        HDU => read_header(plain, fixes),
         TDU => Ok(VoiceUnit::End),
-        LDU1 => read_ldu1(plain),
-        LDU2 => read_ldu2(plain),
-        TDULC => read_tdulc(plain),
+        LDU1 => read_ldu1(plain, fixes),
+        LDU2 => read_ldu2(plain, fixes),
+        TDULC => read_tdulc(plain, fixes),
         _ => Err(FieldList::new()),
     }
 }

@@ -1,6 +1,9 @@
 //! Units of each kind with damage: read with so many fixes, or refused with the fields that fail.
 
-use super::{Voice, VoiceFrame, VoiceUnit, read_voice, voice_fixes, voice_image, voice_length};
+use super::{
+    Voice, VoiceFrame, VoiceUnit, read_voice, read_voice_counted, voice_fixes, voice_image,
+    voice_length,
+};
 use p25_bits::BitBuf;
 use p25_link::{EncryptionSync, HeaderWord, LinkControl};
 use p25_status::{Field, FieldList};
@@ -77,9 +80,11 @@ fn assert_read_as(
     plain.append(&image, 0, image.len());
     spoil(&mut plain, all);
     assert!(rt; plain.len() == image.len());
-    match read_voice(unit.duid(), &plain) {
+    let mut counted = 0;
+    match read_voice_counted(unit.duid(), &plain, &mut counted) {
         Ok(read) => {
             assert!(rt; read == *other && fields.len() == 0, "for {fixes} fixes");
+            assert_eq!(rt; counted, fixes);
             assert_eq!(rt; voice_fixes(unit, &plain, &image), fixes);
         }
         Err(failing) => assert_fields(rt, &failing, fields),
@@ -247,6 +252,10 @@ fn terminators(rt: HostRuntime) {
     assert_read(&rt, &unit, &[each(116, 24, 6, 4)], 24);
     assert_failing(&rt, &unit, &[each(116, 24, 7, 4)], &[Field::LinkControl]);
     assert_read(&rt, &VoiceUnit::End, &[run(0, 140)], 0);
+    let mut nulls = BitBuf::new();
+    nulls.extend(&[false; 140]);
+    assert!(rt; nulls.len() == 140);
+    assert!(rt; matches!(read_voice(VoiceUnit::End.duid(), &nulls), Ok(VoiceUnit::End)));
     assert_eq!(rt; voice_length(7), None);
 }
 

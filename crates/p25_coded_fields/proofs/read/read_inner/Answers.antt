@@ -1,34 +1,60 @@
-use Rattle.std.proofs.Common.{◌≡◌, ◌≤◌, true, false, length, take, replicate, refl, ap, ◌∙◌, arith}
-use Rattle.p25_bits.specs.Bits.{part}
-use Rattle.p25_bits.proofs.PartLaws.{length-part}
-use Rattle.p25_link.specs.Symbols.{symbols_in}
-use Rattle.p25_coded_fields.proofs.ReadLaws.{bits_taken, inner_found, inner_beyond}
+use Rattle.std.proofs.Common.{◌≡◌, ◌*◌, ◌-◌, ◌/◌, ◌^◌, ◌<◌, true, false, length, replicate, Some, None, IfSome, option_map, refl, sym, subst, ap, ap₂, ◌∙◌, arith}
+use Rattle.std.specs.Bool.{beq}
+use Rattle.p25_bits.specs.Bits.{bits_of, field_of, part}
+use Rattle.p25_bits.proofs.DistanceLaws.{ones-xor-le}
+use Rattle.p25_bits.proofs.NumbersLaws.{bits_of-field}
+use Rattle.p25_link.specs.Symbols.{symbol_bits, symbols_in}
+use Rattle.p25_coded_fields.proofs.ReadLaws.{inner_found, inner_beyond, read_encoding, read_word_of_set, wrong_bits}
 use Rattle.p25_coded_fields.proofs.read.read_inner.Goals as goal
 
-pub returns-in-Found : goal.returns-in-Found
-returns-in-Found g c =
+pub returns-in-Some-clause-marks : goal.returns-in-Some-clause-marks
+returns-in-Some-clause-marks g c =
     let b = g.I.BlockCode in
     let plain = c.args.plain.now in
     let at = c.args.at in
     let each = length c.args.symbols.now in
-    let word = c.read_received.new.word in
-    let taken : c.put_number.new.bits ≡ part at b.N plain
-    = bits_taken b.N c.N-2.result c.field.result at c.N.result _ plain c.put_number.new.bits c.put_number.ensures (c.N.ensures) (omega arith) c.field.ensures.value c.N-2.ensures c.requires.there in
-    let fits : b.K ≤ length word = omega (arith, g.met.I.BlockCode.begins c.requires.code, ap length taken, length-part at b.N plain c.requires.there) in
-    inner_found each b.K c.in-Found.fixes word (b.reading_is (part at b.N plain)) c.read_received.result c.fill_symbols.new.symbols c.set_all.new.erased
-    c.requires.sixes fits c.in-Found.is
-    (c.read_received.ensures.value ∙ ap b.reading_is taken)
-    (c.fill_symbols.ensures ∙ ap (λ k. symbols_in each (take k word)) c.K.ensures)
+    let value = c.in-Some.sent in
+    let taken : bits_of b.N c.field-received.result ≡ part at b.N plain
+    = ap (bits_of b.N) c.field-received.ensures.value ∙ ap (λ n. bits_of b.N (field_of (part at n plain))) c.N.ensures ∙ bits_of-field b.N at plain c.requires.there in
+    let read : Some (bits_of b.N value) ≡ b.reading_is (part at b.N plain) = ap (option_map (bits_of b.N)) (sym c.in-Some.is) ∙ c.read_number.ensures.reading ∙ ap b.reading_is taken in
+    inner_found b.N b.K each value (b.reading_is (part at b.N plain)) c.take_symbols.new.symbols c.set_all.new.erased c.requires.sixes (g.met.I.BlockCode.begins c.requires.code) read
+    (c.take_symbols.ensures ∙ ap₂ (λ m n. symbols_in each (bits_of (6 * each) (value / 2 ^ (m - n)))) c.N-in-Some.ensures c.K.ensures)
     (c.set_all.ensures ∙ ap (λ n. replicate n false) c.requires.same)
 
-pub returns-in-Beyond : goal.returns-in-Beyond
-returns-in-Beyond g c =
+pub returns-in-Some-clause-few : goal.returns-in-Some-clause-few
+returns-in-Some-clause-few g c =
+    let b = g.I.BlockCode in
+    let fits : c.field-received.result < 2 ^ b.N = subst (λ n. c.field-received.result < 2 ^ n) c.N.ensures c.field-received.ensures.fits in
+    let small : c.in-Some.sent < 2 ^ b.N = subst (λ r. IfSome r (λ sent. sent < 2 ^ b.N)) c.in-Some.is c.read_number.ensures.fits in
+    omega (arith, ones-xor-le b.N c.field-received.result c.in-Some.sent fits small, c.requires.small)
+
+pub returns-in-Some-clause-wrong : goal.returns-in-Some-clause-wrong
+returns-in-Some-clause-wrong g c = λ sent is.
+    let b = g.I.BlockCode in
+    let m = g.met.I.BlockCode in
+    let plain = c.args.plain.now in
+    let at = c.args.at in
+    let each = length c.args.symbols.now in
+    let value = c.in-Some.sent in
+    let symbols = c.take_symbols.new.symbols in
+    let bits = part at b.N plain in
+    let taken : bits_of b.N c.field-received.result ≡ bits
+    = ap (bits_of b.N) c.field-received.ensures.value ∙ ap (λ n. bits_of b.N (field_of (part at n plain))) c.N.ensures ∙ bits_of-field b.N at plain c.requires.there in
+    let read : Some (bits_of b.N value) ≡ b.reading_is bits = ap (option_map (bits_of b.N)) (sym c.in-Some.is) ∙ c.read_number.ensures.reading ∙ ap b.reading_is taken in
+    let fits : c.field-received.result < 2 ^ b.N = subst (λ n. c.field-received.result < 2 ^ n) c.N.ensures c.field-received.ensures.fits in
+    let small : value < 2 ^ b.N = subst (λ r. IfSome r (λ sent. sent < 2 ^ b.N)) c.in-Some.is c.read_number.ensures.fits in
+    let made : symbols ≡ symbols_in each (bits_of (6 * each) (value / 2 ^ (b.N - b.K)))
+    = c.take_symbols.ensures ∙ ap₂ (λ m n. symbols_in each (bits_of (6 * each) (value / 2 ^ (m - n)))) c.N-in-Some.ensures c.K.ensures in
+    let is_word = read_word_of_set beq b.IsWord b.radius_is bits (bits_of b.N value) (b.reading_is bits) (m.reads_as c.requires.code bits) (sym read) in
+    wrong_bits b.N b.K (m.one_word c.requires.code) c.field-received.result value (symbol_bits symbols) bits sent (read_encoding b.N b.K each value symbols c.requires.sixes (m.begins c.requires.code) is_word made) is taken fits small
+
+pub returns-in-None-clause-marks : goal.returns-in-None-clause-marks
+returns-in-None-clause-marks g c =
     let b = g.I.BlockCode in
     let plain = c.args.plain.now in
     let at = c.args.at in
-    let taken : c.put_number.new.bits ≡ part at b.N plain
-    = bits_taken b.N c.N-2.result c.field.result at c.N.result _ plain c.put_number.new.bits c.put_number.ensures (c.N.ensures) (omega arith) c.field.ensures.value c.N-2.ensures c.requires.there in
-    inner_beyond (length c.args.symbols.now) c.read_received.new.word (b.reading_is (part at b.N plain)) c.read_received.result c.args.symbols.now c.set_all-in-Beyond.new.erased
-    refl c.in-Beyond.is
-    (c.read_received.ensures.value ∙ ap b.reading_is taken)
-    (c.set_all-in-Beyond.ensures ∙ ap (λ n. replicate n true) c.requires.same)
+    let taken : bits_of b.N c.field-received.result ≡ part at b.N plain
+    = ap (bits_of b.N) c.field-received.ensures.value ∙ ap (λ n. bits_of b.N (field_of (part at n plain))) c.N.ensures ∙ bits_of-field b.N at plain c.requires.there in
+    inner_beyond (length c.args.symbols.now) (b.reading_is (part at b.N plain)) c.args.symbols.now c.set_all-in-None.new.erased refl
+    (ap (option_map (bits_of b.N)) (sym c.in-None.is) ∙ c.read_number.ensures.reading ∙ ap b.reading_is taken)
+    (c.set_all-in-None.ensures ∙ ap (λ n. replicate n true) c.requires.same)

@@ -1,11 +1,11 @@
-use Rattle.std.proofs.Common.{◌≡◌, ◌*◌, ◌/◌, Ok, Err, ap, ◌∙◌, arith, length}
+use Rattle.std.proofs.Common.{◌≡◌, ◌*◌, ◌/◌, Ok, Err, sym, ap, ◌∙◌, arith, length}
 use Rattle.p25_bits.specs.Bits.{part}
-use Rattle.p25_voice_units.specs.Lengths.{voice_length_of}
 use Rattle.p25_voice_units.specs.Readings.{voice_reading_of}
 use Rattle.p25_units.specs.Fixes.{body_fixes_of}
 use Rattle.p25_units.specs.UnitParts.{UnitParts}
 use Rattle.p25_units.specs.declared.unit.Body.TheVariants.{Voice}
-use Rattle.p25_units.proofs.ItemSteps.{broken-is, voice_duid-is, voice_fails, whole_voice-is}
+use Rattle.p25_units.proofs.FixesLaws.{body_fixes_of-voice}
+use Rattle.p25_units.proofs.ItemSteps.{broken-is, voice_fails, whole_voice-is}
 use Rattle.p25_units.proofs.UnitPlaceLaws.{IsCountAt-kind, voice_long}
 use Rattle.p25_units.proofs.item.set_voice_item.Goals as goal
 
@@ -18,8 +18,8 @@ unweave-requires-clause-most c = (IsCountAt-kind c.args.nid.now.duid c.args.bits
 pub unweave-requires-clause-there : goal.unweave-requires-clause-there
 unweave-requires-clause-there c = (IsCountAt-kind c.args.nid.now.duid c.args.bits.now c.args.at c.args.count c.requires.there c.requires.kind).there
 
-pub read_voice-requires : goal.read_voice-requires
-read_voice-requires c =
+pub read_voice_counted-requires : goal.read_voice_counted-requires
+read_voice_counted-requires c =
     let counted = IsCountAt-kind c.args.nid.now.duid c.args.bits.now c.args.at c.args.count c.requires.there c.requires.kind in
     let whole : 72 * (c.args.count / 72) ≡ c.args.count = omega (arith, counted.whole) in
     let long : length c.unweave.new.out ≡ 70 * (c.args.count / 72) = omega (arith, c.unweave.ensures.plain_len, c.unweave.ensures.len) in
@@ -30,16 +30,6 @@ front_fixes-requires c =
     let counted = IsCountAt-kind c.args.nid.now.duid c.args.bits.now c.args.at c.args.count c.requires.there c.requires.kind in
     omega (arith, counted.there, counted.enough)
 
-pub coded_fixes-requires-clause-long : goal.coded_fixes-requires-clause-long
-coded_fixes-requires-clause-long c =
-    let nid = c.args.nid.now in
-    let counted = IsCountAt-kind nid.duid c.args.bits.now c.args.at c.args.count c.requires.there c.requires.kind in
-    let whole : 72 * (c.args.count / 72) ≡ c.args.count = omega (arith, counted.whole) in
-    let long : length c.unweave.new.out ≡ 70 * (c.args.count / 72) = omega (arith, c.unweave.ensures.plain_len, c.unweave.ensures.len) in
-    let read : Ok c.in-Ok.voice ≡ voice_reading_of nid.duid _ = c.in-Ok.ensures.reading ∙ ap (voice_reading_of nid.duid) c.unweave.ensures.plain in
-    ap voice_length_of (voice_duid-is nid.nac nid.duid c.args.bits.now c.args.at c.args.count c.in-Ok.voice c.unweave.new.statuses c.requires.there c.requires.kind c.requires.voice c.unweave.ensures.statuses read)
-    ∙ voice_long nid.duid c.args.bits.now c.args.at c.args.count c.unweave.new.out c.requires.voice c.requires.kind whole long counted.there
-
 pub broken_item-requires : goal.broken_item-requires
 broken_item-requires c = (IsCountAt-kind c.args.nid.now.duid c.args.bits.now c.args.at c.args.count c.requires.there c.requires.kind).most
 
@@ -47,16 +37,17 @@ pub returns-in-Ok : goal.returns-in-Ok
 returns-in-Ok c =
     let nid = c.args.nid.now in
     let unit : UnitParts = record { nac = nid.nac; body = Voice c.in-Ok.voice } in
-    let read : Ok c.in-Ok.voice ≡ voice_reading_of nid.duid _ = c.in-Ok.ensures.reading ∙ ap (voice_reading_of nid.duid) c.unweave.ensures.plain in
+    let read : Ok c.in-Ok.voice ≡ voice_reading_of nid.duid _ = c.in-Ok.ensures.value ∙ ap (voice_reading_of nid.duid) c.unweave.ensures.plain in
+    let coded = c.in-Ok.ensures.fixes.value nid.nac ∙ sym (body_fixes_of-voice nid.nac c.in-Ok.voice c.unweave.new.out) ∙ ap (body_fixes_of unit) c.unweave.ensures.plain in
     c.set_voice.ensures
     ∙ whole_voice-is c.args.place nid.nac nid.duid c.args.bits.now c.args.at c.args.count c.in-Ok.voice c.unweave.new.statuses c.requires.there c.requires.kind c.requires.voice nid.nac_fits c.unweave.ensures.statuses read
-    c.front_fixes.result c.coded_fixes.result c.front_fixes.ensures.value (c.coded_fixes.ensures.value ∙ ap (body_fixes_of unit) c.unweave.ensures.plain)
+    c.front_fixes.result c.read_voice_counted.new.fixes c.front_fixes.ensures.value coded
 
 pub returns-in-Err : goal.returns-in-Err
 returns-in-Err c =
     let nid = c.args.nid.now in
     let sent = part c.args.at c.args.count c.args.bits.now in
-    let read : Err c.in-Err.fields ≡ voice_reading_of nid.duid _ = c.in-Err.ensures.reading ∙ ap (voice_reading_of nid.duid) c.unweave.ensures.plain in
+    let read : Err c.in-Err.fields ≡ voice_reading_of nid.duid _ = c.in-Err.ensures.value ∙ ap (voice_reading_of nid.duid) c.unweave.ensures.plain in
     c.broken_item.ensures
     ∙ broken-is c.args.place nid.nac nid.duid c.args.bits.now c.args.at c.args.count c.in-Err.fields c.requires.there c.requires.kind
     (voice_fails nid.nac nid.duid sent c.unweave.new.statuses c.in-Err.fields c.requires.voice c.unweave.ensures.statuses read)

@@ -1,15 +1,27 @@
+use Rattle.std.proofs.Common.{◌+◌, ap, arith}
+use Rattle.p25_bits.proofs.DistanceLaws.{ones-xor-le}
 use Rattle.p25_voice_units.specs.Readings.{low_places}
-use Rattle.p25_voice_units.proofs.ReadLaws.{low_taken, low_found, low_beyond}
+use Rattle.p25_voice_units.proofs.ReadLaws.{low_found, low_wrong, low_beyond, some_at}
 use Rattle.p25_voice_units.proofs.read.read_low.Goals as goal
 
-pub returns-in-Found : goal.returns-in-Found
+pub returns-in-Some-clause-value : goal.returns-in-Some-clause-value
 unfolding low_places
-returns-in-Found c =
-    let taken = low_taken c.args.i c.field.result c.args.plain.now c.put_number.new.bits c.requires.i c.requires.there c.put_number.ensures c.field.ensures.value in
-    low_found c.args.i c.number_of.result c.args.plain.now c.put_number.new.bits c.read_received.new.word c.read_received.result c.in-Found.fixes taken c.in-Found.is c.read_received.ensures.value c.number_of.ensures.value
+returns-in-Some-clause-value c =
+    low_found c.args.i c.field-received.result c.in-Some.sent c.args.plain.now c.read_number.result c.requires.i c.requires.there c.field-received.ensures.value (some_at _ c.read_number.result c.in-Some.sent c.read_number.ensures.fits c.in-Some.is)
+    c.in-Some.is c.read_number.ensures.reading
 
-pub returns-in-Beyond : goal.returns-in-Beyond
+pub returns-in-Some-clause-fixes : goal.returns-in-Some-clause-fixes
 unfolding low_places
-returns-in-Beyond c =
-    let taken = low_taken c.args.i c.field.result c.args.plain.now c.put_number.new.bits c.requires.i c.requires.there c.put_number.ensures c.field.ensures.value in
-    low_beyond c.args.i c.args.plain.now c.put_number.new.bits c.read_received.new.word c.read_received.result taken c.in-Beyond.is c.read_received.ensures.value
+returns-in-Some-clause-fixes c =
+    ap (λ n. c.args.fixes.now + n)
+    (low_wrong c.args.i c.field-received.result c.in-Some.sent c.args.plain.now c.read_number.result c.requires.i c.requires.there c.field-received.ensures.value c.field-received.ensures.fits
+    (some_at _ c.read_number.result c.in-Some.sent c.read_number.ensures.fits c.in-Some.is) c.in-Some.is c.read_number.ensures.reading)
+
+pub returns-in-Some-clause-most : goal.returns-in-Some-clause-most
+returns-in-Some-clause-most c =
+    omega (arith, ones-xor-le 16 c.field-received.result c.in-Some.sent c.field-received.ensures.fits (some_at _ c.read_number.result c.in-Some.sent c.read_number.ensures.fits c.in-Some.is))
+
+pub returns-in-None-clause-value : goal.returns-in-None-clause-value
+unfolding low_places
+returns-in-None-clause-value c =
+    low_beyond c.args.i c.field-received.result c.args.plain.now c.read_number.result c.requires.i c.requires.there c.field-received.ensures.value c.in-None.is c.read_number.ensures.reading

@@ -1,0 +1,130 @@
+-- Fixes place by place: one inner word more is one run of bits more in both lists, and their distances add up.
+use Rattle.std.proofs.Common.{◌≡◌, ℕ, zero, suc, ◌+◌, ◌*◌, ◌<◌, ◌≤◌, ◌^◌, Bool, List, [], ◌∷◌, ◌++◌, length, take, get_or, Option, Some, None, IfSome, All, refl, ap, ap₂, sym, subst, ◌∙◌, arith, zero-add, length-append}
+use Rattle.std.specs.Bool.{beq}
+use Rattle.std.specs.List.{flat_map}
+use Rattle.std.proofs.Math.Nat.{mul-le-mul_left, mul_comm}
+use Rattle.std.proofs.lemmas.List.{append-nil, take_all, take_more}
+use Rattle.std.proofs.lemmas.List.Concat.{flat_map-append}
+use Rattle.p25_bits.specs.Bits.{part}
+use Rattle.p25_bits.specs.Distance.{distance_of}
+use Rattle.p25_bits.proofs.DistanceLaws.{distance_by-append, distance_of-same}
+use Rattle.p25_bits.proofs.NumbersLaws.{joined_below-zero, joined_below-more, joined_below-same}
+use Rattle.p25_bits.proofs.PartLaws.{length-part, part_add, part_left, part_last}
+use Rattle.p25_code.specs.Words.{IsEncoding}
+use Rattle.p25_gf64.specs.declared.symbol.Sym.{Sym}
+use Rattle.p25_link.specs.Symbols.{symbol_bits}
+use Rattle.p25_link.proofs.SymbolsLaws.{length-symbol_bits}
+use Rattle.p25_coded_fields.specs.Layouts.{field_bits}
+use Rattle.p25_coded_fields.specs.Written.{Encodes}
+use Rattle.p25_coded_fields.specs.Fixes.{inner_bits, field_fixes_of, IsCounted, AreCounted, IsTotal}
+use Rattle.p25_coded_fields.proofs.SymbolsLaws.{one_more, room_at}
+
+-- no inner word
+inner_bits-none : (size : ℕ) (bits : List Bool) → inner_bits size [] bits ≡ []
+unfolding inner_bits
+inner_bits-none size bits = refl
+
+field_bits-none : (encoding : List Bool → List Bool) (each : ℕ) (symbols : List Sym) → field_bits encoding each 0 symbols ≡ []
+unfolding field_bits
+field_bits-none encoding each symbols = joined_below-zero (λ i. encoding (symbol_bits (part (each * i) each symbols)))
+
+-- one inner word more
+inner_bits-more : (size : ℕ) (places : List ℕ) (i : ℕ) (bits : List Bool) → i < length places → inner_bits size (take (i + 1) places) bits ≡ inner_bits size (take i places) bits ++ part (get_or places i 0) size bits
+unfolding inner_bits
+inner_bits-more size places i bits inside =
+    let run : ℕ → List Bool = λ at. part at size bits in
+    ap (flat_map run) (take_more places i 0 inside)
+    ∙ flat_map-append run (take i places) (get_or places i 0 ∷ [])
+    ∙ ap (λ (xs : List Bool). flat_map run (take i places) ++ xs) (append-nil (part (get_or places i 0) size bits))
+
+field_bits-more : (encoding : List Bool → List Bool) (each i : ℕ) (front xs : List Sym) → length front ≡ each * i → length xs ≡ each → field_bits encoding each (i + 1) (front ++ xs) ≡ field_bits encoding each i front ++ encoding (symbol_bits xs)
+unfolding field_bits
+field_bits-more encoding each i front xs long long_xs =
+    joined_below-more i (λ j. encoding (symbol_bits (part (each * j) each (front ++ xs))))
+    ∙ ap₂ (λ (us vs : List Bool). us ++ vs)
+    (joined_below-same i (λ j. encoding (symbol_bits (part (each * j) each (front ++ xs)))) (λ j. encoding (symbol_bits (part (each * j) each front)))
+    (λ j inside. ap (λ ys. encoding (symbol_bits ys)) (part_left (each * j) each front xs (room_at each j i (length front) inside (sym long)))))
+    (ap (λ ys. encoding (symbol_bits ys)) (part_last (each * i) each front xs long long_xs))
+
+-- before the first place
+pub counted_none : {IsWord : List Bool → Type 0} (size k each : ℕ) (places : List ℕ) (symbols : List Sym) (bits : List Bool) → AreCounted IsWord size k each 0 places symbols bits 0
+counted_none size k each places symbols bits = record {
+  most = λ some. omega arith;
+  value = λ some encoding encodes. record {
+    value = sym (ap₂ (λ (xs ys : List Bool). distance_of xs ys) (inner_bits-none size bits) (field_bits-none encoding each symbols) ∙ distance_of-same []);
+    received_long = ap length (inner_bits-none size bits) ∙ omega arith;
+    sent_long = ap length (field_bits-none encoding each symbols) ∙ omega arith;
+  };
+}
+
+-- where an inner word has information there are few
+few_places : (each n : ℕ) → 0 < each → n * each ≤ 36 → n ≤ 36
+few_places each n some short = let one : 1 ≤ each = omega arith in omega (arith, mul-le-mul_left n one)
+
+-- one place more
+module _ {IsWord : List Bool → Type 0} {size k : ℕ} (long : (word : List Bool) → IsWord word → length word ≡ size) where
+  pub counted_more : (each i : ℕ) (places : List ℕ) (front xs : List Sym) (bits : List Bool) (count more total : ℕ) → 6 * each ≡ k → i < length places → length places * each ≤ 36 → All (λ at. at + size ≤ length bits) places
+      → length front ≡ each * i → length xs ≡ each → AreCounted IsWord size k each i places front bits count → more ≤ 24
+      → ((sent : List Bool) → IsEncoding IsWord k (symbol_bits xs) sent → more ≡ distance_of (part (get_or places i 0) size bits) sent) → (count + more < 2 ^ 32 → total ≡ count + more)
+      → AreCounted IsWord size k each (i + 1) places (front ++ xs) bits total
+  counted_more each i places front xs bits count more total sixes inside short there long_front long_xs before few is sum = record {
+    most = λ some. omega (arith, before.most some, exact some);
+    value = λ some encoding encodes.
+        let at = get_or places i 0 in
+        let word = encoding (symbol_bits xs) in
+        let made = encodes (symbol_bits xs) (length-symbol_bits xs ∙ ap (λ n. 6 * n) long_xs ∙ sixes) in
+        let here = before.value some encoding encodes in
+        let received = inner_bits size (take i places) bits in
+        let sent = field_bits encoding each i front in
+        let more_received = inner_bits-more size places i bits inside in
+        let more_sent = field_bits-more encoding each i front xs long_front long_xs in
+        let long_received : length (part at size bits) ≡ size = length-part at size bits (there i 0 inside) in
+        let long_word : length word ≡ size = long word made.word_of_set in
+        record {
+          value =
+              exact some
+              ∙ ap₂ (λ a b. a + b) here.value (is word made)
+              ∙ sym (distance_by-append beq received (part at size bits) sent word (here.received_long ∙ sym here.sent_long))
+              ∙ ap₂ (λ (us vs : List Bool). distance_of us vs) (sym more_received) (sym more_sent);
+          received_long = ap length more_received ∙ length-append received (part at size bits) ∙ omega (arith, here.received_long, long_received, one_more size i);
+          sent_long = ap length more_sent ∙ length-append sent word ∙ omega (arith, here.sent_long, long_word, one_more size i);
+        };
+  }
+    where
+      exact : 0 < each → total ≡ count + more
+      exact some =
+          let places_few : length places ≤ 36 = few_places each (length places) some short in
+          let small : count + more ≤ 888 = omega (arith, before.most some) in
+          sum (omega arith)
+
+-- the symbols of one group more
+pub front_more : (each i : ℕ) (symbols : List Sym) → take (each * i) symbols ++ part (each * i) each symbols ≡ take (each * (i + 1)) symbols
+front_more each i symbols =
+    ap (λ n. take (each * i) symbols ++ part n each symbols) (sym (zero-add (each * i))) ∙ part_add 0 (each * i) each symbols ∙ ap (λ n. take n symbols) (one_more each i)
+
+-- after the last place
+pub counted_end : {IsWord : List Bool → Type 0} {size k : ℕ} (each group i : ℕ) (places : List ℕ) (symbols : List Sym) (bits : List Bool) (count : ℕ) → each ≡ group → length places ≤ i → i ≤ length places → length places * group ≡ length symbols
+    → AreCounted IsWord size k each i places (take (each * i) symbols) bits count → AreCounted IsWord size k group (length places) places symbols bits count
+counted_end {IsWord} {size} {k} each group i places symbols bits count same past most covers is =
+    let here : i ≡ length places = omega arith in
+    let all : length symbols ≤ group * length places = omega (arith, mul_comm group (length places)) in
+    let grouped = subst (λ e. AreCounted IsWord size k e i places (take (e * i) symbols) bits count) same is in
+    let ended = subst (λ n. AreCounted IsWord size k group n places (take (group * n) symbols) bits count) here grouped in
+    subst (λ (xs : List Sym). AreCounted IsWord size k group (length places) places xs bits count) (take_all (group * length places) symbols all) ended
+
+-- all places
+pub counted_all : {IsWord : List Bool → Type 0} {size k : ℕ} (each : ℕ) (places : List ℕ) (symbols : List Sym) (bits : List Bool) (count : ℕ) → AreCounted IsWord size k each (length places) places symbols bits count → 0 < each
+    → (encoding : List Bool → List Bool) → Encodes IsWord k encoding → count ≡ field_fixes_of encoding size each places symbols bits
+unfolding field_fixes_of
+counted_all {IsWord} {size} {k} each places symbols bits count is some encoding encodes =
+    let every : length places ≤ length places = omega arith in
+    (is.value some encoding encodes).value ∙ ap (λ ps. distance_of (inner_bits size ps bits) (field_bits encoding each (length places) symbols)) (take_all (length places) places every)
+
+-- a total of two counts, where both are known
+pub total_more : {P Q R S : ℕ → Type 0} (first second answer : Option ℕ) → IfSome first P → IfSome second Q → IfSome second R → IfSome answer (λ total. IsTotal first second total)
+    → ((m n total : ℕ) → P m → Q n → R n → (m + n < 2 ^ 32 → total ≡ m + n) → S total) → IfSome answer S
+unfolding IsTotal
+total_more (Some m) (Some n) (Some total) p q r is step = step m n total p q r is
+total_more (Some m) None (Some total) p q r is step = absurd is
+total_more None second (Some total) p q r is step = absurd is
+total_more first second None p q r is step = tt

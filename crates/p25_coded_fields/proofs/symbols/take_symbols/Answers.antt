@@ -1,0 +1,15 @@
+use Rattle.std.proofs.Common.{◌*◌, arith, length, sym, ◌∙◌}
+use Rattle.p25_bits.specs.Bits.{bits_of}
+use Rattle.p25_link.proofs.SymbolsLaws.{symbols_in-none}
+use Rattle.p25_coded_fields.proofs.SymbolsLaws.{symbol_made, symbol_number, symbol_set}
+use Rattle.p25_coded_fields.proofs.symbols.take_symbols.Goals as goal
+
+pub loop-i-init : goal.loop-i-init
+loop-i-init c = sym (symbols_in-none (bits_of (6 * length c.args.symbols.now) c.args.number))
+
+pub loop-i-preserved : goal.loop-i-preserved
+loop-i-preserved c =
+    let count = length c.args.symbols.now in
+    let bits = bits_of (6 * count) c.args.number in
+    symbol_set c.loop-i.symbols bits c.loop-i.i c.unwrap_or.result (omega arith) c.loop-i.invariant
+    (c.unwrap_or.ensures ∙ symbol_made _ _ c.new.result _ (symbol_number count c.loop-i.i c.args.number (omega arith)) (omega arith) c.new.ensures.below c.new.ensures.number)

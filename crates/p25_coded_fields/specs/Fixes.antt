@@ -1,0 +1,33 @@
+-- In how many bits a field was received otherwise than it is sent.
+use Rattle.std.specs.Prelude.{◌≡◌, ℕ, ◌+◌, ◌*◌, ◌<◌, ◌≤◌, ◌^◌, Bool, List, length, take, Option, Some, None}
+use Rattle.std.specs.List.{flat_map}
+use Rattle.p25_bits.specs.Bits.{part}
+use Rattle.p25_bits.specs.Distance.{distance_of}
+use Rattle.p25_gf64.specs.declared.symbol.Sym.{Sym}
+use Rattle.p25_coded_fields.specs.Layouts.{field_bits}
+use Rattle.p25_coded_fields.specs.Written.{Encodes}
+
+-- the inner words of a field as they were received, one after the other
+unfoldable pub inner_bits : ℕ → List ℕ → List Bool → List Bool
+inner_bits size places bits = flat_map (λ at. part at size bits) places
+
+-- in how many bits the inner words of a field were received otherwise than they are sent for the symbols of an outer word
+unfoldable pub field_fixes_of : (List Bool → List Bool) → ℕ → ℕ → List ℕ → List Sym → List Bool → ℕ
+field_fixes_of encoding size each places symbols bits = distance_of (inner_bits size places bits) (field_bits encoding each (length places) symbols)
+
+-- a count of the first inner words, whose symbols are given, where an encoding makes them
+pub record IsCounted (encoding : List Bool → List Bool) (size each i : ℕ) (places : List ℕ) (symbols : List Sym) (bits : List Bool) (count : ℕ) : Type 0 where
+  pub value : count ≡ distance_of (inner_bits size (take i places) bits) (field_bits encoding each i symbols)
+  pub received_long : length (inner_bits size (take i places) bits) ≡ size * i
+  pub sent_long : length (field_bits encoding each i symbols) ≡ size * i
+
+-- the same count for every encoding, where an inner word has information
+pub record AreCounted (IsWord : List Bool → Type 0) (size k each i : ℕ) (places : List ℕ) (symbols : List Sym) (bits : List Bool) (count : ℕ) : Type 0 where
+  pub most : 0 < each → count ≤ 24 * i
+  pub value : 0 < each → (encoding : List Bool → List Bool) → Encodes IsWord k encoding → IsCounted encoding size each i places symbols bits count
+
+-- a total is the sum of two counts that are known, unless that sum is too large
+unfoldable pub IsTotal : Option ℕ → Option ℕ → ℕ → Type 0
+IsTotal (Some m) (Some n) total = m + n < 2 ^ 32 → total ≡ m + n
+IsTotal (Some m) None total = ⊥
+IsTotal None more total = ⊥

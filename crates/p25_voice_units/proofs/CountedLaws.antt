@@ -1,0 +1,130 @@
+-- The fixes of a unit by its parts: in the image the inner words are those of the unit's symbols, and the low speed words those of its
+-- octets, so the looked-at bits differ in so many places from them.
+use Rattle.std.proofs.Common.{◌≡◌, ℕ, ◌+◌, ◌≤◌, Bool, List, [], ◌∷◌, ◌++◌, length, All, refl, ap, ap₂, sym, ◌∙◌, arith, lit<}
+use Rattle.std.specs.Bool.{beq}
+use Rattle.std.proofs.lemmas.List.{append-nil}
+use Rattle.std.proofs.lemmas.List.Folds.{flat_map-map}
+use Rattle.p25_bits.specs.Bits.{bits_of, part}
+use Rattle.p25_bits.specs.Distance.{distance_of}
+use Rattle.p25_bits.proofs.DistanceLaws.{distance_by-append, distance_of-same}
+use Rattle.p25_bits.proofs.PartLaws.{length-part}
+use Rattle.p25_gf64.specs.declared.symbol.Sym.{Sym}
+use Rattle.p25_link.specs.declared.encryption_sync.EncryptionSync.{EncryptionSync}
+use Rattle.p25_link.specs.declared.header_word.HeaderWord.{HeaderWord}
+use Rattle.p25_link.specs.declared.link_control.LinkControl.{LinkControl}
+use Rattle.p25_link.specs.Words.{header_symbols, link_symbols, sync_symbols}
+use Rattle.p25_reed_solomon.specs.Encoding.{rs_word}
+use Rattle.p25_coded_fields.specs.Fixes.{inner_bits, field_fixes_of}
+use Rattle.p25_coded_fields.specs.Layouts.{field_bits, places_from}
+use Rattle.p25_coded_fields.proofs.CodesLaws.{all_end}
+use Rattle.p25_voice_units.specs.declared.layout.Piece.TheVariants.{Nulls}
+use Rattle.p25_voice_units.specs.declared.unit.VoiceUnit.TheVariants.{Header, Link1, Link2, End, EndLink}
+use Rattle.p25_voice_units.specs.declared.voice.VoiceFrame.{VoiceFrame}
+use Rattle.p25_voice_units.specs.FieldLayouts.{word_places}
+use Rattle.p25_voice_units.specs.Fixes.{wide, bits_at, link_looked, low_fixes_of, voice_looked, voice_fixes_of, AreFixes}
+use Rattle.p25_voice_units.specs.Images.{golay18_word, golay24_word, hamming10_word, lsd16_word, piece_bits, voice_image_of}
+use Rattle.p25_voice_units.specs.Layouts.{hdu_rows, ldu_rows, tdulc_rows}
+use Rattle.p25_voice_units.specs.Readings.{low_places}
+use Rattle.p25_voice_units.specs.Sendable.{IsSpeech}
+use Rattle.p25_voice_units.proofs.FixesLaws.{fixes-append}
+use Rattle.p25_voice_units.proofs.FormLaws.{length-unit, unit_parts, words_in_unit}
+use Rattle.p25_voice_units.proofs.ImagesLaws.{header_carries, header_suits, header_bits, ldu1_carries, ldu1_suits, ldu1_bits, ldu2_carries, ldu2_suits, ldu2_bits, tdulc_carries, tdulc_suits, tdulc_bits}
+
+-- places of one width
+bits_at-inner : (width : ℕ) (places : List ℕ) (bits : List Bool) → bits_at (wide width places) bits ≡ inner_bits width places bits
+unfolding bits_at wide inner_bits
+bits_at-inner width places bits =
+    let run : ℕ × ℕ → List Bool = λ place. part place.0 place.1 bits in
+    flat_map-map run (λ at. (at, width)) places
+
+-- so many bits differ from a field that is sent
+field_distance : (encoding : List Bool → List Bool) (width each : ℕ) (places : List ℕ) (symbols : List Sym) (received image : List Bool) → inner_bits width places image ≡ field_bits encoding each (length places) symbols
+    → distance_of (bits_at (wide width places) received) (bits_at (wide width places) image) ≡ field_fixes_of encoding width each places symbols received
+unfolding field_fixes_of
+field_distance encoding width each places symbols received image is =
+    ap₂ (λ (xs ys : List Bool). distance_of xs ys) (bits_at-inner width places received) (bits_at-inner width places image ∙ is)
+
+-- the two low speed words
+low_bits : (bits : List Bool) → bits_at (wide 16 (low_places ldu_rows)) bits ≡ part 1504 16 bits ++ part 1520 16 bits
+unfolding bits_at wide low_places
+low_bits bits = ap (λ (xs : List Bool). part 1504 16 bits ++ xs) (append-nil (part 1520 16 bits))
+
+low_distance : (first second : ℕ) (received image : List Bool) → 1680 ≤ length received → 1680 ≤ length image → part 1504 16 image ≡ lsd16_word (bits_of 8 first) → part 1520 16 image ≡ lsd16_word (bits_of 8 second)
+    → distance_of (bits_at (wide 16 (low_places ldu_rows)) received) (bits_at (wide 16 (low_places ldu_rows)) image) ≡ low_fixes_of 0 first received + low_fixes_of 1 second received
+unfolding low_fixes_of low_places
+low_distance first second received image there there_image is_first is_second =
+    let inside : 1504 + 16 ≤ length received = omega arith in
+    let inside_image : 1504 + 16 ≤ length image = omega arith in
+    ap₂ (λ (xs ys : List Bool). distance_of xs ys) (low_bits received) (low_bits image)
+    ∙ distance_by-append beq (part 1504 16 received) (part 1520 16 received) (part 1504 16 image) (part 1520 16 image) (length-part 1504 16 received inside ∙ sym (length-part 1504 16 image inside_image))
+    ∙ ap₂ (λ (xs ys : List Bool). distance_of (part 1504 16 received) xs + distance_of (part 1520 16 received) ys) is_first is_second
+
+-- the inner words of a unit with voice stand within it
+link_words_there : (bits : List Bool) → 1680 ≤ length bits → All (λ at. at + 10 ≤ length bits) (word_places 10 ldu_rows)
+unfolding word_places places_from
+link_words_there bits there = all_end 10 1680 (length bits) (word_places 10 ldu_rows) refl there
+
+-- a unit with voice
+link_distance : (symbols : List Sym) (first second : ℕ) (received image : List Bool) → 1680 ≤ length received → 1680 ≤ length image → inner_bits 10 (word_places 10 ldu_rows) image ≡ field_bits hamming10_word 1 (length (word_places 10 ldu_rows)) symbols
+    → part 1504 16 image ≡ lsd16_word (bits_of 8 first) → part 1520 16 image ≡ lsd16_word (bits_of 8 second)
+    → distance_of (bits_at link_looked received) (bits_at link_looked image) ≡ field_fixes_of hamming10_word 10 1 (word_places 10 ldu_rows) symbols received + (low_fixes_of 0 first received + low_fixes_of 1 second received)
+unfolding link_looked
+link_distance symbols first second received image there there_image is is_first is_second =
+    let places = word_places 10 ldu_rows in
+    fixes-append 10 16 places (low_places ldu_rows) received image (link_words_there received there) (link_words_there image there_image)
+    ∙ ap₂ (λ m n. m + n) (field_distance hamming10_word 10 1 places symbols received image is) (low_distance first second received image there there_image is_first is_second)
+
+-- the fixes of each kind
+pub header_fixes : (word : HeaderWord) (received : List Bool) (fixes : ℕ) → fixes ≡ field_fixes_of golay18_word 18 1 (word_places 18 hdu_rows) (rs_word 36 20 (header_symbols word)) received → AreFixes (Header word) received fixes
+unfolding voice_fixes_of voice_looked
+header_fixes word received fixes is = record {
+  value = λ nac.
+      let image = voice_image_of nac (Header word) in
+      is ∙ sym (field_distance golay18_word 18 1 (word_places 18 hdu_rows) (rs_word 36 20 (header_symbols word)) received image (words_in_unit (header_carries word) (header_suits word) nac 0 image (header_bits nac word)));
+}
+
+pub tdulc_fixes : (link : LinkControl) (received : List Bool) (fixes : ℕ) → fixes ≡ field_fixes_of golay24_word 24 2 (word_places 24 tdulc_rows) (rs_word 24 12 (link_symbols link)) received → AreFixes (EndLink link) received fixes
+unfolding voice_fixes_of voice_looked
+tdulc_fixes link received fixes is = record {
+  value = λ nac.
+      let image = voice_image_of nac (EndLink link) in
+      is ∙ sym (field_distance golay24_word 24 2 (word_places 24 tdulc_rows) (rs_word 24 12 (link_symbols link)) received image (words_in_unit (tdulc_carries link) (tdulc_suits link) nac 15 image (tdulc_bits nac link)));
+}
+
+pub ldu1_fixes : (link : LinkControl) (first second : ℕ) (voice : List VoiceFrame) (received : List Bool) (fixes : ℕ) → IsSpeech (first ∷ second ∷ []) voice → 1680 ≤ length received
+    → fixes ≡ field_fixes_of hamming10_word 10 1 (word_places 10 ldu_rows) (rs_word 24 12 (link_symbols link)) received + (low_fixes_of 0 first received + low_fixes_of 1 second received)
+    → AreFixes (Link1 link (first ∷ second ∷ []) voice) received fixes
+unfolding voice_fixes_of voice_looked piece_bits
+ldu1_fixes link first second voice received fixes speech there is = record {
+  value = λ nac.
+      let low = first ∷ second ∷ [] in
+      let image = voice_image_of nac (Link1 link low voice) in
+      let carries = ldu1_carries link low voice speech in
+      let suits = ldu1_suits link low voice speech in
+      let whole = ldu1_bits nac link low voice in
+      let parts = unit_parts carries suits nac 5 image whole in
+      let long : length image ≡ 1680 = ap length whole ∙ length-unit carries suits nac 5 in
+      is
+      ∙ sym (link_distance (rs_word 24 12 (link_symbols link)) first second received image there (omega arith) (words_in_unit carries suits nac 5 image whole) (parts 14 (0, Nulls 0) (lit< tt)) (parts 15 (0, Nulls 0) (lit< tt)));
+}
+
+pub ldu2_fixes : (sync : EncryptionSync) (first second : ℕ) (voice : List VoiceFrame) (received : List Bool) (fixes : ℕ) → IsSpeech (first ∷ second ∷ []) voice → 1680 ≤ length received
+    → fixes ≡ field_fixes_of hamming10_word 10 1 (word_places 10 ldu_rows) (rs_word 24 16 (sync_symbols sync)) received + (low_fixes_of 0 first received + low_fixes_of 1 second received)
+    → AreFixes (Link2 sync (first ∷ second ∷ []) voice) received fixes
+unfolding voice_fixes_of voice_looked piece_bits
+ldu2_fixes sync first second voice received fixes speech there is = record {
+  value = λ nac.
+      let low = first ∷ second ∷ [] in
+      let image = voice_image_of nac (Link2 sync low voice) in
+      let carries = ldu2_carries sync low voice speech in
+      let suits = ldu2_suits sync low voice speech in
+      let whole = ldu2_bits nac sync low voice in
+      let parts = unit_parts carries suits nac 10 image whole in
+      let long : length image ≡ 1680 = ap length whole ∙ length-unit carries suits nac 10 in
+      is
+      ∙ sym (link_distance (rs_word 24 16 (sync_symbols sync)) first second received image there (omega arith) (words_in_unit carries suits nac 10 image whole) (parts 14 (0, Nulls 0) (lit< tt)) (parts 15 (0, Nulls 0) (lit< tt)));
+}
+
+pub end_fixes : (received : List Bool) → AreFixes End received 0
+unfolding voice_fixes_of voice_looked bits_at
+end_fixes received = record { value = λ nac. sym (distance_of-same []) }
