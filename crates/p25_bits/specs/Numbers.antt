@@ -1,5 +1,5 @@
 -- Lists of numbers: those that bits write, so many bits each, numbers in base 256, and lists made place by place.
-use Rattle.std.specs.Prelude.{ℕ, zero, suc, ◌+◌, ◌*◌, Bool, List, [], ◌∷◌, ◌++◌, take, drop}
+use Rattle.std.specs.Prelude.{ℕ, zero, suc, ◌+◌, ◌*◌, Bool, List, [], ◌∷◌, ◌++◌, take, drop, slice_index}
 use Rattle.std.specs.List.{flat_map}
 use Rattle.p25_bits.specs.Bits.{bits_of, field_of}
 
@@ -24,6 +24,13 @@ number_after high (octet ∷ octets) = number_after (256 * high + octet) octets
 -- the number that octets write in base 256, the first octet highest
 unfoldable pub octets_number : List ℕ → ℕ
 octets_number octets = number_after 0 octets
+
+-- the number that the two octets from a place on write, the first one higher; and that of three
+abbrev pub pair_at : List ℕ → ℕ → ℕ
+pair_at octets at = 256 * slice_index octets at + slice_index octets (at + 1)
+
+abbrev pub triple_at : List ℕ → ℕ → ℕ
+triple_at octets at = 65536 * slice_index octets at + 256 * slice_index octets (at + 1) + slice_index octets (at + 2)
 
 -- the list of n elements, each given by its place
 unfoldable pub each_below : {X : Type 0} → ℕ → (ℕ → X) → List X

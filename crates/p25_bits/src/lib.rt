@@ -13,19 +13,21 @@
 //! assert_eq!(bits.field(0, 8), 0x75);
 //! ```
 //!
-//! `number_of` and `put_number` do the same with a slice of bits. `number_remainder` divides a number as a polynomial over
+//! `number_of` and `put_number` do the same with a slice of bits. `pair_at` and `triple_at` answer the number of two or three
+//! octets. `number_remainder` divides a number as a polynomial over
 //! GF(2), whose coefficient of x^i is the number's bit i: the first bit is the coefficient of the highest power.
 #![tactic(auto)]
 
 mod bit_buf;
 mod division;
+pub mod laws;
 mod numbers;
 mod sums;
 mod words;
 
 pub use bit_buf::{BITS_MOST, BitBuf};
 pub use division::{next_remainder, number_remainder};
-pub use numbers::{number_of, put_number};
+pub use numbers::{number_of, pair_at, put_number, triple_at};
 
 #[cfg(test)]
 mod tests;

@@ -3,7 +3,7 @@
 
 ghost use Rattle.std.specs.Prelude.{◌≡◌, ◌+◌, ◌*◌, ◌^◌, ◌<◌, ◌≤◌, ◌++◌, All, length, drop};
 ghost use Rattle.p25_bits.specs.Bits.{bits_of, field_of};
-ghost use Rattle.p25_bits.specs.Numbers.{number_bits, numbers_from};
+ghost use Rattle.p25_bits.specs.Numbers.{number_bits, numbers_from, pair_at, triple_at};
 
 use super::bit_buf::BitBuf;
 
@@ -29,6 +29,23 @@ pub fn put_number(number: u64, bits: &mut [bool])
     for (i, bit) in bits.iter_mut().enumerate() {
         *bit = (number >> (width - 1 - i)) & 1 == 1;
     }
+}
+
+/// Answers the number that the two octets from a place on write, the first one higher.
+pub fn pair_at(octets: &[u8], at: usize) -> u16
+    requires { at + 2 ≤ length octets.now }
+    ensures { result ≡ pair_at octets.now at }
+{
+    256 * u16::from(octets[at]) + u16::from(octets[at + 1])
+}
+
+/// Answers the number that the three octets from a place on write, the first one highest.
+pub fn triple_at(octets: &[u8], at: usize) -> u32
+    requires { at + 3 ≤ length octets.now }
+    ensures value { result ≡ triple_at octets.now at }
+    ensures below { result < 2 ^ 24 }
+{
+    65536 * u32::from(octets[at]) + u32::from(pair_at(octets, at + 1))
 }
 
 impl BitBuf {

@@ -47,7 +47,7 @@ unfolding AllUnbroken
 unbroken-run [] run after all = all.0
 unbroken-run (first ∷ before) run after all = unbroken-run before run after all.1
 
--- the same of a list that may be empty
+-- a list of units, which may be empty, is unbroken
 abbrev AreUnbroken : List UnitSeen → Type 0
 AreUnbroken [] = Unit {0}
 AreUnbroken (unit ∷ units) = IsUnbroken unit units

@@ -140,11 +140,5 @@ pub fn item_end(item: &Item) -> u64
     ensures value { result ≡ place_of item.now + covered item.now }
     ensures short { result < 2 ^ 61 }
 {
-    match item {
-        Item::Whole { place, frame, .. } => *place + frame_length(&frame.unit) as u64,
-        Item::Broken { place, length, .. } => *place + u64::from(*length),
-        Item::NoUnit { place, .. } => *place + 1,
-        Item::Gap { place, length } => *place + u64::from(*length),
-        Item::Cut { place, have } => *place + u64::from(*have),
-    }
+    item.place() + item.covered()
 }

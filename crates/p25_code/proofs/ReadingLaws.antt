@@ -4,7 +4,7 @@ use Rattle.std.specs.Cmp.{IsEquivalence}
 use Rattle.std.proofs.lemmas.Bool.{cases_eq}
 use Rattle.p25_bits.specs.Distance.{distance_by}
 use Rattle.p25_bits.proofs.DistanceLaws.{distance_by-same, distance_by-sym, distance_by-triangle, same_from_distance_by}
-use Rattle.p25_code.specs.Words.{IsEncoding, IsFound, IsReading, IsInformation}
+use Rattle.p25_code.specs.Words.{IsEncoding, IsFound, IsReading}
 use Rattle.p25_code.specs.Readings.{IsNear, IsReadAs, word_read}
 use Rattle.p25_code.specs.declared.code.Reading.{Reading}
 use Rattle.p25_code.specs.declared.code.Reading.TheVariants.{Found, Beyond}
@@ -64,18 +64,6 @@ module _ {L : Type 0} {same : L → L → Bool} {IsWord : List L → Type 0} {n 
       ap Found (is.fixes_is ∙ ap (λ w. distance_by same received w) (found_sent received word sent fixes long is sent_is near))
   reading_fixes received word sent Beyond long is sent_is near = absurd (omega (arith, is.none_within.farther sent sent_is))
 
-  -- the first letters of what a reading leaves are the inner information of what was received
-  pub reading_information : (received word : List L) (reading : Reading) → length received ≡ n → IsReading same IsWord radius received word reading → IsInformation same IsWord radius k received (take k word)
-  unfolding IsReading
-  reading_information received word (Found fixes) long is = record {
-    of_word = λ sent sent_is near. ap (take k) (found_sent received word sent fixes long is sent_is near);
-    of_received = λ none. absurd (omega (arith, is.fixes_is, is.within, none.farther word is.word_of_set));
-  }
-  reading_information received word Beyond long is = record {
-    of_word = λ sent sent_is near. absurd (omega (arith, is.none_within.farther sent sent_is));
-    of_received = λ none. ap (take k) is.unchanged;
-  }
-
   -- two words of the set within the radius of what was received are one
   one_near : (received v w : List L) → length received ≡ n → IsNear same IsWord radius received v → IsNear same IsWord radius received w → v ≡ w
   one_near received v w long first second =
@@ -103,7 +91,3 @@ module _ {L : Type 0} {same : L → L → Bool} {IsWord : List L → Type 0} {n 
   -- the encoding of some information is one word
   pub encoding_unique : (info v w : List L) → IsEncoding IsWord k info v → IsEncoding IsWord k info w → v ≡ w
   encoding_unique info v w first second = code.one_word v w first.word_of_set second.word_of_set (first.begins ∙ sym second.begins)
-
-  -- wherever the encoding of some information lies within the radius, the inner information is that information
-  pub information_sent : (received info sent found : List L) → IsEncoding IsWord k info sent → distance_by same received sent ≤ radius → IsInformation same IsWord radius k received found → found ≡ info
-  information_sent received info sent found encoding near is = is.of_word sent encoding.word_of_set near ∙ encoding.begins

@@ -28,8 +28,3 @@ pub record IsBeyond {L : Type 0} (same : L → L → Bool) (IsWord : List L → 
 unfoldable pub IsReading : {L : Type 0} → (L → L → Bool) → (List L → Type 0) → ℕ → List L → List L → Reading → Type 0
 IsReading same IsWord radius received word (Found fixes) = IsFound same IsWord radius received word fixes
 IsReading same IsWord radius received word Beyond = IsBeyond same IsWord radius received word
-
--- the inner information of what was received: the first letters of the word within the radius, or its own where there is none
-pub record IsInformation {L : Type 0} (same : L → L → Bool) (IsWord : List L → Type 0) (radius k : ℕ) (received info : List L) : Type 0 where
-  pub of_word : (word : List L) → IsWord word → distance_by same received word ≤ radius → info ≡ take k word
-  pub of_received : NoneWithin same IsWord radius received → info ≡ take k received

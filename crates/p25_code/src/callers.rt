@@ -1,16 +1,15 @@
 //! What any block code gives its callers, proved from the trait alone.
 
-ghost use Rattle.std.specs.Prelude.{◌≡◌, ◌*◌, ◌-◌, ◌≤◌, List, false, length, take, All};
+ghost use Rattle.std.specs.Prelude.{◌≡◌, ◌*◌, ◌-◌, ◌≤◌, List, false, length, All};
 ghost use Rattle.p25_bits.specs.Distance.{distance_by};
-ghost use Rattle.p25_code.specs.Words.{IsEncoding, IsReading, IsInformation};
+ghost use Rattle.p25_code.specs.Words.{IsEncoding, IsReading};
 ghost use Rattle.p25_code.specs.Readings.{word_read};
 ghost use Rattle.p25_code.specs.Marks.{marked, marked_cost, IsMarkedReading};
 
 use crate::code::{BlockCode, ErasedCode, Reading};
 
 /// Reads a received word. Wherever a word of the code lies within the radius of what was received, exactly that word is
-/// left, and the answer is Found with the distance between the two. The first K letters that are left are the inner
-/// information: those of the word within the radius, or the received ones where there is none.
+/// left, and the answer is Found with the distance between the two.
 pub fn read_received<C: BlockCode>(word: &mut [C::Letter]) -> Reading
     requires code { C.HasCode }
     requires word { length word.old ≡ C.N }
@@ -19,7 +18,6 @@ pub fn read_received<C: BlockCode>(word: &mut [C::Letter]) -> Reading
     ensures sent { (sent : List C.Letter) → C.IsWord sent → distance_by C.Letter.eq word.old sent ≤ C.radius_is → word.new ≡ sent }
     ensures fixes { (sent : List C.Letter) → C.IsWord sent → distance_by C.Letter.eq word.old sent ≤ C.radius_is
         → result ≡ Reading.Found (distance_by C.Letter.eq word.old sent) }
-    ensures information { IsInformation C.Letter.eq C.IsWord C.radius_is C.K word.old (take C.K word.new) }
 {
     C::read(word)
 }

@@ -28,7 +28,7 @@ use Rattle.p25_delivery.specs.declared.sender.Reopen.TheVariants.{Sent as Reopen
 use Rattle.p25_delivery.proofs.HeadLaws.{response_head-status, response_head-class}
 use Rattle.p25_delivery.specs.Facts.{IsDataOf}
 
--- the same number, and the same outstanding
+-- two senders have one number, and one message or packet outstanding
 pub record IsSame (s t : Sending) : Type 0 where
   pub next : t.next ≡ s.next
   pub outstanding : t.outstanding ≡ s.outstanding

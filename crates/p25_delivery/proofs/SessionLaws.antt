@@ -128,7 +128,7 @@ present-delivered w message all =
 pub present-acknowledged : (w : Link) → IsMarked w → present_session (one_acknowledged w) ≡ with_acknowledged (present_session w)
 present-acknowledged w all = ap (λ (n : ℕ). record (present_session w) { acknowledged = n }) (omega (arith, (present-within w all).acknowledged))
 
--- and where it ends
+-- What a mark does: the present session ends.
 
 pub present-marked : (w : Link) → present_session (marked w) ≡ empty_session
 present-marked w =

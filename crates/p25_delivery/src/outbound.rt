@@ -1,12 +1,13 @@
 //! The half of a station that sends messages.
 
 ghost use Rattle.std.specs.Prelude.{◌≡◌, ◌+◌, ◌<◌, ◌≤◌, length, OnOk, OnErr, IfSome};
-ghost use Rattle.p25_packet_blocks.specs.Sendable.{AreOctets, IsSendable};
+ghost use Rattle.p25_packet_blocks.specs.Sendable.{IsSendable};
 ghost use Rattle.p25_delivery.specs.SoundHalves.{IsMessage};
 
 use crate::mark::Mark;
 use crate::sender::{Offer, Reopen, Resend, Sender, SenderHeard};
 use crate::step_kind::{StepKind, Way};
+use p25_bits::laws::octets_fit;
 use p25_messages::{Message, MessageList};
 use p25_packet_blocks::Packet;
 use std::alloc::{AllocError, Global};
@@ -87,13 +88,6 @@ impl Outbound {
         self.sent.reserve(calls)?;
         self.marks.reserve(calls as usize)
     }
-}
-
-// Its contract says that octets fit.
-fn octets_fit(octets: &[u8])
-    ensures { AreOctets octets.now }
-{
-    let _ = octets.len();
 }
 
 // Its contract says what every message keeps.

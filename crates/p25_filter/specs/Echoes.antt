@@ -1,5 +1,5 @@
 -- For the tests: what a machine answers that gives each line back, and refuses an empty line and one that is too long.
-use Rattle.std.specs.Prelude.{◌≡◌, ℕ, ◌<◌, cond, false, nat_lt, List, [], length, Result, Ok, Err}
+use Rattle.std.specs.Prelude.{◌≡◌, ℕ, ◌<◌, cond, if◌then◌else◌, false, nat_lt, List, [], length, Result, Ok, Err}
 use Rattle.std.proofs.Common.{ap}
 use Rattle.std.proofs.lemmas.Bool.{lt-ltb}
 use Rattle.p25_line.specs.declared.fault.LineFault.{LineFault}
@@ -7,7 +7,7 @@ use Rattle.p25_line.specs.declared.fault.LineFault.TheVariants.{Form, Long}
 use Rattle.p25_filter.specs.LineRules.{LineRules}
 
 abbrev pub echo_answer : {M : Type 0} → M → List ℕ → Result (List ℕ × M) LineFault
-echo_answer machine line = cond (nat_lt 8192 (length line)) (Err Long) (cond (nat_lt 0 (length line)) (Ok (line, machine)) (Err Form))
+echo_answer machine line = if nat_lt 8192 (length line) then Err Long else (if nat_lt 0 (length line) then Ok (line, machine) else Err Form)
 
 abbrev pub echo_rules : {M : Type 0} → LineRules M
 echo_rules = record { answer = echo_answer; closing = λ machine. []; wants = false }

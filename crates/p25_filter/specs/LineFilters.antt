@@ -1,5 +1,5 @@
 -- The work on lines: what it still writes, for any octets that may still come.
-use Rattle.std.specs.Prelude.{◌≡◌, ℕ, ◌+◌, Bool, true, false, cond, List, [], ◌∷◌, ◌++◌, Result, Ok, Err}
+use Rattle.std.specs.Prelude.{◌≡◌, ℕ, ◌+◌, Bool, true, false, if◌then◌else◌, List, [], ◌∷◌, ◌++◌, Result, Ok, Err}
 use Rattle.p25_line.specs.declared.fault.LineFault.{LineFault}
 use Rattle.p25_filter.specs.declared.ending.Ending.TheVariants.{BadLine}
 use Rattle.p25_filter.specs.declared.ending.Refusal.{Refusal}
@@ -80,7 +80,7 @@ line_future rules work = record {
   writes = λ ended more. work.behind ++ lines_written rules (closes_with work.phase ended) work.machine (lines_left work.phase work.line ended more);
   ends = λ ended more.
       lines_ending (ends_with work.phase ended) (lines_refusal rules (work.lines + 1) work.machine (lines_left work.phase work.line ended more));
-  pauses = λ ended more. cond rules.wants (each_behind work.behind (lines_before rules work.machine (lines_left work.phase work.line ended more))) [];
+  pauses = λ ended more. if rules.wants then each_behind work.behind (lines_before rules work.machine (lines_left work.phase work.line ended more)) else [];
 }
 
 -- a line that is there was taken, and its text given out in two pieces

@@ -1,5 +1,5 @@
 -- Machines over lines: what each line of an input is answered with, and what comes of all lines.
-use Rattle.std.specs.Prelude.{◌≡◌, ℕ, ◌+◌, Bool, true, cond, List, [], ◌∷◌, ◌++◌, Option, Some, None, Result, Ok, Err}
+use Rattle.std.specs.Prelude.{◌≡◌, ℕ, ◌+◌, Bool, true, if◌then◌else◌, List, [], ◌∷◌, ◌++◌, Option, Some, None, Result, Ok, Err}
 use Rattle.p25_line.specs.declared.fault.LineFault.{LineFault}
 use Rattle.p25_filter.specs.declared.ending.Ending.{Ending}
 use Rattle.p25_filter.specs.declared.ending.Ending.TheVariants.{BadLine}
@@ -17,7 +17,7 @@ pub record LineRules (M : Type 0) : Type 0 where
 -- what is written for lines: the texts up to the first line that is refused, and after all of them, where the input has ended
 -- there, what is written at the end
 unfoldable pub lines_written : {M : Type 0} → LineRules M → Bool → M → List (List ℕ) → List ℕ
-lines_written rules ended machine [] = cond ended (rules.closing machine) []
+lines_written rules ended machine [] = if ended then rules.closing machine else []
 lines_written rules ended machine (line ∷ lines) =
     elim (rules.answer machine line) [ Ok given ↦ given.0 ++ lines_written rules ended given.1 lines | Err fault ↦ [] ]
 

@@ -1,5 +1,5 @@
 -- What the work on an input leaves, by how it ended.
-use Rattle.std.specs.Prelude.{◌≡◌, ℕ, ◌+◌, ◌<◌, ◌≤◌, Bool, true, false, cond, nat_lt, Option, Some, None, List, ◌++◌, length, take, Contains, IfSome}
+use Rattle.std.specs.Prelude.{◌≡◌, ℕ, ◌+◌, ◌<◌, ◌≤◌, Bool, true, false, if◌then◌else◌, nat_lt, Option, Some, None, List, ◌++◌, length, take, Contains, IfSome}
 use Rattle.p25_io.specs.Octets.{Taken, Appended, AppendedFront}
 use Rattle.p25_filter.specs.declared.ending.Ending.{Ending}
 use Rattle.p25_filter.specs.declared.ending.FilterEnd.{FilterEnd}
@@ -15,7 +15,7 @@ read_most = 4096
 
 -- all that is to be written for an input: for one that is too long, what its first octets decide
 abbrev pub all_written : Future → List ℕ → List ℕ
-all_written future input = cond (nat_lt input_most (length input)) (future.writes false (take input_most input)) (future.writes true input)
+all_written future input = if nat_lt input_most (length input) then future.writes false (take input_most input) else future.writes true input
 
 -- the work ended by what the input holds: at its end, or at a refusal within it, which stays whatever octets come later; no
 -- octet past the most is looked at

@@ -30,7 +30,7 @@ unfolding IsLongScripted
 words-words (Long message) fits = ap₂ ◌&&◌ (octets-word message fits.octets) refl
 words-words (Inner event) fits = event_laws.are_words event fits.scripted
 
--- those of an event of the inner world begin neither with `long` nor with `send`
+-- the words of an event of the inner world begin neither with `long` nor with `send`
 inner-words : (event : Event) → IsNoOffer event → long_event_by_words (event_words event) ≡ inner_or_fault (event_by_words (event_words event))
 unfolding IsNoOffer
 inner-words (Send message) is = absurd is

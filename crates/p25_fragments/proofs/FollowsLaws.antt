@@ -73,7 +73,7 @@ happened-end w inner step mark e =
 pub step-then : (step : Step) (y : LongState × Then) → FollowsThen y → FollowsStep (with_first step y)
 step-then step y f = record { follows = f.follows; unrefused = f.unrefused }
 
--- the same marks, and what follows
+-- where no session ended, what follows is that of the step
 pub on : (w : LongState) (inner : WorldState) (step : Step) → inner.link.outbound.marks ≡ w.inner.link.outbound.marks → FollowsThen (after_kind step.kind (record w { inner = inner })) → FollowsStep (inner_happened w (inner, step))
 on w inner step e f = subst FollowsStep (sym (happened-on w inner step e)) (step-then step (after_kind step.kind (record w { inner = inner })) f)
 
@@ -102,7 +102,8 @@ pub nothing-follows : (w : LongState) (inner : WorldState) (step : Step) → Fol
     FollowsStep (inner_happened w (inner, step))
 nothing-follows w inner step f k p o l e =
     on w inner step (ap (λ (v : Link). v.outbound.marks) e)
-    (plain-then step.kind (record w { inner = inner }) p (record { kept = k; divided = f.divided; matches = same-matches w.inner.link inner.link w.outstanding w.joining (present w) o l (ap present_session e) f.matches }))
+    (plain-then step.kind (record w { inner = inner }) p
+    (record { kept = k; divided = f.divided; matches = same-matches w.inner.link inner.link w.outstanding w.joining (present w) o l (ap present_session e) f.matches }))
 
 -- The session is open.
 

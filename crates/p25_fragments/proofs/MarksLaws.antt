@@ -39,7 +39,7 @@ use Rattle.p25_fragments.proofs.FollowsLaws.{happened-on, happened-end}
 marks_in : Link → List Mark
 marks_in v = v.outbound.marks
 
--- the same marks, or one more
+-- marks stay, or one more comes
 OneMore : List Mark → List Mark → Type 0
 OneMore before after = (after ≡ before) ⊎ ((mark : Mark) × (after ≡ before ++ mark ∷ []))
 

@@ -113,7 +113,7 @@ taken-arm w message inner step (told_down x e) no_down no_busy = absurd (no_down
 taken-arm w message inner step (told_busy x e) no_down no_busy = absurd (no_busy (ap (λ (y : WorldState × Step). y.1.kind) x))
 taken-arm w message inner step (told_taken number blocks t d o e) no_down no_busy = sym e
 
--- and where the state of the code is that with which the call began
+-- An offer where the state of the code is the one with which the call began.
 
 from : (now w : LongState) (message : List ℕ) (x : LongState × LongStep) → w ≡ now → x ≡ long_offered w message → x ≡ long_offered now message
 from now w message x n e = e ∙ ap (λ (v : LongState). long_offered v message) n

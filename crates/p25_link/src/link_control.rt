@@ -2,10 +2,11 @@
 
 ghost use Rattle.std.specs.Prelude.{◌≡◌, ◌≢◌, ◌↔◌, ◌+◌, ◌*◌, length, slice_index};
 ghost use Rattle.p25_link.specs.Words.{link_symbols, link_of_symbols, IsLinkControl};
-ghost use Rattle.p25_link.specs.Kinds.{link_kind_of, group_call, individual_call, three_from};
+ghost use Rattle.p25_link.specs.Kinds.{link_kind_of, group_call, individual_call};
+ghost use Rattle.p25_bits.specs.Numbers.{triple_at};
 
 use crate::symbols::{first_octets, put_octets, put_symbols, take_symbols};
-use p25_bits::BitBuf;
+use p25_bits::{BitBuf, pair_at, triple_at};
 use p25_gf64::Sym;
 
 /// The nine octets of link control, which say whose voice a call carries and to whom. TIA-102.BAAA, Link Control Word.
@@ -86,7 +87,7 @@ impl LinkControl {
         LinkKind::Group {
             mfid: self.0[1],
             emergency: self.0[2] / 128 == 1,
-            group: 256 * u16::from(self.0[4]) + u16::from(self.0[5]),
+            group: pair_at(&self.0, 4),
             source: self.source(),
         }
     }
@@ -95,18 +96,17 @@ impl LinkControl {
     fn individual_call(&self) -> LinkKind
         ensures { result ≡ individual_call self.now }
     {
-        let high = 65536 * u32::from(self.0[3]);
         LinkKind::Individual {
             mfid: self.0[1],
-            destination: high + 256 * u32::from(self.0[4]) + u32::from(self.0[5]),
+            destination: triple_at(&self.0, 3),
             source: self.source(),
         }
     }
 
     // Answers the unit that speaks.
     fn source(&self) -> u32
-        ensures { result ≡ three_from self.now 6 }
+        ensures { result ≡ triple_at self.now.0 6 }
     {
-        65536 * u32::from(self.0[6]) + 256 * u32::from(self.0[7]) + u32::from(self.0[8])
+        triple_at(&self.0, 6)
     }
 }

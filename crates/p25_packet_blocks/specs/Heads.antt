@@ -1,5 +1,6 @@
 -- The fields of a packet header's ten octets, and the headers that this project's stations send.
 use Rattle.std.specs.Prelude.{ℕ, ◌+◌, ◌*◌, ◌/◌, ◌%◌, Bool, cond, eqb, [], ◌∷◌, slice_index}
+use Rattle.p25_bits.specs.Numbers.{triple_at}
 use Rattle.p25_packet_blocks.specs.declared.head.PacketHead.{PacketHead}
 
 -- the format: the last five bits of octet 0
@@ -20,7 +21,7 @@ head_pad head = slice_index head.0 7 % 32
 
 -- the LLID: octets 3 to 5
 unfoldable pub head_llid : PacketHead → ℕ
-head_llid head = 65536 * slice_index head.0 3 + 256 * slice_index head.0 4 + slice_index head.0 5
+head_llid head = triple_at head.0 3
 
 -- Syn: the first bit of octet 8
 unfoldable pub head_syn : PacketHead → Bool

@@ -1,6 +1,8 @@
 ghost use Rattle.std.specs.Prelude.{◌≡◌, ◌^◌, ◌<◌, true, false};
 ghost use Rattle.p25_packet_blocks.specs.Heads.{head_format, head_is_full, head_blocks, head_pad, head_llid, head_syn, head_number, response_class, response_kind, response_status, confirmed_head, response_head, opening_head};
 
+use p25_bits::triple_at;
+
 /// The format of a confirmed packet. TIA-102.BAAA, Packet Data, Header Block.
 pub const CONFIRMED_FORMAT: u8 = 0x16;
 
@@ -74,7 +76,7 @@ impl PacketHead {
         ensures value { result ≡ head_llid self.now }
         ensures below { result < 2 ^ 24 }
     {
-        65536 * u32::from(self.0[3]) + 256 * u32::from(self.0[4]) + u32::from(self.0[5])
+        triple_at(&self.0, 3)
     }
 
     /// Answers the class of a response, two bits.

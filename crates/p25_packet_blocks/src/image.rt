@@ -9,7 +9,7 @@ ghost use Rattle.p25_packet_blocks.specs.Heads.{head_blocks};
 ghost use Rattle.p25_packet_blocks.specs.Whole.{packet_head, AreGood, IsWholePacket};
 ghost use Rattle.p25_packet_blocks.specs.Lengths.{packet_bits, packet_plain_length, packet_sent_length};
 ghost use Rattle.p25_packet_blocks.specs.Image.{header_octets, confirmed_octets, checked_octets, body_block, packet_nulls, packet_image_of};
-ghost use Rattle.p25_packet_blocks.specs.Sendable.{AreOctets, IsHead, IsDataBlock, IsSendableConfirmed, IsSendablePlain, IsSendable};
+ghost use Rattle.p25_packet_blocks.specs.Sendable.{IsHead, IsDataBlock, IsSendableConfirmed, IsSendablePlain, IsSendable};
 
 use crate::block::{Block, Slot};
 use crate::head::PacketHead;
@@ -19,6 +19,7 @@ use crate::read::{BLOCK_LENGTH, HEADER_AT};
 use arrayvec::ArrayVec;
 use p25_bch_nid::{Nid, PDU};
 use p25_bits::BitBuf;
+use p25_bits::laws::octets_fit;
 use p25_crc::{crc9, crc16, crc32};
 use p25_status::{PLAIN_BLOCK_LENGTH, SENT_BLOCK_LENGTH};
 use p25_trellis::{Half, ThreeQuarter, encode_block};
@@ -45,13 +46,6 @@ fn parts(head: &PacketHead) -> usize
         / PLAIN_BLOCK_LENGTH
 }
 
-// Its contract says that octets fit.
-fn fit(octets: &[u8])
-    ensures { AreOctets octets.now }
-{
-    let _ = octets.len();
-}
-
 // Appends the front of the unit of a packet.
 fn put_packet_front(nac: u16, out: &mut BitBuf)
     requires nac { nac < 4096 }
@@ -72,7 +66,7 @@ fn put_header(head: &PacketHead, out: &mut BitBuf)
     ensures len { length out.new ≡ length out.old + 196 }
     ensures head { IsHead head.now }
 {
-    fit(&head.0);
+    octets_fit(&head.0);
     let mut octets: ArrayVec<u8, 12> = ArrayVec::new();
     append(&mut octets, &head.0);
     append(&mut octets, &crc16(&head.0).to_be_bytes());
@@ -87,7 +81,7 @@ fn put_block(block: &Block, out: &mut BitBuf)
     ensures block { IsDataBlock block.now }
 {
     let carried = block.octets();
-    fit(carried);
+    octets_fit(carried);
     let first = 512 * u16::from(block.serial()) + crc9(block.serial(), carried);
     let mut octets: ArrayVec<u8, 18> = ArrayVec::new();
     append(&mut octets, &first.to_be_bytes());
@@ -120,7 +114,7 @@ fn put_plain(packet: &Plain, out: &mut BitBuf)
     ensures octets { IsHead packet.now.head → IsSendablePlain packet.now }
 {
     let carried = packet.octets().octets();
-    fit(carried);
+    octets_fit(carried);
     let mut octets: ArrayVec<u8, 1524> = ArrayVec::new();
     append(&mut octets, carried);
     append(&mut octets, &crc32(carried).to_be_bytes());

@@ -9,9 +9,7 @@ pub(crate) fn append<const N: usize>(items: &mut ArrayVec<u8, N>, more: &[u8])
     requires { array_vec_len items.old + length more.now ≤ N }
     ensures { items.new.items ≡ items.old.items ++ more.now }
 {
-    for octet in more {
-        items.push(*octet);
-    }
+    items.try_extend_from_slice(more).unwrap();
 }
 
 /// A list of at most 1,520 octets, as many as a packet of 127 blocks that is not confirmed has before its CRC.

@@ -5,7 +5,9 @@
 //! [`Matrix`] has 1 to 24 rows and columns, both counted from 0; [`solve`] takes at most the cube of
 //! the size in steps. [`key_solve`] solves the key equation, from which the readers of the codes take
 //! the places that are wrong and the values there; it takes the square of the number of syndromes. No
-//! call takes memory.
+//! call takes memory. The other crates here call [`key_solve`] and take its polynomials apart; [`solve`]
+//! with [`Matrix`], and the calls of [`Poly`] other than `zero`, `from_symbols` and `coefficient`, are for
+//! programs of your own.
 //!
 //! ```
 //! // 1 + x^3 divided by 1 + x

@@ -88,7 +88,7 @@ softened-uneven (NoUnit place field) first levels raw no' = not_packet (NoUnit p
 softened-uneven (Gap place count) first levels raw no' = not_packet (Gap place count) first levels raw (λ ls. softened-other (Gap place count) ls raw (λ p c n d f is. cc))
 softened-uneven (Cut place have) first levels raw no' = not_packet (Cut place have) first levels raw (λ ls. softened-other (Cut place have) ls raw (λ p c n d f is. cc))
 
--- the same levels soften an item in the same way, wherever they are counted from
+-- equal levels soften an item to equal bits, wherever they are counted from
 softened-same : (item : Item) (first other : ℕ) (levels others : List ℤ) (raw : List Bool)
     → part (place_of item / 2 - first) (covered item / 2) levels ≡ part (place_of item / 2 - other) (covered item / 2) others
     → item_softened first levels item raw ≡ item_softened other others item raw

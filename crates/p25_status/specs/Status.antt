@@ -1,7 +1,8 @@
 -- Status symbols as numbers and as bits.
-use Rattle.std.specs.Prelude.{◌≡◌, ℕ, ◌+◌, ◌*◌, ◌<◌, Bool, true, false}
+use Rattle.std.specs.Prelude.{◌≡◌, ℕ, ◌+◌, ◌*◌, ◌%◌, ◌<◌, Bool, true, false}
 use Rattle.std.specs.Coded.{le_prop}
 use Rattle.std.proofs.Common.{ap, subst, lit<}
+use Rattle.std.proofs.Math.Nat.{mod-lt}
 use Rattle.p25_bits.specs.Bits.{digit_of}
 use Rattle.p25_status.specs.declared.symbols.Status.{Status}
 
@@ -12,6 +13,10 @@ status_number status = status.value
 -- the status symbol of a number below 4
 abbrev pub status_at_number : (n : ℕ) → n < 4 → Status
 status_at_number n h = record { value = n; below = h }
+
+-- the status symbol of a number, modulo 4
+unfoldable pub status_modulo : ℕ → Status
+status_modulo n = status_at_number (n % 4) (mod-lt n (lit< tt))
 
 pub two_digits-lt : (high low : Bool) → 2 * digit_of high + digit_of low < 4
 two_digits-lt true true = lit< tt

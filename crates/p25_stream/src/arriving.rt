@@ -1,9 +1,10 @@
 //! Octets as they come, eight at once.
 
-ghost use Rattle.std.specs.Prelude.{◌≡◌, ◌+◌, ◌*◌, ◌<◌, ◌≤◌, ◌++◌, All, length, take};
+ghost use Rattle.std.specs.Prelude.{◌≡◌, ◌+◌, ◌*◌, ◌<◌, ◌≤◌, ◌++◌, length, take};
 ghost use Rattle.p25_bits.specs.Bits.{octet_bits};
 
 use p25_bits::BitBuf;
+use p25_bits::laws::octets_fit;
 
 // The most bits that are held.
 const HELD_MOST: usize = 25_927;
@@ -46,16 +47,9 @@ fn put_eight(octets: &[u8], held: &mut BitBuf)
     ensures list { held.new ≡ held.old ++ octet_bits (take 8 octets.now) }
     ensures len { length held.new ≡ length held.old + 64 }
 {
-    fit(octets);
+    octets_fit(octets);
     let word = u64::from_be_bytes([
         octets[0], octets[1], octets[2], octets[3], octets[4], octets[5], octets[6], octets[7],
     ]);
     held.put_field(word, 64);
-}
-
-// Its contract says that octets fit.
-fn fit(octets: &[u8])
-    ensures { All (λ octet. octet < 256) octets.now }
-{
-    let _ = octets.len();
 }

@@ -1,6 +1,6 @@
 //! What a stream is divided into.
 
-ghost use Rattle.std.specs.Prelude.{◌≡◌, ◌≢◌, ◌<◌, ◌≤◌, Some, length, drop};
+ghost use Rattle.std.specs.Prelude.{◌≡◌, ◌≢◌, ◌^◌, ◌<◌, ◌≤◌, Some, length, drop};
 ghost use Rattle.p25_bits.specs.Bits.{part};
 ghost use Rattle.p25_units.specs.Begins.{IsBegun};
 ghost use Rattle.p25_units.specs.Items.{IsSoundItem, covered, item_from, place_of, unit_item_of, whole_voice};
@@ -57,7 +57,8 @@ pub enum Item {
 impl Item {
     /// Answers how many bits the item covers.
     pub fn covered(&self) -> u64
-        ensures { result ≡ covered self.now }
+        ensures value { result ≡ covered self.now }
+        ensures short { result < 2 ^ 32 }
     {
         match self {
             Item::Whole { frame, .. } => frame_length(&frame.unit) as u64,

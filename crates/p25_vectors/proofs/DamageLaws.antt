@@ -154,7 +154,7 @@ AreApart-rising from ((at, size) ∷ words) test =
     let parts = and_parts (nat_le from at) (rising (at + size) words) test in
     AreApart-cons from at size words (leb-true from at parts.0) (AreApart-rising (at + size) words parts.1)
 
--- the same words, damaged
+-- damage keeps the number of bits
 pub length-damaged : (words : List (ℕ × ℕ)) (counts : List ℕ) (bits : List Bool) → length (damaged words counts bits) ≡ length bits
 unfolding damaged
 length-damaged [] counts bits = refl

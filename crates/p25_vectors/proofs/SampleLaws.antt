@@ -42,9 +42,10 @@ use Rattle.p25_units.specs.declared.needs.Need.TheVariants.{Length}
 use Rattle.p25_units.proofs.ReadingsLaws.{IsVoiceImage-same}
 use Rattle.p25_units.proofs.UnitsLaws.{length-body_image_of, blocks-sound, symbols-image, length-image_of-blocks, plain_of-image_of}
 use Rattle.p25_units.proofs.WithinRadiusLaws.{need_of-near, unit_reading_of-near}
+use Rattle.p25_status.specs.Status.{status_modulo}
 use Rattle.p25_vectors.specs.Draws.{draw, state_after}
 use Rattle.p25_vectors.specs.Damage.{damaged, body_counts, damaged_words, damage_counts, damage_draws}
-use Rattle.p25_vectors.specs.Samples.{frame_of, frame_drawn, frame_draws, damaged_image, damage_state, flips_of, sample_bits, sample_flips, sample_frame, state_before, state_behind_unit, status_drawn}
+use Rattle.p25_vectors.specs.Samples.{frame_of, frame_drawn, frame_draws, damaged_image, damage_state, flips_of, sample_bits, sample_flips, sample_frame, state_before, state_behind_unit}
 use Rattle.p25_vectors.specs.Bodies.{body_drawn, body_draws, kind_of}
 use Rattle.p25_vectors.specs.declared.kind.Kind.{Kind}
 use Rattle.p25_vectors.proofs.DrawsLaws.{draw-after, state_after-add}
@@ -247,23 +248,23 @@ frame_of-sound nac status body whole = record { whole = whole; symbols = omega (
 
 pub frame_drawn-sound : (kind : Kind) (state : ℕ) → IsSoundFrame (frame_drawn kind state)
 unfolding frame_drawn
-frame_drawn-sound kind state = frame_of-sound (draw 0 state % 4096) (status_drawn (draw 1 state)) (body_drawn kind (state_after 2 state)) (body_drawn-whole kind (state_after 2 state))
+frame_drawn-sound kind state = frame_of-sound (draw 0 state % 4096) (status_modulo (draw 1 state)) (body_drawn kind (state_after 2 state)) (body_drawn-whole kind (state_after 2 state))
 
 pub frame-drawn : (kind : Kind) (state first second last nac : ℕ) (status : Status) (body : Body) (unit : UnitParts) (statuses : List Status)
-    → nac ≡ draw 0 state % 4096 → first ≡ state_after 1 state → status ≡ status_drawn (draw 0 first) → second ≡ state_after 1 first
+    → nac ≡ draw 0 state % 4096 → first ≡ state_after 1 state → status ≡ status_modulo (draw 0 first) → second ≡ state_after 1 first
     → body ≡ body_drawn kind second → last ≡ state_after (body_draws kind second) second → unit ≡ record { nac = nac; body = body }
     → statuses ≡ replicate (frame_length_of unit / 72) status
     → (◌≡◌ {A = Frame} (record { unit = unit; statuses = statuses }) (frame_drawn kind state)) × (last ≡ state_after (frame_draws kind state) state)
 unfolding frame_drawn frame_length_of
 frame-drawn kind state first second last nac status body unit statuses a b c d e f g h =
     let behind : second ≡ state_after 2 state = d ∙ ap (state_after 1) b ∙ state_after-add 1 1 state in
-    let symbol : status ≡ status_drawn (draw 1 state) = c ∙ ap (λ (s : ℕ). status_drawn (draw 0 s)) b ∙ ap status_drawn (draw-after 1 state) in
+    let symbol : status ≡ status_modulo (draw 1 state) = c ∙ ap (λ (s : ℕ). status_modulo (draw 0 s)) b ∙ ap status_modulo (draw-after 1 state) in
     let carried : body ≡ body_drawn kind (state_after 2 state) = e ∙ ap (body_drawn kind) behind in
     let made : ℕ → Body → UnitParts = λ n x. record { nac = n; body = x } in
     let whole : UnitParts → List Status → Frame = λ u xs. record { unit = u; statuses = xs } in
     let units : unit ≡ made (draw 0 state % 4096) (body_drawn kind (state_after 2 state)) = g ∙ ap₂ made a carried in
     let count : frame_length_of unit / 72 ≡ body_length unit.body / 70 = omega arith in
-    let symbols : statuses ≡ replicate (body_length (body_drawn kind (state_after 2 state)) / 70) (status_drawn (draw 1 state))
+    let symbols : statuses ≡ replicate (body_length (body_drawn kind (state_after 2 state)) / 70) (status_modulo (draw 1 state))
     = h ∙ ap₂ (λ (n : ℕ) (x : Status). replicate n x) (count ∙ ap (λ (u : UnitParts). body_length u.body / 70) units) symbol in
     (ap₂ whole units symbols, f ∙ ap (λ (s : ℕ). state_after (body_draws kind s) s) behind ∙ state_after-add 2 (body_draws kind (state_after 2 state)) state)
 

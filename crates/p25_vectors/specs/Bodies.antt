@@ -1,7 +1,6 @@
 -- What sample units carry: their kinds in turn, and what each has of the draws after a state.
-use Rattle.std.specs.Prelude.{ℕ, ◌+◌, ◌-◌, ◌*◌, ◌%◌, List, [], ◌∷◌, ◌++◌, take, slice_index}
-use Rattle.std.proofs.Common.{get_or}
-use Rattle.p25_bits.specs.Numbers.{each_below}
+use Rattle.std.specs.Prelude.{ℕ, ◌+◌, ◌-◌, ◌*◌, ◌%◌, List, [], ◌∷◌, ◌++◌, take, slice_index, slice_index_or}
+use Rattle.p25_bits.specs.Numbers.{each_below, pair_at}
 use Rattle.p25_link.specs.declared.link_control.LinkControl.{LinkControl}
 use Rattle.p25_link.specs.declared.encryption_sync.EncryptionSync.{EncryptionSync}
 use Rattle.p25_link.specs.declared.header_word.HeaderWord.{HeaderWord}
@@ -23,11 +22,7 @@ kinds = End ∷ Header ∷ EndLink ∷ Link1 ∷ Link2 ∷ Confirmed ∷ Plain �
 
 -- the kind of the unit of a number, from 0
 unfoldable pub kind_of : ℕ → Kind
-kind_of i = get_or kinds (i % 8) End
-
--- a number of two octets of a list, the first higher
-abbrev pub pair_at : List ℕ → ℕ → ℕ
-pair_at octets i = 256 * slice_index octets i + slice_index octets (i + 1)
+kind_of i = slice_index_or kinds (i % 8) End
 
 -- a header word: fifteen octets of MI, MFID, ALGID, KID and TGID
 abbrev pub header_of : List ℕ → HeaderWord

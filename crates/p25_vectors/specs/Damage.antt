@@ -1,6 +1,6 @@
 -- The damage of a sample unit: how many of the first bits of its sync, of its identifier and of each of its code words and
 -- blocks are inverted, as the draws after a state say.
-use Rattle.std.specs.Prelude.{ℕ, zero, suc, ◌+◌, ◌-◌, ◌%◌, cond, nat_lt, Bool, List, [], ◌∷◌, ◌++◌}
+use Rattle.std.specs.Prelude.{ℕ, zero, suc, ◌+◌, ◌-◌, ◌%◌, if◌then◌else◌, nat_lt, Bool, List, [], ◌∷◌, ◌++◌}
 use Rattle.p25_bits.specs.Bits.{flipped}
 use Rattle.p25_bits.specs.Numbers.{each_below}
 use Rattle.p25_voice_units.specs.declared.unit.VoiceUnit.TheVariants.{Header, Link1, Link2, End, EndLink}
@@ -26,7 +26,7 @@ damaged (word ∷ words) (count ∷ counts) bits = damaged words counts (inverte
 -- so many words of a size: the first ones are inverted whole, and of each later one as many bits as a draw modulo one more
 -- than the radius says
 unfoldable pub word_counts : ℕ → ℕ → ℕ → ℕ → ℕ → List ℕ
-word_counts count size radius whole state = each_below count (λ i. cond (nat_lt i whole) size (draw (i - whole) state % (radius + 1)))
+word_counts count size radius whole state = each_below count (λ i. if nat_lt i whole then size else draw (i - whole) state % (radius + 1))
 
 -- the inner words of a coded field: first a draw says how many are inverted whole, from 0 to the most that its outer code undoes
 abbrev pub field_counts : ℕ → ℕ → ℕ → ℕ → ℕ → List ℕ

@@ -1,9 +1,7 @@
 -- The sample units, in order, and what is counted of them.
 use Rattle.std.specs.Prelude.{ℕ, zero, suc, ◌+◌, ◌/◌, ◌%◌, Bool, List, replicate, sum}
-use Rattle.std.proofs.Common.{lit<}
-use Rattle.std.proofs.Math.Nat.{mod-lt}
 use Rattle.p25_bits.specs.Numbers.{each_below}
-use Rattle.p25_status.specs.Status.{status_at_number}
+use Rattle.p25_status.specs.Status.{status_modulo}
 use Rattle.p25_status.specs.Woven.{woven}
 use Rattle.p25_status.specs.declared.symbols.Status.{Status}
 use Rattle.p25_units.specs.UnitParts.{UnitParts}
@@ -15,10 +13,6 @@ use Rattle.p25_vectors.specs.Bodies.{body_drawn, body_draws, kind_of}
 use Rattle.p25_vectors.specs.Damage.{damage_counts, damage_draws, damaged, damaged_words}
 use Rattle.p25_vectors.specs.declared.kind.Kind.{Kind}
 
--- the status symbol that a draw says
-unfoldable pub status_drawn : ℕ → Status
-status_drawn drawn = status_at_number (drawn % 4) (mod-lt drawn (lit< tt))
-
 -- the frame of a unit that carries a body, with one status symbol everywhere
 abbrev pub frame_of : ℕ → Status → Body → Frame
 frame_of nac status body =
@@ -27,7 +21,7 @@ frame_of nac status body =
 
 -- the frame of a kind that the draws after a state say: its NAC, its status symbol, and what it carries
 unfoldable pub frame_drawn : Kind → ℕ → Frame
-frame_drawn kind state = frame_of (draw 0 state % 4096) (status_drawn (draw 1 state)) (body_drawn kind (state_after 2 state))
+frame_drawn kind state = frame_of (draw 0 state % 4096) (status_modulo (draw 1 state)) (body_drawn kind (state_after 2 state))
 
 -- how many draws that takes
 abbrev pub frame_draws : Kind → ℕ → ℕ

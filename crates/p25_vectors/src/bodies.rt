@@ -9,17 +9,11 @@ ghost use Rattle.p25_units.specs.declared.unit.Body.TheVariants.{Packet as packe
 
 use crate::draws::Draws;
 use crate::kind::Kind;
+use p25_bits::pair_at;
 use p25_link::{EncryptionSync, HeaderWord, LinkControl};
 use p25_packet_blocks::{Block, Confirmed, Octets, Packet, PacketHead, Plain, Slot, Slots};
 use p25_units::Body;
 use p25_voice_units::{Voice, VoiceFrame, VoiceUnit};
-
-// The number of two octets, the first one higher.
-fn pair(high: u8, low: u8) -> u16
-    ensures { result ≡ 256 * high + low }
-{
-    256 * u16::from(high) + u16::from(low)
-}
 
 // The first nine octets.
 fn nine<const N: usize>(octets: &[u8; N]) -> [u8; 9]
@@ -40,8 +34,8 @@ fn draw_header(draws: &mut Draws) -> HeaderWord
         mi: nine(&octets),
         mfid: octets[9],
         algid: octets[10],
-        kid: pair(octets[11], octets[12]),
-        tgid: pair(octets[13], octets[14]),
+        kid: pair_at(&octets, 11),
+        tgid: pair_at(&octets, 13),
     }
 }
 
@@ -60,7 +54,7 @@ fn draw_sync(draws: &mut Draws) -> EncryptionSync
     EncryptionSync {
         mi: nine(&octets),
         algid: octets[9],
-        kid: pair(octets[10], octets[11]),
+        kid: pair_at(&octets, 10),
     }
 }
 

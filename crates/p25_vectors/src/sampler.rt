@@ -6,9 +6,10 @@ ghost use Rattle.p25_units.specs.Readings.{unit_reading_of};
 ghost use Rattle.p25_units.specs.Units.{IsSendableUnit, IsSoundFrame};
 ghost use Rattle.p25_units.specs.WithinRadius.{IsWithinRadius};
 ghost use Rattle.p25_units.specs.declared.needs.Need.TheVariants.{Length};
+ghost use Rattle.p25_status.specs.Status.{status_modulo};
 ghost use Rattle.p25_vectors.specs.Draws.{draw, state_after};
 ghost use Rattle.p25_vectors.specs.Damage.{damage_counts, damage_draws};
-ghost use Rattle.p25_vectors.specs.Samples.{damaged_image, frame_drawn, frame_draws, sample_bits, sample_flips, sample_frame, status_drawn};
+ghost use Rattle.p25_vectors.specs.Samples.{damaged_image, frame_drawn, frame_draws, sample_bits, sample_flips, sample_frame};
 
 use crate::bodies::draw_body;
 use crate::damage::damage;
@@ -120,7 +121,7 @@ fn put_damaged(frame: &Frame, draws: &mut Draws, bits: &mut BitBuf) -> u32
 
 // The status symbol of a unit.
 fn draw_status(draws: &mut Draws) -> Status
-    ensures status { result ≡ status_drawn (draw 0 draws.old) }
+    ensures status { result ≡ status_modulo (draw 0 draws.old) }
     ensures state { draws.new ≡ state_after 1 draws.old }
 {
     match Status::new(draws.below(4) as u8) {

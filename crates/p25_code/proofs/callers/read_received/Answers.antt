@@ -1,5 +1,5 @@
 use Rattle.p25_code.specs.Readings.{word_read}
-use Rattle.p25_code.proofs.ReadingLaws.{IsBlockCode, reading_sent, reading_fixes, reading_information, one_reading, word_read_as}
+use Rattle.p25_code.proofs.ReadingLaws.{IsBlockCode, reading_sent, reading_fixes, one_reading, word_read_as}
 use Rattle.p25_code.proofs.callers.read_received.Goals as goal
 
 pub returns : goal.returns
@@ -21,5 +21,4 @@ returns g c =
       value = one_reading laws received (word_read c.read.result c.read.new.word) (b.reading_is received) c.requires.word (word_read_as laws received c.read.new.word c.read.result c.read.ensures) (m.reads_as c.requires.code received);
       sent = λ sent is near. reading_sent laws received c.read.new.word sent c.read.result c.requires.word c.read.ensures is near;
       fixes = λ sent is near. reading_fixes laws received c.read.new.word sent c.read.result c.requires.word c.read.ensures is near;
-      information = reading_information laws received c.read.new.word c.read.result c.requires.word c.read.ensures;
     }

@@ -17,5 +17,5 @@ returns-clause-list c =
     let levels = c.args.levels.now in
     let even : is_even_packet item ≡ true = first_of (cc, search rules, grind arith) in
     c.soften.ensures.bits
-    ∙ ap (λ (ls : List ℤ). softened item ls c.args.raw.now) (c.part.ensures.list ∙ ap₂ (λ p n. part (p % 8 / 2) (n / 2) levels) c.place.ensures c.covered.ensures)
+    ∙ ap (λ (ls : List ℤ). softened item ls c.args.raw.now) (c.part.ensures.list ∙ ap₂ (λ p n. part (p % 8 / 2) (n / 2) levels) c.place.ensures c.covered.ensures.value)
     ∙ sym (softened-even item levels c.args.raw.now even)

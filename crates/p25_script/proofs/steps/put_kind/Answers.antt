@@ -25,4 +25,6 @@ pub returns-in-RefusedOrder-clause-text : goal.returns-in-RefusedOrder-clause-te
 unfolding kind_text
 returns-in-RefusedOrder-clause-text c =
     rw c.in-RefusedOrder.is
-    (c.put_labelled-in-RefusedOrder.ensures.text ∙ ap (λ n. c.args.out.now ++ codes "data refused order vr=" ++ decimal n) c.from-in-RefusedOrder.ensures ∙ append_assoc c.args.out.now (codes "data refused order vr=") (decimal c.in-RefusedOrder.last))
+    (c.put_labelled-in-RefusedOrder.ensures.text
+    ∙ ap (λ n. c.args.out.now ++ codes "data refused order vr=" ++ decimal n) c.from-in-RefusedOrder.ensures
+    ∙ append_assoc c.args.out.now (codes "data refused order vr=") (decimal c.in-RefusedOrder.last))

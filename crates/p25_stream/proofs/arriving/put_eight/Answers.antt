@@ -8,4 +8,4 @@ returns-clause-list c =
     let octets = c.args.octets.now in
     c.put_field.ensures.list
     ∙ ap (λ (zs : List Bool). c.args.held.now ++ zs)
-    (bits_of-eight octets c.from_be_bytes-word.result c.requires.some (All-take (λ octet. octet < 256) 8 octets c.fit.ensures) c.from_be_bytes-word.ensures)
+    (bits_of-eight octets c.from_be_bytes-word.result c.requires.some (All-take (λ octet. octet < 256) 8 octets c.octets_fit.ensures) c.from_be_bytes-word.ensures)
