@@ -179,7 +179,7 @@ fn words_of_24_16(rt: HostRuntime) {
     }
 }
 
-// As many symbols as there are check symbols are erased and wrong, and then one more is wrong.
+// As many symbols as there are check symbols are erased, and then one fewer where one more is wrong.
 #[test]
 fn erased_symbols(rt: HostRuntime) {
     let mut erased = [false; 24];
@@ -188,10 +188,11 @@ fn erased_symbols(rt: HostRuntime) {
         erased[i] = true;
         symbols[i] = 63;
     }
+    let received = symbols;
     assert_eq!(rt; p25_rs_24_12_read_erased(&mut symbols, &erased), 12);
     assert_eq!(rt; symbols, [0; 24]);
-    symbols[12] = 63;
-    let received = symbols;
+    symbols = received;
+    erased[11] = false;
     assert_eq!(rt; p25_rs_24_12_read_erased(&mut symbols, &erased), -1);
     assert_eq!(rt; symbols, received);
 }
