@@ -214,7 +214,7 @@ def repair(octets):
     octets = bytes(octets)
     repaired = bytearray(octets)
     for item in items(octets):
-        if item.kind == "unit" and item.fixes > 0:
+        if item.kind == "unit":
             _put(repaired, item.place, repair_unit(_cut(octets, item.place, item.bits)), item.bits)
     return bytes(repaired)
 
