@@ -1,12 +1,13 @@
 -- Nibbles that are read from a word: each is a quotient and a remainder of it.
-use Rattle.std.proofs.Common.{◌≡◌, ℕ, ◌+◌, ◌-◌, ◌*◌, ◌/◌, ◌%◌, ◌^◌, ◌<◌, ◌≤◌, Bool, List, ◌++◌, length, take, drop, get_or, set, ap, ap₂, sym, ◌∙◌, arith, below_more, get_or-set_same, get_or-set_other, ◌≢◌, length-drop}
+use Rattle.std.proofs.Common.{append_assoc, ◌≡◌, ℕ, ◌+◌, ◌-◌, ◌*◌, ◌/◌, ◌%◌, ◌^◌, ◌<◌, ◌≤◌, Bool, List, ◌++◌, length, take, drop, get_or, set, ap, ap₂, sym, ◌∙◌, arith, below_more, get_or-set_same, get_or-set_other, ◌≢◌, length-drop}
+use Rattle.std.proofs.Math.Seq.{take-add}
 use Rattle.std.proofs.lemmas.List.{ext_get_or, drop-drop}
 use Rattle.std.proofs.lemmas.Slice.{take-put_mid}
 use borrow.Rule.Slice.PartMut.{put_mid}
 use Rattle.p25_bits.specs.Bits.{bits_of, field_of, part}
-use Rattle.p25_bits.specs.Numbers.{numbers_from}
+use Rattle.p25_bits.specs.Numbers.{number_bits, numbers_from}
 use Rattle.p25_bits.proofs.BitsLaws.{take-bits_of, drop-bits_of, field_of-bits_of}
-use Rattle.p25_bits.proofs.NumbersLaws.{length-numbers_from, get_or-numbers_from, numbers_from-add, numbers_from-take, bits_of-field}
+use Rattle.p25_bits.proofs.NumbersLaws.{number_bits-append, length-numbers_from, get_or-numbers_from, numbers_from-add, numbers_from-take, bits_of-field}
 
 -- a nibble of the 28 low bits of a word
 nibble_of : (word k : ℕ) → k < 7 → get_or (numbers_from 4 7 (bits_of 28 word)) k 0 ≡ word / 2 ^ (24 - 4 * k) % 16
@@ -59,3 +60,17 @@ seven_more bits at j word nibbles seven early there long is written so_far =
     ∙ ap₂ (λ (xs ys : List ℕ). xs ++ ys) so_far read
     ∙ sym (numbers_from-add 4 (7 * j) 7 (drop at bits))
     ∙ ap (λ n. numbers_from 4 n (drop at bits)) more
+
+-- seven nibbles written after those before them
+pub seven_written : (j word : ℕ) (before written after : List Bool) (nibbles : List ℕ) → j < 7 → length nibbles ≡ 49 → after ≡ written ++ bits_of 28 word
+    → bits_of 28 word ≡ number_bits 4 (take (7 * j + 7 - 7 * j) (drop (7 * j) nibbles)) → written ≡ before ++ number_bits 4 (take (7 * j) nibbles)
+    → after ≡ before ++ number_bits 4 (take (7 * (j + 1)) nibbles)
+seven_written j word before written after nibbles early long is seven so_far =
+    let count : 7 * j + 7 - 7 * j ≡ 7 = omega arith in
+    let more : 7 * j + 7 ≡ 7 * (j + 1) = omega arith in
+    let front = take (7 * j) nibbles in
+    let group = take 7 (drop (7 * j) nibbles) in
+    is
+    ∙ ap₂ (λ (xs ys : List Bool). xs ++ ys) so_far (seven ∙ ap (λ n. number_bits 4 (take n (drop (7 * j) nibbles))) count)
+    ∙ append_assoc before (number_bits 4 front) (number_bits 4 group)
+    ∙ ap (λ (xs : List Bool). before ++ xs) (sym (number_bits-append 4 front group) ∙ ap (number_bits 4) (sym (take-add (7 * j) 7 nibbles) ∙ ap (λ n. take n nibbles) more))

@@ -10,7 +10,7 @@ ghost use Rattle.p25_trellis.specs.Nearest.{nearest_octets, nearest_distance, bl
 use super::exact::path_along;
 use super::interleave::{gather, spread};
 use super::near::{near_path, near_rests};
-use super::nibbles::take_nibbles;
+use super::nibbles::{append_nibbles, take_nibbles};
 use super::path::{nibbles_of, octets_of, path_of};
 use super::rate::Rate;
 use p25_bits::BitBuf;
@@ -26,7 +26,7 @@ pub fn encode_block<R: Rate>(octets: &[u8], out: &mut BitBuf)
     ensures len { length out.new ≡ length out.old + 196 }
 {
     let path = path_of::<R>(octets);
-    out.put_numbers(&spread(&nibbles_of::<R>(&path)), 4);
+    append_nibbles(&spread(&nibbles_of::<R>(&path)), out);
 }
 
 /// Sets `octets` to those of the first nearest path to the 196 bits from place `at`, and answers its distance, the number

@@ -8,8 +8,8 @@ use Rattle.p25_trellis.specs.Trellis.{sent_bits}
 use Rattle.p25_trellis.proofs.InterleaveLaws.{All-interleaved}
 use Rattle.p25_trellis.proofs.block.encode_block.Goals as goal
 
-pub put_numbers-requires-clause-fits : goal.put_numbers-requires-clause-fits
-put_numbers-requires-clause-fits g c =
+pub append_nibbles-requires-clause-small : goal.append_nibbles-requires-clause-small
+append_nibbles-requires-clause-small g c =
     let P : ℕ → Type 0 = λ n. n < 16 in
     All-same P c.spread.result (interleaved c.nibbles_of.result) c.spread.ensures.sent (All-interleaved P c.nibbles_of.result c.nibbles_of.ensures.nibbles)
 
@@ -23,7 +23,7 @@ returns-clause-block g c = (
     carries = c.path_of-path.ensures.carries;
     sent = ap (number_bits 4) (c.spread.ensures.sent ∙ ap interleaved c.nibbles_of.ensures.value);
   },
-  c.put_numbers.ensures.list,
+  c.append_nibbles.ensures.list,
 )
 
 pub returns-clause-only : goal.returns-clause-only

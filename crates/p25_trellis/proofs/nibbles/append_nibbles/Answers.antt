@@ -1,0 +1,23 @@
+use Rattle.std.proofs.Common.{◌≡◌, ◌≤◌, ◌*◌, ◌++◌, Bool, List, length, ap, sym, ◌∙◌, arith, append-nil}
+use Rattle.std.proofs.lemmas.List.{take_all}
+use Rattle.p25_bits.specs.Numbers.{number_bits}
+use Rattle.p25_bits.proofs.NumbersLaws.{number_bits-nil}
+use Rattle.p25_trellis.proofs.NibbleSteps.{seven_written}
+use Rattle.p25_trellis.proofs.nibbles.append_nibbles.Goals as goal
+
+pub loop-j-init : goal.loop-j-init
+loop-j-init c = record { so_far = sym (ap (λ (bits : List Bool). c.args.out.now ++ bits) (number_bits-nil 4) ∙ append-nil c.args.out.now); long = omega arith }
+
+pub loop-j-preserved : goal.loop-j-preserved
+loop-j-preserved c = record {
+  so_far =
+      seven_written c.loop-j.j c.seven_number.result c.args.out.now c.loop-j.out c.put_field.new.self c.args.nibbles.now c.loop-j-test.true c.told-nibbles c.put_field.ensures.list c.seven_number.ensures.bits
+      c.loop-j.invariant.so_far;
+  long = omega (arith, c.put_field.ensures.len, c.loop-j.invariant.long);
+}
+
+pub returns-clause-list : goal.returns-clause-list
+returns-clause-list c =
+    let done : 7 ≡ c.loop-j.j = omega arith in
+    let all : length c.args.nibbles.now ≤ 7 * c.loop-j.j = omega (arith, done, c.told-nibbles) in
+    c.loop-j.invariant.so_far ∙ ap (λ (xs : List _). c.args.out.now ++ number_bits 4 xs) (take_all (7 * c.loop-j.j) c.args.nibbles.now all)
