@@ -26,7 +26,7 @@ use Rattle.p25_stations.specs.declared.step.Step.{Step}
 use Rattle.p25_script.specs.Script.{event_of}
 use Rattle.p25_tool.specs.StationRules.{station_rules, told_step}
 use Rattle.p25_recording_filters.specs.Commands.{changed_reporting, check_reporting, show_reporting, CallsParts, calls_reporting}
-use Rattle.p25_tool.specs.Outputs.{command_future, closing_line, ending_by, image_octets, step_line, long_closing_line}
+use Rattle.p25_tool.specs.Outputs.{closing_line, ending_by, image_octets, step_line, long_closing_line}
 use Rattle.p25_recording_filters.specs.ItemOutputs.{check_ending, check_line, faults_in, faulty, units_in, soft_output}
 use Rattle.p25_calls.specs.Taking.{fresh_caller}
 use Rattle.p25_fragments.specs.LongState.{LongState, first_long}
@@ -39,6 +39,7 @@ use Rattle.p25_fragment_script.specs.LongTexts.{long_step_text_of}
 use Rattle.p25_tool.specs.FragmentRules.{fragment_rules, told_long}
 use Rattle.p25_recording_filters.specs.Softs.{fresh_soft, soft_future}
 use Rattle.p25_recording_filters.specs.Recordings.{fresh, recording_future}
+use Rattle.p25_tool.specs.Runs.{command_future}
 use Rattle.p25_recording_filters.proofs.CallReportsLaws.{reported-calls}
 use Rattle.p25_recording_filters.proofs.ReportsLaws.{behind-check, reported-changed, reported-check, reported-show}
 
@@ -98,6 +99,11 @@ unfolding texts_of
 images build [] = refl
 images build (unit ∷ units) = ap (λ (zs : List ℕ). image_octets build.status unit ++ zs) (images build units)
 
+closing_none : (ended : Bool) (refusal : Option Ending) → closing_by ended refusal [] ≡ []
+closing_none ended (Some refusal) = refl
+closing_none true None = refl
+closing_none false None = refl
+
 pub build-alike : (status : Status) → AreAlike (line_future build_rules (first_line (record { status = status }))) (command_future (BuildIt status))
 build-alike status = record {
   writes = λ is octets.
@@ -105,7 +111,9 @@ build-alike status = record {
       let lines = lines_in is [] octets in
       let units = read_of read_line_of lines in
       first_line-writes read_line_of _ _ false build is octets
-      ∙ ap (λ (zs : List ℕ). zs ++ closing_by is (refusal_in read_line_of 1 lines) []) (images build units);
+      ∙ ap (λ (zs : List ℕ). concat (texts_of (λ build unit. (image_octets build.status unit, build)) build units) ++ zs) (closing_none is (refusal_in read_line_of 1 lines))
+      ∙ append-nil (concat (texts_of (λ build unit. (image_octets build.status unit, build)) build units))
+      ∙ images build units;
   ends = λ is octets. first_line-ends read_line_of _ _ false (record { status = status }) is octets;
   pauses = λ is octets. first_line-pauses read_line_of _ _ false (record { status = status }) is octets;
 }

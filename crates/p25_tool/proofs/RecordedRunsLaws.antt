@@ -15,10 +15,10 @@ use Rattle.p25_tool.specs.declared.command.Command.TheVariants.{Show, Check, Rep
 use Rattle.p25_tool.specs.declared.outcome.Outcome.{Outcome}
 use Rattle.p25_tool.specs.declared.outcome.Outcome.TheVariants.{Done, Memory, TooLong}
 use Rattle.p25_tool.specs.Outcomes.{filter_outcome}
-use Rattle.p25_tool.specs.Outputs.{command_future, CanWantMemory, ending_by, output_by}
+use Rattle.p25_tool.specs.Outputs.{CanWantMemory, ending_by, output_by}
 use Rattle.p25_tool.specs.Recorded.{IsRecording}
 use Rattle.p25_tool.specs.RecordedRuns.{AreWrittenOf, HasWrittenUnits, IsUnitCommand}
-use Rattle.p25_tool.specs.Runs.{answer_of, ending_or}
+use Rattle.p25_tool.specs.Runs.{answer_of, command_future, ending_or}
 use Rattle.p25_tool.specs.Words.{bridge_of, build_of, command_of, one_word_command, sample_of, status_in, three_word_command, two_word_command}
 use Rattle.p25_tool.specs.Written.{HasEnded}
 use Rattle.p25_tool.proofs.RecordedLaws.{bridges-units, checks-units, repairs-units, shows-units}

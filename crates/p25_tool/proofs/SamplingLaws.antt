@@ -5,7 +5,8 @@ use Rattle.p25_filter.specs.Traces.{IsDue, IsRun, at_first}
 use Rattle.p25_filter.specs.declared.ending.Ending.TheVariants.{Done}
 use Rattle.p25_filter.specs.declared.ending.FilterEnd.TheVariants.{Ended, WriteFault}
 use Rattle.p25_tool.specs.declared.command.Command.TheVariants.{Sample}
-use Rattle.p25_tool.specs.Outputs.{command_future, sample_line}
+use Rattle.p25_tool.specs.Outputs.{sample_line}
+use Rattle.p25_tool.specs.Runs.{command_future}
 
 some-line : (line : List ℕ) (first : ℕ) (rest : List ℕ) → line ≡ first ∷ rest → 0 < length line
 some-line [] first rest same = cc

@@ -1,7 +1,8 @@
 -- The words of a call, and the commands that they name.
-use Rattle.std.specs.Prelude.{ℕ, ◌<◌, ◌≤◌, ◌==◌, nat_lt, if◌then◌else◌, List, [], ◌∷◌, ◌++◌, Option, Some, None, option_map, find, length, take, codes}
+use Rattle.std.specs.Prelude.{ℕ, ◌<◌, ◌≤◌, List, [], ◌∷◌, ◌++◌, Option, Some, None, cond, nat_eq, ltb, length, take, codes}
 use Rattle.std.specs.Str.{bytes_eq}
-use Rattle.p25_status.specs.Status.{status_modulo}
+use Rattle.std.proofs.Common.{lit<}
+use Rattle.p25_status.specs.Status.{status_at_number}
 use Rattle.p25_status.specs.declared.symbols.Status.{Status}
 use Rattle.p25_text.specs.Values.{nac_in}
 use Rattle.p25_line.specs.Values.{number_below}
@@ -10,33 +11,28 @@ use Rattle.p25_tool.specs.declared.command.Command.TheVariants.{Show, Check, Rep
 
 -- the words after one more: its first 16 octets after the others, or nothing where four are held
 abbrev pub added : List (List ℕ) → List ℕ → List (List ℕ)
-added words word = if nat_lt (length words) 4 then words ++ take 16 word ∷ [] else words
+added words word = cond (ltb (length words) 4) (words ++ take 16 word ∷ []) words
 
 -- the status symbol that a word of one digit, 0 to 3, is
 abbrev pub status_in : List ℕ → Option Status
-status_in word = option_map status_modulo (number_below 4 word)
-
--- the word of a command
-abbrev pub command_word : Command → List ℕ
-command_word Show = codes "show"
-command_word Check = codes "check"
-command_word Repair = codes "repair"
-command_word (Bridge nac status) = codes "bridge"
-command_word (Build status) = codes "build"
-command_word Stations = codes "stations"
-command_word Calls = codes "calls"
-command_word Duplex = codes "duplex"
-command_word Fragments = codes "fragments"
-command_word Soft = codes "soft"
-command_word (Sample count) = codes "sample"
-
--- the commands of one word
-abbrev pub one_word_commands : List Command
-one_word_commands = Show ∷ Check ∷ Repair ∷ Calls ∷ Soft ∷ Stations ∷ Fragments ∷ Duplex ∷ []
+status_in [] = None
+status_in (digit ∷ []) =
+    cond (nat_eq digit 48) (Some (status_at_number 0 (lit< tt)))
+    (cond (nat_eq digit 49) (Some (status_at_number 1 (lit< tt)))
+    (cond (nat_eq digit 50) (Some (status_at_number 2 (lit< tt))) (cond (nat_eq digit 51) (Some (status_at_number 3 (lit< tt))) None)))
+status_in (first ∷ second ∷ digits) = None
 
 -- the command of one word
 abbrev pub one_word_command : List ℕ → Option Command
-one_word_command word = find (λ command. bytes_eq word (command_word command)) one_word_commands
+one_word_command word =
+    cond (bytes_eq word (codes "show")) (Some Show)
+    (cond (bytes_eq word (codes "check")) (Some Check)
+    (cond (bytes_eq word (codes "repair")) (Some Repair)
+    (cond (bytes_eq word (codes "calls")) (Some Calls)
+    (cond (bytes_eq word (codes "soft")) (Some Soft)
+    (cond (bytes_eq word (codes "stations")) (Some Stations)
+    (cond (bytes_eq word (codes "fragments")) (Some Fragments)
+    (cond (bytes_eq word (codes "duplex")) (Some Duplex) None)))))))
 
 -- `build` with a status symbol, where it is one
 abbrev pub build_of : Option Status → Option Command
@@ -46,14 +42,13 @@ build_of (Some status) = Some (Build status)
 -- `sample` with a number, where it is one from 1 on
 abbrev pub sample_of : Option ℕ → Option Command
 sample_of None = None
-sample_of (Some count) = if count == 0 then None else Some (Sample count)
+sample_of (Some count) = cond (nat_eq count 0) None (Some (Sample count))
 
 -- the command of two words: `build` with a status symbol, or `sample` with a number of at most 10,000
 abbrev pub two_word_command : List ℕ → List ℕ → Option Command
 two_word_command word value =
-    if bytes_eq word (codes "build")
-    then build_of (status_in value)
-    else (if bytes_eq word (codes "sample") then sample_of (number_below 10001 value) else None)
+    cond (bytes_eq word (codes "build")) (build_of (status_in value))
+    (cond (bytes_eq word (codes "sample")) (sample_of (number_below 10001 value)) None)
 
 -- `bridge` with a network access code and a status symbol, where they are both
 abbrev pub bridge_of : Option ℕ → Option Status → Option Command
@@ -63,7 +58,7 @@ bridge_of (Some nac) (Some status) = Some (Bridge nac status)
 
 -- the command of three words
 abbrev pub three_word_command : List ℕ → List ℕ → List ℕ → Option Command
-three_word_command word nac status = if bytes_eq word (codes "bridge") then bridge_of (nac_in nac) (status_in status) else None
+three_word_command word nac status = cond (bytes_eq word (codes "bridge")) (bridge_of (nac_in nac) (status_in status)) None
 
 -- the command that words name, if one does
 abbrev pub command_of : List (List ℕ) → Option Command

@@ -11,9 +11,6 @@ use std::marker::Model;
 // The most sample units of a call.
 const SAMPLE_MOST: u64 = 10_000;
 
-// The highest number of a status symbol.
-const STATUS_MOST: u64 = 3;
-
 // A word of at most 16 octets.
 #[derive(Drop)]
 struct Word {
@@ -196,8 +193,12 @@ fn three_words(word: &[u8], nac: &[u8], status: &[u8]) -> Option<Command>
 fn status_value(word: &[u8]) -> Option<Status>
     ensures { result ≡ status_in word.now }
 {
-    match number_value(word, STATUS_MOST) {
-        Some(number) => Status::new(number as u8),
-        None => None,
+    if word.len() != 1 {
+        return None;
     }
+    let digit = word[0];
+    if digit < b'0' || digit > b'3' {
+        return None;
+    }
+    Status::new(digit - b'0')
 }
