@@ -1,8 +1,5 @@
-//! The half of a station that sends messages.
-
 ghost use Rattle.std.specs.Prelude.{◌≡◌, ◌+◌, ◌<◌, ◌≤◌, length, OnOk, OnErr, IfSome};
 ghost use Rattle.p25_packet_blocks.specs.Sendable.{AreOctets, IsSendable};
-ghost use Rattle.p25_delivery.specs.SoundHalves.{IsMessage};
 
 use crate::mark::Mark;
 use crate::sender::{Offer, Reopen, Resend, Sender, SenderHeard};
@@ -90,17 +87,10 @@ impl Outbound {
 }
 
 // Its contract says that octets fit.
-fn octets_fit(octets: &[u8])
+fn fit(octets: &[u8])
     ensures { AreOctets octets.now }
 {
     let _ = octets.len();
-}
-
-// Its contract says what every message keeps.
-fn fit(message: &Message)
-    ensures { IsMessage message.now }
-{
-    octets_fit(message.octets());
 }
 
 impl Outbound {
@@ -117,7 +107,7 @@ impl Outbound {
         ensures sendable { IfSome result.1 IsSendable }
         ensures spare { self.old.spare ≤ self.new.spare + 1 }
     {
-        fit(message);
+        fit(message.octets());
         match self.sender.offer(message) {
             Offer::Taken {
                 number,
