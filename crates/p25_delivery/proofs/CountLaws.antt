@@ -1,7 +1,6 @@
 -- The counts of sessions in any run: by what is outstanding, each event keeps the numbers sent and acknowledged together.
 use Rattle.std.proofs.Common.{◌≡◌, ℕ, ◌+◌, ◌⊎◌, inl, inr, Bool, true, false, cond, List, [], ◌∷◌, ◌++◌, length, refl, ap, sym, subst, arith, length-append}
-use Rattle.std.specs.Prelude.{All}
-use Rattle.std.proofs.lemmas.List.Elements.{All-head, All-tail, All-push}
+use Rattle.std.proofs.lemmas.List.Elements.{All-push}
 use Rattle.p25_packet_blocks.specs.declared.packet.Packet.{Packet}
 use Rattle.p25_delivery.specs.MessageBlocks.{block_count}
 use Rattle.p25_delivery.specs.SentPackets.{message_packet, opening_packet}
@@ -27,6 +26,7 @@ use Rattle.p25_delivery.proofs.SenderLaws.{IsSame, Resends, resent-of, timeout-o
 use Rattle.p25_delivery.proofs.SessionLaws.{IsMarked, IsDivided, ended_sessions, sessions-split, present-sent, present-acknowledged, present-marked, first-divided}
 use Rattle.p25_delivery.proofs.EndedLaws.{happens-divided}
 use Rattle.p25_delivery.proofs.CallLaws.{offer-held}
+use Rattle.p25_delivery.proofs.RunLaws.{each-all, run-keeps_all}
 
 -- the numbers sent and acknowledged, by what is outstanding
 unfoldable CountsBy : Outstanding → ℕ → ℕ → Type 0
@@ -172,25 +172,19 @@ happens-counts w Opening_again m h = reopen-counts w w.outbound.sender.outstandi
 happens-counts w (Data_heard packet) m h = data-counts w (receiver_heard w.inbound.receiver packet) h
 happens-counts w (Answer_heard packet) m h = answer-counts w packet w.outbound.sender.outstanding refl m h
 
-run-counts : (events : List Happening) (w : Link) → HasCounts w × IsDivided IsCounted w → HasCounts (link_run w events) × IsDivided IsCounted (link_run w events)
-unfolding link_run
-run-counts [] w h = h
-run-counts (event ∷ events) w h =
-    let counted = counted-present w.outbound.sender.outstanding (present_session w) h.0 in
-    run-counts events (happens w event).0 (happens-counts w event h.1.0 h.0, happens-divided IsCounted w event h.1 counted)
+abbrev IsCountedLink : Link → Type 0
+IsCountedLink w = HasCounts w × IsDivided IsCounted w
+
+happens-counted : (w : Link) (event : Happening) → IsCountedLink w → IsCountedLink (happens w event).0
+happens-counted w event h = (happens-counts w event h.1.0 h.0, happens-divided IsCounted w event h.1 (counted-present w.outbound.sender.outstanding (present_session w) h.0))
 
 first-counts : HasCounts first_link
 unfolding CountsBy last_mark
 first-counts = refl
 
-counted-all : (sessions : List Session) → All IsCounted sessions → AreCounted sessions
-unfolding AreCounted
-counted-all [] all = tt
-counted-all (session ∷ sessions) all = (All-head IsCounted session sessions all, counted-all sessions (All-tail IsCounted session sessions all))
-
 pub sessions-counted : (events : List Happening) → AreCounted (sessions_of (link_run first_link events))
 sessions-counted events =
     let w = link_run first_link events in
-    let h : HasCounts w × IsDivided IsCounted w = run-counts events first_link (first-counts, first-divided IsCounted) in
+    let h : IsCountedLink w = run-keeps_all happens IsCountedLink happens-counted events first_link (first-counts, first-divided IsCounted) in
     let present = counted-present w.outbound.sender.outstanding (present_session w) h.0 in
-    subst AreCounted (sym (sessions-split w)) (counted-all (ended_sessions w ++ present_session w ∷ []) (All-push IsCounted (ended_sessions w) (present_session w) h.1.1 present))
+    subst AreCounted (sym (sessions-split w)) (each-all IsCounted (ended_sessions w ++ present_session w ∷ []) (All-push IsCounted (ended_sessions w) (present_session w) h.1.1 present))

@@ -1,3 +1,4 @@
+pub mod RunLaws
 pub mod ListLaws
 pub mod PlacesLaws
 pub mod MessageBlocksLaws

@@ -32,6 +32,7 @@ use Rattle.p25_delivery.proofs.SessionLaws.{with_delivered, with_acknowledged, o
 use Rattle.p25_delivery.proofs.EndedLaws.{happens-divided}
 use Rattle.p25_delivery.proofs.PhaseLaws.{IsQuietData, IsQuiet, IsWaitingAnswer, IsWaiting, IsArrived, IsBusy, IsOpeningAnswer, IsOpening, IsLinked, IsLinkedNow, quiet, busy, opening, IsKept, orderly-linked, orderly-kept}
 use Rattle.p25_delivery.proofs.FactsLaws.{facts-linked}
+use Rattle.p25_delivery.proofs.RunLaws.{run-keeps}
 use Rattle.p25_delivery.proofs.AtOnceLaws.{delivers-linked}
 use Rattle.p25_delivery.proofs.CallLaws.{newest, link_of_sender, busy-sender, busy-data, offer-phase, timeout-phase, reopen-phase}
 
@@ -279,9 +280,7 @@ happens-kept w event k c = record {
 }
 
 pub run-kept : (events : List Happening) (w : Link) → IsKept w → IsCleanRun w events → IsKept (link_run w events)
-unfolding link_run IsCleanRun
-run-kept [] w k c = k
-run-kept (event ∷ events) w k c = run-kept events (happens w event).0 (happens-kept w event k c.0) c.1
+run-kept events w k c = run-keeps happens IsClean IsKept happens-kept events w k c
 
 pub first-kept : IsKept first_link
 unfolding last_mark

@@ -1,9 +1,9 @@
 -- The phases of a session: nothing is outstanding; a message is, and has not arrived or has; the opening packet is. And that the
 -- session is orderly in each. s stands for the present session, and b for the number of its first message.
 use Rattle.std.proofs.Common.{◌≡◌, ℕ, ◌+◌, ◌%◌, ◌<◌, ◌≤◌, ◌⊎◌, inl, inr, Bool, false, List, [], ◌∷◌, ◌++◌, length, Option, Some, None, ap, sym, ◌∙◌, subst, arith, length-append}
-use Rattle.std.specs.Prelude.{All, IfSome}
+use Rattle.std.specs.Prelude.{IfSome}
 use Rattle.std.proofs.lemmas.List.{append-nil}
-use Rattle.std.proofs.lemmas.List.Elements.{All-head, All-tail, All-push}
+use Rattle.std.proofs.lemmas.List.Elements.{All-push}
 use Rattle.p25_packet_blocks.specs.declared.packet.Packet.{Packet}
 use Rattle.p25_delivery.specs.Places.{held_flags}
 use Rattle.p25_delivery.specs.SentPackets.{ack_packet, retry_packet, opening_packet}
@@ -13,6 +13,7 @@ use Rattle.p25_delivery.specs.Link.{Link, Session, empty_session, sessions_of, p
 use Rattle.p25_delivery.specs.Orderly.{IsOrderly, AreOrderly}
 use Rattle.p25_delivery.specs.Facts.{IsDataOf, KeepsOf}
 use Rattle.p25_delivery.proofs.SessionLaws.{ended_sessions, sessions-split, IsDivided}
+use Rattle.p25_delivery.proofs.RunLaws.{each-all}
 
 -- the newest packet of data while nothing is outstanding: the opening packet, or one of the last message
 abbrev pub IsQuietData : ℕ → List (List ℕ) → Packet → Type 0
@@ -117,14 +118,9 @@ orderly-linked b s w (opening number h) =
 
 -- all sessions are, where those that have ended are
 
-orderly-all : (sessions : List Session) → All IsOrderly sessions → AreOrderly sessions
-unfolding AreOrderly
-orderly-all [] all = tt
-orderly-all (session ∷ sessions) all = (All-head IsOrderly session sessions all, orderly-all sessions (All-tail IsOrderly session sessions all))
-
 pub orderly-divided : (w : Link) → IsDivided IsOrderly w → IsOrderly (present_session w) → AreOrderly (sessions_of w)
 orderly-divided w d o =
-    subst AreOrderly (sym (sessions-split w)) (orderly-all (ended_sessions w ++ present_session w ∷ []) (All-push IsOrderly (ended_sessions w) (present_session w) d.1 o))
+    subst AreOrderly (sym (sessions-split w)) (each-all IsOrderly (ended_sessions w ++ present_session w ∷ []) (All-push IsOrderly (ended_sessions w) (present_session w) d.1 o))
 
 pub orderly-kept : (w : Link) → IsKept w → AreOrderly (sessions_of w)
 orderly-kept w k = orderly-divided w k.divided (orderly-linked (first_number w) (present_session w) w k.linked)

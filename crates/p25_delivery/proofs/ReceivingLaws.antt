@@ -19,7 +19,7 @@ use Rattle.p25_delivery.specs.ReceiverRules.{empty_places, keeping_full, keeping
 use Rattle.p25_delivery.specs.declared.receiver.Heard.{Heard}
 use Rattle.p25_delivery.specs.declared.receiver.Heard.TheVariants.{Delivered, Opened, Again, Kept, RefusedCrc, RefusedOrder, Ignored}
 use Rattle.p25_delivery.proofs.PlacesLaws.{length-put_slots}
-use Rattle.p25_delivery.specs.SoundHalves.{IsFew, IsReceiving}
+use Rattle.p25_delivery.specs.SoundHalves.{IsReceiving}
 use Rattle.p25_delivery.proofs.HeadLaws.{blocks-few}
 use Rattle.p25_delivery.proofs.SendableLaws.{short_response-sendable, retry_packet-sendable}
 
@@ -59,6 +59,10 @@ held-flags places few =
     ]
 
 -- what is kept while a packet is heard
+
+-- at most 127 blocks are kept
+abbrev IsFew : Keeping → Type 0
+IsFew kept = length kept.places ≤ 127
 
 full-few : (kept : Option Keeping) (blocks pad : ℕ) → blocks < 128 → IfSome kept IsFew → IsFew (keeping_full kept blocks pad)
 unfolding keeping_full

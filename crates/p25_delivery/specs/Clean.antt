@@ -4,22 +4,20 @@ use Rattle.p25_packet_blocks.specs.declared.block.Slot.{Slot}
 use Rattle.p25_packet_blocks.specs.declared.block.Slot.TheVariants.{Bad}
 use Rattle.p25_packet_blocks.specs.declared.packet.Packet.{Packet}
 use Rattle.p25_packet_blocks.specs.declared.packet.Packet.TheVariants.{Confirmed, Plain}
-use Rattle.p25_delivery.specs.Link.{Link, Happening, Offering, Time_up, Opening_again, Data_heard, Answer_heard, happens}
+use Rattle.p25_delivery.specs.Runs.{MeetAt}
+use Rattle.p25_delivery.specs.Link.{Link, Happening, Offering, Data_heard, Answer_heard, happens}
 
 -- slot by slot Bad, or the one that was sent
 unfoldable pub AreTrueSlots : List Slot → List Slot → Type 0
 AreTrueSlots [] [] = Unit {0}
-AreTrueSlots [] (slot ∷ slots) = ⊥
-AreTrueSlots (slot ∷ slots) [] = ⊥
 AreTrueSlots (was ∷ sent) (slot ∷ slots) = ((slot ≡ Bad) ⊎ (slot ≡ was)) × AreTrueSlots sent slots
+AreTrueSlots sent slots = ⊥
 
--- a packet that is heard is true to the one that was sent: the same header, and the same octets or slots, but those that
--- are Bad
+-- a packet that is heard is true to the one that was sent: the same header, and the same octets or slots, but those that are Bad
 unfoldable pub IsTrueTo : Packet → Packet → Type 0
 IsTrueTo (Confirmed sent) (Confirmed heard) = (heard.head ≡ sent.head) × AreTrueSlots sent.slots heard.slots
-IsTrueTo (Confirmed sent) (Plain heard) = ⊥
-IsTrueTo (Plain sent) (Confirmed heard) = ⊥
 IsTrueTo (Plain sent) (Plain heard) = heard ≡ sent
+IsTrueTo sent heard = ⊥
 
 -- a packet that is heard is true to the newest transmission
 pub record IsHeardOf (newest : Option Packet) (packet : Packet) : Type 0 where
@@ -30,11 +28,9 @@ pub record IsHeardOf (newest : Option Packet) (packet : Packet) : Type 0 where
 -- a message that is offered has at most 2,028 octets, and what is heard is true to what was sent
 unfoldable pub IsClean : Link → Happening → Type 0
 IsClean w (Offering message) = length message ≤ 2028
-IsClean w Time_up = Unit {0}
-IsClean w Opening_again = Unit {0}
 IsClean w (Data_heard packet) = IsHeardOf w.packet_sent packet
 IsClean w (Answer_heard packet) = IsHeardOf w.answer packet
+IsClean w other = Unit {0}
 
-unfoldable pub IsCleanRun : Link → List Happening → Type 0
-IsCleanRun w [] = Unit {0}
-IsCleanRun w (event ∷ events) = IsClean w event × IsCleanRun (happens w event).0 events
+abbrev pub IsCleanRun : Link → List Happening → Type 0
+IsCleanRun w events = MeetAt happens IsClean w events

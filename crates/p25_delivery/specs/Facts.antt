@@ -1,5 +1,4 @@
--- The facts that a link keeps in a clean run, by what is outstanding. s stands for the present session, and b for the number of
--- its first message.
+-- The facts that a link keeps in a clean run, by what is outstanding. s stands for the present session, and b for the number of its first message.
 use Rattle.std.specs.Prelude.{◌≡◌, ◌≢◌, ℕ, ◌+◌, ◌-◌, ◌%◌, ◌<◌, ◌⊎◌, Bool, List, [], ◌∷◌, ◌++◌, length, take, get_or, None, Some, IfSome}
 use Rattle.p25_packet_blocks.specs.declared.packet.Packet.{Packet}
 use Rattle.p25_delivery.specs.MessageBlocks.{block_count, pad_count, message_block}
@@ -64,9 +63,8 @@ pub record SessionFacts (b : ℕ) (s : Session) (w : Link) : Type 0 where
       ((kept : Keeping) × (w.inbound.receiver.kept ≡ Some kept) × (packet ≡ retry_packet ((w.inbound.receiver.last + 1) % 8) (held_flags kept.places))))
 
 unfoldable pub FactsBy : Outstanding → ℕ → Session → Link → Type 0
-FactsBy Nothing b s w = SessionFacts b s w
-FactsBy (Message message) b s w = SessionFacts b s w
 FactsBy (Opening number) b s w = OpeningFacts number s w
+FactsBy other b s w = SessionFacts b s w
 
 -- the facts of a link
 abbrev pub LinkFacts : Link → Type 0

@@ -6,8 +6,7 @@ use Rattle.p25_delivery.specs.SenderRules.{first_sending}
 use Rattle.p25_delivery.specs.ReceiverRules.{first_receiving}
 use Rattle.p25_delivery.specs.declared.mark.Mark.{Mark}
 
--- the sending half: its sender, the messages that it sent, how many of them were acknowledged, and a mark for each session
--- that has ended
+-- the sending half: its sender, the messages that it sent, how many of them were acknowledged, and a mark for each session that has ended
 pub record Outgoing : Type 0 where
   pub sender : Sending
   pub sent : List (List ℕ)

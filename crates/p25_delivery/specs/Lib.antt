@@ -7,6 +7,7 @@ pub mod SentPackets
 pub mod Asked
 pub mod SenderRules
 pub mod ReceiverRules
+pub mod Runs
 pub mod Halves
 pub mod HalfRules
 pub mod SoundHalves

@@ -7,6 +7,7 @@ use Rattle.p25_delivery.specs.SenderRules.{offered, timed_out, sender_heard, reo
 use Rattle.p25_delivery.specs.ReceiverRules.{receiver_heard}
 use Rattle.p25_delivery.specs.declared.mark.Mark.{Mark}
 use Rattle.p25_delivery.specs.declared.step_kind.StepKind.{StepKind}
+use Rattle.p25_delivery.specs.Runs.{run_by}
 use Rattle.p25_delivery.specs.Halves.{Outgoing, Incoming, first_outgoing, first_incoming}
 use Rattle.p25_delivery.specs.HalfRules.{mark_of, after_offer, after_timeout, after_reopening, after_data, after_answer}
 
@@ -51,9 +52,8 @@ happens w (Data_heard packet) = with_inbound w (after_data w.inbound (receiver_h
 happens w (Answer_heard packet) = with_outbound w (after_answer w.outbound (sender_heard w.outbound.sender packet))
 
 -- all that happens, in order
-unfoldable pub link_run : Link → List Happening → Link
-link_run w [] = w
-link_run w (event ∷ events) = link_run (happens w event).0 events
+abbrev pub link_run : Link → List Happening → Link
+link_run w events = run_by happens w events
 
 -- the messages of one session: those sent, those delivered, and the number of those acknowledged
 pub record Session : Type 0 where

@@ -1,5 +1,6 @@
 -- What is promised of each session.
-use Rattle.std.specs.Prelude.{◌≡◌, ℕ, ◌+◌, ◌≤◌, List, [], ◌∷◌, ◌++◌, length}
+use Rattle.std.specs.Prelude.{◌≡◌, ℕ, ◌+◌, ◌≤◌, List, ◌++◌, length}
+use Rattle.p25_delivery.specs.Runs.{EachIs}
 use Rattle.p25_delivery.specs.Link.{Session}
 
 -- what is delivered is the beginning of what was sent, in order and each message once; what is acknowledged was delivered;
@@ -11,17 +12,14 @@ pub record IsOrderly (session : Session) : Type 0 where
   pub delivered : length session.delivered ≤ session.acknowledged + 1
 
 -- each of a list of sessions is orderly
-unfoldable pub AreOrderly : List Session → Type 0
-AreOrderly [] = Unit {0}
-AreOrderly (session ∷ sessions) = IsOrderly session × AreOrderly sessions
+abbrev pub AreOrderly : List Session → Type 0
+AreOrderly sessions = EachIs IsOrderly sessions
 
--- the counts of a session in any run, clean or not: what is acknowledged was sent, and one message at most is sent that is
--- not acknowledged
+-- the counts of a session in any run, clean or not: what is acknowledged was sent, and one message at most is sent that is not acknowledged
 pub record IsCounted (session : Session) : Type 0 where
   pub acknowledged : session.acknowledged ≤ length session.sent
   pub sent : length session.sent ≤ session.acknowledged + 1
 
 -- each of a list of sessions has such counts
-unfoldable pub AreCounted : List Session → Type 0
-AreCounted [] = Unit {0}
-AreCounted (session ∷ sessions) = IsCounted session × AreCounted sessions
+abbrev pub AreCounted : List Session → Type 0
+AreCounted sessions = EachIs IsCounted sessions

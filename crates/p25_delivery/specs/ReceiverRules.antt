@@ -20,8 +20,7 @@ first_receiving = record { last = 7; kept = None }
 abbrev pub empty_places : ℕ → ℕ → Keeping
 empty_places blocks pad = record { places = replicate blocks None; pad = pad }
 
--- what is kept once a packet with the full message flag comes: what was kept, where it has as many places and the same pad,
--- and else empty places
+-- what is kept once a packet with the full message flag comes: what was kept, where it has as many places and the same pad, and else empty places
 unfoldable pub keeping_full : Option Keeping → ℕ → ℕ → Keeping
 keeping_full None blocks pad = empty_places blocks pad
 keeping_full (Some kept) blocks pad =

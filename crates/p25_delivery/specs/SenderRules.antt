@@ -45,8 +45,7 @@ unfoldable pub offered_beside : Outstanding → Sending → List ℕ → Sending
 offered_beside Nothing s message =
     let blocks = block_count (length message) in
     (record { next = s.next; outstanding = Message message; tries = 1; down = false }, Taken s.next blocks (message_packet s.next message))
-offered_beside (Message other) s message = (s, Busy)
-offered_beside (Opening number) s message = (s, Busy)
+offered_beside other s message = (s, Busy)
 
 unfoldable pub offered : Sending → List ℕ → Sending × Offer
 offered s message = if s.down then (s, OfferDown) else offered_beside s.outstanding s message
@@ -94,12 +93,10 @@ sender_heard s (Confirmed packet) = (s, Ignored)
 sender_heard s (Plain packet) =
     if s.down then (s, Ignored) else (if is_response packet.head then response_heard s.outstanding s packet else (s, Ignored))
 
--- the number of the opening packet: as it was, or four more than that of the message that is given up. No sender that is
--- down has nothing outstanding
+-- the number of the opening packet: as it was, or four more than that of the message that is given up. No sender that is down has nothing outstanding
 unfoldable pub opening_number : Outstanding → ℕ → ℕ
-opening_number Nothing next = (next + 4) % 8
-opening_number (Message message) next = (next + 4) % 8
 opening_number (Opening number) next = number
+opening_number other next = (next + 4) % 8
 
 -- the link is opened again
 unfoldable pub reopened : Sending → Sending × Reopen
@@ -109,6 +106,5 @@ reopened s =
 
 -- the opening packet is outstanding
 abbrev pub is_opening : Outstanding → Bool
-is_opening Nothing = false
-is_opening (Message message) = false
 is_opening (Opening number) = true
+is_opening other = false

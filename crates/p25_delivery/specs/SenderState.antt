@@ -1,10 +1,9 @@
 -- What a sender keeps.
 use Rattle.std.specs.Prelude.{ℕ, ◌<◌, ◌≤◌, Bool}
 use Rattle.p25_delivery.specs.declared.sender_state.Outstanding.{Outstanding}
-use Rattle.p25_delivery.specs.declared.sender_state.Outstanding.TheVariants.{Nothing, Message, Opening}
+use Rattle.p25_delivery.specs.declared.sender_state.Outstanding.TheVariants.{Opening}
 
--- the number of the next message, or of the message that is outstanding; what is outstanding; how often it was sent; and
--- whether the sender is down
+-- the number of the next message, or of the message that is outstanding; what is outstanding; how often it was sent; and whether the sender is down
 pub record Sending : Type 0 where
   pub next : ℕ
   pub outstanding : Outstanding
@@ -13,9 +12,8 @@ pub record Sending : Type 0 where
 
 -- the number of an opening packet has three bits
 unfoldable pub IsNumbered : Outstanding → Type 0
-IsNumbered Nothing = Unit {0}
-IsNumbered (Message message) = Unit {0}
 IsNumbered (Opening number) = number < 8
+IsNumbered other = Unit {0}
 
 -- what every sender keeps
 pub record IsSending (sender : Sending) : Type 0 where

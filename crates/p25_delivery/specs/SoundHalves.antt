@@ -2,7 +2,7 @@
 use Rattle.std.specs.Prelude.{◌≡◌, ℕ, ◌+◌, ◌<◌, ◌≤◌, false, List, length, IfSome}
 use Rattle.p25_packet_blocks.specs.Sendable.{AreOctets}
 use Rattle.p25_delivery.specs.SenderState.{IsSending}
-use Rattle.p25_delivery.specs.ReceiverState.{Keeping, Receiving}
+use Rattle.p25_delivery.specs.ReceiverState.{Receiving}
 use Rattle.p25_delivery.specs.declared.sender_state.Outstanding.{Outstanding}
 use Rattle.p25_delivery.specs.declared.sender_state.Outstanding.TheVariants.{Nothing, Message, Opening}
 use Rattle.p25_delivery.specs.Halves.{Outgoing, Incoming}
@@ -14,9 +14,8 @@ pub record IsMessage (message : List ℕ) : Type 0 where
 
 -- a message that is outstanding is one
 unfoldable pub IsMessageIn : Outstanding → Type 0
-IsMessageIn Nothing = Unit {0}
 IsMessageIn (Message message) = IsMessage message
-IsMessageIn (Opening number) = Unit {0}
+IsMessageIn other = Unit {0}
 
 -- of the messages sent, each that was acknowledged, each with which a session ended, and the one that is outstanding is
 -- another. Where nothing is outstanding the sender is up, and no transmission is counted
@@ -26,20 +25,16 @@ IsCountedWith Nothing o =
 IsCountedWith (Message message) o = o.acknowledged + length o.marks + 1 ≤ length o.sent
 IsCountedWith (Opening number) o = o.acknowledged + length o.marks ≤ length o.sent
 
--- at most 127 blocks are kept
-abbrev pub IsFew : Keeping → Type 0
-IsFew kept = length kept.places ≤ 127
-
 -- what every sending half keeps
 pub record IsOutgoing (o : Outgoing) : Type 0 where
   pub sender : IsSending o.sender
   pub message : IsMessageIn o.sender.outstanding
   pub counted : IsCountedWith o.sender.outstanding o
 
--- what every receiver keeps, and so every receiving half
+-- what every receiver keeps, and so every receiving half: it keeps at most 127 blocks
 pub record IsReceiving (r : Receiving) : Type 0 where
   pub last : r.last < 8
-  pub kept : IfSome r.kept IsFew
+  pub kept : IfSome r.kept (λ kept. length kept.places ≤ 127)
 
 abbrev pub IsIncoming : Incoming → Type 0
 IsIncoming i = IsReceiving i.receiver

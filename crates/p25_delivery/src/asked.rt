@@ -1,5 +1,3 @@
-//! What a response asks of a sender.
-
 ghost use Rattle.std.specs.Prelude.{◌≡◌, ◌<◌, ◌≤◌, ◌&&◌, nat_le, not, Bool, List, length, take};
 ghost use Rattle.std.specs.List.{list_any};
 ghost use Rattle.p25_packet_blocks.specs.FlagOctets.{flags_of_octets};

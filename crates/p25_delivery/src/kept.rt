@@ -1,5 +1,3 @@
-//! What a receiver keeps of a message that has not come whole.
-
 ghost use Rattle.std.specs.Prelude.{◌≡◌, ◌<◌, ◌≤◌, ◌&&◌, eqb, length, IfSome};
 ghost use Rattle.p25_delivery.specs.Places.{put_slots, put_block, all_octets, held_flags};
 

@@ -1,6 +1,5 @@
 //! Delivery of messages in confirmed packets, as a machine: a sender and a receiver, which only answer calls; the two halves
-//! of a station over them, which keep the messages that were sent and received; and the laws of a link of two halves. What
-//! they send is a value, and the air between them is the caller's.
+//! of a station over them; and the laws of a link of two halves. What they send is a value, and the air is the caller's.
 //!
 //! A sender has one message outstanding at most. Its packets carry a number N(S) of three bits, 0 to 7 and then 0 again;
 //! the receiver keeps V(R), the number of the last message that it delivered, and puts the blocks of the next one in their
@@ -17,10 +16,8 @@
 //! }
 //! ```
 //!
-//! Contracts see a sender as `Sending` and a receiver as `Receiving`, and each call as a function of `SenderRules` or
-//! `ReceiverRules` that gives the state after it and its answer; and the halves as `Outgoing` and `Incoming`, each call by its
-//! rule in `HalfRules`. `laws` has the promise of a link of two halves, over every run in which what is heard is true to what
-//! was sent.
+//! Contracts see a sender, a receiver and the halves as what they keep, and each call as a function of `SenderRules`,
+//! `ReceiverRules` or `HalfRules` that gives the state after it and its answer.
 #![tactic(auto)]
 
 mod asked;

@@ -1,8 +1,5 @@
-//! The half of a station that sends messages.
-
 ghost use Rattle.std.specs.Prelude.{◌≡◌, ◌+◌, ◌<◌, ◌≤◌, length, OnOk, OnErr, IfSome};
 ghost use Rattle.p25_packet_blocks.specs.Sendable.{IsSendable};
-ghost use Rattle.p25_delivery.specs.SoundHalves.{IsMessage};
 
 use crate::mark::Mark;
 use crate::sender::{Offer, Reopen, Resend, Sender, SenderHeard};
@@ -90,13 +87,6 @@ impl Outbound {
     }
 }
 
-// Its contract says what every message keeps.
-fn fit(message: &Message)
-    ensures { IsMessage message.now }
-{
-    octets_fit(message.octets());
-}
-
 impl Outbound {
     ghost use Rattle.p25_delivery.specs.SenderRules.{offered, timed_out, sender_heard, reopened, is_opening};
     ghost use Rattle.p25_delivery.specs.HalfRules.{after_offer, after_timeout, after_reopening, after_answer};
@@ -111,7 +101,7 @@ impl Outbound {
         ensures sendable { IfSome result.1 IsSendable }
         ensures spare { self.old.spare ≤ self.new.spare + 1 }
     {
-        fit(message);
+        octets_fit(message.octets());
         match self.sender.offer(message) {
             Offer::Taken {
                 number,

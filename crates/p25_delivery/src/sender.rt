@@ -102,7 +102,7 @@ impl Model for Sender {
 }
 
 impl Sender {
-    ghost use Rattle.p25_delivery.specs.SenderRules.{first_sending, sending_after, tried, fallen, may_send, offered_beside, offered, resent, timed_out, acknowledged, repeated, retried, response_heard, sender_heard, reopened, is_opening};
+    ghost use Rattle.p25_delivery.specs.SenderRules.{first_sending, sending_after, tried, fallen, may_send, offered_beside, offered, resent, timed_out, repeated, retried, response_heard, sender_heard, reopened, is_opening};
 
     /// Answers a sender before its first message, whose number is 0.
     #[tactic(auto, unfolding(crate::specs::SenderState::IsNumbered))]
@@ -256,7 +256,11 @@ impl Sender {
             Outstanding::Message(message) => {
                 match asked_by(response, self.next, blocks_for(message)) {
                     Asked::Nothing => SenderHeard::Ignored,
-                    Asked::NextMessage => self.acknowledge(),
+                    Asked::NextMessage => {
+                        let number = self.next;
+                        self.go_on_after(number);
+                        SenderHeard::Acknowledged { number }
+                    }
                     Asked::WholeMessage => {
                         let packet = sent::message(self.next, message);
                         self.repeat(packet)
@@ -276,15 +280,6 @@ impl Sender {
                 SenderHeard::Opened { number }
             }
         }
-    }
-
-    // Has the outstanding message acknowledged.
-    fn acknowledge(&mut self) -> SenderHeard
-        ensures { (self.new, result) ≡ acknowledged self.old }
-    {
-        let number = self.next;
-        self.go_on_after(number);
-        SenderHeard::Acknowledged { number }
     }
 
     // Sends the whole message again.

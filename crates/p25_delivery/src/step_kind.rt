@@ -1,5 +1,3 @@
-//! What a call of a station comes to, as a step of a world tells it.
-
 use p25_messages::Message;
 use p25_packet_blocks::Flags;
 use p25_status::Field;

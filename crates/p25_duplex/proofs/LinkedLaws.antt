@@ -3,6 +3,7 @@
 use Rattle.std.proofs.Common.{◌≡◌, ℕ, Bool, true, false, List, [], ◌∷◌, ◌++◌, length, Option, Some, None, refl, ap, sym, ◌∙◌, subst}
 use Rattle.std.specs.Prelude.{if◌then◌else◌}
 use Rattle.p25_packet_blocks.specs.declared.packet.Packet.{Packet}
+use Rattle.p25_delivery.specs.Runs.{run_by, MeetAt}
 use Rattle.p25_delivery.specs.SenderRules.{offered, timed_out, sender_heard, reopened, is_opening}
 use Rattle.p25_delivery.specs.ReceiverRules.{receiver_heard}
 use Rattle.p25_delivery.specs.Halves.{Outgoing, Incoming}
@@ -12,14 +13,17 @@ use Rattle.p25_delivery.specs.Link.{Link, first_link, Happening, Offering, Time_
 use Rattle.p25_delivery.specs.Clean.{IsTrueTo, IsHeardOf, IsClean, IsCleanRun}
 use Rattle.p25_delivery.specs.Facts.{LinkFacts}
 use Rattle.p25_delivery.proofs.LinkLaws.{facts-kept}
+use Rattle.p25_delivery.proofs.RunLaws.{run-append, meet-append}
 use Rattle.p25_stations.specs.declared.air.Carried.{Carried}
 use Rattle.p25_stations.specs.declared.air.Carried.TheVariants.{Lost, Foreign, Heard}
+use Rattle.p25_delivery.specs.declared.step_kind.Way.TheVariants.{Packets}
 use Rattle.p25_stations.specs.Air.{carried_of}
+use Rattle.p25_stations.specs.Deliveries.{heard_of, delivery_of}
 use Rattle.p25_stations.proofs.AirLaws.{air-true}
 use Rattle.p25_duplex.specs.declared.event.DuplexEvent.{DuplexEvent}
 use Rattle.p25_duplex.specs.declared.event.DuplexEvent.TheVariants.{Send, Timeout, Reopen, Deliver}
 use Rattle.p25_duplex.specs.DuplexState.{StationState}
-use Rattle.p25_duplex.specs.DuplexSteps.{is_answer, heard_as, carried_at, delivered_at, station_step}
+use Rattle.p25_duplex.specs.DuplexSteps.{is_answer, heard_as, delivered_at, station_step}
 use Rattle.p25_duplex.specs.DuplexRuns.{IsDuplexEvent, data_in, answer_in}
 use Rattle.p25_duplex.proofs.KindLaws.{IsData, IsAnswer, sent-data, answered-answer, true-kind}
 
@@ -31,25 +35,16 @@ pub record IsRunLink (w : Link) : Type 0 where
   pub clean : IsCleanRun first_link happenings
   pub is : link_run first_link happenings ≡ w
 
-run-then : (happenings : List Happening) (v : Link) (h : Happening) → link_run v (happenings ++ h ∷ []) ≡ (happens (link_run v happenings) h).0
-unfolding link_run
-run-then [] v h = refl
-run-then (first ∷ happenings) v h = run-then happenings (happens v first).0 h
-
-clean-then : (happenings : List Happening) (v : Link) (h : Happening) → IsCleanRun v happenings → IsClean (link_run v happenings) h → IsCleanRun v (happenings ++ h ∷ [])
-unfolding link_run IsCleanRun
-clean-then [] v h clean is = (is, tt)
-clean-then (first ∷ happenings) v h clean is = (clean.0, clean-then happenings (happens v first).0 h clean.1 is)
-
 pub first-run : IsRunLink first_link
-unfolding link_run IsCleanRun
+unfolding run_by MeetAt
 first-run = record { happenings = []; clean = tt; is = refl }
 
 then-run : (w : Link) (h : Happening) → IsRunLink w → IsClean w h → IsRunLink (happens w h).0
+unfolding run_by MeetAt
 then-run w h r is = record {
   happenings = r.happenings ++ h ∷ [];
-  clean = clean-then r.happenings first_link h r.clean (subst (λ (v : Link). IsClean v h) (sym r.is) is);
-  is = run-then r.happenings first_link h ∙ ap (λ (v : Link). (happens v h).0) r.is;
+  clean = meet-append happens IsClean first_link r.happenings (h ∷ []) r.clean (subst (λ (v : Link). IsClean v h) (sym r.is) is, tt);
+  is = run-append happens first_link r.happenings (h ∷ []) ∙ ap (λ (v : Link). (happens v h).0) r.is;
 }
 
 run-facts : (w : Link) → IsRunLink w → LinkFacts w
@@ -171,14 +166,16 @@ hears false mine its n m sent packet l e t b =
     answers mine its n m (after_data mine.inbound (receiver_heard mine.inbound.receiver packet)) l run
 
 carries : (mine its : StationState) (n m : Newest) (sent : Packet) (flips : List ℕ) (carried : Carried) → AreLinks mine its n m → its.newest ≡ Some sent → carried_of sent flips ≡ carried →
-    (carried_at mine its carried).1.false_pass ≡ false → AreFollowed (carried_at mine its carried).0 its n m
+    (delivered_at mine its (heard_of Packets carried)).1.false_pass ≡ false → AreFollowed (delivered_at mine its (heard_of Packets carried)).0 its n m
+unfolding heard_of
 carries mine its n m sent flips (Lost field) l e c f = stays mine its n m l
 carries mine its n m sent flips Foreign l e c f = stays mine its n m l
 carries mine its n m sent flips (Heard packet false_pass) l e c f =
     hears (is_answer packet) mine its n m sent packet l e (air-true sent flips packet (c ∙ ap (λ (b : Bool). Heard packet b) f)) refl
 
 delivers : (mine its : StationState) (n m : Newest) (newest : Option Packet) (flips : List ℕ) → AreLinks mine its n m → its.newest ≡ newest →
-    (delivered_at mine its newest flips).1.false_pass ≡ false → AreFollowed (delivered_at mine its newest flips).0 its n m
+    (delivered_at mine its (delivery_of Packets newest flips)).1.false_pass ≡ false → AreFollowed (delivered_at mine its (delivery_of Packets newest flips)).0 its n m
+unfolding delivery_of
 delivers mine its n m None flips l e f = stays mine its n m l
 delivers mine its n m (Some sent) flips l e f = carries mine its n m sent flips (carried_of sent flips) l e refl f
 

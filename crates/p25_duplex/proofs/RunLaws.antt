@@ -1,15 +1,14 @@
 -- The links of both sides' messages in a run without a false pass: one event after the other. So they keep what a clean link keeps.
-use Rattle.std.proofs.Common.{◌≡◌, Bool, false, List, [], ◌∷◌, Option, Some, None, map, refl, ap, sym, subst}
+use Rattle.std.proofs.Common.{◌≡◌, Bool, false, List, [], ◌∷◌, Option, Some, None, refl, ap, sym, subst}
 use Rattle.std.specs.Prelude.{IfSome}
 use Rattle.p25_packet_blocks.specs.declared.packet.Packet.{Packet}
+use Rattle.p25_delivery.specs.Runs.{run_by, steps_by, EachIs}
 use Rattle.p25_delivery.specs.declared.mark.Mark.{Mark}
 use Rattle.p25_delivery.specs.Link.{Link, Session, first_link, Happening, newest_after, link_run, first_mark, session_between, sessions_from, sessions_of}
 use Rattle.p25_delivery.specs.Clean.{IsCleanRun}
 use Rattle.p25_delivery.specs.Orderly.{AreOrderly}
 use Rattle.p25_delivery.specs.Facts.{LinkFacts}
 use Rattle.p25_delivery.proofs.LinkLaws.{facts-kept, sessions-orderly}
-use Rattle.p25_stations.specs.declared.step.Step.{Step}
-use Rattle.p25_stations.specs.Runs.{AreClean}
 use Rattle.p25_duplex.specs.declared.side.Side.{Side}
 use Rattle.p25_duplex.specs.declared.side.Side.TheVariants.{A, B}
 use Rattle.p25_duplex.specs.declared.event.DuplexEvent.{DuplexEvent}
@@ -43,9 +42,9 @@ abbrev link_from : Side → Newest → DuplexState → List DuplexEvent → Link
 link_from side n d events =
     record (link_at side (duplex_run d events)) { packet_sent = newest_in data_in side n.sent d events; answer = newest_in answer_in (other_side side) n.answer d events }
 
-run-links : (events : List DuplexEvent) (d : DuplexState) (n m : Newest) → AreLinksIn d n m → AreDuplexEvents events → AreClean (map (λ (step : DuplexStep). step.step) (duplex_steps d events)) →
+run-links : (events : List DuplexEvent) (d : DuplexState) (n m : Newest) → AreLinksIn d n m → AreDuplexEvents events → EachIs (λ (step : DuplexStep). step.step.false_pass ≡ false) (duplex_steps d events) →
     IsRunLink (link_from A n d events) × IsRunLink (link_from B m d events)
-unfolding AreDuplexEvents AreClean duplex_run duplex_steps newest_in
+unfolding EachIs run_by steps_by newest_in
 run-links [] d n m l are clean = (l.0.runs, l.1.runs)
 run-links (event ∷ events) d n m l are clean =
     let next = (duplex_step d event).0 in
@@ -93,7 +92,7 @@ carries-newest (Some packet) newest = refl
 
 newest-carried : (kind : Option Packet → Option Packet) (side : Side) (events : List DuplexEvent) (d : DuplexState) (newest : Option Packet) → IfSome (kind (station_at side d).newest) (λ p. newest ≡ Some p) →
     IfSome (kind (station_at side (duplex_run d events)).newest) (λ p. newest_in kind side newest d events ≡ Some p)
-unfolding newest_in duplex_run
+unfolding newest_in run_by
 newest-carried kind side [] d newest is = is
 newest-carried kind side (event ∷ events) d newest is =
     let next = (duplex_step d event).0 in

@@ -1,12 +1,12 @@
 -- Runs of the duplex world: its state and its steps after a list of events, and the link of the messages of a side.
-use Rattle.std.specs.Prelude.{List, [], ◌∷◌, Option, Some, None, map, if◌then◌else◌}
+use Rattle.std.specs.Prelude.{◌≡◌, false, List, [], ◌∷◌, Option, Some, None, if◌then◌else◌}
 use Rattle.p25_packet_blocks.specs.declared.packet.Packet.{Packet}
 use Rattle.p25_delivery.specs.SoundHalves.{IsMessage}
+use Rattle.p25_delivery.specs.Runs.{run_by, steps_by, EachIs}
 use Rattle.p25_delivery.specs.Link.{Link, newest_after}
-use Rattle.p25_stations.specs.Runs.{AreClean}
 use Rattle.p25_duplex.specs.declared.side.Side.{Side}
 use Rattle.p25_duplex.specs.declared.event.DuplexEvent.{DuplexEvent}
-use Rattle.p25_duplex.specs.declared.event.DuplexEvent.TheVariants.{Send, Timeout, Reopen, Deliver}
+use Rattle.p25_duplex.specs.declared.event.DuplexEvent.TheVariants.{Send}
 use Rattle.p25_duplex.specs.declared.event.DuplexStep.{DuplexStep}
 use Rattle.p25_duplex.specs.Sides.{other_side}
 use Rattle.p25_duplex.specs.DuplexState.{DuplexState, first_duplex, station_at, link_at}
@@ -15,27 +15,21 @@ use Rattle.p25_duplex.specs.DuplexSteps.{is_answer, duplex_step}
 -- what every event keeps: what is sent is a message of at most 2,028 octets
 unfoldable pub IsDuplexEvent : DuplexEvent → Type 0
 IsDuplexEvent (Send side message) = IsMessage message
-IsDuplexEvent (Timeout side) = Unit {0}
-IsDuplexEvent (Reopen side) = Unit {0}
-IsDuplexEvent (Deliver to flips) = Unit {0}
+IsDuplexEvent other = Unit {0}
 
-unfoldable pub AreDuplexEvents : List DuplexEvent → Type 0
-AreDuplexEvents [] = Unit {0}
-AreDuplexEvents (event ∷ events) = IsDuplexEvent event × AreDuplexEvents events
+abbrev pub AreDuplexEvents : List DuplexEvent → Type 0
+AreDuplexEvents events = EachIs IsDuplexEvent events
 
--- the duplex world after a list of events
-unfoldable pub duplex_run : DuplexState → List DuplexEvent → DuplexState
-duplex_run d [] = d
-duplex_run d (event ∷ events) = duplex_run (duplex_step d event).0 events
+-- the duplex world after a list of events, and the steps that they are
+abbrev pub duplex_run : DuplexState → List DuplexEvent → DuplexState
+duplex_run d events = run_by duplex_step d events
 
--- and the steps that they are
-unfoldable pub duplex_steps : DuplexState → List DuplexEvent → List DuplexStep
-duplex_steps d [] = []
-duplex_steps d (event ∷ events) = (duplex_step d event).1 ∷ duplex_steps (duplex_step d event).0 events
+abbrev pub duplex_steps : DuplexState → List DuplexEvent → List DuplexStep
+duplex_steps d events = steps_by duplex_step d events
 
 -- a run is clean where none of its steps is a false pass, in neither direction
 abbrev pub IsCleanDuplex : List DuplexEvent → Type 0
-IsCleanDuplex events = AreClean (map (λ step. step.step) (duplex_steps first_duplex events))
+IsCleanDuplex events = EachIs (λ step. step.step.false_pass ≡ false) (duplex_steps first_duplex events)
 
 -- of the newest transmission of a direction what is data, and what is an answer
 abbrev pub data_in : Option Packet → Option Packet

@@ -13,21 +13,11 @@ pub record StationState : Type 0 where
   pub inbound : Incoming
   pub newest : Option Packet
 
--- what contracts see of a station: its state, and for how many steps it has room
-pub record StationParts : Type 0 where
-  pub state : StationState
-  pub spare : ℕ
-
 -- both stations, and how many false passes there were
 pub record DuplexState : Type 0 where
   pub a : StationState
   pub b : StationState
   pub false_passes : ℕ
-
--- what contracts see of a duplex world: its state, and for how many steps it has room
-pub record DuplexParts : Type 0 where
-  pub state : DuplexState
-  pub spare : ℕ
 
 -- a station before the first step, and a duplex world
 abbrev pub first_station : StationState

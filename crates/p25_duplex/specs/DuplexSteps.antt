@@ -1,16 +1,13 @@
 -- What each event makes of the duplex world, and the step that it is.
-use Rattle.std.specs.Prelude.{ℕ, Bool, true, false, eqb, List, Option, Some, None}
+use Rattle.std.specs.Prelude.{Bool, true, false, eqb, Result, Ok, Err}
 use Rattle.p25_packet_blocks.specs.declared.packet.Packet.{Packet}
 use Rattle.p25_packet_blocks.specs.Whole.{packet_head}
 use Rattle.p25_packet_blocks.specs.Heads.{head_format}
 use Rattle.p25_delivery.specs.declared.step_kind.Way.TheVariants.{Packets}
 use Rattle.p25_delivery.specs.declared.step_kind.StepKind.{StepKind}
-use Rattle.p25_delivery.specs.declared.step_kind.StepKind.TheVariants.{Nothing, Lost, Ignored}
 use Rattle.p25_delivery.specs.Link.{Link, Offering, Time_up, Opening_again, Data_heard, Answer_heard, happens}
-use Rattle.p25_stations.specs.declared.air.Carried.{Carried}
-use Rattle.p25_stations.specs.declared.air.Carried.TheVariants.{Lost as CarriedLost, Foreign, Heard}
 use Rattle.p25_stations.specs.declared.step.Step.{Step}
-use Rattle.p25_stations.specs.Air.{carried_of}
+use Rattle.p25_stations.specs.Deliveries.{delivery_of}
 use Rattle.p25_stations.specs.Steps.{counted_when}
 use Rattle.p25_duplex.specs.declared.side.Side.{Side}
 use Rattle.p25_duplex.specs.declared.event.DuplexEvent.{DuplexEvent}
@@ -41,16 +38,10 @@ heard_as false own other packet = after_receiving own (happens (link_between oth
 abbrev pub station_told : Bool → StationState × StepKind → StationState × Step
 station_told false_pass (station, kind) = (station, record { kind = kind; false_pass = false_pass })
 
--- what is carried comes to a station
-abbrev pub carried_at : StationState → StationState → Carried → StationState × Step
-carried_at own other (CarriedLost field) = station_told false (own, Lost Packets field)
-carried_at own other Foreign = station_told false (own, Ignored Packets)
-carried_at own other (Heard packet false_pass) = station_told false_pass (heard_as (is_answer packet) own other packet)
-
--- the newest transmission of the other station is delivered to a station, where there is one
-abbrev pub delivered_at : StationState → StationState → Option Packet → List ℕ → StationState × Step
-delivered_at own other None flips = station_told false (own, Nothing Packets)
-delivered_at own other (Some packet) flips = carried_at own other (carried_of packet flips)
+-- what is delivered comes to a station
+abbrev pub delivered_at : StationState → StationState → Result (Packet × Bool) StepKind → StationState × Step
+delivered_at own other (Err kind) = station_told false (own, kind)
+delivered_at own other (Ok (packet, false_pass)) = station_told false_pass (heard_as (is_answer packet) own other packet)
 
 -- the side at which an event happens: that which acts or hears
 abbrev pub side_of : DuplexEvent → Side
@@ -64,7 +55,7 @@ abbrev pub station_step : StationState → StationState → DuplexEvent → Stat
 station_step own other (Send side message) = station_told false (after_sending own (happens (link_between own other) (Offering message)))
 station_step own other (Timeout side) = station_told false (after_sending own (happens (link_between own other) Time_up))
 station_step own other (Reopen side) = station_told false (after_sending own (happens (link_between own other) Opening_again))
-station_step own other (Deliver to flips) = delivered_at own other other.newest flips
+station_step own other (Deliver to flips) = delivered_at own other (delivery_of Packets other.newest flips)
 
 -- a duplex world after the step of a station of it
 abbrev pub after_step : Side → DuplexState → StationState × Step → DuplexState × DuplexStep

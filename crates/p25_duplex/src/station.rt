@@ -1,13 +1,9 @@
-//! One station of the duplex world.
-
-ghost use Rattle.std.specs.Prelude.{◌≡◌, ◌<◌, ◌≤◌, IfSome, OnOk, OnErr};
-ghost use Rattle.p25_packet_blocks.specs.Sendable.{IsSendable};
+ghost use Rattle.std.specs.Prelude.{◌≡◌, ◌<◌, ◌≤◌, OnOk, OnErr};
 
 use crate::event::DuplexEvent;
 use p25_delivery::{Inbound, Outbound, StepKind, Way};
-use p25_messages::Flips;
 use p25_packet_blocks::{Packet, RESPONSE_FORMAT};
-use p25_stations::{Carried, Step, carry};
+use p25_stations::{Newest, Step};
 use std::alloc::{AllocError, Global};
 use std::marker::Model;
 
@@ -16,24 +12,20 @@ use std::marker::Model;
 pub(crate) struct Station {
     outbound: Outbound,
     inbound: Inbound,
-    newest: Option<Packet>,
+    newest: Newest,
 }
 
 impl Model for Station {
     ghost use Rattle.std.specs.Prelude.{min};
-    ghost use Rattle.p25_duplex.specs.DuplexState.{StationParts};
+    ghost use Rattle.p25_stations.specs.WorldState.{Roomy};
+    ghost use Rattle.p25_duplex.specs.DuplexState.{StationState};
 
-    ghost Value = { StationParts };
-
-    ghost use Rattle.std.specs.Prelude.{IfSome};
-    ghost use Rattle.p25_packet_blocks.specs.Sendable.{IsSendable};
+    ghost Value = { Roomy StationState };
 
     ghost view = { λ t. record {
       state = record { outbound = t.outbound.half; inbound = t.inbound.half; newest = t.newest };
       spare = min t.outbound.spare t.inbound.spare;
     } };
-
-    ghost invariant = { λ t. IfSome t.newest IsSendable };
 }
 
 impl Station {
@@ -46,7 +38,7 @@ impl Station {
         Station {
             outbound: Outbound::new(alloc),
             inbound: Inbound::new(alloc),
-            newest: None,
+            newest: Newest::new(),
         }
     }
 
@@ -78,8 +70,8 @@ impl Station {
 }
 
 impl Station {
-    ghost use Rattle.p25_delivery.specs.Link.{newest_after};
-    ghost use Rattle.p25_duplex.specs.DuplexSteps.{delivered_at, station_step};
+    ghost use Rattle.p25_duplex.specs.DuplexState.{StationState};
+    ghost use Rattle.p25_duplex.specs.DuplexSteps.{is_answer, heard_as, station_step};
 
     // Answers the step that an event of this station is, beside the other station, and has it happen. There is room for it.
     #[tactic(auto, unfolding(p25_delivery::specs::Link::happens, p25_delivery::specs::Link::with_outbound))]
@@ -89,60 +81,33 @@ impl Station {
     {
         match event {
             DuplexEvent::Send(_, message) => {
-                let done = self.outbound.offer(message);
-                self.told(done, false)
+                Step::quiet(self.newest.keep(self.outbound.offer(message)))
             }
-            DuplexEvent::Timeout(_) => {
-                let done = self.outbound.time_out();
-                self.told(done, false)
-            }
+            DuplexEvent::Timeout(_) => Step::quiet(self.newest.keep(self.outbound.time_out())),
             DuplexEvent::Reopen(_) => {
                 let delivered = other.inbound.received().len() as u64;
-                let done = self.outbound.reopen(delivered);
-                self.told(done, false)
+                Step::quiet(self.newest.keep(self.outbound.reopen(delivered)))
             }
-            DuplexEvent::Deliver { flips, .. } => self.deliver(other, flips),
-        }
-    }
-
-    // Makes the packet of a call the newest transmission, where there is one, and answers what happened as a step.
-    #[tactic(auto, unfolding(p25_delivery::specs::Link::newest_after))]
-    fn told(&mut self, done: (StepKind, Option<Packet>), false_pass: bool) -> Step
-        requires { IfSome done.1 IsSendable }
-        ensures state { self.new.state ≡ record self.old.state { newest = newest_after done.1 self.old.state.newest } }
-        ensures step { result ≡ record { kind = done.0; false_pass = false_pass } }
-    {
-        let (kind, packet) = done;
-        if packet.is_some() {
-            self.newest = packet;
-        }
-        Step { kind, false_pass }
-    }
-
-    // Delivers the newest transmission of the other station. An answer is heard by the half that sends, data by the half that
-    // receives.
-    #[tactic(auto, unfolding(p25_delivery::specs::Link::happens, p25_delivery::specs::Link::with_outbound, p25_delivery::specs::Link::with_inbound))]
-    fn deliver(&mut self, other: &Station, flips: &Flips) -> Step
-        requires { 0 < self.old.spare }
-        ensures { (self.new.state, result) ≡ delivered_at self.old.state other.now.state other.now.state.newest flips.now }
-    {
-        let way = Way::Packets;
-        let carried = match &other.newest {
-            None => return Step::quiet(StepKind::Nothing { way }),
-            Some(packet) => carry(packet, flips),
-        };
-        match carried {
-            Carried::Lost(field) => Step::quiet(StepKind::Lost { way, field }),
-            Carried::Foreign => Step::quiet(StepKind::Ignored { way }),
-            Carried::Heard { packet, false_pass } => {
-                if packet.head().format() == RESPONSE_FORMAT {
-                    let done = self.outbound.hear(&packet);
-                    self.told(done, false_pass)
-                } else {
-                    let done = self.inbound.hear(&packet);
-                    self.told(done, false_pass)
+            DuplexEvent::Deliver { flips, .. } => match other.newest.deliver(Way::Packets, flips) {
+                Err(kind) => Step::quiet(kind),
+                Ok((packet, false_pass)) => {
+                    let kind = self.hear(&packet);
+                    Step { kind, false_pass }
                 }
-            }
+            },
+        }
+    }
+
+    // Hears a packet: an answer by the half that sends, data by the half that receives.
+    #[tactic(auto, unfolding(p25_delivery::specs::Link::happens, p25_delivery::specs::Link::with_outbound, p25_delivery::specs::Link::with_inbound))]
+    fn hear(&mut self, packet: &Packet) -> StepKind
+        requires { 0 < self.old.spare }
+        ensures { (other : StationState) → (self.new.state, result) ≡ heard_as (is_answer packet.now) self.old.state other packet.now }
+    {
+        if packet.head().format() == RESPONSE_FORMAT {
+            self.newest.keep(self.outbound.hear(packet))
+        } else {
+            self.newest.keep(self.inbound.hear(packet))
         }
     }
 }

@@ -1,7 +1,4 @@
-//! The two stations of the duplex world, and the air between them.
-
 ghost use Rattle.std.specs.Prelude.{◌≡◌, ◌+◌, ◌<◌, ◌≤◌, length, OnOk, OnErr, IfOk};
-ghost use Rattle.p25_stations.specs.Steps.{counted_when};
 ghost use Rattle.p25_duplex.specs.Sides.{other_side};
 ghost use Rattle.p25_duplex.specs.DuplexSteps.{station_step, duplex_step};
 
@@ -23,9 +20,10 @@ pub struct DuplexWorld {
 
 impl Model for DuplexWorld {
     ghost use Rattle.std.specs.Prelude.{min};
-    ghost use Rattle.p25_duplex.specs.DuplexState.{DuplexParts};
+    ghost use Rattle.p25_stations.specs.WorldState.{Roomy};
+    ghost use Rattle.p25_duplex.specs.DuplexState.{DuplexState};
 
-    ghost Value = { DuplexParts };
+    ghost Value = { Roomy DuplexState };
 
     ghost view = { λ w. record {
       state = record { a = w.a.state; b = w.b.state; false_passes = w.false_passes };
@@ -107,20 +105,9 @@ impl DuplexWorld {
         }
     }
 
-    // Answers the step that an event is, and has it happen. There is room for it, and it takes no memory.
-    #[tactic(auto, unfolding(crate::specs::DuplexSteps::duplex_step))]
-    fn step_ready(&mut self, event: &DuplexEvent) -> DuplexStep
-        requires { 0 < self.old.spare }
-        ensures { (self.new.state, result) ≡ duplex_step self.old.state event.now }
-    {
-        let side = event.side();
-        let step = self.act(side, event);
-        self.false_passes = counted(self.false_passes, step.false_pass);
-        DuplexStep { side, step }
-    }
-
     /// Answers the step that an event is, and has it happen. AllocError comes where there is not enough memory for it, and
     /// only where no room was left; then the world stays as it was.
+    #[tactic(auto, unfolding(crate::specs::DuplexSteps::duplex_step))]
     pub fn step(&mut self, event: &DuplexEvent) -> Result<DuplexStep, AllocError>
         ensures ok { IfOk result (λ step. (self.new.state, step) ≡ duplex_step self.old.state event.now) }
         ensures err { OnErr result (self.new.state ≡ self.old.state) }
@@ -128,18 +115,9 @@ impl DuplexWorld {
     {
         self.a.reserve()?;
         self.b.reserve()?;
-        Ok(self.step_ready(event))
-    }
-}
-
-// So many false passes, and one more where it is one.
-#[tactic(auto, unfolding(p25_stations::specs::Steps::counted_when))]
-fn counted(false_passes: u64, false_pass: bool) -> u64
-    ensures { result ≡ counted_when false_pass false_passes }
-{
-    if false_pass {
-        false_passes.saturating_add(1)
-    } else {
-        false_passes
+        let side = event.side();
+        let step = self.act(side, event);
+        self.false_passes = step.counted(self.false_passes);
+        Ok(DuplexStep { side, step })
     }
 }

@@ -1,12 +1,13 @@
 //! Events of the duplex world read from lines.
 
-ghost use Rattle.std.specs.Prelude.{◌≡◌, ◌≤◌, [], ◌∷◌, IfOk, length};
+ghost use Rattle.std.specs.Prelude.{◌≡◌, ◌↔◌, ◌<◌, ◌≤◌, [], ◌∷◌, IfOk, Err, length};
+ghost use Rattle.p25_line.specs.declared.fault.LineFault.TheVariants.{Long};
 ghost use Rattle.p25_duplex.specs.DuplexRuns.{IsDuplexEvent};
 ghost use Rattle.p25_duplex.specs.declared.event.DuplexEvent.{DuplexEvent as event_type};
 ghost use Rattle.p25_duplex_script.specs.DuplexLines.{IsDuplexScripted, direction_word, duplex_by_words, duplex_event_of, duplex_text, event_behind, hearer_named, start_named, start_word};
 
 use p25_duplex::{DuplexEvent, Side};
-use p25_line::{LineFault, LineWords};
+use p25_line::{LineFault, LineReader, LineWords, read_whole};
 use p25_script::{EventKind, message_value, places_value};
 
 /// What the first word of a line tells.
@@ -69,16 +70,34 @@ fn direction(to: Side) -> &'static [u8]
 /// message or the places are not of their form. The laws of the duplex world speak of each event that is read.
 pub fn read_duplex_event(line: &[u8]) -> Result<DuplexEvent, LineFault>
     ensures event { result ≡ duplex_event_of line.now }
+    ensures long { (result ≡ Err Long) ↔ (8192 < length line.now) }
     ensures text { IfOk result (λ event. duplex_text event ≡ line.now) }
     ensures fits { IfOk result (λ event. IsDuplexScripted event) }
     ensures kept { IfOk result (λ event. IsDuplexEvent event) }
     ensures each { (event : event_type) → IsDuplexScripted event → length line.now ≤ 8192 → duplex_text event ≡ line.now → result ≡ Ok event }
 {
-    read_words(&LineWords::read(line)?)
+    read_whole::<DuplexLines>(line)
+}
+
+// Lines of a script of both stations.
+struct DuplexLines;
+
+impl LineReader for DuplexLines {
+    ghost use Rattle.p25_duplex_script.specs.DuplexReadLaws.{duplex_not_long};
+
+    type Value = DuplexEvent;
+
+    ghost words_read = { duplex_by_words };
+
+    ghost not_long = { duplex_not_long };
+
+    fn read_words(words: &LineWords) -> Result<DuplexEvent, LineFault> {
+        read_duplex_words(words)
+    }
 }
 
 // The event of the words of a line.
-fn read_words(words: &LineWords) -> Result<DuplexEvent, LineFault>
+fn read_duplex_words(words: &LineWords) -> Result<DuplexEvent, LineFault>
     ensures { result ≡ duplex_by_words words.now }
 {
     let Some(start) = DuplexStart::named(words.first()) else {

@@ -18,7 +18,6 @@ mod read;
 mod steps;
 #[cfg(test)]
 mod tests;
-mod value;
 
 pub use closing::long_closing_text;
 pub use read::read_long_event;

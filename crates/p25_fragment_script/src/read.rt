@@ -1,14 +1,14 @@
 //! Events of long messages read from lines.
 
-ghost use Rattle.std.specs.Prelude.{◌≡◌, ◌≤◌, IfOk, length, drop, slice_get};
+ghost use Rattle.std.specs.Prelude.{◌≡◌, ◌↔◌, ◌<◌, ◌≤◌, IfOk, Err, length, drop, slice_get};
+ghost use Rattle.p25_line.specs.declared.fault.LineFault.TheVariants.{Long};
 ghost use Rattle.std.specs.Str.{bytes_eq};
 ghost use Rattle.p25_fragments.specs.declared.long_step.LongEvent.{LongEvent as event_type};
 ghost use Rattle.p25_fragment_script.specs.LongScript.{IsLongScripted, long_event_by_words, long_event_of, long_event_text, other_event};
 
-use super::value::long_value;
 use p25_fragments::LongEvent;
-use p25_line::{LineFault, LineWords};
-use p25_script::read_event_words;
+use p25_line::{LineFault, LineReader, LineWords, read_whole};
+use p25_script::{message_value, read_event_words};
 
 /// Answers the event whose line this is. Each line that is accepted is the line of its event, and the line of each event,
 /// where it is not too long, is accepted. The first of these causes that applies is answered: Long, above 8,192 octets; Form,
@@ -18,15 +18,33 @@ use p25_script::read_event_words;
 /// number, or the places are not of their form.
 pub fn read_long_event(line: &[u8]) -> Result<LongEvent, LineFault>
     ensures event { result ≡ long_event_of line.now }
+    ensures long { (result ≡ Err Long) ↔ (8192 < length line.now) }
     ensures text { IfOk result (λ event. long_event_text event ≡ line.now) }
     ensures fits { IfOk result (λ event. IsLongScripted event) }
     ensures each { (event : event_type) → IsLongScripted event → length line.now ≤ 8192 → long_event_text event ≡ line.now → result ≡ Ok event }
 {
-    read_words(&LineWords::read(line)?)
+    read_whole::<LongLines>(line)
+}
+
+// Lines of a script of long messages.
+struct LongLines;
+
+impl LineReader for LongLines {
+    ghost use Rattle.p25_fragment_script.specs.LongReadLaws.{long_event_not_long};
+
+    type Value = LongEvent;
+
+    ghost words_read = { long_event_by_words };
+
+    ghost not_long = { long_event_not_long };
+
+    fn read_words(words: &LineWords) -> Result<LongEvent, LineFault> {
+        read_long_words(words)
+    }
 }
 
 // The event of the words of a line.
-fn read_words(words: &LineWords) -> Result<LongEvent, LineFault>
+fn read_long_words(words: &LineWords) -> Result<LongEvent, LineFault>
     ensures { result ≡ long_event_by_words words.now }
 {
     let first = words.first();
@@ -36,7 +54,7 @@ fn read_words(words: &LineWords) -> Result<LongEvent, LineFault>
     if words.count() != 2 {
         return Err(LineFault::Key);
     }
-    match long_value(words.get(1)) {
+    match message_value(words.get(1)) {
         Some(message) => Ok(LongEvent::Long(message)),
         None => Err(LineFault::Value),
     }

@@ -3,8 +3,10 @@
 use Rattle.std.proofs.Common.{◌≡◌, ℕ, Bool, true, false, cond, List, [], ◌∷◌, ◌++◌, Option, Some, None, refl, ap, ap₂, sym, subst, ◌∙◌}
 use Rattle.std.specs.Prelude.{◌+◌, nat_lt, length}
 use Rattle.p25_messages.specs.LongMessages.{part_count, part_of}
+use Rattle.p25_delivery.specs.Runs.{run_by, steps_by}
 use Rattle.p25_delivery.specs.declared.step_kind.StepKind.{StepKind}
 use Rattle.p25_delivery.specs.declared.step_kind.StepKind.TheVariants.{Acknowledged, Delivered, SynHeard}
+use Rattle.p25_delivery.proofs.RunLaws.{run-append, steps-append}
 use Rattle.p25_stations.specs.declared.step.Event.{Event}
 use Rattle.p25_stations.specs.declared.step.Event.TheVariants.{Send}
 use Rattle.p25_stations.specs.declared.step.Step.{Step}
@@ -30,29 +32,19 @@ steps_in : LongStep → List Step
 steps_in step = first_steps step.first ++ next_steps step.then
 
 no-events : (w : WorldState) → IsInnerRun w w []
-unfolding world_run steps_of
+unfolding run_by steps_by
 no-events w = record { events = []; world = refl; steps = refl }
 
 one-event : (w : WorldState) (event : Event) → IsInnerRun w (world_step w event).0 ((world_step w event).1 ∷ [])
-unfolding world_run steps_of
+unfolding run_by steps_by
 one-event w event = record { events = event ∷ []; world = refl; steps = refl }
 
 -- one run after another
-run-append : (w : WorldState) (xs ys : List Event) → world_run w (xs ++ ys) ≡ world_run (world_run w xs) ys
-unfolding world_run
-run-append w [] ys = refl
-run-append w (x ∷ xs) ys = run-append (world_step w x).0 xs ys
-
-steps-append : (w : WorldState) (xs ys : List Event) → steps_of w (xs ++ ys) ≡ steps_of w xs ++ steps_of (world_run w xs) ys
-unfolding world_run steps_of
-steps-append w [] ys = refl
-steps-append w (x ∷ xs) ys = ap (λ (steps : List Step). (world_step w x).1 ∷ steps) (steps-append (world_step w x).0 xs ys)
-
 both : (u v w : WorldState) (xs ys : List Step) → IsInnerRun u v xs → IsInnerRun v w ys → IsInnerRun u w (xs ++ ys)
 both u v w xs ys a b = record {
   events = a.events ++ b.events;
-  world = run-append u a.events b.events ∙ ap (λ (x : WorldState). world_run x b.events) a.world ∙ b.world;
-  steps = steps-append u a.events b.events ∙ ap₂ (λ (s t : List Step). s ++ t) a.steps (ap (λ (x : WorldState). steps_of x b.events) a.world ∙ b.steps);
+  world = run-append world_step u a.events b.events ∙ ap (λ (x : WorldState). world_run x b.events) a.world ∙ b.world;
+  steps = steps-append world_step u a.events b.events ∙ ap₂ (λ (s t : List Step). s ++ t) a.steps (ap (λ (x : WorldState). steps_of x b.events) a.world ∙ b.steps);
 }
 
 -- A long message is offered.
@@ -125,7 +117,7 @@ step-run w (Inner event) = happened-run w event
 
 -- every run
 pub inner-run : (w : LongState) (events : List LongEvent) → IsInnerRun w.inner (long_run w events).inner (inner_steps (long_steps_of w events))
-unfolding long_run long_steps_of inner_steps Runs steps_in
+unfolding run_by steps_by inner_steps Runs steps_in
 inner-run w [] = no-events w.inner
 inner-run w (event ∷ events) =
     let y = long_step w event in

@@ -1,6 +1,7 @@
 -- A clean run keeps the long messages matched to the link, and refuses no part. One event after the other.
 use Rattle.std.proofs.Common.{◌≡◌, ◌≢◌, ℕ, ◌≤◌, Bool, false, List, [], ◌∷◌, ◌++◌, length, Option, Some, refl, ap, sym, subst, ◌∙◌, arith, append_assoc}
 use Rattle.p25_messages.specs.LongMessages.{part_of}
+use Rattle.p25_delivery.specs.Runs.{run_by, steps_by, EachIs}
 use Rattle.p25_delivery.specs.declared.sender_state.Outstanding.TheVariants.{Nothing, Message}
 use Rattle.p25_delivery.specs.declared.step_kind.StepKind.{StepKind}
 use Rattle.p25_delivery.specs.Link.{Link, Session, last_mark, Happening, Time_up}
@@ -101,7 +102,7 @@ does-follows w event x f is c (does happening false_pass has) =
 -- Every event.
 
 first-clean : (step : Step) (steps : List Step) → AreClean (first_steps (Some step) ++ steps) → step.false_pass ≡ false
-unfolding AreClean first_steps
+unfolding EachIs first_steps
 first-clean step steps c = c.0
 
 inner-first : (w : LongState) (x : WorldState × Step) → (inner_happened w x).1.first ≡ Some x.1
@@ -122,7 +123,7 @@ step-follows w (Inner event) rest f is clean =
 -- Every run.
 
 clean-rest : (xs ys : List Step) → AreClean (xs ++ ys) → AreClean ys
-unfolding AreClean
+unfolding EachIs
 clean-rest [] ys c = c
 clean-rest (x ∷ xs) ys c = clean-rest xs ys c.1
 
@@ -131,7 +132,7 @@ pub record FollowsRun (w : LongState) (events : List LongEvent) : Type 0 where
   pub unrefused : AreUnrefused (long_steps_of w events)
 
 run-follows : (events : List LongEvent) (w : LongState) → Follows w → AreLongEvents events → AreClean (inner_steps (long_steps_of w events)) → FollowsRun w events
-unfolding AreLongEvents long_run long_steps_of inner_steps AreUnrefused
+unfolding EachIs run_by steps_by inner_steps
 run-follows [] w f are clean = record { follows = f; unrefused = tt }
 run-follows (event ∷ events) w f are clean =
     let step = (long_step w event).1 in

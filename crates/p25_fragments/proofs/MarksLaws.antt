@@ -3,6 +3,7 @@
 use Rattle.std.proofs.Common.{◌≡◌, ℕ, ◌+◌, ◌⊎◌, inl, inr, Bool, true, false, cond, List, [], ◌∷◌, ◌++◌, length, Option, Some, None, refl, ap, sym, subst, ◌∙◌, arith, length-append}
 use Rattle.std.specs.Prelude.{nat_lt}
 use Rattle.p25_messages.specs.LongMessages.{part_count, part_of}
+use Rattle.p25_delivery.proofs.RunLaws.{run-keeps_all}
 use Rattle.p25_delivery.specs.SenderState.{Sending}
 use Rattle.p25_delivery.specs.SenderRules.{offered}
 use Rattle.p25_delivery.specs.declared.mark.Mark.{Mark}
@@ -125,11 +126,6 @@ unfolding long_step
 step-marks w (Long message) h = offered-marks w message (world_step w.inner (Send (part_of message 0))) h refl (offered-as w message)
 step-marks w (Inner event) h = does-marks w event (world_step w.inner event) h (step-does w.inner event)
 
-run-marks : (events : List LongEvent) (w : LongState) → AreMarked w → AreMarked (long_run w events)
-unfolding long_run
-run-marks [] w h = h
-run-marks (event ∷ events) w h = run-marks events (long_step w event).0 (step-marks w event h)
-
 pub long-marked : (events : List LongEvent) → length (long_run first_long events).marks ≡ length (long_run first_long events).inner.link.outbound.marks
 unfolding AreMarked marks_in
-long-marked events = run-marks events first_long refl
+long-marked events = run-keeps_all long_step AreMarked step-marks events first_long refl

@@ -1,6 +1,6 @@
--- Runs of a world of long messages: its state and its steps after a list of events, its sessions, and what is said of the steps
--- of the inner world.
+-- Runs of a world of long messages: its state and its steps after a list of events, its sessions, and what is said of the steps of the inner world.
 use Rattle.std.specs.Prelude.{◌≡◌, ◌≢◌, ◌≤◌, List, [], ◌∷◌, ◌++◌, length, Option, Some, None}
+use Rattle.p25_delivery.specs.Runs.{run_by, steps_by, EachIs}
 use Rattle.p25_delivery.specs.Link.{Session, sessions_of}
 use Rattle.p25_stations.specs.declared.step.Event.{Event}
 use Rattle.p25_stations.specs.declared.step.Event.TheVariants.{Send}
@@ -25,19 +25,15 @@ unfoldable pub IsLongEvent : LongEvent → Type 0
 IsLongEvent (Long message) = length message ≤ 4000
 IsLongEvent (Inner event) = IsNoOffer event
 
-unfoldable pub AreLongEvents : List LongEvent → Type 0
-AreLongEvents [] = Unit {0}
-AreLongEvents (event ∷ events) = IsLongEvent event × AreLongEvents events
+abbrev pub AreLongEvents : List LongEvent → Type 0
+AreLongEvents events = EachIs IsLongEvent events
 
--- the world after a list of events
-unfoldable pub long_run : LongState → List LongEvent → LongState
-long_run w [] = w
-long_run w (event ∷ events) = long_run (long_step w event).0 events
+-- the world after a list of events, and the steps that they are
+abbrev pub long_run : LongState → List LongEvent → LongState
+long_run w events = run_by long_step w events
 
--- and the steps that they are
-unfoldable pub long_steps_of : LongState → List LongEvent → List LongStep
-long_steps_of w [] = []
-long_steps_of w (event ∷ events) = (long_step w event).1 ∷ long_steps_of (long_step w event).0 events
+abbrev pub long_steps_of : LongState → List LongEvent → List LongStep
+long_steps_of w events = steps_by long_step w events
 
 -- the steps of the inner world in a step: that of the event or of the offer of part 0, and that of the offer of the next part
 unfoldable pub first_steps : Option Step → List Step
@@ -63,9 +59,8 @@ abbrev pub IsCleanLongRun : List LongEvent → Type 0
 IsCleanLongRun events = AreClean (inner_steps (long_steps_of first_long events))
 
 -- in no step a part is refused
-unfoldable pub AreUnrefused : List LongStep → Type 0
-AreUnrefused [] = Unit {0}
-AreUnrefused (step ∷ steps) = (step.then ≢ Refused) × AreUnrefused steps
+abbrev pub AreUnrefused : List LongStep → Type 0
+AreUnrefused steps = EachIs (λ step. step.then ≢ Refused) steps
 
 -- the sessions of long messages: a mark is made whenever a session of the inner world ends, so they begin together
 abbrev pub long_sessions_of : LongState → List Session

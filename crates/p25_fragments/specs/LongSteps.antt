@@ -40,8 +40,7 @@ started w message (inner, step) =
 -- a long message is offered to a sender that is not down: it is Busy while a part, or the opening packet, is outstanding
 unfoldable pub long_offered_beside : Outstanding → LongState → List ℕ → LongState × LongStep
 long_offered_beside Nothing w message = started w message (world_step w.inner (Send (part_of message 0)))
-long_offered_beside (Message part) w message = unmoved w Busy
-long_offered_beside (Opening number) w message = unmoved w Busy
+long_offered_beside other w message = unmoved w Busy
 
 -- a long message is offered: whether the sender is down is judged first
 unfoldable pub long_offered : LongState → List ℕ → LongState × LongStep

@@ -12,9 +12,8 @@
 //! let step = world.step(&LongEvent::Inner(Event::ToReceiver(flips)))?;
 //! ```
 //!
-//! Contracts see a `LongMessage` as its octets, a `Joiner` as the number that it expects and the octets that it holds, a
-//! `LongList` as its messages and the number of those for which it has room, and each step of a `LongWorld` as the function
-//! `long_step`.
+//! Contracts see a `Joiner` as the number that it expects and the octets that it holds, and each step of a `LongWorld` as the
+//! function `long_step`.
 #![tactic(auto)]
 
 mod joiner;

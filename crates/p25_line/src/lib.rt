@@ -4,8 +4,8 @@
 //! A line has at most 8,192 octets. Its words are octets 21 to 7E hex with single spaces between them. Contracts see a
 //! `Line` as the list of its octets, first to last, a `WordList` as the places of the first 16 words with the number of all,
 //! and `LineWords` as the list of all words of the line that was read. What the words of a line are is `words_or_fault line`,
-//! and `line_read read line` what a line is read as, where `read` tells what its words are read as. A value is told by the
-//! text that it has in the line.
+//! and `line_read read line` what a line is read as, where `read` tells what its words are read as: `read_whole` reads lines of
+//! any form, which a `LineReader` tells. A value is told by the text that it has in the line.
 //! A word that is a list has its entries in order with commas between them, and `-` stands for the empty list: `list_text`
 //! is that word by the text of an entry, `list_in` what a word is read as by the reading of an entry, and each undoes the
 //! other where that holds of entries and no entry's text has a comma.
@@ -25,6 +25,7 @@ mod comma_lists;
 mod fault;
 pub mod laws;
 mod line;
+mod line_reader;
 mod line_words;
 #[cfg(test)]
 mod tests;
@@ -34,6 +35,7 @@ mod word_list;
 pub use comma_lists::{comma_part, is_dash};
 pub use fault::LineFault;
 pub use line::{LINE_MOST, Line};
+pub use line_reader::{LineReader, read_whole};
 pub use line_words::LineWords;
 pub use values::{hex_value, number_value, octets_or_dash};
 pub use word_list::{WordList, words_of};

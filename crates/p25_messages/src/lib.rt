@@ -2,9 +2,7 @@
 //!
 //! A message is a list of at most 2,028 octets, in the order in which they are sent: as many as the 127 blocks of a packet
 //! carry beside the packet CRC. A long message is a list of at most 4,000, which is sent in parts, each a message. Both are
-//! a `MessageOf` so many octets, and their lists a `MessageListOf` so many. Contracts see a message as its octets, a list of
-//! messages as the list and the number of messages for which it has room, and `Flips` as the list of its places, counted
-//! from the first bit of the sent unit.
+//! a `MessageOf` so many octets, which contracts see as the octets, and their lists a `MessageListOf` so many.
 //!
 //! ```text
 //! let mut sent = MessageList::new(alloc);
@@ -20,8 +18,6 @@ mod flips;
 mod long_message;
 mod message;
 mod message_list;
-#[cfg(test)]
-mod tests;
 
 pub use flips::Flips;
 pub use long_message::{LAST_PART, LongList, LongMessage, MOST_LONG, PART_OCTETS};

@@ -1,13 +1,14 @@
 //! Events read from lines.
 
-ghost use Rattle.std.specs.Prelude.{◌≡◌, ◌≤◌, IfOk, length, drop};
+ghost use Rattle.std.specs.Prelude.{◌≡◌, ◌↔◌, ◌<◌, ◌≤◌, IfOk, Err, length, drop};
+ghost use Rattle.p25_line.specs.declared.fault.LineFault.TheVariants.{Long};
 ghost use Rattle.p25_stations.specs.declared.step.Event.{Event as event_type};
 ghost use Rattle.p25_script.specs.Script.{IsScripted, delivery_or_fault, event_by_words, event_in, event_of, event_text, way_named, word_count};
 ghost use Rattle.p25_script.specs.Values.{places_in};
 
 use super::names::{EventKind, named_way};
 use super::values::{message_value, places_value};
-use p25_line::{LineFault, LineWords};
+use p25_line::{LineFault, LineReader, LineWords, read_whole};
 use p25_stations::{Event, Way};
 
 /// Answers the event whose line this is. Each line that is accepted is the line of its event, and the line of each event,
@@ -17,11 +18,29 @@ use p25_stations::{Event, Way};
 /// neither `data` nor `answer`; Value, the message or the places are not of their form.
 pub fn read_event(line: &[u8]) -> Result<Event, LineFault>
     ensures event { result ≡ event_of line.now }
+    ensures long { (result ≡ Err Long) ↔ (8192 < length line.now) }
     ensures text { IfOk result (λ event. event_text event ≡ line.now) }
     ensures fits { IfOk result (λ event. IsScripted event) }
     ensures each { (event : event_type) → IsScripted event → length line.now ≤ 8192 → event_text event ≡ line.now → result ≡ Ok event }
 {
-    read_event_words(&LineWords::read(line)?)
+    read_whole::<EventLines>(line)
+}
+
+// Lines of a script.
+struct EventLines;
+
+impl LineReader for EventLines {
+    ghost use Rattle.p25_script.specs.ScriptReadLaws.{event_not_long};
+
+    type Value = Event;
+
+    ghost words_read = { event_by_words };
+
+    ghost not_long = { event_not_long };
+
+    fn read_words(words: &LineWords) -> Result<Event, LineFault> {
+        read_event_words(words)
+    }
 }
 
 /// Answers the event of the words of a line, or why they are refused: Kind, Key or Value, as `read_event` says.

@@ -1,22 +1,21 @@
 //! The values of script lines.
 
-ghost use Rattle.std.specs.Prelude.{◌≡◌, ◌<◌, ◌≤◌, length, IfSome};
-ghost use Rattle.p25_script.specs.Values.{message_in, place_in, places_in};
+ghost use Rattle.std.specs.Prelude.{◌≡◌, ◌^◌, ◌<◌, ◌≤◌, length, IfSome};
+ghost use Rattle.p25_line.specs.Octets.{octets_up_to};
+ghost use Rattle.p25_script.specs.Values.{place_in, places_in};
 
 use p25_line::{comma_part, is_dash, number_value, octets_or_dash};
-use p25_messages::{Flips, Message};
+use p25_messages::{Flips, MessageOf};
 
-// The number of octets of the longest message.
-const MESSAGE_MOST: usize = 2_028;
-
-/// Answers the message that a word is. `None` comes exactly where the word is neither `-` nor 2 to 4,056 lower-case
-/// hexadecimal digits, an even number.
-pub fn message_value(word: &[u8]) -> Option<Message>
-    ensures { result ≡ message_in word.now }
+/// Answers the message of at most `MOST` octets that a word is. `None` comes exactly where the word is neither `-` nor an
+/// even number of lower-case hexadecimal digits, two for each octet.
+pub fn message_value<const MOST: usize>(word: &[u8]) -> Option<MessageOf<MOST>>
+    requires { MOST ≤ 2 ^ 32 }
+    ensures { result ≡ octets_up_to MOST word.now }
 {
-    let mut room = [0; MESSAGE_MOST];
+    let mut room = [0; MOST];
     let count = octets_or_dash(word, &mut room)?;
-    Message::new(&room[..count])
+    MessageOf::new(&room[..count])
 }
 
 // The place that a text is: a number below 25,920.

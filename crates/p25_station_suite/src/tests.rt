@@ -3,6 +3,7 @@
 mod duplex;
 mod faults;
 mod fragments;
+mod messages;
 mod parts;
 mod rules;
 mod stations;

@@ -5,6 +5,7 @@ use Rattle.std.specs.Prelude.{IfSome}
 use Rattle.std.proofs.lemmas.Bool.{cond-true}
 use Rattle.p25_packet_blocks.specs.declared.packet.Packet.{Packet}
 use Rattle.p25_packet_blocks.specs.Sendable.{IsSendable}
+use Rattle.p25_delivery.specs.Runs.{steps_by, MeetAt}
 use Rattle.p25_delivery.specs.MessageBlocks.{block_count}
 use Rattle.p25_delivery.specs.SentPackets.{opening_packet}
 use Rattle.p25_delivery.specs.SenderState.{Sending}
@@ -32,10 +33,12 @@ use Rattle.p25_stations.specs.declared.step.Event.{Event}
 use Rattle.p25_stations.specs.declared.step.Event.TheVariants.{Send, Reopen, ToReceiver, ToSender}
 use Rattle.p25_stations.specs.declared.step.Step.{Step}
 use Rattle.p25_delivery.specs.declared.step_kind.StepKind.TheVariants.{Taken, Reopened, Delivered, SynHeard, Acknowledged, LinkOpened}
+use Rattle.p25_stations.specs.declared.air.Carried.{Carried}
 use Rattle.p25_stations.specs.Air.{ArrivesWithin}
 use Rattle.p25_stations.specs.WorldState.{WorldState, first_world}
 use Rattle.p25_delivery.specs.SoundHalves.{IsMessage}
-use Rattle.p25_stations.specs.Steps.{quiet_step, counted_when, heard_by, newest_by, carried, delivered, world_step}
+use Rattle.p25_stations.specs.Deliveries.{heard_of, delivery_of}
+use Rattle.p25_stations.specs.Steps.{quiet_step, counted_when, heard_by, newest_by, delivered, world_step}
 use Rattle.p25_stations.specs.Runs.{IsEvent, AreEvents, world_run, steps_of}
 use Rattle.p25_stations.specs.RunLaws.{IsWithin, AreWithin, true_step}
 use Rattle.p25_stations.proofs.AirLaws.{ReadsWithin, air-within}
@@ -46,7 +49,7 @@ use Rattle.p25_stations.proofs.FalsePassLaws.{clean-from_none}
 -- Three steps.
 
 three-steps : (w v u t : WorldState) (a b c : Event) (x y z : Step) → world_step w a ≡ (v, x) → world_step v b ≡ (u, y) → world_step u c ≡ (t, z) → steps_of w (a ∷ b ∷ c ∷ []) ≡ x ∷ y ∷ z ∷ []
-unfolding steps_of
+unfolding steps_by
 three-steps w v u t a b c x y z e f g =
     let second : (world_step (world_step w a).0 b) ≡ (u, y) = ap (λ (p : WorldState × Step). world_step p.0 b) e ∙ f in
     let third : world_step (world_step (world_step w a).0 b).0 c ≡ (t, z) = ap (λ (p : WorldState × Step). world_step p.0 c) second ∙ g in
@@ -59,25 +62,25 @@ record Moments (v u : WorldState) (b c : Event) : Type 0 where
   pub second : IsWithin u c
 
 moments : (w v u : WorldState) (a b c : Event) (x y : Step) → world_step w a ≡ (v, x) → world_step v b ≡ (u, y) → AreWithin w (a ∷ b ∷ c ∷ []) → Moments v u b c
-unfolding AreWithin
+unfolding MeetAt
 moments w v u a b c x y e f within =
     let first : (world_step w a).0 ≡ v = ap (λ (p : WorldState × Step). p.0) e in
     let second : (world_step (world_step w a).0 b).0 ≡ u = ap (λ (p : WorldState). (world_step p b).0) first ∙ ap (λ (p : WorldState × Step). p.0) f in
     record { first = subst (λ (p : WorldState). IsWithin p b) first within.1.0; second = subst (λ (p : WorldState). IsWithin p c) second within.1.1.0 }
 
 second-within : (w : WorldState) (a b c : Event) → AreWithin w (a ∷ b ∷ c ∷ []) → IsWithin (world_step w a).0 b
-unfolding AreWithin
+unfolding MeetAt
 second-within w a b c within = within.1.0
 
 -- A delivery within radius.
 
 within-step : ReadsWithin → (w : WorldState) (way : Way) (newest : Option Packet) (packet : Packet) (flips : List ℕ) → newest ≡ Some packet → IfSome newest IsSendable → IfSome newest (λ sent. ArrivesWithin sent flips) →
-    delivered w way newest flips ≡ quiet_step w (happens w.link (heard_by way packet))
-unfolding delivered carried counted_when
+    delivered w way (delivery_of way newest flips) ≡ quiet_step w (happens w.link (heard_by way packet))
+unfolding delivered delivery_of heard_of counted_when
 within-step reads w way newest packet flips e sendable within =
     let can = subst (λ (n : Option Packet). IfSome n IsSendable) e sendable in
     let arrives = subst (λ (n : Option Packet). IfSome n (λ sent. ArrivesWithin sent flips)) e within in
-    ap (λ (n : Option Packet). delivered w way n flips) e ∙ ap (carried w way) (air-within reads packet flips can arrives)
+    ap (λ (n : Option Packet). delivered w way (delivery_of way n flips)) e ∙ ap (λ (c : Carried). delivered w way (heard_of way c)) (air-within reads packet flips can arrives)
 
 data-step : ReadsWithin → (w : WorldState) (packet : Packet) (flips : List ℕ) (x : Receiving × HeardAnswer) → IsSoundLink w.link → w.link.packet_sent ≡ Some packet → IsWithin w (ToReceiver flips) →
     receiver_heard w.link.inbound.receiver packet ≡ x →

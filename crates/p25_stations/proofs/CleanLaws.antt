@@ -2,6 +2,7 @@
 -- after the other; so the laws of links are laws of the world.
 use Rattle.std.proofs.Common.{◌≡◌, Bool, false, List, [], ◌∷◌, ℕ, Option, Some, refl, ap, sym, subst, ◌∙◌}
 use Rattle.p25_packet_blocks.specs.declared.packet.Packet.{Packet}
+use Rattle.p25_delivery.specs.Runs.{run_by, steps_by, MeetAt, EachIs}
 use Rattle.p25_delivery.specs.Link.{Link, first_link, Happening, link_run, sessions_of}
 use Rattle.p25_delivery.specs.Clean.{IsHeardOf, IsClean, IsCleanRun as IsCleanLink}
 use Rattle.p25_delivery.specs.Orderly.{AreOrderly, AreCounted}
@@ -38,7 +39,7 @@ pub record Between (before after : Link) (If : Type 0) : Type 0 where
 
 -- one step more before it
 one-more : (w : WorldState) (event : Event) (x : WorldState × Step) (after : Link) (If : Type 0) → Does w event x → Between x.0.link after If → Between w.link after (IsEvent event × ((x.1.false_pass ≡ false) × If))
-unfolding link_run IsCleanLink
+unfolding run_by MeetAt
 one-more w event x after If (rests kind quiet) rest =
     record { happenings = rest.happenings; becomes = rest.becomes; clean = λ (c : IsEvent event × ((false ≡ false) × If)). rest.clean c.1.1 }
 one-more w event x after If (does happening false_pass has) rest =
@@ -49,7 +50,7 @@ one-more w event x after If (does happening false_pass has) rest =
     }
 
 pub run-between : (events : List Event) (w : WorldState) → Between w.link (world_run w events).link (AreEvents events × AreClean (steps_of w events))
-unfolding AreEvents AreClean world_run steps_of link_run IsCleanLink
+unfolding EachIs run_by steps_by MeetAt
 run-between [] w = record { happenings = []; becomes = refl; clean = λ (c : Unit {0} × Unit {0}). tt }
 run-between (event ∷ events) w =
     let next = world_step w event in

@@ -12,20 +12,22 @@ use Rattle.p25_stations.specs.declared.step.Event.TheVariants.{Send, Timeout, Re
 use Rattle.p25_stations.specs.declared.step.Step.{Step}
 use Rattle.p25_stations.specs.Air.{places_within, ArrivesWithin}
 use Rattle.p25_stations.specs.WorldState.{WorldState, first_world}
-use Rattle.p25_stations.specs.Steps.{counted_when, newest_by, carried, delivered, world_step}
+use Rattle.p25_stations.specs.Deliveries.{heard_of, delivery_of}
+use Rattle.p25_stations.specs.Steps.{counted_when, newest_by, delivered, world_step}
 use Rattle.p25_stations.specs.Runs.{world_run, steps_of, AreClean, IsCleanRun}
 use Rattle.p25_stations.specs.RunLaws.{IsWithin, IsTwiceDamaged}
 use Rattle.p25_stations.proofs.AirLaws.{ReadsWithin, air-within}
+use Rattle.p25_stations.proofs.CountedLaws.{none-counted, none-from}
 use Rattle.p25_stations.proofs.FewFlipsLaws.{few-arrive}
 use Rattle.p25_stations.proofs.SoundLaws.{IsSoundLink}
 use Rattle.p25_stations.proofs.StepLaws.{Does, rests, does, step-does}
 
 -- Within radius.
 
-delivered-within : ReadsWithin → (w : WorldState) (way : Way) (newest : Option Packet) (flips : List ℕ) → IfSome newest IsSendable → IfSome newest (λ packet. ArrivesWithin packet flips) → (delivered w way newest flips).1.false_pass ≡ false
-unfolding delivered carried
+delivered-within : ReadsWithin → (w : WorldState) (way : Way) (newest : Option Packet) (flips : List ℕ) → IfSome newest IsSendable → IfSome newest (λ packet. ArrivesWithin packet flips) → (delivered w way (delivery_of way newest flips)).1.false_pass ≡ false
+unfolding delivered delivery_of heard_of
 delivered-within reads w way None flips sendable within = refl
-delivered-within reads w way (Some packet) flips sendable within = ap (λ (c : Carried). (carried w way c).1.false_pass) (air-within reads packet flips sendable within)
+delivered-within reads w way (Some packet) flips sendable within = ap (λ (c : Carried). (delivered w way (heard_of way c)).1.false_pass) (air-within reads packet flips sendable within)
 
 pub step-within : ReadsWithin → (w : WorldState) (event : Event) → IsSoundLink w.link → IsWithin w event → (world_step w event).1.false_pass ≡ false
 unfolding world_step newest_by IsWithin
@@ -44,12 +46,12 @@ twice packet flips false_pass clean e sendable =
       | inr many ↦ omega arith
     ]
 
-delivered-twice : ReadsWithin → (w : WorldState) (way : Way) (newest : Option Packet) (flips : List ℕ) → IfSome newest IsSendable → (delivered w way newest flips).1.false_pass ≡ true →
+delivered-twice : ReadsWithin → (w : WorldState) (way : Way) (newest : Option Packet) (flips : List ℕ) → IfSome newest IsSendable → (delivered w way (delivery_of way newest flips)).1.false_pass ≡ true →
     (packet : Packet) × (newest ≡ Some packet) × (2 ≤ places_within packet flips)
-unfolding delivered
+unfolding delivered delivery_of
 delivered-twice reads w way None flips sendable e = absurd (false≢true e)
 delivered-twice reads w way (Some packet) flips sendable e =
-    (packet, refl, twice packet flips (delivered w way (Some packet) flips).1.false_pass (λ (within : ArrivesWithin packet flips). delivered-within reads w way (Some packet) flips sendable within) e sendable)
+    (packet, refl, twice packet flips (delivered w way (delivery_of way (Some packet) flips)).1.false_pass (λ (within : ArrivesWithin packet flips). delivered-within reads w way (Some packet) flips sendable within) e sendable)
 
 pub step-twice : ReadsWithin → (w : WorldState) (event : Event) → IsSoundLink w.link → (world_step w event).1.false_pass ≡ true → IsTwiceDamaged w event
 unfolding world_step newest_by IsTwiceDamaged
@@ -66,31 +68,17 @@ unfolding counted_when
 counts w event x (rests kind quiet) = refl
 counts w event x (does happening false_pass has) = refl
 
+abbrev passes-in : WorldState → ℕ
+passes-in w = w.false_passes
+
+abbrev false-in : Step → Bool
+false-in step = step.false_pass
+
 pub step-counts : (w : WorldState) (event : Event) → (world_step w event).0.false_passes ≡ counted_when (world_step w event).1.false_pass w.false_passes
 step-counts w event = counts w event (world_step w event) (step-does w event)
 
-none-before : (b : Bool) (count : ℕ) → counted_when b count ≡ 0 → (b ≡ false) × (count ≡ 0)
-unfolding counted_when
-none-before true count e = absurd (omega arith)
-none-before false count e = (refl, e)
-
--- where none is counted after a run, none was before, and none of its steps was one
-none-counted : (events : List Event) (w : WorldState) → (world_run w events).false_passes ≡ 0 → (w.false_passes ≡ 0) × AreClean (steps_of w events)
-unfolding world_run steps_of AreClean
-none-counted [] w e = (e, tt)
-none-counted (event ∷ events) w e =
-    let rest = none-counted events (world_step w event).0 e in
-    let here = none-before (world_step w event).1.false_pass w.false_passes (sym (step-counts w event) ∙ rest.0) in
-    (here.1, (here.0, rest.1))
-
 pub clean-from_none : (events : List Event) → (world_run first_world events).false_passes ≡ 0 → IsCleanRun events
-clean-from_none events e = (none-counted events first_world e).1
-
-none-from : (events : List Event) (w : WorldState) → w.false_passes ≡ 0 → AreClean (steps_of w events) → (world_run w events).false_passes ≡ 0
-unfolding world_run steps_of AreClean counted_when
-none-from [] w e clean = e
-none-from (event ∷ events) w e clean =
-    none-from events (world_step w event).0 (step-counts w event ∙ ap (λ (b : Bool). counted_when b w.false_passes) clean.0 ∙ e) clean.1
+clean-from_none events e = (none-counted world_step passes-in false-in step-counts events first_world e).1
 
 pub none-from_clean : (events : List Event) → IsCleanRun events → (world_run first_world events).false_passes ≡ 0
-none-from_clean events clean = none-from events first_world refl clean
+none-from_clean events clean = none-from world_step passes-in false-in step-counts events first_world refl clean

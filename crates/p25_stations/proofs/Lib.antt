@@ -6,6 +6,7 @@ pub mod NewestLaws
 pub mod SoundLaws
 pub mod CleanLaws
 pub mod TriesLaws
+pub mod CountedLaws
 pub mod FalsePassLaws
 pub mod AtOnceLaws
 pub mod StepListsLaws

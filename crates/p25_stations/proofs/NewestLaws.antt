@@ -1,5 +1,5 @@
 -- The newest transmission after a call of a half can be sent, where what the call sends can. By what the call sends.
-use Rattle.std.proofs.Common.{◌≡◌, Option, Some, None, sym, subst}
+use Rattle.std.proofs.Common.{Option, Some, None}
 use Rattle.std.specs.Prelude.{IfSome}
 use Rattle.p25_packet_blocks.specs.declared.packet.Packet.{Packet}
 use Rattle.p25_packet_blocks.specs.Sendable.{IsSendable}
@@ -9,7 +9,3 @@ pub newest-sendable : (packet newest : Option Packet) → IfSome packet IsSendab
 unfolding newest_after
 newest-sendable (Some packet) newest a b = a
 newest-sendable None newest a b = b
-
--- and what the code keeps as such
-pub kept-sendable : (kept packet newest : Option Packet) → kept ≡ newest_after packet newest → IfSome packet IsSendable → IfSome newest IsSendable → IfSome kept IsSendable
-kept-sendable kept packet newest e a b = subst (λ (p : Option Packet). IfSome p IsSendable) (sym e) (newest-sendable packet newest a b)

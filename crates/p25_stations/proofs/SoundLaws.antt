@@ -1,5 +1,5 @@
 -- Every step keeps what the halves of a world keep, and its newest transmissions can be sent. By what happens at the link.
-use Rattle.std.proofs.Common.{Bool, List, [], ◌∷◌, length, Option}
+use Rattle.std.proofs.Common.{Bool, List, length, Option}
 use Rattle.std.specs.Prelude.{IfSome}
 use Rattle.p25_packet_blocks.specs.declared.packet.Packet.{Packet}
 use Rattle.p25_packet_blocks.specs.Sendable.{IsSendable}
@@ -8,6 +8,7 @@ use Rattle.p25_delivery.specs.Halves.{Outgoing, Incoming}
 use Rattle.p25_delivery.specs.SoundHalves.{IsOutgoing, IsIncoming}
 use Rattle.p25_delivery.specs.Link.{Link, Happening, with_outbound, with_inbound, happens}
 use Rattle.p25_delivery.proofs.HalfLaws.{KeepsOutgoing, KeepsIncoming, offer-keeps, timeout-keeps, reopen-keeps, data-keeps, answer-keeps, first-outgoing, first-incoming}
+use Rattle.p25_delivery.proofs.RunLaws.{run-keeps_each}
 use Rattle.p25_stations.specs.declared.step.Event.{Event}
 use Rattle.p25_stations.specs.declared.step.Step.{Step}
 use Rattle.p25_stations.specs.WorldState.{WorldState, first_world}
@@ -50,6 +51,5 @@ pub first-sound : IsSoundLink first_world.link
 first-sound = record { outbound = first-outgoing; inbound = first-incoming; packet_sent = tt; answer = tt }
 
 pub run-sound : (events : List Event) (w : WorldState) → AreEvents events → IsSoundLink w.link → IsSoundLink (world_run w events).link
-unfolding AreEvents world_run
-run-sound [] w are sound = sound
-run-sound (event ∷ events) w are sound = run-sound events (world_step w event).0 are.1 (step-sound w event are.0 sound)
+run-sound events w are sound =
+    run-keeps_each world_step IsEvent (λ (v : WorldState). IsSoundLink v.link) (λ (v : WorldState) (event : Event) (s : IsSoundLink v.link) (is : IsEvent event). step-sound v event is s) events w sound are

@@ -14,7 +14,8 @@ use Rattle.p25_stations.specs.declared.step.Event.TheVariants.{Send, Timeout, Re
 use Rattle.p25_stations.specs.declared.step.Step.{Step}
 use Rattle.p25_stations.specs.Air.{carried_of}
 use Rattle.p25_stations.specs.WorldState.{WorldState}
-use Rattle.p25_stations.specs.Steps.{counted_when, quiet_step, heard_step, heard_by, newest_by, carried, delivered, world_step}
+use Rattle.p25_stations.specs.Deliveries.{heard_of, delivery_of}
+use Rattle.p25_stations.specs.Steps.{counted_when, quiet_step, heard_step, heard_by, newest_by, delivered, world_step}
 
 -- what an event has happen at a link, and whether it is a false pass
 pub data HasHappen (link : Link) : Event → Bool → Happening → Type 0 where
@@ -46,14 +47,14 @@ unfolding newest_by heard_by
 brings link Packets flips sent packet false_pass n e = brings_data flips sent packet false_pass n e
 brings link Answers flips sent packet false_pass n e = brings_answer flips sent packet false_pass n e
 
-carried-does : (w : WorldState) (way : Way) (flips : List ℕ) (sent : Packet) (c : Carried) → newest_by way w.link ≡ Some sent → carried_of sent flips ≡ c → Does w (delivery way flips) (carried w way c)
-unfolding carried
+carried-does : (w : WorldState) (way : Way) (flips : List ℕ) (sent : Packet) (c : Carried) → newest_by way w.link ≡ Some sent → carried_of sent flips ≡ c → Does w (delivery way flips) (delivered w way (heard_of way c))
+unfolding delivered heard_of
 carried-does w way flips sent (CarriedLost field) n e = rests (Lost way field) (lost way field)
 carried-does w way flips sent Foreign n e = rests (Ignored way) (ignored way)
 carried-does w way flips sent (Heard packet false_pass) n e = does (heard_by way packet) false_pass (brings w.link way flips sent packet false_pass n e)
 
-delivered-does : (w : WorldState) (way : Way) (flips : List ℕ) (newest : Option Packet) → newest_by way w.link ≡ newest → Does w (delivery way flips) (delivered w way newest flips)
-unfolding delivered
+delivered-does : (w : WorldState) (way : Way) (flips : List ℕ) (newest : Option Packet) → newest_by way w.link ≡ newest → Does w (delivery way flips) (delivered w way (delivery_of way newest flips))
+unfolding delivered delivery_of
 delivered-does w way flips None n = rests (Nothing way) (nothing way)
 delivered-does w way flips (Some sent) n = carried-does w way flips sent (carried_of sent flips) n refl
 

@@ -2,6 +2,7 @@
 -- cases on what the stations answer; and a run by induction.
 use Rattle.std.proofs.Common.{◌≡◌, ℕ, ◌+◌, Bool, true, false, cond, List, [], ◌∷◌, ◌++◌, length, refl, ap, sym, ◌∙◌, arith, append_assoc, append-nil}
 use Rattle.std.proofs.lemmas.List.Sums.{sum_by-cons}
+use Rattle.p25_delivery.specs.Runs.{run_by, steps_by}
 use Rattle.p25_delivery.specs.SenderState.{Sending}
 use Rattle.p25_delivery.specs.ReceiverState.{Receiving}
 use Rattle.p25_delivery.specs.SenderRules.{offered, timed_out, sender_heard, reopened, is_opening}
@@ -119,7 +120,7 @@ step-tells w event = told w event (world_step w event) (step-does w event)
 -- A run adds what its steps tell of.
 
 pub run-delivered : (events : List Event) (w : WorldState) → (world_run w events).link.inbound.received ≡ w.link.inbound.received ++ delivered_in (steps_of w events)
-unfolding world_run steps_of delivered_in
+unfolding run_by steps_by delivered_in
 run-delivered [] w = none w.link.inbound.received
 run-delivered (event ∷ events) w =
     let step = world_step w event in
@@ -128,7 +129,7 @@ run-delivered (event ∷ events) w =
     ∙ append_assoc w.link.inbound.received (delivered_by step.1.kind) (delivered_in (steps_of step.0 events))
 
 pub run-sent : (events : List Event) (w : WorldState) → (world_run w events).link.outbound.sent ≡ w.link.outbound.sent ++ sent_in events (steps_of w events)
-unfolding world_run steps_of sent_in
+unfolding run_by steps_by sent_in
 run-sent [] w = none w.link.outbound.sent
 run-sent (event ∷ events) w =
     let step = world_step w event in
@@ -137,7 +138,7 @@ run-sent (event ∷ events) w =
     ∙ append_assoc w.link.outbound.sent (sent_by event step.1.kind) (sent_in events (steps_of step.0 events))
 
 pub run-acknowledged : (events : List Event) (w : WorldState) → (world_run w events).link.outbound.acknowledged ≡ w.link.outbound.acknowledged + acknowledged_in (steps_of w events)
-unfolding world_run steps_of
+unfolding run_by steps_by
 run-acknowledged [] w = omega arith
 run-acknowledged (event ∷ events) w =
     let step = world_step w event in

@@ -3,6 +3,7 @@ use Rattle.std.proofs.Common.{◌≡◌, ℕ, ◌+◌, ◌≤◌, inl, inr, Bool
 use Rattle.p25_packet_blocks.specs.Parts.{PlainParts}
 use Rattle.p25_packet_blocks.specs.declared.packet.Packet.{Packet}
 use Rattle.p25_packet_blocks.specs.declared.packet.Packet.TheVariants.{Confirmed, Plain}
+use Rattle.p25_delivery.specs.Runs.{run_by, steps_by, EachIs}
 use Rattle.p25_delivery.specs.MessageBlocks.{block_count}
 use Rattle.p25_delivery.specs.SentPackets.{message_packet, blocks_packet, opening_packet}
 use Rattle.p25_delivery.specs.SenderState.{Sending}
@@ -168,7 +169,7 @@ tries-told w event x (rests kind quiet) sound = quiet-tries kind quiet w.link.ou
 tries-told w event x (does happening false_pass has) sound = happening-tries w.link happening sound.outbound
 
 run-tries : (events : List Event) (w : WorldState) (tries : ℕ) → tries ≡ w.link.outbound.sender.tries → AreEvents events → IsSoundLink w.link → tries_in tries (steps_of w events) ≡ (world_run w events).link.outbound.sender.tries
-unfolding AreEvents world_run steps_of tries_in
+unfolding EachIs run_by steps_by tries_in
 run-tries [] w tries e are sound = e
 run-tries (event ∷ events) w tries e are sound =
     let next = world_step w event in

@@ -1,5 +1,4 @@
--- The air between the two stations: a transmission is the unit of a packet, of which the listed bits come inverted. And what
--- a delivery reads as.
+-- The air between the two stations: a transmission is the unit of a packet, of which the listed bits come inverted. And what a delivery reads as.
 use Rattle.std.specs.Prelude.{nat_lt, length, count_by, ℕ, ◌&&◌, Bool, true, false, not, eqb, List, [], ◌∷◌, replicate, Result, Ok, Err, if◌then◌else◌}
 use Rattle.std.specs.Str.{bytes_eq}
 use Rattle.std.proofs.Common.{lit<}
@@ -43,23 +42,21 @@ received_bits packet flips = with_flips (transmission_of packet) flips
 -- a slot is true to the one that was sent: it is Bad, or holds the same block
 unfoldable pub is_true_slot : Slot → Slot → Bool
 is_true_slot sent Bad = true
-is_true_slot Bad (Good block) = false
 is_true_slot (Good was) (Good block) = eqb was.serial block.serial && bytes_eq was.octets block.octets
+is_true_slot sent heard = false
 
 -- slot by slot
 unfoldable pub are_true_slots : List Slot → List Slot → Bool
 are_true_slots [] [] = true
-are_true_slots [] (slot ∷ slots) = false
-are_true_slots (was ∷ sent) [] = false
 are_true_slots (was ∷ sent) (slot ∷ slots) = is_true_slot was slot && are_true_slots sent slots
+are_true_slots sent slots = false
 
 -- a packet that is read is true to the one that was sent: it has the same header, and each slot is Bad or holds the block
 -- sent there, or the octets are the same
 unfoldable pub is_true_to : Packet → Packet → Bool
 is_true_to (Confirmed sent) (Confirmed heard) = bytes_eq sent.head.0 heard.head.0 && are_true_slots sent.slots heard.slots
-is_true_to (Confirmed sent) (Plain heard) = false
-is_true_to (Plain sent) (Confirmed heard) = false
 is_true_to (Plain sent) (Plain heard) = bytes_eq sent.head.0 heard.head.0 && bytes_eq sent.octets heard.octets
+is_true_to sent heard = false
 
 -- a delivery by what its bits read as: it is lost where a field fails; a packet with another network access code is foreign;
 -- every other is heard, and is a false pass where it is not true to the one that was sent

@@ -1,8 +1,7 @@
 pub mod Air
+pub mod Deliveries
 pub mod WorldState
-pub mod Sound
 pub mod Steps
 pub mod Runs
 pub mod RunLaws
-pub mod Inside
 pub mod StepLists

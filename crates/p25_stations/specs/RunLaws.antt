@@ -2,7 +2,8 @@
 use Rattle.std.specs.Prelude.{◌≡◌, ℕ, ◌+◌, ◌≤◌, false, List, [], ◌∷◌, IfSome, Some}
 use Rattle.p25_packet_blocks.specs.declared.packet.Packet.{Packet}
 use Rattle.p25_stations.specs.declared.step.Event.{Event}
-use Rattle.p25_stations.specs.declared.step.Event.TheVariants.{Send, Timeout, Reopen, ToReceiver, ToSender}
+use Rattle.p25_stations.specs.declared.step.Event.TheVariants.{ToReceiver, ToSender}
+use Rattle.p25_delivery.specs.Runs.{MeetAt}
 use Rattle.p25_delivery.specs.declared.step_kind.StepKind.{StepKind}
 use Rattle.p25_delivery.specs.declared.step_kind.StepKind.TheVariants.{Taken, Resent, Reopened, Acknowledged, LinkOpened, Retry, Repeat}
 use Rattle.p25_stations.specs.declared.step.Step.{Step}
@@ -12,24 +13,19 @@ use Rattle.p25_stations.specs.Steps.{world_step}
 
 -- a delivery whose bits arrive within radius of what was sent, or any other event
 unfoldable pub IsWithin : WorldState → Event → Type 0
-IsWithin w (Send message) = Unit {0}
-IsWithin w Timeout = Unit {0}
-IsWithin w Reopen = Unit {0}
 IsWithin w (ToReceiver flips) = IfSome w.link.packet_sent (λ packet. ArrivesWithin packet flips)
 IsWithin w (ToSender flips) = IfSome w.link.answer (λ packet. ArrivesWithin packet flips)
+IsWithin w other = Unit {0}
 
 -- each event of a list, at its moment
-unfoldable pub AreWithin : WorldState → List Event → Type 0
-AreWithin w [] = Unit {0}
-AreWithin w (event ∷ events) = IsWithin w event × AreWithin (world_step w event).0 events
+abbrev pub AreWithin : WorldState → List Event → Type 0
+AreWithin w events = MeetAt world_step IsWithin w events
 
 -- a delivery of which at least two bits come inverted
 unfoldable pub IsTwiceDamaged : WorldState → Event → Type 0
-IsTwiceDamaged w (Send message) = ⊥
-IsTwiceDamaged w Timeout = ⊥
-IsTwiceDamaged w Reopen = ⊥
 IsTwiceDamaged w (ToReceiver flips) = (packet : Packet) × (w.link.packet_sent ≡ Some packet) × (2 ≤ places_within packet flips)
 IsTwiceDamaged w (ToSender flips) = (packet : Packet) × (w.link.answer ≡ Some packet) × (2 ≤ places_within packet flips)
+IsTwiceDamaged w other = ⊥
 
 -- a step that is no false pass
 abbrev pub true_step : StepKind → Step

@@ -1,17 +1,14 @@
 -- What each event makes of the world, and the step that it is.
-use Rattle.std.specs.Prelude.{ℕ, ◌+◌, ◌-◌, ◌^◌, Bool, true, false, min, List, Option, Some, None}
+use Rattle.std.specs.Prelude.{ℕ, ◌+◌, ◌-◌, ◌^◌, Bool, true, false, min, List, Option, Result, Ok, Err}
 use Rattle.p25_packet_blocks.specs.declared.packet.Packet.{Packet}
 use Rattle.p25_delivery.specs.declared.step_kind.Way.{Way}
 use Rattle.p25_delivery.specs.declared.step_kind.Way.TheVariants.{Packets, Answers}
 use Rattle.p25_delivery.specs.declared.step_kind.StepKind.{StepKind}
-use Rattle.p25_delivery.specs.declared.step_kind.StepKind.TheVariants.{Nothing, Lost, Ignored}
 use Rattle.p25_delivery.specs.Link.{Link, Happening, Offering, Time_up, Opening_again, Data_heard, Answer_heard, happens}
-use Rattle.p25_stations.specs.declared.air.Carried.{Carried}
-use Rattle.p25_stations.specs.declared.air.Carried.TheVariants.{Lost as CarriedLost, Foreign, Heard}
 use Rattle.p25_stations.specs.declared.step.Event.{Event}
 use Rattle.p25_stations.specs.declared.step.Event.TheVariants.{Send, Timeout, Reopen, ToReceiver, ToSender}
 use Rattle.p25_stations.specs.declared.step.Step.{Step}
-use Rattle.p25_stations.specs.Air.{carried_of}
+use Rattle.p25_stations.specs.Deliveries.{delivery_of}
 use Rattle.p25_stations.specs.WorldState.{WorldState}
 
 -- so many false passes and one more, where it is one; their number stays at 2^64 - 1 once it stands there
@@ -37,21 +34,18 @@ unfoldable pub newest_by : Way → Link → Option Packet
 newest_by Packets link = link.packet_sent
 newest_by Answers link = link.answer
 
--- what is carried that way comes to its station
-unfoldable pub carried : WorldState → Way → Carried → WorldState × Step
-carried w way (CarriedLost field) = quiet_step w (w.link, Lost way field)
-carried w way Foreign = quiet_step w (w.link, Ignored way)
-carried w way (Heard packet false_pass) = heard_step w false_pass (happens w.link (heard_by way packet))
+-- what is delivered that way comes to its station
+unfoldable pub delivered : WorldState → Way → Result (Packet × Bool) StepKind → WorldState × Step
+delivered w way (Err kind) = quiet_step w (w.link, kind)
+delivered w way (Ok (packet, false_pass)) = heard_step w false_pass (happens w.link (heard_by way packet))
 
--- the newest transmission is delivered that way, where there is one
-unfoldable pub delivered : WorldState → Way → Option Packet → List ℕ → WorldState × Step
-delivered w way None flips = quiet_step w (w.link, Nothing way)
-delivered w way (Some packet) flips = carried w way (carried_of packet flips)
+abbrev pub delivery_step : WorldState → Way → List ℕ → WorldState × Step
+delivery_step w way flips = delivered w way (delivery_of way (newest_by way w.link) flips)
 
 -- what an event makes of the world, and its step
 unfoldable pub world_step : WorldState → Event → WorldState × Step
 world_step w (Send message) = quiet_step w (happens w.link (Offering message))
 world_step w Timeout = quiet_step w (happens w.link Time_up)
 world_step w Reopen = quiet_step w (happens w.link Opening_again)
-world_step w (ToReceiver flips) = delivered w Packets (newest_by Packets w.link) flips
-world_step w (ToSender flips) = delivered w Answers (newest_by Answers w.link) flips
+world_step w (ToReceiver flips) = delivery_step w Packets flips
+world_step w (ToSender flips) = delivery_step w Answers flips

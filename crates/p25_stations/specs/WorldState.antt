@@ -7,9 +7,9 @@ pub record WorldState : Type 0 where
   pub link : Link
   pub false_passes : ℕ
 
--- what contracts see of a world: its state, and for how many steps it has room
-pub record WorldParts : Type 0 where
-  pub state : WorldState
+-- what contracts see of a world, or of a station: its state, and for how many steps it has room
+pub record Roomy (State : Type 0) : Type 0 where
+  pub state : State
   pub spare : ℕ
 
 -- a world before the first step

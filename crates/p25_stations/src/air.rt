@@ -55,9 +55,8 @@ fn invert(bits: &mut BitBuf, flips: &Flips)
     }
 }
 
-/// Answers what comes of a packet that is sent, where the bits at some places of its unit come inverted; no slot of it is
-/// Bad. The unit has the network access code 293 hex and the status symbol 00 throughout, and a place past its end inverts
-/// nothing. Lost comes exactly where `read_packet_unit` refuses the bits, and with its field; Foreign exactly where they
+/// Answers what comes of a packet that is transmitted, where the bits at some places of its unit come inverted; no slot of it
+/// is Bad, and a place past the end of the unit inverts nothing. Lost comes exactly where `read_packet_unit` refuses the bits, and with its field; Foreign exactly where they
 /// read as a packet with another network access code. A packet that is heard is a false pass where its header differs from
 /// the one sent, or a Good slot from the block sent there, or the octets of one that is not confirmed.
 pub fn carry(packet: &Packet, flips: &Flips) -> Carried

@@ -1,10 +1,8 @@
 //! Two packet stations and the air between them: a sender, a receiver, and what comes of a packet that is sent.
 //!
 //! A transmission is the unit of a packet as it is sent, from its first bit on, with the network access code 293 hex and the
-//! status symbol 00 throughout. A world keeps the newest transmission of each direction. An event is a message that is
-//! offered, a timeout, a reopening, or a delivery with the places of the bits that come inverted, counted from the first bit
-//! of the unit. Each event is one step. The rules of the stations and of the air are this project's, over those of
-//! TIA-102.BAAA, Packet Data.
+//! status symbol 00 throughout. Places of bits that come inverted are counted from that first bit. Each event of a world is
+//! one step. The rules of the stations and of the air are this project's, over those of TIA-102.BAAA, Packet Data.
 //!
 //! ```text
 //! let mut world = World::new(alloc);
@@ -13,17 +11,18 @@
 //! ```
 //!
 //! Contracts see what comes of a packet as the function `carried_of`, a world as its state and the number of steps for which
-//! it has room, and each step as the function `world_step`. The theorems in `laws` say what every run keeps, and what every
-//! run without a false pass.
+//! it has room, and each step as the function `world_step`.
 #![tactic(auto)]
 
 mod air;
 pub mod laws;
+mod newest;
 mod step;
 mod truth;
 mod world;
 
 pub use air::{Carried, carry, transmit};
+pub use newest::Newest;
 pub use p25_delivery::{
     Heard, Offer, Receiver, Reopen, Resend, Sender, SenderHeard, StepKind, Way,
 };

@@ -1,6 +1,5 @@
-//! The events of a world, and its steps.
-
 ghost use Rattle.std.specs.Prelude.{◌≡◌, false};
+ghost use Rattle.p25_stations.specs.Steps.{counted_when};
 
 use p25_delivery::StepKind;
 use p25_messages::{Flips, Message};
@@ -37,6 +36,18 @@ impl Step {
         Step {
             kind,
             false_pass: false,
+        }
+    }
+
+    /// Answers so many false passes, and one more where the step is one; the number stays at 2^64 - 1 once it stands there.
+    #[tactic(auto, unfolding(crate::specs::Steps::counted_when))]
+    pub fn counted(&self, false_passes: u64) -> u64
+        ensures { result ≡ counted_when self.now.false_pass false_passes }
+    {
+        if self.false_pass {
+            false_passes.saturating_add(1)
+        } else {
+            false_passes
         }
     }
 }

@@ -1,5 +1,3 @@
-//! Whether a packet that was read is the one that was sent.
-
 ghost use Rattle.std.specs.Prelude.{◌≡◌, ◌&&◌};
 ghost use Rattle.std.specs.Str.{bytes_eq};
 ghost use Rattle.p25_stations.specs.Air.{is_true_slot, are_true_slots, is_true_to};

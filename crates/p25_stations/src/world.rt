@@ -1,11 +1,7 @@
-//! The world of two stations: each step of it, and what it keeps.
-
-ghost use Rattle.std.specs.Prelude.{◌≡◌, ◌+◌, ◌<◌, ◌≤◌, length, OnOk, OnErr, IfOk, IfSome};
-ghost use Rattle.p25_packet_blocks.specs.Sendable.{IsSendable};
-ghost use Rattle.p25_delivery.specs.Link.{newest_after};
+ghost use Rattle.std.specs.Prelude.{◌≡◌, ◌+◌, ◌<◌, ◌≤◌, length, OnOk, OnErr, IfOk};
 ghost use Rattle.p25_stations.specs.Steps.{world_step};
 
-use crate::air::{Carried, carry};
+use crate::newest::Newest;
 use crate::step::{Event, Step};
 use p25_delivery::{Inbound, Outbound, StepKind, Way};
 use p25_messages::{Flips, MessageList};
@@ -18,22 +14,24 @@ use std::marker::Model;
 pub struct World {
     outbound: Outbound,
     inbound: Inbound,
-    packet_sent: Option<Packet>,
-    answer: Option<Packet>,
+    packet_sent: Newest,
+    answer: Newest,
     false_passes: u64,
 }
 
 impl Model for World {
-    ghost use Rattle.p25_stations.specs.WorldState.{WorldParts};
+    ghost use Rattle.std.specs.Prelude.{min};
+    ghost use Rattle.p25_stations.specs.WorldState.{WorldState, Roomy};
 
-    ghost Value = { WorldParts };
+    ghost Value = { Roomy WorldState };
 
-    ghost use Rattle.p25_stations.specs.Sound.{IsSound};
-    ghost use Rattle.p25_stations.specs.Inside.{state_of, spare_of};
-
-    ghost view = { λ w. record { state = state_of w; spare = spare_of w } };
-
-    ghost invariant = { λ w. IsSound (state_of w) };
+    ghost view = { λ w. record {
+      state = record {
+        link = record { outbound = w.outbound.half; inbound = w.inbound.half; packet_sent = w.packet_sent; answer = w.answer };
+        false_passes = w.false_passes;
+      };
+      spare = min w.outbound.spare w.inbound.spare;
+    } };
 }
 
 impl World {
@@ -47,8 +45,8 @@ impl World {
         World {
             outbound: Outbound::new(alloc),
             inbound: Inbound::new(alloc),
-            packet_sent: None,
-            answer: None,
+            packet_sent: Newest::new(),
+            answer: Newest::new(),
             false_passes: 0,
         }
     }
@@ -103,7 +101,7 @@ impl World {
     }
 
     /// Answers the step that an event is, and has it happen. There is room for it, and it takes no memory.
-    #[tactic(auto, unfolding(crate::specs::Steps::world_step))]
+    #[tactic(auto, unfolding(crate::specs::Steps::world_step, p25_delivery::specs::Link::happens, p25_delivery::specs::Link::with_outbound))]
     pub fn step_ready(&mut self, event: &Event) -> Step
         requires { 0 < self.old.spare }
         ensures state { self.new.state ≡ (world_step self.old.state event.now).0 }
@@ -112,12 +110,12 @@ impl World {
     {
         match event {
             Event::Send(message) => {
-                Step::quiet(keep(&mut self.packet_sent, self.outbound.offer(message)))
+                Step::quiet(self.packet_sent.keep(self.outbound.offer(message)))
             }
-            Event::Timeout => Step::quiet(keep(&mut self.packet_sent, self.outbound.time_out())),
+            Event::Timeout => Step::quiet(self.packet_sent.keep(self.outbound.time_out())),
             Event::Reopen => {
                 let delivered = self.inbound.received().len() as u64;
-                Step::quiet(keep(&mut self.packet_sent, self.outbound.reopen(delivered)))
+                Step::quiet(self.packet_sent.keep(self.outbound.reopen(delivered)))
             }
             Event::ToReceiver(flips) => self.deliver(Way::Packets, flips),
             Event::ToSender(flips) => self.deliver(Way::Answers, flips),
@@ -136,23 +134,12 @@ impl World {
     }
 }
 
-// Makes what a call of a half sends the newest transmission of its direction, and answers what happened.
-fn keep(newest: &mut Option<Packet>, called: (StepKind, Option<Packet>)) -> StepKind
-    ensures newest { newest.new ≡ newest_after called.1 newest.old }
-    ensures kind { result ≡ called.0 }
-{
-    let (kind, sent) = called;
-    if sent.is_some() {
-        *newest = sent;
-    }
-    kind
-}
-
 impl World {
     ghost use Rattle.p25_delivery.specs.Link.{happens};
-    ghost use Rattle.p25_stations.specs.Steps.{heard_by, newest_by, delivered};
+    ghost use Rattle.p25_stations.specs.Steps.{heard_by, newest_by, delivery_step};
 
     // Has a station hear a packet that came that way.
+    #[tactic(auto, unfolding(crate::specs::Steps::heard_by, p25_delivery::specs::Link::happens, p25_delivery::specs::Link::with_outbound, p25_delivery::specs::Link::with_inbound))]
     fn hear(&mut self, way: Way, packet: &Packet) -> StepKind
         requires { 0 < self.old.spare }
         ensures link { self.new.state.link ≡ (happens self.old.state.link (heard_by way packet.now)).0 }
@@ -161,16 +148,15 @@ impl World {
         ensures spare { self.old.spare ≤ self.new.spare + 1 }
     {
         match way {
-            Way::Packets => keep(&mut self.answer, self.inbound.hear(packet)),
-            Way::Answers => keep(&mut self.packet_sent, self.outbound.hear(packet)),
+            Way::Packets => self.answer.keep(self.inbound.hear(packet)),
+            Way::Answers => self.packet_sent.keep(self.outbound.hear(packet)),
         }
     }
 
     // The newest transmission of a way.
     #[tactic(auto, unfolding(crate::specs::Steps::newest_by))]
-    fn newest(&self, way: Way) -> &Option<Packet>
-        ensures newest { result.now ≡ newest_by way self.now.state.link }
-        ensures sendable { IfSome result.now IsSendable }
+    fn newest(&self, way: Way) -> &Newest
+        ensures { result.now ≡ newest_by way self.now.state.link }
     {
         match way {
             Way::Packets => &self.packet_sent,
@@ -179,26 +165,20 @@ impl World {
     }
 
     // Delivers the newest transmission of a way.
-    #[tactic(auto, unfolding(crate::specs::Steps::delivered, crate::specs::Steps::carried, crate::specs::Steps::counted_when))]
+    #[tactic(auto, unfolding(crate::specs::Steps::delivered))]
     fn deliver(&mut self, way: Way, flips: &Flips) -> Step
         requires { 0 < self.old.spare }
-        ensures state { self.new.state ≡ (delivered self.old.state way (newest_by way self.old.state.link) flips.now).0 }
-        ensures step { result ≡ (delivered self.old.state way (newest_by way self.old.state.link) flips.now).1 }
+        ensures state { self.new.state ≡ (delivery_step self.old.state way flips.now).0 }
+        ensures step { result ≡ (delivery_step self.old.state way flips.now).1 }
         ensures spare { self.old.spare ≤ self.new.spare + 1 }
     {
-        let carried = match self.newest(way) {
-            None => return Step::quiet(StepKind::Nothing { way }),
-            Some(packet) => carry(packet, flips),
-        };
-        match carried {
-            Carried::Lost(field) => Step::quiet(StepKind::Lost { way, field }),
-            Carried::Foreign => Step::quiet(StepKind::Ignored { way }),
-            Carried::Heard { packet, false_pass } => {
+        match self.newest(way).deliver(way, flips) {
+            Err(kind) => Step::quiet(kind),
+            Ok((packet, false_pass)) => {
                 let kind = self.hear(way, &packet);
-                if false_pass {
-                    self.false_passes = self.false_passes.saturating_add(1);
-                }
-                Step { kind, false_pass }
+                let step = Step { kind, false_pass };
+                self.false_passes = step.counted(self.false_passes);
+                step
             }
         }
     }

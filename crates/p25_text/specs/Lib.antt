@@ -5,3 +5,5 @@ pub mod Voices
 pub mod Grammar
 pub mod ItemTexts
 pub mod CallTexts
+-- laws of impls: nothing to believe
+pub mod UnitReadLaws

@@ -1,6 +1,7 @@
 //! Units read from lines.
 
-ghost use Rattle.std.specs.Prelude.{◌≡◌, ℕ, ◌<◌, IfOk, length, drop};
+ghost use Rattle.std.specs.Prelude.{◌≡◌, ◌↔◌, ℕ, ◌<◌, IfOk, Err, length, drop};
+ghost use Rattle.p25_line.specs.declared.fault.LineFault.TheVariants.{Long};
 ghost use Rattle.std.specs.Option.{option_map};
 ghost use Rattle.p25_units.specs.UnitParts.{UnitParts};
 ghost use Rattle.p25_units.specs.Units.{IsSendableUnit};
@@ -13,7 +14,7 @@ use super::names::UnitKind;
 use super::packets::{confirmed_value, plain_value};
 use super::values::{Values, nac_value, values_of_words};
 use super::voices::{header_value, ldu1_value, ldu2_value, tdulc_value};
-use p25_line::{LineFault, LineWords};
+use p25_line::{LineFault, LineReader, LineWords, read_whole};
 use p25_packet_blocks::{PLAIN_FORMAT, Packet, RESPONSE_FORMAT};
 use p25_units::{Body, Unit, VoiceUnit};
 
@@ -25,15 +26,33 @@ use p25_units::{Body, Unit, VoiceUnit};
 /// or there are not as many blocks as the header has to follow, or not twelve octets for each of them less four.
 pub fn read_line(line: &[u8]) -> Result<Unit, LineFault>
     ensures unit { result ≡ read_line_of line.now }
+    ensures long { (result ≡ Err Long) ↔ (8192 < length line.now) }
     ensures text { IfOk result (λ unit. text_of unit ≡ line.now) }
     ensures fits { IfOk result (λ unit. IsSendableUnit unit) }
     ensures each { (unit : UnitParts) → IsSendableUnit unit → text_of unit ≡ line.now → result ≡ Ok unit }
 {
-    read_words(&LineWords::read(line)?)
+    read_whole::<UnitLines>(line)
+}
+
+// Lines that are texts of units.
+struct UnitLines;
+
+impl LineReader for UnitLines {
+    ghost use Rattle.p25_text.specs.UnitReadLaws.{unit_words_not_long};
+
+    type Value = Unit;
+
+    ghost words_read = { unit_of_words };
+
+    ghost not_long = { unit_words_not_long };
+
+    fn read_words(words: &LineWords) -> Result<Unit, LineFault> {
+        read_unit_words(words)
+    }
 }
 
 // The unit of the words of a line.
-fn read_words(words: &LineWords) -> Result<Unit, LineFault>
+fn read_unit_words(words: &LineWords) -> Result<Unit, LineFault>
     ensures { result ≡ unit_of_words words.now }
 {
     let Some(kind) = UnitKind::named(words.first()) else {

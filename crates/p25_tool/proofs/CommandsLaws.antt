@@ -18,7 +18,6 @@ use Rattle.p25_recording_filters.specs.declared.reports.show.Show.{Show}
 use Rattle.p25_recording_filters.specs.declared.reports.check.Check.{Check}
 use Rattle.p25_recording_filters.specs.declared.reports.changed.Change.TheVariants.{Repaired, Bridged}
 use Rattle.p25_tool.specs.Buildings.{build_rules}
-use Rattle.p25_stations.specs.Runs.{steps_of, world_run}
 use Rattle.p25_stations.specs.Steps.{world_step}
 use Rattle.p25_stations.specs.WorldState.{WorldState, first_world}
 use Rattle.p25_stations.specs.declared.step.Event.{Event}
@@ -31,7 +30,6 @@ use Rattle.p25_recording_filters.specs.ItemOutputs.{check_ending, check_line, fa
 use Rattle.p25_calls.specs.Taking.{fresh_caller}
 use Rattle.p25_fragments.specs.LongState.{LongState, first_long}
 use Rattle.p25_fragments.specs.LongSteps.{long_step}
-use Rattle.p25_fragments.specs.LongRuns.{long_run, long_steps_of}
 use Rattle.p25_fragments.specs.declared.long_step.LongEvent.{LongEvent}
 use Rattle.p25_fragments.specs.declared.long_step.LongStep.{LongStep}
 use Rattle.p25_fragment_script.specs.LongScript.{long_event_of}
@@ -40,6 +38,7 @@ use Rattle.p25_tool.specs.FragmentRules.{fragment_rules, told_long}
 use Rattle.p25_recording_filters.specs.Softs.{fresh_soft, soft_future}
 use Rattle.p25_recording_filters.specs.Recordings.{fresh, recording_future}
 use Rattle.p25_tool.specs.Runs.{command_future}
+use Rattle.p25_tool.proofs.ScriptRunsLaws.{script-pauses, script-writes}
 use Rattle.p25_recording_filters.proofs.CallReportsLaws.{reported-calls}
 use Rattle.p25_recording_filters.proofs.ReportsLaws.{behind-check, reported-changed, reported-check, reported-show}
 
@@ -118,33 +117,11 @@ build-alike status = record {
   pauses = λ is octets. first_line-pauses read_line_of _ _ false (record { status = status }) is octets;
 }
 
--- the lines of steps, one after the other, and the world after them
-told : (events : List Event) (world : WorldState) → texts_of told_step world events ≡ map step_line (steps_of world events)
-unfolding texts_of steps_of
-told [] world = refl
-told (event ∷ events) world = ap (λ (ts : List (List ℕ)). step_line (world_step world event).1 ∷ ts) (told events (world_step world event).0)
-
-run_behind : (events : List Event) (world : WorldState) → machine_behind told_step world events ≡ world_run world events
-unfolding machine_behind world_run
-run_behind [] world = refl
-run_behind (event ∷ events) world = run_behind events (world_step world event).0
-
-concat_lines : (steps : List Step) → concat (map step_line steps) ≡ flat_map step_line steps
-concat_lines [] = refl
-concat_lines (step ∷ steps) = ap (λ (zs : List ℕ). step_line step ++ zs) (concat_lines steps)
-
 pub stations-alike : AreAlike (line_future station_rules (first_line first_world)) (command_future StationsIt)
 stations-alike = record {
-  writes = λ is octets.
-      let lines = lines_in is [] octets in
-      let events = read_of event_of lines in
-      first_line-writes event_of told_step closing_line true first_world is octets
-      ∙ ap₂ (λ (zs : List ℕ) (w : WorldState). zs ++ closing_by is (refusal_in event_of 1 lines) (closing_line w))
-      (ap concat (told events first_world) ∙ concat_lines (steps_of first_world events)) (run_behind events first_world);
+  writes = script-writes event_of world_step step_line closing_line first_world;
   ends = λ is octets. first_line-ends event_of told_step closing_line true first_world is octets;
-  pauses = λ is octets.
-      first_line-pauses event_of told_step closing_line true first_world is octets
-      ∙ ap texts_before (told (read_of event_of (lines_in is [] octets)) first_world);
+  pauses = script-pauses event_of world_step step_line closing_line first_world;
 }
 
 pub calls-alike : (report : CallsParts) → report ≡ record { caller = fresh_caller; count = 0 } → AreAlike (recording_future calls_reporting (fresh report)) (command_future CallsIt)
@@ -155,33 +132,11 @@ calls-alike report empty = record {
   pauses = λ is octets. refl;
 }
 
--- the texts of steps of long messages, one after the other, and the world after them
-told-long : (events : List LongEvent) (world : LongState) → texts_of told_long world events ≡ map long_step_text_of (long_steps_of world events)
-unfolding texts_of long_steps_of
-told-long [] world = refl
-told-long (event ∷ events) world = ap (λ (ts : List (List ℕ)). long_step_text_of (long_step world event).1 ∷ ts) (told-long events (long_step world event).0)
-
-long_run-behind : (events : List LongEvent) (world : LongState) → machine_behind told_long world events ≡ long_run world events
-unfolding machine_behind long_run
-long_run-behind [] world = refl
-long_run-behind (event ∷ events) world = long_run-behind events (long_step world event).0
-
-concat_texts : (steps : List LongStep) → concat (map long_step_text_of steps) ≡ flat_map long_step_text_of steps
-concat_texts [] = refl
-concat_texts (step ∷ steps) = ap (λ (zs : List ℕ). long_step_text_of step ++ zs) (concat_texts steps)
-
 pub fragments-alike : AreAlike (line_future fragment_rules (first_line first_long)) (command_future FragmentsIt)
 fragments-alike = record {
-  writes = λ is octets.
-      let lines = lines_in is [] octets in
-      let events = read_of long_event_of lines in
-      first_line-writes long_event_of told_long long_closing_line true first_long is octets
-      ∙ ap₂ (λ (zs : List ℕ) (w : LongState). zs ++ closing_by is (refusal_in long_event_of 1 lines) (long_closing_line w))
-      (ap concat (told-long events first_long) ∙ concat_texts (long_steps_of first_long events)) (long_run-behind events first_long);
+  writes = script-writes long_event_of long_step long_step_text_of long_closing_line first_long;
   ends = λ is octets. first_line-ends long_event_of told_long long_closing_line true first_long is octets;
-  pauses = λ is octets.
-      first_line-pauses long_event_of told_long long_closing_line true first_long is octets
-      ∙ ap texts_before (told-long (read_of long_event_of (lines_in is [] octets)) first_long);
+  pauses = script-pauses long_event_of long_step long_step_text_of long_closing_line first_long;
 }
 
 pub soft-alike : AreAlike (soft_future fresh_soft) (command_future SoftIt)

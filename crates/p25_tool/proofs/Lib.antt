@@ -1,5 +1,6 @@
 pub mod WordsLaws
 pub mod SamplingLaws
+pub mod ScriptRunsLaws
 pub mod CommandsLaws
 pub mod RunsLaws
 pub mod ScriptsLaws

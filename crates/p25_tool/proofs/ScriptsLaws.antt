@@ -5,6 +5,7 @@ use Rattle.std.specs.Prelude.{IfSome}
 use Rattle.std.specs.List.{flat_map}
 use Rattle.std.proofs.lemmas.List.{take_all}
 use Rattle.std.proofs.lemmas.Bool.Decides.{nat_tests}
+use Rattle.p25_delivery.specs.Runs.{EachIs}
 use Rattle.p25_io.specs.Octets.{Appended}
 use Rattle.p25_io.proofs.OctetsLaws.{Appended-same}
 use Rattle.p25_line.specs.declared.fault.LineFault.{LineFault}
@@ -142,7 +143,7 @@ is_event : (line : List ℕ) (event : Event) → event_of line ≡ Ok event → 
 is_event line event same = IsEvent-IsScripted event (IsLineOf-event_of line event same).fits
 
 are-events : (lines : List (List ℕ)) (events : List Event) → map event_of lines ≡ map (λ e. Ok e) events → AreEvents events
-unfolding AreEvents
+unfolding EachIs
 are-events lines [] same = tt
 are-events [] (event ∷ events) same = cc same
 are-events (line ∷ lines) (event ∷ events) same =
@@ -173,7 +174,7 @@ is-long_event (Long message) fits = fits.short
 is-long_event (Inner event) fits = fits.no_offer
 
 are-long_events : (lines : List (List ℕ)) (events : List LongEvent) → map long_event_of lines ≡ map (λ e. Ok e) events → AreLongEvents events
-unfolding AreLongEvents
+unfolding EachIs
 are-long_events lines [] same = tt
 are-long_events [] (event ∷ events) same = cc same
 are-long_events (line ∷ lines) (event ∷ events) same =
@@ -205,7 +206,7 @@ is-duplex_event : (line : List ℕ) (event : DuplexEvent) → duplex_event_of li
 is-duplex_event line event same = read-event line (Ok event) (sym same)
 
 are-duplex_events : (lines : List (List ℕ)) (events : List DuplexEvent) → map duplex_event_of lines ≡ map (λ e. Ok e) events → AreDuplexEvents events
-unfolding AreDuplexEvents
+unfolding EachIs
 are-duplex_events lines [] same = tt
 are-duplex_events [] (event ∷ events) same = cc same
 are-duplex_events (line ∷ lines) (event ∷ events) same =

@@ -1,39 +1,23 @@
-use Rattle.std.proofs.Common.{◌≡◌, ◌≤◌, Err, length, sym, ap, subst, ◌∙◌}
-use Rattle.std.proofs.lemmas.Result.{err_from_is_err_and}
-use Rattle.p25_line.proofs.LineReadLaws.{line_read-found, line_read-refused}
-use Rattle.p25_duplex_script.specs.DuplexLines.{duplex_by_words, duplex_event_of}
+use Rattle.std.proofs.Common.{◌≡◌, ◌≤◌, length, sym, ap, subst, ◌∙◌}
+use Rattle.p25_duplex_script.specs.DuplexLines.{duplex_event_of}
 use Rattle.p25_duplex_script.proofs.DuplexLineLaws.{event_of-text, read-event, read-facts}
 use Rattle.p25_duplex_script.proofs.read.read_duplex_event.Goals as goal
 
--- the line has words, and is read as they are
-read : (c : goal.After-read_words) → c.read_words.result ≡ duplex_event_of c.args.line.now
+read : (c : goal.After-read_whole) → c.read_whole.result ≡ duplex_event_of c.args.line.now
 unfolding duplex_event_of
-read c = c.read_words.ensures ∙ sym (line_read-found duplex_by_words c.args.line.now c.in_ok-read.field-0 (sym c.read.ensures.words ∙ c.in_ok-read.was))
-
--- or it has none, and is refused
-refused : (c : goal.After-from_residual) → c.from_residual.result ≡ duplex_event_of c.args.line.now
-unfolding duplex_event_of
-refused c =
-    let fault = err_from_is_err_and c.from_residual.result c.from_residual.ensures.1 in
-    fault.1 ∙ ap Err fault.2 ∙ sym (line_read-refused duplex_by_words c.args.line.now c.in_err-read.field-0.0 (sym c.read.ensures.words ∙ c.in_err-read.was))
+read c = c.read_whole.ensures.read
 
 pub returns-clause-event : goal.returns-clause-event
 returns-clause-event c = read c
 
 pub returns-clause-text : goal.returns-clause-text
-returns-clause-text c = (read-facts c.args.line.now c.read_words.result (read c)).0
+returns-clause-text c = (read-facts c.args.line.now c.read_whole.result (read c)).0
 
 pub returns-clause-fits : goal.returns-clause-fits
-returns-clause-fits c = (read-facts c.args.line.now c.read_words.result (read c)).1
+returns-clause-fits c = (read-facts c.args.line.now c.read_whole.result (read c)).1
 
 pub returns-clause-kept : goal.returns-clause-kept
-returns-clause-kept c = read-event c.args.line.now c.read_words.result (read c)
+returns-clause-kept c = read-event c.args.line.now c.read_whole.result (read c)
 
 pub returns-clause-each : goal.returns-clause-each
 returns-clause-each c event fits short text = read c ∙ ap duplex_event_of (sym text) ∙ event_of-text event fits (subst (λ line. length line ≤ 8192) (sym text) short)
-
-pub returns-in_err-read-clause-event : goal.returns-in_err-read-clause-event
-returns-in_err-read-clause-event c = refused c
-
-pub returns-in_err-read-clause-each : goal.returns-in_err-read-clause-each
-returns-in_err-read-clause-each c event fits short text = refused c ∙ ap duplex_event_of (sym text) ∙ event_of-text event fits (subst (λ line. length line ≤ 8192) (sym text) short)

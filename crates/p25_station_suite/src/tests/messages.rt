@@ -1,6 +1,7 @@
-//! Each call once.
+//! Messages, their lists, and places of wrong bits: each call once.
 
-use super::{Flips, LongMessage, Message, MessageList};
+use p25_fragments::LongMessage;
+use p25_messages::{Flips, Message, MessageList};
 use std::test::Fail;
 
 #[test]

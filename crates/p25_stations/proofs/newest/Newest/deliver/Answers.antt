@@ -3,7 +3,7 @@ use Rattle.std.specs.Prelude.{IfSome}
 use Rattle.p25_packet_blocks.specs.declared.packet.Packet.{Packet}
 use Rattle.p25_packet_blocks.specs.Sendable.{IsSendable}
 use Rattle.p25_stations.proofs.AirLaws.{sendable-whole}
-use Rattle.p25_duplex.proofs.station.Station.deliver.Goals as goal
+use Rattle.p25_stations.proofs.newest.Newest.deliver.Goals as goal
 
 pub carry-carried-requires : goal.carry-carried-requires
-carry-carried-requires c = sendable-whole c.in-Some.packet (subst (λ (newest : Option Packet). IfSome newest IsSendable) c.in-Some.is c.other.invariant)
+carry-carried-requires c = sendable-whole c.in-Some.packet (subst (λ (newest : Option Packet). IfSome newest IsSendable) c.in-Some.is c.self.invariant)

@@ -1,0 +1,68 @@
+ghost use Rattle.std.specs.Prelude.{◌≡◌, None, IfSome};
+ghost use Rattle.p25_packet_blocks.specs.Sendable.{IsSendable};
+ghost use Rattle.p25_delivery.specs.Link.{newest_after};
+ghost use Rattle.p25_stations.specs.Deliveries.{delivery_of};
+
+use crate::air::{Carried, carry};
+use p25_delivery::{StepKind, Way};
+use p25_messages::Flips;
+use p25_packet_blocks::Packet;
+use std::marker::Model;
+
+/// The newest transmission of a direction of the air, where there is one. Contracts see it as that packet, which can be sent.
+#[derive(Drop)]
+pub struct Newest {
+    packet: Option<Packet>,
+}
+
+impl Model for Newest {
+    ghost use Rattle.std.specs.Prelude.{Option, IfSome};
+    ghost use Rattle.p25_packet_blocks.specs.declared.packet.Packet.{Packet};
+    ghost use Rattle.p25_packet_blocks.specs.Sendable.{IsSendable};
+
+    ghost Value = { Option Packet };
+
+    ghost view = { λ n. n.packet };
+
+    ghost invariant = { λ n. IfSome n.packet IsSendable };
+}
+
+impl Newest {
+    /// Answers a direction that has carried nothing.
+    pub fn new() -> Newest
+        ensures { result ≡ None }
+    {
+        Newest { packet: None }
+    }
+
+    /// Makes what a call of a half sends the newest transmission, and answers what happened.
+    #[tactic(auto, unfolding(p25_delivery::specs::Link::newest_after))]
+    pub fn keep(&mut self, called: (StepKind, Option<Packet>)) -> StepKind
+        requires { IfSome called.1 IsSendable }
+        ensures newest { self.new ≡ newest_after called.1 self.old }
+        ensures kind { result ≡ called.0 }
+    {
+        let (kind, sent) = called;
+        if sent.is_some() {
+            self.packet = sent;
+        }
+        kind
+    }
+
+    /// Answers what comes of it that way: the packet that is heard, and whether it is a false pass, as `carry` says; or the
+    /// step in which nothing is heard, which is Lost or Ignored, or Nothing where there is no transmission.
+    #[tactic(auto, unfolding(crate::specs::Deliveries::delivery_of, crate::specs::Deliveries::heard_of))]
+    pub fn deliver(&self, way: Way, flips: &Flips) -> Result<(Packet, bool), StepKind>
+        ensures { result ≡ delivery_of way self.now flips.now }
+    {
+        let carried = match &self.packet {
+            None => return Err(StepKind::Nothing { way }),
+            Some(packet) => carry(packet, flips),
+        };
+        match carried {
+            Carried::Lost(field) => Err(StepKind::Lost { way, field }),
+            Carried::Foreign => Err(StepKind::Ignored { way }),
+            Carried::Heard { packet, false_pass } => Ok((packet, false_pass)),
+        }
+    }
+}
