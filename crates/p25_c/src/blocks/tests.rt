@@ -72,6 +72,7 @@ fn blocks_of_three_quarter_rate(rt: HostRuntime) {
 fn levels_of_zeros(rt: HostRuntime) {
     let mut levels = [32; 98];
     for i in 0..49 {
+        assert!(rt; 2 * i + 1 < levels.len());
         levels[2 * i + 1] = -32;
     }
     let mut halves = [9; 12];
