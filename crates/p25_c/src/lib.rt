@@ -5,7 +5,7 @@
 //! written goes into room that the caller gives: where there is too little, nothing is written.
 //!
 //! ```text
-//! int64 place = 0;
+//! uint64_t place = 0;
 //! while (p25_next_item(octets, count, 0, place, true, &item, text, sizeof text) == 1) {
 //!     puts(text);
 //!     place = item.place + item.bits;

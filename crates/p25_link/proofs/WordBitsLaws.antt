@@ -1,5 +1,5 @@
 -- What the readers and writers of words have made is the word, or its symbols: the bits between them are those of the definitions.
-use Rattle.std.proofs.Common.{◌≡◌, ℕ, Bool, List, [], ◌++◌, ap, ap₂, ◌∙◌}
+use Rattle.std.proofs.Common.{◌≡◌, ℕ, Bool, List, ◌++◌, ap, ◌∙◌}
 use Rattle.p25_bits.specs.Bits.{bits_of, field_of, octet_bits, part}
 use Rattle.p25_bits.specs.Numbers.{octets_from}
 use Rattle.p25_gf64.specs.declared.symbol.Sym.{Sym}
@@ -8,14 +8,6 @@ use Rattle.p25_link.specs.declared.encryption_sync.EncryptionSync.{EncryptionSyn
 use Rattle.p25_link.specs.declared.header_word.HeaderWord.{HeaderWord}
 use Rattle.p25_link.specs.Symbols.{symbols_in, symbol_bits}
 use Rattle.p25_link.specs.Words.{link_word_bits, sync_word_bits, header_word_bits, link_of_bits, sync_of_bits, header_of_bits, link_symbols, sync_symbols, header_symbols, link_of_symbols, sync_of_symbols, header_of_symbols}
-
--- what is put after nothing stands alone
-pub put_first : (start bits more : List Bool) → start ≡ [] → bits ≡ start ++ more → bits ≡ more
-put_first start bits more none is = is ∙ ap (λ xs. xs ++ more) none
-
--- one more number after what was put
-pub put_next : (before bits : List Bool) (width number value : ℕ) (made : List Bool) → before ≡ made → number ≡ value → bits ≡ before ++ bits_of width number → bits ≡ made ++ bits_of width value
-put_next before bits width number value made so_far same is = is ∙ ap₂ (λ xs n. xs ++ bits_of width n) so_far same
 
 -- the symbols of a link control whose bits were put
 pub link_put : (link : LinkControl) (bits : List Bool) → bits ≡ octet_bits link.0 → symbols_in 12 bits ≡ link_symbols link

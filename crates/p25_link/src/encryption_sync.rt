@@ -3,8 +3,7 @@
 ghost use Rattle.std.specs.Prelude.{◌≡◌, length};
 ghost use Rattle.p25_link.specs.Words.{sync_symbols, sync_of_symbols, IsEncryptionSync};
 
-use crate::symbols::{first_octets, put_octets, put_symbols, take_symbols};
-use p25_bits::BitBuf;
+use crate::symbols::{first_octets, octets_number, put_symbols, symbols_number};
 use p25_gf64::Sym;
 
 /// What a receiver needs to decrypt a call that it joins. TIA-102.BAAA, Encryption Sync Word.
@@ -26,12 +25,10 @@ impl EncryptionSync {
         ensures back { sync_of_symbols result ≡ self.now }
         ensures sound { IsEncryptionSync self.now }
     {
-        let mut bits = BitBuf::new();
-        put_octets(&self.mi, &mut bits);
-        bits.put_field(u64::from(self.algid), 8);
-        bits.put_field(u64::from(self.kid), 16);
+        let mi = octets_number(&self.mi);
+        let number = 65536 * (256 * mi + u128::from(self.algid)) + u128::from(self.kid);
         let mut symbols = [Sym::ZERO; 16];
-        take_symbols(&bits, &mut symbols);
+        put_symbols(number, &mut symbols);
         symbols
     }
 
@@ -40,12 +37,11 @@ impl EncryptionSync {
         ensures value { result ≡ sync_of_symbols symbols.now }
         ensures back { sync_symbols result ≡ symbols.now }
     {
-        let mut bits = BitBuf::new();
-        put_symbols(symbols, &mut bits);
+        let number = symbols_number(symbols);
         EncryptionSync {
-            mi: first_octets(&bits),
-            algid: bits.field(72, 8) as u8,
-            kid: bits.field(80, 16) as u16,
+            mi: first_octets(number, 96),
+            algid: ((number >> 16) % 256) as u8,
+            kid: (number % 65536) as u16,
         }
     }
 }

@@ -3,8 +3,7 @@
 ghost use Rattle.std.specs.Prelude.{◌≡◌, length};
 ghost use Rattle.p25_link.specs.Words.{header_symbols, header_of_symbols, IsHeaderWord};
 
-use crate::symbols::{first_octets, put_octets, put_symbols, take_symbols};
-use p25_bits::BitBuf;
+use crate::symbols::{first_octets, octets_number, put_symbols, symbols_number};
 use p25_gf64::Sym;
 
 /// What the header of a call says before its voice. TIA-102.BAAA, Header Code Word.
@@ -30,14 +29,11 @@ impl HeaderWord {
         ensures back { header_of_symbols result ≡ self.now }
         ensures sound { IsHeaderWord self.now }
     {
-        let mut bits = BitBuf::new();
-        put_octets(&self.mi, &mut bits);
-        bits.put_field(u64::from(self.mfid), 8);
-        bits.put_field(u64::from(self.algid), 8);
-        bits.put_field(u64::from(self.kid), 16);
-        bits.put_field(u64::from(self.tgid), 16);
+        let mi = octets_number(&self.mi);
+        let before = 256 * (256 * mi + u128::from(self.mfid)) + u128::from(self.algid);
+        let number = 65536 * (65536 * before + u128::from(self.kid)) + u128::from(self.tgid);
         let mut symbols = [Sym::ZERO; 20];
-        take_symbols(&bits, &mut symbols);
+        put_symbols(number, &mut symbols);
         symbols
     }
 
@@ -46,14 +42,13 @@ impl HeaderWord {
         ensures value { result ≡ header_of_symbols symbols.now }
         ensures back { header_symbols result ≡ symbols.now }
     {
-        let mut bits = BitBuf::new();
-        put_symbols(symbols, &mut bits);
+        let number = symbols_number(symbols);
         HeaderWord {
-            mi: first_octets(&bits),
-            mfid: bits.field(72, 8) as u8,
-            algid: bits.field(80, 8) as u8,
-            kid: bits.field(88, 16) as u16,
-            tgid: bits.field(104, 16) as u16,
+            mi: first_octets(number, 120),
+            mfid: ((number >> 40) % 256) as u8,
+            algid: ((number >> 32) % 256) as u8,
+            kid: ((number >> 16) % 65536) as u16,
+            tgid: (number % 65536) as u16,
         }
     }
 }

@@ -11,6 +11,8 @@
 //! // link.kind() is a call with emergency to group 1234 hex from source 56789A hex
 //! ```
 //!
+//! `symbols_number` and `put_symbols` turn symbols into the number that their bits write, and back.
+//!
 //! Contracts see the symbols of a word as `link_symbols`, `sync_symbols` and `header_symbols`, and the word of symbols as
 //! `link_of_symbols`, `sync_of_symbols` and `header_of_symbols`. `word_laws` says that each undoes the other.
 #![tactic(auto)]
@@ -26,3 +28,4 @@ mod tests;
 pub use encryption_sync::EncryptionSync;
 pub use header_word::HeaderWord;
 pub use link_control::{LinkControl, LinkKind};
+pub use symbols::{put_symbols, symbols_number};

@@ -5,8 +5,12 @@ ghost use Rattle.p25_link.specs.Words.{link_symbols, link_of_symbols, IsLinkCont
 ghost use Rattle.p25_link.specs.Kinds.{link_kind_of, group_call, individual_call};
 ghost use Rattle.p25_bits.specs.Numbers.{triple_at};
 
+<<<<<<< HEAD
 use crate::symbols::{first_octets, put_octets, put_symbols, take_symbols};
 use p25_bits::{BitBuf, pair_at, triple_at};
+=======
+use crate::symbols::{first_octets, octets_number, put_symbols, symbols_number};
+>>>>>>> 1908f575 (Symbols of link control, encryption sync and headers by shifts of one number)
 use p25_gf64::Sym;
 
 /// The nine octets of link control, which say whose voice a call carries and to whom. TIA-102.BAAA, Link Control Word.
@@ -48,10 +52,8 @@ impl LinkControl {
         ensures back { link_of_symbols result ≡ self.now }
         ensures sound { IsLinkControl self.now }
     {
-        let mut bits = BitBuf::new();
-        put_octets(&self.0, &mut bits);
         let mut symbols = [Sym::ZERO; 12];
-        take_symbols(&bits, &mut symbols);
+        put_symbols(octets_number(&self.0), &mut symbols);
         symbols
     }
 
@@ -60,9 +62,7 @@ impl LinkControl {
         ensures value { result ≡ link_of_symbols symbols.now }
         ensures back { link_symbols result ≡ symbols.now }
     {
-        let mut bits = BitBuf::new();
-        put_symbols(symbols, &mut bits);
-        LinkControl(first_octets(&bits))
+        LinkControl(first_octets(symbols_number(symbols), 72))
     }
 
     /// Answers what the octets say of the call. Other comes exactly where the first octet is neither 00 nor 03 hex.

@@ -1,65 +1,61 @@
-//! Octets, and symbols of six bits, in lists of bits.
+//! Symbols of six bits and octets, by the numbers that their bits write.
 
-ghost use Rattle.std.specs.Prelude.{◌≡◌, ◌+◌, ◌*◌, ◌≤◌, ◌++◌, length, drop};
-ghost use Rattle.p25_bits.specs.Bits.{octet_bits};
+ghost use Rattle.std.specs.Prelude.{◌≡◌, ◌+◌, ◌*◌, ◌^◌, ◌<◌, ◌≤◌, length};
+ghost use Rattle.p25_bits.specs.Bits.{bits_of, field_of, octet_bits};
 ghost use Rattle.p25_bits.specs.Numbers.{octets_from};
 ghost use Rattle.p25_link.specs.Words.{AreNineOctets};
-ghost use Rattle.p25_link.specs.Symbols.{symbol_in, symbols_in, symbol_bits};
+ghost use Rattle.p25_link.specs.Symbols.{symbols_in, symbol_bits};
 
-use p25_bits::BitBuf;
 use p25_gf64::Sym;
 
-// Appends the bits of nine octets.
-pub(crate) fn put_octets(octets: &[u8; 9], bits: &mut BitBuf)
-    requires { length bits.old + 72 ≤ 25928 }
-    ensures list { bits.new ≡ bits.old ++ octet_bits octets.now }
-    ensures len { length bits.new ≡ length bits.old + 72 }
+// Answers the number that the bits of nine octets write.
+pub(crate) fn octets_number(octets: &[u8; 9]) -> u128
+    ensures value { result ≡ field_of (octet_bits octets.now) }
+    ensures fits { result < 2 ^ 72 }
     ensures nine { AreNineOctets octets.now }
 {
-    bits.put_numbers(octets, 8);
+    let mut number = 0;
+    for octet in octets {
+        number = 256 * number + u128::from(*octet);
+    }
+    number
 }
 
-// Answers the nine octets that the bits write from their beginning on.
-pub(crate) fn first_octets(bits: &BitBuf) -> [u8; 9]
-    requires { 72 ≤ length bits.now }
-    ensures list { result ≡ octets_from 9 bits.now }
+// Answers the nine octets that the first of `width` bits of a number write.
+pub(crate) fn first_octets(number: u128, width: u32) -> [u8; 9]
+    requires least { 72 ≤ width }
+    requires most { width ≤ 128 }
+    ensures list { result ≡ octets_from 9 (bits_of width number) }
     ensures len { length result ≡ 9 }
 {
     let mut octets = [0; 9];
-    bits.take_numbers(0, 8, &mut octets);
+    for i in 0..9 {
+        octets[i] = ((number >> (width - 8 - 8 * i as u32)) % 256) as u8;
+    }
     octets
 }
 
-// Answers the symbol that the six bits from place `at` on write.
-fn symbol_at(bits: &BitBuf, at: usize) -> Sym
-    requires { at + 6 ≤ length bits.now }
-    ensures { result ≡ symbol_in (drop at bits.now) }
+/// Sets the symbols to those that the last bits of a number write, six each, the last of them the last symbol's.
+pub fn put_symbols(number: u128, symbols: &mut [Sym])
+    requires { length symbols.old ≤ 21 }
+    ensures { symbols.new ≡ symbols_in (length symbols.old) (bits_of (6 * length symbols.old) number) }
 {
-    match Sym::new(bits.field(at, 6) as u8) {
-        Some(symbol) => symbol,
-        None => unreachable!(),
+    let count = symbols.len();
+    for i in 0..count {
+        let value = (number >> (6 * (count - 1 - i))) % 64;
+        symbols[i] = Sym::new(value as u8).unwrap_or(Sym::ZERO);
     }
 }
 
-// Sets the symbols to those that the bits write from their beginning on.
-pub(crate) fn take_symbols(bits: &BitBuf, symbols: &mut [Sym])
-    requires { 6 * length symbols.old ≤ length bits.now }
-    ensures { symbols.new ≡ symbols_in (length symbols.old) bits.now }
+/// Answers the number that the bits of the symbols write, six each.
+pub fn symbols_number(symbols: &[Sym]) -> u128
+    requires { length symbols.now ≤ 21 }
+    ensures value { result ≡ field_of (symbol_bits symbols.now) }
+    ensures fits { result < 2 ^ (6 * length symbols.now) }
 {
-    // The number of bits held bounds every place below.
-    let _ = bits.len();
-    for i in 0..symbols.len() {
-        symbols[i] = symbol_at(bits, 6 * i);
-    }
-}
-
-// Appends the bits of symbols, six each.
-pub(crate) fn put_symbols(symbols: &[Sym], bits: &mut BitBuf)
-    requires { length bits.old + 6 * length symbols.now ≤ 25928 }
-    ensures list { bits.new ≡ bits.old ++ symbol_bits symbols.now }
-    ensures len { length bits.new ≡ length bits.old + 6 * length symbols.now }
-{
+    let mut number = 0;
     for symbol in symbols {
-        bits.put_field(u64::from(symbol.value()), 6);
+        number = 64 * number + u128::from(symbol.value());
     }
+    number
 }

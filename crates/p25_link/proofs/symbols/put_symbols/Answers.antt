@@ -1,17 +1,15 @@
-use Rattle.std.proofs.Common.{◌++◌, Bool, List, ap, ap₂, sym, ◌∙◌, append-nil, arith}
+use Rattle.std.proofs.Common.{◌*◌, arith, length, sym, ◌∙◌}
 use Rattle.p25_bits.specs.Bits.{bits_of}
-use Rattle.p25_gf64.specs.Symbol.{number}
-use Rattle.p25_link.proofs.SymbolsLaws.{symbol_bits-nil, symbol_bits-more}
+use Rattle.p25_link.proofs.SymbolsLaws.{symbols_in-none}
+use Rattle.p25_link.proofs.SymbolNumbersLaws.{symbol_made, symbol_number, symbol_set}
 use Rattle.p25_link.proofs.symbols.put_symbols.Goals as goal
 
-pub loop-symbol-init : goal.loop-symbol-init
-loop-symbol-init c = (sym (ap (λ (xs : List Bool). c.args.bits.now ++ xs) symbol_bits-nil ∙ append-nil c.args.bits.now), omega arith)
+pub loop-i-init : goal.loop-i-init
+loop-i-init c = sym (symbols_in-none (bits_of (6 * length c.args.symbols.now) c.args.number))
 
-pub loop-symbol-preserved : goal.loop-symbol-preserved
-loop-symbol-preserved c =
-    let value = c.from.ensures ∙ c.value.ensures.number ∙ ap number c.symbol-item.is in (
-      c.put_field.ensures.list
-          ∙ ap₂ (λ (xs : List Bool) n. xs ++ bits_of 6 n) c.loop-symbol.invariant.0 value
-          ∙ symbol_bits-more c.args.bits.now c.args.symbols.now c.loop-symbol.symbol-index c.symbol-item.result c.loop-symbol-test.true,
-      omega (arith, c.put_field.ensures.len, c.loop-symbol.invariant.1),
-    )
+pub loop-i-preserved : goal.loop-i-preserved
+loop-i-preserved c =
+    let count = length c.args.symbols.now in
+    let bits = bits_of (6 * count) c.args.number in
+    symbol_set c.loop-i.symbols bits c.loop-i.i c.unwrap_or.result (omega arith) c.loop-i.invariant
+    (c.unwrap_or.ensures ∙ symbol_made _ _ c.new.result _ (symbol_number count c.loop-i.i c.args.number (omega arith)) (omega arith) c.new.ensures.below c.new.ensures.number)

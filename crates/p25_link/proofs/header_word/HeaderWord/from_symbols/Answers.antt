@@ -1,16 +1,16 @@
-use Rattle.std.proofs.Common.{ap, ◌∙◌, arith}
-use Rattle.p25_link.specs.Symbols.{symbol_bits}
+use Rattle.std.proofs.Common.{ap, ◌∙◌, arith, lit≤}
+use Rattle.p25_bits.specs.Bits.{bits_of}
 use Rattle.p25_link.specs.Words.{header_symbols}
+use Rattle.p25_link.proofs.SymbolNumbersLaws.{field_of-part, last_field, symbols_bits}
 use Rattle.p25_link.proofs.WordsLaws.{header_symbols_back}
-use Rattle.p25_link.proofs.WordBitsLaws.{put_first, header_taken}
+use Rattle.p25_link.proofs.WordBitsLaws.{header_taken}
 use Rattle.p25_link.proofs.header_word.HeaderWord.from_symbols.Goals as goal
 
 made : goal.returns-clause-value
 made c =
-    header_taken c.args.symbols.now c.put_symbols.new.bits
-    (record { mi = c.first_octets.result; mfid = c.field.result; algid = c.field-2.result; kid = c.field-3.result; tgid = c.field-4.result })
-    (put_first c.new-bits.result c.put_symbols.new.bits (symbol_bits c.args.symbols.now) c.new-bits.ensures c.put_symbols.ensures.list)
-    c.first_octets.ensures.list c.field.ensures.value c.field-2.ensures.value c.field-3.ensures.value c.field-4.ensures.value
+    let number = c.symbols_number-number.result in
+    header_taken c.args.symbols.now (bits_of 120 number) _ (symbols_bits c.args.symbols.now 20 number (omega arith) c.symbols_number-number.ensures.value)
+    c.first_octets.ensures.list (field_of-part 72 8 120 number (lit≤ tt)) (field_of-part 80 8 120 number (lit≤ tt)) (field_of-part 88 16 120 number (lit≤ tt)) (last_field 104 16 number)
 
 pub returns-clause-value : goal.returns-clause-value
 returns-clause-value c = made c

@@ -1,0 +1,7 @@
+use Rattle.std.proofs.Common.{◌≡◌, length, take}
+use Rattle.p25_bits.specs.Bits.{bits_of}
+use Rattle.p25_bits.specs.Numbers.{octets_from}
+use Rattle.p25_link.proofs.symbols.first_octets.Given as goal
+
+abbrev pub invariant-loop-i : goal.invariant-loop-i
+invariant-loop-i l = record { so_far : take l.i l.octets ≡ octets_from l.i (bits_of l.width l.number); nine : length l.octets ≡ 9 }
