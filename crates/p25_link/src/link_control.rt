@@ -5,12 +5,8 @@ ghost use Rattle.p25_link.specs.Words.{link_symbols, link_of_symbols, IsLinkCont
 ghost use Rattle.p25_link.specs.Kinds.{link_kind_of, group_call, individual_call};
 ghost use Rattle.p25_bits.specs.Numbers.{triple_at};
 
-<<<<<<< HEAD
-use crate::symbols::{first_octets, put_octets, put_symbols, take_symbols};
-use p25_bits::{BitBuf, pair_at, triple_at};
-=======
 use crate::symbols::{first_octets, octets_number, put_symbols, symbols_number};
->>>>>>> 1908f575 (Symbols of link control, encryption sync and headers by shifts of one number)
+use p25_bits::{pair_at, triple_at};
 use p25_gf64::Sym;
 
 /// The nine octets of link control, which say whose voice a call carries and to whom. TIA-102.BAAA, Link Control Word.
