@@ -33,6 +33,8 @@ wrong-not_long read wrong e = cc (wrong, e)
 pub long_event_not_long : (words : List (List ℕ)) → long_event_by_words words ≢ Err Long
 long_event_not_long [] e = cc e
 long_event_not_long (first ∷ others) e =
-    let inner = inner_or_fault (event_by_words (first ∷ others)) in
+    let read = event_by_words (first ∷ others) in
+    let inner = inner-not_long read (event_not_long (first ∷ others)) in
+    let wrong = wrong-not_long (Err WrongKind) refl in
     either-not_long (bytes_eq first (codes "long")) (long_in others) (other_event first others) (long-not_long others)
-    (either-not_long (bytes_eq first (codes "send")) (Err WrongKind) inner (wrong-not_long (Err WrongKind) refl) (inner-not_long (event_by_words (first ∷ others)) (event_not_long (first ∷ others)))) e
+    (either-not_long (bytes_eq first (codes "send")) (Err WrongKind) (inner_or_fault read) wrong inner) e
