@@ -111,11 +111,11 @@ static void identifiers(const struct row *row) {
 int main(void) {
     static const struct row rows[3][9] = {
         {{0, 0, "0"}, {0, 1, "1"}, {0, 4, "4"}, {0, 8, "8, the radius"}, {0, 9, "9, beyond"},
-         {1, 0, "1 marked"}, {8, 0, "8 marked"}, {8, 4, "8 marked, 4 more"}, {16, 0, "16 marked"}},
+         {1, 0, "1 erased"}, {8, 0, "8 erased"}, {8, 4, "8 erased, 4 more"}, {16, 0, "16 erased"}},
         {{0, 0, "0"}, {0, 1, "1"}, {0, 3, "3"}, {0, 6, "6, the radius"}, {0, 7, "7, beyond"},
-         {1, 0, "1 marked"}, {6, 0, "6 marked"}, {6, 3, "6 marked, 3 more"}, {12, 0, "12 marked"}},
+         {1, 0, "1 erased"}, {6, 0, "6 erased"}, {6, 3, "6 erased, 3 more"}, {12, 0, "12 erased"}},
         {{0, 0, "0"}, {0, 1, "1"}, {0, 2, "2"}, {0, 4, "4, the radius"}, {0, 5, "5, beyond"},
-         {1, 0, "1 marked"}, {4, 0, "4 marked"}, {4, 2, "4 marked, 2 more"}, {8, 0, "8 marked"}}};
+         {1, 0, "1 erased"}, {4, 0, "4 erased"}, {4, 2, "4 erased, 2 more"}, {8, 0, "8 erased"}}};
     static const struct row bits[5] = {
         {0, 0, "0"}, {0, 1, "1"}, {0, 3, "3"}, {0, 11, "11, the radius"}, {0, 12, "12, beyond"}};
     for (int i = 0; i < 9; i++) {

@@ -3,7 +3,7 @@ use Rattle.std.proofs.Common.{false, ◌==◌, ◌≡◌, ℕ, ◌<◌, List, []
 use Rattle.std.specs.Prelude.{OnOk, OnErr}
 use Rattle.std.proofs.lemmas.List.{take_all}
 use Rattle.p25_io.specs.Faults.{HasCause}
-use Rattle.p25_io.specs.Octets.{Appended, AppendedFront}
+use Rattle.p25_io.specs.Octets.{Appended, AppendedBeginning}
 use Rattle.p25_io.specs.declared.failed.Failed.{Failed}
 use Rattle.p25_app.specs.Calls.{IsTold, with_end}
 
@@ -29,14 +29,14 @@ filled (octet ∷ octets) tested = omega arith
 
 -- a write of a text tells it, or a beginning of it where the write failed
 pub told : {T : Type 0} (before after : Option (List ℕ)) (faults later : ℕ) (piece text : List ℕ) (result : Result T Failed) → piece ≡ text
-    → OnOk result (Appended before piece after) → OnErr result (AppendedFront before piece after) → HasCause faults later result → IsTold before after faults later text
+    → OnOk result (Appended before piece after) → OnErr result (AppendedBeginning before piece after) → HasCause faults later result → IsTold before after faults later text
 told before after faults later piece text (Ok value) same ok err cause =
     let wrote : Appended before text after = subst (λ (octets : List ℕ). Appended before octets after) same ok in
     record {
-      front = record { count = length text; front = subst (λ (octets : List ℕ). Appended before octets after) (sym (take_all (length text) text (omega arith))) wrote };
+      beginning = record { count = length text; beginning = subst (λ (octets : List ℕ). Appended before octets after) (sym (take_all (length text) text (omega arith))) wrote };
       whole = λ none. wrote;
     }
 told before after faults later piece text (Err failed) same ok err cause = record {
-  front = subst (λ (octets : List ℕ). AppendedFront before octets after) same err;
+  beginning = subst (λ (octets : List ℕ). AppendedBeginning before octets after) same err;
   whole = λ none. absurd (none cause.failed);
 }

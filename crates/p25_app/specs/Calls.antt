@@ -10,7 +10,7 @@ use Rattle.std.specs.declared.io.ErrorKind.TheVariants.{OutOfMemory}
 use Rattle.std.specs.IoError.{error_kind}
 use Rattle.p25_io.specs.Events.{Event}
 use Rattle.p25_io.specs.Faults.{Rose}
-use Rattle.p25_io.specs.Octets.{Appended, AppendedFront}
+use Rattle.p25_io.specs.Octets.{Appended, AppendedBeginning}
 use Rattle.p25_tool.specs.declared.outcome.Outcome.{Outcome}
 use Rattle.p25_tool.specs.declared.outcome.Outcome.TheVariants.{Memory}
 use Rattle.p25_tool.specs.CallRuns.{IsCallRun}
@@ -47,7 +47,7 @@ error_text outcome = with_end (line_of outcome)
 
 -- a text was written to a sink, or a beginning of it where the sink's count of faults rose
 pub record IsTold (before after : Option (List ℕ)) (faults faults_after : ℕ) (text : List ℕ) : Type 0 where
-  pub front : AppendedFront before text after
+  pub beginning : AppendedBeginning before text after
   pub whole : (Rose faults faults_after → ⊥) → Appended before text after
 
 -- one call of the program, by its words: the events of one run of them, the line of its outcome, which is told on the sink of

@@ -23,11 +23,11 @@ IsSent-from_parts nac duid r parity small low word is =
     let bit : parity < 2 = omega (arith, parity_of-lt duid, is) in
     let bits = 2 * (information * 2 ^ 47 + r) + parity in
     let halves : bits ≡ (information * 2 ^ 47 + r) * 2 + parity = omega arith in
-    let front : bits ≡ information * 2 ^ 48 + (2 * r + parity) = omega arith in
+    let beginning : bits ≡ information * 2 ^ 48 + (2 * r + parity) = omega arith in
     let rest : 2 * r + parity < 2 ^ 48 = omega arith in
     record {
       word = subst (IsDivisible generator) (xor_apart information 47 r low ∙ sym (ap (λ n. n / 2) halves ∙ div-mul-add (information * 2 ^ 47 + r) 2 parity bit)) word;
-      information = ap (λ n. n / 2 ^ 48) front ∙ shr_high information 48 (2 * r + parity) rest;
+      information = ap (λ n. n / 2 ^ 48) beginning ∙ shr_high information 48 (2 * r + parity) rest;
       parity = ap (λ n. n % 2) halves ∙ mod-mul-add (information * 2 ^ 47 + r) 2 parity bit ∙ is;
       fits = omega arith;
     }

@@ -35,11 +35,11 @@ nac_in word below =
 -- and of the next 4
 duid_in : (word : ℕ) → field_of (part 12 4 (bits_of 63 word)) ≡ word / 2 ^ 47 % 16
 duid_in word =
-    let front : take 16 (bits_of 63 word) ≡ bits_of 16 (word / 2 ^ 47)
+    let beginning : take 16 (bits_of 63 word) ≡ bits_of 16 (word / 2 ^ 47)
     = ap (take 16) (bits_of-add 16 47 word) ∙ take_at (bits_of 16 (word / 2 ^ 47)) (bits_of 47 word) 16 (length-bits_of 16 (word / 2 ^ 47)) in
     let back : drop 12 (bits_of 16 (word / 2 ^ 47)) ≡ bits_of 4 (word / 2 ^ 47)
     = ap (drop 12) (bits_of-add 12 4 (word / 2 ^ 47)) ∙ drop_at (bits_of 12 (word / 2 ^ 47 / 2 ^ 4)) (bits_of 4 (word / 2 ^ 47)) 12 (length-bits_of 12 (word / 2 ^ 47 / 2 ^ 4)) in
-    ap field_of (sym (drop-take 12 4 (bits_of 63 word)) ∙ ap (drop 12) front ∙ back) ∙ field_of-bits_of 4 (word / 2 ^ 47)
+    ap field_of (sym (drop-take 12 4 (bits_of 63 word)) ∙ ap (drop 12) beginning ∙ back) ∙ field_of-bits_of 4 (word / 2 ^ 47)
 
 -- so the identifier that a word's number begins with is that of its bits
 pub identifier_made : (word nac duid : ℕ) (nid : Option Nid) → word < 2 ^ 63 → nac ≡ word / 2 ^ 51 → duid ≡ word / 2 ^ 47 % 16 → IsSome nid → IfSome nid (λ n. (n.nac ≡ nac) × (n.duid ≡ duid))

@@ -26,10 +26,10 @@ nid_word-sent nac duid bits sent word =
     let long : length info ≡ 16 = omega (arith, length-append (bits_of 12 nac) (bits_of 4 duid), length-bits_of 12 nac, length-bits_of 4 duid) in
     let encoding = IsEncoding-encoded info long in
     let cut = bits_of-add 63 1 bits in
-    let front : take 63 (bits_of 64 bits) ≡ bits_of 63 (bits / 2 ^ 1)
+    let beginning : take 63 (bits_of 64 bits) ≡ bits_of 63 (bits / 2 ^ 1)
     = ap (λ (xs : List Bool). take 63 xs) cut ∙ take_at (bits_of 63 (bits / 2 ^ 1)) (bits_of 1 bits) 63 (length-bits_of 63 (bits / 2 ^ 1)) in
     let same = one_word (take 63 (bits_of 64 bits)) (encoded info) word.word_of_set encoding.word_of_set (word.begins ∙ sym encoding.begins) in
     let last
     = same_from_field_of (bits_of 1 bits) (eqb (parity_of duid) 1 ∷ []) (length-bits_of 1 bits)
     (field_of-bits_of 1 bits ∙ sent.parity ∙ sym (parity-digit (eqb duid 5 || eqb duid 10)) ∙ sym (field_of-one (eqb (parity_of duid) 1))) in
-    cut ∙ ap₂ (λ (xs ys : List Bool). xs ++ ys) (sym front ∙ same) last
+    cut ∙ ap₂ (λ (xs ys : List Bool). xs ++ ys) (sym beginning ∙ same) last

@@ -60,8 +60,8 @@ impl BlockCode for Bch63 {
 
     fn encode(info: &[bool], word: &mut [bool]) {
         let remainder = number_remainder(number_of(info) << 47, GENERATOR, 47);
-        let (front, checks) = word.split_at_mut(16);
-        front.copy_from_slice(info);
+        let (beginning, checks) = word.split_at_mut(16);
+        beginning.copy_from_slice(info);
         put_number(remainder, checks);
     }
 

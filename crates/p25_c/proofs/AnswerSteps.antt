@@ -5,7 +5,7 @@ use Rattle.p25_bits.specs.Distance.{distance_by}
 use Rattle.p25_bits.proofs.DistanceLaws.{distance_by-le}
 use Rattle.p25_code.specs.declared.code.Reading.{Reading}
 use Rattle.p25_code.specs.declared.code.Reading.TheVariants.{Found, Beyond}
-use Rattle.p25_code.specs.Marks.{IsMarkedReading}
+use Rattle.p25_code.specs.Erasures.{IsErasedReading}
 use Rattle.p25_code.specs.Readings.{word_read}
 use Rattle.p25_code.specs.Words.{IsReading}
 use Rattle.p25_c.specs.Answers.{fixes_answer, fixes_in, reading_answer}
@@ -21,11 +21,11 @@ unfolding IsReading IsChange
 IsChange-reading same IsWord radius received word (Found fixes) is = is.fixes_is
 IsChange-reading same IsWord radius received word Beyond is = is.unchanged
 
-pub IsChange-marked : {L : Type 0} (same : L → L → Bool) (IsWord : List L → Type 0) (most : ℕ) (list : List (Option L)) (received word : List L) (reading : Reading)
-    → IsMarkedReading same IsWord most list received word reading → IsChange same received word reading
-unfolding IsMarkedReading IsChange
-IsChange-marked same IsWord most list received word (Found fixes) is = is.fixes_is
-IsChange-marked same IsWord most list received word Beyond is = is.unchanged
+pub IsChange-erased : {L : Type 0} (same : L → L → Bool) (IsWord : List L → Type 0) (most : ℕ) (list : List (Option L)) (received word : List L) (reading : Reading)
+    → IsErasedReading same IsWord most list received word reading → IsChange same received word reading
+unfolding IsErasedReading IsChange
+IsChange-erased same IsWord most list received word (Found fixes) is = is.fixes_is
+IsChange-erased same IsWord most list received word Beyond is = is.unchanged
 
 module _ {L : Type 0} (same : L → L → Bool) (received word : List L) where
   -- so its answer is that of the word that was read, or of none

@@ -4,14 +4,14 @@
 //! information, then the check symbols.
 
 ghost use Rattle.std.specs.Prelude.{◌≡◌, ◌<◌, ◌≤◌, All, length, map, IsTrue};
-ghost use Rattle.p25_code.specs.Marks.{marked};
+ghost use Rattle.p25_code.specs.Erasures.{without_erased};
 ghost use Rattle.p25_gf64.specs.Symbol.{number};
 ghost use Rattle.p25_reed_solomon.specs.Words.{IsCode};
-ghost use Rattle.p25_reed_solomon.specs.RsReadings.{rs_marked_reading_of, rs_reading_of};
+ghost use Rattle.p25_reed_solomon.specs.RsReadings.{rs_erased_reading_of, rs_reading_of};
 ghost use Rattle.p25_c.specs.Solomon.{IsSymbolReading, IsSymbolWriting};
 
 use crate::answers::{OUTSIDE, answer_of};
-use p25_code::{BlockCode, read_marked, read_received};
+use p25_code::{BlockCode, read_received, read_with_erasures};
 use p25_gf64::Sym;
 use p25_reed_solomon::Rs;
 
@@ -46,27 +46,27 @@ pub extern "C" fn p25_rs_24_16_read(symbols: &mut [u8; 24]) -> i32
 /// changed then.
 #[unsafe(no_mangle)]
 pub extern "C" fn p25_rs_36_20_read_erased(symbols: &mut [u8; 36], erased: &[bool; 36]) -> i32
-    ensures { IsSymbolReading (λ received. rs_marked_reading_of 36 20 (marked received erased.now)) symbols.old symbols.new result }
+    ensures { IsSymbolReading (λ received. rs_erased_reading_of 36 20 (without_erased received erased.now)) symbols.old symbols.new result }
 {
-    read_with_marks::<36, 20>(symbols, erased)
+    read_with_erased::<36, 20>(symbols, erased)
 }
 
 /// Reads a received word of the code (24,12) of which some symbols are not known, as `p25_rs_36_20_read_erased` does, with 12 for
 /// 16.
 #[unsafe(no_mangle)]
 pub extern "C" fn p25_rs_24_12_read_erased(symbols: &mut [u8; 24], erased: &[bool; 24]) -> i32
-    ensures { IsSymbolReading (λ received. rs_marked_reading_of 24 12 (marked received erased.now)) symbols.old symbols.new result }
+    ensures { IsSymbolReading (λ received. rs_erased_reading_of 24 12 (without_erased received erased.now)) symbols.old symbols.new result }
 {
-    read_with_marks::<24, 12>(symbols, erased)
+    read_with_erased::<24, 12>(symbols, erased)
 }
 
 /// Reads a received word of the code (24,16) of which some symbols are not known, as `p25_rs_36_20_read_erased` does, with 8 for
 /// 16.
 #[unsafe(no_mangle)]
 pub extern "C" fn p25_rs_24_16_read_erased(symbols: &mut [u8; 24], erased: &[bool; 24]) -> i32
-    ensures { IsSymbolReading (λ received. rs_marked_reading_of 24 16 (marked received erased.now)) symbols.old symbols.new result }
+    ensures { IsSymbolReading (λ received. rs_erased_reading_of 24 16 (without_erased received erased.now)) symbols.old symbols.new result }
 {
-    read_with_marks::<24, 16>(symbols, erased)
+    read_with_erased::<24, 16>(symbols, erased)
 }
 
 /// Sets the last 16 octets to the check symbols of the first 20, so that all are a word of the code (36,20), and answers 0.
@@ -110,17 +110,17 @@ fn read_symbols<const N: usize, const K: usize>(octets: &mut [u8]) -> i32
 }
 
 // Reads the symbols that octets name, of which some are erased.
-fn read_with_marks<const N: usize, const K: usize>(octets: &mut [u8], erased: &[bool]) -> i32
+fn read_with_erased<const N: usize, const K: usize>(octets: &mut [u8], erased: &[bool]) -> i32
     requires code { IsCode N K }
     requires long { length octets.old ≡ N }
     requires erased { length erased.now ≡ N }
-    ensures { IsSymbolReading (λ received. rs_marked_reading_of N K (marked received erased.now)) octets.old octets.new result }
+    ensures { IsSymbolReading (λ received. rs_erased_reading_of N K (without_erased received erased.now)) octets.old octets.new result }
 {
     let mut word = [Sym::default(); N];
     if !name_symbols(octets, &mut word) {
         return OUTSIDE;
     }
-    let reading = read_marked::<Rs<N, K>>(&mut word, erased);
+    let reading = read_with_erasures::<Rs<N, K>>(&mut word, erased);
     put_numbers(&word, octets);
     answer_of(reading)
 }

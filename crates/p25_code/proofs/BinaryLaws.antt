@@ -85,9 +85,9 @@ module _ {rows : List ℕ} {checks apart : ℕ} (code : IsSystematic rows checks
       let rest = drop k word in
       let whole = length_checked word is in
       let inside : k ≤ length word = omega arith in
-      let front = length-take-le k word inside in
+      let beginning = length-take-le k word inside in
       let back : length rest ≡ checks = omega (arith, length-drop k word) in
-      let parts = syndrome_of-append rows (check_columns checks) info rest front ∙ ap (bit_xor (syndrome_of rows info)) (syndrome_of-check_columns checks rest back) in
+      let parts = syndrome_of-append rows (check_columns checks) info rest beginning ∙ ap (bit_xor (syndrome_of rows info)) (syndrome_of-check_columns checks rest back) in
       let none = sym parts ∙ ap (syndrome_of (rows ++ check_columns checks)) (take-append-drop k word) ∙ is.passes in
       let sum = same_from_xor (syndrome_of rows info) (field_of rest) none in
       sym (take-append-drop k word) ∙ ap (λ bits. info ++ bits) (sym (bits_of-field_of rest) ∙ ap₂ bits_of back (sym sum))
@@ -116,9 +116,9 @@ module _ {rows : List ℕ} {checks apart : ℕ} (code : IsSystematic rows checks
       let info = take k word in
       let whole = length_checked word is in
       let inside : k ≤ length word = omega arith in
-      let front = length-take-le k word inside in
+      let beginning = length-take-le k word inside in
       ap (drop k) (checked_systematic word is)
-      ∙ ap (λ n. drop n (info ++ bits_of checks (syndrome_of rows info))) (sym front)
+      ∙ ap (λ n. drop n (info ++ bits_of checks (syndrome_of rows info))) (sym beginning)
       ∙ drop-append_seam info (bits_of checks (syndrome_of rows info))
 
   -- no other word has the same information
@@ -134,8 +134,8 @@ module _ {rows : List ℕ} {checks apart : ℕ} (code : IsSystematic rows checks
       let e = checked_systematic word is in
       let whole = length_checked word is in
       let inside : k ≤ length word = omega arith in
-      let front = length-take-le k word inside in
-      let test = all_bits-each info (is_heavy rows checks apart) (ap (λ n. all_bits n (is_heavy rows checks apart)) front ∙ code.heavy) in
+      let beginning = length-take-le k word inside in
+      let test = all_bits-each info (is_heavy rows checks apart) (ap (λ n. all_bits n (is_heavy rows checks apart)) beginning ∙ code.heavy) in
       elim (or_cases (eqb (weight_of info) 0) (leb apart (weight_of (systematic rows checks info))) test) [
         | inl zeros ↦
             let light = eqb-true (weight_of info) 0 zeros in
@@ -159,9 +159,10 @@ module _ {rows : List ℕ} {checks apart : ℕ} (code : IsSystematic rows checks
       ]
 
   -- what the encoder writes is the encoding in a set whose words are those that pass
-  pub encodes : (IsWord : List Bool → Type 0) → ((w : List Bool) → IsChecked (rows ++ check_columns checks) w → IsWord w) → (front : List ℕ) (places : ℕ) (info word : List Bool) → front ≡ rows → places ≡ checks → length info ≡ length rows
-      → word ≡ systematic front places info → IsEncoding IsWord (length rows) info word
-  encodes IsWord from front places info word e f long is =
+  pub encodes : (IsWord : List Bool → Type 0) → ((w : List Bool) → IsChecked (rows ++ check_columns checks) w → IsWord w) → (beginning : List ℕ) (places : ℕ) (info word : List Bool) → beginning ≡ rows → places ≡ checks
+      → length info ≡ length rows
+      → word ≡ systematic beginning places info → IsEncoding IsWord (length rows) info word
+  encodes IsWord from beginning places info word e f long is =
       let whole : word ≡ systematic rows checks info = is ∙ ap₂ (λ r n. systematic r n info) e f in
       let encoding = systematic_encodes info long in
       record {

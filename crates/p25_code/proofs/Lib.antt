@@ -1,5 +1,5 @@
 pub mod ReadingLaws
-pub mod MarkedLaws
+pub mod ErasedLaws
 pub mod SyndromeLaws
 pub mod WeightLaws
 pub mod BinaryLaws

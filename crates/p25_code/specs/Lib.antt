@@ -2,6 +2,6 @@ pub mod Words
 pub mod Letters
 pub mod Binary
 pub mod Readings
-pub mod Marks
-pub mod MarkedReadings
+pub mod Erasures
+pub mod ErasedReadings
 pub mod WrongBits

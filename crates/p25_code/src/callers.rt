@@ -4,7 +4,7 @@ ghost use Rattle.std.specs.Prelude.{◌≡◌, ◌*◌, ◌-◌, ◌≤◌, List
 ghost use Rattle.p25_bits.specs.Distance.{distance_by};
 ghost use Rattle.p25_code.specs.Words.{IsEncoding, IsReading};
 ghost use Rattle.p25_code.specs.Readings.{word_read};
-ghost use Rattle.p25_code.specs.Marks.{marked, marked_cost, IsMarkedReading};
+ghost use Rattle.p25_code.specs.Erasures.{without_erased, erased_cost, IsErasedReading};
 
 use crate::code::{BlockCode, ErasedCode, Reading};
 
@@ -25,14 +25,14 @@ pub fn read_received<C: BlockCode>(word: &mut [C::Letter]) -> Reading
 /// Reads a received word of which some letters are erased. Wherever a word of the code costs at most N - K, two for each
 /// wrong letter that is not erased and one for each erased one, exactly that word is left. Where nothing is erased and
 /// twice the radius is N - K, the answer and what is left are those of `read_received`.
-pub fn read_marked<C: ErasedCode>(word: &mut [C::Letter], erased: &[bool]) -> Reading
+pub fn read_with_erasures<C: ErasedCode>(word: &mut [C::Letter], erased: &[bool]) -> Reading
     requires code { C.HasCode }
     requires word { length word.old ≡ C.N }
     requires erased { length erased.now ≡ C.N }
-    ensures reading { IsMarkedReading C.Letter.eq C.IsWord (C.N - C.K) (marked word.old erased.now) word.old word.new result }
-    ensures value { word_read result word.new ≡ C.marked_reading_is (marked word.old erased.now) }
-    ensures sent { (sent : List C.Letter) → C.IsWord sent → marked_cost C.Letter.eq (marked word.old erased.now) sent ≤ C.N - C.K → word.new ≡ sent }
-    ensures plain { C.N - C.K ≡ 2 * C.radius_is → All (λ gone. gone ≡ false) erased.now → IsReading C.Letter.eq C.IsWord C.radius_is word.old word.new result }
+    ensures reading { IsErasedReading C.Letter.eq C.IsWord (C.N - C.K) (without_erased word.old erased.now) word.old word.new result }
+    ensures value { word_read result word.new ≡ C.erased_reading_is (without_erased word.old erased.now) }
+    ensures sent { (sent : List C.Letter) → C.IsWord sent → erased_cost C.Letter.eq (without_erased word.old erased.now) sent ≤ C.N - C.K → word.new ≡ sent }
+    ensures whole { C.N - C.K ≡ 2 * C.radius_is → All (λ gone. gone ≡ false) erased.now → IsReading C.Letter.eq C.IsWord C.radius_is word.old word.new result }
 {
     C::read_erased(word, erased)
 }

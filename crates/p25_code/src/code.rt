@@ -92,13 +92,13 @@ pub trait BlockCode {
 /// A block code that reads words with some letters erased too. A letter that is not known costs one and a wrong letter
 /// two; a word is read where a word of the code costs at most N - K.
 ///
-/// Contracts see the received letters and what is erased as one list with marks.
+/// Contracts see the received letters and what is erased as one list with erasures.
 pub trait ErasedCode: BlockCode {
-    ghost use Rattle.p25_code.specs.Marks.{marked, IsMarkedReading};
-    ghost use Rattle.p25_code.specs.MarkedReadings.{IsMarkedReadAs};
+    ghost use Rattle.p25_code.specs.Erasures.{without_erased, IsErasedReading};
+    ghost use Rattle.p25_code.specs.ErasedReadings.{IsErasedReadAs};
 
-    // The reading of a list with marks as a function: the word of the code within the cost N - K, or none.
-    ghost marked_reading_is: { List (Option Self.Letter) → Option (List Self.Letter) };
+    // The reading of a list with erasures as a function: the word of the code within the cost N - K, or none.
+    ghost erased_reading_is: { List (Option Self.Letter) → Option (List Self.Letter) };
 
     /// Reads a received word of N letters of which those where `erased` is true are not known (errors-and-erasures
     /// decoding). Answers Found exactly where twice the wrong letters among the others, and the erased ones, of some word
@@ -108,12 +108,12 @@ pub trait ErasedCode: BlockCode {
         requires code { Self.HasCode }
         requires word { length word.old ≡ Self.N }
         requires erased { length erased.now ≡ Self.N }
-        ensures { IsMarkedReading Self.Letter.eq Self.IsWord (Self.N - Self.K) (marked word.old erased.now) word.old word.new result };
+        ensures { IsErasedReading Self.Letter.eq Self.IsWord (Self.N - Self.K) (without_erased word.old erased.now) word.old word.new result };
 
     // The reading is a word of the code within the cost, and none exactly where no word costs so little.
-    ghost marked_reads_as: { Self.HasCode → (list : List (Option Self.Letter))
-        → IsMarkedReadAs Self.Letter.eq Self.IsWord (Self.N - Self.K) list (marked_reading_is list) };
+    ghost erased_reads_as: { Self.HasCode → (list : List (Option Self.Letter))
+        → IsErasedReadAs Self.Letter.eq Self.IsWord (Self.N - Self.K) list (erased_reading_is list) };
 
     // So at most one word is within the cost of any list.
-    ghost marks_within: { Self.HasCode → Self.N - Self.K < Self.distance_is };
+    ghost erasures_within: { Self.HasCode → Self.N - Self.K < Self.distance_is };
 }

@@ -16,7 +16,7 @@
 //! radius, least distance and bounded-distance reading are those of any textbook of coding theory.
 //!
 //! `read_received` and `encode_then_read` say what this comes to for any code, proved from the trait alone. An
-//! `ErasedCode` also reads words of which some letters are not known; `read_marked` says what that comes to.
+//! `ErasedCode` also reads words of which some letters are not known; `read_with_erasures` says what that comes to.
 //! The words of a `NumberCode` are bits and numbers too. `wrong_by_rows` and `wrong_by_halves` find the wrong bits of a word
 //! of a small binary code by its syndrome, without a search.
 //!
@@ -29,7 +29,7 @@ mod code;
 mod number_code;
 mod wrong_bits;
 
-pub use callers::{encode_then_read, read_marked, read_received};
+pub use callers::{encode_then_read, read_received, read_with_erasures};
 pub use code::{BlockCode, ErasedCode, Reading};
 pub use number_code::{NumberCode, put_reading};
 pub use wrong_bits::{wrong_by_halves, wrong_by_rows};

@@ -1,5 +1,5 @@
 -- The readings of a layout whose outer code is a Reed-Solomon code are those of its codes: a word near to what was received is the
--- one that is read, by the laws of block codes and of lists with marks. And what a reader of a field leaves is the field's reading.
+-- one that is read, by the laws of block codes and of lists with erasures. And what a reader of a field leaves is the field's reading.
 use Rattle.std.proofs.Common.{◌≡◌, ℕ, ◌+◌, ◌-◌, ◌*◌, ◌≤◌, Bool, true, nat_le, List, [], ◌∷◌, length, take, Option, Some, None, All, option_map, refl, subst, ap, sym, ◌∙◌, arith}
 use Rattle.std.specs.Bool.{beq}
 use Rattle.std.specs.List.{list_all}
@@ -10,16 +10,16 @@ use Rattle.std.proofs.lemmas.List.Elements.{All-nil, All-cons}
 use Rattle.p25_code.specs.declared.code.Reading.{Reading}
 use Rattle.p25_code.specs.declared.code.Reading.TheVariants.{Found, Beyond}
 use Rattle.p25_code.specs.Readings.{IsReadAs, word_read}
-use Rattle.p25_code.specs.Marks.{marked_cost}
-use Rattle.p25_code.specs.MarkedReadings.{IsMarkedReadAs, IsWithinCost}
+use Rattle.p25_code.specs.Erasures.{erased_cost}
+use Rattle.p25_code.specs.ErasedReadings.{IsErasedReadAs, IsWithinCost}
 use Rattle.p25_code.proofs.ReadingLaws.{IsBlockCode, read_as_sent}
-use Rattle.p25_code.proofs.MarkedLaws.{marked_read_as_sent}
+use Rattle.p25_code.proofs.ErasedLaws.{erased_read_as_sent}
 use Rattle.p25_gf64.specs.declared.symbol.Sym.{Sym}
 use Rattle.p25_gf64.specs.Symbol.{number}
 use Rattle.p25_gf64.proofs.SymbolLaws.{same_from_eq}
 use Rattle.p25_reed_solomon.specs.Words.{IsCode, IsWord, radius_of, same_symbols}
 use Rattle.p25_reed_solomon.specs.WordLaws.{begins_of, length_of_word_of, one_word_of, within_of, words_apart}
-use Rattle.p25_reed_solomon.specs.RsReadings.{marks_within_of, rs_marked_reading_of, rs_marked_reads_as}
+use Rattle.p25_reed_solomon.specs.RsReadings.{erasures_within_of, rs_erased_reading_of, rs_erased_reads_as}
 use Rattle.p25_coded_fields.specs.Layouts.{Layout, field_layout, received_in, sent_in, outer_word_of, field_reading_of}
 use Rattle.p25_coded_fields.specs.Within.{HasCodes, HasField, IsFieldNear}
 use Rattle.p25_coded_fields.proofs.WithinLaws.{field_reading_of-none, field_reading_of-some}
@@ -37,39 +37,39 @@ rs_is_code n k code = record {
 }
 
 -- a list that is read costs no more than is allowed
-within_cost : {L : Type 0} (same : L → L → Bool) (IsWord' : List L → Type 0) (most : ℕ) (list : List (Option L)) (answer : Option (List L)) (word : List L) → IsMarkedReadAs same IsWord' most list answer → answer ≡ Some word
+within_cost : {L : Type 0} (same : L → L → Bool) (IsWord' : List L → Type 0) (most : ℕ) (list : List (Option L)) (answer : Option (List L)) (word : List L) → IsErasedReadAs same IsWord' most list answer → answer ≡ Some word
     → IsWithinCost same IsWord' most list word
-unfolding IsMarkedReadAs
-within_cost same IsWord' most list answer word is read = subst (IsMarkedReadAs same IsWord' most list) read is
+unfolding IsErasedReadAs
+within_cost same IsWord' most list answer word is read = subst (IsErasedReadAs same IsWord' most list) read is
 
 -- a layout of a binary code and a Reed-Solomon code
 pub layout_codes : {IsInnerWord : List Bool → Type 0} {size k radius apart : ℕ} (inner : IsBlockCode beq IsInnerWord size k radius apart) (inner_reading : List Bool → Option (List Bool))
     → ((received : List Bool) → IsReadAs beq IsInnerWord radius received (inner_reading received)) → (places : List ℕ) (each n information : ℕ) → IsCode n information → each * length places ≡ n
-    → HasCodes IsInnerWord radius (IsWord n information) (n - information) (field_layout places size each inner_reading (rs_marked_reading_of n information) information)
+    → HasCodes IsInnerWord radius (IsWord n information) (n - information) (field_layout places size each inner_reading (rs_erased_reading_of n information) information)
 layout_codes inner inner_reading reads_as places each n information code covers = record {
   inner = λ received sent long is near. read_as_sent inner received sent (inner_reading received) long (reads_as received) is near;
   outer = λ list sent long is near.
-      marked_read_as_sent (rs_is_code n information code) (marks_within_of n information) list sent (rs_marked_reading_of n information list) (long ∙ covers) (rs_marked_reads_as n information list) is near;
+      erased_read_as_sent (rs_is_code n information code) (erasures_within_of n information) list sent (rs_erased_reading_of n information list) (long ∙ covers) (rs_erased_reads_as n information list) is near;
 }
 
 -- a field was read
-pub field_found : (layout : Layout) (plain : List Bool) (answer : Reading) (word : List Sym) (fixes : ℕ) → answer ≡ Found fixes → word_read answer word ≡ outer_word_of layout plain
-    → field_reading_of layout plain ≡ Some (take layout.information word)
+pub field_found : (layout : Layout) (bare : List Bool) (answer : Reading) (word : List Sym) (fixes : ℕ) → answer ≡ Found fixes → word_read answer word ≡ outer_word_of layout bare
+    → field_reading_of layout bare ≡ Some (take layout.information word)
 unfolding word_read
-field_found layout plain answer word fixes found is = field_reading_of-some layout plain word (sym is ∙ ap (λ a. word_read a word) found)
+field_found layout bare answer word fixes found is = field_reading_of-some layout bare word (sym is ∙ ap (λ a. word_read a word) found)
 
 -- or it fails
-pub field_beyond : (layout : Layout) (plain : List Bool) (answer : Reading) (word : List Sym) → answer ≡ Beyond → word_read answer word ≡ outer_word_of layout plain → field_reading_of layout plain ≡ None
+pub field_beyond : (layout : Layout) (bare : List Bool) (answer : Reading) (word : List Sym) → answer ≡ Beyond → word_read answer word ≡ outer_word_of layout bare → field_reading_of layout bare ≡ None
 unfolding word_read
-field_beyond layout plain answer word beyond is = field_reading_of-none layout plain (sym is ∙ ap (λ a. word_read a word) beyond)
+field_beyond layout bare answer word beyond is = field_reading_of-none layout bare (sym is ∙ ap (λ a. word_read a word) beyond)
 
 -- the outer word of a field that was read is a word of the outer code
 pub outer_word_found : (places : List ℕ) (size each n information : ℕ) (inner_reading : List Bool → Option (List Bool)) (received : List Bool) (answer : Reading) (word : List Sym) (fixes : ℕ) → answer ≡ Found fixes
-    → word_read answer word ≡ outer_word_of (field_layout places size each inner_reading (rs_marked_reading_of n information) information) received → IsWord n information word
+    → word_read answer word ≡ outer_word_of (field_layout places size each inner_reading (rs_erased_reading_of n information) information) received → IsWord n information word
 unfolding word_read outer_word_of
 outer_word_found places size each n information inner_reading received answer word fixes found is =
-    let list = received_in (field_layout places size each inner_reading (rs_marked_reading_of n information) information) received in
-    (within_cost same_symbols (IsWord n information) (n - information) list (rs_marked_reading_of n information list) word (rs_marked_reads_as n information list) (sym is ∙ ap (λ a. word_read a word) found)).word_of_set
+    let list = received_in (field_layout places size each inner_reading (rs_erased_reading_of n information) information) received in
+    (within_cost same_symbols (IsWord n information) (n - information) list (rs_erased_reading_of n information list) word (rs_erased_reads_as n information list) (sym is ∙ ap (λ a. word_read a word) found)).word_of_set
 
 -- the words at places that a test finds before an end are there
 pub all_end : (size end len : ℕ) (places : List ℕ) → list_all (λ at. nat_le (at + size) end) places ≡ true → end ≤ len → All (λ at. at + size ≤ len) places
@@ -82,40 +82,40 @@ all_end size end len (at ∷ places) test fits =
 -- what a field was read as lies near to it: of all bits that have a field with the information that was read, the outer word is the one
 -- that was read, since it is the only one with this information
 pub near_from_reading : {IsInnerWord : List Bool → Type 0} (places : List ℕ) (size each n information : ℕ) (inner_reading : List Bool → Option (List Bool)) → IsCode n information → (info : List Sym) (sent received : List Bool)
-    → HasField IsInnerWord (IsWord n information) (field_layout places size each inner_reading (rs_marked_reading_of n information) information) info sent
-    → field_reading_of (field_layout places size each inner_reading (rs_marked_reading_of n information) information) received ≡ Some info
-    → IsFieldNear (n - information) (field_layout places size each inner_reading (rs_marked_reading_of n information) information) sent received
+    → HasField IsInnerWord (IsWord n information) (field_layout places size each inner_reading (rs_erased_reading_of n information) information) info sent
+    → field_reading_of (field_layout places size each inner_reading (rs_erased_reading_of n information) information) received ≡ Some info
+    → IsFieldNear (n - information) (field_layout places size each inner_reading (rs_erased_reading_of n information) information) sent received
 unfolding field_reading_of outer_word_of
 near_from_reading places size each n information inner_reading code info sent received has read =
-    found (rs_marked_reading_of n information list) refl read
+    found (rs_erased_reading_of n information list) refl read
   where
     layout : Layout
-    layout = field_layout places size each inner_reading (rs_marked_reading_of n information) information
+    layout = field_layout places size each inner_reading (rs_erased_reading_of n information) information
 
     list : List (Option Sym)
     list = received_in layout received
 
-    found : (answer : Option (List Sym)) → rs_marked_reading_of n information list ≡ answer → option_map (take information) answer ≡ Some info → IsFieldNear (n - information) layout sent received
+    found : (answer : Option (List Sym)) → rs_erased_reading_of n information list ≡ answer → option_map (take information) answer ≡ Some info → IsFieldNear (n - information) layout sent received
     found None is e = absurd (cc)
     found (Some word) is e =
-        let within = within_cost same_symbols (IsWord n information) (n - information) list (rs_marked_reading_of n information list) word (rs_marked_reads_as n information list) is in
+        let within = within_cost same_symbols (IsWord n information) (n - information) list (rs_erased_reading_of n information list) word (rs_erased_reads_as n information list) is in
         let begins : take information word ≡ info = cc in
         let same = one_word_of n information code (sent_in layout sent) word has.outer within.word_of_set (has.begins ∙ sym begins) in
-        record { near = subst (λ w. marked_cost same_symbols list w ≤ n - information) (sym same) within.within }
+        record { near = subst (λ w. erased_cost same_symbols list w ≤ n - information) (sym same) within.within }
 
 -- the information that was read has its length
 pub field_information : (places : List ℕ) (size each n information : ℕ) (inner_reading : List Bool → Option (List Bool)) → IsCode n information → (received : List Bool) (symbols : List Sym)
-    → field_reading_of (field_layout places size each inner_reading (rs_marked_reading_of n information) information) received ≡ Some symbols → length symbols ≡ information
+    → field_reading_of (field_layout places size each inner_reading (rs_erased_reading_of n information) information) received ≡ Some symbols → length symbols ≡ information
 unfolding field_reading_of outer_word_of
-field_information places size each n information inner_reading code received symbols read = found (rs_marked_reading_of n information list) refl read
+field_information places size each n information inner_reading code received symbols read = found (rs_erased_reading_of n information list) refl read
   where
     list : List (Option Sym)
-    list = received_in (field_layout places size each inner_reading (rs_marked_reading_of n information) information) received
+    list = received_in (field_layout places size each inner_reading (rs_erased_reading_of n information) information) received
 
-    found : (answer : Option (List Sym)) → rs_marked_reading_of n information list ≡ answer → option_map (take information) answer ≡ Some symbols → length symbols ≡ information
+    found : (answer : Option (List Sym)) → rs_erased_reading_of n information list ≡ answer → option_map (take information) answer ≡ Some symbols → length symbols ≡ information
     found None is e = absurd (cc)
     found (Some word) is e =
-        let within = within_cost same_symbols (IsWord n information) (n - information) list (rs_marked_reading_of n information list) word (rs_marked_reads_as n information list) is in
+        let within = within_cost same_symbols (IsWord n information) (n - information) list (rs_erased_reading_of n information list) word (rs_erased_reads_as n information list) is in
         let begins : take information word ≡ symbols = cc in
         let fits : information ≤ length word = omega (arith, code.shorter, length_of_word_of n information word within.word_of_set) in
         ap length (sym begins) ∙ length-take-le information word fits

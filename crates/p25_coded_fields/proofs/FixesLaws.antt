@@ -37,14 +37,15 @@ inner_bits-more size places i bits inside =
     ∙ flat_map-append run (take i places) (get_or places i 0 ∷ [])
     ∙ ap (λ (xs : List Bool). flat_map run (take i places) ++ xs) (append-nil (part (get_or places i 0) size bits))
 
-field_bits-more : (encoding : List Bool → List Bool) (each i : ℕ) (front xs : List Sym) → length front ≡ each * i → length xs ≡ each → field_bits encoding each (i + 1) (front ++ xs) ≡ field_bits encoding each i front ++ encoding (symbol_bits xs)
+field_bits-more : (encoding : List Bool → List Bool) (each i : ℕ) (beginning xs : List Sym) → length beginning ≡ each * i → length xs ≡ each
+    → field_bits encoding each (i + 1) (beginning ++ xs) ≡ field_bits encoding each i beginning ++ encoding (symbol_bits xs)
 unfolding field_bits
-field_bits-more encoding each i front xs long long_xs =
-    joined_below-more i (λ j. encoding (symbol_bits (part (each * j) each (front ++ xs))))
+field_bits-more encoding each i beginning xs long long_xs =
+    joined_below-more i (λ j. encoding (symbol_bits (part (each * j) each (beginning ++ xs))))
     ∙ ap₂ (λ (us vs : List Bool). us ++ vs)
-    (joined_below-same i (λ j. encoding (symbol_bits (part (each * j) each (front ++ xs)))) (λ j. encoding (symbol_bits (part (each * j) each front)))
-    (λ j inside. ap (λ ys. encoding (symbol_bits ys)) (part_left (each * j) each front xs (room_at each j i (length front) inside (sym long)))))
-    (ap (λ ys. encoding (symbol_bits ys)) (part_last (each * i) each front xs long long_xs))
+    (joined_below-same i (λ j. encoding (symbol_bits (part (each * j) each (beginning ++ xs)))) (λ j. encoding (symbol_bits (part (each * j) each beginning)))
+    (λ j inside. ap (λ ys. encoding (symbol_bits ys)) (part_left (each * j) each beginning xs (room_at each j i (length beginning) inside (sym long)))))
+    (ap (λ ys. encoding (symbol_bits ys)) (part_last (each * i) each beginning xs long long_xs))
 
 -- before the first place
 pub counted_none : {IsWord : List Bool → Type 0} (size k each : ℕ) (places : List ℕ) (symbols : List Sym) (bits : List Bool) → AreCounted IsWord size k each 0 places symbols bits 0
@@ -63,11 +64,11 @@ few_places each n some short = let one : 1 ≤ each = omega arith in omega (arit
 
 -- one place more
 module _ {IsWord : List Bool → Type 0} {size k : ℕ} (long : (word : List Bool) → IsWord word → length word ≡ size) where
-  pub counted_more : (each i : ℕ) (places : List ℕ) (front xs : List Sym) (bits : List Bool) (count more total : ℕ) → 6 * each ≡ k → i < length places → length places * each ≤ 36 → All (λ at. at + size ≤ length bits) places
-      → length front ≡ each * i → length xs ≡ each → AreCounted IsWord size k each i places front bits count → more ≤ 24
+  pub counted_more : (each i : ℕ) (places : List ℕ) (beginning xs : List Sym) (bits : List Bool) (count more total : ℕ) → 6 * each ≡ k → i < length places → length places * each ≤ 36 → All (λ at. at + size ≤ length bits) places
+      → length beginning ≡ each * i → length xs ≡ each → AreCounted IsWord size k each i places beginning bits count → more ≤ 24
       → ((sent : List Bool) → IsEncoding IsWord k (symbol_bits xs) sent → more ≡ distance_of (part (get_or places i 0) size bits) sent) → (count + more < 2 ^ 32 → total ≡ count + more)
-      → AreCounted IsWord size k each (i + 1) places (front ++ xs) bits total
-  counted_more each i places front xs bits count more total sixes inside short there long_front long_xs before few is sum = record {
+      → AreCounted IsWord size k each (i + 1) places (beginning ++ xs) bits total
+  counted_more each i places beginning xs bits count more total sixes inside short there long_front long_xs before few is sum = record {
     most = λ some. omega (arith, before.most some, exact some);
     value = λ some encoding encodes.
         let at = get_or places i 0 in
@@ -75,9 +76,9 @@ module _ {IsWord : List Bool → Type 0} {size k : ℕ} (long : (word : List Boo
         let made = encodes (symbol_bits xs) (length-symbol_bits xs ∙ ap (λ n. 6 * n) long_xs ∙ sixes) in
         let here = before.value some encoding encodes in
         let received = inner_bits size (take i places) bits in
-        let sent = field_bits encoding each i front in
+        let sent = field_bits encoding each i beginning in
         let more_received = inner_bits-more size places i bits inside in
-        let more_sent = field_bits-more encoding each i front xs long_front long_xs in
+        let more_sent = field_bits-more encoding each i beginning xs long_front long_xs in
         let long_received : length (part at size bits) ≡ size = length-part at size bits (there i 0 inside) in
         let long_word : length word ≡ size = long word made.word_of_set in
         record {
@@ -103,7 +104,8 @@ front_more each i symbols =
     ap (λ n. take (each * i) symbols ++ part n each symbols) (sym (zero-add (each * i))) ∙ part_add 0 (each * i) each symbols ∙ ap (λ n. take n symbols) (one_more each i)
 
 -- after the last place
-pub counted_end : {IsWord : List Bool → Type 0} {size k : ℕ} (each group i : ℕ) (places : List ℕ) (symbols : List Sym) (bits : List Bool) (count : ℕ) → each ≡ group → length places ≤ i → i ≤ length places → length places * group ≡ length symbols
+pub counted_end : {IsWord : List Bool → Type 0} {size k : ℕ} (each group i : ℕ) (places : List ℕ) (symbols : List Sym) (bits : List Bool) (count : ℕ) → each ≡ group → length places ≤ i → i ≤ length places
+    → length places * group ≡ length symbols
     → AreCounted IsWord size k each i places (take (each * i) symbols) bits count → AreCounted IsWord size k group (length places) places symbols bits count
 counted_end {IsWord} {size} {k} each group i places symbols bits count same past most covers is =
     let here : i ≡ length places = omega arith in

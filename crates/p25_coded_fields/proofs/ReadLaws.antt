@@ -16,43 +16,43 @@ use Rattle.p25_code.specs.Readings.{IsReadAs}
 use Rattle.p25_code.specs.Words.{IsEncoding}
 use Rattle.p25_code.specs.declared.code.Reading.{Reading}
 use Rattle.p25_code.specs.declared.code.Reading.TheVariants.{Found}
-use Rattle.p25_code.specs.Marks.{marked, IsMarkedFound, IsMarkedReading}
-use Rattle.p25_code.proofs.MarkedLaws.{marked-plain}
+use Rattle.p25_code.specs.Erasures.{without_erased, IsErasedFound, IsErasedReading}
+use Rattle.p25_code.proofs.ErasedLaws.{without_erased-none}
 use Rattle.p25_gf64.specs.declared.symbol.Sym.{Sym}
 use Rattle.p25_link.specs.Symbols.{symbols_in, symbol_bits}
 use Rattle.p25_link.proofs.SymbolsLaws.{symbol_bits-all}
-use Rattle.p25_coded_fields.specs.Layouts.{Layout, marks_of, received_in, outer_word_of}
+use Rattle.p25_coded_fields.specs.Layouts.{Layout, symbols_or_erasures, received_in, outer_word_of}
 use Rattle.p25_coded_fields.proofs.SymbolsLaws.{one_more, symbols_in-take}
 
 -- a word that is read gives the symbols of its information
-pub marks_of-some : (each : ℕ) (word : List Bool) → marks_of each (Some word) ≡ map Some (symbols_in each word)
-unfolding marks_of
-marks_of-some each word = refl
+pub symbols_or_erasures-some : (each : ℕ) (word : List Bool) → symbols_or_erasures each (Some word) ≡ map Some (symbols_in each word)
+unfolding symbols_or_erasures
+symbols_or_erasures-some each word = refl
 
--- and one that is not gives marks
-pub marks_of-none : (each : ℕ) → marks_of each None ≡ replicate each None
-unfolding marks_of
-marks_of-none each = refl
+-- and one that is not gives erasures
+pub symbols_or_erasures-none : (each : ℕ) → symbols_or_erasures each None ≡ replicate each None
+unfolding symbols_or_erasures
+symbols_or_erasures-none each = refl
 
-pub marked-nil : {L : Type 0} (erased : List Bool) → marked {L = L} [] erased ≡ []
-unfolding marked
-marked-nil erased = refl
+pub without_erased-nil : {L : Type 0} (erased : List Bool) → without_erased {L = L} [] erased ≡ []
+unfolding without_erased
+without_erased-nil erased = refl
 
--- where all is erased each place has a mark
-pub marked-erased : {L : Type 0} (xs : List L) (n : ℕ) → length xs ≡ n → marked xs (replicate n true) ≡ replicate n None
-unfolding marked
-marked-erased [] zero long = refl
-marked-erased [] (suc n) long = absurd (omega arith)
-marked-erased (x ∷ xs) zero long = absurd (omega arith)
-marked-erased (x ∷ xs) (suc n) long = let rest : length xs ≡ n = omega arith in ap (λ list. None ∷ list) (marked-erased xs n rest)
+-- where all is erased each place has an erasure
+pub without_erased-list : {L : Type 0} (xs : List L) (n : ℕ) → length xs ≡ n → without_erased xs (replicate n true) ≡ replicate n None
+unfolding without_erased
+without_erased-list [] zero long = refl
+without_erased-list [] (suc n) long = absurd (omega arith)
+without_erased-list (x ∷ xs) zero long = absurd (omega arith)
+without_erased-list (x ∷ xs) (suc n) long = let rest : length xs ≡ n = omega arith in ap (λ list. None ∷ list) (without_erased-list xs n rest)
 
 -- two runs, one after the other
-pub marked-append : {L : Type 0} (xs ys : List L) (es fs : List Bool) → length xs ≡ length es → marked (xs ++ ys) (es ++ fs) ≡ marked xs es ++ marked ys fs
-unfolding marked
-marked-append [] ys [] fs long = refl
-marked-append [] ys (e ∷ es) fs long = absurd (omega arith)
-marked-append (x ∷ xs) ys [] fs long = absurd (omega arith)
-marked-append (x ∷ xs) ys (e ∷ es) fs long = let rest : length xs ≡ length es = omega arith in ap (λ list. cond e None (Some x) ∷ list) (marked-append xs ys es fs rest)
+pub without_erased-append : {L : Type 0} (xs ys : List L) (es fs : List Bool) → length xs ≡ length es → without_erased (xs ++ ys) (es ++ fs) ≡ without_erased xs es ++ without_erased ys fs
+unfolding without_erased
+without_erased-append [] ys [] fs long = refl
+without_erased-append [] ys (e ∷ es) fs long = absurd (omega arith)
+without_erased-append (x ∷ xs) ys [] fs long = absurd (omega arith)
+without_erased-append (x ∷ xs) ys (e ∷ es) fs long = let rest : length xs ≡ length es = omega arith in ap (λ list. cond e None (Some x) ∷ list) (without_erased-append xs ys es fs rest)
 
 -- the length of the front of a buffer
 pub cut_long : {X : Type 0} (n : ℕ) (buffer xs : List X) → length xs ≡ length (take n buffer) → n ≤ length buffer → length xs ≡ n
@@ -64,19 +64,20 @@ information_bits size k each value sixes fits = ap (λ n. bits_of n (value / 2 ^
 
 -- an inner word was read
 pub inner_found : (size k each value : ℕ) (reading : Option (List Bool)) (symbols : List Sym) (erased : List Bool) → 6 * each ≡ k → k ≤ size → Some (bits_of size value) ≡ reading
-    → symbols ≡ symbols_in each (bits_of (6 * each) (value / 2 ^ (size - k))) → erased ≡ replicate each false → marked symbols erased ≡ marks_of each reading
+    → symbols ≡ symbols_in each (bits_of (6 * each) (value / 2 ^ (size - k))) → erased ≡ replicate each false → without_erased symbols erased ≡ symbols_or_erasures each reading
 inner_found size k each value reading symbols erased sixes fits some made none =
     let word = bits_of size value in
     let inside : 6 * each ≤ k = omega arith in
     let there : 6 * each ≤ length word = omega (arith, length-bits_of size value) in
-    ap₂ marked (made ∙ ap (symbols_in each) (information_bits size k each value sixes fits) ∙ symbols_in-take each k word inside there) none
-    ∙ marked-plain (symbols_in each word) (replicate each false) (All-replicate (λ gone. gone ≡ false) each false refl)
-    ∙ sym (marks_of-some each word)
-    ∙ ap (marks_of each) some
+    ap₂ without_erased (made ∙ ap (symbols_in each) (information_bits size k each value sixes fits) ∙ symbols_in-take each k word inside there) none
+    ∙ without_erased-none (symbols_in each word) (replicate each false) (All-replicate (λ gone. gone ≡ false) each false refl)
+    ∙ sym (symbols_or_erasures-some each word)
+    ∙ ap (symbols_or_erasures each) some
 
 -- no inner word was read
-pub inner_beyond : (each : ℕ) (reading : Option (List Bool)) (symbols : List Sym) (erased : List Bool) → length symbols ≡ each → None ≡ reading → erased ≡ replicate each true → marked symbols erased ≡ marks_of each reading
-inner_beyond each reading symbols erased long none gone = ap (marked symbols) gone ∙ marked-erased symbols each long ∙ sym (marks_of-none each) ∙ ap (marks_of each) none
+pub inner_beyond : (each : ℕ) (reading : Option (List Bool)) (symbols : List Sym) (erased : List Bool) → length symbols ≡ each → None ≡ reading → erased ≡ replicate each true
+    → without_erased symbols erased ≡ symbols_or_erasures each reading
+inner_beyond each reading symbols erased long none gone = ap (without_erased symbols) gone ∙ without_erased-list symbols each long ∙ sym (symbols_or_erasures-none each) ∙ ap (symbols_or_erasures each) none
 
 -- a word that is read is one of the set
 pub read_word_of_set : {L : Type 0} (same : L → L → Bool) (IsWord : List L → Type 0) (radius : ℕ) (received word : List L) (answer : Option (List L)) → IsReadAs same IsWord radius received answer → answer ≡ Some word → IsWord word
@@ -101,58 +102,58 @@ read_encoding size k each value symbols sixes fits is_word made =
     }
 
 -- before the first place
-pub marked_before : {L : Type 0} (each : ℕ) (word : List L) (erased : List Bool) → marked (take (each * 0) word) (take (each * 0) erased) ≡ []
-marked_before each word erased =
+pub erased_before : {L : Type 0} (each : ℕ) (word : List L) (erased : List Bool) → without_erased (take (each * 0) word) (take (each * 0) erased) ≡ []
+erased_before each word erased =
     let none : each * 0 ≡ 0 = omega arith in
-    ap₂ (λ m n. marked (take m word) (take n erased)) none none ∙ marked-nil []
+    ap₂ (λ m n. without_erased (take m word) (take n erased)) none none ∙ without_erased-nil []
 
 -- one more place
-pub marked_next : {L : Type 0} (f : ℕ → List (Option L)) (places : List ℕ) (each i k at : ℕ) (word xs : List L) (erased es : List Bool) → i < length places → at ≡ get_or places i 0
+pub erased_next : {L : Type 0} (f : ℕ → List (Option L)) (places : List ℕ) (each i k at : ℕ) (word xs : List L) (erased es : List Bool) → i < length places → at ≡ get_or places i 0
     → each * i + each ≤ length word → length erased ≡ length word
-    → length xs ≡ each → length es ≡ each → marked (take (each * i) word) (take (each * i) erased) ≡ flat_map f (take i places) → marked xs es ≡ f at
-    → marked (take (each * (i + 1)) (put_mid (each * i) k word xs)) (take (each * (i + 1)) (put_mid (each * i) k erased es)) ≡ flat_map f (take (i + 1) places)
-marked_next f places each i k at word xs erased es inside read there same long_x long_e before is =
+    → length xs ≡ each → length es ≡ each → without_erased (take (each * i) word) (take (each * i) erased) ≡ flat_map f (take i places) → without_erased xs es ≡ f at
+    → without_erased (take (each * (i + 1)) (put_mid (each * i) k word xs)) (take (each * (i + 1)) (put_mid (each * i) k erased es)) ≡ flat_map f (take (i + 1) places)
+erased_next f places each i k at word xs erased es inside read there same long_x long_e before is =
     let next_x : each * (i + 1) ≡ each * i + length xs = omega (arith, one_more each i) in
     let next_e : each * (i + 1) ≡ each * i + length es = omega (arith, one_more each i) in
     let fits_x : each * i ≤ length word = omega arith in
     let fits_e : each * i ≤ length erased = omega arith in
     let even : length (take (each * i) word) ≡ length (take (each * i) erased) = length-take-le (each * i) word fits_x ∙ sym (length-take-le (each * i) erased fits_e) in
     let more : take (i + 1) places ≡ take i places ++ at ∷ [] = take_more places i 0 inside ∙ ap (λ x. take i places ++ x ∷ []) (sym read) in
-    ap₂ marked (take-put_mid (each * i) k word xs (each * (i + 1)) next_x fits_x) (take-put_mid (each * i) k erased es (each * (i + 1)) next_e fits_e)
-    ∙ marked-append (take (each * i) word) xs (take (each * i) erased) es even
+    ap₂ without_erased (take-put_mid (each * i) k word xs (each * (i + 1)) next_x fits_x) (take-put_mid (each * i) k erased es (each * (i + 1)) next_e fits_e)
+    ∙ without_erased-append (take (each * i) word) xs (take (each * i) erased) es even
     ∙ ap₂ (λ (us vs : List (Option _)). us ++ vs) before (is ∙ sym (append-nil (f at)))
     ∙ sym (flat_map-append f (take i places) (at ∷ []))
     ∙ ap (flat_map f) (sym more)
 
 -- after the last place
-pub marked_whole : {L : Type 0} (f : ℕ → List (Option L)) (places : List ℕ) (each i : ℕ) (word : List L) (erased : List Bool) → length places ≤ i → length places * each ≡ length word → length erased ≡ length word → i ≤ length places
-    → marked (take (each * i) word) (take (each * i) erased) ≡ flat_map f (take i places) → marked word erased ≡ flat_map f places
-marked_whole f places each i word erased past covers same most is =
+pub erased_whole : {L : Type 0} (f : ℕ → List (Option L)) (places : List ℕ) (each i : ℕ) (word : List L) (erased : List Bool) → length places ≤ i → length places * each ≡ length word → length erased ≡ length word → i ≤ length places
+    → without_erased (take (each * i) word) (take (each * i) erased) ≡ flat_map f (take i places) → without_erased word erased ≡ flat_map f places
+erased_whole f places each i word erased past covers same most is =
     let here : i ≡ length places = omega arith in
     let all : each * i ≡ length word = ap (λ n. each * n) here ∙ mul_comm each (length places) ∙ covers in
     let fits_x : length word ≤ each * i = omega arith in
     let fits_e : length erased ≤ each * i = omega arith in
     let fits : length places ≤ i = omega arith in
-    ap₂ marked (sym (take_all (each * i) word fits_x)) (sym (take_all (each * i) erased fits_e)) ∙ is ∙ ap (flat_map f) (take_all i places fits)
+    ap₂ without_erased (sym (take_all (each * i) word fits_x)) (sym (take_all (each * i) erased fits_e)) ∙ is ∙ ap (flat_map f) (take_all i places fits)
 
--- the outer word, from the symbols and marks of all places
+-- the outer word, from the symbols and erasures of all places
 pub outer_read : (layout : Layout) (bits : List Bool) (list : List (Option Sym)) (value : Option (List Sym)) → value ≡ layout.outer_reading list
-    → list ≡ flat_map (λ at. marks_of layout.each (layout.inner_reading (part at layout.size bits))) layout.places → value ≡ outer_word_of layout bits
+    → list ≡ flat_map (λ at. symbols_or_erasures layout.each (layout.inner_reading (part at layout.size bits))) layout.places → value ≡ outer_word_of layout bits
 unfolding outer_word_of received_in
 outer_read layout bits list value read is = read ∙ ap layout.outer_reading is
 
 -- an outer word that was read has its letters
 pub found_long : {L : Type 0} (same : L → L → Bool) (IsWord : List L → Type 0) (n most : ℕ) (list : List (Option L)) (received word : List L) (answer : Reading) (fixes : ℕ) → ((w : List L) → IsWord w → length w ≡ n) → answer ≡ Found fixes
-    → IsMarkedReading same IsWord most list received word answer → length word ≡ n
-unfolding IsMarkedReading
+    → IsErasedReading same IsWord most list received word answer → length word ≡ n
+unfolding IsErasedReading
 found_long same IsWord n most list received word answer fixes long found is =
-    let read : IsMarkedFound same IsWord most list received word fixes = subst (λ a. IsMarkedReading same IsWord most list received word a) found is in
+    let read : IsErasedFound same IsWord most list received word fixes = subst (λ a. IsErasedReading same IsWord most list received word a) found is in
     long word read.word_of_set
 
 -- and it is what was received where no letter changed
 pub found_same : {L : Type 0} (same : L → L → Bool) (IsWord : List L → Type 0) (n most : ℕ) (list : List (Option L)) (received word : List L) (answer : Reading) (fixes : ℕ) → ((x y : L) → same x y ≡ true → x ≡ y)
-    → ((w : List L) → IsWord w → length w ≡ n) → length received ≡ n → answer ≡ Found fixes → fixes ≡ 0 → IsMarkedReading same IsWord most list received word answer → received ≡ word
-unfolding IsMarkedReading
+    → ((w : List L) → IsWord w → length w ≡ n) → length received ≡ n → answer ≡ Found fixes → fixes ≡ 0 → IsErasedReading same IsWord most list received word answer → received ≡ word
+unfolding IsErasedReading
 found_same same IsWord n most list received word answer fixes alike long long_received found none is =
-    let read : IsMarkedFound same IsWord most list received word fixes = subst (λ a. IsMarkedReading same IsWord most list received word a) found is in
+    let read : IsErasedFound same IsWord most list received word fixes = subst (λ a. IsErasedReading same IsWord most list received word a) found is in
     same_from_distance_by same alike received word (long_received ∙ sym (long word read.word_of_set)) (sym read.fixes_is ∙ none)

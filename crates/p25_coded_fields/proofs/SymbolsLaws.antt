@@ -48,14 +48,14 @@ symbol_number count i value inside =
 pub number_more : (symbols : List Sym) (i value before : ℕ) (x : Sym) → i < length symbols → x ≡ get_or symbols i x → value ≡ number x → before ≡ field_of (symbol_bits (take i symbols))
     → 64 * before + value ≡ field_of (symbol_bits (take (i + 1) symbols))
 number_more symbols i value before x inside read is so_far =
-    let front = symbol_bits (take i symbols) in
+    let beginning = symbol_bits (take i symbols) in
     let last = bits_of 6 (number x) in
     let below : number x < 64 = x.below in
     let small : number x % 64 ≡ number x = omega arith in
-    let list : symbol_bits (take (i + 1) symbols) ≡ front ++ last
-    = ap symbol_bits (take_more symbols i x inside ∙ ap (λ y. take i symbols ++ y ∷ []) (sym read)) ∙ symbol_bits-append (take i symbols) (x ∷ []) ∙ ap (λ (ys : List Bool). front ++ ys) (symbol_bits-one x) in
-    let sum : field_of (front ++ last) ≡ field_of front * 64 + number x
-    = field_of-append front last ∙ ap₂ (λ n m. field_of front * 2 ^ n + m) (length-bits_of 6 (number x)) (field_of-bits_of 6 (number x) ∙ small) in
+    let list : symbol_bits (take (i + 1) symbols) ≡ beginning ++ last
+    = ap symbol_bits (take_more symbols i x inside ∙ ap (λ y. take i symbols ++ y ∷ []) (sym read)) ∙ symbol_bits-append (take i symbols) (x ∷ []) ∙ ap (λ (ys : List Bool). beginning ++ ys) (symbol_bits-one x) in
+    let sum : field_of (beginning ++ last) ≡ field_of beginning * 64 + number x
+    = field_of-append beginning last ∙ ap₂ (λ n m. field_of beginning * 2 ^ n + m) (length-bits_of 6 (number x)) (field_of-bits_of 6 (number x) ∙ small) in
     omega (arith, sum, so_far, is) ∙ sym (ap field_of list)
 
 -- the bits of so many symbols write no larger number

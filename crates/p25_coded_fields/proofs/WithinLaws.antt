@@ -11,22 +11,22 @@ use Rattle.p25_bits.specs.Bits.{part}
 use Rattle.p25_bits.specs.Distance.{distance_of}
 use Rattle.p25_bits.proofs.DistanceLaws.{distance_by-same, distance_of-same}
 use Rattle.p25_bits.proofs.PartLaws.{length-part}
-use Rattle.p25_code.specs.Marks.{marks_in, mark_weight, letter_distance, unmarked_distance, marked_cost}
-use Rattle.p25_code.proofs.MarkedLaws.{marked_cost-letters}
+use Rattle.p25_code.specs.Erasures.{erasures_in, erasure_weight, letter_distance, kept_distance, erased_cost}
+use Rattle.p25_code.proofs.ErasedLaws.{erased_cost-letters}
 use Rattle.p25_gf64.specs.declared.symbol.Sym.{Sym}
 use Rattle.p25_gf64.specs.Symbol.{number}
 use Rattle.p25_reed_solomon.specs.Words.{same_symbols}
 use Rattle.p25_link.specs.Symbols.{symbols_in}
 use Rattle.p25_link.proofs.SymbolsLaws.{length-symbols_in}
-use Rattle.p25_coded_fields.specs.Layouts.{Layout, marks_of, received_in, outer_word_of, field_reading_of, sent_in}
+use Rattle.p25_coded_fields.specs.Layouts.{Layout, symbols_or_erasures, received_in, outer_word_of, field_reading_of, sent_in}
 use Rattle.p25_coded_fields.specs.Within.{HasField, IsFieldNear, lost_symbols, HasCodes}
-use Rattle.p25_coded_fields.proofs.ReadLaws.{marks_of-some, marks_of-none}
+use Rattle.p25_coded_fields.proofs.ReadLaws.{symbols_or_erasures-some, symbols_or_erasures-none}
 use Rattle.p25_coded_fields.proofs.SymbolsLaws.{one_more}
 
--- an inner word gives as many symbols or marks as it carries
-pub length-marks_of : (each : ℕ) (word : Option (List Bool)) → length (marks_of each word) ≡ each
-length-marks_of each (Some word) = ap length (marks_of-some each word) ∙ length-map (symbols_in each word) Some ∙ length-symbols_in each word
-length-marks_of each None = ap length (marks_of-none each) ∙ length-replicate each None
+-- an inner word gives as many symbols or erasures as it carries
+pub length-symbols_or_erasures : (each : ℕ) (word : Option (List Bool)) → length (symbols_or_erasures each word) ≡ each
+length-symbols_or_erasures each (Some word) = ap length (symbols_or_erasures-some each word) ∙ length-map (symbols_in each word) Some ∙ length-symbols_in each word
+length-symbols_or_erasures each None = ap length (symbols_or_erasures-none each) ∙ length-replicate each None
 
 -- lists of one length, one for each place
 length-pieces : {X : Type 0} (each : ℕ) (f : ℕ → List X) (places : List ℕ) → ((at : ℕ) → length (f at) ≡ each) → length (flat_map f places) ≡ each * length places
@@ -37,8 +37,8 @@ length-pieces each f (at ∷ places) long =
 pub length-received_in : (layout : Layout) (bits : List Bool) → length (received_in layout bits) ≡ layout.each * length layout.places
 unfolding received_in
 length-received_in layout bits =
-    length-pieces layout.each (λ at. marks_of layout.each (layout.inner_reading (part at layout.size bits))) layout.places
-    (λ at. length-marks_of layout.each (layout.inner_reading (part at layout.size bits)))
+    length-pieces layout.each (λ at. symbols_or_erasures layout.each (layout.inner_reading (part at layout.size bits))) layout.places
+    (λ at. length-symbols_or_erasures layout.each (layout.inner_reading (part at layout.size bits)))
 
 pub length-sent_in : (layout : Layout) (bits : List Bool) → length (sent_in layout bits) ≡ layout.each * length layout.places
 unfolding sent_in
@@ -63,41 +63,41 @@ module _ {IsInnerWord : List Bool → Type 0} {inner_radius : ℕ} {IsOuterWord 
       field_reading_of-some layout received (sent_in layout sent) (codes.outer (received_in layout received) (sent_in layout sent) (length-received_in layout received) has.outer is.near)
       ∙ ap Some has.begins
 
--- distances and marks of two runs, one after the other, add up
-unmarked_distance-append : {L : Type 0} (same : L → L → Bool) (list more : List (Option L)) (word others : List L) → length list ≡ length word
-    → unmarked_distance same (list ++ more) (word ++ others) ≡ unmarked_distance same list word + unmarked_distance same more others
-unfolding unmarked_distance
-unmarked_distance-append same [] more [] others long = omega arith
-unmarked_distance-append same [] more (x ∷ word) others long = absurd (omega arith)
-unmarked_distance-append same (y ∷ list) more [] others long = absurd (omega arith)
-unmarked_distance-append same (y ∷ list) more (x ∷ word) others long = omega (arith, unmarked_distance-append same list more word others (omega arith))
+-- distances and erasures of two runs, one after the other, add up
+kept_distance-append : {L : Type 0} (same : L → L → Bool) (list more : List (Option L)) (word others : List L) → length list ≡ length word
+    → kept_distance same (list ++ more) (word ++ others) ≡ kept_distance same list word + kept_distance same more others
+unfolding kept_distance
+kept_distance-append same [] more [] others long = omega arith
+kept_distance-append same [] more (x ∷ word) others long = absurd (omega arith)
+kept_distance-append same (y ∷ list) more [] others long = absurd (omega arith)
+kept_distance-append same (y ∷ list) more (x ∷ word) others long = omega (arith, kept_distance-append same list more word others (omega arith))
 
-marks_in-append : {L : Type 0} (list more : List (Option L)) → marks_in (list ++ more) ≡ marks_in list + marks_in more
-unfolding marks_in
-marks_in-append [] more = omega arith
-marks_in-append (y ∷ list) more = omega (arith, marks_in-append list more)
+erasures_in-append : {L : Type 0} (list more : List (Option L)) → erasures_in (list ++ more) ≡ erasures_in list + erasures_in more
+unfolding erasures_in
+erasures_in-append [] more = omega arith
+erasures_in-append (y ∷ list) more = omega (arith, erasures_in-append list more)
 
 -- so do costs
-marked_cost-append : {L : Type 0} (same : L → L → Bool) (list more : List (Option L)) (word others : List L) → length list ≡ length word
-    → marked_cost same (list ++ more) (word ++ others) ≡ marked_cost same list word + marked_cost same more others
-unfolding marked_cost
-marked_cost-append same list more word others long = omega (arith, unmarked_distance-append same list more word others long, marks_in-append list more)
+erased_cost-append : {L : Type 0} (same : L → L → Bool) (list more : List (Option L)) (word others : List L) → length list ≡ length word
+    → erased_cost same (list ++ more) (word ++ others) ≡ erased_cost same list word + erased_cost same more others
+unfolding erased_cost
+erased_cost-append same list more word others long = omega (arith, kept_distance-append same list more word others long, erasures_in-append list more)
 
 -- a place counts one at most
-place-le : {L : Type 0} (same : L → L → Bool) (y : Option L) (x : L) → letter_distance same y x + mark_weight y ≤ 1
+place-le : {L : Type 0} (same : L → L → Bool) (y : Option L) (x : L) → letter_distance same y x + erasure_weight y ≤ 1
 place-le same None x = omega arith
 place-le same (Some y) x = elim (same y x) as (λ b. cond b 0 1 + 0 ≤ 1) [ true ↦ omega arith | false ↦ omega arith ]
 
-places-le : {L : Type 0} (same : L → L → Bool) (list : List (Option L)) (word : List L) → length list ≡ length word → unmarked_distance same list word + marks_in list ≤ length list
-unfolding unmarked_distance marks_in
+places-le : {L : Type 0} (same : L → L → Bool) (list : List (Option L)) (word : List L) → length list ≡ length word → kept_distance same list word + erasures_in list ≤ length list
+unfolding kept_distance erasures_in
 places-le same [] word long = omega arith
 places-le same (y ∷ list) [] long = absurd (omega arith)
 places-le same (y ∷ list) (x ∷ word) long = omega (arith, places-le same list word (omega arith), place-le same y x)
 
 -- no word costs more than two for each place
-marked_cost-le : {L : Type 0} (same : L → L → Bool) (list : List (Option L)) (word : List L) → length list ≡ length word → marked_cost same list word ≤ 2 * length list
-unfolding marked_cost
-marked_cost-le same list word long = omega (arith, places-le same list word long)
+erased_cost-le : {L : Type 0} (same : L → L → Bool) (list : List (Option L)) (word : List L) → length list ≡ length word → erased_cost same list word ≤ 2 * length list
+unfolding erased_cost
+erased_cost-le same list word long = omega (arith, places-le same list word long)
 
 -- undamaged bits have no lost symbols
 lost_symbols-itself : (radius : ℕ) (layout : Layout) (bits : List Bool) → lost_symbols radius layout bits bits ≡ 0
@@ -117,40 +117,40 @@ lost_symbols-itself radius layout bits = none layout.places
     none (at ∷ places) = omega (arith, sum_by-cons lost at places, near at, none places)
 
 -- a word costs nothing for the letters that it has
-marked_cost-itself : (word : List Sym) → marked_cost same_symbols (map Some word) word ≡ 0
-marked_cost-itself word =
-    marked_cost-letters same_symbols word word ∙ omega (arith, distance_by-same same_symbols (λ x. eq-eqb (number x) (number x) refl) word)
+erased_cost-itself : (word : List Sym) → erased_cost same_symbols (map Some word) word ≡ 0
+erased_cost-itself word =
+    erased_cost-letters same_symbols word word ∙ omega (arith, distance_by-same same_symbols (λ x. eq-eqb (number x) (number x) refl) word)
 
 module _ {IsInnerWord : List Bool → Type 0} {inner_radius : ℕ} {IsOuterWord : List Sym → Type 0} {checks : ℕ} {layout : Layout} (codes : HasCodes IsInnerWord inner_radius IsOuterWord checks layout) where
   -- an inner word within the radius costs nothing, and any other two for each symbol at most
   piece_cost : (sent received : List Bool) → length received ≡ layout.size → IsInnerWord sent
-      → marked_cost same_symbols (marks_of layout.each (layout.inner_reading received)) (symbols_in layout.each sent) ≤ 2 * cond (nat_le (distance_of received sent) inner_radius) 0 layout.each
+      → erased_cost same_symbols (symbols_or_erasures layout.each (layout.inner_reading received)) (symbols_in layout.each sent) ≤ 2 * cond (nat_le (distance_of received sent) inner_radius) 0 layout.each
   piece_cost sent received long is =
       elim (cases_lt inner_radius (distance_of received sent)) [
         | inl far ↦
             omega (
               arith,
-              marked_cost-le same_symbols (marks_of layout.each (layout.inner_reading received)) (symbols_in layout.each sent)
-                  (length-marks_of layout.each (layout.inner_reading received) ∙ sym (length-symbols_in layout.each sent)),
-              length-marks_of layout.each (layout.inner_reading received),
+              erased_cost-le same_symbols (symbols_or_erasures layout.each (layout.inner_reading received)) (symbols_in layout.each sent)
+                  (length-symbols_or_erasures layout.each (layout.inner_reading received) ∙ sym (length-symbols_in layout.each sent)),
+              length-symbols_or_erasures layout.each (layout.inner_reading received),
               cond-false {A = ℕ} (nat_le (distance_of received sent) inner_radius) 0 layout.each (lt-leb (distance_of received sent) inner_radius far),
             )
         | inr near ↦
-            let read = ap (marks_of layout.each) (codes.inner received sent long is near) ∙ marks_of-some layout.each sent in
-            let none = ap (λ list. marked_cost same_symbols list (symbols_in layout.each sent)) read ∙ marked_cost-itself (symbols_in layout.each sent) in
+            let read = ap (symbols_or_erasures layout.each) (codes.inner received sent long is near) ∙ symbols_or_erasures-some layout.each sent in
+            let none = ap (λ list. erased_cost same_symbols list (symbols_in layout.each sent)) read ∙ erased_cost-itself (symbols_in layout.each sent) in
             omega (arith, none)
       ]
 
   -- so do the words at places
   pieces_cost : (sent received : List Bool) (places : List ℕ) → All (λ at. IsInnerWord (part at layout.size sent)) places → All (λ at. at + layout.size ≤ length received) places
-      → marked_cost same_symbols (flat_map (λ at. marks_of layout.each (layout.inner_reading (part at layout.size received))) places) (flat_map (λ at. symbols_in layout.each (part at layout.size sent)) places)
+      → erased_cost same_symbols (flat_map (λ at. symbols_or_erasures layout.each (layout.inner_reading (part at layout.size received))) places) (flat_map (λ at. symbols_in layout.each (part at layout.size sent)) places)
       ≤ 2 * sum_by (λ at. cond (nat_le (distance_of (part at layout.size received) (part at layout.size sent)) inner_radius) 0 layout.each) places
-  pieces_cost sent received [] words there = omega (arith, marked_cost-itself [])
+  pieces_cost sent received [] words there = omega (arith, erased_cost-itself [])
   pieces_cost sent received (at ∷ places) words there =
-      let list = marks_of layout.each (layout.inner_reading (part at layout.size received)) in
+      let list = symbols_or_erasures layout.each (layout.inner_reading (part at layout.size received)) in
       let word = symbols_in layout.each (part at layout.size sent) in
       let lost : ℕ → ℕ = λ at. cond (nat_le (distance_of (part at layout.size received) (part at layout.size sent)) inner_radius) 0 layout.each in
-      let even : length list ≡ length word = length-marks_of layout.each (layout.inner_reading (part at layout.size received)) ∙ sym (length-symbols_in layout.each (part at layout.size sent)) in
+      let even : length list ≡ length word = length-symbols_or_erasures layout.each (layout.inner_reading (part at layout.size received)) ∙ sym (length-symbols_in layout.each (part at layout.size sent)) in
       let here : at + layout.size ≤ length received = there 0 at (omega arith) in
       let first = piece_cost (part at layout.size sent) (part at layout.size received) (length-part at layout.size received here) (words 0 at (omega arith)) in
       let others = pieces_cost sent received places (λ k d h. words (suc k) d (omega arith)) (λ k d h. there (suc k) d (omega arith)) in
@@ -158,7 +158,7 @@ module _ {IsInnerWord : List Bool → Type 0} {inner_radius : ℕ} {IsOuterWord 
         arith,
         first,
         others,
-        marked_cost-append same_symbols list (flat_map (λ at. marks_of layout.each (layout.inner_reading (part at layout.size received))) places) word
+        erased_cost-append same_symbols list (flat_map (λ at. symbols_or_erasures layout.each (layout.inner_reading (part at layout.size received))) places) word
             (flat_map (λ at. symbols_in layout.each (part at layout.size sent)) places) even,
         sum_by-cons lost at places,
       )

@@ -31,15 +31,15 @@ unfoldable pub places_from : ℕ → ℕ → ℕ → List ℕ
 places_from at step zero = []
 places_from at step (suc count) = at ∷ places_from (at + step) step count
 
--- the symbols that an inner word gives the outer one: those that its information writes, or a mark for each where no inner
+-- the symbols that an inner word gives the outer one: those that its information writes, or an erasure for each where no inner
 -- word was read
-unfoldable pub marks_of : ℕ → Option (List Bool) → List (Option Sym)
-marks_of each (Some word) = map Some (symbols_in each word)
-marks_of each None = replicate each None
+unfoldable pub symbols_or_erasures : ℕ → Option (List Bool) → List (Option Sym)
+symbols_or_erasures each (Some word) = map Some (symbols_in each word)
+symbols_or_erasures each None = replicate each None
 
--- the outer word of a field as it was received, with marks
+-- the outer word of a field as it was received, with erasures
 unfoldable pub received_in : Layout → List Bool → List (Option Sym)
-received_in layout bits = flat_map (λ at. marks_of layout.each (layout.inner_reading (part at layout.size bits))) layout.places
+received_in layout bits = flat_map (λ at. symbols_or_erasures layout.each (layout.inner_reading (part at layout.size bits))) layout.places
 
 -- the outer word that a field is read as, or none
 unfoldable pub outer_word_of : Layout → List Bool → Option (List Sym)

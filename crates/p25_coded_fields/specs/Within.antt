@@ -1,9 +1,9 @@
--- The damage of a field that its codes undo: twice the wrong symbols, and the marks, are at most the check symbols of the outer
+-- The damage of a field that its codes undo: twice the wrong symbols, and the erasures, are at most the check symbols of the outer
 -- code together.
 use Rattle.std.specs.Prelude.{◌≡◌, ℕ, ◌*◌, ◌≤◌, cond, nat_le, Bool, List, length, take, Option, Some, All, sum_by}
 use Rattle.p25_bits.specs.Bits.{part}
 use Rattle.p25_bits.specs.Distance.{distance_of}
-use Rattle.p25_code.specs.Marks.{marked_cost}
+use Rattle.p25_code.specs.Erasures.{erased_cost}
 use Rattle.p25_gf64.specs.declared.symbol.Sym.{Sym}
 use Rattle.p25_reed_solomon.specs.Words.{same_symbols}
 use Rattle.p25_coded_fields.specs.Layouts.{Layout, received_in, sent_in}
@@ -17,7 +17,7 @@ pub record HasField (IsInnerWord : List Bool → Type 0) (IsOuterWord : List Sym
 -- what was received of a field costs no more than the outer code undoes: two for each symbol of a word that was read otherwise
 -- than sent, one for each symbol of a word that was not read
 pub record IsFieldNear (checks : ℕ) (layout : Layout) (sent received : List Bool) : Type 0 where
-  pub near : marked_cost same_symbols (received_in layout received) (sent_in layout sent) ≤ checks
+  pub near : erased_cost same_symbols (received_in layout received) (sent_in layout sent) ≤ checks
 
 -- how many symbols stand in inner words with more wrong bits than the radius
 unfoldable pub lost_symbols : ℕ → Layout → List Bool → List Bool → ℕ
@@ -29,4 +29,4 @@ pub record HasCodes (IsInnerWord : List Bool → Type 0) (inner_radius : ℕ) (I
   pub inner : (received sent : List Bool) → length received ≡ layout.size → IsInnerWord sent → distance_of received sent ≤ inner_radius
       → layout.inner_reading received ≡ Some sent
   pub outer : (list : List (Option Sym)) (sent : List Sym) → length list ≡ layout.each * length layout.places → IsOuterWord sent
-      → marked_cost same_symbols list sent ≤ checks → layout.outer_reading list ≡ Some sent
+      → erased_cost same_symbols list sent ≤ checks → layout.outer_reading list ≡ Some sent

@@ -37,7 +37,7 @@ pub(crate) fn sum_of(first: Option<u32>, second: Option<u32>) -> Option<u32>
 pub(crate) fn field_fixes<I: NumberCode>(
     outer: u32,
     wrong: Option<u32>,
-    plain: &BitBuf,
+    bare: &BitBuf,
     places: &[usize],
     word: &[Sym],
 ) -> u32
@@ -46,47 +46,47 @@ pub(crate) fn field_fixes<I: NumberCode>(
     requires sixes { 6 * (I.K / 6) ≡ I.K }
     requires short { length word.now ≤ 36 }
     requires word { length places.now * (I.K / 6) ≡ length word.now }
-    requires there { All (λ at. at + I.N ≤ length plain.now) places.now }
-    requires wrong { outer ≡ 0 → IfSome wrong (λ count. AreCounted I.IsWord I.N I.K (I.K / 6) (length places.now) places.now word.now plain.now count) }
-    ensures { AreCounted I.IsWord I.N I.K (I.K / 6) (length places.now) places.now word.now plain.now result }
+    requires there { All (λ at. at + I.N ≤ length bare.now) places.now }
+    requires wrong { outer ≡ 0 → IfSome wrong (λ count. AreCounted I.IsWord I.N I.K (I.K / 6) (length places.now) places.now word.now bare.now count) }
+    ensures { AreCounted I.IsWord I.N I.K (I.K / 6) (length places.now) places.now word.now bare.now result }
 {
     if outer == 0 {
         if let Some(count) = wrong {
             return count;
         }
     }
-    count_fixes::<I>(plain, places, word)
+    count_fixes::<I>(bare, places, word)
 }
 
 // Counts the wrong bits of all inner words.
-fn count_fixes<I: NumberCode>(plain: &BitBuf, places: &[usize], word: &[Sym]) -> u32
+fn count_fixes<I: NumberCode>(bare: &BitBuf, places: &[usize], word: &[Sym]) -> u32
     requires code { I.HasCode }
     requires small { I.N ≤ 24 }
     requires sixes { 6 * (I.K / 6) ≡ I.K }
     requires short { length word.now ≤ 36 }
     requires word { length places.now * (I.K / 6) ≡ length word.now }
-    requires there { All (λ at. at + I.N ≤ length plain.now) places.now }
-    ensures { AreCounted I.IsWord I.N I.K (I.K / 6) (length places.now) places.now word.now plain.now result }
+    requires there { All (λ at. at + I.N ≤ length bare.now) places.now }
+    ensures { AreCounted I.IsWord I.N I.K (I.K / 6) (length places.now) places.now word.now bare.now result }
 {
     let each = I::K / 6;
     let mut wrong = 0;
     for (i, at) in places.iter().enumerate() {
-        let more = inner_fixes::<I>(plain, *at, &word[each * i..each * i + each]);
+        let more = inner_fixes::<I>(bare, *at, &word[each * i..each * i + each]);
         wrong = total(wrong, more);
     }
     wrong
 }
 
 // In how many bits the inner word at a place was received otherwise than it is sent for the symbols.
-fn inner_fixes<I: NumberCode>(plain: &BitBuf, at: usize, symbols: &[Sym]) -> u32
+fn inner_fixes<I: NumberCode>(bare: &BitBuf, at: usize, symbols: &[Sym]) -> u32
     requires code { I.HasCode }
     requires small { I.N ≤ 24 }
     requires sixes { 6 * length symbols.now ≡ I.K }
-    requires there { at + I.N ≤ length plain.now }
+    requires there { at + I.N ≤ length bare.now }
     ensures few { result ≤ 24 }
-    ensures wrong { (sent : List Bool) → IsEncoding I.IsWord I.K (symbol_bits symbols.now) sent → result ≡ distance_of (part at I.N plain.now) sent }
+    ensures wrong { (sent : List Bool) → IsEncoding I.IsWord I.K (symbol_bits symbols.now) sent → result ≡ distance_of (part at I.N bare.now) sent }
 {
-    let received = plain.field(at, I::N as u32) as u32;
+    let received = bare.field(at, I::N as u32) as u32;
     let sent = I::encode_number(symbols_number(symbols));
     (received ^ sent).count_ones()
 }

@@ -2,14 +2,14 @@
 //! Voice Data Units).
 //!
 //! A symbol is the number that six bits write, the first bit highest. The information of an inner word is one symbol, or two
-//! of a Golay (24,12) word. `put_field` encodes the symbols of an outer word as inner words, one after the other;
+//! of a Golay (24,12) word. `put_coded` encodes the symbols of an outer word as inner words, one after the other;
 //! `read_field` reads the inner words at places of a unit and then the outer word. Where an inner word is not read, each of
-//! its symbols is a mark, and the outer code reads the symbols that are left:
+//! its symbols is an erasure, and the outer code reads the symbols that are left:
 //!
 //! ```text
 //! let places = [112, 130, 148, …];
 //! let mut word = [Sym::ZERO; 36];
-//! match read_field::<Golay18, Rs<36, 20>>(&plain, &places, &mut word) {
+//! match read_field::<Golay18, Rs<36, 20>>(&bare, &places, &mut word) {
 //!     Reading::Found { .. } => …, // word[..20] is the header word
 //!     Reading::Beyond => …,       // more damage than the outer code undoes
 //! }
@@ -26,5 +26,5 @@ mod symbols;
 #[cfg(test)]
 mod tests;
 
-pub use put::put_field;
+pub use put::put_coded;
 pub use read::read_field;

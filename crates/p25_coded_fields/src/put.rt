@@ -25,7 +25,7 @@ fn put_inner<I: NumberCode>(symbols: &[Sym], out: &mut BitBuf)
 /// Appends `count` inner words, whose information is the symbols in order, so many for each word as its information has. For
 /// every function that encodes, as the inner code does, what is appended is `field_bits` of it. TIA-102.BAAA, Voice Data
 /// Units.
-pub fn put_field<I: NumberCode>(symbols: &[Sym], count: usize, out: &mut BitBuf)
+pub fn put_coded<I: NumberCode>(symbols: &[Sym], count: usize, out: &mut BitBuf)
     requires code { I.HasCode }
     requires small { I.N ≤ 24 }
     requires sixes { 6 * (I.K / 6) ≡ I.K }

@@ -3,18 +3,18 @@
 ghost use Rattle.std.specs.Prelude.{◌≡◌, ℕ, ◌+◌, ◌*◌, ◌/◌, ◌<◌, ◌≤◌, All, Bool, List, IfSome, length, replicate};
 ghost use Rattle.p25_bits.specs.Bits.{part};
 ghost use Rattle.p25_bits.specs.Distance.{distance_of};
-ghost use Rattle.p25_code.specs.Marks.{marked};
+ghost use Rattle.p25_code.specs.Erasures.{without_erased};
 ghost use Rattle.p25_code.specs.Readings.{word_read};
 ghost use Rattle.p25_code.specs.Words.{IsEncoding};
 ghost use Rattle.p25_coded_fields.specs.Fixes.{field_fixes_of, AreCounted, IsTotal};
-ghost use Rattle.p25_coded_fields.specs.Layouts.{field_layout, marks_of, outer_word_of};
+ghost use Rattle.p25_coded_fields.specs.Layouts.{field_layout, symbols_or_erasures, outer_word_of};
 ghost use Rattle.p25_coded_fields.specs.Written.{Encodes};
 ghost use Rattle.p25_link.specs.Symbols.{symbol_bits};
 
 use crate::fixes::{field_fixes, sum_of};
 use crate::symbols::take_symbols;
 use p25_bits::BitBuf;
-use p25_code::{ErasedCode, NumberCode, Reading, read_marked};
+use p25_code::{ErasedCode, NumberCode, Reading, read_with_erasures};
 use p25_gf64::Sym;
 
 // Sets all to one truth value.
@@ -29,7 +29,7 @@ fn set_all(erased: &mut [bool], gone: bool)
 // Reads the inner word at a place, and answers how many of its bits were wrong. The symbols become those of its information.
 // Where no word is read all are erased, and the answer is None.
 fn read_inner<I: NumberCode>(
-    plain: &BitBuf,
+    bare: &BitBuf,
     at: usize,
     symbols: &mut [Sym],
     erased: &mut [bool],
@@ -38,13 +38,13 @@ fn read_inner<I: NumberCode>(
     requires small { I.N ≤ 24 }
     requires sixes { 6 * length symbols.old ≡ I.K }
     requires same { length erased.old ≡ length symbols.old }
-    requires there { at + I.N ≤ length plain.now }
-    ensures marks { marked symbols.new erased.new ≡ marks_of (length symbols.old) (I.reading_is (part at I.N plain.now)) }
+    requires there { at + I.N ≤ length bare.now }
+    ensures erasures { without_erased symbols.new erased.new ≡ symbols_or_erasures (length symbols.old) (I.reading_is (part at I.N bare.now)) }
     ensures few { IfSome result (λ wrong. wrong ≤ 24) }
     ensures wrong { IfSome result (λ wrong. (sent : List Bool) → IsEncoding I.IsWord I.K (symbol_bits symbols.new) sent
-        → wrong ≡ distance_of (part at I.N plain.now) sent) }
+        → wrong ≡ distance_of (part at I.N bare.now) sent) }
 {
-    let received = plain.field(at, I::N as u32) as u32;
+    let received = bare.field(at, I::N as u32) as u32;
     match I::read_number(received) {
         Some(sent) => {
             take_symbols(sent >> (I::N - I::K), symbols);
@@ -65,7 +65,7 @@ fn read_inner<I: NumberCode>(
 /// `word`. The fixes of Found are the bits in which the inner words were received otherwise than they are sent for that word.
 /// TIA-102.BAAA, Voice Data Units.
 pub fn read_field<I: NumberCode, O: ErasedCode<Letter = Sym>>(
-    plain: &BitBuf,
+    bare: &BitBuf,
     places: &[usize],
     word: &mut [Sym],
 ) -> Reading
@@ -76,10 +76,10 @@ pub fn read_field<I: NumberCode, O: ErasedCode<Letter = Sym>>(
     requires short { O.N ≤ 36 }
     requires word { length word.old ≡ O.N }
     requires places { length places.now * (I.K / 6) ≡ O.N }
-    requires there { All (λ at. at + I.N ≤ length plain.now) places.now }
-    ensures value { word_read result word.new ≡ outer_word_of (field_layout places.now I.N (I.K / 6) I.reading_is O.marked_reading_is O.K) plain.now }
+    requires there { All (λ at. at + I.N ≤ length bare.now) places.now }
+    ensures value { word_read result word.new ≡ outer_word_of (field_layout places.now I.N (I.K / 6) I.reading_is O.erased_reading_is O.K) bare.now }
     ensures fixes { 0 < I.K → (encoding : List Bool → List Bool) → Encodes I.IsWord I.K encoding → (fixes : ℕ) → result ≡ Reading.Found fixes
-        → fixes ≡ field_fixes_of encoding I.N (I.K / 6) places.now word.new plain.now }
+        → fixes ≡ field_fixes_of encoding I.N (I.K / 6) places.now word.new bare.now }
     ensures most { 0 < I.K → (fixes : ℕ) → result ≡ Reading.Found fixes → fixes ≤ 24 * length places.now }
 {
     let each = I::K / 6;
@@ -88,12 +88,12 @@ pub fn read_field<I: NumberCode, O: ErasedCode<Letter = Sym>>(
     let mut wrong = Some(0);
     for (i, at) in places.iter().enumerate() {
         let (start, end) = (each * i, each * i + each);
-        let more = read_inner::<I>(plain, *at, &mut word[start..end], &mut erased[start..end]);
+        let more = read_inner::<I>(bare, *at, &mut word[start..end], &mut erased[start..end]);
         wrong = sum_of(wrong, more);
     }
-    match read_marked::<O>(word, erased) {
+    match read_with_erasures::<O>(word, erased) {
         Reading::Found { fixes } => Reading::Found {
-            fixes: field_fixes::<I>(fixes, wrong, plain, places, word),
+            fixes: field_fixes::<I>(fixes, wrong, bare, places, word),
         },
         Reading::Beyond => Reading::Beyond,
     }

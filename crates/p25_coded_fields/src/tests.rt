@@ -2,7 +2,7 @@
 
 ghost use Rattle.std.specs.Prelude.{◌≡◌, ◌≤◌, length};
 
-use super::{put_field, read_field};
+use super::{put_coded, read_field};
 use p25_bits::BitBuf;
 use p25_code::{BlockCode, Reading};
 use p25_gf64::Sym;
@@ -39,16 +39,16 @@ fn fields(rt: HostRuntime) {
         (2, 4, Some(6)),
         (4, 4, None),
     ] {
-        let mut plain = BitBuf::new();
-        plain.put_field(0xA5, 8);
-        put_field::<Golay24>(&sent, 2, &mut plain);
+        let mut bare = BitBuf::new();
+        bare.put_field(0xA5, 8);
+        put_coded::<Golay24>(&sent, 2, &mut bare);
         // The information of the first word: α^7 is 6, and then 1.
-        assert_eq!(rt; plain.field(8, 12), 0o0601);
-        invert(&mut plain, PLACES[0], first);
-        invert(&mut plain, PLACES[1], second);
-        assert_eq!(rt; plain.len(), 56);
+        assert_eq!(rt; bare.field(8, 12), 0o0601);
+        invert(&mut bare, PLACES[0], first);
+        invert(&mut bare, PLACES[1], second);
+        assert_eq!(rt; bare.len(), 56);
         let mut word = [Sym::ZERO; 4];
-        match read_field::<Golay24, Outer>(&plain, &PLACES, &mut word) {
+        match read_field::<Golay24, Outer>(&bare, &PLACES, &mut word) {
             Reading::Found { fixes } => {
                 assert!(rt; read == Some(fixes) && word == sent, "{first} {second}");
             }

@@ -23,13 +23,13 @@ use Rattle.p25_delivery.specs.declared.sender_state.Outstanding.TheVariants.{Not
 use Rattle.p25_delivery.specs.declared.sender.SenderHeard.TheVariants.{Acknowledged, Opened as SenderOpened}
 use Rattle.p25_delivery.specs.declared.receiver.Heard.TheVariants.{Delivered, Opened}
 use Rattle.p25_delivery.proofs.CarriedLaws.{slots-read_back}
-use Rattle.p25_delivery.specs.Link.{Link, Session}
+use Rattle.p25_delivery.specs.Delivery.{Delivery, Session}
 use Rattle.p25_delivery.specs.AtOnce.{DeliversAtOnce, OpensAtOnce}
 use Rattle.p25_delivery.proofs.HeadLaws.{response_head-status, response_head-class, response_head-kind, response_head-format, response_head-llid, confirmed_head-full}
 use Rattle.p25_delivery.proofs.SentLaws.{counts-small, all-blocks, whole-carries}
 use Rattle.p25_delivery.proofs.ReceiverLaws.{eq-true, eq-false, data-is_heard, opening-is_heard}
 use Rattle.p25_delivery.proofs.SenderLaws.{offer-quiet}
-use Rattle.p25_delivery.proofs.PhaseLaws.{IsQuiet, IsLinked, quiet, busy, opening}
+use Rattle.p25_delivery.proofs.PhaseLaws.{IsQuiet, IsDelivering, quiet, busy, opening}
 
 -- an ACK is one, of its status alone
 
@@ -121,9 +121,9 @@ whole-heard r number message small sync none short =
     ap (λ (n : ℕ). completed r n (record { places = put_slots (empty_places blocks pad).places packet.slots; pad = pad }) (all_octets (put_slots (empty_places blocks pad).places packet.slots))) c.number_is ∙
     completed-read_back r number (record { places = put_slots (empty_places blocks pad).places packet.slots; pad = pad }) (all_octets (put_slots (empty_places blocks pad).places packet.slots)) message (read message)
 
--- a quiet link delivers, and a sender that is down opens
+-- a quiet delivery delivers, and a sender that is down opens
 
-delivers-quiet : (last b : ℕ) (s : Session) (w : Link) (message : List ℕ) → IsQuiet last b s w → length message ≤ 2028 → DeliversAtOnce w.outbound.sender w.inbound.receiver message
+delivers-quiet : (last b : ℕ) (s : Session) (w : Delivery) (message : List ℕ) → IsQuiet last b s w → length message ≤ 2028 → DeliversAtOnce w.outbound.sender w.inbound.receiver message
 delivers-quiet last b s w message q short =
     let sender = w.outbound.sender in
     let receiver = w.inbound.receiver in
@@ -138,10 +138,10 @@ delivers-quiet last b s w message q short =
       acknowledged = ack-acknowledges (record { next = sender.next; outstanding = Message message; tries = 1; down = false }) message refl refl (omega (arith, q.next));
     }
 
-pub delivers-linked : (b : ℕ) (s : Session) (w : Link) (message : List ℕ) → IsLinked b s w → w.outbound.sender.outstanding ≡ Nothing → length message ≤ 2028 → DeliversAtOnce w.outbound.sender w.inbound.receiver message
-delivers-linked b s w message (quiet last q) o short = delivers-quiet last b s w message q short
-delivers-linked b s w message (busy number other h) o short = let both : Message other ≡ Nothing = sym h.outstanding ∙ o in cc
-delivers-linked b s w message (opening number h) o short = let both : Opening number ≡ Nothing = sym h.outstanding ∙ o in cc
+pub delivers-delivering : (b : ℕ) (s : Session) (w : Delivery) (message : List ℕ) → IsDelivering b s w → w.outbound.sender.outstanding ≡ Nothing → length message ≤ 2028 → DeliversAtOnce w.outbound.sender w.inbound.receiver message
+delivers-delivering b s w message (quiet last q) o short = delivers-quiet last b s w message q short
+delivers-delivering b s w message (busy number other h) o short = let both : Message other ≡ Nothing = sym h.outstanding ∙ o in cc
+delivers-delivering b s w message (opening number h) o short = let both : Opening number ≡ Nothing = sym h.outstanding ∙ o in cc
 
 small-opening : (out : Outstanding) (next : ℕ) → IsNumbered out → opening_number out next < 8
 unfolding IsNumbered opening_number

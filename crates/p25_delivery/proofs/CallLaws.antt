@@ -1,4 +1,4 @@
--- An offer, a timeout and a reopening keep a link in a phase: each phase in turn, by what the sender answers there.
+-- An offer, a timeout and a reopening keep a delivery in a phase: each phase in turn, by what the sender answers there.
 use Rattle.std.proofs.Common.{◌≡◌, ℕ, ◌+◌, ◌%◌, ◌<◌, ◌≤◌, ◌⊎◌, inl, inr, Bool, true, false, List, [], ◌∷◌, ◌++◌, length, Option, Some, refl, ap, sym, ◌∙◌, subst, arith}
 use Rattle.std.specs.Prelude.{IfSome}
 use Rattle.std.proofs.lemmas.Option.{IfSome_then}
@@ -16,27 +16,27 @@ use Rattle.p25_delivery.specs.declared.sender.Resend.{Resend}
 use Rattle.p25_delivery.specs.declared.sender.Resend.TheVariants.{Sent, Idle, Down as ResendDown}
 use Rattle.p25_delivery.specs.declared.sender.Reopen.{Reopen}
 use Rattle.p25_delivery.specs.HalfRules.{after_offer, after_timeout, after_reopening}
-use Rattle.p25_delivery.specs.Link.{Link, Session, present_session, first_number, newest_after, with_outbound}
+use Rattle.p25_delivery.specs.Delivery.{Delivery, Session, present_session, first_number, newest_after, with_outbound}
 use Rattle.p25_delivery.specs.Facts.{IsDataOf, KeepsOf}
 use Rattle.p25_delivery.proofs.SenderLaws.{IsSame, Resends, offer-quiet, offer-message, offer-opening, timeout-message, timeout-opening, timeout-quiet, reopen-cases, reopen-up}
 use Rattle.p25_delivery.proofs.SessionLaws.{with_sent, one_sent, IsMarked, marked, present-sent, present-marked, number-marked}
-use Rattle.p25_delivery.proofs.PhaseLaws.{IsQuiet, IsWaitingAnswer, IsWaiting, IsArrived, IsBusy, IsOpeningAnswer, IsOpening, IsLinkedNow, quiet, busy, opening}
+use Rattle.p25_delivery.proofs.PhaseLaws.{IsQuiet, IsWaitingAnswer, IsWaiting, IsArrived, IsBusy, IsOpeningAnswer, IsOpening, IsDeliveringNow, quiet, busy, opening}
 
 -- what a newest transmission is like, where there is one
 pub newest : (o : Option Packet) (P : Packet → Type 0) (packet : Packet) → IfSome o P → o ≡ Some packet → P packet
 newest o P packet h e = subst (λ (x : Option Packet). IfSome x P) e h
 
--- a link with another sender, and with another newest transmission of data beside it
+-- a delivery with another sender, and with another newest transmission of data beside it
 
-abbrev pub link_of_sender : Link → Sending → Link
-link_of_sender w t = record w { outbound = record w.outbound { sender = t } }
+abbrev pub delivery_of_sender : Delivery → Sending → Delivery
+delivery_of_sender w t = record w { outbound = record w.outbound { sender = t } }
 
-abbrev pub link_of_data : Link → Sending → Packet → Link
-link_of_data w t packet = record w { outbound = record w.outbound { sender = t }; packet_sent = Some packet }
+abbrev pub delivery_of_data : Delivery → Sending → Packet → Delivery
+delivery_of_data w t packet = record w { outbound = record w.outbound { sender = t }; packet_sent = Some packet }
 
 -- a phase with another sender that has the same number and the same outstanding
 
-pub busy-sender : (number : ℕ) (message : List ℕ) (b : ℕ) (s : Session) (w : Link) (t : Sending) → IsBusy number message b s w → IsSame w.outbound.sender t → IsBusy number message b s (link_of_sender w t)
+pub busy-sender : (number : ℕ) (message : List ℕ) (b : ℕ) (s : Session) (w : Delivery) (t : Sending) → IsBusy number message b s w → IsSame w.outbound.sender t → IsBusy number message b s (delivery_of_sender w t)
 busy-sender number message b s w t h e = record {
   next = e.next ∙ h.next;
   outstanding = e.outstanding ∙ h.outstanding;
@@ -47,8 +47,8 @@ busy-sender number message b s w t h e = record {
   place = h.place;
 }
 
-pub busy-data : (number : ℕ) (message : List ℕ) (b : ℕ) (s : Session) (w : Link) (t : Sending) (packet : Packet) → IsBusy number message b s w → IsSame w.outbound.sender t → IsDataOf number message packet →
-    IsBusy number message b s (link_of_data w t packet)
+pub busy-data : (number : ℕ) (message : List ℕ) (b : ℕ) (s : Session) (w : Delivery) (t : Sending) (packet : Packet) → IsBusy number message b s w → IsSame w.outbound.sender t → IsDataOf number message packet →
+    IsBusy number message b s (delivery_of_data w t packet)
 busy-data number message b s w t packet h e d = record {
   next = e.next ∙ h.next;
   outstanding = e.outstanding ∙ h.outstanding;
@@ -59,7 +59,7 @@ busy-data number message b s w t packet h e d = record {
   place = h.place;
 }
 
-opening-sender : (number b : ℕ) (s : Session) (w : Link) (t : Sending) → IsOpening number b s w → t.outstanding ≡ Opening number → IsOpening number b s (link_of_sender w t)
+opening-sender : (number b : ℕ) (s : Session) (w : Delivery) (t : Sending) → IsOpening number b s w → t.outstanding ≡ Opening number → IsOpening number b s (delivery_of_sender w t)
 opening-sender number b s w t h e = record {
   outstanding = e;
   small = h.small;
@@ -71,7 +71,7 @@ opening-sender number b s w t h e = record {
   base_is = h.base_is;
 }
 
-opening-data : (number b : ℕ) (s : Session) (w : Link) (t : Sending) (packet : Packet) → IsOpening number b s w → t.outstanding ≡ Opening number → packet ≡ opening_packet number → IsOpening number b s (link_of_data w t packet)
+opening-data : (number b : ℕ) (s : Session) (w : Delivery) (t : Sending) (packet : Packet) → IsOpening number b s w → t.outstanding ≡ Opening number → packet ≡ opening_packet number → IsOpening number b s (delivery_of_data w t packet)
 opening-data number b s w t packet h e d = record {
   outstanding = e;
   small = h.small;
@@ -85,13 +85,13 @@ opening-data number b s w t packet h e d = record {
 
 -- a message is offered
 
-AfterOffer : Link → List ℕ → Sending × Offer → Type 0
-AfterOffer w message x = IsLinkedNow (with_outbound w (after_offer w.outbound message x)).0
+AfterOffer : Delivery → List ℕ → Sending × Offer → Type 0
+AfterOffer w message x = IsDeliveringNow (with_outbound w (after_offer w.outbound message x)).0
 
 -- a message is taken, where nothing is outstanding
-taken : (last b : ℕ) (s : Session) (w : Link) (message : List ℕ) → IsQuiet last b s w → length message ≤ 2028 →
+taken : (last b : ℕ) (s : Session) (w : Delivery) (message : List ℕ) → IsQuiet last b s w → length message ≤ 2028 →
     IsBusy ((last + 1) % 8) message b (with_sent s message)
-    (link_of_data (one_sent w message) (record { next = w.outbound.sender.next; outstanding = Message message; tries = 1; down = false }) (message_packet w.outbound.sender.next message))
+    (delivery_of_data (one_sent w message) (record { next = w.outbound.sender.next; outstanding = Message message; tries = 1; down = false }) (message_packet w.outbound.sender.next message))
 unfolding IsDataOf
 taken last b s w message q short = record {
   next = q.next;
@@ -111,42 +111,42 @@ taken last b s w message q short = record {
       });
 }
 
--- a message is outstanding, or the opening packet is: the link stays as it was
-pub offer-held : (P : Link → Type 0) (w : Link) (message : List ℕ) →
+-- a message is outstanding, or the opening packet is: the delivery stays as it was
+pub offer-held : (P : Delivery → Type 0) (w : Delivery) (message : List ℕ) →
     (offered w.outbound.sender message ≡ (w.outbound.sender, Busy)) ⊎ (offered w.outbound.sender message ≡ (w.outbound.sender, OfferDown)) → P w →
     P (with_outbound w (after_offer w.outbound message (offered w.outbound.sender message))).0
 unfolding with_outbound after_offer newest_after
 offer-held P w message (inl e) p = subst (λ (x : Sending × Offer). P (with_outbound w (after_offer w.outbound message x)).0) (sym e) p
 offer-held P w message (inr e) p = subst (λ (x : Sending × Offer). P (with_outbound w (after_offer w.outbound message x)).0) (sym e) p
 
-pub offer-phase : (w : Link) (message : List ℕ) → IsMarked w → IsLinkedNow w → length message ≤ 2028 → IsLinkedNow (with_outbound w (after_offer w.outbound message (offered w.outbound.sender message))).0
+pub offer-phase : (w : Delivery) (message : List ℕ) → IsMarked w → IsDeliveringNow w → length message ≤ 2028 → IsDeliveringNow (with_outbound w (after_offer w.outbound message (offered w.outbound.sender message))).0
 unfolding AfterOffer with_outbound after_offer newest_after
 offer-phase w message m (quiet last q) short =
     let sender : Sending = record { next = w.outbound.sender.next; outstanding = Message message; tries = 1; down = false } in
-    let now : Session → Type 0 = λ (s : Session). IsBusy ((last + 1) % 8) message (first_number w) s (link_of_data (one_sent w message) sender (message_packet w.outbound.sender.next message)) in
+    let now : Session → Type 0 = λ (s : Session). IsBusy ((last + 1) % 8) message (first_number w) s (delivery_of_data (one_sent w message) sender (message_packet w.outbound.sender.next message)) in
     subst (AfterOffer w message) (sym (offer-quiet w.outbound.sender message q.up q.outstanding))
     (busy ((last + 1) % 8) message (subst now (sym (present-sent w message m)) (taken last (first_number w) (present_session w) w message q short)))
-offer-phase w message m (busy number other h) short = offer-held IsLinkedNow w message (offer-message w.outbound.sender message other h.outstanding) (busy number other h)
-offer-phase w message m (opening number h) short = offer-held IsLinkedNow w message (offer-opening w.outbound.sender message number h.outstanding) (opening number h)
+offer-phase w message m (busy number other h) short = offer-held IsDeliveringNow w message (offer-message w.outbound.sender message other h.outstanding) (busy number other h)
+offer-phase w message m (opening number h) short = offer-held IsDeliveringNow w message (offer-opening w.outbound.sender message number h.outstanding) (opening number h)
 
 -- time is up
 
-AfterTimeout : Link → Sending × Resend → Type 0
-AfterTimeout w x = IsLinkedNow (with_outbound w (after_timeout w.outbound x)).0
+AfterTimeout : Delivery → Sending × Resend → Type 0
+AfterTimeout w x = IsDeliveringNow (with_outbound w (after_timeout w.outbound x)).0
 
-busy-resent : (number : ℕ) (message : List ℕ) (w : Link) (x : Sending × Resend) → IsBusy number message (first_number w) (present_session w) w → Resends (IsDataOf number message) w.outbound.sender x → AfterTimeout w x
+busy-resent : (number : ℕ) (message : List ℕ) (w : Delivery) (x : Sending × Resend) → IsBusy number message (first_number w) (present_session w) w → Resends (IsDataOf number message) w.outbound.sender x → AfterTimeout w x
 unfolding AfterTimeout with_outbound after_timeout newest_after
 busy-resent number message w (t, Sent n tries packet) h r = busy number message (busy-data number message (first_number w) (present_session w) w t packet h r.0 r.1)
 busy-resent number message w (t, Idle) h r = busy number message (busy-sender number message (first_number w) (present_session w) w t h r.0)
 busy-resent number message w (t, ResendDown) h r = busy number message (busy-sender number message (first_number w) (present_session w) w t h r.0)
 
-opening-resent : (number : ℕ) (w : Link) (x : Sending × Resend) → IsOpening number (first_number w) (present_session w) w → Resends (λ packet. packet ≡ opening_packet number) w.outbound.sender x → AfterTimeout w x
+opening-resent : (number : ℕ) (w : Delivery) (x : Sending × Resend) → IsOpening number (first_number w) (present_session w) w → Resends (λ packet. packet ≡ opening_packet number) w.outbound.sender x → AfterTimeout w x
 unfolding AfterTimeout with_outbound after_timeout newest_after
 opening-resent number w (t, Sent n tries packet) h r = opening number (opening-data number (first_number w) (present_session w) w t packet h (r.0.outstanding ∙ h.outstanding) r.1)
 opening-resent number w (t, Idle) h r = opening number (opening-sender number (first_number w) (present_session w) w t h (r.0.outstanding ∙ h.outstanding))
 opening-resent number w (t, ResendDown) h r = opening number (opening-sender number (first_number w) (present_session w) w t h (r.0.outstanding ∙ h.outstanding))
 
-pub timeout-phase : (w : Link) → IsLinkedNow w → IsLinkedNow (with_outbound w (after_timeout w.outbound (timed_out w.outbound.sender))).0
+pub timeout-phase : (w : Delivery) → IsDeliveringNow w → IsDeliveringNow (with_outbound w (after_timeout w.outbound (timed_out w.outbound.sender))).0
 unfolding AfterTimeout with_outbound after_timeout newest_after
 timeout-phase w (quiet last q) = subst (AfterTimeout w) (sym (timeout-quiet w.outbound.sender q.up q.outstanding)) (quiet last q)
 timeout-phase w (busy number message h) =
@@ -155,10 +155,10 @@ timeout-phase w (opening number h) = opening-resent number w (timed_out w.outbou
 
 -- the session is opened again
 
-AfterReopening : Link → Bool → Sending × Reopen → Type 0
-AfterReopening w again x = IsLinkedNow (with_outbound w (after_reopening w.outbound (length w.inbound.received) again x)).0
+AfterReopening : Delivery → Bool → Sending × Reopen → Type 0
+AfterReopening w again x = IsDeliveringNow (with_outbound w (after_reopening w.outbound (length w.inbound.received) again x)).0
 
--- V(R) and the newest answer of a link whose message is given up
+-- V(R) and the newest answer of a delivery whose message is given up
 record IsGivenUp (number : ℕ) (r : Receiving) (answered : Option Packet) : Type 0 where
   pub last_small : r.last < 8
   pub place : (r.last ≡ (number + 3) % 8) ⊎ (r.last ≡ (number + 4) % 8)
@@ -183,8 +183,8 @@ given-up-place number message s r answered small (inr h) = record {
   answer = IfSome_then answered h.answer (λ (p : Packet) (e : p ≡ ack_packet number). inl (e ∙ ap ack_packet (sym h.last_is)));
 }
 
-given-up : (number : ℕ) (message : List ℕ) (w : Link) (t : Sending) → IsMarked w → IsBusy number message (first_number w) (present_session w) w → t.outstanding ≡ Opening ((number + 4) % 8) →
-    IsLinkedNow (link_of_data (marked w) t (opening_packet ((number + 4) % 8)))
+given-up : (number : ℕ) (message : List ℕ) (w : Delivery) (t : Sending) → IsMarked w → IsBusy number message (first_number w) (present_session w) w → t.outstanding ≡ Opening ((number + 4) % 8) →
+    IsDeliveringNow (delivery_of_data (marked w) t (opening_packet ((number + 4) % 8)))
 given-up number message w t m h o =
     let up = given-up-place number message (present_session w) w.inbound.receiver w.answer h.small h.place in
     opening ((number + 4) % 8) (record {
@@ -206,7 +206,7 @@ opening_number-opening : (out : Outstanding) (number next : ℕ) → out ≡ Ope
 unfolding opening_number
 opening_number-opening out number next o = ap (λ (x : Outstanding). opening_number x next) o
 
-pub reopen-phase : (w : Link) → IsMarked w → IsLinkedNow w → IsLinkedNow (with_outbound w (after_reopening w.outbound (length w.inbound.received) (is_opening w.outbound.sender.outstanding) (reopened w.outbound.sender))).0
+pub reopen-phase : (w : Delivery) → IsMarked w → IsDeliveringNow w → IsDeliveringNow (with_outbound w (after_reopening w.outbound (length w.inbound.received) (is_opening w.outbound.sender.outstanding) (reopened w.outbound.sender))).0
 unfolding AfterReopening with_outbound after_reopening newest_after
 reopen-phase w m (quiet last q) =
     subst (λ (out : Outstanding). AfterReopening w (is_opening out) (reopened w.outbound.sender)) (sym q.outstanding)

@@ -34,17 +34,17 @@ eq-true : (m n : ℕ) → m ≡ n → eqb m n ≡ true
 eq-true m n e = grind (arith, nat_tests)
 
 -- octets with their packet CRC after them
-pub unpadded-is : (front check : List ℕ) (pad : ℕ) → length check ≡ 4 → octets_number check ≡ crc32_of front → pad ≤ length front → unpadded (front ++ check) pad ≡ Some (take (length front - pad) front)
+pub unpadded-is : (beginning check : List ℕ) (pad : ℕ) → length check ≡ 4 → octets_number check ≡ crc32_of beginning → pad ≤ length beginning → unpadded (beginning ++ check) pad ≡ Some (take (length beginning - pad) beginning)
 unfolding unpadded
-unpadded-is front check pad four agrees small =
-    let count : length (front ++ check) - 4 ≡ length front = omega (arith, length-append front check) in
-    let front_is : take (length (front ++ check) - 4) (front ++ check) ≡ front = take_at front check (length (front ++ check) - 4) (sym count) in
-    let check_is : drop (length (front ++ check) - 4) (front ++ check) ≡ check = drop_at front check (length (front ++ check) - 4) (sym count) in
-    let fits : nat_le pad (length (front ++ check) - 4) ≡ true = le-true pad (length (front ++ check) - 4) (omega arith) in
-    let right : eqb (octets_number (drop (length (front ++ check) - 4) (front ++ check))) (crc32_of (take (length (front ++ check) - 4) (front ++ check))) ≡ true
+unpadded-is beginning check pad four agrees small =
+    let count : length (beginning ++ check) - 4 ≡ length beginning = omega (arith, length-append beginning check) in
+    let front_is : take (length (beginning ++ check) - 4) (beginning ++ check) ≡ beginning = take_at beginning check (length (beginning ++ check) - 4) (sym count) in
+    let check_is : drop (length (beginning ++ check) - 4) (beginning ++ check) ≡ check = drop_at beginning check (length (beginning ++ check) - 4) (sym count) in
+    let fits : nat_le pad (length (beginning ++ check) - 4) ≡ true = le-true pad (length (beginning ++ check) - 4) (omega arith) in
+    let right : eqb (octets_number (drop (length (beginning ++ check) - 4) (beginning ++ check))) (crc32_of (take (length (beginning ++ check) - 4) (beginning ++ check))) ≡ true
     = eq-true _ _ (ap octets_number check_is ∙ agrees ∙ ap crc32_of (sym front_is)) in
-    let short : length (front ++ check) - 4 - pad ≡ length front - pad = omega arith in
-    cond-true _ _ _ (and_from _ _ fits right) ∙ ap (λ (n : ℕ). Some (take n (front ++ check))) short ∙ ap (λ (xs : List ℕ). Some xs) (take-append-le (length front - pad) front check (omega arith))
+    let short : length (beginning ++ check) - 4 - pad ≡ length beginning - pad = omega arith in
+    cond-true _ _ _ (and_from _ _ fits right) ∙ ap (λ (n : ℕ). Some (take n (beginning ++ check))) short ∙ ap (λ (xs : List ℕ). Some xs) (take-append-le (length beginning - pad) beginning check (omega arith))
 
 -- the octets of a message's blocks
 pub message-read_back : (message : List ℕ) → unpadded (message_octets message) (pad_count (length message)) ≡ Some message

@@ -20,7 +20,7 @@ use Rattle.p25_delivery.specs.declared.sender.Reopen.{Reopen}
 use Rattle.p25_delivery.specs.declared.receiver.Heard.{Heard}
 use Rattle.p25_delivery.specs.declared.receiver.Heard.TheVariants.{Delivered, Opened, Again, Kept, RefusedCrc, RefusedOrder, Ignored}
 use Rattle.p25_delivery.specs.HalfRules.{after_offer, after_timeout, after_reopening, after_data, after_answer}
-use Rattle.p25_delivery.specs.Link.{Session, Link, first_link, last_mark, sessions_of, present_session, with_outbound, with_inbound, Happening, Offering, Time_up, Opening_again, Data_heard, Answer_heard, happens, link_run}
+use Rattle.p25_delivery.specs.Delivery.{Session, Delivery, first_delivery, last_mark, sessions_of, present_session, with_outbound, with_inbound, Happening, Offering, Time_up, Opening_again, Data_heard, Answer_heard, happens, delivery_run}
 use Rattle.p25_delivery.specs.Orderly.{IsCounted, AreCounted}
 use Rattle.p25_delivery.proofs.SenderLaws.{IsSame, Resends, resent-of, timeout-of, Stays, HearsAnswer, goes_on, stays, HearsOpening, opens, waits, offer-message, offer-opening, reopen-cases, message-answer, opening-answer, quiet-answer}
 use Rattle.p25_delivery.proofs.SessionLaws.{IsMarked, IsDivided, ended_sessions, sessions-split, present-sent, present-acknowledged, present-marked, first-divided}
@@ -37,7 +37,7 @@ CountsBy (Opening number) sent acknowledged = sent ≡ acknowledged
 abbrev CountsIn : Outstanding → Session → Type 0
 CountsIn out s = CountsBy out (length s.sent) s.acknowledged
 
-abbrev HasCounts : Link → Type 0
+abbrev HasCounts : Delivery → Type 0
 HasCounts w = CountsIn w.outbound.sender.outstanding (present_session w)
 
 counted-present : (out : Outstanding) (s : Session) → CountsIn out s → IsCounted s
@@ -47,12 +47,12 @@ counted-present (Message message) s e = record { acknowledged = omega arith; sen
 counted-present (Opening number) s e = record { acknowledged = omega arith; sent = omega arith }
 
 -- the counts with what is outstanding under another name
-counts-at : (w : Link) (out : Outstanding) → out ≡ w.outbound.sender.outstanding → HasCounts w → CountsIn out (present_session w)
+counts-at : (w : Delivery) (out : Outstanding) → out ≡ w.outbound.sender.outstanding → HasCounts w → CountsIn out (present_session w)
 counts-at w out e h = subst (λ (x : Outstanding). CountsIn x (present_session w)) (sym e) h
 
 -- an offer
 
-AfterOffer : Link → List ℕ → Sending × Offer → Type 0
+AfterOffer : Delivery → List ℕ → Sending × Offer → Type 0
 AfterOffer w message x = HasCounts (with_outbound w (after_offer w.outbound message x)).0
 
 offer-nothing : (s : Sending) (message : List ℕ) → s.outstanding ≡ Nothing → (offered s message ≡ (s, OfferDown)) ⊎
@@ -66,7 +66,7 @@ offer-nothing s message o =
       | false ↦ inr is
     ]
 
-offer-counts : (w : Link) (message : List ℕ) (out : Outstanding) → w.outbound.sender.outstanding ≡ out → IsMarked w → HasCounts w → AfterOffer w message (offered w.outbound.sender message)
+offer-counts : (w : Delivery) (message : List ℕ) (out : Outstanding) → w.outbound.sender.outstanding ≡ out → IsMarked w → HasCounts w → AfterOffer w message (offered w.outbound.sender message)
 unfolding AfterOffer with_outbound after_offer CountsBy
 offer-counts w message Nothing o m h =
     let s = present_session w in
@@ -91,7 +91,7 @@ timeout-any s Nothing o = timeout-of Anything s Nothing o (record { next = refl;
 timeout-any s (Message message) o = timeout-of Anything s (Message message) o (resent-of Anything s s.next (message_packet s.next message) tt)
 timeout-any s (Opening number) o = timeout-of Anything s (Opening number) o (resent-of Anything s number (opening_packet number) tt)
 
-timeout-counts : (w : Link) (x : Sending × Resend) → IsSame w.outbound.sender x.0 → HasCounts w → HasCounts (with_outbound w (after_timeout w.outbound x)).0
+timeout-counts : (w : Delivery) (x : Sending × Resend) → IsSame w.outbound.sender x.0 → HasCounts w → HasCounts (with_outbound w (after_timeout w.outbound x)).0
 unfolding with_outbound after_timeout
 timeout-counts w (s, Sent number tries packet) t h = counts-at w s.outstanding t.outstanding h
 timeout-counts w (s, Idle) t h = counts-at w s.outstanding t.outstanding h
@@ -99,10 +99,10 @@ timeout-counts w (s, ResendDown) t h = counts-at w s.outstanding t.outstanding h
 
 -- a reopening
 
-AfterReopening : Link → Bool → Sending × Reopen → Type 0
+AfterReopening : Delivery → Bool → Sending × Reopen → Type 0
 AfterReopening w again x = HasCounts (with_outbound w (after_reopening w.outbound (length w.inbound.received) again x)).0
 
-reopen-counts : (w : Link) (out : Outstanding) → w.outbound.sender.outstanding ≡ out → HasCounts w → AfterReopening w (is_opening out) (reopened w.outbound.sender)
+reopen-counts : (w : Delivery) (out : Outstanding) → w.outbound.sender.outstanding ≡ out → HasCounts w → AfterReopening w (is_opening out) (reopened w.outbound.sender)
 unfolding AfterReopening with_outbound after_reopening CountsBy
 reopen-counts w Nothing o h =
     elim (reopen-cases w.outbound.sender (opening_number w.outbound.sender.outstanding w.outbound.sender.next) refl) [
@@ -122,7 +122,7 @@ reopen-counts w (Opening number) o h =
 
 -- a packet that the receiver hears
 
-data-counts : (w : Link) (x : Receiving × Heard) → HasCounts w → HasCounts (with_inbound w (after_data w.inbound x)).0
+data-counts : (w : Delivery) (x : Receiving × Heard) → HasCounts w → HasCounts (with_inbound w (after_data w.inbound x)).0
 unfolding with_inbound after_data
 data-counts w (r, Delivered number message answer) h = h
 data-counts w (r, Opened number answer) h = h
@@ -134,10 +134,10 @@ data-counts w (r, Ignored) h = h
 
 -- a packet that the sender hears
 
-AfterAnswer : Link → Sending × SenderHeard → Type 0
+AfterAnswer : Delivery → Sending × SenderHeard → Type 0
 AfterAnswer w x = HasCounts (with_outbound w (after_answer w.outbound x)).0
 
-stays-counts : (w : Link) (message : List ℕ) (x : Sending × SenderHeard) → Stays w.outbound.sender message x → HasCounts w → AfterAnswer w x
+stays-counts : (w : Delivery) (message : List ℕ) (x : Sending × SenderHeard) → Stays w.outbound.sender message x → HasCounts w → AfterAnswer w x
 unfolding AfterAnswer with_outbound after_answer
 stays-counts w message (s, Acknowledged number) t h = absurd t.1
 stays-counts w message (s, SenderOpened number) t h = absurd t.1
@@ -146,17 +146,17 @@ stays-counts w message (s, Repeat number tries packet) t h = counts-at w s.outst
 stays-counts w message (s, SenderIgnored) t h = counts-at w s.outstanding t.0.outstanding h
 stays-counts w message (s, HeardDown) t h = counts-at w s.outstanding t.0.outstanding h
 
-message-counts : (w : Link) (message : List ℕ) (packet : Packet) (x : Sending × SenderHeard) → w.outbound.sender.outstanding ≡ Message message → IsMarked w → HearsAnswer w.outbound.sender message packet x → HasCounts w → AfterAnswer w x
+message-counts : (w : Delivery) (message : List ℕ) (packet : Packet) (x : Sending × SenderHeard) → w.outbound.sender.outstanding ≡ Message message → IsMarked w → HearsAnswer w.outbound.sender message packet x → HasCounts w → AfterAnswer w x
 unfolding AfterAnswer with_outbound after_answer CountsBy
 message-counts w message packet x o m (goes_on a e) h = subst (AfterAnswer w) (sym e) (subst (CountsIn Nothing) (sym (present-acknowledged w m)) (counts-at w (Message message) (sym o) h))
 message-counts w message packet x o m (stays t) h = stays-counts w message x t h
 
-opening-counts : (w : Link) (number : ℕ) (packet : Packet) (x : Sending × SenderHeard) → w.outbound.sender.outstanding ≡ Opening number → HearsOpening w.outbound.sender number packet x → HasCounts w → AfterAnswer w x
+opening-counts : (w : Delivery) (number : ℕ) (packet : Packet) (x : Sending × SenderHeard) → w.outbound.sender.outstanding ≡ Opening number → HearsOpening w.outbound.sender number packet x → HasCounts w → AfterAnswer w x
 unfolding AfterAnswer with_outbound after_answer CountsBy
 opening-counts w number packet x o (opens a e) h = subst (AfterAnswer w) (sym e) (counts-at w (Opening number) (sym o) h)
 opening-counts w number packet x o (waits e) h = subst (AfterAnswer w) (sym e) h
 
-answer-counts : (w : Link) (packet : Packet) (out : Outstanding) → w.outbound.sender.outstanding ≡ out → IsMarked w → HasCounts w → AfterAnswer w (sender_heard w.outbound.sender packet)
+answer-counts : (w : Delivery) (packet : Packet) (out : Outstanding) → w.outbound.sender.outstanding ≡ out → IsMarked w → HasCounts w → AfterAnswer w (sender_heard w.outbound.sender packet)
 unfolding AfterAnswer with_outbound after_answer
 answer-counts w packet Nothing o m h = subst (AfterAnswer w) (sym (quiet-answer w.outbound.sender packet o)) h
 answer-counts w packet (Message message) o m h = message-counts w message packet (sender_heard w.outbound.sender packet) o m (message-answer w.outbound.sender message packet o) h
@@ -164,7 +164,7 @@ answer-counts w packet (Opening number) o m h = opening-counts w number packet (
 
 -- every event, and every run
 
-happens-counts : (w : Link) (event : Happening) → IsMarked w → HasCounts w → HasCounts (happens w event).0
+happens-counts : (w : Delivery) (event : Happening) → IsMarked w → HasCounts w → HasCounts (happens w event).0
 unfolding happens AfterOffer AfterReopening AfterAnswer
 happens-counts w (Offering message) m h = offer-counts w message w.outbound.sender.outstanding refl m h
 happens-counts w Time_up m h = timeout-counts w (timed_out w.outbound.sender) (timeout-any w.outbound.sender w.outbound.sender.outstanding refl).0 h
@@ -172,19 +172,19 @@ happens-counts w Opening_again m h = reopen-counts w w.outbound.sender.outstandi
 happens-counts w (Data_heard packet) m h = data-counts w (receiver_heard w.inbound.receiver packet) h
 happens-counts w (Answer_heard packet) m h = answer-counts w packet w.outbound.sender.outstanding refl m h
 
-abbrev IsCountedLink : Link → Type 0
+abbrev IsCountedLink : Delivery → Type 0
 IsCountedLink w = HasCounts w × IsDivided IsCounted w
 
-happens-counted : (w : Link) (event : Happening) → IsCountedLink w → IsCountedLink (happens w event).0
+happens-counted : (w : Delivery) (event : Happening) → IsCountedLink w → IsCountedLink (happens w event).0
 happens-counted w event h = (happens-counts w event h.1.0 h.0, happens-divided IsCounted w event h.1 (counted-present w.outbound.sender.outstanding (present_session w) h.0))
 
-first-counts : HasCounts first_link
+first-counts : HasCounts first_delivery
 unfolding CountsBy last_mark
 first-counts = refl
 
-pub sessions-counted : (events : List Happening) → AreCounted (sessions_of (link_run first_link events))
+pub sessions-counted : (events : List Happening) → AreCounted (sessions_of (delivery_run first_delivery events))
 sessions-counted events =
-    let w = link_run first_link events in
-    let h : IsCountedLink w = run-keeps_all happens IsCountedLink happens-counted events first_link (first-counts, first-divided IsCounted) in
+    let w = delivery_run first_delivery events in
+    let h : IsCountedLink w = run-keeps_all happens IsCountedLink happens-counted events first_delivery (first-counts, first-divided IsCounted) in
     let present = counted-present w.outbound.sender.outstanding (present_session w) h.0 in
     subst AreCounted (sym (sessions-split w)) (each-all IsCounted (ended_sessions w ++ present_session w ∷ []) (All-push IsCounted (ended_sessions w) (present_session w) h.1.1 present))

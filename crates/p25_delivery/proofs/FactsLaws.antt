@@ -1,4 +1,4 @@
--- The facts of a link, from its phase. By arithmetic on the counts.
+-- The facts of a delivery, from its phase. By arithmetic on the counts.
 use Rattle.std.proofs.Common.{◌≡◌, ℕ, ◌+◌, ◌-◌, ◌%◌, inl, inr, List, [], ◌∷◌, ◌++◌, length, take, Option, None, refl, ap, sym, ◌∙◌, subst, arith, length-append}
 use Rattle.std.specs.Prelude.{IfSome}
 use Rattle.std.proofs.lemmas.List.{take_all, take_at}
@@ -9,9 +9,9 @@ use Rattle.p25_delivery.specs.SentPackets.{opening_packet, ack_packet, retry_pac
 use Rattle.p25_delivery.specs.ReceiverState.{Keeping}
 use Rattle.p25_delivery.specs.declared.sender_state.Outstanding.{Outstanding}
 use Rattle.p25_delivery.specs.declared.sender_state.Outstanding.TheVariants.{Nothing, Message}
-use Rattle.p25_delivery.specs.Link.{Link, Session}
+use Rattle.p25_delivery.specs.Delivery.{Delivery, Session}
 use Rattle.p25_delivery.specs.Facts.{IsDataOf, KeepsOf, SentBy, IsNewestData, SessionFacts, FactsBy}
-use Rattle.p25_delivery.proofs.PhaseLaws.{IsQuietData, IsQuiet, IsWaitingAnswer, IsWaiting, IsArrived, IsBusy, IsLinked, quiet, busy, opening}
+use Rattle.p25_delivery.proofs.PhaseLaws.{IsQuietData, IsQuiet, IsWaitingAnswer, IsWaiting, IsArrived, IsBusy, IsDelivering, quiet, busy, opening}
 
 -- the first of a list, where all of it, or all but the last, is meant
 take-same : (xs ys : List (List ℕ)) → xs ≡ ys → xs ≡ take (length xs) ys
@@ -20,14 +20,14 @@ take-same xs ys e = e ∙ sym (take_all (length xs) ys (omega (arith, ap length 
 take-front : (xs ys : List (List ℕ)) (last : List ℕ) → ys ≡ xs ++ last ∷ [] → xs ≡ take (length xs) ys
 take-front xs ys last e = sym (ap (λ (zs : List (List ℕ)). take (length xs) zs) e ∙ take_at xs (last ∷ []) (length xs) refl)
 
-sent-by : (out : Outstanding) (s : Session) (w : Link) → w.outbound.sender.outstanding ≡ out → SentBy out s → SentBy w.outbound.sender.outstanding s
+sent-by : (out : Outstanding) (s : Session) (w : Delivery) → w.outbound.sender.outstanding ≡ out → SentBy out s → SentBy w.outbound.sender.outstanding s
 sent-by out s w o h = subst (λ (x : Outstanding). SentBy x s) (sym o) h
 
 -- nothing is kept of any message
 nothing-kept : (kept : Option Keeping) (P : Keeping → Type 0) → kept ≡ None → IfSome kept P
 nothing-kept kept P e = subst (λ (o : Option Keeping). IfSome o P) (sym e) tt
 
-facts-quiet : (last b : ℕ) (s : Session) (w : Link) → IsQuiet last b s w → SessionFacts b s w
+facts-quiet : (last b : ℕ) (s : Session) (w : Delivery) → IsQuiet last b s w → SessionFacts b s w
 unfolding SentBy IsNewestData
 facts-quiet last b s w q =
     let same : length s.delivered ≡ s.acknowledged = ap length q.delivered ∙ sym q.acknowledged in
@@ -51,7 +51,7 @@ facts-quiet last b s w q =
       newest_answer = IfSome_then w.answer q.answer (λ (p : Packet) (e : p ≡ ack_packet last). inl (e ∙ ap ack_packet (sym q.last_is)));
     }
 
-facts-waiting : (number : ℕ) (message : List ℕ) (b : ℕ) (s : Session) (w : Link) → IsBusy number message b s w → IsWaiting number message s w.inbound.receiver w.answer → SessionFacts b s w
+facts-waiting : (number : ℕ) (message : List ℕ) (b : ℕ) (s : Session) (w : Delivery) → IsBusy number message b s w → IsWaiting number message s w.inbound.receiver w.answer → SessionFacts b s w
 unfolding SentBy IsNewestData
 facts-waiting number message b s w h p =
     let count : length s.sent ≡ s.acknowledged + 1 = omega (arith, ap length p.sent, length-append s.delivered (message ∷ []), p.acknowledged) in
@@ -72,7 +72,7 @@ facts-waiting number message b s w h p =
           ]);
     }
 
-facts-arrived : (number : ℕ) (message : List ℕ) (b : ℕ) (s : Session) (w : Link) → IsBusy number message b s w → IsArrived number message s w.inbound.receiver w.answer → SessionFacts b s w
+facts-arrived : (number : ℕ) (message : List ℕ) (b : ℕ) (s : Session) (w : Delivery) → IsBusy number message b s w → IsArrived number message s w.inbound.receiver w.answer → SessionFacts b s w
 unfolding SentBy IsNewestData
 facts-arrived number message b s w h p =
     let count : length s.sent ≡ s.acknowledged + 1 = omega (arith, ap length p.sent, length-append p.earlier (message ∷ []), p.acknowledged) in
@@ -89,12 +89,12 @@ facts-arrived number message b s w h p =
       newest_answer = IfSome_then w.answer p.answer (λ (packet : Packet) (e : packet ≡ ack_packet number). inl (e ∙ ap ack_packet (sym p.last_is)));
     }
 
-facts-busy : (number : ℕ) (message : List ℕ) (b : ℕ) (s : Session) (w : Link) → IsBusy number message b s w → SessionFacts b s w
+facts-busy : (number : ℕ) (message : List ℕ) (b : ℕ) (s : Session) (w : Delivery) → IsBusy number message b s w → SessionFacts b s w
 facts-busy number message b s w h = elim h.place [ inl p ↦ facts-waiting number message b s w h p | inr p ↦ facts-arrived number message b s w h p ]
 
-pub facts-linked : (b : ℕ) (s : Session) (w : Link) → IsLinked b s w → FactsBy w.outbound.sender.outstanding b s w
+pub facts-delivering : (b : ℕ) (s : Session) (w : Delivery) → IsDelivering b s w → FactsBy w.outbound.sender.outstanding b s w
 unfolding FactsBy
-facts-linked b s w (quiet last q) = subst (λ (x : Outstanding). FactsBy x b s w) (sym q.outstanding) (facts-quiet last b s w q)
-facts-linked b s w (busy number message h) = subst (λ (x : Outstanding). FactsBy x b s w) (sym h.outstanding) (facts-busy number message b s w h)
-facts-linked b s w (opening number h) =
+facts-delivering b s w (quiet last q) = subst (λ (x : Outstanding). FactsBy x b s w) (sym q.outstanding) (facts-quiet last b s w q)
+facts-delivering b s w (busy number message h) = subst (λ (x : Outstanding). FactsBy x b s w) (sym h.outstanding) (facts-busy number message b s w h)
+facts-delivering b s w (opening number h) =
     subst (λ (x : Outstanding). FactsBy x b s w) (sym h.outstanding) (record { nothing_yet = h.session_is; newest_data = h.packet_sent; place = h.place; newest_answer = h.answer })

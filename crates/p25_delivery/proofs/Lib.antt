@@ -20,5 +20,5 @@ pub mod PhaseLaws
 pub mod CallLaws
 pub mod AtOnceLaws
 pub mod FactsLaws
-pub mod LinkLaws
+pub mod DeliveryLaws
 pub mod CountLaws

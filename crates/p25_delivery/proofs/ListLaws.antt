@@ -12,10 +12,10 @@ pub map-take_get : {X Y : Type 0} (f : X → Y) (xs : List X) (j : ℕ) (x : X) 
 map-take_get {X} f xs j x e = ap (λ (ys : List X). map f ys) (take_get xs j x e) ∙ map-append f (take j xs) (x ∷ [])
 
 -- one more flag of n, after those that are set
-pub flags_more : (front : List Bool) (i n : ℕ) (flag : Bool) → length front ≡ i → i < n → set (front ++ replicate (n - i) false) i flag ≡ (front ++ flag ∷ []) ++ replicate (n - (i + 1)) false
-flags_more front i n flag e h =
+pub flags_more : (beginning : List Bool) (i n : ℕ) (flag : Bool) → length beginning ≡ i → i < n → set (beginning ++ replicate (n - i) false) i flag ≡ (beginning ++ flag ∷ []) ++ replicate (n - (i + 1)) false
+flags_more beginning i n flag e h =
     let more : n - i ≡ suc (n - (i + 1)) = omega arith in
-    ap (λ (k : ℕ). set (front ++ replicate k false) i flag) more ∙ set_at front false (replicate (n - (i + 1)) false) flag i e ∙ sym (append_assoc front (flag ∷ []) (replicate (n - (i + 1)) false))
+    ap (λ (k : ℕ). set (beginning ++ replicate k false) i flag) more ∙ set_at beginning false (replicate (n - (i + 1)) false) flag i e ∙ sym (append_assoc beginning (flag ∷ []) (replicate (n - (i + 1)) false))
 
 -- a list of flags, set from its beginning on to what a test says of the elements of a list
 pub flags_set : {X : Type 0} (test : X → Bool) (xs : List X) (n i : ℕ) (x : X) (before after : List Bool) → slice_get xs i ≡ Some x → i < n → before ≡ map test (take i xs) ++ replicate (n - i) false → after ≡ set before i (test x) →

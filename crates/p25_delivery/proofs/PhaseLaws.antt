@@ -9,7 +9,7 @@ use Rattle.p25_delivery.specs.Places.{held_flags}
 use Rattle.p25_delivery.specs.SentPackets.{ack_packet, retry_packet, opening_packet}
 use Rattle.p25_delivery.specs.ReceiverState.{Keeping, Receiving}
 use Rattle.p25_delivery.specs.declared.sender_state.Outstanding.TheVariants.{Nothing, Message, Opening}
-use Rattle.p25_delivery.specs.Link.{Link, Session, empty_session, sessions_of, present_session, first_number}
+use Rattle.p25_delivery.specs.Delivery.{Delivery, Session, empty_session, sessions_of, present_session, first_number}
 use Rattle.p25_delivery.specs.Orderly.{IsOrderly, AreOrderly}
 use Rattle.p25_delivery.specs.Facts.{IsDataOf, KeepsOf}
 use Rattle.p25_delivery.proofs.SessionLaws.{ended_sessions, sessions-split, IsDivided}
@@ -20,7 +20,7 @@ abbrev pub IsQuietData : ℕ → List (List ℕ) → Packet → Type 0
 IsQuietData last sent packet =
     ((sent ≡ []) × (packet ≡ opening_packet last)) ⊎ ((earlier : List (List ℕ)) × (message : List ℕ) × (sent ≡ earlier ++ message ∷ []) × (length message ≤ 2028) × IsDataOf last message packet)
 
-pub record IsQuiet (last b : ℕ) (s : Session) (w : Link) : Type 0 where
+pub record IsQuiet (last b : ℕ) (s : Session) (w : Delivery) : Type 0 where
   pub up : w.outbound.sender.down ≡ false
   pub outstanding : w.outbound.sender.outstanding ≡ Nothing
   pub small : last < 8
@@ -57,7 +57,7 @@ pub record IsArrived (number : ℕ) (message : List ℕ) (s : Session) (r : Rece
   pub delivered : s.delivered ≡ s.sent
   pub acknowledged : s.acknowledged ≡ length earlier
 
-pub record IsBusy (number : ℕ) (message : List ℕ) (b : ℕ) (s : Session) (w : Link) : Type 0 where
+pub record IsBusy (number : ℕ) (message : List ℕ) (b : ℕ) (s : Session) (w : Delivery) : Type 0 where
   pub next : w.outbound.sender.next ≡ number
   pub outstanding : w.outbound.sender.outstanding ≡ Message message
   pub small : number < 8
@@ -71,7 +71,7 @@ abbrev pub IsOpeningAnswer : ℕ → ℕ → Packet → Type 0
 IsOpeningAnswer last number packet =
     (packet ≡ ack_packet last) ⊎ ((last ≡ number → ⊥) × (flags : List Bool) × (packet ≡ retry_packet ((number + 4) % 8) flags))
 
-pub record IsOpening (number b : ℕ) (s : Session) (w : Link) : Type 0 where
+pub record IsOpening (number b : ℕ) (s : Session) (w : Delivery) : Type 0 where
   pub outstanding : w.outbound.sender.outstanding ≡ Opening number
   pub small : number < 8
   pub last_small : w.inbound.receiver.last < 8
@@ -81,18 +81,18 @@ pub record IsOpening (number b : ℕ) (s : Session) (w : Link) : Type 0 where
   pub session_is : s ≡ empty_session
   pub base_is : b ≡ (number + 1) % 8
 
-pub data IsLinked (b : ℕ) (s : Session) (w : Link) : Type 0 where
-  quiet : (last : ℕ) → IsQuiet last b s w → IsLinked b s w
-  busy : (number : ℕ) (message : List ℕ) → IsBusy number message b s w → IsLinked b s w
-  opening : (number : ℕ) → IsOpening number b s w → IsLinked b s w
+pub data IsDelivering (b : ℕ) (s : Session) (w : Delivery) : Type 0 where
+  quiet : (last : ℕ) → IsQuiet last b s w → IsDelivering b s w
+  busy : (number : ℕ) (message : List ℕ) → IsBusy number message b s w → IsDelivering b s w
+  opening : (number : ℕ) → IsOpening number b s w → IsDelivering b s w
 
--- a link is in a phase, with its present session
-abbrev pub IsLinkedNow : Link → Type 0
-IsLinkedNow w = IsLinked (first_number w) (present_session w) w
+-- a delivery is in a phase, with its present session
+abbrev pub IsDeliveringNow : Delivery → Type 0
+IsDeliveringNow w = IsDelivering (first_number w) (present_session w) w
 
 -- and the sessions before it were orderly
-pub record IsKept (w : Link) : Type 0 where
-  pub linked : IsLinkedNow w
+pub record IsKept (w : Delivery) : Type 0 where
+  pub delivering : IsDeliveringNow w
   pub divided : IsDivided IsOrderly w
 
 -- the present session is orderly
@@ -109,18 +109,18 @@ orderly-busy number message s r answered (inr h) =
     let count : length s.delivered ≡ length h.earlier + 1 = ap length (h.delivered ∙ h.sent) ∙ length-append h.earlier (message ∷ []) in
     orderly-arrived s h.delivered (omega (arith, count, h.acknowledged)) (omega (arith, count, h.acknowledged))
 
-pub orderly-linked : (b : ℕ) (s : Session) (w : Link) → IsLinked b s w → IsOrderly s
-orderly-linked b s w (quiet last q) = orderly-arrived s q.delivered (omega (arith, q.acknowledged, ap length q.delivered)) (omega (arith, q.acknowledged, ap length q.delivered))
-orderly-linked b s w (busy number message h) = orderly-busy number message s w.inbound.receiver w.answer h.place
-orderly-linked b s w (opening number h) =
+pub orderly-delivering : (b : ℕ) (s : Session) (w : Delivery) → IsDelivering b s w → IsOrderly s
+orderly-delivering b s w (quiet last q) = orderly-arrived s q.delivered (omega (arith, q.acknowledged, ap length q.delivered)) (omega (arith, q.acknowledged, ap length q.delivered))
+orderly-delivering b s w (busy number message h) = orderly-busy number message s w.inbound.receiver w.answer h.place
+orderly-delivering b s w (opening number h) =
     orderly-arrived s (ap (λ (t : Session). t.delivered) h.session_is ∙ sym (ap (λ (t : Session). t.sent) h.session_is))
     (omega (arith, ap (λ (t : Session). t.acknowledged) h.session_is)) (omega (arith, ap (λ (t : Session). length t.delivered) h.session_is))
 
 -- all sessions are, where those that have ended are
 
-pub orderly-divided : (w : Link) → IsDivided IsOrderly w → IsOrderly (present_session w) → AreOrderly (sessions_of w)
+pub orderly-divided : (w : Delivery) → IsDivided IsOrderly w → IsOrderly (present_session w) → AreOrderly (sessions_of w)
 orderly-divided w d o =
     subst AreOrderly (sym (sessions-split w)) (each-all IsOrderly (ended_sessions w ++ present_session w ∷ []) (All-push IsOrderly (ended_sessions w) (present_session w) d.1 o))
 
-pub orderly-kept : (w : Link) → IsKept w → AreOrderly (sessions_of w)
-orderly-kept w k = orderly-divided w k.divided (orderly-linked (first_number w) (present_session w) w k.linked)
+pub orderly-kept : (w : Delivery) → IsKept w → AreOrderly (sessions_of w)
+orderly-kept w k = orderly-divided w k.divided (orderly-delivering (first_number w) (present_session w) w k.delivering)

@@ -1,4 +1,4 @@
--- What a receiver answers to the packets of a clean link. By the rules, each test decided by what the packet carries.
+-- What a receiver answers to the packets of a clean delivery. By the rules, each test decided by what the packet carries.
 use Rattle.std.proofs.Common.{◌≡◌, ℕ, ◌+◌, ◌%◌, ◌<◌, ◌⊎◌, inl, inr, Bool, true, false, cond, eqb, ◌&&◌, List, [], ◌∷◌, length, get_or, Option, Some, None, refl, ap, ap₂, sym, ◌∙◌, subst, arith}
 use Rattle.std.specs.Prelude.{slice_get, IfSome}
 use Rattle.std.proofs.lemmas.List.{get_or-replicate, length-replicate}

@@ -1,4 +1,4 @@
--- The sessions of a link: what one more message does to them, and what a mark does. By the parts of lists between marks that lie
+-- The sessions of a delivery: what one more message does to them, and what a mark does. By the parts of lists between marks that lie
 -- within them.
 use Rattle.std.proofs.Common.{◌≡◌, ℕ, ◌+◌, ◌-◌, ◌%◌, ◌≤◌, List, [], ◌∷◌, ◌++◌, length, refl, ap, ap₂, sym, ◌∙◌, subst, arith, length-append}
 use Rattle.std.specs.Prelude.{All}
@@ -7,7 +7,7 @@ use Rattle.std.proofs.lemmas.List.Elements.{All-nil, All-head, All-tail, All-pus
 use Rattle.p25_bits.specs.Bits.{part}
 use Rattle.p25_bits.proofs.PartLaws.{part_left, drop-is_part}
 use Rattle.p25_delivery.specs.declared.mark.Mark.{Mark}
-use Rattle.p25_delivery.specs.Link.{Link, first_link, Session, empty_session, first_mark, present_mark, session_between, sessions_from, sessions_of, last_mark, present_session, first_number}
+use Rattle.p25_delivery.specs.Delivery.{Delivery, first_delivery, Session, empty_session, first_mark, present_mark, session_between, sessions_from, sessions_of, last_mark, present_session, first_number}
 
 -- one more message sent, delivered, or acknowledged
 abbrev pub with_sent : Session → List ℕ → Session
@@ -19,20 +19,20 @@ with_delivered s message = record s { delivered = s.delivered ++ message ∷ [] 
 abbrev pub with_acknowledged : Session → Session
 with_acknowledged s = record s { acknowledged = s.acknowledged + 1 }
 
--- a link with one more message sent, delivered, or acknowledged, and with a mark of the present moment
-abbrev pub one_sent : Link → List ℕ → Link
+-- a delivery with one more message sent, delivered, or acknowledged, and with a mark of the present moment
+abbrev pub one_sent : Delivery → List ℕ → Delivery
 one_sent w message = record w { outbound = record w.outbound { sent = w.outbound.sent ++ message ∷ [] } }
 
-abbrev pub one_delivered : Link → List ℕ → Link
+abbrev pub one_delivered : Delivery → List ℕ → Delivery
 one_delivered w message = record w { inbound = record w.inbound { received = w.inbound.received ++ message ∷ [] } }
 
-abbrev pub one_acknowledged : Link → Link
+abbrev pub one_acknowledged : Delivery → Delivery
 one_acknowledged w = record w { outbound = record w.outbound { acknowledged = w.outbound.acknowledged + 1 } }
 
-abbrev pub marked : Link → Link
+abbrev pub marked : Delivery → Delivery
 marked w = record w { outbound = record w.outbound { marks = w.outbound.marks ++ present_mark w ∷ [] } }
 
--- Marks that lie within what a link tells.
+-- Marks that lie within what a delivery tells.
 
 pub record IsWithin (limit mark : Mark) : Type 0 where
   pub sent : mark.sent ≤ limit.sent
@@ -42,7 +42,7 @@ pub record IsWithin (limit mark : Mark) : Type 0 where
 within-more : (limit more : Mark) → IsWithin more limit → (mark : Mark) → IsWithin limit mark → IsWithin more mark
 within-more limit more l mark h = record { sent = omega (arith, h.sent, l.sent); delivered = omega (arith, h.delivered, l.delivered); acknowledged = omega (arith, h.acknowledged, l.acknowledged) }
 
-abbrev pub IsMarked : Link → Type 0
+abbrev pub IsMarked : Delivery → Type 0
 IsMarked w = All (IsWithin (present_mark w)) w.outbound.marks
 
 last-within : (limit from : Mark) (marks : List Mark) → IsWithin limit from → All (IsWithin limit) marks → IsWithin limit (last_mark from marks)
@@ -53,7 +53,7 @@ last-within limit from (mark ∷ marks) here all = last-within limit mark marks 
 first-within : (limit : Mark) → IsWithin limit first_mark
 first-within limit = record { sent = omega arith; delivered = omega arith; acknowledged = omega arith }
 
-present-within : (w : Link) → IsMarked w → IsWithin (present_mark w) (last_mark first_mark w.outbound.marks)
+present-within : (w : Delivery) → IsMarked w → IsWithin (present_mark w) (last_mark first_mark w.outbound.marks)
 present-within w all = last-within (present_mark w) first_mark w.outbound.marks (first-within (present_mark w)) all
 
 last-more : (from : Mark) (marks : List Mark) (mark : Mark) → last_mark from (marks ++ mark ∷ []) ≡ mark
@@ -72,15 +72,15 @@ ended_from from (to ∷ marks) sent received =
       acknowledged = to.acknowledged - from.acknowledged;
     } ∷ ended_from to marks sent received
 
-abbrev pub ended_sessions : Link → List Session
+abbrev pub ended_sessions : Delivery → List Session
 ended_sessions w = ended_from first_mark w.outbound.marks w.outbound.sent w.inbound.received
 
-sessions-from : (from : Mark) (marks : List Mark) (w : Link) → sessions_from from marks w ≡ ended_from from marks w.outbound.sent w.inbound.received ++ session_between (last_mark from marks) (present_mark w) w ∷ []
+sessions-from : (from : Mark) (marks : List Mark) (w : Delivery) → sessions_from from marks w ≡ ended_from from marks w.outbound.sent w.inbound.received ++ session_between (last_mark from marks) (present_mark w) w ∷ []
 unfolding sessions_from ended_from last_mark
 sessions-from from [] w = refl
 sessions-from from (mark ∷ marks) w = ap (λ (xs : List Session). session_between from mark w ∷ xs) (sessions-from mark marks w)
 
-pub sessions-split : (w : Link) → sessions_of w ≡ ended_sessions w ++ present_session w ∷ []
+pub sessions-split : (w : Delivery) → sessions_of w ≡ ended_sessions w ++ present_session w ∷ []
 sessions-split w = sessions-from first_mark w.outbound.marks w
 
 -- they stay where the lists grow
@@ -103,7 +103,7 @@ ended-more limit from (to ∷ marks) sent received more_sent more_received s r e
 
 -- and a mark ends one more
 
-ended-marked : (from to : Mark) (marks : List Mark) (w : Link) → ended_from from (marks ++ to ∷ []) w.outbound.sent w.inbound.received ≡ ended_from from marks w.outbound.sent w.inbound.received ++
+ended-marked : (from to : Mark) (marks : List Mark) (w : Delivery) → ended_from from (marks ++ to ∷ []) w.outbound.sent w.inbound.received ≡ ended_from from marks w.outbound.sent w.inbound.received ++
     session_between (last_mark from marks) to w ∷ []
 unfolding ended_from last_mark
 ended-marked from to [] w = refl
@@ -117,64 +117,64 @@ rest-more at xs ys h = sym (drop-is_part at (xs ++ ys)) ∙ drop-append-le at xs
 rest-none : (xs : List (List ℕ)) → part (length xs) (length xs - length xs) xs ≡ []
 rest-none xs = sym (drop-is_part (length xs) xs) ∙ drop_all (length xs) xs (omega arith)
 
-pub present-sent : (w : Link) (message : List ℕ) → IsMarked w → present_session (one_sent w message) ≡ with_sent (present_session w) message
+pub present-sent : (w : Delivery) (message : List ℕ) → IsMarked w → present_session (one_sent w message) ≡ with_sent (present_session w) message
 present-sent w message all =
     ap (λ (xs : List (List ℕ)). record (present_session w) { sent = xs }) (rest-more (last_mark first_mark w.outbound.marks).sent w.outbound.sent (message ∷ []) (present-within w all).sent)
 
-pub present-delivered : (w : Link) (message : List ℕ) → IsMarked w → present_session (one_delivered w message) ≡ with_delivered (present_session w) message
+pub present-delivered : (w : Delivery) (message : List ℕ) → IsMarked w → present_session (one_delivered w message) ≡ with_delivered (present_session w) message
 present-delivered w message all =
     ap (λ (xs : List (List ℕ)). record (present_session w) { delivered = xs }) (rest-more (last_mark first_mark w.outbound.marks).delivered w.inbound.received (message ∷ []) (present-within w all).delivered)
 
-pub present-acknowledged : (w : Link) → IsMarked w → present_session (one_acknowledged w) ≡ with_acknowledged (present_session w)
+pub present-acknowledged : (w : Delivery) → IsMarked w → present_session (one_acknowledged w) ≡ with_acknowledged (present_session w)
 present-acknowledged w all = ap (λ (n : ℕ). record (present_session w) { acknowledged = n }) (omega (arith, (present-within w all).acknowledged))
 
 -- What a mark does: the present session ends.
 
-pub present-marked : (w : Link) → present_session (marked w) ≡ empty_session
+pub present-marked : (w : Delivery) → present_session (marked w) ≡ empty_session
 present-marked w =
     let from : Mark → Session = λ (mark : Mark). session_between mark (present_mark w) w in
     ap from (last-more first_mark w.outbound.marks (present_mark w)) ∙
     ap₂ (λ (xs ys : List (List ℕ)). record { sent = xs; delivered = ys; acknowledged = w.outbound.acknowledged - w.outbound.acknowledged }) (rest-none w.outbound.sent) (rest-none w.inbound.received) ∙
     ap (λ (n : ℕ). record { sent = []; delivered = []; acknowledged = n }) (omega arith)
 
-pub number-marked : (w : Link) → IsMarked w → first_number (marked w) ≡ (first_number w + (present_session w).acknowledged + 5) % 8
+pub number-marked : (w : Delivery) → IsMarked w → first_number (marked w) ≡ (first_number w + (present_session w).acknowledged + 5) % 8
 number-marked w all =
     let last = ap (λ (mark : Mark). mark.acknowledged) (last-more first_mark w.outbound.marks (present_mark w)) in
     omega (arith, last, length-append w.outbound.marks (present_mark w ∷ []), (present-within w all).acknowledged)
 
--- Links whose marks lie within them, and whose sessions that have ended are all such.
+-- Deliveries whose marks lie within them, and whose sessions that have ended are all such.
 
-abbrev pub IsDivided : (Session → Type 0) → Link → Type 0
+abbrev pub IsDivided : (Session → Type 0) → Delivery → Type 0
 IsDivided P w = IsMarked w × All P (ended_sessions w)
 
-divided-more : (P : Session → Type 0) (w v : Link) → IsWithin (present_mark v) (present_mark w) → ended_sessions v ≡ ended_sessions w → v.outbound.marks ≡ w.outbound.marks → IsDivided P w → IsDivided P v
+divided-more : (P : Session → Type 0) (w v : Delivery) → IsWithin (present_mark v) (present_mark w) → ended_sessions v ≡ ended_sessions w → v.outbound.marks ≡ w.outbound.marks → IsDivided P w → IsDivided P v
 divided-more P w v l e m h =
     (subst (All (IsWithin (present_mark v))) (sym m) (All-weaker (IsWithin (present_mark w)) (IsWithin (present_mark v)) (within-more (present_mark w) (present_mark v) l) w.outbound.marks h.0), subst (All P) (sym e) h.1)
 
-pub divided-sent : (P : Session → Type 0) (w : Link) (message : List ℕ) → IsDivided P w → IsDivided P (one_sent w message)
+pub divided-sent : (P : Session → Type 0) (w : Delivery) (message : List ℕ) → IsDivided P w → IsDivided P (one_sent w message)
 divided-sent P w message h =
     let limit = present_mark w in
     divided-more P w (one_sent w message) (record { sent = omega (arith, length-append w.outbound.sent (message ∷ [])); delivered = omega arith; acknowledged = omega arith })
     (ended-more limit first_mark w.outbound.marks w.outbound.sent w.inbound.received (w.outbound.sent ++ message ∷ []) w.inbound.received (omega arith) (omega arith)
     (λ (at count : ℕ) (fits : at + count ≤ length w.outbound.sent). part_left at count w.outbound.sent (message ∷ []) fits) (λ (at count : ℕ) (fits : at + count ≤ length w.inbound.received). refl) (first-within limit) h.0) refl h
 
-pub divided-delivered : (P : Session → Type 0) (w : Link) (message : List ℕ) → IsDivided P w → IsDivided P (one_delivered w message)
+pub divided-delivered : (P : Session → Type 0) (w : Delivery) (message : List ℕ) → IsDivided P w → IsDivided P (one_delivered w message)
 divided-delivered P w message h =
     let limit = present_mark w in
     divided-more P w (one_delivered w message) (record { sent = omega arith; delivered = omega (arith, length-append w.inbound.received (message ∷ [])); acknowledged = omega arith })
     (ended-more limit first_mark w.outbound.marks w.outbound.sent w.inbound.received w.outbound.sent (w.inbound.received ++ message ∷ []) (omega arith) (omega arith)
     (λ (at count : ℕ) (fits : at + count ≤ length w.outbound.sent). refl) (λ (at count : ℕ) (fits : at + count ≤ length w.inbound.received). part_left at count w.inbound.received (message ∷ []) fits) (first-within limit) h.0) refl h
 
-pub divided-acknowledged : (P : Session → Type 0) (w : Link) → IsDivided P w → IsDivided P (one_acknowledged w)
+pub divided-acknowledged : (P : Session → Type 0) (w : Delivery) → IsDivided P w → IsDivided P (one_acknowledged w)
 divided-acknowledged P w h = divided-more P w (one_acknowledged w) (record { sent = omega arith; delivered = omega arith; acknowledged = omega arith }) refl refl h
 
-pub divided-marked : (P : Session → Type 0) (w : Link) → IsDivided P w → P (present_session w) → IsDivided P (marked w)
+pub divided-marked : (P : Session → Type 0) (w : Delivery) → IsDivided P w → P (present_session w) → IsDivided P (marked w)
 divided-marked P w h p =
     let limit = present_mark w in (
       All-push (IsWithin limit) w.outbound.marks limit h.0 (record { sent = omega arith; delivered = omega arith; acknowledged = omega arith }),
       subst (All P) (sym (ended-marked first_mark limit w.outbound.marks w)) (All-push P (ended_sessions w) (present_session w) h.1 p),
     )
 
-pub first-divided : (P : Session → Type 0) → IsDivided P first_link
+pub first-divided : (P : Session → Type 0) → IsDivided P first_delivery
 unfolding ended_from
 first-divided P = (All-nil (IsWithin first_mark), All-nil P)

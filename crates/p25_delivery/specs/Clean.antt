@@ -5,7 +5,7 @@ use Rattle.p25_packet_blocks.specs.declared.block.Slot.TheVariants.{Bad}
 use Rattle.p25_packet_blocks.specs.declared.packet.Packet.{Packet}
 use Rattle.p25_packet_blocks.specs.declared.packet.Packet.TheVariants.{Confirmed, Plain}
 use Rattle.p25_delivery.specs.Runs.{MeetAt}
-use Rattle.p25_delivery.specs.Link.{Link, Happening, Offering, Data_heard, Answer_heard, happens}
+use Rattle.p25_delivery.specs.Delivery.{Delivery, Happening, Offering, Data_heard, Answer_heard, happens}
 
 -- slot by slot Bad, or the one that was sent
 unfoldable pub AreTrueSlots : List Slot → List Slot → Type 0
@@ -26,11 +26,11 @@ pub record IsHeardOf (newest : Option Packet) (packet : Packet) : Type 0 where
   pub true_to : IsTrueTo sent packet
 
 -- a message that is offered has at most 2,028 octets, and what is heard is true to what was sent
-unfoldable pub IsClean : Link → Happening → Type 0
+unfoldable pub IsClean : Delivery → Happening → Type 0
 IsClean w (Offering message) = length message ≤ 2028
 IsClean w (Data_heard packet) = IsHeardOf w.packet_sent packet
 IsClean w (Answer_heard packet) = IsHeardOf w.answer packet
 IsClean w other = Unit {0}
 
-abbrev pub IsCleanRun : Link → List Happening → Type 0
+abbrev pub IsCleanRun : Delivery → List Happening → Type 0
 IsCleanRun w events = MeetAt happens IsClean w events

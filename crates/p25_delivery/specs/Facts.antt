@@ -1,4 +1,4 @@
--- The facts that a link keeps in a clean run, by what is outstanding. s stands for the present session, and b for the number of its first message.
+-- The facts that a delivery keeps in a clean run, by what is outstanding. s stands for the present session, and b for the number of its first message.
 use Rattle.std.specs.Prelude.{◌≡◌, ◌≢◌, ℕ, ◌+◌, ◌-◌, ◌%◌, ◌<◌, ◌⊎◌, Bool, List, [], ◌∷◌, ◌++◌, length, take, get_or, None, Some, IfSome}
 use Rattle.p25_packet_blocks.specs.declared.packet.Packet.{Packet}
 use Rattle.p25_delivery.specs.MessageBlocks.{block_count, pad_count, message_block}
@@ -7,7 +7,7 @@ use Rattle.p25_delivery.specs.SentPackets.{message_packet, blocks_packet, openin
 use Rattle.p25_delivery.specs.ReceiverState.{Keeping}
 use Rattle.p25_delivery.specs.declared.sender_state.Outstanding.{Outstanding}
 use Rattle.p25_delivery.specs.declared.sender_state.Outstanding.TheVariants.{Nothing, Message, Opening}
-use Rattle.p25_delivery.specs.Link.{Link, Session, empty_session, present_session, first_number}
+use Rattle.p25_delivery.specs.Delivery.{Delivery, Session, empty_session, present_session, first_number}
 
 -- a packet with a message, or with some of its blocks, as a sender sends it
 unfoldable pub IsDataOf : ℕ → List ℕ → Packet → Type 0
@@ -20,7 +20,7 @@ pub record KeepsOf (message : List ℕ) (kept : Keeping) : Type 0 where
   pub held : (j : ℕ) → j < block_count (length message) → (get_or kept.places j None ≡ None) ⊎ (get_or kept.places j None ≡ Some (message_block message j))
 
 -- while the opening packet with a number is outstanding
-pub record OpeningFacts (number : ℕ) (s : Session) (w : Link) : Type 0 where
+pub record OpeningFacts (number : ℕ) (s : Session) (w : Delivery) : Type 0 where
   -- nothing was sent, delivered or acknowledged
   pub nothing_yet : s ≡ empty_session
   -- the opening packet is the newest transmission of data
@@ -46,7 +46,7 @@ IsNewestData b s packet =
     IsDataOf ((b + length s.sent - 1) % 8) message packet)
 
 -- at all other times
-pub record SessionFacts (b : ℕ) (s : Session) (w : Link) : Type 0 where
+pub record SessionFacts (b : ℕ) (s : Session) (w : Delivery) : Type 0 where
   pub sent : SentBy w.outbound.sender.outstanding s
   pub number : w.outbound.sender.next ≡ (b + s.acknowledged) % 8
   -- as many were delivered as acknowledged, or one more with a message outstanding
@@ -62,10 +62,10 @@ pub record SessionFacts (b : ℕ) (s : Session) (w : Link) : Type 0 where
   pub newest_answer : IfSome w.answer (λ packet. (packet ≡ ack_packet w.inbound.receiver.last) ⊎
       ((kept : Keeping) × (w.inbound.receiver.kept ≡ Some kept) × (packet ≡ retry_packet ((w.inbound.receiver.last + 1) % 8) (held_flags kept.places))))
 
-unfoldable pub FactsBy : Outstanding → ℕ → Session → Link → Type 0
+unfoldable pub FactsBy : Outstanding → ℕ → Session → Delivery → Type 0
 FactsBy (Opening number) b s w = OpeningFacts number s w
 FactsBy other b s w = SessionFacts b s w
 
--- the facts of a link
-abbrev pub LinkFacts : Link → Type 0
-LinkFacts w = FactsBy w.outbound.sender.outstanding (first_number w) (present_session w) w
+-- the facts of a delivery
+abbrev pub DeliveryFacts : Delivery → Type 0
+DeliveryFacts w = FactsBy w.outbound.sender.outstanding (first_number w) (present_session w) w

@@ -12,7 +12,7 @@ pub mod Halves
 pub mod HalfRules
 pub mod SoundHalves
 pub mod HalvesInside
-pub mod Link
+pub mod Delivery
 pub mod Clean
 pub mod Orderly
 pub mod Facts

@@ -1,7 +1,7 @@
 -- What is promised of each session.
 use Rattle.std.specs.Prelude.{◌≡◌, ℕ, ◌+◌, ◌≤◌, List, ◌++◌, length}
 use Rattle.p25_delivery.specs.Runs.{EachIs}
-use Rattle.p25_delivery.specs.Link.{Session}
+use Rattle.p25_delivery.specs.Delivery.{Session}
 
 -- what is delivered is the beginning of what was sent, in order and each message once; what is acknowledged was delivered;
 -- and one message at most is delivered that is not acknowledged

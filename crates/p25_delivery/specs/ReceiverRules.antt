@@ -50,7 +50,7 @@ filled r packet (Some kept) =
     let places = put_slots kept.places packet.slots in
     completed r (head_number packet.head) (record { places = places; pad = kept.pad }) (all_octets places)
 
--- the link is opened anew, by a packet of no blocks
+-- the session is opened anew, by a packet of no blocks
 unfoldable pub opening_heard : Receiving → PacketHead → Receiving × Heard
 opening_heard r head =
     let number = head_number head in

@@ -98,7 +98,7 @@ unfoldable pub opening_number : Outstanding → ℕ → ℕ
 opening_number (Opening number) next = number
 opening_number other next = (next + 4) % 8
 
--- the link is opened again
+-- the session is opened again
 unfoldable pub reopened : Sending → Sending × Reopen
 reopened s =
     let number = opening_number s.outstanding s.next in

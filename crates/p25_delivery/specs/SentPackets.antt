@@ -36,7 +36,7 @@ blocks_packet number message wanted =
     let slots = wanted_slots message wanted in
     Confirmed (record { head = confirmed_head station_llid false (length slots) (pad_count (length message)) number; slots = slots })
 
--- the packet that opens the link anew
+-- the packet that opens the session anew
 unfoldable pub opening_packet : ℕ → Packet
 opening_packet number = Confirmed (record { head = opening_head station_llid number; slots = [] })
 

@@ -1,5 +1,5 @@
 //! Delivery of messages in confirmed packets, as a machine: a sender and a receiver, which only answer calls; the two halves
-//! of a station over them; and the laws of a link of two halves. What they send is a value, and the air is the caller's.
+//! of a station over them; and the laws of a delivery of two halves. What they send is a value, and the air is the caller's.
 //!
 //! A sender has one message outstanding at most. Its packets carry a number N(S) of three bits, 0 to 7 and then 0 again;
 //! the receiver keeps V(R), the number of the last message that it delivered, and puts the blocks of the next one in their

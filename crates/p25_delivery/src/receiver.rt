@@ -15,7 +15,7 @@ pub enum Heard {
         message: Message,
         answer: Packet,
     },
-    /// The link is opened anew, by the opening packet with this number.
+    /// The session is opened anew, by the opening packet with this number.
     Opened {
         number: u8,
         answer: Packet,

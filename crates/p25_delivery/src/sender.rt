@@ -45,7 +45,7 @@ pub enum SenderHeard {
     Acknowledged {
         number: u8,
     },
-    /// The link is open again, by the opening packet with this number.
+    /// The session is open again, by the opening packet with this number.
     Opened {
         number: u8,
     },
@@ -68,7 +68,7 @@ pub enum SenderHeard {
     Down,
 }
 
-/// The answer where the link is to be opened again.
+/// The answer where the session is to be opened again.
 #[derive(Drop)]
 pub enum Reopen {
     /// The opening packet is to be sent.
@@ -172,7 +172,7 @@ impl Sender {
         }
     }
 
-    /// Opens the link again, and answers the opening packet: numbered four more than the message that is given up, or the
+    /// Opens the session again, and answers the opening packet: numbered four more than the message that is given up, or the
     /// one that was sent before. Up comes exactly where the sender is not down, and then nothing changes.
     #[tactic(auto, unfolding(crate::specs::SenderRules::reopened, crate::specs::SenderRules::opening_number, crate::specs::SenderState::IsNumbered))]
     pub fn reopen(&mut self) -> Reopen

@@ -7,6 +7,6 @@ pub enum Outstanding {
     Nothing,
     /// A message.
     Message(Message),
-    /// The packet that opens the link anew, by its number.
+    /// The packet that opens the session anew, by its number.
     Opening(u8),
 }

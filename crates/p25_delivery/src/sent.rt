@@ -53,7 +53,7 @@ pub(crate) fn blocks(number: u8, message: &Message, wanted: &Flags) -> Packet
     Packet::Confirmed(Confirmed::new(head, slots))
 }
 
-// The packet that opens the link anew.
+// The packet that opens the session anew.
 #[tactic(auto, unfolding(crate::specs::SentPackets::opening_packet))]
 pub(crate) fn opening(number: u8) -> Packet
     requires { number < 8 }

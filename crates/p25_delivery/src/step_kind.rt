@@ -81,7 +81,7 @@ pub enum StepKind {
     Acknowledged {
         number: u8,
     },
-    /// The link is open again.
+    /// The session is open again.
     LinkOpened {
         number: u8,
     },

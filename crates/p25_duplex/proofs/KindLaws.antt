@@ -1,4 +1,4 @@
--- What a link sends is data in one direction and an answer in the other, by the facts that it keeps. And a packet that is true to
+-- What a delivery sends is data in one direction and an answer in the other, by the facts that it keeps. And a packet that is true to
 -- another is of its kind.
 use Rattle.std.proofs.Common.{◌≡◌, ℕ, ◌+◌, ◌%◌, inl, inr, Bool, true, false, List, Option, Some, refl, ap, sym, subst}
 use Rattle.std.specs.Prelude.{IfSome, eqb}
@@ -12,9 +12,9 @@ use Rattle.p25_delivery.specs.SentPackets.{message_packet, blocks_packet, openin
 use Rattle.p25_delivery.specs.ReceiverState.{Receiving}
 use Rattle.p25_delivery.specs.declared.sender_state.Outstanding.{Outstanding}
 use Rattle.p25_delivery.specs.declared.sender_state.Outstanding.TheVariants.{Nothing, Message, Opening}
-use Rattle.p25_delivery.specs.Link.{Link, Session}
+use Rattle.p25_delivery.specs.Delivery.{Delivery, Session}
 use Rattle.p25_delivery.specs.Clean.{IsTrueTo}
-use Rattle.p25_delivery.specs.Facts.{IsDataOf, IsNewestData, SessionFacts, FactsBy, LinkFacts}
+use Rattle.p25_delivery.specs.Facts.{IsDataOf, IsNewestData, SessionFacts, FactsBy, DeliveryFacts}
 use Rattle.p25_duplex.specs.DuplexSteps.{is_answer}
 
 abbrev pub IsData : Packet → Type 0
@@ -55,32 +55,32 @@ unfolding IsNewestData
 newest-data b s packet (inl (none, e)) = subst IsData (sym e) (opening-data ((b + 7) % 8))
 newest-data b s packet (inr (earlier, message, e, of)) = data-of _ message packet of
 
--- What a link sends.
+-- What a delivery sends.
 
 -- the newest transmission, where it is such a packet
 newest-is : (newest : Option Packet) (P : Packet → Type 0) (packet : Packet) → IfSome newest P → newest ≡ Some packet → P packet
 newest-is newest P packet h e = subst (λ (o : Option Packet). IfSome o P) e h
 
-session-data : (b : ℕ) (s : Session) (w : Link) (packet : Packet) → SessionFacts b s w → w.packet_sent ≡ Some packet → IsData packet
+session-data : (b : ℕ) (s : Session) (w : Delivery) (packet : Packet) → SessionFacts b s w → w.packet_sent ≡ Some packet → IsData packet
 session-data b s w packet f e = newest-data b s packet (newest-is w.packet_sent (IsNewestData b s) packet f.newest_data e)
 
-sent-by : (o : Outstanding) (b : ℕ) (s : Session) (w : Link) (packet : Packet) → FactsBy o b s w → w.packet_sent ≡ Some packet → IsData packet
+sent-by : (o : Outstanding) (b : ℕ) (s : Session) (w : Delivery) (packet : Packet) → FactsBy o b s w → w.packet_sent ≡ Some packet → IsData packet
 unfolding FactsBy
 sent-by Nothing b s w packet f e = session-data b s w packet f e
 sent-by (Message message) b s w packet f e = session-data b s w packet f e
 sent-by (Opening number) b s w packet f e = newest-is w.packet_sent IsData packet (subst (λ (o : Option Packet). IfSome o IsData) (sym f.newest_data) (opening-data number)) e
 
-pub sent-data : (w : Link) (packet : Packet) → LinkFacts w → w.packet_sent ≡ Some packet → IsData packet
+pub sent-data : (w : Delivery) (packet : Packet) → DeliveryFacts w → w.packet_sent ≡ Some packet → IsData packet
 sent-data w packet f e = sent-by w.outbound.sender.outstanding _ _ w packet f e
 
-session-answer : (b : ℕ) (s : Session) (w : Link) (packet : Packet) → SessionFacts b s w → w.answer ≡ Some packet → IsAnswer packet
+session-answer : (b : ℕ) (s : Session) (w : Delivery) (packet : Packet) → SessionFacts b s w → w.answer ≡ Some packet → IsAnswer packet
 session-answer b s w packet f e =
     elim (newest-is w.answer _ packet f.newest_answer e) [
       | inl is ↦ ack-answer w.inbound.receiver.last packet is
       | inr (kept, k, is) ↦ retry-answer ((w.inbound.receiver.last + 1) % 8) (held_flags kept.places) packet is
     ]
 
-answer-by : (o : Outstanding) (b : ℕ) (s : Session) (w : Link) (packet : Packet) → FactsBy o b s w → w.answer ≡ Some packet → IsAnswer packet
+answer-by : (o : Outstanding) (b : ℕ) (s : Session) (w : Delivery) (packet : Packet) → FactsBy o b s w → w.answer ≡ Some packet → IsAnswer packet
 unfolding FactsBy
 answer-by Nothing b s w packet f e = session-answer b s w packet f e
 answer-by (Message message) b s w packet f e = session-answer b s w packet f e
@@ -90,7 +90,7 @@ answer-by (Opening number) b s w packet f e =
       | inr (away, flags, is) ↦ retry-answer ((number + 4) % 8) flags packet is
     ]
 
-pub answered-answer : (w : Link) (packet : Packet) → LinkFacts w → w.answer ≡ Some packet → IsAnswer packet
+pub answered-answer : (w : Delivery) (packet : Packet) → DeliveryFacts w → w.answer ≡ Some packet → IsAnswer packet
 answered-answer w packet f e = answer-by w.outbound.sender.outstanding _ _ w packet f e
 
 -- a packet that is true to another is of its kind

@@ -1,4 +1,4 @@
 pub mod KindLaws
-pub mod LinkedLaws
+pub mod TwoDeliveriesLaws
 pub mod RunLaws
 pub mod CountLaws

@@ -1,15 +1,15 @@
--- Runs of the duplex world: its state and its steps after a list of events, and the link of the messages of a side.
+-- Runs of the duplex world: its state and its steps after a list of events, and the delivery of the messages of a side.
 use Rattle.std.specs.Prelude.{◌≡◌, false, List, [], ◌∷◌, Option, Some, None, if◌then◌else◌}
 use Rattle.p25_packet_blocks.specs.declared.packet.Packet.{Packet}
 use Rattle.p25_delivery.specs.SoundHalves.{IsMessage}
 use Rattle.p25_delivery.specs.Runs.{run_by, steps_by, EachIs}
-use Rattle.p25_delivery.specs.Link.{Link, newest_after}
+use Rattle.p25_delivery.specs.Delivery.{Delivery, newest_after}
 use Rattle.p25_duplex.specs.declared.side.Side.{Side}
 use Rattle.p25_duplex.specs.declared.event.DuplexEvent.{DuplexEvent}
 use Rattle.p25_duplex.specs.declared.event.DuplexEvent.TheVariants.{Send}
 use Rattle.p25_duplex.specs.declared.event.DuplexStep.{DuplexStep}
 use Rattle.p25_duplex.specs.Sides.{other_side}
-use Rattle.p25_duplex.specs.DuplexState.{DuplexState, first_duplex, station_at, link_at}
+use Rattle.p25_duplex.specs.DuplexState.{DuplexState, first_duplex, station_at, delivery_at}
 use Rattle.p25_duplex.specs.DuplexSteps.{is_answer, duplex_step}
 
 -- what every event keeps: what is sent is a message of at most 2,028 octets
@@ -47,11 +47,11 @@ newest_in kind side newest d (event ∷ events) =
     let next = (duplex_step d event).0 in
     newest_in kind side (newest_after (kind (station_at side next).newest) newest) next events
 
--- the link of a side's messages after a list of events, with the newest data that the side's direction carried, and the newest
+-- the delivery of a side's messages after a list of events, with the newest data that the side's direction carried, and the newest
 -- answer that the other's carried
-abbrev pub link_after : Side → List DuplexEvent → Link
-link_after side events =
-    record (link_at side (duplex_run first_duplex events)) {
+abbrev pub delivery_after : Side → List DuplexEvent → Delivery
+delivery_after side events =
+    record (delivery_at side (duplex_run first_duplex events)) {
       packet_sent = newest_in data_in side None first_duplex events;
       answer = newest_in answer_in (other_side side) None first_duplex events;
     }

@@ -2,7 +2,7 @@
 use Rattle.std.specs.Prelude.{ℕ, Option, None}
 use Rattle.p25_packet_blocks.specs.declared.packet.Packet.{Packet}
 use Rattle.p25_delivery.specs.Halves.{Outgoing, Incoming, first_outgoing, first_incoming}
-use Rattle.p25_delivery.specs.Link.{Link}
+use Rattle.p25_delivery.specs.Delivery.{Delivery}
 use Rattle.p25_duplex.specs.declared.side.Side.{Side}
 use Rattle.p25_duplex.specs.declared.side.Side.TheVariants.{A, B}
 use Rattle.p25_duplex.specs.Sides.{other_side}
@@ -36,12 +36,12 @@ abbrev pub with_station : Side → StationState → DuplexState → DuplexState
 with_station A station d = record d { a = station }
 with_station B station d = record d { b = station }
 
--- the link of a station's messages to the other: its half that sends, the other's half that receives, and the newest
+-- the delivery of a station's messages to the other: its half that sends, the other's half that receives, and the newest
 -- transmission of the direction of each
-abbrev pub link_between : StationState → StationState → Link
-link_between own other =
+abbrev pub delivery_between : StationState → StationState → Delivery
+delivery_between own other =
     record { outbound = own.outbound; inbound = other.inbound; packet_sent = own.newest; answer = other.newest }
 
--- the link of a side's messages
-abbrev pub link_at : Side → DuplexState → Link
-link_at side d = link_between (station_at side d) (station_at (other_side side) d)
+-- the delivery of a side's messages
+abbrev pub delivery_at : Side → DuplexState → Delivery
+delivery_at side d = delivery_between (station_at side d) (station_at (other_side side) d)

@@ -5,7 +5,7 @@ use Rattle.p25_packet_blocks.specs.Whole.{packet_head}
 use Rattle.p25_packet_blocks.specs.Heads.{head_format}
 use Rattle.p25_delivery.specs.declared.step_kind.Way.TheVariants.{Packets}
 use Rattle.p25_delivery.specs.declared.step_kind.StepKind.{StepKind}
-use Rattle.p25_delivery.specs.Link.{Link, Offering, Time_up, Opening_again, Data_heard, Answer_heard, happens}
+use Rattle.p25_delivery.specs.Delivery.{Delivery, Offering, Time_up, Opening_again, Data_heard, Answer_heard, happens}
 use Rattle.p25_stations.specs.declared.step.Step.{Step}
 use Rattle.p25_stations.specs.Deliveries.{delivery_of}
 use Rattle.p25_stations.specs.Steps.{counted_when}
@@ -14,16 +14,16 @@ use Rattle.p25_duplex.specs.declared.event.DuplexEvent.{DuplexEvent}
 use Rattle.p25_duplex.specs.declared.event.DuplexEvent.TheVariants.{Send, Timeout, Reopen, Deliver}
 use Rattle.p25_duplex.specs.declared.event.DuplexStep.{DuplexStep}
 use Rattle.p25_duplex.specs.Sides.{other_side}
-use Rattle.p25_duplex.specs.DuplexState.{StationState, DuplexState, station_at, with_station, link_between}
+use Rattle.p25_duplex.specs.DuplexState.{StationState, DuplexState, station_at, with_station, delivery_between}
 
--- a station after a call of its half that sends, which happens at the link of its own messages: the half after it, and the
+-- a station after a call of its half that sends, which happens at the delivery of its own messages: the half after it, and the
 -- newest transmission of the station's direction
-abbrev pub after_sending : StationState → Link × StepKind → StationState × StepKind
-after_sending own (link, kind) = (record own { outbound = link.outbound; newest = link.packet_sent }, kind)
+abbrev pub after_sending : StationState → Delivery × StepKind → StationState × StepKind
+after_sending own (delivery, kind) = (record own { outbound = delivery.outbound; newest = delivery.packet_sent }, kind)
 
--- and of its half that receives, which happens at the link of the other's messages
-abbrev pub after_receiving : StationState → Link × StepKind → StationState × StepKind
-after_receiving own (link, kind) = (record own { inbound = link.inbound; newest = link.answer }, kind)
+-- and of its half that receives, which happens at the delivery of the other's messages
+abbrev pub after_receiving : StationState → Delivery × StepKind → StationState × StepKind
+after_receiving own (delivery, kind) = (record own { inbound = delivery.inbound; newest = delivery.answer }, kind)
 
 -- an answer is a packet of format 03 hex; every other is data
 abbrev pub is_answer : Packet → Bool
@@ -31,8 +31,8 @@ is_answer packet = eqb (head_format (packet_head packet)) 3
 
 -- a station hears a packet: an answer by its half that sends, data by its half that receives
 abbrev pub heard_as : Bool → StationState → StationState → Packet → StationState × StepKind
-heard_as true own other packet = after_sending own (happens (link_between own other) (Answer_heard packet))
-heard_as false own other packet = after_receiving own (happens (link_between other own) (Data_heard packet))
+heard_as true own other packet = after_sending own (happens (delivery_between own other) (Answer_heard packet))
+heard_as false own other packet = after_receiving own (happens (delivery_between other own) (Data_heard packet))
 
 -- a step of a station, by what it was and whether it was a false pass
 abbrev pub station_told : Bool → StationState × StepKind → StationState × Step
@@ -52,9 +52,9 @@ side_of (Deliver to flips) = to
 
 -- what an event makes of the station at which it happens, beside the other, and the step of that station
 abbrev pub station_step : StationState → StationState → DuplexEvent → StationState × Step
-station_step own other (Send side message) = station_told false (after_sending own (happens (link_between own other) (Offering message)))
-station_step own other (Timeout side) = station_told false (after_sending own (happens (link_between own other) Time_up))
-station_step own other (Reopen side) = station_told false (after_sending own (happens (link_between own other) Opening_again))
+station_step own other (Send side message) = station_told false (after_sending own (happens (delivery_between own other) (Offering message)))
+station_step own other (Timeout side) = station_told false (after_sending own (happens (delivery_between own other) Time_up))
+station_step own other (Reopen side) = station_told false (after_sending own (happens (delivery_between own other) Opening_again))
 station_step own other (Deliver to flips) = delivered_at own other (delivery_of Packets other.newest flips)
 
 -- a duplex world after the step of a station of it

@@ -11,7 +11,7 @@ pub enum DuplexEvent {
     Send(Side, Message),
     /// The time of a station's sender is up.
     Timeout(Side),
-    /// A station's sender is to open its link again.
+    /// A station's sender is to open its session again.
     Reopen(Side),
     /// The newest transmission of the other station comes to a station, with the bits at these places inverted.
     Deliver {

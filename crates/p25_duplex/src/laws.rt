@@ -2,38 +2,38 @@
 //! function here makes a call: its contract is the theorem.
 
 ghost use Rattle.std.specs.Prelude.{◌≡◌, List, Some, IfSome};
-ghost use Rattle.p25_delivery.specs.Link.{Happening, first_link, link_run, sessions_of};
+ghost use Rattle.p25_delivery.specs.Delivery.{Happening, first_delivery, delivery_run, sessions_of};
 ghost use Rattle.p25_delivery.specs.Clean.{IsCleanRun};
 ghost use Rattle.p25_delivery.specs.Orderly.{AreOrderly};
-ghost use Rattle.p25_delivery.specs.Facts.{LinkFacts};
+ghost use Rattle.p25_delivery.specs.Facts.{DeliveryFacts};
 ghost use Rattle.p25_duplex.specs.declared.side.Side.{Side as side_type};
 ghost use Rattle.p25_duplex.specs.declared.event.DuplexEvent.{DuplexEvent as event_type};
-ghost use Rattle.p25_duplex.specs.DuplexState.{first_duplex, station_at, link_at};
-ghost use Rattle.p25_duplex.specs.DuplexRuns.{AreDuplexEvents, IsCleanDuplex, duplex_run, data_in, answer_in, link_after};
+ghost use Rattle.p25_duplex.specs.DuplexState.{first_duplex, station_at, delivery_at};
+ghost use Rattle.p25_duplex.specs.DuplexRuns.{AreDuplexEvents, IsCleanDuplex, duplex_run, data_in, answer_in, delivery_after};
 
 /// **Theorem.** Its clause says that after every list of events without a false pass each session of each side's messages is
 /// orderly: what was delivered is the beginning of what was sent, each message once, every message that was acknowledged was
 /// delivered, and one at most was delivered that was not acknowledged.
 pub fn both_directions_are_orderly()
     ensures { (events : List event_type) (side : side_type) → AreDuplexEvents events → IsCleanDuplex events →
-        AreOrderly (sessions_of (link_at side (duplex_run first_duplex events))) }
+        AreOrderly (sessions_of (delivery_at side (duplex_run first_duplex events))) }
 {}
 
-/// **Theorem.** Its clauses say which facts the messages of each side keep while no step was a false pass. Their link, with the
+/// **Theorem.** Its clauses say which facts the messages of each side keep while no step was a false pass. Their delivery, with the
 /// newest data that the side's direction carried and the newest answer that the other's carried, is one to which a clean run
-/// of a link comes, so whatever p25_delivery says of such runs holds for it; and it keeps the facts that `LinkFacts` names.
-/// Where a direction carries data, or an answer, that is the newest of the link.
+/// of a delivery comes, so whatever p25_delivery says of such runs holds for it; and it keeps the facts that `DeliveryFacts` names.
+/// Where a direction carries data, or an answer, that is the newest of the delivery.
 pub fn duplex_facts()
     ensures clean { (events : List event_type) (side : side_type) → AreDuplexEvents events → IsCleanDuplex events →
-        (happenings : List Happening) × IsCleanRun first_link happenings × (link_run first_link happenings ≡ link_after side events) }
+        (happenings : List Happening) × IsCleanRun first_delivery happenings × (delivery_run first_delivery happenings ≡ delivery_after side events) }
     ensures facts { (events : List event_type) (side : side_type) → AreDuplexEvents events → IsCleanDuplex events →
-        LinkFacts (link_after side events) }
+        DeliveryFacts (delivery_after side events) }
     ensures newest_data { (events : List event_type) (side : side_type) →
-        IfSome (data_in (link_at side (duplex_run first_duplex events)).packet_sent)
-        (λ packet. (link_after side events).packet_sent ≡ Some packet) }
+        IfSome (data_in (delivery_at side (duplex_run first_duplex events)).packet_sent)
+        (λ packet. (delivery_after side events).packet_sent ≡ Some packet) }
     ensures newest_answer { (events : List event_type) (side : side_type) →
-        IfSome (answer_in (link_at side (duplex_run first_duplex events)).answer)
-        (λ packet. (link_after side events).answer ≡ Some packet) }
+        IfSome (answer_in (delivery_at side (duplex_run first_duplex events)).answer)
+        (λ packet. (delivery_after side events).answer ≡ Some packet) }
 {}
 
 /// **Theorem.** Its clauses say that no step of a run was a false pass exactly where none is counted.

@@ -10,7 +10,7 @@
 //! let step = world.step(&DuplexEvent::Deliver { to: Side::B, flips })?;
 //! ```
 //!
-//! Contracts see each step as the function `duplex_step`, and the messages of a side as the link `link_at`: the half of that
+//! Contracts see each step as the function `duplex_step`, and the messages of a side as the delivery `delivery_at`: the half of that
 //! side that sends, and the half of the other that receives.
 #![tactic(auto)]
 

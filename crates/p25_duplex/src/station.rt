@@ -74,7 +74,7 @@ impl Station {
     ghost use Rattle.p25_duplex.specs.DuplexSteps.{is_answer, heard_as, station_step};
 
     // Answers the step that an event of this station is, beside the other station, and has it happen. There is room for it.
-    #[tactic(auto, unfolding(p25_delivery::specs::Link::happens, p25_delivery::specs::Link::with_outbound))]
+    #[tactic(auto, unfolding(p25_delivery::specs::Delivery::happens, p25_delivery::specs::Delivery::with_outbound))]
     pub(crate) fn step(&mut self, event: &DuplexEvent, other: &Station) -> Step
         requires { 0 < self.old.spare }
         ensures { (self.new.state, result) ≡ station_step self.old.state other.now.state event.now }
@@ -99,7 +99,7 @@ impl Station {
     }
 
     // Hears a packet: an answer by the half that sends, data by the half that receives.
-    #[tactic(auto, unfolding(p25_delivery::specs::Link::happens, p25_delivery::specs::Link::with_outbound, p25_delivery::specs::Link::with_inbound))]
+    #[tactic(auto, unfolding(p25_delivery::specs::Delivery::happens, p25_delivery::specs::Delivery::with_outbound, p25_delivery::specs::Delivery::with_inbound))]
     fn hear(&mut self, packet: &Packet) -> StepKind
         requires { 0 < self.old.spare }
         ensures { (other : StationState) → (self.new.state, result) ≡ heard_as (is_answer packet.now) self.old.state other packet.now }

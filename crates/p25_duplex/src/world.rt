@@ -32,7 +32,7 @@ impl Model for DuplexWorld {
 }
 
 impl DuplexWorld {
-    ghost use Rattle.p25_duplex.specs.DuplexState.{first_duplex, station_at, with_station, link_at};
+    ghost use Rattle.p25_duplex.specs.DuplexState.{first_duplex, station_at, with_station, delivery_at};
 
     /// Answers a world before its first step: nothing was sent, and both receivers wait for the first message. It takes no
     /// memory.
@@ -58,28 +58,28 @@ impl DuplexWorld {
 
     /// Answers the messages that a side sent, in order.
     pub fn sent(&self, side: Side) -> &MessageList
-        ensures { result.now.list ≡ (link_at side self.now.state).outbound.sent }
+        ensures { result.now.list ≡ (delivery_at side self.now.state).outbound.sent }
     {
         self.station(side).outbound().sent()
     }
 
     /// Answers the messages of a side that were delivered to the other, in order.
     pub fn delivered(&self, side: Side) -> &MessageList
-        ensures { result.now.list ≡ (link_at side self.now.state).inbound.received }
+        ensures { result.now.list ≡ (delivery_at side self.now.state).inbound.received }
     {
         self.station(side.other()).inbound().received()
     }
 
     /// Answers how many messages of a side were acknowledged.
     pub fn acknowledged(&self, side: Side) -> u64
-        ensures { result ≡ (link_at side self.now.state).outbound.acknowledged }
+        ensures { result ≡ (delivery_at side self.now.state).outbound.acknowledged }
     {
         self.station(side).outbound().acknowledged()
     }
 
     /// Answers the number of sessions of a side's messages: one more than it gave messages up.
     pub fn sessions(&self, side: Side) -> u64
-        ensures { result ≡ length (link_at side self.now.state).outbound.marks + 1 }
+        ensures { result ≡ length (delivery_at side self.now.state).outbound.marks + 1 }
     {
         self.station(side).outbound().sessions()
     }

@@ -4,7 +4,7 @@ use Rattle.p25_script.specs.StepTexts.{sessions_text, step_text_of}
 use Rattle.p25_duplex.specs.declared.side.Side.{Side}
 use Rattle.p25_duplex.specs.declared.event.DuplexStep.{DuplexStep}
 use Rattle.p25_duplex.specs.Sides.{side_word}
-use Rattle.p25_duplex.specs.DuplexState.{DuplexState, link_at}
+use Rattle.p25_duplex.specs.DuplexState.{DuplexState, delivery_at}
 
 -- the text of a step, without the end of its line: the letter of the side that acts or hears, and what the step was
 unfoldable pub duplex_step_text_of : DuplexStep → List ℕ
@@ -14,7 +14,7 @@ duplex_step_text_of step = side_word step.side ++ codes " " ++ step_text_of step
 -- there was more than one; without the end of the line
 unfoldable pub duplex_closing_of : Side → DuplexState → List ℕ
 duplex_closing_of side d =
-    side_word side ++ codes " sent=" ++ decimal (length (link_at side d).outbound.sent)
-    ++ codes " delivered=" ++ decimal (length (link_at side d).inbound.received)
-    ++ codes " acknowledged=" ++ decimal (link_at side d).outbound.acknowledged
-    ++ sessions_text (length (link_at side d).outbound.marks + 1)
+    side_word side ++ codes " sent=" ++ decimal (length (delivery_at side d).outbound.sent)
+    ++ codes " delivered=" ++ decimal (length (delivery_at side d).inbound.received)
+    ++ codes " acknowledged=" ++ decimal (delivery_at side d).outbound.acknowledged
+    ++ sessions_text (length (delivery_at side d).outbound.marks + 1)

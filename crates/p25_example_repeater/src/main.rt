@@ -42,7 +42,12 @@ fn main(rt: HostRuntime) -> io::Result<()> {
 }
 
 // Pushes octets, a few at a time, and writes what each few decide.
-fn scan(octets: &[u8], scanner: &mut Scanner, page: &mut BitBuf, output: &mut impl Write) -> io::Result<()>
+fn scan(
+    octets: &[u8],
+    scanner: &mut Scanner,
+    page: &mut BitBuf,
+    output: &mut impl Write,
+) -> io::Result<()>
     requires drained { given scanner.old ≡ [] }
     requires going { scanner.old.finished ≡ false }
     requires few { scanner.old.place + length scanner.old.held + 8 * length octets.now < 2 ^ 60 }

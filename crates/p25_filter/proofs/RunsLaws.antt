@@ -7,9 +7,9 @@ use Rattle.std.proofs.lemmas.Bool.Decides.{nat_tests}
 use Rattle.std.proofs.Math.Seq.{take-append-add}
 use Rattle.p25_io.specs.Events.{Event, Read, ReadFailed, Wrote, WriteFailed}
 use Rattle.p25_io.specs.Faults.{Rose}
-use Rattle.p25_io.specs.Octets.{Taken, Appended, AppendedFront}
+use Rattle.p25_io.specs.Octets.{Taken, Appended, AppendedBeginning}
 use Rattle.p25_io.specs.Pairs.{SinkGoes, SourceGoes}
-use Rattle.p25_io.proofs.OctetsLaws.{Appended-none, Appended-same, Appended-trans, AppendedFront-longer, AppendedFront-same, Rose-within, Taken-none, Taken-told, Taken-trans}
+use Rattle.p25_io.proofs.OctetsLaws.{Appended-none, Appended-same, Appended-trans, AppendedBeginning-longer, AppendedBeginning-same, Rose-within, Taken-none, Taken-told, Taken-trans}
 use Rattle.p25_filter.specs.declared.ending.Ending.{Ending}
 use Rattle.p25_filter.specs.declared.ending.FilterEnd.{FilterEnd}
 use Rattle.p25_filter.specs.declared.ending.FilterEnd.TheVariants.{Ended, ReadFault, WriteFault, TooLong, Memory}
@@ -214,11 +214,11 @@ memory-meets told first last future Broken octets text pauses over appended = ab
 
 -- a write failed
 cut-front : (first last : Option (List ℕ)) (text piece whole : List ℕ) (count : ℕ) → Appended first (text ++ take count piece) last → Begins (text ++ piece) whole
-    → AppendedFront first whole last
+    → AppendedBeginning first whole last
 cut-front first last text piece whole count appended begins =
-    let front : AppendedFront first (text ++ piece) last =
-    record { count = length text + count; front = Appended-same (sym (take-append-add text piece count)) appended } in
-    AppendedFront-same (sym begins.is) (AppendedFront-longer begins.rest front)
+    let beginning : AppendedBeginning first (text ++ piece) last =
+    record { count = length text + count; beginning = Appended-same (sym (take-append-add text piece count)) appended } in
+    AppendedBeginning-same (sym begins.is) (AppendedBeginning-longer begins.rest beginning)
 
 -- of the octets that a source told, none are left where the input is over
 none-left : (told left : Option (List ℕ)) (octets rest : List ℕ) → Taken told octets left → IfSome told (λ input. input ≡ octets) → left ≡ Some rest → rest ≡ []
@@ -238,7 +238,7 @@ none-left (Some input) (Some some) octets rest taken all same =
 write-meets : (told left first last : Option (List ℕ)) (future : Future) (at : Standing) (piece : List ℕ) (count : ℕ) → Reached told at left
     → IsDecided future at.phase at.octets (at.text ++ piece) → Appended first (at.text ++ take count piece) last → IsWriteFault left first last future at.octets
 write-meets told left first last future at piece count reached decided appended = record {
-  front = λ rest is.
+  beginning = λ rest is.
       cut-front first last at.text piece (all_written future (at.octets ++ rest)) count appended
       (decided-begins future at.phase at.octets rest (at.text ++ piece) decided
       (λ same. let over = reached.over same in (over.0, none-left told left at.octets rest reached.taken over.1 is)));

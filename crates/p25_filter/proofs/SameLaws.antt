@@ -3,7 +3,7 @@
 use Rattle.std.proofs.Common.{◌≡◌, ℕ, Bool, true, false, cond, nat_lt, List, [], ◌∷◌, ◌++◌, length, take, Option, sym, subst, ◌∙◌}
 use Rattle.std.specs.Prelude.{Contains}
 use Rattle.p25_io.specs.Events.{Event, Read, ReadFailed, Wrote, WriteFailed}
-use Rattle.p25_io.proofs.OctetsLaws.{Appended-same, AppendedFront-same}
+use Rattle.p25_io.proofs.OctetsLaws.{Appended-same, AppendedBeginning-same}
 use Rattle.p25_filter.specs.declared.ending.Ending.{Ending}
 use Rattle.p25_filter.specs.declared.ending.FilterEnd.{FilterEnd}
 use Rattle.p25_filter.specs.declared.ending.FilterEnd.TheVariants.{Ended as FilterEnded, ReadFault, WriteFault, TooLong, Memory}
@@ -52,7 +52,7 @@ Filtered-same told left first last f g WriteFault writes ends pauses worked =
       octets = worked.octets;
       taken = worked.taken;
       few = worked.few;
-      meets = record { front = λ rest is. AppendedFront-same (all_written-same f g writes (worked.octets ++ rest)) (worked.meets.front rest is) };
+      meets = record { beginning = λ rest is. AppendedBeginning-same (all_written-same f g writes (worked.octets ++ rest)) (worked.meets.beginning rest is) };
     }
 Filtered-same told left first last f g TooLong writes ends pauses worked =
     record {

@@ -1,6 +1,6 @@
 -- What the work on an input leaves, by how it ended.
 use Rattle.std.specs.Prelude.{◌≡◌, ℕ, ◌+◌, ◌<◌, ◌≤◌, Bool, true, false, if◌then◌else◌, nat_lt, Option, Some, None, List, ◌++◌, length, take, Contains, IfSome}
-use Rattle.p25_io.specs.Octets.{Taken, Appended, AppendedFront}
+use Rattle.p25_io.specs.Octets.{Taken, Appended, AppendedBeginning}
 use Rattle.p25_filter.specs.declared.ending.Ending.{Ending}
 use Rattle.p25_filter.specs.declared.ending.FilterEnd.{FilterEnd}
 use Rattle.p25_filter.specs.declared.ending.FilterEnd.TheVariants.{Ended, ReadFault, WriteFault, TooLong, Memory}
@@ -40,7 +40,7 @@ pub record IsTooLong (first last : Option (List ℕ)) (future : Future) (octets 
 
 -- a write failed: the beginning of all that was to be written is written
 pub record IsWriteFault (left first last : Option (List ℕ)) (future : Future) (octets : List ℕ) : Type 0 where
-  pub front : (rest : List ℕ) → left ≡ Some rest → AppendedFront first (all_written future (octets ++ rest)) last
+  pub beginning : (rest : List ℕ) → left ≡ Some rest → AppendedBeginning first (all_written future (octets ++ rest)) last
 
 -- memory was wanting: what is written is a text after which it may be, by the octets taken, which are all or more may come;
 -- no octet past the most is looked at

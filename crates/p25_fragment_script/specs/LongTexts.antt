@@ -43,4 +43,4 @@ unfoldable pub long_closing_text_of : LongState → List ℕ
 long_closing_text_of w =
     codes "taken=" ++ decimal (length w.taken) ++ codes " whole=" ++ decimal (length w.whole)
     ++ codes " acknowledged=" ++ decimal w.acknowledged ++ codes " false=" ++ decimal w.inner.false_passes
-    ++ sessions_text (length w.inner.link.outbound.marks + 1)
+    ++ sessions_text (length w.inner.delivery.outbound.marks + 1)

@@ -1,4 +1,4 @@
--- What a step means in a clean run, where the link keeps its facts before it and after it. By the counts of the facts.
+-- What a step means in a clean run, where the delivery keeps its facts before it and after it. By the counts of the facts.
 use Rattle.std.proofs.Common.{◌≡◌, ℕ, ◌+◌, ◌%◌, inl, inr, true, false, List, [], ◌∷◌, ◌++◌, length, take, get_or, refl, ap, sym, subst, ◌∙◌, arith, length-append}
 use Rattle.std.proofs.Math.Seq.{get_or-append_seam}
 use Rattle.std.proofs.lemmas.List.{take_all}
@@ -8,28 +8,28 @@ use Rattle.p25_packet_blocks.specs.Heads.{head_syn}
 use Rattle.p25_delivery.specs.SenderRules.{opening_number, is_opening}
 use Rattle.p25_delivery.specs.declared.sender_state.Outstanding.{Outstanding}
 use Rattle.p25_delivery.specs.declared.sender_state.Outstanding.TheVariants.{Nothing, Message, Opening}
-use Rattle.p25_delivery.specs.Link.{Session, Link, present_session, first_number}
+use Rattle.p25_delivery.specs.Delivery.{Session, Delivery, present_session, first_number}
 use Rattle.p25_delivery.specs.Clean.{IsHeardOf}
 use Rattle.p25_delivery.specs.Facts.{IsDataOf, OpeningFacts, SentBy, SessionFacts, FactsBy}
 use Rattle.p25_delivery.proofs.SentLaws.{data-heard}
 use Rattle.p25_delivery.proofs.CallLaws.{newest}
 use Rattle.p25_delivery.proofs.SessionLaws.{with_delivered, with_acknowledged, one_delivered, one_acknowledged, present-delivered, present-acknowledged}
-use Rattle.p25_delivery.proofs.PhaseLaws.{IsLinked, quiet, busy, opening, IsKept}
-use Rattle.p25_delivery.proofs.FactsLaws.{facts-linked}
+use Rattle.p25_delivery.proofs.PhaseLaws.{IsDelivering, quiet, busy, opening, IsKept}
+use Rattle.p25_delivery.proofs.FactsLaws.{facts-delivering}
 use Rattle.p25_fragments.proofs.MoveLaws.{lists_of, outstanding_in, IsSameIn, HasSameLast}
 
--- the facts of a link, by what is outstanding
-facts-at : (v : Link) (out : Outstanding) → IsKept v → outstanding_in v ≡ out → FactsBy out (first_number v) (present_session v) v
-facts-at v out k o = subst (λ (x : Outstanding). FactsBy x (first_number v) (present_session v) v) o (facts-linked (first_number v) (present_session v) v k.linked)
+-- the facts of a delivery, by what is outstanding
+facts-at : (v : Delivery) (out : Outstanding) → IsKept v → outstanding_in v ≡ out → FactsBy out (first_number v) (present_session v) v
+facts-at v out k o = subst (λ (x : Outstanding). FactsBy x (first_number v) (present_session v) v) o (facts-delivering (first_number v) (present_session v) v k.delivering)
 
-sent-at : (v : Link) (out : Outstanding) (s : Session) → outstanding_in v ≡ out → SentBy (outstanding_in v) s → SentBy out s
+sent-at : (v : Delivery) (out : Outstanding) (s : Session) → outstanding_in v ≡ out → SentBy (outstanding_in v) s → SentBy out s
 sent-at v out s o h = subst (λ (x : Outstanding). SentBy x s) o h
 
 -- where nothing is outstanding, as many messages were delivered as acknowledged
-count-none : (b : ℕ) (s : Session) (v : Link) → SessionFacts b s v → outstanding_in v ≡ Nothing → length s.delivered ≡ s.acknowledged
+count-none : (b : ℕ) (s : Session) (v : Delivery) → SessionFacts b s v → outstanding_in v ≡ Nothing → length s.delivered ≡ s.acknowledged
 count-none b s v f o = elim f.count [ inl e ↦ e | inr (e, message, is) ↦ absurd (cc (o, is)) ]
 
-pub quiet-counts : (v : Link) → IsKept v → outstanding_in v ≡ Nothing → length (present_session v).delivered ≡ (present_session v).acknowledged
+pub quiet-counts : (v : Delivery) → IsKept v → outstanding_in v ≡ Nothing → length (present_session v).delivered ≡ (present_session v).acknowledged
 unfolding FactsBy
 quiet-counts v k o = count-none (first_number v) (present_session v) v (facts-at v Nothing k o) o
 
@@ -40,12 +40,12 @@ last-same xs ys x y e =
     let count : length xs ≡ length ys = omega (arith, ap length e, length-append xs (x ∷ []), length-append ys (y ∷ [])) in
     sym (get_or-append_seam xs x [] x) ∙ ap (λ (zs : List (List ℕ)). get_or zs (length xs) x) e ∙ ap (λ (n : ℕ). get_or (ys ++ y ∷ []) n x) count ∙ get_or-append_seam ys y [] x
 
-pub record IsDelivered (v w : Link) (message : List ℕ) : Type 0 where
+pub record IsDelivered (v w : Delivery) (message : List ℕ) : Type 0 where
   pub outstanding : outstanding_in v ≡ Message message
   pub before : length (present_session v).delivered ≡ (present_session v).acknowledged
   pub after : length (present_session w).delivered ≡ (present_session w).acknowledged + 1
 
-delivered-message : (part message : List ℕ) (s t : Session) (b c : ℕ) (v w : Link) → SessionFacts b s v → SessionFacts c t w → outstanding_in v ≡ Message part → t ≡ with_delivered s message →
+delivered-message : (part message : List ℕ) (s t : Session) (b c : ℕ) (v w : Delivery) → SessionFacts b s v → SessionFacts c t w → outstanding_in v ≡ Message part → t ≡ with_delivered s message →
     (message ≡ part) × (length s.delivered ≡ s.acknowledged)
 unfolding SentBy
 delivered-message part message s t b c v w f g o e =
@@ -61,7 +61,7 @@ delivered-message part message s t b c v w f g o e =
     = ap (λ (x : Session). take (length t.delivered) x.sent) e ∙ take_all (length t.delivered) s.sent (omega (arith, more, count, sent.0)) in
     (last-same s.delivered sent.1.0 message part (sym (ap (λ (x : Session). x.delivered) e) ∙ g.delivered ∙ all ∙ sent.1.1), count)
 
-delivered-by : (out : Outstanding) (message : List ℕ) (v w : Link) → IsKept v → IsKept w → outstanding_in v ≡ out → outstanding_in w ≡ out → present_session w ≡ with_delivered (present_session v) message →
+delivered-by : (out : Outstanding) (message : List ℕ) (v w : Delivery) → IsKept v → IsKept w → outstanding_in v ≡ out → outstanding_in w ≡ out → present_session w ≡ with_delivered (present_session v) message →
     (outstanding_in v ≡ Message message) × (length (present_session v).delivered ≡ (present_session v).acknowledged)
 unfolding FactsBy
 delivered-by Nothing message v w k l o p e =
@@ -74,7 +74,7 @@ delivered-by (Opening number) message v w k l o p e =
     let f : OpeningFacts number (present_session w) w = facts-at w (Opening number) l p in
     absurd (omega (arith, ap (λ (x : Session). length x.delivered) (sym e ∙ f.nothing_yet), length-append (present_session v).delivered (message ∷ [])))
 
-pub delivered-is : (v w : Link) (message : List ℕ) → IsKept v → IsKept w → IsSameIn v w → lists_of w ≡ one_delivered (lists_of v) message → IsDelivered v w message
+pub delivered-is : (v w : Delivery) (message : List ℕ) → IsKept v → IsKept w → IsSameIn v w → lists_of w ≡ one_delivered (lists_of v) message → IsDelivered v w message
 delivered-is v w message k l o e =
     let p : present_session w ≡ with_delivered (present_session v) message = ap present_session e ∙ present-delivered (lists_of v) message k.divided.0 in
     let d = delivered-by (outstanding_in v) message v w k l refl o p in
@@ -85,13 +85,13 @@ delivered-is v w message k l o e =
     }
 
 -- A message is acknowledged: it had arrived.
-pub acknowledged-is : (v w : Link) → IsKept v → IsKept w → outstanding_in w ≡ Nothing → lists_of w ≡ one_acknowledged (lists_of v) → length (present_session v).delivered ≡ (present_session v).acknowledged + 1
+pub acknowledged-is : (v w : Delivery) → IsKept v → IsKept w → outstanding_in w ≡ Nothing → lists_of w ≡ one_acknowledged (lists_of v) → length (present_session v).delivered ≡ (present_session v).acknowledged + 1
 acknowledged-is v w k l o e =
     let p : present_session w ≡ with_acknowledged (present_session v) = ap present_session e ∙ present-acknowledged (lists_of v) k.divided.0 in
     sym (ap (λ (x : Session). length x.delivered) p) ∙ quiet-counts w l o ∙ ap (λ (x : Session). x.acknowledged) p
 
 -- The session is open: the opening packet had come.
-pub opened-is : (number : ℕ) (v w : Link) → IsKept v → IsKept w → outstanding_in v ≡ Opening number → outstanding_in w ≡ Nothing → w.outbound.sender.next ≡ (number + 1) % 8 → HasSameLast v w →
+pub opened-is : (number : ℕ) (v w : Delivery) → IsKept v → IsKept w → outstanding_in v ≡ Opening number → outstanding_in w ≡ Nothing → w.outbound.sender.next ≡ (number + 1) % 8 → HasSameLast v w →
     lists_of w ≡ lists_of v → v.inbound.receiver.last ≡ number
 unfolding FactsBy
 opened-is number v w k l o p n s e =
@@ -112,7 +112,7 @@ opening-is : (out : Outstanding) (next number : ℕ) (message : List ℕ) → ou
 unfolding opening_number
 opening-is out next number message o n = sym n ∙ ap (λ (x : Outstanding). opening_number x next) o
 
-pub away : (b : ℕ) (s : Session) (v : Link) (number : ℕ) → IsLinked b s v → v.outbound.sender.down ≡ true → is_opening (outstanding_in v) ≡ false →
+pub away : (b : ℕ) (s : Session) (v : Delivery) (number : ℕ) → IsDelivering b s v → v.outbound.sender.down ≡ true → is_opening (outstanding_in v) ≡ false →
     opening_number (outstanding_in v) v.outbound.sender.next ≡ number → v.inbound.receiver.last ≡ number → ⊥
 away b s v number (quiet last q) d i n l = absurd (cc (d, q.up))
 away b s v number (busy at message h) d i n l =
@@ -130,7 +130,7 @@ IsNoMessage Nothing = Unit {0}
 IsNoMessage (Message message) = ⊥
 IsNoMessage (Opening number) = Unit {0}
 
-pub no-message : (b : ℕ) (s : Session) (v : Link) (packet : ConfirmedParts) → IsLinked b s v → IsHeardOf v.packet_sent (Confirmed packet) → head_syn packet.head ≡ true → IsNoMessage (outstanding_in v)
+pub no-message : (b : ℕ) (s : Session) (v : Delivery) (packet : ConfirmedParts) → IsDelivering b s v → IsHeardOf v.packet_sent (Confirmed packet) → head_syn packet.head ≡ true → IsNoMessage (outstanding_in v)
 unfolding IsNoMessage
 no-message b s v packet (quiet last q) heard syn = subst IsNoMessage (sym q.outstanding) tt
 no-message b s v packet (busy number message h) heard syn =

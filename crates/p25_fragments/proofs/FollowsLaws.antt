@@ -1,4 +1,4 @@
--- What it means that the long messages follow a step: they match the link after it. And the steps that mean nothing for them, or
+-- What it means that the long messages follow a step: they match the delivery after it. And the steps that mean nothing for them, or
 -- end a session, hear the opening packet or open the session. By what was outstanding.
 use Rattle.std.proofs.Common.{◌≡◌, ◌≢◌, ℕ, ◌+◌, true, false, [], ◌∷◌, ◌++◌, length, Option, None, refl, ap, sym, subst, ◌∙◌, arith, length-append}
 use Rattle.std.specs.Prelude.{nat_lt}
@@ -9,7 +9,7 @@ use Rattle.p25_delivery.specs.declared.sender_state.Outstanding.{Outstanding}
 use Rattle.p25_delivery.specs.declared.sender_state.Outstanding.TheVariants.{Nothing, Message, Opening}
 use Rattle.p25_delivery.specs.declared.step_kind.StepKind.{StepKind}
 use Rattle.p25_delivery.specs.declared.step_kind.StepKind.TheVariants.{Acknowledged, Delivered, SynHeard}
-use Rattle.p25_delivery.specs.Link.{Link, Session, present_mark, present_session}
+use Rattle.p25_delivery.specs.Delivery.{Delivery, Session, present_mark, present_session}
 use Rattle.p25_delivery.specs.Orderly.{IsOrderly, AreOrderly}
 use Rattle.p25_delivery.proofs.SessionLaws.{marked, IsDivided, divided-marked, present-marked}
 use Rattle.p25_delivery.proofs.PhaseLaws.{IsKept, orderly-divided}
@@ -20,7 +20,7 @@ use Rattle.p25_fragments.specs.declared.long_step.Then.{Then}
 use Rattle.p25_fragments.specs.declared.long_step.Then.TheVariants.{Plain, Refused}
 use Rattle.p25_fragments.specs.declared.long_step.LongStep.{LongStep}
 use Rattle.p25_fragments.specs.Joining.{Joining, first_joining}
-use Rattle.p25_fragments.specs.LongState.{LongState, long_link}
+use Rattle.p25_fragments.specs.LongState.{LongState, long_delivery}
 use Rattle.p25_fragments.specs.LongSteps.{with_first, after_kind, session_ended, inner_happened}
 use Rattle.p25_fragments.specs.LongRuns.{long_sessions_of}
 use Rattle.p25_fragments.proofs.MoveLaws.{IsPlainKind, lists_of, outstanding_in, IsSameIn, HasSameLast}
@@ -29,13 +29,13 @@ use Rattle.p25_fragments.proofs.MatchLaws.{IsOpeningLong, MatchesBy, Matches, ma
 
 -- the present session of the long messages
 abbrev pub present : LongState → Session
-present w = present_session (long_link w)
+present w = present_session (long_delivery w)
 
--- the link is in a phase, the sessions of the long messages that have ended are orderly, and the present one matches the link
+-- the delivery is in a phase, the sessions of the long messages that have ended are orderly, and the present one matches the delivery
 pub record Follows (w : LongState) : Type 0 where
-  pub kept : IsKept w.inner.link
-  pub divided : IsDivided IsOrderly (long_link w)
-  pub matches : Matches w.inner.link w.outstanding w.joining (present w)
+  pub kept : IsKept w.inner.delivery
+  pub divided : IsDivided IsOrderly (long_delivery w)
+  pub matches : Matches w.inner.delivery w.outstanding w.joining (present w)
 
 -- a step after which the long messages match, and in which no part is refused
 pub record FollowsStep (y : LongState × LongStep) : Type 0 where
@@ -48,33 +48,33 @@ pub record FollowsThen (y : LongState × Then) : Type 0 where
   pub unrefused : y.1 ≢ Refused
 
 pub present-orderly : (w : LongState) → Follows w → IsOrderly (present w)
-present-orderly w f = orderly-matches (outstanding_in w.inner.link) w.inner.link.inbound.receiver.last (present_session w.inner.link) w.outstanding w.joining (present w) f.matches
+present-orderly w f = orderly-matches (outstanding_in w.inner.delivery) w.inner.delivery.inbound.receiver.last (present_session w.inner.delivery) w.outstanding w.joining (present w) f.matches
 
 pub sessions-orderly : (w : LongState) → Follows w → AreOrderly (long_sessions_of w)
-sessions-orderly w f = orderly-divided (long_link w) f.divided (present-orderly w f)
+sessions-orderly w f = orderly-divided (long_delivery w) f.divided (present-orderly w f)
 
 -- Whether a session of the inner world has ended.
 
-pub happened-on : (w : LongState) (inner : WorldState) (step : Step) → inner.link.outbound.marks ≡ w.inner.link.outbound.marks → inner_happened w (inner, step) ≡ with_first step (after_kind step.kind (record w { inner = inner }))
+pub happened-on : (w : LongState) (inner : WorldState) (step : Step) → inner.delivery.outbound.marks ≡ w.inner.delivery.outbound.marks → inner_happened w (inner, step) ≡ with_first step (after_kind step.kind (record w { inner = inner }))
 unfolding inner_happened
 happened-on w inner step e =
     let same = ap length e in
-    let test : nat_lt (length w.inner.link.outbound.marks) (length inner.link.outbound.marks) ≡ false = grind (arith, nat_tests) in
+    let test : nat_lt (length w.inner.delivery.outbound.marks) (length inner.delivery.outbound.marks) ≡ false = grind (arith, nat_tests) in
     ap (λ (y : LongState × Then). with_first step y) (cond-false _ _ _ test)
 
-pub happened-end : (w : LongState) (inner : WorldState) (step : Step) (mark : Mark) → inner.link.outbound.marks ≡ w.inner.link.outbound.marks ++ mark ∷ [] →
+pub happened-end : (w : LongState) (inner : WorldState) (step : Step) (mark : Mark) → inner.delivery.outbound.marks ≡ w.inner.delivery.outbound.marks ++ mark ∷ [] →
     inner_happened w (inner, step) ≡ with_first step (session_ended (record w { inner = inner }))
 unfolding inner_happened
 happened-end w inner step mark e =
-    let more : length inner.link.outbound.marks ≡ length w.inner.link.outbound.marks + 1 = ap length e ∙ length-append w.inner.link.outbound.marks (mark ∷ []) in
-    let test : nat_lt (length w.inner.link.outbound.marks) (length inner.link.outbound.marks) ≡ true = grind (arith, nat_tests) in
+    let more : length inner.delivery.outbound.marks ≡ length w.inner.delivery.outbound.marks + 1 = ap length e ∙ length-append w.inner.delivery.outbound.marks (mark ∷ []) in
+    let test : nat_lt (length w.inner.delivery.outbound.marks) (length inner.delivery.outbound.marks) ≡ true = grind (arith, nat_tests) in
     ap (λ (y : LongState × Then). with_first step y) (cond-true _ _ _ test)
 
 pub step-then : (step : Step) (y : LongState × Then) → FollowsThen y → FollowsStep (with_first step y)
 step-then step y f = record { follows = f.follows; unrefused = f.unrefused }
 
 -- where no session ended, what follows is that of the step
-pub on : (w : LongState) (inner : WorldState) (step : Step) → inner.link.outbound.marks ≡ w.inner.link.outbound.marks → FollowsThen (after_kind step.kind (record w { inner = inner })) → FollowsStep (inner_happened w (inner, step))
+pub on : (w : LongState) (inner : WorldState) (step : Step) → inner.delivery.outbound.marks ≡ w.inner.delivery.outbound.marks → FollowsThen (after_kind step.kind (record w { inner = inner })) → FollowsStep (inner_happened w (inner, step))
 on w inner step e f = subst FollowsStep (sym (happened-on w inner step e)) (step-then step (after_kind step.kind (record w { inner = inner })) f)
 
 -- A step that means nothing.
@@ -92,22 +92,23 @@ plain-unrefused e = absurd (cc)
 plain-then : (kind : StepKind) (w : LongState) → IsPlainKind kind → Follows w → FollowsThen (after_kind kind w)
 plain-then kind w p f = subst FollowsThen (sym (after-plain kind w p)) (record { follows = f; unrefused = plain-unrefused })
 
-same-matches : (v u : Link) (out : Option OutstandingPart) (j : Joining) (p : Session) → IsSameIn v u → HasSameLast v u → present_session u ≡ present_session v → Matches v out j p → Matches u out j p
+same-matches : (v u : Delivery) (out : Option OutstandingPart) (j : Joining) (p : Session) → IsSameIn v u → HasSameLast v u → present_session u ≡ present_session v → Matches v out j p → Matches u out j p
 same-matches v u out j p o l s m =
     let last : MatchesBy (outstanding_in v) u.inbound.receiver.last (present_session v) out j p = subst (λ (n : ℕ). MatchesBy (outstanding_in v) n (present_session v) out j p) (sym l) m in
     matches-from u (outstanding_in v) out j p o (subst (λ (x : Session). MatchesBy (outstanding_in v) u.inbound.receiver.last x out j p) (sym s) last)
 
-pub nothing-follows : (w : LongState) (inner : WorldState) (step : Step) → Follows w → IsKept inner.link → IsPlainKind step.kind → IsSameIn w.inner.link inner.link →
-    HasSameLast w.inner.link inner.link → lists_of inner.link ≡ lists_of w.inner.link →
+pub nothing-follows : (w : LongState) (inner : WorldState) (step : Step) → Follows w → IsKept inner.delivery → IsPlainKind step.kind → IsSameIn w.inner.delivery inner.delivery →
+    HasSameLast w.inner.delivery inner.delivery → lists_of inner.delivery ≡ lists_of w.inner.delivery →
     FollowsStep (inner_happened w (inner, step))
 nothing-follows w inner step f k p o l e =
-    on w inner step (ap (λ (v : Link). v.outbound.marks) e)
+    on w inner step (ap (λ (v : Delivery). v.outbound.marks) e)
     (plain-then step.kind (record w { inner = inner }) p
-    (record { kept = k; divided = f.divided; matches = same-matches w.inner.link inner.link w.outstanding w.joining (present w) o l (ap present_session e) f.matches }))
+    (record { kept = k; divided = f.divided; matches = same-matches w.inner.delivery inner.delivery w.outstanding w.joining (present w) o l (ap present_session e) f.matches }))
 
 -- The session is open.
 
-opened-matches : (v u : Link) (out : Option OutstandingPart) (j : Joining) (p : Session) (number : ℕ) → outstanding_in v ≡ Opening number → v.inbound.receiver.last ≡ number → outstanding_in u ≡ Nothing → Matches v out j p → Matches u out j p
+opened-matches : (v u : Delivery) (out : Option OutstandingPart) (j : Joining) (p : Session) (number : ℕ) → outstanding_in v ≡ Opening number → v.inbound.receiver.last ≡ number → outstanding_in u ≡ Nothing → Matches v out j p
+    → Matches u out j p
 unfolding MatchesBy
 opened-matches v u out j p number o l q m =
     let h : IsOpeningLong number v.inbound.receiver.last out j p = matches-at v (Opening number) out j p o m in
@@ -118,12 +119,12 @@ opened-matches v u out j p number o l q m =
       acknowledged_is = ap (λ (x : Session). x.acknowledged) h.session_is ∙ sym (ap (λ (x : Session). length x.sent) h.session_is);
     })
 
-pub opened-follows : (w : LongState) (inner : WorldState) (step : Step) (number : ℕ) → Follows w → IsKept inner.link → IsPlainKind step.kind → outstanding_in w.inner.link ≡ Opening number →
-    w.inner.link.inbound.receiver.last ≡ number → outstanding_in inner.link ≡ Nothing →
-    lists_of inner.link ≡ lists_of w.inner.link → FollowsStep (inner_happened w (inner, step))
+pub opened-follows : (w : LongState) (inner : WorldState) (step : Step) (number : ℕ) → Follows w → IsKept inner.delivery → IsPlainKind step.kind → outstanding_in w.inner.delivery ≡ Opening number →
+    w.inner.delivery.inbound.receiver.last ≡ number → outstanding_in inner.delivery ≡ Nothing →
+    lists_of inner.delivery ≡ lists_of w.inner.delivery → FollowsStep (inner_happened w (inner, step))
 opened-follows w inner step number f k p o l q e =
-    on w inner step (ap (λ (v : Link). v.outbound.marks) e)
-    (plain-then step.kind (record w { inner = inner }) p (record { kept = k; divided = f.divided; matches = opened-matches w.inner.link inner.link w.outstanding w.joining (present w) number o l q f.matches }))
+    on w inner step (ap (λ (v : Delivery). v.outbound.marks) e)
+    (plain-then step.kind (record w { inner = inner }) p (record { kept = k; divided = f.divided; matches = opened-matches w.inner.delivery inner.delivery w.outstanding w.joining (present w) number o l q f.matches }))
 
 -- The opening packet is heard.
 
@@ -137,19 +138,19 @@ syn-then : (w : LongState) (kind : StepKind) (number : ℕ) → kind ≡ SynHear
 unfolding after_kind
 syn-then w kind number k f = subst FollowsThen (sym (ap (λ (x : StepKind). after_kind x w) k)) (record { follows = f; unrefused = plain-unrefused })
 
-pub syn-follows : (w : LongState) (inner : WorldState) (step : Step) (number : ℕ) → Follows w → IsKept inner.link → step.kind ≡ SynHeard number → IsNoMessage (outstanding_in w.inner.link) →
-    IsSameIn w.inner.link inner.link → lists_of inner.link ≡ lists_of w.inner.link →
+pub syn-follows : (w : LongState) (inner : WorldState) (step : Step) (number : ℕ) → Follows w → IsKept inner.delivery → step.kind ≡ SynHeard number → IsNoMessage (outstanding_in w.inner.delivery) →
+    IsSameIn w.inner.delivery inner.delivery → lists_of inner.delivery ≡ lists_of w.inner.delivery →
     FollowsStep (inner_happened w (inner, step))
 syn-follows w inner step number f k s is o e =
-    let v = w.inner.link in
-    let m = syn-matches (outstanding_in v) v.inbound.receiver.last (present_session v) inner.link.inbound.receiver.last (present_session inner.link) w.outstanding w.joining (present w) is f.matches in
-    on w inner step (ap (λ (u : Link). u.outbound.marks) e)
-    (syn-then (record w { inner = inner }) step.kind number s (record { kept = k; divided = f.divided; matches = matches-from inner.link (outstanding_in v) w.outstanding first_joining (present w) o m }))
+    let v = w.inner.delivery in
+    let m = syn-matches (outstanding_in v) v.inbound.receiver.last (present_session v) inner.delivery.inbound.receiver.last (present_session inner.delivery) w.outstanding w.joining (present w) is f.matches in
+    on w inner step (ap (λ (u : Delivery). u.outbound.marks) e)
+    (syn-then (record w { inner = inner }) step.kind number s (record { kept = k; divided = f.divided; matches = matches-from inner.delivery (outstanding_in v) w.outstanding first_joining (present w) o m }))
 
 -- A session ends.
 
-pub ended-follows : (w : LongState) (inner : WorldState) (step : Step) (number : ℕ) → Follows w → IsKept inner.link → outstanding_in inner.link ≡ Opening number →
-    (inner.link.inbound.receiver.last ≡ number → ⊥) → lists_of inner.link ≡ marked (lists_of w.inner.link) →
+pub ended-follows : (w : LongState) (inner : WorldState) (step : Step) (number : ℕ) → Follows w → IsKept inner.delivery → outstanding_in inner.delivery ≡ Opening number →
+    (inner.delivery.inbound.receiver.last ≡ number → ⊥) → lists_of inner.delivery ≡ marked (lists_of w.inner.delivery) →
     FollowsStep (inner_happened w (inner, step))
 unfolding MatchesBy
 ended-follows w inner step number f k o away e =
@@ -157,8 +158,8 @@ ended-follows w inner step number f k o away e =
     let follows : Follows now.0
     = record {
       kept = k;
-      divided = divided-marked IsOrderly (long_link w) f.divided (present-orderly w f);
-      matches = matches-from inner.link (Opening number) None w.joining (present now.0) o
-          (record { out_is = refl; session_is = present-marked (long_link w); joining_is = λ (is : inner.link.inbound.receiver.last ≡ number). absurd (away is) });
+      divided = divided-marked IsOrderly (long_delivery w) f.divided (present-orderly w f);
+      matches = matches-from inner.delivery (Opening number) None w.joining (present now.0) o
+          (record { out_is = refl; session_is = present-marked (long_delivery w); joining_is = λ (is : inner.delivery.inbound.receiver.last ≡ number). absurd (away is) });
     } in
-    subst FollowsStep (sym (happened-end w inner step (present_mark w.inner.link) (ap (λ (v : Link). v.outbound.marks) e))) (step-then step now (record { follows = follows; unrefused = plain-unrefused }))
+    subst FollowsStep (sym (happened-end w inner step (present_mark w.inner.delivery) (ap (λ (v : Delivery). v.outbound.marks) e))) (step-then step now (record { follows = follows; unrefused = plain-unrefused }))

@@ -105,7 +105,7 @@ unfolding Runs inner_happened steps_in first_steps next_steps Follow
 happened-run w event =
     let x = world_step w.inner event in
     let now : LongState = record w { inner = x.0 } in
-    let has_ended = nat_lt (length w.inner.link.outbound.marks) (length x.0.link.outbound.marks) in
+    let has_ended = nat_lt (length w.inner.delivery.outbound.marks) (length x.0.delivery.outbound.marks) in
     let y = cond has_ended (session_ended now) (after_kind x.1.kind now) in
     let follow : Follow now y = elim has_ended as (λ (b : Bool). Follow now (cond b (session_ended now) (after_kind x.1.kind now))) [ true ↦ no-events x.0 | false ↦ after-run x.1.kind now ] in
     both w.inner x.0 y.0.inner (x.1 ∷ []) (next_steps y.1) (one-event w.inner event) follow

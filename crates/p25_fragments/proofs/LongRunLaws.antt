@@ -1,13 +1,13 @@
--- A clean run keeps the long messages matched to the link, and refuses no part. One event after the other.
+-- A clean run keeps the long messages matched to the delivery, and refuses no part. One event after the other.
 use Rattle.std.proofs.Common.{◌≡◌, ◌≢◌, ℕ, ◌≤◌, Bool, false, List, [], ◌∷◌, ◌++◌, length, Option, Some, refl, ap, sym, subst, ◌∙◌, arith, append_assoc}
 use Rattle.p25_messages.specs.LongMessages.{part_of}
 use Rattle.p25_delivery.specs.Runs.{run_by, steps_by, EachIs}
 use Rattle.p25_delivery.specs.declared.sender_state.Outstanding.TheVariants.{Nothing, Message}
 use Rattle.p25_delivery.specs.declared.step_kind.StepKind.{StepKind}
-use Rattle.p25_delivery.specs.Link.{Link, Session, last_mark, Happening, Time_up}
+use Rattle.p25_delivery.specs.Delivery.{Delivery, Session, last_mark, Happening, Time_up}
 use Rattle.p25_delivery.specs.Clean.{IsClean}
 use Rattle.p25_delivery.specs.Orderly.{IsOrderly, AreOrderly}
-use Rattle.p25_delivery.proofs.LinkLaws.{happens-kept, first-kept}
+use Rattle.p25_delivery.proofs.DeliveryLaws.{happens-kept, first-kept}
 use Rattle.p25_delivery.proofs.SessionLaws.{divided-sent, present-sent}
 use Rattle.p25_stations.specs.declared.step.Event.{Event}
 use Rattle.p25_stations.specs.declared.step.Event.TheVariants.{Send, Timeout, Reopen, ToReceiver, ToSender}
@@ -21,7 +21,7 @@ use Rattle.p25_fragments.specs.declared.long_step.LongEvent.{LongEvent}
 use Rattle.p25_fragments.specs.declared.long_step.LongEvent.TheVariants.{Long, Inner}
 use Rattle.p25_fragments.specs.declared.long_step.Then.{Then}
 use Rattle.p25_fragments.specs.declared.long_step.Then.TheVariants.{Busy, Down, Refused}
-use Rattle.p25_fragments.specs.LongState.{LongState, long_link, first_long}
+use Rattle.p25_fragments.specs.LongState.{LongState, long_delivery, first_long}
 use Rattle.p25_fragments.specs.LongSteps.{unmoved, started, long_offered, inner_happened, long_step}
 use Rattle.p25_fragments.specs.LongRuns.{IsNoOffer, IsLongEvent, AreLongEvents, long_run, long_steps_of, first_steps, next_steps, inner_steps, IsCleanLongRun, AreUnrefused, long_sessions_of}
 use Rattle.p25_fragments.proofs.JoinLaws.{joined-none}
@@ -34,16 +34,16 @@ use Rattle.p25_fragments.proofs.LongStepLaws.{offered-to, moved-follows}
 -- A long message is offered.
 
 -- it is taken, and its part 0 is outstanding
-started-follows : (w : LongState) (message : List ℕ) → Follows w → length message ≤ 4000 → outstanding_in w.inner.link ≡ Nothing → w.inner.link.outbound.sender.down ≡ false →
+started-follows : (w : LongState) (message : List ℕ) → Follows w → length message ≤ 4000 → outstanding_in w.inner.delivery ≡ Nothing → w.inner.delivery.outbound.sender.down ≡ false →
     FollowsStep (started w message (world_step w.inner (Send (part_of message 0))))
 unfolding started MatchesBy
 started-follows w message f short o up =
     let x = world_step w.inner (Send (part_of message 0)) in
     let now = (started w message x).0 in
-    let m : IsIdleLong w.outstanding w.joining (present w) = matches-at w.inner.link Nothing w.outstanding w.joining (present w) o f.matches in
+    let m : IsIdleLong w.outstanding w.joining (present w) = matches-at w.inner.delivery Nothing w.outstanding w.joining (present w) o f.matches in
     let offer = offered-to w.inner message 0 f.kept o up in
-    let more = present-sent (long_link w) message f.divided.0 in
-    let matches = matches-from x.0.link (Message (part_of message 0)) (Some (record { message = message; number = 0 })) w.joining (present now) offer.outstanding (record {
+    let more = present-sent (long_delivery w) message f.divided.0 in
+    let matches = matches-from x.0.delivery (Message (part_of message 0)) (Some (record { message = message; number = 0 })) w.joining (present now) offer.outstanding (record {
       of = record {
         message = message;
         number = 0;
@@ -57,7 +57,7 @@ started-follows w message f short o up =
       };
       came = not_yet offer.counted (ap (λ (p : Session). p.delivered) more ∙ m.whole_is) (m.joining_is ∙ joined-none message);
     }) in
-    record { follows = record { kept = offer.kept; divided = divided-sent IsOrderly (long_link w) message f.divided; matches = matches }; unrefused = λ q. absurd (cc) }
+    record { follows = record { kept = offer.kept; divided = divided-sent IsOrderly (long_delivery w) message f.divided; matches = matches }; unrefused = λ q. absurd (cc) }
 
 unmoved-follows : (w : LongState) (told : Then) → told ≢ Refused → Follows w → FollowsStep (unmoved w told)
 unmoved-follows w told t f = record { follows = f; unrefused = t }
@@ -69,13 +69,13 @@ offered-follows w message x f short i (told_taken number blocks k d o e) = subst
 
 -- An event of the inner world.
 
-no-offering : (link : Link) (event : Event) (false_pass : Bool) (happening : Happening) → HasHappen link event false_pass happening → IsNoOffer event → IsNoOffering happening
+no-offering : (delivery : Delivery) (event : Event) (false_pass : Bool) (happening : Happening) → HasHappen delivery event false_pass happening → IsNoOffer event → IsNoOffering happening
 unfolding IsNoOffer IsNoOffering
-no-offering link event false_pass happening (offers message) is = is
-no-offering link event false_pass happening is_late is = tt
-no-offering link event false_pass happening opens is = tt
-no-offering link event false_pass happening (brings_data flips sent packet b n e) is = tt
-no-offering link event false_pass happening (brings_answer flips sent packet b n e) is = tt
+no-offering delivery event false_pass happening (offers message) is = is
+no-offering delivery event false_pass happening is_late is = tt
+no-offering delivery event false_pass happening opens is = tt
+no-offering delivery event false_pass happening (brings_data flips sent packet b n e) is = tt
+no-offering delivery event false_pass happening (brings_answer flips sent packet b n e) is = tt
 
 no-offer-event : (event : Event) → IsNoOffer event → IsEvent event
 unfolding IsNoOffer IsEvent
@@ -95,9 +95,9 @@ does-follows : (w : LongState) (event : Event) (x : WorldState × Step) → Foll
 unfolding IsClean
 does-follows w event x f is c (rests kind quiet) = moved-follows w _ _ Time_up f f.kept tt (moves_nothing (quiet-plain kind quiet) refl refl refl)
 does-follows w event x f is c (does happening false_pass has) =
-    let link = w.inner.link in
-    let clean = happening-clean link event false_pass happening has (no-offer-event event is) c in
-    moved-follows w _ _ happening f (happens-kept link happening f.kept clean) clean (happens-moves link happening (no-offering link event false_pass happening has is))
+    let delivery = w.inner.delivery in
+    let clean = happening-clean delivery event false_pass happening has (no-offer-event event is) c in
+    moved-follows w _ _ happening f (happens-kept delivery happening f.kept clean) clean (happens-moves delivery happening (no-offering delivery event false_pass happening has is))
 
 -- Every event.
 

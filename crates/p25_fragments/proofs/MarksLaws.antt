@@ -12,7 +12,7 @@ use Rattle.p25_delivery.specs.declared.sender.Offer.TheVariants.{Taken, Busy as 
 use Rattle.p25_delivery.specs.declared.step_kind.StepKind.{StepKind}
 use Rattle.p25_delivery.specs.declared.step_kind.StepKind.TheVariants.{Acknowledged, Delivered, SynHeard}
 use Rattle.p25_delivery.specs.HalfRules.{after_offer}
-use Rattle.p25_delivery.specs.Link.{Link, with_outbound, Happening, Offering, Time_up, Opening_again, Data_heard, Answer_heard, happens, present_mark}
+use Rattle.p25_delivery.specs.Delivery.{Delivery, with_outbound, Happening, Offering, Time_up, Opening_again, Data_heard, Answer_heard, happens, present_mark}
 use Rattle.p25_stations.specs.declared.step.Event.{Event}
 use Rattle.p25_stations.specs.declared.step.Event.TheVariants.{Send}
 use Rattle.p25_stations.specs.declared.step.Step.{Step}
@@ -28,38 +28,38 @@ use Rattle.p25_fragments.specs.declared.long_step.Then.{Then}
 use Rattle.p25_fragments.specs.declared.long_step.Then.TheVariants.{Finished}
 use Rattle.p25_fragments.specs.declared.long_step.LongStep.{LongStep}
 use Rattle.p25_fragments.specs.Joining.{Joining, message_taken}
-use Rattle.p25_fragments.specs.LongState.{LongState, long_link, first_long}
+use Rattle.p25_fragments.specs.LongState.{LongState, long_delivery, first_long}
 use Rattle.p25_fragments.specs.LongSteps.{started, long_offered, next_offered, after_acknowledged, after_delivered, after_kind, inner_happened, long_step}
 use Rattle.p25_fragments.specs.LongRuns.{long_run}
 use Rattle.p25_fragments.proofs.OfferLaws.{OfferedAs, told_down, told_busy, told_taken, offered-as}
-use Rattle.p25_fragments.proofs.MoveLaws.{Moves, moves_nothing, ends, delivers, hears_opening, acknowledges, opens_link, IsNoOffering, happens-moves}
+use Rattle.p25_fragments.proofs.MoveLaws.{Moves, moves_nothing, ends, delivers, hears_opening, acknowledges, opens_session, IsNoOffering, happens-moves}
 use Rattle.p25_fragments.proofs.FollowsLaws.{happened-on, happened-end}
 
--- The marks of a link.
+-- The marks of a delivery.
 
-marks_in : Link → List Mark
-marks_in v = v.outbound.marks
+erasures_in : Delivery → List Mark
+erasures_in v = v.outbound.marks
 
 -- marks stay, or one more comes
 OneMore : List Mark → List Mark → Type 0
 OneMore before after = (after ≡ before) ⊎ ((mark : Mark) × (after ≡ before ++ mark ∷ []))
 
-offer-marks : (v : Link) (message : List ℕ) (x : Sending × Offer) → marks_in (with_outbound v (after_offer v.outbound message x)).0 ≡ marks_in v
-unfolding marks_in with_outbound after_offer
+offer-marks : (v : Delivery) (message : List ℕ) (x : Sending × Offer) → erasures_in (with_outbound v (after_offer v.outbound message x)).0 ≡ erasures_in v
+unfolding erasures_in with_outbound after_offer
 offer-marks v message (s, Taken number blocks packet) = refl
 offer-marks v message (s, OfferBusy) = refl
 offer-marks v message (s, DownAtOffer) = refl
 
-moved-marks : (v : Link) (happening : Happening) (x : Link × StepKind) → Moves v happening x → OneMore (marks_in v) (marks_in x.0)
-unfolding OneMore marks_in
-moved-marks v h x (moves_nothing p o l e) = inl (ap (λ (u : Link). u.outbound.marks) e)
-moved-marks v h x (ends number p d i n o l e) = inr (present_mark v, ap (λ (u : Link). u.outbound.marks) e)
-moved-marks v h x (delivers number message k o e) = inl (ap (λ (u : Link). u.outbound.marks) e)
-moved-marks v h x (hears_opening number packet is syn k o e) = inl (ap (λ (u : Link). u.outbound.marks) e)
-moved-marks v h x (acknowledges number message k o p up e) = inl (ap (λ (u : Link). u.outbound.marks) e)
-moved-marks v h x (opens_link number p o q n l e) = inl (ap (λ (u : Link). u.outbound.marks) e)
+moved-marks : (v : Delivery) (happening : Happening) (x : Delivery × StepKind) → Moves v happening x → OneMore (erasures_in v) (erasures_in x.0)
+unfolding OneMore erasures_in
+moved-marks v h x (moves_nothing p o l e) = inl (ap (λ (u : Delivery). u.outbound.marks) e)
+moved-marks v h x (ends number p d i n o l e) = inr (present_mark v, ap (λ (u : Delivery). u.outbound.marks) e)
+moved-marks v h x (delivers number message k o e) = inl (ap (λ (u : Delivery). u.outbound.marks) e)
+moved-marks v h x (hears_opening number packet is syn k o e) = inl (ap (λ (u : Delivery). u.outbound.marks) e)
+moved-marks v h x (acknowledges number message k o p up e) = inl (ap (λ (u : Delivery). u.outbound.marks) e)
+moved-marks v h x (opens_session number p o q n l e) = inl (ap (λ (u : Delivery). u.outbound.marks) e)
 
-happens-marks : (v : Link) (happening : Happening) → OneMore (marks_in v) (marks_in (happens v happening).0)
+happens-marks : (v : Delivery) (happening : Happening) → OneMore (erasures_in v) (erasures_in (happens v happening).0)
 unfolding OneMore happens IsNoOffering
 happens-marks v (Offering message) = inl (offer-marks v message (offered v.outbound.sender message))
 happens-marks v Time_up = moved-marks v Time_up (happens v Time_up) (happens-moves v Time_up tt)
@@ -71,11 +71,11 @@ happens-marks v (Answer_heard packet) = moved-marks v (Answer_heard packet) (hap
 
 -- as many marks as the inner world
 AreMarked : LongState → Type 0
-AreMarked w = length w.marks ≡ length (marks_in w.inner.link)
+AreMarked w = length w.marks ≡ length (erasures_in w.inner.delivery)
 
-send-marks : (w : WorldState) (message : List ℕ) → marks_in (world_step w (Send message)).0.link ≡ marks_in w.link
+send-marks : (w : WorldState) (message : List ℕ) → erasures_in (world_step w (Send message)).0.delivery ≡ erasures_in w.delivery
 unfolding world_step happens
-send-marks w message = offer-marks w.link message (offered w.link.outbound.sender message)
+send-marks w message = offer-marks w.delivery message (offered w.delivery.outbound.sender message)
 
 started-marks : (w : LongState) (message : List ℕ) → AreMarked w → AreMarked (started w message (world_step w.inner (Send (part_of message 0)))).0
 unfolding AreMarked started
@@ -108,24 +108,24 @@ kind-marks (Delivered number message) w h = delivered-marks w (message_taken w.j
 kind-marks (SynHeard number) w h = h
 kind-marks other w h = h
 
-inner-marks : (w : LongState) (inner : WorldState) (step : Step) → AreMarked w → OneMore (marks_in w.inner.link) (marks_in inner.link) → AreMarked (inner_happened w (inner, step)).0
-unfolding AreMarked marks_in OneMore
+inner-marks : (w : LongState) (inner : WorldState) (step : Step) → AreMarked w → OneMore (erasures_in w.inner.delivery) (erasures_in inner.delivery) → AreMarked (inner_happened w (inner, step)).0
+unfolding AreMarked erasures_in OneMore
 inner-marks w inner step h (inl same) =
     subst (λ (y : LongState × LongStep). AreMarked y.0) (sym (happened-on w inner step same)) (kind-marks step.kind (record w { inner = inner }) (h ∙ ap length (sym same)))
 inner-marks w inner step h (inr (mark, more)) =
-    let count = length-append w.inner.link.outbound.marks (mark ∷ []) in
-    subst (λ (y : LongState × LongStep). AreMarked y.0) (sym (happened-end w inner step mark more)) (omega (arith, length-append w.marks (present_mark (long_link w) ∷ []), h, ap length more, count))
+    let count = length-append w.inner.delivery.outbound.marks (mark ∷ []) in
+    subst (λ (y : LongState × LongStep). AreMarked y.0) (sym (happened-end w inner step mark more)) (omega (arith, length-append w.marks (present_mark (long_delivery w) ∷ []), h, ap length more, count))
 
 does-marks : (w : LongState) (event : Event) (x : WorldState × Step) → AreMarked w → Does w.inner event x → AreMarked (inner_happened w x).0
 unfolding OneMore
 does-marks w event x h (rests kind quiet) = inner-marks w _ _ h (inl refl)
-does-marks w event x h (does happening false_pass has) = inner-marks w _ _ h (happens-marks w.inner.link happening)
+does-marks w event x h (does happening false_pass has) = inner-marks w _ _ h (happens-marks w.inner.delivery happening)
 
 step-marks : (w : LongState) (event : LongEvent) → AreMarked w → AreMarked (long_step w event).0
 unfolding long_step
 step-marks w (Long message) h = offered-marks w message (world_step w.inner (Send (part_of message 0))) h refl (offered-as w message)
 step-marks w (Inner event) h = does-marks w event (world_step w.inner event) h (step-does w.inner event)
 
-pub long-marked : (events : List LongEvent) → length (long_run first_long events).marks ≡ length (long_run first_long events).inner.link.outbound.marks
-unfolding AreMarked marks_in
+pub long-marked : (events : List LongEvent) → length (long_run first_long events).marks ≡ length (long_run first_long events).inner.delivery.outbound.marks
+unfolding AreMarked erasures_in
 long-marked events = run-keeps_all long_step AreMarked step-marks events first_long refl

@@ -1,9 +1,9 @@
--- How the long messages of the present session match its link: by what is outstanding, and by whether it has arrived.
+-- How the long messages of the present session match its delivery: by what is outstanding, and by whether it has arrived.
 use Rattle.std.proofs.Common.{◌≡◌, ℕ, ◌+◌, ◌<◌, ◌≤◌, List, [], ◌∷◌, ◌++◌, length, Option, Some, None, ap, sym, subst, ◌∙◌, arith, length-append, append-nil}
 use Rattle.p25_messages.specs.LongMessages.{part_count, part_of}
 use Rattle.p25_delivery.specs.declared.sender_state.Outstanding.{Outstanding}
 use Rattle.p25_delivery.specs.declared.sender_state.Outstanding.TheVariants.{Nothing, Message, Opening}
-use Rattle.p25_delivery.specs.Link.{Link, Session, empty_session, present_session}
+use Rattle.p25_delivery.specs.Delivery.{Delivery, Session, empty_session, present_session}
 use Rattle.p25_delivery.specs.Orderly.{IsOrderly}
 use Rattle.p25_fragments.specs.declared.outstanding_part.OutstandingPart.{OutstandingPart}
 use Rattle.p25_fragments.specs.Joining.{Joining, first_joining}
@@ -45,22 +45,22 @@ pub record IsOpeningLong (number last : ℕ) (out : Option OutstandingPart) (j :
   pub session_is : p ≡ empty_session
   pub joining_is : last ≡ number → j ≡ first_joining
 
--- what is outstanding with V(R) and the present session of the link, and what the long messages are then
+-- what is outstanding with V(R) and the present session of the delivery, and what the long messages are then
 unfoldable pub MatchesBy : Outstanding → ℕ → Session → Option OutstandingPart → Joining → Session → Type 0
 MatchesBy Nothing last s out j p = IsIdleLong out j p
 MatchesBy (Message part) last s out j p = IsSendingLong part s out j p
 MatchesBy (Opening number) last s out j p = IsOpeningLong number last out j p
 
-abbrev pub MatchesAs : Link → Outstanding → Option OutstandingPart → Joining → Session → Type 0
+abbrev pub MatchesAs : Delivery → Outstanding → Option OutstandingPart → Joining → Session → Type 0
 MatchesAs v o out j p = MatchesBy o v.inbound.receiver.last (present_session v) out j p
 
-abbrev pub Matches : Link → Option OutstandingPart → Joining → Session → Type 0
+abbrev pub Matches : Delivery → Option OutstandingPart → Joining → Session → Type 0
 Matches v out j p = MatchesAs v v.outbound.sender.outstanding out j p
 
-pub matches-at : (v : Link) (o : Outstanding) (out : Option OutstandingPart) (j : Joining) (p : Session) → v.outbound.sender.outstanding ≡ o → Matches v out j p → MatchesAs v o out j p
+pub matches-at : (v : Delivery) (o : Outstanding) (out : Option OutstandingPart) (j : Joining) (p : Session) → v.outbound.sender.outstanding ≡ o → Matches v out j p → MatchesAs v o out j p
 matches-at v o out j p e m = subst (λ (x : Outstanding). MatchesAs v x out j p) e m
 
-pub matches-from : (v : Link) (o : Outstanding) (out : Option OutstandingPart) (j : Joining) (p : Session) → v.outbound.sender.outstanding ≡ o → MatchesAs v o out j p → Matches v out j p
+pub matches-from : (v : Delivery) (o : Outstanding) (out : Option OutstandingPart) (j : Joining) (p : Session) → v.outbound.sender.outstanding ≡ o → MatchesAs v o out j p → Matches v out j p
 matches-from v o out j p e m = subst (λ (x : Outstanding). MatchesAs v x out j p) (sym e) m
 
 -- So the present session is orderly.

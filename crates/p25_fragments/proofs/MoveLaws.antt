@@ -1,4 +1,4 @@
--- What happens at a link, but an offer, does to it, by the kind of the step: to what is outstanding, to V(R), and to the lists. By
+-- What happens at a delivery, but an offer, does to it, by the kind of the step: to what is outstanding, to V(R), and to the lists. By
 -- the rules of the stations, each answer in turn.
 use Rattle.std.proofs.Common.{◌≡◌, ℕ, ◌+◌, ◌%◌, Bool, true, false, cond, eqb, List, length, Option, Some, None, refl, ap, sym, subst, ◌∙◌}
 use Rattle.p25_packet_blocks.specs.declared.packet.Packet.{Packet}
@@ -26,7 +26,7 @@ use Rattle.p25_delivery.specs.declared.step_kind.StepKind.{StepKind}
 use Rattle.p25_delivery.specs.declared.step_kind.StepKind.TheVariants.{Acknowledged, Delivered, SynHeard}
 use Rattle.p25_delivery.specs.Halves.{first_outgoing, first_incoming}
 use Rattle.p25_delivery.specs.HalfRules.{after_timeout, after_reopening, after_data, after_answer}
-use Rattle.p25_delivery.specs.Link.{Link, first_link, newest_after, with_outbound, with_inbound, Happening, Offering, Time_up, Opening_again, Data_heard, Answer_heard, happens}
+use Rattle.p25_delivery.specs.Delivery.{Delivery, first_delivery, newest_after, with_outbound, with_inbound, Happening, Offering, Time_up, Opening_again, Data_heard, Answer_heard, happens}
 use Rattle.p25_delivery.proofs.SenderLaws.{Resends, resent-of, timeout-of, HearsAnswer, goes_on, stays, HearsOpening, opens, waits, RetriesOf, message-answer, opening-answer, quiet-answer}
 use Rattle.p25_delivery.proofs.SessionLaws.{one_delivered, one_acknowledged, marked}
 
@@ -37,27 +37,27 @@ IsPlainKind (Delivered number message) = ⊥
 IsPlainKind (SynHeard number) = ⊥
 IsPlainKind other = Unit {0}
 
--- the lists of a link alone
-abbrev pub lists_of : Link → Link
+-- the lists of a delivery alone
+abbrev pub lists_of : Delivery → Delivery
 lists_of w =
-    record first_link {
+    record first_delivery {
       outbound = record first_outgoing { sent = w.outbound.sent; acknowledged = w.outbound.acknowledged; marks = w.outbound.marks };
       inbound = record first_incoming { received = w.inbound.received };
     }
 
-abbrev pub outstanding_in : Link → Outstanding
+abbrev pub outstanding_in : Delivery → Outstanding
 outstanding_in w = w.outbound.sender.outstanding
 
--- a link of which the same is outstanding
-abbrev pub IsSameIn : Link → Link → Type 0
+-- a delivery of which the same is outstanding
+abbrev pub IsSameIn : Delivery → Delivery → Type 0
 IsSameIn v w = outstanding_in w ≡ outstanding_in v
 
--- a link with the same V(R)
-abbrev pub HasSameLast : Link → Link → Type 0
+-- a delivery with the same V(R)
+abbrev pub HasSameLast : Delivery → Delivery → Type 0
 HasSameLast v w = w.inbound.receiver.last ≡ v.inbound.receiver.last
 
 -- what a call that offers no message does
-pub data Moves (v : Link) (happening : Happening) (x : Link × StepKind) : Type 0 where
+pub data Moves (v : Delivery) (happening : Happening) (x : Delivery × StepKind) : Type 0 where
   moves_nothing : IsPlainKind x.1 → IsSameIn v x.0 → HasSameLast v x.0 → lists_of x.0 ≡ lists_of v → Moves v happening x
   ends : (number : ℕ) → IsPlainKind x.1 → v.outbound.sender.down ≡ true → is_opening (outstanding_in v) ≡ false → opening_number (outstanding_in v) v.outbound.sender.next ≡ number →
       outstanding_in x.0 ≡ Opening number → HasSameLast v x.0 →
@@ -66,7 +66,7 @@ pub data Moves (v : Link) (happening : Happening) (x : Link × StepKind) : Type 
   hears_opening : (number : ℕ) (packet : ConfirmedParts) → happening ≡ Data_heard (Confirmed packet) → head_syn packet.head ≡ true → x.1 ≡ SynHeard number → IsSameIn v x.0 → lists_of x.0 ≡ lists_of v → Moves v happening x
   acknowledges : (number : ℕ) (message : List ℕ) → x.1 ≡ Acknowledged number → outstanding_in v ≡ Message message → outstanding_in x.0 ≡ Nothing → x.0.outbound.sender.down ≡ false →
       lists_of x.0 ≡ one_acknowledged (lists_of v) → Moves v happening x
-  opens_link : (number : ℕ) → IsPlainKind x.1 → outstanding_in v ≡ Opening number → outstanding_in x.0 ≡ Nothing → x.0.outbound.sender.next ≡ (number + 1) % 8 → HasSameLast v x.0 → lists_of x.0 ≡ lists_of v → Moves v happening x
+  opens_session : (number : ℕ) → IsPlainKind x.1 → outstanding_in v ≡ Opening number → outstanding_in x.0 ≡ Nothing → x.0.outbound.sender.next ≡ (number + 1) % 8 → HasSameLast v x.0 → lists_of x.0 ≡ lists_of v → Moves v happening x
 
 -- Time is up.
 
@@ -79,7 +79,7 @@ timed-with s (Opening number) = resent-of (λ packet. Unit {0}) s number _ tt
 timed-same : (s : Sending) → (timed_out s).0.outstanding ≡ s.outstanding
 timed-same s = (timeout-of (λ packet. Unit {0}) s s.outstanding refl (timed-with s s.outstanding)).0.outstanding
 
-timeout-by : (v : Link) (x : Sending × Resend) → x.0.outstanding ≡ outstanding_in v → Moves v Time_up (with_outbound v (after_timeout v.outbound x))
+timeout-by : (v : Delivery) (x : Sending × Resend) → x.0.outstanding ≡ outstanding_in v → Moves v Time_up (with_outbound v (after_timeout v.outbound x))
 unfolding with_outbound after_timeout newest_after IsPlainKind
 timeout-by v (s, Sent number tries packet) o = moves_nothing tt o refl refl
 timeout-by v (s, ResendIdle) o = moves_nothing tt o refl refl
@@ -87,24 +87,24 @@ timeout-by v (s, DownAtTimeout) o = moves_nothing tt o refl refl
 
 -- The session is opened again.
 
-ReopensBy : Link → Outstanding → Sending × ReopenAnswer → Type 0
+ReopensBy : Delivery → Outstanding → Sending × ReopenAnswer → Type 0
 ReopensBy v out x = Moves v Opening_again (with_outbound v (after_reopening v.outbound (length v.inbound.received) (is_opening out) x))
 
 -- where the opening packet is sent
-opening-sent : (v : Link) (out : Outstanding) (number : ℕ) (s : Sending) → outstanding_in v ≡ out → v.outbound.sender.down ≡ true → opening_number out v.outbound.sender.next ≡ number → s.outstanding ≡ Opening number →
+opening-sent : (v : Delivery) (out : Outstanding) (number : ℕ) (s : Sending) → outstanding_in v ≡ out → v.outbound.sender.down ≡ true → opening_number out v.outbound.sender.next ≡ number → s.outstanding ≡ Opening number →
     ReopensBy v out (s, ReopenSent number (opening_packet number))
 unfolding ReopensBy with_outbound after_reopening newest_after IsPlainKind opening_number
 opening-sent v Nothing number s o d n p = ends number tt d (ap is_opening o) (ap (λ (x : Outstanding). opening_number x v.outbound.sender.next) o ∙ n) p refl refl
 opening-sent v (Message message) number s o d n p = ends number tt d (ap is_opening o) (ap (λ (x : Outstanding). opening_number x v.outbound.sender.next) o ∙ n) p refl refl
 opening-sent v (Opening before) number s o d n p = moves_nothing tt (p ∙ ap Opening (sym n) ∙ sym o) refl refl
 
-reopen-up : (v : Link) (out : Outstanding) → ReopensBy v out (v.outbound.sender, ReopenUp)
+reopen-up : (v : Delivery) (out : Outstanding) → ReopensBy v out (v.outbound.sender, ReopenUp)
 unfolding ReopensBy with_outbound after_reopening newest_after IsPlainKind
 reopen-up v Nothing = moves_nothing tt refl refl refl
 reopen-up v (Message message) = moves_nothing tt refl refl refl
 reopen-up v (Opening number) = moves_nothing tt refl refl refl
 
-reopen-moves : (v : Link) → ReopensBy v (outstanding_in v) (reopened v.outbound.sender)
+reopen-moves : (v : Delivery) → ReopensBy v (outstanding_in v) (reopened v.outbound.sender)
 unfolding reopened
 reopen-moves v =
     let s = v.outbound.sender in
@@ -119,31 +119,31 @@ reopen-moves v =
 
 -- The receiver hears a packet, which is no opening packet.
 
-HearsBy : Link → Happening → Receiving × HeardAnswer → Type 0
+HearsBy : Delivery → Happening → Receiving × HeardAnswer → Type 0
 HearsBy v happening x = Moves v happening (with_inbound v (after_data v.inbound x))
 
-hears-nothing : (v : Link) (h : Happening) → HearsBy v h (v.inbound.receiver, ReceiverIgnored)
+hears-nothing : (v : Delivery) (h : Happening) → HearsBy v h (v.inbound.receiver, ReceiverIgnored)
 unfolding HearsBy with_inbound after_data newest_after IsPlainKind
 hears-nothing v h = moves_nothing tt refl refl refl
 
-hears-finished : (v : Link) (h : Happening) (number : ℕ) (found : Option (List ℕ)) → HearsBy v h (finished v.inbound.receiver number found)
+hears-finished : (v : Delivery) (h : Happening) (number : ℕ) (found : Option (List ℕ)) → HearsBy v h (finished v.inbound.receiver number found)
 unfolding HearsBy finished with_inbound after_data newest_after IsPlainKind
 hears-finished v h number None = moves_nothing tt refl refl refl
 hears-finished v h number (Some message) = delivers number message refl refl refl
 
-hears-completed : (v : Link) (h : Happening) (number : ℕ) (kept : Keeping) (found : Option (List ℕ)) → HearsBy v h (completed v.inbound.receiver number kept found)
+hears-completed : (v : Delivery) (h : Happening) (number : ℕ) (kept : Keeping) (found : Option (List ℕ)) → HearsBy v h (completed v.inbound.receiver number kept found)
 unfolding HearsBy completed with_inbound after_data newest_after IsPlainKind
 hears-completed v h number kept None = moves_nothing tt refl refl refl
 hears-completed v h number kept (Some octets) = hears-finished v h number (unpadded octets kept.pad)
 
-hears-filled : (v : Link) (h : Happening) (packet : ConfirmedParts) (kept : Option Keeping) → HearsBy v h (filled v.inbound.receiver packet kept)
+hears-filled : (v : Delivery) (h : Happening) (packet : ConfirmedParts) (kept : Option Keeping) → HearsBy v h (filled v.inbound.receiver packet kept)
 unfolding filled
 hears-filled v h packet None = hears-nothing v h
 hears-filled v h packet (Some kept) =
     let places = put_slots kept.places packet.slots in
     hears-completed v h (head_number packet.head) (record { places = places; pad = kept.pad }) (all_octets places)
 
-hears-data : (v : Link) (h : Happening) (packet : ConfirmedParts) → HearsBy v h (data_heard v.inbound.receiver packet)
+hears-data : (v : Delivery) (h : Happening) (packet : ConfirmedParts) → HearsBy v h (data_heard v.inbound.receiver packet)
 unfolding HearsBy data_heard with_inbound after_data newest_after IsPlainKind
 hears-data v h packet =
     let r = v.inbound.receiver in
@@ -156,7 +156,7 @@ hears-data v h packet =
     elim (eqb (head_number packet.head) r.last) as (λ (b : Bool). HearsBy v h (cond b again (cond is_next next other))) [ true ↦ moves_nothing tt refl refl refl | false ↦ new ]
 
 -- Or one that is.
-hears-syn : (v : Link) (packet : ConfirmedParts) → head_syn packet.head ≡ true → HearsBy v (Data_heard (Confirmed packet)) (opening_heard v.inbound.receiver packet.head)
+hears-syn : (v : Delivery) (packet : ConfirmedParts) → head_syn packet.head ≡ true → HearsBy v (Data_heard (Confirmed packet)) (opening_heard v.inbound.receiver packet.head)
 unfolding HearsBy opening_heard with_inbound after_data newest_after IsPlainKind
 hears-syn v packet syn =
     let r = v.inbound.receiver in
@@ -167,7 +167,7 @@ hears-syn v packet syn =
       | false ↦ hears-nothing v (Data_heard (Confirmed packet))
     ]
 
-hears-moves : (v : Link) (packet : Packet) → HearsBy v (Data_heard packet) (receiver_heard v.inbound.receiver packet)
+hears-moves : (v : Delivery) (packet : Packet) → HearsBy v (Data_heard packet) (receiver_heard v.inbound.receiver packet)
 unfolding receiver_heard
 hears-moves v (Plain packet) = hears-nothing v (Data_heard (Plain packet))
 hears-moves v (Confirmed packet) =
@@ -184,10 +184,10 @@ hears-moves v (Confirmed packet) =
 
 -- The sender hears an answer.
 
-AnswersBy : Link → Packet → Sending × SenderHeard → Type 0
+AnswersBy : Delivery → Packet → Sending × SenderHeard → Type 0
 AnswersBy v packet x = Moves v (Answer_heard packet) (with_outbound v (after_answer v.outbound x))
 
-answer-same : (v : Link) (packet : Packet) (number : ℕ) (message : List ℕ) (x : Sending × SenderHeard) → x.0.outstanding ≡ outstanding_in v → RetriesOf number message x.1 → AnswersBy v packet x
+answer-same : (v : Delivery) (packet : Packet) (number : ℕ) (message : List ℕ) (x : Sending × SenderHeard) → x.0.outstanding ≡ outstanding_in v → RetriesOf number message x.1 → AnswersBy v packet x
 unfolding AnswersBy with_outbound after_answer newest_after IsPlainKind
 answer-same v packet number message (s, HeardAck n) o r = absurd r
 answer-same v packet number message (s, SenderOpened n) o r = absurd r
@@ -196,17 +196,17 @@ answer-same v packet number message (s, Repeat n tries again) o r = moves_nothin
 answer-same v packet number message (s, SenderIgnored) o r = moves_nothing tt o refl refl
 answer-same v packet number message (s, DownAtAnswer) o r = moves_nothing tt o refl refl
 
-answer-message : (v : Link) (message : List ℕ) (packet : Packet) (x : Sending × SenderHeard) → outstanding_in v ≡ Message message → HearsAnswer v.outbound.sender message packet x → AnswersBy v packet x
+answer-message : (v : Delivery) (message : List ℕ) (packet : Packet) (x : Sending × SenderHeard) → outstanding_in v ≡ Message message → HearsAnswer v.outbound.sender message packet x → AnswersBy v packet x
 unfolding AnswersBy with_outbound after_answer newest_after
 answer-message v message packet x o (goes_on a e) = subst (AnswersBy v packet) (sym e) (acknowledges v.outbound.sender.next message refl o refl refl refl)
 answer-message v message packet x o (stays s) = answer-same v packet v.outbound.sender.next message x s.0.outstanding s.1
 
-answer-opening : (v : Link) (number : ℕ) (packet : Packet) (x : Sending × SenderHeard) → outstanding_in v ≡ Opening number → HearsOpening v.outbound.sender number packet x → AnswersBy v packet x
+answer-opening : (v : Delivery) (number : ℕ) (packet : Packet) (x : Sending × SenderHeard) → outstanding_in v ≡ Opening number → HearsOpening v.outbound.sender number packet x → AnswersBy v packet x
 unfolding AnswersBy with_outbound after_answer newest_after IsPlainKind
-answer-opening v number packet x o (opens a e) = subst (AnswersBy v packet) (sym e) (opens_link number tt o refl refl refl refl)
+answer-opening v number packet x o (opens a e) = subst (AnswersBy v packet) (sym e) (opens_session number tt o refl refl refl refl)
 answer-opening v number packet x o (waits e) = subst (AnswersBy v packet) (sym e) (moves_nothing tt refl refl refl)
 
-answer-by : (v : Link) (packet : Packet) (out : Outstanding) → outstanding_in v ≡ out → AnswersBy v packet (sender_heard v.outbound.sender packet)
+answer-by : (v : Delivery) (packet : Packet) (out : Outstanding) → outstanding_in v ≡ out → AnswersBy v packet (sender_heard v.outbound.sender packet)
 unfolding AnswersBy with_outbound after_answer newest_after IsPlainKind
 answer-by v packet Nothing o = subst (AnswersBy v packet) (sym (quiet-answer v.outbound.sender packet o)) (moves_nothing tt refl refl refl)
 answer-by v packet (Message message) o = answer-message v message packet _ o (message-answer v.outbound.sender message packet o)
@@ -218,7 +218,7 @@ unfoldable pub IsNoOffering : Happening → Type 0
 IsNoOffering (Offering message) = ⊥
 IsNoOffering other = Unit {0}
 
-pub happens-moves : (v : Link) (happening : Happening) → IsNoOffering happening → Moves v happening (happens v happening)
+pub happens-moves : (v : Delivery) (happening : Happening) → IsNoOffering happening → Moves v happening (happens v happening)
 unfolding IsNoOffering happens ReopensBy HearsBy AnswersBy
 happens-moves v (Offering message) is = absurd is
 happens-moves v Time_up is = timeout-by v (timed_out v.outbound.sender) (timed-same v.outbound.sender)

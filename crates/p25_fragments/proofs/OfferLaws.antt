@@ -12,7 +12,7 @@ use Rattle.p25_delivery.specs.declared.sender.Offer.{Offer}
 use Rattle.p25_delivery.specs.declared.sender.Offer.TheVariants.{Down as DownAtOffer}
 use Rattle.p25_delivery.specs.declared.step_kind.StepKind.TheVariants.{Taken, Busy as BusyAtOffer, OfferDown}
 use Rattle.p25_delivery.specs.HalfRules.{after_offer}
-use Rattle.p25_delivery.specs.Link.{Link, newest_after, with_outbound, happens}
+use Rattle.p25_delivery.specs.Delivery.{Delivery, newest_after, with_outbound, happens}
 use Rattle.p25_delivery.proofs.SenderLaws.{offer-quiet}
 use Rattle.p25_stations.specs.declared.step.Event.TheVariants.{Send}
 use Rattle.p25_stations.specs.declared.step.Step.{Step}
@@ -35,51 +35,51 @@ unfolding offered
 offered-up s message out d o = cond-false s.down _ _ d ∙ ap (λ (x : Outstanding). offered_beside x s message) o
 
 -- and the step that it is
-step-of : (w : WorldState) (message : List ℕ) (x : Sending × Offer) → offered w.link.outbound.sender message ≡ x → world_step w (Send message) ≡ quiet_step w (with_outbound w.link (after_offer w.link.outbound message x))
+step-of : (w : WorldState) (message : List ℕ) (x : Sending × Offer) → offered w.delivery.outbound.sender message ≡ x → world_step w (Send message) ≡ quiet_step w (with_outbound w.delivery (after_offer w.delivery.outbound message x))
 unfolding world_step happens
-step-of w message x e = ap (λ (y : Sending × Offer). quiet_step w (with_outbound w.link (after_offer w.link.outbound message y))) e
+step-of w message x e = ap (λ (y : Sending × Offer). quiet_step w (with_outbound w.delivery (after_offer w.delivery.outbound message y))) e
 
-send-down : (w : WorldState) (message : List ℕ) → w.link.outbound.sender.down ≡ true → world_step w (Send message) ≡ (w, true_step OfferDown)
+send-down : (w : WorldState) (message : List ℕ) → w.delivery.outbound.sender.down ≡ true → world_step w (Send message) ≡ (w, true_step OfferDown)
 unfolding with_outbound after_offer newest_after
-send-down w message d = step-of w message _ (offered-down w.link.outbound.sender message d)
+send-down w message d = step-of w message _ (offered-down w.delivery.outbound.sender message d)
 
-send-message : (w : WorldState) (message other : List ℕ) → w.link.outbound.sender.down ≡ false → w.link.outbound.sender.outstanding ≡ Message other → world_step w (Send message) ≡ (w, true_step BusyAtOffer)
+send-message : (w : WorldState) (message other : List ℕ) → w.delivery.outbound.sender.down ≡ false → w.delivery.outbound.sender.outstanding ≡ Message other → world_step w (Send message) ≡ (w, true_step BusyAtOffer)
 unfolding with_outbound after_offer newest_after offered_beside
-send-message w message other d o = step-of w message _ (offered-up w.link.outbound.sender message (Message other) d o)
+send-message w message other d o = step-of w message _ (offered-up w.delivery.outbound.sender message (Message other) d o)
 
-send-opening : (w : WorldState) (message : List ℕ) (number : ℕ) → w.link.outbound.sender.down ≡ false → w.link.outbound.sender.outstanding ≡ Opening number → world_step w (Send message) ≡ (w, true_step BusyAtOffer)
+send-opening : (w : WorldState) (message : List ℕ) (number : ℕ) → w.delivery.outbound.sender.down ≡ false → w.delivery.outbound.sender.outstanding ≡ Opening number → world_step w (Send message) ≡ (w, true_step BusyAtOffer)
 unfolding with_outbound after_offer newest_after offered_beside
-send-opening w message number d o = step-of w message _ (offered-up w.link.outbound.sender message (Opening number) d o)
+send-opening w message number d o = step-of w message _ (offered-up w.delivery.outbound.sender message (Opening number) d o)
 
--- a link whose sender has a message outstanding, which is sent
-abbrev pub sending_link : Link → List ℕ → Link
-sending_link v message =
+-- a delivery whose sender has a message outstanding, which is sent
+abbrev pub sending_delivery : Delivery → List ℕ → Delivery
+sending_delivery v message =
     record v {
       outbound = record v.outbound { sender = record { next = v.outbound.sender.next; outstanding = Message message; tries = 1; down = false }; sent = v.outbound.sent ++ message ∷ [] };
       packet_sent = Some (message_packet v.outbound.sender.next message);
     }
 
-pub send-taken : (w : WorldState) (message : List ℕ) → w.link.outbound.sender.down ≡ false → w.link.outbound.sender.outstanding ≡ Nothing →
-    world_step w (Send message) ≡ (record w { link = sending_link w.link message }, true_step (Taken w.link.outbound.sender.next (block_count (length message))))
+pub send-taken : (w : WorldState) (message : List ℕ) → w.delivery.outbound.sender.down ≡ false → w.delivery.outbound.sender.outstanding ≡ Nothing →
+    world_step w (Send message) ≡ (record w { delivery = sending_delivery w.delivery message }, true_step (Taken w.delivery.outbound.sender.next (block_count (length message))))
 unfolding with_outbound after_offer newest_after
-send-taken w message d o = step-of w message _ (offer-quiet w.link.outbound.sender message d o)
+send-taken w message d o = step-of w message _ (offer-quiet w.delivery.outbound.sender message d o)
 
 -- what a long message is told, by the inner world and its step after the offer
 pub data OfferedAs (w : LongState) (message : List ℕ) (x : WorldState × Step) : Type 0 where
   told_down : x ≡ (w.inner, true_step OfferDown) → long_offered w message ≡ unmoved w Down → OfferedAs w message x
   told_busy : x ≡ (w.inner, true_step BusyAtOffer) → long_offered w message ≡ unmoved w Busy → OfferedAs w message x
-  told_taken : (number blocks : ℕ) → x.1.kind ≡ Taken number blocks → w.inner.link.outbound.sender.down ≡ false → w.inner.link.outbound.sender.outstanding ≡ Nothing → long_offered w message ≡ started w message x →
+  told_taken : (number blocks : ℕ) → x.1.kind ≡ Taken number blocks → w.inner.delivery.outbound.sender.down ≡ false → w.inner.delivery.outbound.sender.outstanding ≡ Nothing → long_offered w message ≡ started w message x →
       OfferedAs w message x
 
-beside : (w : LongState) (message : List ℕ) (out : Outstanding) → w.inner.link.outbound.sender.down ≡ false → w.inner.link.outbound.sender.outstanding ≡ out → long_offered w message ≡ long_offered_beside out w message
+beside : (w : LongState) (message : List ℕ) (out : Outstanding) → w.inner.delivery.outbound.sender.down ≡ false → w.inner.delivery.outbound.sender.outstanding ≡ out → long_offered w message ≡ long_offered_beside out w message
 unfolding long_offered
-beside w message out d o = cond-false w.inner.link.outbound.sender.down _ _ d ∙ ap (λ (x : Outstanding). long_offered_beside x w message) o
+beside w message out d o = cond-false w.inner.delivery.outbound.sender.down _ _ d ∙ ap (λ (x : Outstanding). long_offered_beside x w message) o
 
-long-down : (w : LongState) (message : List ℕ) → w.inner.link.outbound.sender.down ≡ true → long_offered w message ≡ unmoved w Down
+long-down : (w : LongState) (message : List ℕ) → w.inner.delivery.outbound.sender.down ≡ true → long_offered w message ≡ unmoved w Down
 unfolding long_offered
-long-down w message d = cond-true w.inner.link.outbound.sender.down _ _ d
+long-down w message d = cond-true w.inner.delivery.outbound.sender.down _ _ d
 
-told-by : (w : LongState) (message : List ℕ) (down : Bool) (out : Outstanding) → w.inner.link.outbound.sender.down ≡ down → w.inner.link.outbound.sender.outstanding ≡ out →
+told-by : (w : LongState) (message : List ℕ) (down : Bool) (out : Outstanding) → w.inner.delivery.outbound.sender.down ≡ down → w.inner.delivery.outbound.sender.outstanding ≡ out →
     OfferedAs w message (world_step w.inner (Send (part_of message 0)))
 unfolding long_offered_beside
 told-by w message true out d o = told_down (send-down w.inner (part_of message 0) d) (long-down w message d)
@@ -88,7 +88,7 @@ told-by w message false (Message part) d o = told_busy (send-message w.inner (pa
 told-by w message false (Opening number) d o = told_busy (send-opening w.inner (part_of message 0) number d o) (beside w message (Opening number) d o)
 
 pub offered-as : (w : LongState) (message : List ℕ) → OfferedAs w message (world_step w.inner (Send (part_of message 0)))
-offered-as w message = told-by w message w.inner.link.outbound.sender.down w.inner.link.outbound.sender.outstanding refl refl
+offered-as w message = told-by w message w.inner.delivery.outbound.sender.down w.inner.delivery.outbound.sender.outstanding refl refl
 
 -- so in each arm of the code, which offered the part in a world and had it make this world and step
 

@@ -1,7 +1,7 @@
 -- Runs of a world of long messages: its state and its steps after a list of events, its sessions, and what is said of the steps of the inner world.
 use Rattle.std.specs.Prelude.{◌≡◌, ◌≢◌, ◌≤◌, List, [], ◌∷◌, ◌++◌, length, Option, Some, None}
 use Rattle.p25_delivery.specs.Runs.{run_by, steps_by, EachIs}
-use Rattle.p25_delivery.specs.Link.{Session, sessions_of}
+use Rattle.p25_delivery.specs.Delivery.{Session, sessions_of}
 use Rattle.p25_stations.specs.declared.step.Event.{Event}
 use Rattle.p25_stations.specs.declared.step.Event.TheVariants.{Send}
 use Rattle.p25_stations.specs.declared.step.Step.{Step}
@@ -12,7 +12,7 @@ use Rattle.p25_fragments.specs.declared.long_step.LongEvent.TheVariants.{Long, I
 use Rattle.p25_fragments.specs.declared.long_step.Then.{Then}
 use Rattle.p25_fragments.specs.declared.long_step.Then.TheVariants.{Refused, Next}
 use Rattle.p25_fragments.specs.declared.long_step.LongStep.{LongStep}
-use Rattle.p25_fragments.specs.LongState.{LongState, first_long, long_link}
+use Rattle.p25_fragments.specs.LongState.{LongState, first_long, long_delivery}
 use Rattle.p25_fragments.specs.LongSteps.{long_step}
 
 -- an event of the inner world that offers no message
@@ -64,4 +64,4 @@ AreUnrefused steps = EachIs (λ step. step.then ≢ Refused) steps
 
 -- the sessions of long messages: a mark is made whenever a session of the inner world ends, so they begin together
 abbrev pub long_sessions_of : LongState → List Session
-long_sessions_of w = sessions_of (long_link w)
+long_sessions_of w = sessions_of (long_delivery w)

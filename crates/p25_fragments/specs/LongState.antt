@@ -3,7 +3,7 @@ use Rattle.std.specs.Prelude.{◌≡◌, ℕ, ◌+◌, ◌/◌, ◌<◌, ◌≤�
 use Rattle.p25_messages.specs.LongMessages.{part_count}
 use Rattle.p25_delivery.specs.declared.mark.Mark.{Mark}
 use Rattle.p25_delivery.specs.Halves.{first_outgoing, first_incoming}
-use Rattle.p25_delivery.specs.Link.{Link, first_link}
+use Rattle.p25_delivery.specs.Delivery.{Delivery, first_delivery}
 use Rattle.p25_stations.specs.WorldState.{WorldState, first_world}
 use Rattle.p25_fragments.specs.declared.outstanding_part.OutstandingPart.{OutstandingPart}
 use Rattle.p25_fragments.specs.Joining.{Joining, first_joining}
@@ -37,10 +37,10 @@ pub record TakesRoom (before after : LongParts) : Type 0 where
 abbrev pub first_long : LongState
 first_long = record { inner = first_world; outstanding = None; joining = first_joining; taken = []; whole = []; acknowledged = 0; marks = [] }
 
--- the long messages as those of a link: what was taken is sent, and what came whole is received
-abbrev pub long_link : LongState → Link
-long_link w =
-    record first_link {
+-- the long messages as those of a delivery: what was taken is sent, and what came whole is received
+abbrev pub long_delivery : LongState → Delivery
+long_delivery w =
+    record first_delivery {
       outbound = record first_outgoing { sent = w.taken; acknowledged = w.acknowledged; marks = w.marks };
       inbound = record first_incoming { received = w.whole };
     }

@@ -5,7 +5,7 @@ use Rattle.p25_delivery.specs.declared.sender_state.Outstanding.{Outstanding}
 use Rattle.p25_delivery.specs.declared.sender_state.Outstanding.TheVariants.{Nothing, Message, Opening}
 use Rattle.p25_delivery.specs.declared.step_kind.StepKind.{StepKind}
 use Rattle.p25_delivery.specs.declared.step_kind.StepKind.TheVariants.{Acknowledged, Delivered, SynHeard}
-use Rattle.p25_delivery.specs.Link.{present_mark}
+use Rattle.p25_delivery.specs.Delivery.{present_mark}
 use Rattle.p25_stations.specs.declared.step.Event.TheVariants.{Send}
 use Rattle.p25_stations.specs.declared.step.Step.{Step}
 use Rattle.p25_stations.specs.WorldState.{WorldState}
@@ -19,7 +19,7 @@ use Rattle.p25_fragments.specs.declared.long_step.Then.{Then}
 use Rattle.p25_fragments.specs.declared.long_step.Then.TheVariants.{Plain, Started, Busy, Down, Part, Whole, Refused, Next, Finished}
 use Rattle.p25_fragments.specs.declared.long_step.LongStep.{LongStep}
 use Rattle.p25_fragments.specs.Joining.{Joining, first_joining, message_taken}
-use Rattle.p25_fragments.specs.LongState.{LongState, long_link}
+use Rattle.p25_fragments.specs.LongState.{LongState, long_delivery}
 
 -- a step in which nothing changes
 abbrev pub unmoved : LongState → Then → LongState × LongStep
@@ -45,7 +45,7 @@ long_offered_beside other w message = unmoved w Busy
 -- a long message is offered: whether the sender is down is judged first
 unfoldable pub long_offered : LongState → List ℕ → LongState × LongStep
 long_offered w message =
-    let sender = w.inner.link.outbound.sender in
+    let sender = w.inner.delivery.outbound.sender in
     if sender.down then unmoved w Down else long_offered_beside sender.outstanding w message
 
 -- the next part was offered
@@ -76,13 +76,13 @@ after_kind other w = (w, Plain)
 
 -- a session of the inner world has ended: the long message that is outstanding is given up with its part
 abbrev pub session_ended : LongState → LongState × Then
-session_ended w = (record w { outstanding = None; marks = w.marks ++ present_mark (long_link w) ∷ [] }, Plain)
+session_ended w = (record w { outstanding = None; marks = w.marks ++ present_mark (long_delivery w) ∷ [] }, Plain)
 
 -- an event happened in the inner world, and a session has ended where it has more marks than before
 unfoldable pub inner_happened : LongState → WorldState × Step → LongState × LongStep
 inner_happened w (inner, step) =
     let now : LongState = record w { inner = inner } in
-    let has_ended = nat_lt (length w.inner.link.outbound.marks) (length inner.link.outbound.marks) in
+    let has_ended = nat_lt (length w.inner.delivery.outbound.marks) (length inner.delivery.outbound.marks) in
     with_first step (if has_ended then session_ended now else after_kind step.kind now)
 
 -- what an event makes of the world of long messages, and its step

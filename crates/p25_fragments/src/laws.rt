@@ -17,7 +17,7 @@ pub fn long_messages_come_whole()
     ensures inner { (events : List event_type) →
         IsInnerRun first_world (long_run first_long events).inner (inner_steps (long_steps_of first_long events)) }
     ensures marks { (events : List event_type) →
-        length (long_run first_long events).marks ≡ length (long_run first_long events).inner.link.outbound.marks }
+        length (long_run first_long events).marks ≡ length (long_run first_long events).inner.delivery.outbound.marks }
     ensures unrefused { (events : List event_type) → AreLongEvents events → IsCleanLongRun events →
         AreUnrefused (long_steps_of first_long events) }
     ensures sessions { (events : List event_type) → AreLongEvents events → IsCleanLongRun events →

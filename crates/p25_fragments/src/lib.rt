@@ -1,4 +1,4 @@
-//! Long messages over two packet stations: up to 4,000 octets over a link whose messages have at most 2,028.
+//! Long messages over two packet stations: up to 4,000 octets over a delivery whose messages have at most 2,028.
 //!
 //! A long message is sent as parts, each a message of the stations: one octet with the number of the part, 80 hex more for
 //! the last, and then at most 500 octets, in the order in which they are sent. The packet head stays as it is; the first

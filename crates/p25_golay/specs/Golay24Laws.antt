@@ -79,12 +79,12 @@ remainder_sum : (word : List Bool) → length word ≡ 24
 remainder_sum word long =
     let columns = remainders 0xC75 11 23 in
     let inside : 23 ≤ length word = omega arith in
-    let front = length-take-le 23 word inside in
+    let beginning = length-take-le 23 word inside in
     ap (syndrome_of (columns ++ 0 ∷ [])) (sym (take-append-drop 23 word))
-    ∙ syndrome_of-append columns (0 ∷ []) (take 23 word) (drop 23 word) (front ∙ sym length-remainders)
+    ∙ syndrome_of-append columns (0 ∷ []) (take 23 word) (drop 23 word) (beginning ∙ sym length-remainders)
     ∙ ap (bit_xor (syndrome_of columns (take 23 word))) (no_checks (drop 23 word))
     ∙ xor_zero_r (syndrome_of columns (take 23 word))
-    ∙ ap (λ n. syndrome_of (remainders 0xC75 11 n) (take 23 word)) (sym front)
+    ∙ ap (λ n. syndrome_of (remainders 0xC75 11 n) (take 23 word)) (sym beginning)
 
 -- the sum by the stated columns: the remainder, and whether the weight is odd
 stated_sum : (word : List Bool) → length word ≡ 24

@@ -5,7 +5,7 @@ use Rattle.std.proofs.Math.Seq.{take-append-add, take-length}
 use Rattle.std.specs.Prelude.{IfSome}
 use Rattle.std.specs.Io.KnownBytes.{prepend_known, append_known}
 use Rattle.p25_io.specs.Faults.{Rose}
-use Rattle.p25_io.specs.Octets.{Taken, Gives, Appended, AppendedFront}
+use Rattle.p25_io.specs.Octets.{Taken, Gives, Appended, AppendedBeginning}
 
 -- equal octets may stand for each other
 pub Taken-same : {first now : Option (List ℕ)} {xs ys : List ℕ} → xs ≡ ys → Taken first xs now → Taken first ys now
@@ -14,8 +14,8 @@ Taken-same {first = first} {now = now} same p = subst (λ l. Taken first l now) 
 pub Appended-same : {first now : Option (List ℕ)} {xs ys : List ℕ} → xs ≡ ys → Appended first xs now → Appended first ys now
 Appended-same {first = first} {now = now} same p = subst (λ l. Appended first l now) same p
 
-pub AppendedFront-same : {first now : Option (List ℕ)} {xs ys : List ℕ} → xs ≡ ys → AppendedFront first xs now → AppendedFront first ys now
-AppendedFront-same {first = first} {now = now} same p = subst (λ l. AppendedFront first l now) same p
+pub AppendedBeginning-same : {first now : Option (List ℕ)} {xs ys : List ℕ} → xs ≡ ys → AppendedBeginning first xs now → AppendedBeginning first ys now
+AppendedBeginning-same {first = first} {now = now} same p = subst (λ l. AppendedBeginning first l now) same p
 
 -- before the first read nothing is taken
 pub Taken-none : (left : Option (List ℕ)) → Taken left [] left
@@ -28,7 +28,7 @@ Taken-trans {third = None} {xs = xs} p q = record { left = p.left ∙ ap (prepen
 Taken-trans {third = Some zs} {xs = xs} {ys = ys} p q =
     record { left = p.left ∙ ap (prepend_known xs) q.left ∙ ap Some (sym (append_assoc xs ys zs)) }
 
--- of told octets, those taken stand in front of those left
+-- of told octets, those taken stand before those left
 pub Taken-told : {all xs : List ℕ} {now : Option (List ℕ)} → Taken (Some all) xs now → (rest : List ℕ) × (now ≡ Some rest) × (all ≡ xs ++ rest)
 Taken-told {all = all} {now = None} p = let wrong : Some all ≡ None = p.left in cc
 Taken-told {all = all} {xs = xs} {now = Some rest} p =
@@ -55,21 +55,21 @@ Appended-trans {first = None} {ys = ys} p q = record { written = q.written ∙ a
 Appended-trans {first = Some zs} {xs = xs} {ys = ys} p q =
     record { written = q.written ∙ ap (λ w. append_known w ys) p.written ∙ ap Some (append_assoc zs xs ys) }
 
--- a whole piece is a front of itself
-pub Appended-front : {first now : Option (List ℕ)} {xs : List ℕ} → Appended first xs now → AppendedFront first xs now
-Appended-front {xs = xs} p = record { count = length xs; front = Appended-same (sym (take-length xs)) p }
+-- a whole piece is a beginning of itself
+pub Appended-front : {first now : Option (List ℕ)} {xs : List ℕ} → Appended first xs now → AppendedBeginning first xs now
+Appended-front {xs = xs} p = record { count = length xs; beginning = Appended-same (sym (take-length xs)) p }
 
--- a whole piece, and then a front of the next
-pub AppendedFront-next : {first second third : Option (List ℕ)} {xs ys : List ℕ} → Appended first xs second → AppendedFront second ys third → AppendedFront first (xs ++ ys) third
-AppendedFront-next {xs = xs} {ys = ys} p q =
-    record { count = length xs + q.count; front = Appended-same (sym (take-append-add xs ys q.count)) (Appended-trans p q.front) }
+-- a whole piece, and then a beginning of the next
+pub AppendedBeginning-next : {first second third : Option (List ℕ)} {xs ys : List ℕ} → Appended first xs second → AppendedBeginning second ys third → AppendedBeginning first (xs ++ ys) third
+AppendedBeginning-next {xs = xs} {ys = ys} p q =
+    record { count = length xs + q.count; beginning = Appended-same (sym (take-append-add xs ys q.count)) (Appended-trans p q.beginning) }
 
--- a front of a piece is a front of a longer one
-pub AppendedFront-longer : {first now : Option (List ℕ)} {xs : List ℕ} (ys : List ℕ) → AppendedFront first xs now → AppendedFront first (xs ++ ys) now
-AppendedFront-longer {xs = xs} ys p =
+-- a beginning of a piece is a beginning of a longer one
+pub AppendedBeginning-longer : {first now : Option (List ℕ)} {xs : List ℕ} (ys : List ℕ) → AppendedBeginning first xs now → AppendedBeginning first (xs ++ ys) now
+AppendedBeginning-longer {xs = xs} ys p =
     let count = min p.count (length xs) in
     let same : take count (xs ++ ys) ≡ take p.count xs = take-append-le count xs ys (omega arith) ∙ take_min p.count xs in
-    record { count = count; front = Appended-same (sym same) p.front }
+    record { count = count; beginning = Appended-same (sym same) p.beginning }
 
 -- a count that rose within a run of calls rose over the whole run
 pub Rose-within : (first before now last : ℕ) → first ≤ before → Rose before now → now ≤ last → Rose first last

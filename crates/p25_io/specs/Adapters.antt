@@ -21,5 +21,5 @@ abbrev pub write_faults : {W : Type 0} → WriteSink W → ℕ
 write_faults sink = sink.faults
 
 -- what a writer is known to hold grows by a beginning of the piece
-abbrev pub AppendsFront : Option (List ℕ) → Option (List ℕ) → List ℕ → Type 0
-AppendsFront before now piece = (count : ℕ) × Appends before now (take count piece)
+abbrev pub AppendsBeginning : Option (List ℕ) → Option (List ℕ) → List ℕ → Type 0
+AppendsBeginning before now piece = (count : ℕ) × Appends before now (take count piece)

@@ -21,6 +21,6 @@ pub record Appended (before : Option (List ℕ)) (octets : List ℕ) (now : Opti
   pub written : now ≡ append_known before octets
 
 -- a beginning of the piece stands after what was written before
-pub record AppendedFront (before : Option (List ℕ)) (piece : List ℕ) (now : Option (List ℕ)) : Type 0 where
+pub record AppendedBeginning (before : Option (List ℕ)) (piece : List ℕ) (now : Option (List ℕ)) : Type 0 where
   pub count : ℕ
-  pub front : Appended before (take count piece) now
+  pub beginning : Appended before (take count piece) now

@@ -1,7 +1,7 @@
 //! A sink that keeps a number of octets, and no octet.
 ghost use Rattle.std.specs.Prelude.{◌≡◌, ◌+◌, ◌-◌, ◌^◌, length, min, None, IsOk, OnOk, OnErr};
 ghost use Rattle.p25_io.specs.Faults.{HasCause};
-ghost use Rattle.p25_io.specs.Octets.{Appended, AppendedFront};
+ghost use Rattle.p25_io.specs.Octets.{Appended, AppendedBeginning};
 
 use crate::{Failed, Sink};
 use std::marker::Model;
@@ -46,7 +46,7 @@ impl Sink for CountSink {
     /// Adds the number of octets of the piece.
     fn write(&mut self, piece: &[u8]) -> Result<(), Failed>
         ensures ok { OnOk result (Appended None piece.now None) }
-        ensures err { OnErr result (AppendedFront None piece.now None) }
+        ensures err { OnErr result (AppendedBeginning None piece.now None) }
         ensures cause { HasCause 0 0 result }
 
         // It never fails, and counts.

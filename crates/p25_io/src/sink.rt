@@ -1,7 +1,7 @@
 //! Where octets go to.
 ghost use Rattle.std.specs.Prelude.{ℕ, List, Option, OnOk, OnErr};
 ghost use Rattle.p25_io.specs.Faults.{HasCause};
-ghost use Rattle.p25_io.specs.Octets.{Appended, AppendedFront};
+ghost use Rattle.p25_io.specs.Octets.{Appended, AppendedBeginning};
 
 use crate::Failed;
 
@@ -22,6 +22,6 @@ pub trait Sink {
     /// beginning of the piece was appended, which may be nothing or all of it.
     fn write(&mut self, piece: &[u8]) -> Result<(), Failed>
         ensures ok { OnOk result (Appended (written self.old) piece.now (written self.new)) }
-        ensures err { OnErr result (AppendedFront (written self.old) piece.now (written self.new)) }
+        ensures err { OnErr result (AppendedBeginning (written self.old) piece.now (written self.new)) }
         ensures cause { HasCause (faults self.old) (faults self.new) result };
 }

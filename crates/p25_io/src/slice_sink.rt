@@ -1,7 +1,7 @@
 //! A sink into memory that was lent to it, in which chosen calls fail.
 ghost use Rattle.std.specs.Prelude.{◌≡◌, ◌+◌, ◌-◌, ◌<◌, ◌≤◌, ◌⊎◌, ◌↔◌, ◌++◌, [], length, take, min, Some, Contains, IsErr, OnOk, OnErr};
 ghost use Rattle.p25_io.specs.Faults.{counted, faults_after, HasCause};
-ghost use Rattle.p25_io.specs.Octets.{Appended, AppendedFront};
+ghost use Rattle.p25_io.specs.Octets.{Appended, AppendedBeginning};
 
 use crate::{Failed, Sink};
 use std::marker::Model;
@@ -62,7 +62,7 @@ impl Sink for SliceSink<'_> {
     /// doesn't fit: then as much of it as fits is appended.
     fn write(&mut self, piece: &[u8]) -> Result<(), Failed>
         ensures ok { OnOk result (Appended (Some self.old.written) piece.now (Some self.new.written)) }
-        ensures err { OnErr result (AppendedFront (Some self.old.written) piece.now (Some self.new.written)) }
+        ensures err { OnErr result (AppendedBeginning (Some self.old.written) piece.now (Some self.new.written)) }
         ensures cause { HasCause self.old.faults self.new.faults result }
 
         // Which calls fail, how many octets they write, and what is kept.

@@ -1,7 +1,7 @@
 //! Loops over any source and any sink, which are proved from the traits alone, and what they do at each type.
 ghost use Rattle.std.specs.Prelude.{◌≡◌, ◌<◌, length, take, flat_map, IfOk, IfSome, OnOk, OnErr};
 ghost use Rattle.p25_io.specs.Faults.{HasCause};
-ghost use Rattle.p25_io.specs.Octets.{Taken, Appended, AppendedFront};
+ghost use Rattle.p25_io.specs.Octets.{Taken, Appended, AppendedBeginning};
 
 use super::*;
 
@@ -25,7 +25,7 @@ pub(crate) fn gather<S: Source>(source: &mut S, room: &mut [u8]) -> Result<usize
 // Writes piece after piece.
 pub(crate) fn put_all<K: Sink>(sink: &mut K, pieces: &[&[u8]]) -> Result<(), Failed>
     ensures ok { OnOk result (Appended (K.written sink.old) (flat_map (λ piece. piece.now) pieces.now) (K.written sink.new)) }
-    ensures err { OnErr result (AppendedFront (K.written sink.old) (flat_map (λ piece. piece.now) pieces.now) (K.written sink.new)) }
+    ensures err { OnErr result (AppendedBeginning (K.written sink.old) (flat_map (λ piece. piece.now) pieces.now) (K.written sink.new)) }
     ensures cause { HasCause (K.faults sink.old) (K.faults sink.new) result }
 {
     for piece in pieces {

@@ -2,8 +2,8 @@
 ghost use Rattle.std.specs.Prelude.{◌≡◌, None, OnOk, OnErr};
 ghost use Rattle.std.specs.Io.KnownBytes.{Appends};
 ghost use Rattle.p25_io.specs.Faults.{faults_after, HasCause};
-ghost use Rattle.p25_io.specs.Octets.{Appended, AppendedFront};
-ghost use Rattle.p25_io.specs.Adapters.{writer_of, write_faults, AppendsFront};
+ghost use Rattle.p25_io.specs.Octets.{Appended, AppendedBeginning};
+ghost use Rattle.p25_io.specs.Adapters.{writer_of, write_faults, AppendsBeginning};
 
 use crate::{Failed, Sink};
 use std::io::Write;
@@ -36,12 +36,12 @@ impl<W: Write> Sink for WriteSink<W> {
     /// Appends the piece: writes until the writer has taken all of it, and flushes the writer.
     fn write(&mut self, piece: &[u8]) -> Result<(), Failed>
         ensures ok { OnOk result (Appended None piece.now None) }
-        ensures err { OnErr result (AppendedFront None piece.now None) }
+        ensures err { OnErr result (AppendedBeginning None piece.now None) }
         ensures cause { HasCause (write_faults self.old) (write_faults self.new) result }
 
         // The octets go to the writer, as far as it tells what it holds, and each fault counts.
         ensures known { OnOk result (Appends (W.contents (writer_of self.old)) (W.contents (writer_of self.new)) piece.now) }
-        ensures front { OnErr result (AppendsFront (W.contents (writer_of self.old)) (W.contents (writer_of self.new)) piece.now) }
+        ensures beginning { OnErr result (AppendsBeginning (W.contents (writer_of self.old)) (W.contents (writer_of self.new)) piece.now) }
         ensures faults { write_faults self.new ≡ faults_after result (write_faults self.old) }
     {
         let result = write_whole(&mut self.inner, piece);
@@ -55,7 +55,7 @@ impl<W: Write> Sink for WriteSink<W> {
 // Writes the whole piece and flushes.
 fn write_whole<W: Write>(inner: &mut W, piece: &[u8]) -> Result<(), Failed>
     ensures known { OnOk result (Appends (W.contents inner.old) (W.contents inner.new) piece.now) }
-    ensures front { OnErr result (AppendsFront (W.contents inner.old) (W.contents inner.new) piece.now) }
+    ensures beginning { OnErr result (AppendsBeginning (W.contents inner.old) (W.contents inner.new) piece.now) }
 {
     let mut done = 0;
     while done < piece.len() {

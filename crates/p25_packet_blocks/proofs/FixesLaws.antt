@@ -120,46 +120,46 @@ length-three_quarter received =
     length-block 8 3 three_quarter_point (three_quarter_octets received) (three_quarter_block (three_quarter_octets received))
     (IsBlock-block_from 8 3 three_quarter_point (three_quarter_octets received) refl (length-three_quarter_octets received) (All-nearest_octets 8 3 three_quarter_point received (omega arith)))
 
-pub blocks_distance-zero : (states : ℕ) (point : ℕ → ℕ → ℕ) (plain : List Bool) → blocks_distance states point 0 plain ≡ 0
+pub blocks_distance-zero : (states : ℕ) (point : ℕ → ℕ → ℕ) (bare : List Bool) → blocks_distance states point 0 bare ≡ 0
 unfolding blocks_distance
-blocks_distance-zero states point plain = refl
+blocks_distance-zero states point bare = refl
 
-pub blocks_distance-more : (states : ℕ) (point : ℕ → ℕ → ℕ) (n : ℕ) (plain : List Bool) → blocks_distance states point (n + 1) plain ≡ blocks_distance states point n plain + nearest_distance states point (block_bits plain n)
+pub blocks_distance-more : (states : ℕ) (point : ℕ → ℕ → ℕ) (n : ℕ) (bare : List Bool) → blocks_distance states point (n + 1) bare ≡ blocks_distance states point n bare + nearest_distance states point (block_bits bare n)
 unfolding blocks_distance
-blocks_distance-more states point n plain = rw add-one refl
+blocks_distance-more states point n bare = rw add-one refl
 
 -- n blocks have at most 196 bits each
-pub half_distance-le : (n : ℕ) (plain : List Bool) → blocks_distance 4 half_point n plain ≤ 196 * n
+pub half_distance-le : (n : ℕ) (bare : List Bool) → blocks_distance 4 half_point n bare ≤ 196 * n
 unfolding blocks_distance
-half_distance-le zero plain = omega arith
-half_distance-le (suc n) plain = omega (arith, half_distance-le n plain, nearest_distance-le 4 2 half_point (block_bits plain n) (omega arith))
+half_distance-le zero bare = omega arith
+half_distance-le (suc n) bare = omega (arith, half_distance-le n bare, nearest_distance-le 4 2 half_point (block_bits bare n) (omega arith))
 
-pub three_quarter_distance-le : (n : ℕ) (plain : List Bool) → blocks_distance 8 three_quarter_point n plain ≤ 196 * n
+pub three_quarter_distance-le : (n : ℕ) (bare : List Bool) → blocks_distance 8 three_quarter_point n bare ≤ 196 * n
 unfolding blocks_distance
-three_quarter_distance-le zero plain = omega arith
-three_quarter_distance-le (suc n) plain = omega (arith, three_quarter_distance-le n plain, nearest_distance-le 8 3 three_quarter_point (block_bits plain n) (omega arith))
+three_quarter_distance-le zero bare = omega arith
+three_quarter_distance-le (suc n) bare = omega (arith, three_quarter_distance-le n bare, nearest_distance-le 8 3 three_quarter_point (block_bits bare n) (omega arith))
 
 -- so many blocks, one after the other, differ from those received as each does
-blocks_fixes : (states : ℕ) (point : ℕ → ℕ → ℕ) (n : ℕ) (plain : List Bool) (sent : ℕ → List Bool) → 308 + 196 * n ≤ length plain → ((j : ℕ) → j < n → length (sent j) ≡ 196)
-    → ((j : ℕ) → j < n → distance_of (block_bits plain j) (sent j) ≡ nearest_distance states point (block_bits plain j))
-    → distance_of (joined_below n (block_bits plain)) (joined_below n sent) ≡ blocks_distance states point n plain
+blocks_fixes : (states : ℕ) (point : ℕ → ℕ → ℕ) (n : ℕ) (bare : List Bool) (sent : ℕ → List Bool) → 308 + 196 * n ≤ length bare → ((j : ℕ) → j < n → length (sent j) ≡ 196)
+    → ((j : ℕ) → j < n → distance_of (block_bits bare j) (sent j) ≡ nearest_distance states point (block_bits bare j))
+    → distance_of (joined_below n (block_bits bare)) (joined_below n sent) ≡ blocks_distance states point n bare
 unfolding blocks_distance
-blocks_fixes states point zero plain sent there long each = ap₂ distance_of (joined_below-zero (block_bits plain)) (joined_below-zero sent) ∙ distance_by-nil beq []
-blocks_fixes states point (suc n) plain sent there long each =
-    let before = length-joined_below 196 n (block_bits plain) (λ j inside. length-part (308 + 196 * j) 196 plain (omega arith)) in
+blocks_fixes states point zero bare sent there long each = ap₂ distance_of (joined_below-zero (block_bits bare)) (joined_below-zero sent) ∙ distance_by-nil beq []
+blocks_fixes states point (suc n) bare sent there long each =
+    let before = length-joined_below 196 n (block_bits bare) (λ j inside. length-part (308 + 196 * j) 196 bare (omega arith)) in
     let after = length-joined_below 196 n sent (λ j inside. long j (omega arith)) in
-    ap₂ distance_of (joined_below-suc n (block_bits plain)) (joined_below-suc n sent)
-    ∙ distance_by-append beq (joined_below n (block_bits plain)) (block_bits plain n) (joined_below n sent) (sent n) (before ∙ sym after)
-    ∙ ap₂ ◌+◌ (blocks_fixes states point n plain sent (omega arith) (λ j inside. long j (omega arith)) (λ j inside. each j (omega arith))) (each n (omega arith))
+    ap₂ distance_of (joined_below-suc n (block_bits bare)) (joined_below-suc n sent)
+    ∙ distance_by-append beq (joined_below n (block_bits bare)) (block_bits bare n) (joined_below n sent) (sent n) (before ∙ sym after)
+    ∙ ap₂ ◌+◌ (blocks_fixes states point n bare sent (omega arith) (λ j inside. long j (omega arith)) (λ j inside. each j (omega arith))) (each n (omega arith))
 
 -- the header block and the blocks to follow against what is sent for them
-pub all_fixes : (states : ℕ) (point : ℕ → ℕ → ℕ) (n : ℕ) (plain front nulls header : List Bool) (sent : ℕ → List Bool) → 308 + 196 * n ≤ length plain → length front ≡ 112
-    → header ≡ half_block (half_octets (part 112 196 plain)) → ((j : ℕ) → j < n → length (sent j) ≡ 196)
-    → ((j : ℕ) → j < n → distance_of (block_bits plain j) (sent j) ≡ nearest_distance states point (block_bits plain j))
-    → distance_of (part 112 (196 * (1 + n)) plain) (part 112 (196 * (1 + n)) (front ++ header ++ joined_below n sent ++ nulls)) ≡ nearest_distance 4 half_point (part 112 196 plain) + blocks_distance states point n plain
-all_fixes states point n plain front nulls header sent there long_front is long each =
+pub all_fixes : (states : ℕ) (point : ℕ → ℕ → ℕ) (n : ℕ) (bare front nulls header : List Bool) (sent : ℕ → List Bool) → 308 + 196 * n ≤ length bare → length front ≡ 112
+    → header ≡ half_block (half_octets (part 112 196 bare)) → ((j : ℕ) → j < n → length (sent j) ≡ 196)
+    → ((j : ℕ) → j < n → distance_of (block_bits bare j) (sent j) ≡ nearest_distance states point (block_bits bare j))
+    → distance_of (part 112 (196 * (1 + n)) bare) (part 112 (196 * (1 + n)) (front ++ header ++ joined_below n sent ++ nulls)) ≡ nearest_distance 4 half_point (part 112 196 bare) + blocks_distance states point n bare
+all_fixes states point n bare front nulls header sent there long_front is long each =
     let body = joined_below n sent in
-    let received = part 112 196 plain in
+    let received = part 112 196 bare in
     let long_header : length header ≡ 196 = ap length is ∙ length-half received in
     let long_body : length body ≡ 196 * n = length-joined_below 196 n sent long in
     let whole : length (header ++ body) ≡ 196 * (1 + n) = length-append header body ∙ omega (arith, long_header, long_body) in
@@ -167,8 +167,8 @@ all_fixes states point n plain front nulls header sent there long_front is long 
     = ap (λ (xs : List Bool). xs ++ nulls) (append_assoc front header body) ∙ append_assoc front (header ++ body) nulls in
     let image : part 112 (196 * (1 + n)) (front ++ header ++ body ++ nulls) ≡ header ++ body = ap (part 112 (196 * (1 + n))) grouped ∙ part_joined 112 (196 * (1 + n)) front (header ++ body) nulls long_front whole in
     let count : 196 + 196 * n ≡ 196 * (1 + n) = omega arith in
-    let bits : part 112 (196 * (1 + n)) plain ≡ received ++ joined_below n (block_bits plain)
-    = sym (part_add 112 196 (196 * n) plain ∙ ap (λ k. part 112 k plain) count) ∙ ap (λ (xs : List Bool). received ++ xs) (sym (joined_below-parts 308 196 n plain)) in
+    let bits : part 112 (196 * (1 + n)) bare ≡ received ++ joined_below n (block_bits bare)
+    = sym (part_add 112 196 (196 * n) bare ∙ ap (λ k. part 112 k bare) count) ∙ ap (λ (xs : List Bool). received ++ xs) (sym (joined_below-parts 308 196 n bare)) in
     ap₂ distance_of bits image
-    ∙ distance_by-append beq received (joined_below n (block_bits plain)) header body (length-part 112 196 plain (omega arith) ∙ sym long_header)
-    ∙ ap₂ ◌+◌ (ap (distance_of received) is ∙ half_fixes received) (blocks_fixes states point n plain sent there long each)
+    ∙ distance_by-append beq received (joined_below n (block_bits bare)) header body (length-part 112 196 bare (omega arith) ∙ sym long_header)
+    ∙ ap₂ ◌+◌ (ap (distance_of received) is ∙ half_fixes received) (blocks_fixes states point n bare sent there long each)

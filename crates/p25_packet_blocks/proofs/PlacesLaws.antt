@@ -18,7 +18,7 @@ use Rattle.p25_packet_blocks.specs.declared.packet.Packet.{Packet}
 use Rattle.p25_packet_blocks.specs.declared.packet.Packet.TheVariants.{Confirmed, Plain}
 use Rattle.p25_packet_blocks.specs.Heads.{head_blocks}
 use Rattle.p25_packet_blocks.specs.Whole.{packet_head}
-use Rattle.p25_packet_blocks.specs.Lengths.{packet_bits, packet_plain_length}
+use Rattle.p25_packet_blocks.specs.Lengths.{packet_bits, packet_bare_length}
 use Rattle.p25_packet_blocks.specs.Reading.{header_bits, block_bits}
 use Rattle.p25_packet_blocks.specs.Image.{header_octets, confirmed_octets, checked_octets, body_block, packet_nulls, packet_image_of}
 use Rattle.p25_packet_blocks.specs.Sendable.{IsDataBlock, IsSendable}
@@ -111,7 +111,7 @@ module _ (nac : ℕ) (packet : Packet) (sendable : IsSendable packet) where
   long_bits : length (front ++ header ++ body) ≡ packet_bits count
   long_bits = length-append (front ++ header) body ∙ omega (arith, long_start, long_body)
 
-  filled : packet_bits count ≤ packet_plain_length count
+  filled : packet_bits count ≤ packet_bare_length count
   filled = omega arith
 
   grouped : packet_image_of nac packet ≡ front ++ header ++ body ++ packet_nulls count
@@ -121,9 +121,9 @@ module _ (nac : ℕ) (packet : Packet) (sendable : IsSendable packet) where
   split : packet_image_of nac packet ≡ front ++ (header ++ (body ++ packet_nulls count))
   split = grouped ∙ append_assoc (front ++ header) body (packet_nulls count) ∙ append_assoc front header (body ++ packet_nulls count)
 
-  pub image_long : length (packet_image_of nac packet) ≡ packet_plain_length count
+  pub image_long : length (packet_image_of nac packet) ≡ packet_bare_length count
   unfolding packet_nulls
-  image_long = ap length grouped ∙ length-append (front ++ header ++ body) (packet_nulls count) ∙ omega (arith, long_bits, filled, length-replicate (packet_plain_length count - packet_bits count) false)
+  image_long = ap length grouped ∙ length-append (front ++ header ++ body) (packet_nulls count) ∙ omega (arith, long_bits, filled, length-replicate (packet_bare_length count - packet_bits count) false)
 
   -- the front
   pub image_front : take 112 (packet_image_of nac packet) ≡ front
@@ -146,10 +146,10 @@ module _ (nac : ℕ) (packet : Packet) (sendable : IsSendable packet) where
   pub image_nulls : (place : ℕ) → packet_bits count ≤ place → place < length (packet_image_of nac packet) → slice_get (packet_image_of nac packet) place ≡ Some false
   unfolding packet_nulls
   image_nulls place behind inside =
-      let left : place - packet_bits count < packet_plain_length count - packet_bits count = omega (arith, image_long) in
+      let left : place - packet_bits count < packet_bare_length count - packet_bits count = omega (arith, image_long) in
       slice_get-get_or (packet_image_of nac packet) place false inside
       ∙ ap Some (ap (λ (xs : List Bool). get_or xs place false) grouped ∙ get_or-append_right (front ++ header ++ body) (packet_nulls count) (packet_bits count) place false long_bits behind
-      ∙ get_or-replicate (packet_plain_length count - packet_bits count) (place - packet_bits count) false false left)
+      ∙ get_or-replicate (packet_bare_length count - packet_bits count) (place - packet_bits count) false false left)
 
   -- the image is as the standard says
   pub IsPacketImage-image : IsPacketImage nac packet (packet_image_of nac packet)
@@ -171,8 +171,8 @@ module _ (nac : ℕ) (packet : Packet) (sendable : IsSendable packet) where
       let second : part 112 196 bits ≡ header = same_block_from 4 2 half_point (header_octets head) (header_bits bits) refl (length-header_octets head keeps) is.header in
       let third : part 308 (196 * count) bits ≡ body
       = sym (joined_below-parts 308 196 count bits) ∙ joined_below-same count (λ j. part (308 + 196 * j) 196 bits) (body_block packet) (λ j inside. body_block-only packet sendable j inside (block_bits bits j) (is.blocks j inside)) in
-      let rest : drop (packet_bits count) bits ≡ replicate (packet_plain_length count - packet_bits count) false
-      = all_false (drop (packet_bits count) bits) (packet_plain_length count - packet_bits count) (length-drop (packet_bits count) bits ∙ ap (λ k. k - packet_bits count) is.long)
+      let rest : drop (packet_bits count) bits ≡ replicate (packet_bare_length count - packet_bits count) false
+      = all_false (drop (packet_bits count) bits) (packet_bare_length count - packet_bits count) (length-drop (packet_bits count) bits ∙ ap (λ k. k - packet_bits count) is.long)
       (λ i inside. get_or-drop (packet_bits count) bits i false ∙ get_or_from_slice_get bits (packet_bits count + i) false false (is.nulls (packet_bits count + i) (omega arith) (omega (arith, length-drop (packet_bits count) bits)))) in
       let place : 308 + 196 * count ≡ packet_bits count = omega arith in
       sym (take-append-drop (packet_bits count) bits)

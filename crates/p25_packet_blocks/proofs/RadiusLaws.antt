@@ -22,7 +22,7 @@ use Rattle.p25_packet_blocks.specs.ConfirmedParts.{ConfirmedParts}
 use Rattle.p25_packet_blocks.specs.Parts.{BlockParts, PlainParts}
 use Rattle.p25_packet_blocks.specs.Heads.{head_blocks}
 use Rattle.p25_packet_blocks.specs.Whole.{packet_head}
-use Rattle.p25_packet_blocks.specs.Lengths.{packet_plain_length}
+use Rattle.p25_packet_blocks.specs.Lengths.{packet_bare_length}
 use Rattle.p25_packet_blocks.specs.Reading.{header_bits, block_bits, head_from, slot_from, slots_read, octets_read, packet_of_head, packet_reading_of}
 use Rattle.p25_packet_blocks.specs.Image.{two_octets, four_octets, header_octets, confirmed_octets, checked_octets, packet_image_of}
 use Rattle.p25_packet_blocks.specs.Sendable.{AreOctets, IsHead, IsDataBlock, IsSendable}
@@ -86,14 +86,14 @@ ThreeQuarterNear = (octets : List ℕ) (received : List Bool) → length octets 
 
 module _ (half : HalfNear) (three_quarter : ThreeQuarterNear) (nac : ℕ) where
   -- a block that was received has its length
-  long_block : (packet : Packet) (received : List Bool) → length received ≡ packet_plain_length (head_blocks (packet_head packet)) → (j : ℕ) → j < head_blocks (packet_head packet) → length (block_bits received j) ≡ 196
+  long_block : (packet : Packet) (received : List Bool) → length received ≡ packet_bare_length (head_blocks (packet_head packet)) → (j : ℕ) → j < head_blocks (packet_head packet) → length (block_bits received j) ≡ 196
   long_block packet received long j inside = length-part (308 + 196 * j) 196 received (omega arith)
 
   -- the header
   pub head_within : (packet : Packet) (received : List Bool) → IsSendable packet → AreBlocksWithin packet (packet_image_of nac packet) received → half_octets (header_bits received) ≡ header_octets (packet_head packet)
   head_within packet received sendable within =
       let head = IsSendable-head packet sendable in
-      let long : length received ≡ packet_plain_length (head_blocks (packet_head packet)) = within.long ∙ image_long nac packet sendable in
+      let long : length received ≡ packet_bare_length (head_blocks (packet_head packet)) = within.long ∙ image_long nac packet sendable in
       half (header_octets (packet_head packet)) (header_bits received) (length-header_octets (packet_head packet) head) (AreOctets-header_octets (packet_head packet) head)
       (length-part 112 196 received (omega arith)) (subst (λ xs. distance_of xs (header_bits received) ≤ 2) (image_header nac packet sendable) within.header)
 

@@ -25,9 +25,9 @@ pub head_from-bad : (octets : List ℕ) (check : ℕ) → check ≡ octets_numbe
 unfolding head_from
 head_from-bad octets check is differs = cond-false (eqb (octets_number (drop 10 octets)) (crc16_of (take 10 octets))) _ _ (ne_eqb _ _ (λ agrees. differs (is ∙ agrees)))
 
-pub head_reading_of-is : (plain : List Bool) → head_reading_of plain ≡ head_from (half_octets (header_bits plain))
+pub head_reading_of-is : (bare : List Bool) → head_reading_of bare ≡ head_from (half_octets (header_bits bare))
 unfolding head_reading_of
-head_reading_of-is plain = refl
+head_reading_of-is bare = refl
 
 -- The slots of a confirmed packet.
 
@@ -40,17 +40,17 @@ pub slot_from-bad : (octets : List ℕ) → 256 * (slice_index octets 0 % 2) + s
 unfolding slot_from
 slot_from-bad octets differs = cond-false (eqb (256 * (slice_index octets 0 % 2) + slice_index octets 1) (crc9_of (slice_index octets 0 / 2) (drop 2 octets))) _ _ (ne_eqb _ _ differs)
 
-pub slots_read-zero : (plain : List Bool) → slots_read 0 plain ≡ []
+pub slots_read-zero : (bare : List Bool) → slots_read 0 bare ≡ []
 unfolding slots_read
-slots_read-zero plain = each_below-zero _
+slots_read-zero bare = each_below-zero _
 
-pub slots_read-more : (n : ℕ) (plain : List Bool) → slots_read (n + 1) plain ≡ slots_read n plain ++ slot_from (three_quarter_octets (block_bits plain n)) ∷ []
+pub slots_read-more : (n : ℕ) (bare : List Bool) → slots_read (n + 1) bare ≡ slots_read n bare ++ slot_from (three_quarter_octets (block_bits bare n)) ∷ []
 unfolding slots_read
-slots_read-more n plain = each_below-more n _
+slots_read-more n bare = each_below-more n _
 
-pub length-slots_read : (n : ℕ) (plain : List Bool) → length (slots_read n plain) ≡ n
+pub length-slots_read : (n : ℕ) (bare : List Bool) → length (slots_read n bare) ≡ n
 unfolding slots_read
-length-slots_read n plain = length-each_below n _
+length-slots_read n bare = length-each_below n _
 
 -- The octets of another packet.
 
@@ -62,17 +62,17 @@ pub length-three_quarter_octets : (bits : List Bool) → length (three_quarter_o
 unfolding nearest_octets
 length-three_quarter_octets bits = length-numbers_from 8 18 _
 
-pub octets_read-zero : (plain : List Bool) → octets_read 0 plain ≡ []
+pub octets_read-zero : (bare : List Bool) → octets_read 0 bare ≡ []
 unfolding octets_read
-octets_read-zero plain = joined_below-zero _
+octets_read-zero bare = joined_below-zero _
 
-pub octets_read-more : (n : ℕ) (plain : List Bool) → octets_read (n + 1) plain ≡ octets_read n plain ++ half_octets (block_bits plain n)
+pub octets_read-more : (n : ℕ) (bare : List Bool) → octets_read (n + 1) bare ≡ octets_read n bare ++ half_octets (block_bits bare n)
 unfolding octets_read
-octets_read-more n plain = joined_below-more n _
+octets_read-more n bare = joined_below-more n _
 
-pub length-octets_read : (n : ℕ) (plain : List Bool) → length (octets_read n plain) ≡ 12 * n
+pub length-octets_read : (n : ℕ) (bare : List Bool) → length (octets_read n bare) ≡ 12 * n
 unfolding octets_read
-length-octets_read n plain = length-joined_below 12 n _ (λ j inside. length-half_octets (block_bits plain j))
+length-octets_read n bare = length-joined_below 12 n _ (λ j inside. length-half_octets (block_bits bare j))
 
 or_left : (a b : Bool) → a ≡ true → (a || b) ≡ true
 or_left a b is = rw is refl
@@ -106,32 +106,32 @@ plain_from-bad head octets some differs =
 
 -- The packet by its format.
 
-pub packet_of_head-confirmed : (head : PacketHead) (plain : List Bool) → head_format head ≡ 0x16 → packet_of_head head plain ≡ Ok (Confirmed (record { head = head; slots = slots_read (head_blocks head) plain }))
+pub packet_of_head-confirmed : (head : PacketHead) (bare : List Bool) → head_format head ≡ 0x16 → packet_of_head head bare ≡ Ok (Confirmed (record { head = head; slots = slots_read (head_blocks head) bare }))
 unfolding packet_of_head
-packet_of_head-confirmed head plain is = cond-true (eqb (head_format head) 0x16) _ _ (eq-eqb _ _ is)
+packet_of_head-confirmed head bare is = cond-true (eqb (head_format head) 0x16) _ _ (eq-eqb _ _ is)
 
-pub packet_of_head-plain : (head : PacketHead) (plain : List Bool) → IsPlainFormat (head_format head) → packet_of_head head plain ≡ plain_from head (octets_read (head_blocks head) plain)
+pub packet_of_head-plain : (head : PacketHead) (bare : List Bool) → IsPlainFormat (head_format head) → packet_of_head head bare ≡ plain_from head (octets_read (head_blocks head) bare)
 unfolding packet_of_head
-packet_of_head-plain head plain (inl is) = rw is refl
-packet_of_head-plain head plain (inr is) = rw is refl
+packet_of_head-plain head bare (inl is) = rw is refl
+packet_of_head-plain head bare (inr is) = rw is refl
 
-pub packet_of_head-other : (head : PacketHead) (plain : List Bool) → head_format head ≢ 0x16 → head_format head ≢ 0x15 → head_format head ≢ 0x03 → packet_of_head head plain ≡ Err Format
+pub packet_of_head-other : (head : PacketHead) (bare : List Bool) → head_format head ≢ 0x16 → head_format head ≢ 0x15 → head_format head ≢ 0x03 → packet_of_head head bare ≡ Err Format
 unfolding packet_of_head
-packet_of_head-other head plain not_16 not_15 not_03 =
+packet_of_head-other head bare not_16 not_15 not_03 =
     cond-false (eqb (head_format head) 0x16) _ _ (ne_eqb _ _ not_16)
     ∙ cond-false (eqb (head_format head) 0x15 || eqb (head_format head) 0x03) _ _ (or_none _ _ (ne_eqb _ _ not_15) (ne_eqb _ _ not_03))
 
 -- The packet of a unit.
 
-pub packet_reading_of-bad : (plain : List Bool) (field : Field) → head_reading_of plain ≡ Err field → packet_reading_of plain ≡ Err field
+pub packet_reading_of-bad : (bare : List Bool) (field : Field) → head_reading_of bare ≡ Err field → packet_reading_of bare ≡ Err field
 unfolding packet_reading_of packet_from
-packet_reading_of-bad plain field is = rw is refl
+packet_reading_of-bad bare field is = rw is refl
 
-pub packet_reading_of-good : (plain : List Bool) (head : PacketHead) → head_reading_of plain ≡ Ok head → packet_reading_of plain ≡ packet_of_head head plain
+pub packet_reading_of-good : (bare : List Bool) (head : PacketHead) → head_reading_of bare ≡ Ok head → packet_reading_of bare ≡ packet_of_head head bare
 unfolding packet_reading_of packet_from
-packet_reading_of-good plain head is = rw is refl
+packet_reading_of-good bare head is = rw is refl
 
 -- a unit that has its length has it for its header
-pub HasItsLength-head : (plain : List Bool) (head : PacketHead) → HasItsLength plain → head_reading_of plain ≡ Ok head → packet_bits (head_blocks head) ≤ length plain
+pub HasItsLength-head : (bare : List Bool) (head : PacketHead) → HasItsLength bare → head_reading_of bare ≡ Ok head → packet_bits (head_blocks head) ≤ length bare
 unfolding HasItsLength
-HasItsLength-head plain head has is = has head is
+HasItsLength-head bare head has is = has head is

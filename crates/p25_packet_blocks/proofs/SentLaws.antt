@@ -8,17 +8,17 @@ use Rattle.p25_bits.proofs.PartLaws.{part_add}
 use Rattle.p25_bits.proofs.DistanceLaws.{distance_of-same}
 use Rattle.p25_status.specs.declared.symbols.Status.{Status}
 use Rattle.p25_status.specs.Sync.{sync_bits, sync_slack}
-use Rattle.p25_status.specs.Woven.{plain_of}
+use Rattle.p25_status.specs.Woven.{bare_of}
 use Rattle.p25_status.proofs.SyncLaws.{has_sync-yes}
-use Rattle.p25_status.proofs.WovenLaws.{length-woven, plain_of-woven, part-plain_of}
+use Rattle.p25_status.proofs.WovenLaws.{length-woven, bare_of-woven, part-bare_of}
 use Rattle.p25_bch_nid.specs.NidWord.{nid_word}
 use Rattle.p25_unit_front.specs.Front.{unit_front, front_of, identifier_bits}
-use Rattle.p25_unit_front.proofs.FrontLaws.{front_of-plain_of, front_of-sync, front_of-identifier, identifier_of-near}
+use Rattle.p25_unit_front.proofs.FrontLaws.{front_of-bare_of, front_of-sync, front_of-identifier, identifier_of-near}
 use Rattle.p25_trellis.specs.Nearest.{half_octets}
 use Rattle.p25_packet_blocks.specs.declared.packet.Packet.{Packet}
 use Rattle.p25_packet_blocks.specs.Heads.{head_blocks}
 use Rattle.p25_packet_blocks.specs.Whole.{packet_head}
-use Rattle.p25_packet_blocks.specs.Lengths.{packet_plain_length, packet_sent_length}
+use Rattle.p25_packet_blocks.specs.Lengths.{packet_bare_length, packet_sent_length}
 use Rattle.p25_packet_blocks.specs.Reading.{header_bits, block_bits, head_from, head_reading_of, packet_of_head}
 use Rattle.p25_packet_blocks.specs.Image.{packet_image_of}
 use Rattle.p25_packet_blocks.specs.Sendable.{IsSendable}
@@ -31,30 +31,30 @@ use Rattle.p25_packet_blocks.proofs.PlacesLaws.{image_long, image_front}
 use Rattle.p25_packet_blocks.proofs.RadiusLaws.{HalfNear, ThreeQuarterNear, head_again, head_within, body_within}
 
 -- the header block of a sent unit is that of its bits without status symbols
-pub sent_header_bits-plain_of : (blocks : ℕ) (sent : List Bool) → 5 ≤ blocks → length sent ≡ 72 * blocks → sent_header_bits sent ≡ header_bits (plain_of sent)
-sent_header_bits-plain_of blocks sent five long =
-    let plain = plain_of sent in
+pub sent_header_bits-bare_of : (blocks : ℕ) (sent : List Bool) → 5 ≤ blocks → length sent ≡ 72 * blocks → sent_header_bits sent ≡ header_bits (bare_of sent)
+sent_header_bits-bare_of blocks sent five long =
+    let bare = bare_of sent in
     let join : List Bool → List Bool → List Bool = λ xs ys. xs ++ ys in
     sent_header_bits-is sent
     ∙ sym (ap₂ join
     (ap₂ join
-    (ap₂ join (part-plain_of blocks 1 42 28 sent long (omega arith) (omega arith)) (part-plain_of blocks 2 0 70 sent long (omega arith) (omega arith)))
-    (part-plain_of blocks 3 0 70 sent long (omega arith) (omega arith)))
-    (part-plain_of blocks 4 0 28 sent long (omega arith) (omega arith)))
-    ∙ ap (λ xs. join (join xs (part 210 70 plain)) (part 280 28 plain)) (part_add 112 28 70 plain)
-    ∙ ap (λ xs. join xs (part 280 28 plain)) (part_add 112 98 70 plain)
-    ∙ part_add 112 168 28 plain
+    (ap₂ join (part-bare_of blocks 1 42 28 sent long (omega arith) (omega arith)) (part-bare_of blocks 2 0 70 sent long (omega arith) (omega arith)))
+    (part-bare_of blocks 3 0 70 sent long (omega arith) (omega arith)))
+    (part-bare_of blocks 4 0 28 sent long (omega arith) (omega arith)))
+    ∙ ap (λ xs. join (join xs (part 210 70 bare)) (part 280 28 bare)) (part_add 112 28 70 bare)
+    ∙ ap (λ xs. join xs (part 280 28 bare)) (part_add 112 98 70 bare)
+    ∙ part_add 112 168 28 bare
 
 -- so its header is
-pub sent_head_of-plain_of : (blocks : ℕ) (sent : List Bool) → 5 ≤ blocks → length sent ≡ 72 * blocks → sent_head_of sent ≡ head_reading_of (plain_of sent)
-sent_head_of-plain_of blocks sent five long =
-    sent_head_of-is sent ∙ ap (λ xs. head_from (half_octets xs)) (sent_header_bits-plain_of blocks sent five long) ∙ sym (head_reading_of-is (plain_of sent))
+pub sent_head_of-bare_of : (blocks : ℕ) (sent : List Bool) → 5 ≤ blocks → length sent ≡ 72 * blocks → sent_head_of sent ≡ head_reading_of (bare_of sent)
+sent_head_of-bare_of blocks sent five long =
+    sent_head_of-is sent ∙ ap (λ xs. head_from (half_octets xs)) (sent_header_bits-bare_of blocks sent five long) ∙ sym (head_reading_of-is (bare_of sent))
 
 module _ (half : HalfNear) (three_quarter : ThreeQuarterNear) (nac : ℕ) (packet : Packet) (statuses : List Status) (sending : IsSending nac packet statuses) where
   sendable : IsSendable packet
   sendable = sending.sendable
 
-  counted : 70 * length statuses ≡ packet_plain_length (head_blocks (packet_head packet))
+  counted : 70 * length statuses ≡ packet_bare_length (head_blocks (packet_head packet))
   counted = sending.counted
 
   abbrev pub whole : List Bool
@@ -69,29 +69,29 @@ module _ (half : HalfNear) (three_quarter : ThreeQuarterNear) (nac : ℕ) (packe
   long_whole : length whole ≡ 72 * length statuses
   long_whole = length-woven (packet_image_of nac packet) statuses image_counted
 
-  plain : plain_of whole ≡ packet_image_of nac packet
-  plain = plain_of-woven (packet_image_of nac packet) statuses image_counted
+  bare : bare_of whole ≡ packet_image_of nac packet
+  bare = bare_of-woven (packet_image_of nac packet) statuses image_counted
 
   front : front_of whole ≡ unit_front nac 12
-  front = sym (front_of-plain_of (length statuses) whole (omega (arith, five)) long_whole) ∙ ap (λ (xs : List Bool). take 112 xs) plain ∙ image_front nac packet sendable
+  front = sym (front_of-bare_of (length statuses) whole (omega (arith, five)) long_whole) ∙ ap (λ (xs : List Bool). take 112 xs) bare ∙ image_front nac packet sendable
 
   -- a unit within radius reads as its network access code and packet
   pub sent_within : (received : List Bool) → IsPacketWithin packet whole received → packet_unit_of received ≡ Ok (nac, packet)
   sent_within received within =
       let head = packet_head packet in
       let long : length received ≡ 72 * length statuses = within.long ∙ long_whole in
-      let blocks : AreBlocksWithin packet (packet_image_of nac packet) (plain_of received) = subst (λ (image : List Bool). AreBlocksWithin packet image (plain_of received)) plain within.blocks in
+      let blocks : AreBlocksWithin packet (packet_image_of nac packet) (bare_of received) = subst (λ (image : List Bool). AreBlocksWithin packet image (bare_of received)) bare within.blocks in
       let near_sync : distance_of (take 48 received) sync_bits ≤ sync_slack
       = subst (λ (xs : List Bool). distance_of (take 48 received) xs ≤ sync_slack) (front_of-sync nac 12 whole (omega (arith, long_whole, five)) front) within.sync in
       let near_identifier : distance_of (take 63 (identifier_bits received)) (take 63 (nid_word nac 12)) ≤ 11
       = subst (λ (xs : List Bool). distance_of (take 63 (identifier_bits received)) (take 63 xs) ≤ 11) (front_of-identifier nac 12 whole (omega (arith, long_whole, five)) front) within.identifier in
       let read : sent_head_of received ≡ Ok head
-      = sent_head_of-plain_of (length statuses) received five long ∙ head_reading_of-is (plain_of received)
-      ∙ ap head_from (head_within half three_quarter nac packet (plain_of received) sendable blocks) ∙ head_again head (IsSendable-head packet sendable) in
+      = sent_head_of-bare_of (length statuses) received five long ∙ head_reading_of-is (bare_of received)
+      ∙ ap head_from (head_within half three_quarter nac packet (bare_of received) sendable blocks) ∙ head_again head (IsSendable-head packet sendable) in
       let enough : packet_sent_length (head_blocks head) ≡ length received = omega (arith, long, counted) in
       let all : take (packet_sent_length (head_blocks head)) received ≡ received = take_all (packet_sent_length (head_blocks head)) received (omega (arith, enough)) in
       packet_unit_of-good received (nac, 12) packet (has_sync-yes received (omega (arith, long, five)) near_sync) (identifier_of-near nac 12 received sending.nac_fits (omega arith) (omega (arith, long, five)) near_identifier) refl
-      (sent_packet_of-whole received head read (omega (arith, enough)) ∙ ap (λ (xs : List Bool). packet_of_head head (plain_of xs)) all ∙ body_within half three_quarter nac packet (plain_of received) sendable blocks)
+      (sent_packet_of-whole received head read (omega (arith, enough)) ∙ ap (λ (xs : List Bool). packet_of_head head (bare_of xs)) all ∙ body_within half three_quarter nac packet (bare_of received) sendable blocks)
 
   none_wrong : (bits : List Bool) (most : ℕ) → distance_of bits bits ≤ most
   none_wrong bits most = omega (arith, distance_of-same bits)
@@ -103,5 +103,5 @@ module _ (half : HalfNear) (three_quarter : ThreeQuarterNear) (nac : ℕ) (packe
         long = refl;
         sync = none_wrong (take 48 whole) 4;
         identifier = none_wrong (take 63 (identifier_bits whole)) 11;
-        blocks = record { long = refl; header = none_wrong (header_bits (plain_of whole)) 2; blocks = λ j inside. none_wrong (block_bits (plain_of whole) j) (block_radius packet) };
+        blocks = record { long = refl; header = none_wrong (header_bits (bare_of whole)) 2; blocks = λ j inside. none_wrong (block_bits (bare_of whole) j) (block_radius packet) };
       })

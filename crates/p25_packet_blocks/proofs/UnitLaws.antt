@@ -7,7 +7,7 @@ use Rattle.p25_bits.proofs.PartLaws.{part-take}
 use Rattle.p25_status.specs.declared.fields.Field.{Field}
 use Rattle.p25_status.specs.declared.fields.Field.TheVariants.{Sync, Nid, Duid, Length}
 use Rattle.p25_status.specs.Sync.{has_sync}
-use Rattle.p25_status.specs.Woven.{plain_of}
+use Rattle.p25_status.specs.Woven.{bare_of}
 use Rattle.p25_unit_front.specs.Front.{identifier_of}
 use Rattle.p25_trellis.specs.Nearest.{half_octets}
 use Rattle.p25_packet_blocks.specs.declared.head.PacketHead.{PacketHead}
@@ -54,7 +54,7 @@ sent_packet_of-short sent head is short =
     rw is (cond-false (leb (packet_sent_length (head_blocks head)) (length sent)) _ _ (false_from_ne_true _ (λ fits. omega (arith, leb-true _ _ fits))))
 
 pub sent_packet_of-whole : (sent : List Bool) (head : PacketHead) → sent_head_of sent ≡ Ok head → packet_sent_length (head_blocks head) ≤ length sent
-    → sent_packet_of sent ≡ packet_of_head head (plain_of (take (packet_sent_length (head_blocks head)) sent))
+    → sent_packet_of sent ≡ packet_of_head head (bare_of (take (packet_sent_length (head_blocks head)) sent))
 unfolding sent_packet_of sent_from
 sent_packet_of-whole sent head is fits = rw is (cond-true (leb (packet_sent_length (head_blocks head)) (length sent)) _ _ (le-leb _ _ fits))
 

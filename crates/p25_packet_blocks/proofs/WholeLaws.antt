@@ -105,8 +105,8 @@ AreOctets-three_quarter : (bits : List Bool) → AreOctets (three_quarter_octets
 unfolding nearest_octets
 AreOctets-three_quarter bits = All-numbers_from 8 18 _
 
-pub IsHeadOf-reading : (plain : List Bool) (head : PacketHead) → head_reading_of plain ≡ Ok head → IsHeadOf (half_octets (header_bits plain)) head
-IsHeadOf-reading plain head is = IsHeadOf-from (half_octets (header_bits plain)) head (length-half_octets (header_bits plain)) (AreOctets-half (header_bits plain)) (sym (head_reading_of-is plain) ∙ is)
+pub IsHeadOf-reading : (bare : List Bool) (head : PacketHead) → head_reading_of bare ≡ Ok head → IsHeadOf (half_octets (header_bits bare)) head
+IsHeadOf-reading bare head is = IsHeadOf-from (half_octets (header_bits bare)) head (length-half_octets (header_bits bare)) (AreOctets-half (header_bits bare)) (sym (head_reading_of-is bare) ∙ is)
 
 -- A confirmed block.
 
@@ -153,33 +153,33 @@ good_block Bad some = absurd (some refl)
 -- The blocks to follow.
 
 -- what was read of the blocks to follow can be sent, and is what the first nearest paths carry
-pub record IsReadOf (head : PacketHead) (plain : List Bool) (packet : Packet) : Type 0 where
+pub record IsReadOf (head : PacketHead) (bare : List Bool) (packet : Packet) : Type 0 where
   pub head_is : packet_head packet ≡ head
   pub sendable : IsSendable packet
-  pub blocks : (j : ℕ) → j < head_blocks head → IsBlockRead packet j (block_bits plain j)
+  pub blocks : (j : ℕ) → j < head_blocks head → IsBlockRead packet j (block_bits bare j)
 
 -- of a confirmed packet
-module _ (head : PacketHead) (plain : List Bool) where
+module _ (head : PacketHead) (bare : List Bool) where
   abbrev slot_octets : ℕ → List ℕ
-  slot_octets j = three_quarter_octets (block_bits plain j)
+  slot_octets j = three_quarter_octets (block_bits bare j)
 
-  slot_is : (j : ℕ) → j < head_blocks head → get_or (slots_read (head_blocks head) plain) j Bad ≡ slot_from (slot_octets j)
+  slot_is : (j : ℕ) → j < head_blocks head → get_or (slots_read (head_blocks head) bare) j Bad ≡ slot_from (slot_octets j)
   unfolding slots_read
   slot_is j inside = get_or-each_below (head_blocks head) (λ i. slot_from (slot_octets i)) j Bad inside
 
-  block_is : AreGood (slots_read (head_blocks head) plain) → (j : ℕ) → j < head_blocks head
-      → (block : Block) × (get_or (slots_read (head_blocks head) plain) j Bad ≡ Good block) × IsBlockOf (slot_octets j) block
+  block_is : AreGood (slots_read (head_blocks head) bare) → (j : ℕ) → j < head_blocks head
+      → (block : Block) × (get_or (slots_read (head_blocks head) bare) j Bad ≡ Good block) × IsBlockOf (slot_octets j) block
   block_is good j inside =
-      let found = good_block (get_or (slots_read (head_blocks head) plain) j Bad) (good.at j (omega (arith, length-slots_read (head_blocks head) plain))) in
+      let found = good_block (get_or (slots_read (head_blocks head) bare) j Bad) (good.at j (omega (arith, length-slots_read (head_blocks head) bare))) in
       let octets = slot_octets j in
-      (found.0, found.1, IsBlockOf-from octets found.0 (length-three_quarter_octets (block_bits plain j)) (AreOctets-three_quarter (block_bits plain j)) (sym (slot_is j inside) ∙ found.1))
+      (found.0, found.1, IsBlockOf-from octets found.0 (length-three_quarter_octets (block_bits bare j)) (AreOctets-three_quarter (block_bits bare j)) (sym (slot_is j inside) ∙ found.1))
 
-  IsReadOf-confirmed : IsHead head → head_format head ≡ 0x16 → AreGood (slots_read (head_blocks head) plain) → IsReadOf head plain (Confirmed (record { head = head; slots = slots_read (head_blocks head) plain }))
+  IsReadOf-confirmed : IsHead head → head_format head ≡ 0x16 → AreGood (slots_read (head_blocks head) bare) → IsReadOf head bare (Confirmed (record { head = head; slots = slots_read (head_blocks head) bare }))
   unfolding IsSendable IsBlockRead
   IsReadOf-confirmed is_head format good = record {
     head_is = refl;
     sendable = record {
-      kind = record { format = format; count = length-slots_read (head_blocks head) plain };
+      kind = record { format = format; count = length-slots_read (head_blocks head) bare };
       head = is_head;
       good = record { at = λ j inside. let is = block_is good j inside in (is.0, is.1, is.2.is_block) };
     };
@@ -187,35 +187,35 @@ module _ (head : PacketHead) (plain : List Bool) where
   }
 
 -- of another packet
-module _ (head : PacketHead) (plain : List Bool) where
+module _ (head : PacketHead) (bare : List Bool) where
   abbrev all_octets : List ℕ
-  all_octets = octets_read (head_blocks head) plain
+  all_octets = octets_read (head_blocks head) bare
 
   abbrev carried : List ℕ
   carried = take (12 * head_blocks head - 4) all_octets
 
   small_octets : AreOctets all_octets
   unfolding octets_read
-  small_octets = All-joined_below IsOctet (head_blocks head) _ (λ j inside. AreOctets-half (block_bits plain j))
+  small_octets = All-joined_below IsOctet (head_blocks head) _ (λ j inside. AreOctets-half (block_bits bare j))
 
   long_carried : length carried ≡ 12 * head_blocks head - 4
-  long_carried = length-take-le (12 * head_blocks head - 4) all_octets (omega (arith, length-octets_read (head_blocks head) plain))
+  long_carried = length-take-le (12 * head_blocks head - 4) all_octets (omega (arith, length-octets_read (head_blocks head) bare))
 
   -- where there are blocks to follow, their octets are those that are written
   checked_again : 0 < head_blocks head → octets_number (drop (12 * head_blocks head - 4) all_octets) ≡ crc32_of carried → checked_octets carried ≡ all_octets
   checked_again some agrees =
       let count = 12 * head_blocks head - 4 in
-      let last : length (drop count all_octets) ≡ 4 = omega (arith, length-drop count all_octets, length-octets_read (head_blocks head) plain) in
+      let last : length (drop count all_octets) ≡ 4 = omega (arith, length-drop count all_octets, length-octets_read (head_blocks head) bare) in
       checked_octets-is carried
       ∙ ap (λ (xs : List ℕ). carried ++ xs) (ap four_octets (sym agrees) ∙ four_again (drop count all_octets) last (All-drop IsOctet count all_octets small_octets))
       ∙ take-append-drop count all_octets
 
-  octets_of_block : (j : ℕ) → j < head_blocks head → part (12 * j) 12 all_octets ≡ half_octets (block_bits plain j)
+  octets_of_block : (j : ℕ) → j < head_blocks head → part (12 * j) 12 all_octets ≡ half_octets (block_bits bare j)
   unfolding octets_read
-  octets_of_block j inside = part-joined_below 12 (head_blocks head) (λ i. half_octets (block_bits plain i)) j (λ i below. length-half_octets (block_bits plain i)) inside
+  octets_of_block j inside = part-joined_below 12 (head_blocks head) (λ i. half_octets (block_bits bare i)) j (λ i below. length-half_octets (block_bits bare i)) inside
 
   IsReadOf-plain : IsHead head → IsPlainFormat (head_format head) → (0 < head_blocks head → octets_number (drop (12 * head_blocks head - 4) all_octets) ≡ crc32_of carried)
-      → IsReadOf head plain (Plain (record { head = head; octets = carried }))
+      → IsReadOf head bare (Plain (record { head = head; octets = carried }))
   unfolding IsSendable IsBlockRead
   IsReadOf-plain is_head format agrees = record {
     head_is = refl;
@@ -228,7 +228,7 @@ module _ (head : PacketHead) (plain : List Bool) where
         sym (octets_of_block j inside) ∙ ap (λ (xs : List ℕ). part (12 * j) 12 xs) (sym (checked_again some (agrees some)));
   }
 
-  IsReadOf-plain_from : (packet : Packet) → IsHead head → IsPlainFormat (head_format head) → plain_from head all_octets ≡ Ok packet → IsReadOf head plain packet
+  IsReadOf-plain_from : (packet : Packet) → IsHead head → IsPlainFormat (head_format head) → plain_from head all_octets ≡ Ok packet → IsReadOf head bare packet
   unfolding plain_from
   IsReadOf-plain_from packet is_head format is =
       let made : Packet = Plain (record { head = head; octets = carried }) in
@@ -239,7 +239,7 @@ module _ (head : PacketHead) (plain : List Bool) where
         | inl some ↦
             let two : Ok made ≡ Ok packet = sym (cond-true test (Ok made) (Err PacketCrc) some) ∙ is in
             let same : made ≡ packet = cc in
-            subst (IsReadOf head plain) same (IsReadOf-plain is_head format (λ blocks. eqb-true _ _ (right_of (eqb (head_blocks head) 0) agree some (ne_eqb (head_blocks head) 0 (λ zero'. omega arith)))))
+            subst (IsReadOf head bare) same (IsReadOf-plain is_head format (λ blocks. eqb-true _ _ (right_of (eqb (head_blocks head) 0) agree some (ne_eqb (head_blocks head) 0 (λ zero'. omega arith)))))
       ]
     where
       right_of : (a b : Bool) → (a || b) ≡ true → a ≡ false → b ≡ true
@@ -247,22 +247,22 @@ module _ (head : PacketHead) (plain : List Bool) where
       right_of false b either none = either
 
 -- by the format
-IsReadOf-head : (head : PacketHead) (plain : List Bool) (packet : Packet) → IsHead head → packet_of_head head plain ≡ Ok packet → IsWholePacket packet → IsReadOf head plain packet
+IsReadOf-head : (head : PacketHead) (bare : List Bool) (packet : Packet) → IsHead head → packet_of_head head bare ≡ Ok packet → IsWholePacket packet → IsReadOf head bare packet
 unfolding IsWholePacket
-IsReadOf-head head plain packet is_head is whole =
+IsReadOf-head head bare packet is_head is whole =
     let format = head_format head in
     elim (cases_eq format 0x16) [
       | inl confirmed ↦
-          let made : Packet = Confirmed (record { head = head; slots = slots_read (head_blocks head) plain }) in
-          let two : Ok made ≡ Ok packet = sym (packet_of_head-confirmed head plain confirmed) ∙ is in
+          let made : Packet = Confirmed (record { head = head; slots = slots_read (head_blocks head) bare }) in
+          let two : Ok made ≡ Ok packet = sym (packet_of_head-confirmed head bare confirmed) ∙ is in
           let same : made ≡ packet = cc in
           let good = subst IsWholePacket (sym same) whole in
-          subst (IsReadOf head plain) same (IsReadOf-confirmed head plain is_head confirmed good)
+          subst (IsReadOf head bare) same (IsReadOf-confirmed head bare is_head confirmed good)
       | inr not_16 ↦ elim (cases_eq format 0x15) [
-        | inl data' ↦ IsReadOf-plain_from head plain packet is_head (inl data') (sym (packet_of_head-plain head plain (inl data')) ∙ is)
+        | inl data' ↦ IsReadOf-plain_from head bare packet is_head (inl data') (sym (packet_of_head-plain head bare (inl data')) ∙ is)
         | inr not_15 ↦ elim (cases_eq format 0x03) [
-          | inl response ↦ IsReadOf-plain_from head plain packet is_head (inr response) (sym (packet_of_head-plain head plain (inr response)) ∙ is)
-          | inr not_03 ↦ let two : Err Format ≡ Ok packet = sym (packet_of_head-other head plain not_16 not_15 not_03) ∙ is in absurd (cc)
+          | inl response ↦ IsReadOf-plain_from head bare packet is_head (inr response) (sym (packet_of_head-plain head bare (inr response)) ∙ is)
+          | inr not_03 ↦ let two : Err Format ≡ Ok packet = sym (packet_of_head-other head bare not_16 not_15 not_03) ∙ is in absurd (cc)
         ]
       ]
     ]
@@ -270,17 +270,17 @@ IsReadOf-head head plain packet is_head is whole =
 -- The packet of a unit.
 
 -- a packet that was read and in which no slot is Bad
-pub record IsWholeRead (plain : List Bool) (packet : Packet) : Type 0 where
-  pub head : head_reading_of plain ≡ Ok (packet_head packet)
+pub record IsWholeRead (bare : List Bool) (packet : Packet) : Type 0 where
+  pub head : head_reading_of bare ≡ Ok (packet_head packet)
   pub sendable : IsSendable packet
-  pub read : IsPacketRead packet plain
+  pub read : IsPacketRead packet bare
 
-whole-from : (plain : List Bool) (packet : Packet) (reading : Result PacketHead Field) → head_reading_of plain ≡ reading → packet_from reading plain ≡ Ok packet → IsWholePacket packet → IsWholeRead plain packet
+whole-from : (bare : List Bool) (packet : Packet) (reading : Result PacketHead Field) → head_reading_of bare ≡ reading → packet_from reading bare ≡ Ok packet → IsWholePacket packet → IsWholeRead bare packet
 unfolding packet_from
-whole-from plain packet (Err field) read is whole = absurd (cc)
-whole-from plain packet (Ok head) read is whole =
-    let of = IsHeadOf-reading plain head read in
-    let body = IsReadOf-head head plain packet of.is_head is whole in
+whole-from bare packet (Err field) read is whole = absurd (cc)
+whole-from bare packet (Ok head) read is whole =
+    let of = IsHeadOf-reading bare head read in
+    let body = IsReadOf-head head bare packet of.is_head is whole in
     record {
       head = read ∙ ap Ok (sym body.head_is);
       sendable = body.sendable;
@@ -290,6 +290,6 @@ whole-from plain packet (Ok head) read is whole =
       };
     }
 
-pub IsWholeRead-reading : (plain : List Bool) (packet : Packet) → packet_reading_of plain ≡ Ok packet → IsWholePacket packet → IsWholeRead plain packet
+pub IsWholeRead-reading : (bare : List Bool) (packet : Packet) → packet_reading_of bare ≡ Ok packet → IsWholePacket packet → IsWholeRead bare packet
 unfolding packet_reading_of
-IsWholeRead-reading plain packet is whole = whole-from plain packet (head_reading_of plain) refl is whole
+IsWholeRead-reading bare packet is whole = whole-from bare packet (head_reading_of bare) refl is whole

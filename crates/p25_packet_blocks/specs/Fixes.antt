@@ -13,18 +13,18 @@ use Rattle.p25_packet_blocks.specs.Image.{packet_image_of}
 -- in how many of the bits from place 112 on, as many as the header block and the blocks to follow have, the image of a packet
 -- differs from the bits of a unit that was received
 unfoldable pub packet_fixes_of : ℕ → Packet → List Bool → ℕ
-packet_fixes_of nac packet plain =
-    let count = 196 * (1 + head_blocks (packet_head packet)) in distance_of (part 112 count plain) (part 112 count (packet_image_of nac packet))
+packet_fixes_of nac packet bare =
+    let count = 196 * (1 + head_blocks (packet_head packet)) in distance_of (part 112 count bare) (part 112 count (packet_image_of nac packet))
 
 -- the distances of the nearest paths of n blocks to follow, one to the other
 unfoldable pub blocks_distance : ℕ → (ℕ → ℕ → ℕ) → ℕ → List Bool → ℕ
-blocks_distance states point zero plain = 0
-blocks_distance states point (suc n) plain = blocks_distance states point n plain + nearest_distance states point (block_bits plain n)
+blocks_distance states point zero bare = 0
+blocks_distance states point (suc n) bare = blocks_distance states point n bare + nearest_distance states point (block_bits bare n)
 
 -- those of blocks at half rate
 abbrev pub half_distance : ℕ → List Bool → ℕ
-half_distance n plain = blocks_distance 4 half_point n plain
+half_distance n bare = blocks_distance 4 half_point n bare
 
 -- those of blocks at three-quarter rate
 abbrev pub three_quarter_distance : ℕ → List Bool → ℕ
-three_quarter_distance n plain = blocks_distance 8 three_quarter_point n plain
+three_quarter_distance n bare = blocks_distance 8 three_quarter_point n bare

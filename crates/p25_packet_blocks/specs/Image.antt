@@ -14,7 +14,7 @@ use Rattle.p25_packet_blocks.specs.declared.packet.Packet.{Packet}
 use Rattle.p25_packet_blocks.specs.declared.packet.Packet.TheVariants.{Confirmed, Plain}
 use Rattle.p25_packet_blocks.specs.Heads.{head_blocks}
 use Rattle.p25_packet_blocks.specs.Whole.{packet_head}
-use Rattle.p25_packet_blocks.specs.Lengths.{packet_bits, packet_plain_length}
+use Rattle.p25_packet_blocks.specs.Lengths.{packet_bits, packet_bare_length}
 
 -- the two octets of a number, the first highest
 abbrev pub two_octets : ℕ → List ℕ
@@ -48,7 +48,7 @@ body_block (Plain packet) j = half_block (part (12 * j) 12 (checked_octets packe
 
 -- nulls up to the length of a unit with n blocks to follow
 unfoldable pub packet_nulls : ℕ → List Bool
-packet_nulls n = replicate (packet_plain_length n - packet_bits n) false
+packet_nulls n = replicate (packet_bare_length n - packet_bits n) false
 
 -- the image: the front of a unit of DUID C, the header block, the blocks to follow in order, and nulls
 unfoldable pub packet_image_of : ℕ → Packet → List Bool

@@ -10,8 +10,8 @@ abbrev pub packet_parts : ℕ → ℕ
 packet_parts n = (packet_bits n + 69) / 70
 
 -- the length without status symbols
-abbrev pub packet_plain_length : ℕ → ℕ
-packet_plain_length n = 70 * packet_parts n
+abbrev pub packet_bare_length : ℕ → ℕ
+packet_bare_length n = 70 * packet_parts n
 
 -- the length as it is sent
 abbrev pub packet_sent_length : ℕ → ℕ

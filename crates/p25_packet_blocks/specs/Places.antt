@@ -11,7 +11,7 @@ use Rattle.p25_packet_blocks.specs.declared.packet.Packet.{Packet}
 use Rattle.p25_packet_blocks.specs.declared.packet.Packet.TheVariants.{Confirmed, Plain}
 use Rattle.p25_packet_blocks.specs.Heads.{head_blocks}
 use Rattle.p25_packet_blocks.specs.Whole.{packet_head}
-use Rattle.p25_packet_blocks.specs.Lengths.{packet_bits, packet_plain_length}
+use Rattle.p25_packet_blocks.specs.Lengths.{packet_bits, packet_bare_length}
 use Rattle.p25_packet_blocks.specs.Reading.{header_bits, block_bits}
 use Rattle.p25_packet_blocks.specs.Image.{header_octets, confirmed_octets, checked_octets}
 
@@ -25,7 +25,7 @@ IsBodyBlock (Plain packet) j bits = IsBlock 4 2 half_point (part (12 * j) 12 (ch
 -- bits are the image of a packet: bits 0 to 111 the front of DUID C, the 196 bits from 112 the header block at half rate,
 -- the 196 bits from 308 + 196·j block j, and every other bit 0
 pub record IsPacketImage (nac : ℕ) (packet : Packet) (bits : List Bool) : Type 0 where
-  pub long : length bits ≡ packet_plain_length (head_blocks (packet_head packet))
+  pub long : length bits ≡ packet_bare_length (head_blocks (packet_head packet))
   pub front : IsFront nac 12 (take 112 bits)
   pub header : IsBlock 4 2 half_point (header_octets (packet_head packet)) (header_bits bits)
   pub blocks : (j : ℕ) → j < head_blocks (packet_head packet) → IsBodyBlock packet j (block_bits bits j)

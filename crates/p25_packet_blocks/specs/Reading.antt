@@ -17,11 +17,11 @@ use Rattle.p25_packet_blocks.specs.Lengths.{packet_bits}
 
 -- the bits of the header block of a unit
 abbrev pub header_bits : List Bool → List Bool
-header_bits plain = part 112 196 plain
+header_bits bare = part 112 196 bare
 
 -- the bits of the block at place j after the header block
 abbrev pub block_bits : List Bool → ℕ → List Bool
-block_bits plain j = part (308 + 196 * j) 196 plain
+block_bits bare j = part (308 + 196 * j) 196 bare
 
 -- the header that twelve octets hold, where the last two are the header CRC of the others
 unfoldable pub head_from : List ℕ → Result PacketHead Field
@@ -30,7 +30,7 @@ head_from octets =
 
 -- the header of a unit: what its header block holds
 unfoldable pub head_reading_of : List Bool → Result PacketHead Field
-head_reading_of plain = head_from (half_octets (header_bits plain))
+head_reading_of bare = head_from (half_octets (header_bits bare))
 
 -- the slot that eighteen octets are: seven bits of serial number, nine of CRC-9, and sixteen octets
 unfoldable pub slot_from : List ℕ → Slot
@@ -41,11 +41,11 @@ slot_from octets =
 
 -- the slots of n blocks
 unfoldable pub slots_read : ℕ → List Bool → List Slot
-slots_read n plain = each_below n (λ j. slot_from (three_quarter_octets (block_bits plain j)))
+slots_read n bare = each_below n (λ j. slot_from (three_quarter_octets (block_bits bare j)))
 
 -- the octets of n half-rate blocks, joined
 unfoldable pub octets_read : ℕ → List Bool → List ℕ
-octets_read n plain = joined_below n (λ j. half_octets (block_bits plain j))
+octets_read n bare = joined_below n (λ j. half_octets (block_bits bare j))
 
 -- packets by their parts
 abbrev pub confirmed_by_parts : PacketHead → List Slot → Packet
@@ -64,22 +64,22 @@ plain_from head octets =
 
 -- the packet of a header that is not confirmed, and the bits of its unit
 abbrev pub unconfirmed_from : PacketHead → List Bool → Result Packet Field
-unconfirmed_from head plain =
-    if eqb (head_format head) 0x15 || eqb (head_format head) 0x03 then plain_from head (octets_read (head_blocks head) plain) else Err Format
+unconfirmed_from head bare =
+    if eqb (head_format head) 0x15 || eqb (head_format head) 0x03 then plain_from head (octets_read (head_blocks head) bare) else Err Format
 
 -- the packet of a header and the bits of its unit, by the format
 unfoldable pub packet_of_head : PacketHead → List Bool → Result Packet Field
-packet_of_head head plain =
-    if eqb (head_format head) 0x16 then Ok (confirmed_by_parts head (slots_read (head_blocks head) plain)) else unconfirmed_from head plain
+packet_of_head head bare =
+    if eqb (head_format head) 0x16 then Ok (confirmed_by_parts head (slots_read (head_blocks head) bare)) else unconfirmed_from head bare
 
 -- the packet answer: PacketHeader, Format and PacketCrc are tested in this order
 unfoldable pub packet_from : Result PacketHead Field → List Bool → Result Packet Field
-packet_from (Err field) plain = Err field
-packet_from (Ok head) plain = packet_of_head head plain
+packet_from (Err field) bare = Err field
+packet_from (Ok head) bare = packet_of_head head bare
 
 unfoldable pub packet_reading_of : List Bool → Result Packet Field
-packet_reading_of plain = packet_from (head_reading_of plain) plain
+packet_reading_of bare = packet_from (head_reading_of bare) bare
 
 -- where its header is read, a unit has as many bits as the blocks to follow ask for
 unfoldable pub HasItsLength : List Bool → Type 0
-HasItsLength plain = (head : PacketHead) → head_reading_of plain ≡ Ok head → packet_bits (head_blocks head) ≤ length plain
+HasItsLength bare = (head : PacketHead) → head_reading_of bare ≡ Ok head → packet_bits (head_blocks head) ≤ length bare

@@ -5,7 +5,7 @@ use Rattle.p25_bits.specs.Bits.{part}
 use Rattle.p25_status.specs.declared.fields.Field.{Field}
 use Rattle.p25_status.specs.declared.fields.Field.TheVariants.{Sync, Nid, Duid, Length}
 use Rattle.p25_status.specs.Sync.{has_sync}
-use Rattle.p25_status.specs.Woven.{plain_of}
+use Rattle.p25_status.specs.Woven.{bare_of}
 use Rattle.p25_unit_front.specs.Front.{identifier_of}
 use Rattle.p25_trellis.specs.Nearest.{half_octets}
 use Rattle.p25_packet_blocks.specs.declared.head.PacketHead.{PacketHead}
@@ -27,7 +27,7 @@ unfoldable pub sent_from : Result PacketHead Field → List Bool → Result Pack
 sent_from (Err field) sent = Err field
 sent_from (Ok head) sent =
     let count = packet_sent_length (head_blocks head) in
-    if leb count (length sent) then packet_of_head head (plain_of (take count sent)) else Err Length
+    if leb count (length sent) then packet_of_head head (bare_of (take count sent)) else Err Length
 
 unfoldable pub sent_packet_of : List Bool → Result Packet Field
 sent_packet_of sent = sent_from (sent_head_of sent) sent

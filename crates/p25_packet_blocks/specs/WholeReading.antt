@@ -19,6 +19,6 @@ IsBlockRead (Confirmed packet) j bits = (block : Block) × (get_or packet.slots 
 IsBlockRead (Plain packet) j bits = half_octets bits ≡ part (12 * j) 12 (checked_octets packet.octets)
 
 -- the first nearest paths to the header block and to each block to follow carry the packet, with all its checks
-pub record IsPacketRead (packet : Packet) (plain : List Bool) : Type 0 where
-  pub header : half_octets (header_bits plain) ≡ header_octets (packet_head packet)
-  pub blocks : (j : ℕ) → j < head_blocks (packet_head packet) → IsBlockRead packet j (block_bits plain j)
+pub record IsPacketRead (packet : Packet) (bare : List Bool) : Type 0 where
+  pub header : half_octets (header_bits bare) ≡ header_octets (packet_head packet)
+  pub blocks : (j : ℕ) → j < head_blocks (packet_head packet) → IsBlockRead packet j (block_bits bare j)

@@ -3,13 +3,13 @@ use Rattle.std.specs.Prelude.{◌≡◌, ℕ, ◌*◌, ◌<◌, ◌≤◌, Bool,
 use Rattle.p25_bits.specs.Distance.{distance_of}
 use Rattle.p25_status.specs.Sync.{sync_slack}
 use Rattle.p25_status.specs.declared.symbols.Status.{Status}
-use Rattle.p25_status.specs.Woven.{woven, plain_of}
+use Rattle.p25_status.specs.Woven.{woven, bare_of}
 use Rattle.p25_unit_front.specs.Front.{identifier_bits}
 use Rattle.p25_packet_blocks.specs.declared.packet.Packet.{Packet}
 use Rattle.p25_packet_blocks.specs.declared.packet.Packet.TheVariants.{Confirmed, Plain}
 use Rattle.p25_packet_blocks.specs.Heads.{head_blocks}
 use Rattle.p25_packet_blocks.specs.Whole.{packet_head}
-use Rattle.p25_packet_blocks.specs.Lengths.{packet_plain_length}
+use Rattle.p25_packet_blocks.specs.Lengths.{packet_bare_length}
 use Rattle.p25_packet_blocks.specs.Image.{packet_image_of}
 use Rattle.p25_packet_blocks.specs.Sendable.{IsSendable}
 use Rattle.p25_packet_blocks.specs.Reading.{header_bits, block_bits}
@@ -32,13 +32,13 @@ pub record IsPacketWithin (packet : Packet) (sent received : List Bool) : Type 0
   pub long : length received ≡ length sent
   pub sync : distance_of (take 48 received) (take 48 sent) ≤ sync_slack
   pub identifier : distance_of (take 63 (identifier_bits received)) (take 63 (identifier_bits sent)) ≤ 11
-  pub blocks : AreBlocksWithin packet (plain_of sent) (plain_of received)
+  pub blocks : AreBlocksWithin packet (bare_of sent) (bare_of received)
 
 -- a packet that is sent under a network access code of 12 bits, with a status symbol for each 70 bits of its unit
 pub record IsSending (nac : ℕ) (packet : Packet) (statuses : List Status) : Type 0 where
   pub nac_fits : nac < 4096
   pub sendable : IsSendable packet
-  pub counted : 70 * length statuses ≡ packet_plain_length (head_blocks (packet_head packet))
+  pub counted : 70 * length statuses ≡ packet_bare_length (head_blocks (packet_head packet))
 
 -- its unit, as it is sent
 abbrev pub sent_unit : ℕ → Packet → List Status → List Bool

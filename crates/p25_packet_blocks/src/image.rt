@@ -7,7 +7,7 @@ ghost use Rattle.p25_trellis.specs.Nearest.{half_block, three_quarter_block};
 ghost use Rattle.p25_packet_blocks.specs.declared.packet.Packet.TheVariants.{Confirmed as confirmed_packet, Plain as plain_packet};
 ghost use Rattle.p25_packet_blocks.specs.Heads.{head_blocks};
 ghost use Rattle.p25_packet_blocks.specs.Whole.{packet_head, AreGood, IsWholePacket};
-ghost use Rattle.p25_packet_blocks.specs.Lengths.{packet_bits, packet_plain_length, packet_sent_length};
+ghost use Rattle.p25_packet_blocks.specs.Lengths.{packet_bits, packet_bare_length, packet_sent_length};
 ghost use Rattle.p25_packet_blocks.specs.Image.{header_octets, confirmed_octets, checked_octets, body_block, packet_nulls, packet_image_of};
 ghost use Rattle.p25_packet_blocks.specs.Sendable.{IsHead, IsDataBlock, IsSendableConfirmed, IsSendablePlain, IsSendable};
 
@@ -21,7 +21,7 @@ use p25_bch_nid::{Nid, PDU};
 use p25_bits::BitBuf;
 use p25_bits::laws::octets_fit;
 use p25_crc::{crc9, crc16, crc32};
-use p25_status::{PLAIN_BLOCK_LENGTH, SENT_BLOCK_LENGTH};
+use p25_status::{BARE_BLOCK_LENGTH, SENT_BLOCK_LENGTH};
 use p25_trellis::{Half, ThreeQuarter, encode_block};
 use p25_unit_front::put_front;
 
@@ -37,13 +37,13 @@ pub fn packet_length(head: &PacketHead) -> usize
 
 // How many times 70 bits the unit of a packet fills.
 fn parts(head: &PacketHead) -> usize
-    ensures parts { 70 * result ≡ packet_plain_length (head_blocks head.now) }
+    ensures parts { 70 * result ≡ packet_bare_length (head_blocks head.now) }
     ensures sent { 72 * result ≡ packet_sent_length (head_blocks head.now) }
     ensures least { 5 ≤ result }
     ensures most { result ≤ 360 }
 {
-    (HEADER_AT + BLOCK_LENGTH * (1 + usize::from(head.blocks())) + PLAIN_BLOCK_LENGTH - 1)
-        / PLAIN_BLOCK_LENGTH
+    (HEADER_AT + BLOCK_LENGTH * (1 + usize::from(head.blocks())) + BARE_BLOCK_LENGTH - 1)
+        / BARE_BLOCK_LENGTH
 }
 
 // Appends the front of the unit of a packet.
@@ -156,7 +156,7 @@ pub fn packet_image(nac: u16, packet: &Packet, out: &mut BitBuf)
     requires nac { nac < 4096 }
     requires whole { IsWholePacket packet.now }
     ensures list { out.new ≡ packet_image_of nac packet.now }
-    ensures len { length out.new ≡ packet_plain_length (head_blocks (packet_head packet.now)) }
+    ensures len { length out.new ≡ packet_bare_length (head_blocks (packet_head packet.now)) }
     ensures sendable { IsSendable packet.now }
 {
     let head = packet.head();
@@ -164,5 +164,5 @@ pub fn packet_image(nac: u16, packet: &Packet, out: &mut BitBuf)
     put_packet_front(nac, out);
     put_header(&head, out);
     put_body(packet, out);
-    put_nulls(PLAIN_BLOCK_LENGTH * parts(&head) - out.len(), out);
+    put_nulls(BARE_BLOCK_LENGTH * parts(&head) - out.len(), out);
 }

@@ -12,8 +12,8 @@
 //! slots.push(Slot::Good(Block::new(0, octets)));
 //! let head = PacketHead::confirmed(1, true, 1, 0, 0);
 //! let packet = Packet::Confirmed(Confirmed::new(head, slots));
-//! packet_image(0x293, &packet, &mut plain);
-//! weave(&plain, &statuses, &mut sent);
+//! packet_image(0x293, &packet, &mut bare);
+//! weave(&bare, &statuses, &mut sent);
 //! let (nac, again) = read_packet_unit(&sent)?;
 //! ```
 //!

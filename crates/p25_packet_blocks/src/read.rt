@@ -42,15 +42,15 @@ pub(crate) fn head_in(octets: &[u8; 12]) -> Result<PacketHead, Field>
     }
 }
 
-/// Answers the header that the header block of a unit holds. `plain` has at least the 308 bits of the unit's front and its
+/// Answers the header that the header block of a unit holds. `bare` has at least the 308 bits of the unit's front and its
 /// header block, without status symbols. PacketHeader comes exactly where the last two octets of the block are not the
 /// header CRC of the others. TIA-102.BAAA, Packet Data, Header Block.
-pub fn read_head(plain: &BitBuf) -> Result<PacketHead, Field>
-    requires { 308 ≤ length plain.now }
-    ensures { result ≡ head_reading_of plain.now }
+pub fn read_head(bare: &BitBuf) -> Result<PacketHead, Field>
+    requires { 308 ≤ length bare.now }
+    ensures { result ≡ head_reading_of bare.now }
 {
     let mut octets = [0; 12];
-    read_block::<Half>(plain, HEADER_AT, &mut octets);
+    read_block::<Half>(bare, HEADER_AT, &mut octets);
     head_in(&octets)
 }
 
@@ -70,35 +70,35 @@ fn slot_in(octets: &[u8; 18]) -> Slot
 }
 
 // The slots of the blocks to follow of a confirmed packet. Adds the distances of their nearest paths to `fixes`.
-fn read_slots(plain: &BitBuf, blocks: usize, fixes: &mut u32) -> Slots
+fn read_slots(bare: &BitBuf, blocks: usize, fixes: &mut u32) -> Slots
     requires blocks { blocks ≤ 127 }
-    requires there { 308 + 196 * blocks ≤ length plain.now }
+    requires there { 308 + 196 * blocks ≤ length bare.now }
     requires few { fixes.old ≤ 196 }
-    ensures list { result ≡ slots_read blocks plain.now }
+    ensures list { result ≡ slots_read blocks bare.now }
     ensures len { length result ≡ blocks }
-    ensures fixes { fixes.new ≡ fixes.old + three_quarter_distance blocks plain.now }
+    ensures fixes { fixes.new ≡ fixes.old + three_quarter_distance blocks bare.now }
 {
     let mut slots = Slots::new();
     let mut octets = [0; 18];
     for j in 0..blocks {
-        *fixes += read_block::<ThreeQuarter>(plain, BLOCKS_AT + BLOCK_LENGTH * j, &mut octets);
+        *fixes += read_block::<ThreeQuarter>(bare, BLOCKS_AT + BLOCK_LENGTH * j, &mut octets);
         slots.push(slot_in(&octets));
     }
     slots
 }
 
 // Sets the octets to those of the blocks to follow at half rate. Adds the distances of their nearest paths to `fixes`.
-fn read_octets(plain: &BitBuf, blocks: usize, octets: &mut [u8], fixes: &mut u32)
+fn read_octets(bare: &BitBuf, blocks: usize, octets: &mut [u8], fixes: &mut u32)
     requires blocks { blocks ≤ 127 }
     requires octets { length octets.old ≡ 12 * blocks }
-    requires there { 308 + 196 * blocks ≤ length plain.now }
+    requires there { 308 + 196 * blocks ≤ length bare.now }
     requires few { fixes.old ≤ 196 }
-    ensures octets { octets.new ≡ octets_read blocks plain.now }
-    ensures fixes { fixes.new ≡ fixes.old + half_distance blocks plain.now }
+    ensures octets { octets.new ≡ octets_read blocks bare.now }
+    ensures fixes { fixes.new ≡ fixes.old + half_distance blocks bare.now }
 {
     for j in 0..blocks {
         *fixes += read_block::<Half>(
-            plain,
+            bare,
             BLOCKS_AT + BLOCK_LENGTH * j,
             &mut octets[12 * j..12 * j + 12],
         );
@@ -136,43 +136,43 @@ fn plain_in(head: PacketHead, octets: &[u8]) -> Result<Packet, Field>
 }
 
 // The packet of a header and the bits of its unit, where it is not confirmed. Adds the distances of the nearest paths to `fixes`.
-fn read_plain(head: PacketHead, plain: &BitBuf, fixes: &mut u32) -> Result<Packet, Field>
+fn read_plain(head: PacketHead, bare: &BitBuf, fixes: &mut u32) -> Result<Packet, Field>
     requires format { IsPlainFormat (head_format head) }
-    requires there { 308 + 196 * head_blocks head ≤ length plain.now }
+    requires there { 308 + 196 * head_blocks head ≤ length bare.now }
     requires few { fixes.old ≤ 196 }
-    ensures packet { result ≡ plain_from head (octets_read (head_blocks head) plain.now) }
-    ensures fixes { fixes.new ≡ fixes.old + half_distance (head_blocks head) plain.now }
+    ensures packet { result ≡ plain_from head (octets_read (head_blocks head) bare.now) }
+    ensures fixes { fixes.new ≡ fixes.old + half_distance (head_blocks head) bare.now }
 {
     let blocks = usize::from(head.blocks());
     let mut room = [0; 1524];
     let octets = &mut room[..12 * blocks];
-    read_octets(plain, blocks, octets, fixes);
+    read_octets(bare, blocks, octets, fixes);
     plain_in(head, octets)
 }
 
 /// Answers the packet of a header that was read and of its unit without status symbols, which has at least as many bits as
 /// the blocks to follow ask for. Format and PacketCrc come as in `read_packet`.
-pub fn read_packet_of_head(head: PacketHead, plain: &BitBuf) -> Result<Packet, Field>
-    requires { 308 + 196 * head_blocks head ≤ length plain.now }
-    ensures { result ≡ packet_of_head head plain.now }
+pub fn read_packet_of_head(head: PacketHead, bare: &BitBuf) -> Result<Packet, Field>
+    requires { 308 + 196 * head_blocks head ≤ length bare.now }
+    ensures { result ≡ packet_of_head head bare.now }
 {
-    read_blocks(head, plain, &mut 0)
+    read_blocks(head, bare, &mut 0)
 }
 
 // The packet of a header and of its unit, by the format. Adds the distances of the nearest paths of its blocks to `fixes`.
-fn read_blocks(head: PacketHead, plain: &BitBuf, fixes: &mut u32) -> Result<Packet, Field>
-    requires there { 308 + 196 * head_blocks head ≤ length plain.now }
+fn read_blocks(head: PacketHead, bare: &BitBuf, fixes: &mut u32) -> Result<Packet, Field>
+    requires there { 308 + 196 * head_blocks head ≤ length bare.now }
     requires few { fixes.old ≤ 196 }
-    ensures packet { result ≡ packet_of_head head plain.now }
-    ensures confirmed { head_format head ≡ 0x16 → fixes.new ≡ fixes.old + three_quarter_distance (head_blocks head) plain.now }
-    ensures plain { IsPlainFormat (head_format head) → fixes.new ≡ fixes.old + half_distance (head_blocks head) plain.now }
+    ensures packet { result ≡ packet_of_head head bare.now }
+    ensures confirmed { head_format head ≡ 0x16 → fixes.new ≡ fixes.old + three_quarter_distance (head_blocks head) bare.now }
+    ensures bare { IsPlainFormat (head_format head) → fixes.new ≡ fixes.old + half_distance (head_blocks head) bare.now }
 {
     match head.format() {
         CONFIRMED_FORMAT => {
-            let slots = read_slots(plain, usize::from(head.blocks()), fixes);
+            let slots = read_slots(bare, usize::from(head.blocks()), fixes);
             Ok(Packet::Confirmed(Confirmed::new(head, slots)))
         }
-        PLAIN_FORMAT | RESPONSE_FORMAT => read_plain(head, plain, fixes),
+        PLAIN_FORMAT | RESPONSE_FORMAT => read_plain(head, bare, fixes),
         _ => Err(Field::Format),
     }
 }
@@ -182,29 +182,29 @@ fn read_blocks(head: PacketHead, plain: &BitBuf, fixes: &mut u32) -> Result<Pack
 /// received otherwise than they are sent for it.
 pub fn read_packet_and_fixes(
     head: PacketHead,
-    plain: &BitBuf,
+    bare: &BitBuf,
     fixes: &mut u32,
 ) -> Result<Packet, Field>
-    requires head { head_reading_of plain.now ≡ Ok head }
-    requires there { 308 + 196 * head_blocks head ≤ length plain.now }
-    ensures packet { result ≡ packet_of_head head plain.now }
-    ensures fixes { (nac : ℕ) (packet : packet_type) → result ≡ Ok packet → IsWholePacket packet → fixes.new ≡ packet_fixes_of nac packet plain.now }
+    requires head { head_reading_of bare.now ≡ Ok head }
+    requires there { 308 + 196 * head_blocks head ≤ length bare.now }
+    ensures packet { result ≡ packet_of_head head bare.now }
+    ensures fixes { (nac : ℕ) (packet : packet_type) → result ≡ Ok packet → IsWholePacket packet → fixes.new ≡ packet_fixes_of nac packet bare.now }
 {
     let mut octets = [0; 12];
-    *fixes = read_block::<Half>(plain, HEADER_AT, &mut octets);
-    read_blocks(head, plain, fixes)
+    *fixes = read_block::<Half>(bare, HEADER_AT, &mut octets);
+    read_blocks(head, bare, fixes)
 }
 
-/// Answers the packet that a unit holds. `plain` is the unit without status symbols, from its front on: it has at least 308
+/// Answers the packet that a unit holds. `bare` is the unit without status symbols, from its front on: it has at least 308
 /// bits, and where its header is read at least as many as the blocks to follow ask for. In this order PacketHeader comes
 /// exactly where the header CRC does not agree, Format exactly where the format is none of 16, 15 and 03 hex, and PacketCrc
 /// exactly where the format is 15 or 03 hex, there are blocks to follow and the packet CRC does not agree. The slot of a
 /// confirmed block is Bad exactly where its CRC-9 does not agree. TIA-102.BAAA, Packet Data.
-pub fn read_packet(plain: &BitBuf) -> Result<Packet, Field>
-    requires header { 308 ≤ length plain.now }
-    requires blocks { HasItsLength plain.now }
-    ensures { result ≡ packet_reading_of plain.now }
+pub fn read_packet(bare: &BitBuf) -> Result<Packet, Field>
+    requires header { 308 ≤ length bare.now }
+    requires blocks { HasItsLength bare.now }
+    ensures { result ≡ packet_reading_of bare.now }
 {
-    let head = read_head(plain)?;
-    read_packet_of_head(head, plain)
+    let head = read_head(bare)?;
+    read_packet_of_head(head, bare)
 }

@@ -20,46 +20,46 @@ fn unit(words: &[u64], len: usize) -> BitBuf {
             bits.put_field(if i < words.len() { words[i] } else { 0 }, 64);
         }
     }
-    let mut plain = BitBuf::new();
-    plain.append(&bits, 0, len.min(bits.len()));
-    plain
+    let mut bare = BitBuf::new();
+    bare.append(&bits, 0, len.min(bits.len()));
+    bare
 }
 
 // A unit as it is sent, with the status symbol 0 throughout.
-fn sent(plain: &BitBuf) -> BitBuf {
+fn sent(bare: &BitBuf) -> BitBuf {
     let mut statuses = Statuses::new();
-    for _block in 0..plain.len() / 70 {
+    for _block in 0..bare.len() / 70 {
         if statuses.len() < 360 {
             statuses.push(Status::default());
         }
     }
     let mut out = BitBuf::new();
-    if 70 * statuses.len() == plain.len() {
-        weave(plain, &statuses, &mut out);
+    if 70 * statuses.len() == bare.len() {
+        weave(bare, &statuses, &mut out);
     }
     out
 }
 
 // The packet of a unit without status symbols that has its length.
-fn read_whole(plain: &BitBuf) -> Result<Packet, Field> {
-    if plain.len() < 308 {
+fn read_whole(bare: &BitBuf) -> Result<Packet, Field> {
+    if bare.len() < 308 {
         return Err(Field::Length);
     }
-    let head = read_head(plain)?;
-    if 72 * plain.len() < 70 * packet_length(&head) {
+    let head = read_head(bare)?;
+    if 72 * bare.len() < 70 * packet_length(&head) {
         return Err(Field::Length);
     }
-    read_packet(plain)
+    read_packet(bare)
 }
 
 // Asserts that a packet is written as the bits that it was read from.
-fn assert_written(rt: &impl Abort, nac: u16, packet: &Packet, plain: &BitBuf) {
+fn assert_written(rt: &impl Abort, nac: u16, packet: &Packet, bare: &BitBuf) {
     assert!(rt; is_whole(packet));
     assert!(rt; nac < 4096);
     let mut written = BitBuf::new();
     packet_image(nac, packet, &mut written);
-    assert!(rt; written.len() == plain.len());
-    assert_eq!(rt; BitBuf::distance(&written, plain), 0);
+    assert!(rt; written.len() == bare.len());
+    assert_eq!(rt; BitBuf::distance(&written, bare), 0);
 }
 
 // Asserts the network access code and the header that a unit is read with as it is sent.
@@ -78,11 +78,11 @@ fn assert_unit(rt: &impl Abort, nac: u16, head: PacketHead, bits: &BitBuf) {
 #[test]
 fn units_are_read_and_written(rt: HostRuntime) {
     for (nac, len, words) in UNITS {
-        let plain = unit(words, len);
-        match read_whole(&plain) {
+        let bare = unit(words, len);
+        match read_whole(&bare) {
             Ok(packet) => {
-                assert_written(&rt, nac, &packet, &plain);
-                assert_unit(&rt, nac, packet.head(), &sent(&plain));
+                assert_written(&rt, nac, &packet, &bare);
+                assert_unit(&rt, nac, packet.head(), &sent(&bare));
             }
             Err(_) => assert!(rt; false),
         }

@@ -9,7 +9,7 @@ use crate::packet::Packet;
 use crate::read::{head_in, read_packet_of_head};
 use p25_bch_nid::PDU;
 use p25_bits::BitBuf;
-use p25_status::{Field, PLAIN_BLOCK_LENGTH, SENT_BLOCK_LENGTH, Statuses, is_sync, unweave};
+use p25_status::{BARE_BLOCK_LENGTH, Field, SENT_BLOCK_LENGTH, Statuses, is_sync, unweave};
 use p25_trellis::{Half, read_block};
 use p25_unit_front::read_identifier;
 
@@ -23,8 +23,8 @@ fn take_header(bits: &BitBuf, at: usize, header: &mut BitBuf)
     let _ = bits.len();
     header.clear();
     header.append(bits, at + 114, 28);
-    header.append(bits, at + 2 * SENT_BLOCK_LENGTH, PLAIN_BLOCK_LENGTH);
-    header.append(bits, at + 3 * SENT_BLOCK_LENGTH, PLAIN_BLOCK_LENGTH);
+    header.append(bits, at + 2 * SENT_BLOCK_LENGTH, BARE_BLOCK_LENGTH);
+    header.append(bits, at + 3 * SENT_BLOCK_LENGTH, BARE_BLOCK_LENGTH);
     header.append(bits, at + 4 * SENT_BLOCK_LENGTH, 28);
 }
 
@@ -52,9 +52,9 @@ fn read_sent_packet(bits: &BitBuf) -> Result<Packet, Field>
     if bits.len() < len {
         return Err(Field::Length);
     }
-    let mut plain = BitBuf::new();
-    unweave(bits, 0, len, &mut plain, &mut Statuses::new());
-    read_packet_of_head(head, &plain)
+    let mut bare = BitBuf::new();
+    unweave(bits, 0, len, &mut bare, &mut Statuses::new());
+    read_packet_of_head(head, &bare)
 }
 
 /// Answers the network access code and the packet of the unit that begins at place 0, as it is sent, with its status symbols.

@@ -6,21 +6,21 @@ use Rattle.p25_bits.specs.Bits.{part}
 use Rattle.p25_recording_filters.specs.SoftLevels.{filled, grouped, scanned}
 
 -- what is scanned of whole groups and others after them
-filled-append : (front rest : List ℤ) → length front % 4 ≡ 0 → filled (front ++ rest) ≡ front ++ filled rest
+filled-append : (beginning rest : List ℤ) → length beginning % 4 ≡ 0 → filled (beginning ++ rest) ≡ beginning ++ filled rest
 unfolding filled
-filled-append front rest whole =
-    let same : (4 - length (front ++ rest) % 4) % 4 ≡ (4 - length rest % 4) % 4 = omega (arith, length-append front rest) in
-    ap (λ n. (front ++ rest) ++ replicate n (pos 32)) same ∙ append_assoc front rest (replicate ((4 - length rest % 4) % 4) (pos 32))
+filled-append beginning rest whole =
+    let same : (4 - length (beginning ++ rest) % 4) % 4 ≡ (4 - length rest % 4) % 4 = omega (arith, length-append beginning rest) in
+    ap (λ n. (beginning ++ rest) ++ replicate n (pos 32)) same ∙ append_assoc beginning rest (replicate ((4 - length rest % 4) % 4) (pos 32))
 
-grouped-append : (front rest : List ℤ) → length front % 4 ≡ 0 → grouped (front ++ rest) ≡ front ++ grouped rest
+grouped-append : (beginning rest : List ℤ) → length beginning % 4 ≡ 0 → grouped (beginning ++ rest) ≡ beginning ++ grouped rest
 unfolding grouped
-grouped-append front rest whole =
-    let count : 4 * (length (front ++ rest) / 4) ≡ length front + 4 * (length rest / 4) = omega (arith, length-append front rest) in
-    ap (λ n. take n (front ++ rest)) count ∙ take-append-add front rest (4 * (length rest / 4))
+grouped-append beginning rest whole =
+    let count : 4 * (length (beginning ++ rest) / 4) ≡ length beginning + 4 * (length rest / 4) = omega (arith, length-append beginning rest) in
+    ap (λ n. take n (beginning ++ rest)) count ∙ take-append-add beginning rest (4 * (length rest / 4))
 
-pub scanned-append : (ended : Bool) (front rest : List ℤ) → length front % 4 ≡ 0 → scanned ended (front ++ rest) ≡ front ++ scanned ended rest
-scanned-append true front rest whole = filled-append front rest whole
-scanned-append false front rest whole = grouped-append front rest whole
+pub scanned-append : (ended : Bool) (beginning rest : List ℤ) → length beginning % 4 ≡ 0 → scanned ended (beginning ++ rest) ≡ beginning ++ scanned ended rest
+scanned-append true beginning rest whole = filled-append beginning rest whole
+scanned-append false beginning rest whole = grouped-append beginning rest whole
 
 -- whole groups are scanned as they are
 pub filled-whole : (levels : List ℤ) → length levels % 4 ≡ 0 → filled levels ≡ levels

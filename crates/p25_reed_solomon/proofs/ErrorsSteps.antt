@@ -1,5 +1,5 @@
 -- The errors that a locator gives: any errors that explain the syndromes stand at its zeros and have the values that Forney's formula
--- gives there; and values at its zeros with the right power sums explain the syndromes, since each mark is one of few zeros.
+-- gives there; and values at its zeros with the right power sums explain the syndromes, since each erasure is one of few zeros.
 use Rattle.std.proofs.Common.{◌≡◌, ◌≢◌, ℕ, zero, suc, ◌+◌, ◌*◌, ◌<◌, ◌≤◌, Bool, cond, List, length, take, get_or, inl, inr, ap, ap₂, sym, ◌∙◌, subst, arith}
 use Rattle.std.proofs.lemmas.Bool.{cases_eq, cases_lt, cases_Bool, cond-true, cond-false}
 use Rattle.std.proofs.lemmas.List.{get_or-take, length-take}
@@ -13,9 +13,9 @@ use Rattle.p25_algebra.proofs.SumLaws.{sum-none, sum-suc, sum_same}
 use Rattle.p25_algebra.proofs.VanishingLaws.{nonzeros-suc, weight_zero, weight_one}
 use Rattle.p25_algebra.proofs.ValueLaws.{value_same}
 use Rattle.p25_poly.proofs.CoefficientLaws.{coefficient_past}
-use Rattle.p25_reed_solomon.specs.Errors.{element_of, point_of, is_marked, marks_below, unmarked, Explains, IsListed, AreZeros, placed}
+use Rattle.p25_reed_solomon.specs.Errors.{element_of, point_of, is_erased, erased_below, kept_errors, Explains, IsListed, AreZeros, placed}
 use Rattle.p25_reed_solomon.specs.Locator.{IsLocator}
-use Rattle.p25_reed_solomon.proofs.MarksLaws.{marks_below-none, marks_below-marked, marks_below-plain}
+use Rattle.p25_reed_solomon.proofs.ErasuresLaws.{erased_below-none, erased_below-gone, erased_below-kept}
 use Rattle.p25_reed_solomon.proofs.LocatorLaws.{same_function}
 use Rattle.p25_reed_solomon.proofs.ErrorsLaws.{at_place, elsewhere, power_sum-placed, placed-errors, nonzeros-placed, nonzeros_same, nonzeros-none}
 
@@ -27,7 +27,7 @@ part_is_locator n checks syndromes erased most locator evaluator is =
     (record {
       short = is.short;
       nonzero = is.nonzero;
-      marked = is.marked;
+      gone = is.gone;
       wrong = is.wrong;
       slope = is.slope;
       value = λ errors explains j inside none.
@@ -62,32 +62,32 @@ nonzeros_listed : (n : ℕ) (places : List ℕ) (f : ℕ → Sym) → ((c d : �
 nonzeros_listed n places f rising listed =
     omega (arith, nonzeros_same n f (placed places (λ c. f (get_or places c 0))) (λ j low. sym (placed-errors n places f j rising (listed j low))), nonzeros-placed n places (λ c. f (get_or places c 0)))
 
--- a one at each marked place
-abbrev with_marks : List Bool → (ℕ → Sym) → ℕ → Sym
-with_marks erased errors j = cond (is_marked erased j) gf64.one (errors j)
+-- a one at each erased place
+abbrev with_ones : List Bool → (ℕ → Sym) → ℕ → Sym
+with_ones erased errors j = cond (is_erased erased j) gf64.one (errors j)
 
-nonzeros-with_marks : (n : ℕ) (erased : List Bool) (errors : ℕ → Sym) → nonzeros gf64 n (with_marks erased errors) ≡ nonzeros gf64 n (unmarked erased errors) + marks_below erased n
-nonzeros-with_marks zero erased errors = omega (arith, nonzeros-none (with_marks erased errors), nonzeros-none (unmarked erased errors), marks_below-none erased)
-nonzeros-with_marks (suc n) erased errors =
-    elim (cases_Bool (is_marked erased n)) [
+nonzeros-with_ones : (n : ℕ) (erased : List Bool) (errors : ℕ → Sym) → nonzeros gf64 n (with_ones erased errors) ≡ nonzeros gf64 n (kept_errors erased errors) + erased_below erased n
+nonzeros-with_ones zero erased errors = omega (arith, nonzeros-none (with_ones erased errors), nonzeros-none (kept_errors erased errors), erased_below-none erased)
+nonzeros-with_ones (suc n) erased errors =
+    elim (cases_Bool (is_erased erased n)) [
       | inl here ↦
           omega (
             arith,
-            nonzeros-with_marks n erased errors,
-            nonzeros-suc gf64 n (with_marks erased errors),
-            nonzeros-suc gf64 n (unmarked erased errors),
-            marks_below-marked erased n here,
-            weight_one gf64 (with_marks erased errors n) (λ none. gf64.laws.one_ne_zero (sym (cond-true (is_marked erased n) gf64.one (errors n) here) ∙ none)),
-            weight_zero gf64 (unmarked erased errors n) (cond-true (is_marked erased n) gf64.zero (errors n) here),
+            nonzeros-with_ones n erased errors,
+            nonzeros-suc gf64 n (with_ones erased errors),
+            nonzeros-suc gf64 n (kept_errors erased errors),
+            erased_below-gone erased n here,
+            weight_one gf64 (with_ones erased errors n) (λ none. gf64.laws.one_ne_zero (sym (cond-true (is_erased erased n) gf64.one (errors n) here) ∙ none)),
+            weight_zero gf64 (kept_errors erased errors n) (cond-true (is_erased erased n) gf64.zero (errors n) here),
           )
-      | inr plain ↦
-          let same : with_marks erased errors n ≡ unmarked erased errors n = cond-false (is_marked erased n) gf64.one (errors n) plain ∙ sym (cond-false (is_marked erased n) gf64.zero (errors n) plain) in
+      | inr kept ↦
+          let same : with_ones erased errors n ≡ kept_errors erased errors n = cond-false (is_erased erased n) gf64.one (errors n) kept ∙ sym (cond-false (is_erased erased n) gf64.zero (errors n) kept) in
           omega (
             arith,
-            nonzeros-with_marks n erased errors,
-            nonzeros-suc gf64 n (with_marks erased errors),
-            nonzeros-suc gf64 n (unmarked erased errors),
-            marks_below-plain erased n plain,
+            nonzeros-with_ones n erased errors,
+            nonzeros-suc gf64 n (with_ones erased errors),
+            nonzeros-suc gf64 n (kept_errors erased errors),
+            erased_below-kept erased n kept,
             ap {B = ℕ} (λ (s : Sym). weight_by (gf64.is_zero s)) same,
           )
     ]
@@ -132,20 +132,20 @@ module _ (n checks most : ℕ) (syndromes locator evaluator : List Sym) (erased 
       ∙ explains.sums r low
 
   -- values at the zeros with these power sums explain the syndromes
-  pub placed_explains : (values out : ℕ → Sym) → 2 * most ≤ checks + marks_below erased n → length places < length locator
+  pub placed_explains : (values out : ℕ → Sym) → 2 * most ≤ checks + erased_below erased n → length places < length locator
       → ((r : ℕ) → r < checks → power_sum gf64 (length places) (λ c. element_of n (get_or places c 0)) values (r + 1) ≡ coefficient gf64 syndromes r) → ((j : ℕ) → j < n → out j ≡ placed places values j)
       → Explains n checks syndromes erased out
   placed_explains values out bound few sums same = record {
-    few = omega (arith, nonzeros-with_marks n erased out, nonzeros_listed n places (with_marks erased out) are.rising listed, long);
+    few = omega (arith, nonzeros-with_ones n erased out, nonzeros_listed n places (with_ones erased out) are.rising listed, long);
     sums = λ r below.
         sum_same gf64 n _ _ (λ j within. ap (λ (s : Sym). gf64.mul s (power gf64 (element_of n j) (r + 1))) (same j within))
         ∙ power_sum-placed n places values (r + 1) are.below
         ∙ sums r below;
   }
     where
-      listed : (j : ℕ) → j < n → with_marks erased out j ≢ gf64.zero → IsListed places j
+      listed : (j : ℕ) → j < n → with_ones erased out j ≢ gf64.zero → IsListed places j
       listed j inside some =
-          elim (cases_Bool (is_marked erased j)) [
-            | inl here ↦ are.all j inside (at j (is.marked j inside here))
-            | inr plain ↦ placed_listed places values j (λ none. some (cond-false (is_marked erased j) gf64.one (out j) plain ∙ same j inside ∙ none))
+          elim (cases_Bool (is_erased erased j)) [
+            | inl here ↦ are.all j inside (at j (is.gone j inside here))
+            | inr kept ↦ placed_listed places values j (λ none. some (cond-false (is_erased erased j) gf64.one (out j) kept ∙ same j inside ∙ none))
           ]

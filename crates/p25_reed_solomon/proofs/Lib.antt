@@ -3,7 +3,7 @@ pub mod ErrorsLaws
 pub mod ReaderLaws
 pub mod MultiplesLaws
 pub mod EncoderSteps
-pub mod MarksLaws
+pub mod ErasuresLaws
 pub mod LocatorLaws
 pub mod ListLaws
 pub mod ErrorsSteps

@@ -1,4 +1,4 @@
--- A solution of the key equation of the lowered syndromes, times a factor for each mark, is a locator. The wrong places without a mark
+-- A solution of the key equation of the lowered syndromes, times a factor for each erasure, is a locator. The wrong places without an erasure
 -- are zeros of the key's locator; its zeros have slopes, since key and evaluator have no zero in common; and a factor more keeps the
 -- slopes of old zeros and makes a new zero with a slope.
 use Rattle.std.proofs.Common.{◌≡◌, ◌≢◌, ℕ, zero, suc, ◌+◌, ◌-◌, ◌*◌, ◌/◌, ◌<◌, ◌≤◌, Bool, true, false, List, length, take, drop, sym, ap, ap₂, ◌∙◌, inl, inr, arith}
@@ -23,9 +23,9 @@ use Rattle.p25_poly.specs.Polynomial.{coefficient_of}
 use Rattle.p25_poly.specs.Key.{IsKey}
 use Rattle.p25_poly.proofs.CoefficientLaws.{coefficient_past}
 use Rattle.p25_reed_solomon.specs.ElementLaws.{elements_apart, element_ne_zero}
-use Rattle.p25_reed_solomon.specs.Errors.{element_of, point_of, is_marked, marks_below, Explains}
-use Rattle.p25_reed_solomon.specs.Locator.{times_marks, IsLocator}
-use Rattle.p25_reed_solomon.proofs.MarksLaws.{marks_below-none, marks_below-marked, marks_below-plain, times_marks-none, times_marks-marked, times_marks-plain, short_times_marks, zero_from_times_marks, product-times_marks, point_inverse, factor_ne_zero, value-times_marks, value-times_plain, zero_stays, mark_vanishes, lowered_by, lowered_sums, lowered_zero, lowered_gone, lowered_kept, nonzeros-lowered}
+use Rattle.p25_reed_solomon.specs.Errors.{element_of, point_of, is_erased, erased_below, Explains}
+use Rattle.p25_reed_solomon.specs.Locator.{times_erasures, IsLocator}
+use Rattle.p25_reed_solomon.proofs.ErasuresLaws.{erased_below-none, erased_below-gone, erased_below-kept, times_erasures-none, times_erasures-gone, times_erasures-kept, short_times_erasures, zero_from_times_erasures, product-times_erasures, point_inverse, factor_ne_zero, value-times_erasures, value-times_kept, zero_stays, erasure_vanishes, lowered_by, lowered_sums, lowered_zero, lowered_gone, lowered_kept, nonzeros-lowered}
 
 point_ne_zero : (n j : ℕ) → point_of n j ≢ gf64.zero
 point_ne_zero n j = inverse_ne_zero gf64 (element_of n j) (element_ne_zero n j)
@@ -80,9 +80,9 @@ evaluator_step i most f t old new factor few is added before (suc k) low =
     next : (r : ℕ) → suc i + r ≡ i + suc r
     next r = omega arith
 
-module _ (n checks half : ℕ) (syndromes symbols : List Sym) (erased : List Bool) (locator evaluator : Poly) (places : n ≤ 63) (few : checks ≤ 22) (some : 1 ≤ half + marks_below erased n) (fits : marks_below erased n + 2 * half ≤ checks)
-    (all : checks ≤ marks_below erased n + 2 * half + 1) (long : length symbols ≡ 2 * half) (is : (r : ℕ) → r < 2 * half
-    → coefficient gf64 symbols r ≡ times_marks n erased n (coefficient gf64 syndromes) (marks_below erased n + r)) (key : IsKey symbols locator evaluator) where
+module _ (n checks half : ℕ) (syndromes symbols : List Sym) (erased : List Bool) (locator evaluator : Poly) (places : n ≤ 63) (few : checks ≤ 22) (some : 1 ≤ half + erased_below erased n) (fits : erased_below erased n + 2 * half ≤ checks)
+    (all : checks ≤ erased_below erased n + 2 * half + 1) (long : length symbols ≡ 2 * half) (is : (r : ℕ) → r < 2 * half
+    → coefficient gf64 symbols r ≡ times_erasures n erased n (coefficient gf64 syndromes) (erased_below erased n + r)) (key : IsKey symbols locator evaluator) where
   halved : length symbols / 2 ≡ half
   halved = omega (arith, long)
 
@@ -116,7 +116,7 @@ module _ (n checks half : ℕ) (syndromes symbols : List Sym) (erased : List Boo
         locator_vanishes gf64 n half (element_of n) left (coefficient_of locator) (coefficient gf64 symbols) (elements_apart n places) (λ j h. element_ne_zero n j) few_left key_short sums_left
         (λ i low high. key.equation i (omega (arith, long)) ∙ evaluator_short.above i low) l inside other
 
-    -- a zero of the key's locator is a wrong place without a mark, and has a slope
+    -- a zero of the key's locator is a wrong place without an erasure, and has a slope
     key_zero : (j : ℕ) → j < n → value_at gf64 (half + 1) (coefficient_of locator) (point_of n j) ≡ gf64.zero → (left j ≢ gf64.zero) × (slope_at gf64 (half + 1) (coefficient_of locator) (point_of n j) ≢ gf64.zero)
     key_zero j inside none =
         elim (cases_eq half 0) [
@@ -131,139 +131,139 @@ module _ (n checks half : ℕ) (syndromes symbols : List Sym) (erased : List Boo
               )
         ]
 
-    -- a marked place is no zero before its factor
-    free : (upto : ℕ) → upto ≤ n → (j : ℕ) → j < n → is_marked erased j ≡ true → upto ≤ j → value_at gf64 (half + 1 + marks_below erased upto) (times_marks n erased upto (coefficient_of locator)) (point_of n j) ≢ gf64.zero
+    -- an erased place is no zero before its factor
+    free : (upto : ℕ) → upto ≤ n → (j : ℕ) → j < n → is_erased erased j ≡ true → upto ≤ j → value_at gf64 (half + 1 + erased_below erased upto) (times_erasures n erased upto (coefficient_of locator)) (point_of n j) ≢ gf64.zero
     unfolding left
-    free zero within j inside marked later none =
-        let e : half + 1 + marks_below erased 0 ≡ half + 1 = omega (arith, marks_below-none erased) in
-        (key_zero j inside (sym (ap₂ (λ k g. value_at gf64 k g (point_of n j)) e (times_marks-none n erased (coefficient_of locator))) ∙ none)).0 (lowered_gone n erased n errors j inside marked)
-    free (suc i) within j inside marked later none =
-        elim (cases_Bool (is_marked erased i)) [
+    free zero within j inside gone later none =
+        let e : half + 1 + erased_below erased 0 ≡ half + 1 = omega (arith, erased_below-none erased) in
+        (key_zero j inside (sym (ap₂ (λ k g. value_at gf64 k g (point_of n j)) e (times_erasures-none n erased (coefficient_of locator))) ∙ none)).0 (lowered_gone n erased n errors j inside gone)
+    free (suc i) within j inside gone later none =
+        elim (cases_Bool (is_erased erased i)) [
           | inl here ↦
-              mul_ne_zero gf64 _ _ (factor_ne_zero n erased i j places (omega arith) inside (λ e. omega arith)) (free i (omega arith) j inside marked (omega arith))
-              (sym (value-times_marks n erased (half + 1) i (coefficient_of locator) (point_of n j) key_short here) ∙ none)
-          | inr plain ↦ free i (omega arith) j inside marked (omega arith) (sym (value-times_plain n erased (half + 1) i (coefficient_of locator) (point_of n j) plain) ∙ none)
+              mul_ne_zero gf64 _ _ (factor_ne_zero n erased i j places (omega arith) inside (λ e. omega arith)) (free i (omega arith) j inside gone (omega arith))
+              (sym (value-times_erasures n erased (half + 1) i (coefficient_of locator) (point_of n j) key_short here) ∙ none)
+          | inr kept ↦ free i (omega arith) j inside gone (omega arith) (sym (value-times_kept n erased (half + 1) i (coefficient_of locator) (point_of n j) kept) ∙ none)
         ]
 
     -- each zero has a slope
-    simple : (upto : ℕ) → upto ≤ n → (j : ℕ) → j < n → value_at gf64 (half + 1 + marks_below erased upto) (times_marks n erased upto (coefficient_of locator)) (point_of n j) ≡ gf64.zero
-        → slope_at gf64 (half + 1 + marks_below erased upto) (times_marks n erased upto (coefficient_of locator)) (point_of n j) ≢ gf64.zero
+    simple : (upto : ℕ) → upto ≤ n → (j : ℕ) → j < n → value_at gf64 (half + 1 + erased_below erased upto) (times_erasures n erased upto (coefficient_of locator)) (point_of n j) ≡ gf64.zero
+        → slope_at gf64 (half + 1 + erased_below erased upto) (times_erasures n erased upto (coefficient_of locator)) (point_of n j) ≢ gf64.zero
     simple zero within j inside none flat =
-        let e : half + 1 + marks_below erased 0 ≡ half + 1 = omega (arith, marks_below-none erased) in
-        (key_zero j inside (sym (ap₂ (λ k g. value_at gf64 k g (point_of n j)) e (times_marks-none n erased (coefficient_of locator))) ∙ none)).1
-        (sym (ap₂ (λ k g. slope_at gf64 k g (point_of n j)) e (times_marks-none n erased (coefficient_of locator))) ∙ flat)
+        let e : half + 1 + erased_below erased 0 ≡ half + 1 = omega (arith, erased_below-none erased) in
+        (key_zero j inside (sym (ap₂ (λ k g. value_at gf64 k g (point_of n j)) e (times_erasures-none n erased (coefficient_of locator))) ∙ none)).1
+        (sym (ap₂ (λ k g. slope_at gf64 k g (point_of n j)) e (times_erasures-none n erased (coefficient_of locator))) ∙ flat)
     simple (suc i) within j inside none flat =
-        let before : ℕ → Sym = times_marks n erased i (coefficient_of locator) in
-        let size : ℕ = half + 1 + marks_below erased i in
+        let before : ℕ → Sym = times_erasures n erased i (coefficient_of locator) in
+        let size : ℕ = half + 1 + erased_below erased i in
         let z : Sym = point_of n j in
-        let short = short_times_marks n erased (half + 1) i (coefficient_of locator) key_short in
-        elim (cases_Bool (is_marked erased i)) [
+        let short = short_times_erasures n erased (half + 1) i (coefficient_of locator) key_short in
+        elim (cases_Bool (is_erased erased i)) [
           | inl here ↦
-              let e : half + 1 + marks_below erased (suc i) ≡ suc size = omega (arith, marks_below-marked erased i here) in
-              let flat_there = sym (ap₂ (λ k g. slope_at gf64 k g z) e (times_marks-marked n erased i (coefficient_of locator) here)) ∙ flat in
+              let e : half + 1 + erased_below erased (suc i) ≡ suc size = omega (arith, erased_below-gone erased i here) in
+              let flat_there = sym (ap₂ (λ k g. slope_at gf64 k g z) e (times_erasures-gone n erased i (coefficient_of locator) here)) ∙ flat in
               elim (cases_eq i j) [
                 | inl same ↦
                     mul_ne_zero gf64 (element_of n i) (value_at gf64 size before z) (element_ne_zero n i)
-                    (free i (omega arith) j inside (ap (is_marked erased) (sym same) ∙ here) (omega arith))
+                    (free i (omega arith) j inside (ap (is_erased erased) (sym same) ∙ here) (omega arith))
                     (sym (slope-new gf64 size (element_of n i) before z short (ap (λ k. gf64.mul (element_of n k) z) same ∙ point_inverse n erased j)) ∙ flat_there)
                 | inr other ↦
                     let factor = factor_ne_zero n erased i j places (omega arith) inside other in
-                    let was = other_zero gf64 _ (value_at gf64 size before z) factor (sym (value-times_marks n erased (half + 1) i (coefficient_of locator) z key_short here) ∙ none) in
+                    let was = other_zero gf64 _ (value_at gf64 size before z) factor (sym (value-times_erasures n erased (half + 1) i (coefficient_of locator) z key_short here) ∙ none) in
                     mul_ne_zero gf64 _ (slope_at gf64 size before z) factor (simple i (omega arith) j inside was)
                     (sym (slope-kept gf64 size (element_of n i) before z (omega arith) short was) ∙ flat_there)
               ]
-          | inr plain ↦
-              simple i (omega arith) j inside (sym (value-times_plain n erased (half + 1) i (coefficient_of locator) z plain) ∙ none)
-              (sym (ap₂ (λ k g. slope_at gf64 (half + 1 + k) g z) (marks_below-plain erased i plain) (times_marks-plain n erased i (coefficient_of locator) plain)) ∙ flat)
+          | inr kept ↦
+              simple i (omega arith) j inside (sym (value-times_kept n erased (half + 1) i (coefficient_of locator) z kept) ∙ none)
+              (sym (ap₂ (λ k g. slope_at gf64 (half + 1 + k) g z) (erased_below-kept erased i kept) (times_erasures-kept n erased i (coefficient_of locator) kept)) ∙ flat)
         ]
 
     -- wrong places are zeros
-    wrong : (j : ℕ) → j < n → errors j ≢ gf64.zero → value_at gf64 (half + 1 + marks_below erased n) (times_marks n erased n (coefficient_of locator)) (point_of n j) ≡ gf64.zero
+    wrong : (j : ℕ) → j < n → errors j ≢ gf64.zero → value_at gf64 (half + 1 + erased_below erased n) (times_erasures n erased n (coefficient_of locator)) (point_of n j) ≡ gf64.zero
     unfolding left
     wrong j inside other =
-        elim (cases_Bool (is_marked erased j)) [
-          | inl here ↦ mark_vanishes n erased (half + 1) n (coefficient_of locator) j key_short inside here
-          | inr plain ↦ zero_stays n erased (half + 1) n (coefficient_of locator) (point_of n j) key_short (key_vanishes j inside (lowered_kept n erased n errors j places (omega arith) inside plain other))
+        elim (cases_Bool (is_erased erased j)) [
+          | inl here ↦ erasure_vanishes n erased (half + 1) n (coefficient_of locator) j key_short inside here
+          | inr kept ↦ zero_stays n erased (half + 1) n (coefficient_of locator) (point_of n j) key_short (key_vanishes j inside (lowered_kept n erased n errors j places (omega arith) inside kept other))
         ]
 
-    -- a zero without a mark is wrong
-    zero_is_wrong : (upto : ℕ) → upto ≤ n → (j : ℕ) → j < n → is_marked erased j ≡ false → value_at gf64 (half + 1 + marks_below erased upto) (times_marks n erased upto (coefficient_of locator)) (point_of n j) ≡ gf64.zero
+    -- a zero without an erasure is wrong
+    zero_is_wrong : (upto : ℕ) → upto ≤ n → (j : ℕ) → j < n → is_erased erased j ≡ false → value_at gf64 (half + 1 + erased_below erased upto) (times_erasures n erased upto (coefficient_of locator)) (point_of n j) ≡ gf64.zero
         → errors j ≢ gf64.zero
     unfolding left
-    zero_is_wrong zero within j inside plain none right =
-        let e : half + 1 + marks_below erased 0 ≡ half + 1 = omega (arith, marks_below-none erased) in
-        (key_zero j inside (sym (ap₂ (λ k g. value_at gf64 k g (point_of n j)) e (times_marks-none n erased (coefficient_of locator))) ∙ none)).0 (lowered_zero n erased n errors j right)
-    zero_is_wrong (suc i) within j inside plain none right =
-        elim (cases_Bool (is_marked erased i)) [
+    zero_is_wrong zero within j inside kept none right =
+        let e : half + 1 + erased_below erased 0 ≡ half + 1 = omega (arith, erased_below-none erased) in
+        (key_zero j inside (sym (ap₂ (λ k g. value_at gf64 k g (point_of n j)) e (times_erasures-none n erased (coefficient_of locator))) ∙ none)).0 (lowered_zero n erased n errors j right)
+    zero_is_wrong (suc i) within j inside kept none right =
+        elim (cases_Bool (is_erased erased i)) [
           | inl here ↦
-              zero_is_wrong i (omega arith) j inside plain
-              (other_zero gf64 _ _ (factor_ne_zero n erased i j places (omega arith) inside (λ e. both_ways (is_marked erased j) plain (ap (is_marked erased) (sym e) ∙ here)))
-              (sym (value-times_marks n erased (half + 1) i (coefficient_of locator) (point_of n j) key_short here) ∙ none)) right
-          | inr other ↦ zero_is_wrong i (omega arith) j inside plain (sym (value-times_plain n erased (half + 1) i (coefficient_of locator) (point_of n j) other) ∙ none) right
+              zero_is_wrong i (omega arith) j inside kept
+              (other_zero gf64 _ _ (factor_ne_zero n erased i j places (omega arith) inside (λ e. both_ways (is_erased erased j) kept (ap (is_erased erased) (sym e) ∙ here)))
+              (sym (value-times_erasures n erased (half + 1) i (coefficient_of locator) (point_of n j) key_short here) ∙ none)) right
+          | inr other ↦ zero_is_wrong i (omega arith) j inside kept (sym (value-times_kept n erased (half + 1) i (coefficient_of locator) (point_of n j) other) ∙ none) right
         ]
 
     -- the error at a zero, for any bound of the degree
-    error_there : (m : ℕ) (e : ℕ → Sym) → 1 ≤ m → m ≤ half + marks_below erased n → IsShort gf64 (m + 1) (times_marks n erased n (coefficient_of locator))
-        → ((k : ℕ) → k < half + marks_below erased n → e k ≡ product_at gf64 (coefficient_of locator) (times_marks n erased n (coefficient gf64 syndromes)) k) → (j : ℕ) → j < n
-        → value_at gf64 (m + 1) (times_marks n erased n (coefficient_of locator)) (point_of n j) ≡ gf64.zero
-        → gf64.mul (errors j) (slope_at gf64 (m + 1) (times_marks n erased n (coefficient_of locator)) (point_of n j)) ≡ value_at gf64 m e (point_of n j)
+    error_there : (m : ℕ) (e : ℕ → Sym) → 1 ≤ m → m ≤ half + erased_below erased n → IsShort gf64 (m + 1) (times_erasures n erased n (coefficient_of locator))
+        → ((k : ℕ) → k < half + erased_below erased n → e k ≡ product_at gf64 (coefficient_of locator) (times_erasures n erased n (coefficient gf64 syndromes)) k) → (j : ℕ) → j < n
+        → value_at gf64 (m + 1) (times_erasures n erased n (coefficient_of locator)) (point_of n j) ≡ gf64.zero
+        → gf64.mul (errors j) (slope_at gf64 (m + 1) (times_erasures n erased n (coefficient_of locator)) (point_of n j)) ≡ value_at gf64 m e (point_of n j)
     error_there m e positive bound short is_product j inside none =
-        let f : ℕ → Sym = times_marks n erased n (coefficient_of locator) in
+        let f : ℕ → Sym = times_erasures n erased n (coefficient_of locator) in
         forney gf64 n m (element_of n) errors f (coefficient gf64 syndromes) positive (elements_apart n places) (λ l h. element_ne_zero n l) short
-        (λ i low. sym (explains.sums i (omega (arith, fits)))) (λ l low other. sym (value_longer gf64 (m + 1) (half + 1 + marks_below erased n) f (point_of n l) (omega arith) short) ∙ wrong l low other) j inside none
+        (λ i low. sym (explains.sums i (omega (arith, fits)))) (λ l low other. sym (value_longer gf64 (m + 1) (half + 1 + erased_below erased n) f (point_of n l) (omega arith) short) ∙ wrong l low other) j inside none
         ∙ value_same gf64 m (product_at gf64 f (coefficient gf64 syndromes)) e (point_of n j)
-        (λ k low. product-times_marks n erased n (coefficient_of locator) (coefficient gf64 syndromes) k ∙ sym (is_product k (omega arith)))
+        (λ k low. product-times_erasures n erased n (coefficient_of locator) (coefficient gf64 syndromes) k ∙ sym (is_product k (omega arith)))
 
-  -- the product with the factors of the marks is a locator, for any bound of its degree
-  pub key_is_locator : (m : ℕ) (f e : ℕ → Sym) → 1 ≤ m → m ≤ half + marks_below erased n → IsShort gf64 (m + 1) f → ((k : ℕ) → f k ≡ times_marks n erased n (coefficient_of locator) k)
-      → ((k : ℕ) → k < half + marks_below erased n → e k ≡ product_at gf64 (coefficient_of locator) (times_marks n erased n (coefficient gf64 syndromes)) k)
+  -- the product with the factors of the erasures is a locator, for any bound of its degree
+  pub key_is_locator : (m : ℕ) (f e : ℕ → Sym) → 1 ≤ m → m ≤ half + erased_below erased n → IsShort gf64 (m + 1) f → ((k : ℕ) → f k ≡ times_erasures n erased n (coefficient_of locator) k)
+      → ((k : ℕ) → k < half + erased_below erased n → e k ≡ product_at gf64 (coefficient_of locator) (times_erasures n erased n (coefficient gf64 syndromes)) k)
       → IsLocator n checks syndromes erased m f e
   key_is_locator m f e positive bound short_f is_f is_e =
-      rw (same_function f (times_marks n erased n (coefficient_of locator)) is_f)
+      rw (same_function f (times_erasures n erased n (coefficient_of locator)) is_f)
       (record {
         short = short;
-        nonzero = λ none. key.nonzero (zero_from_times_marks n erased n (coefficient_of locator) none);
-        marked = λ j inside here. sized j ∙ mark_vanishes n erased (half + 1) n (coefficient_of locator) j key_short inside here;
+        nonzero = λ none. key.nonzero (zero_from_times_erasures n erased n (coefficient_of locator) none);
+        gone = λ j inside here. sized j ∙ erasure_vanishes n erased (half + 1) n (coefficient_of locator) j key_short inside here;
         wrong = λ errors explains j inside other. sized j ∙ wrong errors explains j inside other;
         slope = λ errors explains j inside none flat. simple errors explains n (omega arith) j inside (sym (sized j) ∙ none)
-            (slope_longer gf64 (m + 1) (half + 1 + marks_below erased n) (times_marks n erased n (coefficient_of locator)) (point_of n j) (omega arith) short ∙ flat);
+            (slope_longer gf64 (m + 1) (half + 1 + erased_below erased n) (times_erasures n erased n (coefficient_of locator)) (point_of n j) (omega arith) short ∙ flat);
         value = λ errors explains j inside none. error_there errors explains m e positive bound short is_e j inside none;
-        found = λ errors explains j inside plain none. zero_is_wrong errors explains n (omega arith) j inside plain (sym (sized j) ∙ none);
+        found = λ errors explains j inside kept none. zero_is_wrong errors explains n (omega arith) j inside kept (sym (sized j) ∙ none);
       })
     where
-      short : IsShort gf64 (m + 1) (times_marks n erased n (coefficient_of locator))
+      short : IsShort gf64 (m + 1) (times_erasures n erased n (coefficient_of locator))
       short = record { above = λ i high. sym (is_f i) ∙ short_f.above i high }
 
-      sized : (j : ℕ) → value_at gf64 (m + 1) (times_marks n erased n (coefficient_of locator)) (point_of n j) ≡ value_at gf64 (half + 1 + marks_below erased n) (times_marks n erased n (coefficient_of locator)) (point_of n j)
-      sized j = sym (value_longer gf64 (m + 1) (half + 1 + marks_below erased n) (times_marks n erased n (coefficient_of locator)) (point_of n j) (omega arith) short)
+      sized : (j : ℕ) → value_at gf64 (m + 1) (times_erasures n erased n (coefficient_of locator)) (point_of n j) ≡ value_at gf64 (half + 1 + erased_below erased n) (times_erasures n erased n (coefficient_of locator)) (point_of n j)
+      sized j = sym (value_longer gf64 (m + 1) (half + 1 + erased_below erased n) (times_erasures n erased n (coefficient_of locator)) (point_of n j) (omega arith) short)
 
   -- before any coefficient of the lowered syndromes is added, the evaluator is that of the key
-  pub evaluator_first : (e : ℕ → Sym) → ((k : ℕ) → k < 32 → e k ≡ coefficient_of evaluator k) → (k : ℕ) → k + marks_below erased n < half + marks_below erased n
-      → e k ≡ product_at gf64 (coefficient_of locator) (λ r. times_marks n erased n (coefficient gf64 syndromes) (marks_below erased n + r)) k
+  pub evaluator_first : (e : ℕ → Sym) → ((k : ℕ) → k < 32 → e k ≡ coefficient_of evaluator k) → (k : ℕ) → k + erased_below erased n < half + erased_below erased n
+      → e k ≡ product_at gf64 (coefficient_of locator) (λ r. times_erasures n erased n (coefficient gf64 syndromes) (erased_below erased n + r)) k
   evaluator_first e is_e k low =
       is_e k (omega (arith, fits, few))
       ∙ sym (key.equation k (omega (arith, long)))
-      ∙ product_agree gf64 (coefficient_of locator) (coefficient gf64 symbols) (λ r. times_marks n erased n (coefficient gf64 syndromes) (marks_below erased n + r)) k (λ i within. is i (omega arith))
+      ∙ product_agree gf64 (coefficient_of locator) (coefficient gf64 symbols) (λ r. times_erasures n erased n (coefficient gf64 syndromes) (erased_below erased n + r)) k (λ i within. is i (omega arith))
 
 -- ---- the locator as the code has it: lists of 32 coefficients
 
-module _ (n checks marks half : ℕ) (syndromes lowered front : List Sym) (erased : List Bool) (locator evaluator : Poly) (places : n ≤ 63) (is_marks : marks ≡ marks_below erased n) (within : marks ≤ checks) (some : 2 ≤ checks)
-    (few : checks ≤ 22) (is_half : half ≡ (checks - marks) / 2) (lowered_full : length lowered ≡ 32)
-    (is_lowered : (k : ℕ) → k < 32 → coefficient gf64 lowered k ≡ times_marks n erased n (coefficient gf64 syndromes) k) (key : IsKey (take (marks + 2 * half - marks) (drop marks lowered)) locator evaluator)
+module _ (n checks erasures half : ℕ) (syndromes lowered front : List Sym) (erased : List Bool) (locator evaluator : Poly) (places : n ≤ 63) (is_erasures : erasures ≡ erased_below erased n) (within : erasures ≤ checks) (some : 2 ≤ checks)
+    (few : checks ≤ 22) (is_half : half ≡ (checks - erasures) / 2) (lowered_full : length lowered ≡ 32)
+    (is_lowered : (k : ℕ) → k < 32 → coefficient gf64 lowered k ≡ times_erasures n erased n (coefficient gf64 syndromes) k) (key : IsKey (take (erasures + 2 * half - erasures) (drop erasures lowered)) locator evaluator)
     (front_full : length front ≡ 32) (is_front : (k : ℕ) → k < 32 → coefficient gf64 front k ≡ coefficient_of locator k) where
   symbols : List Sym
-  symbols = take (marks + 2 * half - marks) (drop marks lowered)
+  symbols = take (erasures + 2 * half - erasures) (drop erasures lowered)
 
   long : length symbols ≡ 2 * half
   unfolding symbols
-  long = omega (arith, length-take (marks + 2 * half - marks) (drop marks lowered), length-drop marks lowered)
+  long = omega (arith, length-take (erasures + 2 * half - erasures) (drop erasures lowered), length-drop erasures lowered)
 
-  is : (r : ℕ) → r < 2 * half → coefficient gf64 symbols r ≡ times_marks n erased n (coefficient gf64 syndromes) (marks_below erased n + r)
+  is : (r : ℕ) → r < 2 * half → coefficient gf64 symbols r ≡ times_erasures n erased n (coefficient gf64 syndromes) (erased_below erased n + r)
   unfolding symbols
   is r low =
-      part_read lowered marks (marks + 2 * half - marks) r (omega arith)
-      ∙ is_lowered (marks + r) (omega arith)
-      ∙ ap (λ m. times_marks n erased n (coefficient gf64 syndromes) (m + r)) is_marks
+      part_read lowered erasures (erasures + 2 * half - erasures) r (omega arith)
+      ∙ is_lowered (erasures + r) (omega arith)
+      ∙ ap (λ m. times_erasures n erased n (coefficient gf64 syndromes) (m + r)) is_erasures
 
   short : IsShort gf64 (half + 1) (coefficient_of locator)
   unfolding symbols
@@ -272,40 +272,40 @@ module _ (n checks marks half : ℕ) (syndromes lowered front : List Sym) (erase
   front_is : (k : ℕ) → coefficient gf64 front k ≡ coefficient_of locator k
   front_is = front_everywhere (half + 1) (coefficient_of locator) front front_full short (omega arith) is_front
 
-  pub located_first : (e : List Sym) → ((k : ℕ) → k < 32 → coefficient gf64 e k ≡ coefficient_of evaluator k) → (k : ℕ) → k + marks < half + marks
-      → coefficient gf64 e k ≡ product_at gf64 (coefficient gf64 front) (λ r. times_marks n erased n (coefficient gf64 syndromes) (marks + r)) k
+  pub located_first : (e : List Sym) → ((k : ℕ) → k < 32 → coefficient gf64 e k ≡ coefficient_of evaluator k) → (k : ℕ) → k + erasures < half + erasures
+      → coefficient gf64 e k ≡ product_at gf64 (coefficient gf64 front) (λ r. times_erasures n erased n (coefficient gf64 syndromes) (erasures + r)) k
   unfolding symbols
   located_first e is_e k low =
       evaluator_first n checks half syndromes symbols erased locator evaluator places few (omega arith) (omega arith) (omega arith) long is key (coefficient gf64 e) is_e k (omega arith)
-      ∙ ap (λ m. product_at gf64 (coefficient_of locator) (λ r. times_marks n erased n (coefficient gf64 syndromes) (m + r)) k) (sym is_marks)
-      ∙ product_same_left gf64 (coefficient_of locator) (coefficient gf64 front) (λ r. times_marks n erased n (coefficient gf64 syndromes) (marks + r)) (λ i. sym (front_is i)) k
+      ∙ ap (λ m. product_at gf64 (coefficient_of locator) (λ r. times_erasures n erased n (coefficient gf64 syndromes) (m + r)) k) (sym is_erasures)
+      ∙ product_same_left gf64 (coefficient_of locator) (coefficient gf64 front) (λ r. times_erasures n erased n (coefficient gf64 syndromes) (erasures + r)) (λ i. sym (front_is i)) k
 
   pub located : (m : ℕ) (new e : List Sym) (i : ℕ) → i ≡ 0 → length new ≡ 32 → 1 ≤ m → IsShort gf64 (m + 1) (coefficient gf64 new)
       → ((k : ℕ) → 1 ≤ k → IsShort gf64 (k + 1) (coefficient gf64 new) → m ≤ k)
-      → ((k : ℕ) → k < 32 → coefficient gf64 new k ≡ times_marks n erased n (coefficient gf64 front) k)
-      → ((k : ℕ) → k + i < half + marks → coefficient gf64 e k ≡ product_at gf64 (coefficient gf64 front) (λ r. times_marks n erased n (coefficient gf64 syndromes) (i + r)) k)
-      → IsLocator n checks syndromes erased m (coefficient gf64 new) (coefficient gf64 e) × (m ≤ half + marks)
+      → ((k : ℕ) → k < 32 → coefficient gf64 new k ≡ times_erasures n erased n (coefficient gf64 front) k)
+      → ((k : ℕ) → k + i < half + erasures → coefficient gf64 e k ≡ product_at gf64 (coefficient gf64 front) (λ r. times_erasures n erased n (coefficient gf64 syndromes) (i + r)) k)
+      → IsLocator n checks syndromes erased m (coefficient gf64 new) (coefficient gf64 e) × (m ≤ half + erasures)
   unfolding symbols
   located m new e i none new_full positive short_new least is_new is_e = (
     key_is_locator n checks half syndromes symbols erased locator evaluator places few (omega arith) (omega arith) (omega arith) long is key m (coefficient gf64 new) (coefficient gf64 e) positive (omega (arith, bound)) short_new everywhere
         (λ k low.
         is_e k (omega arith)
-        ∙ product_same_left gf64 (coefficient gf64 front) (coefficient_of locator) (λ r. times_marks n erased n (coefficient gf64 syndromes) (i + r)) front_is k
-        ∙ product_same gf64 (coefficient_of locator) (λ r. times_marks n erased n (coefficient gf64 syndromes) (i + r)) (times_marks n erased n (coefficient gf64 syndromes))
-        (λ r. ap (times_marks n erased n (coefficient gf64 syndromes)) (at r)) k),
+        ∙ product_same_left gf64 (coefficient gf64 front) (coefficient_of locator) (λ r. times_erasures n erased n (coefficient gf64 syndromes) (i + r)) front_is k
+        ∙ product_same gf64 (coefficient_of locator) (λ r. times_erasures n erased n (coefficient gf64 syndromes) (i + r)) (times_erasures n erased n (coefficient gf64 syndromes))
+        (λ r. ap (times_erasures n erased n (coefficient gf64 syndromes)) (at r)) k),
     bound,
   )
     where
       at : (r : ℕ) → i + r ≡ r
       at r = omega arith
 
-      whole : IsShort gf64 (half + 1 + marks_below erased n) (times_marks n erased n (coefficient_of locator))
-      whole = short_times_marks n erased (half + 1) n (coefficient_of locator) short
+      whole : IsShort gf64 (half + 1 + erased_below erased n) (times_erasures n erased n (coefficient_of locator))
+      whole = short_times_erasures n erased (half + 1) n (coefficient_of locator) short
 
-      everywhere : (k : ℕ) → coefficient gf64 new k ≡ times_marks n erased n (coefficient_of locator) k
+      everywhere : (k : ℕ) → coefficient gf64 new k ≡ times_erasures n erased n (coefficient_of locator) k
       everywhere =
-          front_everywhere (half + 1 + marks_below erased n) (times_marks n erased n (coefficient_of locator)) new new_full whole (omega arith)
-          (λ k low. is_new k low ∙ ap (λ (g : ℕ → Sym). times_marks n erased n g k) (same_function (coefficient gf64 front) (coefficient_of locator) front_is))
+          front_everywhere (half + 1 + erased_below erased n) (times_erasures n erased n (coefficient_of locator)) new new_full whole (omega arith)
+          (λ k low. is_new k low ∙ ap (λ (g : ℕ → Sym). times_erasures n erased n g k) (same_function (coefficient gf64 front) (coefficient_of locator) front_is))
 
-      bound : m ≤ half + marks
-      bound = least (half + marks) (omega arith) (record { above = λ k high. everywhere k ∙ whole.above k (omega arith) })
+      bound : m ≤ half + erasures
+      bound = least (half + erasures) (omega arith) (record { above = λ k high. everywhere k ∙ whole.above k (omega arith) })

@@ -3,7 +3,7 @@ use Rattle.std.proofs.Common.{◌≡◌, ℕ, ◌+◌, ◌-◌, ◌*◌, ◌<◌
 use Rattle.std.proofs.lemmas.Bool.{cond_both}
 use Rattle.std.proofs.lemmas.List.{get_or-take, get_or-replicate, length-take, length-replicate}
 use Rattle.p25_bits.specs.Distance.{distance_by}
-use Rattle.p25_code.specs.Marks.{marked, marked_cost}
+use Rattle.p25_code.specs.Erasures.{without_erased, erased_cost}
 use Rattle.p25_gf64.specs.declared.symbol.Sym.{Sym}
 use Rattle.p25_gf64.specs.Gf64.{gf64}
 use Rattle.p25_gf64.proofs.FieldLaws.{add_self, add_zero, add_twice}
@@ -11,18 +11,18 @@ use Rattle.p25_algebra.specs.Sums.{nonzeros, power_sum}
 use Rattle.p25_algebra.specs.Series.{coefficient}
 use Rattle.p25_reed_solomon.specs.Words.{IsCode, IsWord, value_of, same_symbols}
 use Rattle.p25_reed_solomon.specs.DistanceLaws.{distance-nonzeros}
-use Rattle.p25_reed_solomon.specs.Errors.{element_of, is_marked, marks_below, unmarked, Explains}
+use Rattle.p25_reed_solomon.specs.Errors.{element_of, is_erased, erased_below, kept_errors, Explains}
 use Rattle.p25_reed_solomon.specs.ValueLaws.{value-power_sum, front_value-add, front_value_same}
 use Rattle.p25_reed_solomon.proofs.ErrorsLaws.{nonzeros_same, zeros_count}
 use Rattle.p25_reed_solomon.proofs.CostLaws.{cost-errors}
 
 -- the errors between a received word and a word of the code that costs little explain the syndromes
 pub difference_explains : (n k : ℕ) (received word syndromes : List Sym) (erased : List Bool) → IsCode n k → length received ≡ n → length erased ≡ n → IsWord n k word
-    → ((r : ℕ) → r < n - k → coefficient gf64 syndromes r ≡ value_of n received (r + 1)) → marked_cost same_symbols (marked received erased) word ≤ n - k
+    → ((r : ℕ) → r < n - k → coefficient gf64 syndromes r ≡ value_of n received (r + 1)) → erased_cost same_symbols (without_erased received erased) word ≤ n - k
     → Explains n (n - k) syndromes erased (λ j. gf64.add (coefficient gf64 received j) (coefficient gf64 word j))
-difference_explains n k received word syndromes erased code long marks of_code are near =
+difference_explains n k received word syndromes erased code long erasures of_code are near =
     let errors : ℕ → Sym = λ j. gf64.add (coefficient gf64 received j) (coefficient gf64 word j) in
-    let cost = cost-errors received word erased (long ∙ sym of_code.long) (marks ∙ sym long) ∙ ap (λ m. 2 * nonzeros gf64 m (unmarked erased errors) + marks_below erased m) long in
+    let cost = cost-errors received word erased (long ∙ sym of_code.long) (erasures ∙ sym long) ∙ ap (λ m. 2 * nonzeros gf64 m (kept_errors erased errors) + erased_below erased m) long in
     record {
       few = omega (arith, cost);
       sums = λ r below.
@@ -35,26 +35,26 @@ difference_explains n k received word syndromes erased code long marks of_code a
 
 -- the cost of the word that errors make
 pub cost_of_errors : (n k : ℕ) (received word syndromes : List Sym) (erased : List Bool) (errors : ℕ → Sym) → length received ≡ n → length word ≡ n → length erased ≡ n → Explains n (n - k) syndromes erased errors
-    → ((j : ℕ) → j < n → coefficient gf64 word j ≡ gf64.add (coefficient gf64 received j) (errors j)) → marked_cost same_symbols (marked received erased) word ≤ n - k
-cost_of_errors n k received word syndromes erased errors long_received long marks explains is =
+    → ((j : ℕ) → j < n → coefficient gf64 word j ≡ gf64.add (coefficient gf64 received j) (errors j)) → erased_cost same_symbols (without_erased received erased) word ≤ n - k
+cost_of_errors n k received word syndromes erased errors long_received long erasures explains is =
     let sum : ℕ → Sym = λ j. gf64.add (coefficient gf64 received j) (coefficient gf64 word j) in
-    let cost = cost-errors received word erased (long_received ∙ sym long) (marks ∙ sym long_received) ∙ ap (λ m. 2 * nonzeros gf64 m (unmarked erased sum) + marks_below erased m) long_received in
-    let same = nonzeros_same n (unmarked erased sum) (unmarked erased errors)
-    (λ j low. ap (cond (is_marked erased j) gf64.zero) (ap (gf64.add (coefficient gf64 received j)) (is j low) ∙ add_twice gf64 (coefficient gf64 received j) (errors j))) in
+    let cost = cost-errors received word erased (long_received ∙ sym long) (erasures ∙ sym long_received) ∙ ap (λ m. 2 * nonzeros gf64 m (kept_errors erased sum) + erased_below erased m) long_received in
+    let same = nonzeros_same n (kept_errors erased sum) (kept_errors erased errors)
+    (λ j low. ap (cond (is_erased erased j) gf64.zero) (ap (gf64.add (coefficient gf64 received j)) (is j low) ∙ add_twice gf64 (coefficient gf64 received j) (errors j))) in
     omega (arith, cost, same, explains.few)
 
 -- the cost of what was received, and of any word
-pub cost_of_received : (n : ℕ) (received : List Sym) (erased : List Bool) → length received ≡ n → length erased ≡ n → marked_cost same_symbols (marked received erased) received ≡ marks_below erased n
-cost_of_received n received erased long marks =
+pub cost_of_received : (n : ℕ) (received : List Sym) (erased : List Bool) → length received ≡ n → length erased ≡ n → erased_cost same_symbols (without_erased received erased) received ≡ erased_below erased n
+cost_of_received n received erased long erasures =
     let sum : ℕ → Sym = λ j. gf64.add (coefficient gf64 received j) (coefficient gf64 received j) in
-    let cost = cost-errors received received erased refl (marks ∙ sym long) ∙ ap (λ m. 2 * nonzeros gf64 m (unmarked erased sum) + marks_below erased m) long in
-    let none = zeros_count n (unmarked erased sum) (λ j. cond_both (is_marked erased j) gf64.zero (sum j) (λ s. s ≡ gf64.zero) (λ here. refl) (λ plain. add_self gf64 (coefficient gf64 received j))) in
+    let cost = cost-errors received received erased refl (erasures ∙ sym long) ∙ ap (λ m. 2 * nonzeros gf64 m (kept_errors erased sum) + erased_below erased m) long in
+    let none = zeros_count n (kept_errors erased sum) (λ j. cond_both (is_erased erased j) gf64.zero (sum j) (λ s. s ≡ gf64.zero) (λ here. refl) (λ kept. add_self gf64 (coefficient gf64 received j))) in
     omega (arith, cost, none)
 
-pub cost_of_marks : (n : ℕ) (received word : List Sym) (erased : List Bool) → length received ≡ n → length word ≡ n → length erased ≡ n → marks_below erased n ≤ marked_cost same_symbols (marked received erased) word
-cost_of_marks n received word erased long_received long marks =
-    let cost = cost-errors received word erased (long_received ∙ sym long) (marks ∙ sym long_received) in
-    omega (arith, cost, ap (marks_below erased) long_received)
+pub cost_of_erasures : (n : ℕ) (received word : List Sym) (erased : List Bool) → length received ≡ n → length word ≡ n → length erased ≡ n → erased_below erased n ≤ erased_cost same_symbols (without_erased received erased) word
+cost_of_erasures n received word erased long_received long erasures =
+    let cost = cost-errors received word erased (long_received ∙ sym long) (erasures ∙ sym long_received) in
+    omega (arith, cost, ap (erased_below erased) long_received)
 
 -- errors that explain the syndromes make a word of the code of what was received
 pub corrected : (n k : ℕ) (received word syndromes : List Sym) (erased : List Bool) (errors : ℕ → Sym) → IsCode n k → length received ≡ n → length word ≡ n
@@ -92,6 +92,6 @@ without_errors n k received syndromes long are zeros =
           ap (value_of n received) (sym place) ∙ sym (are r (omega arith)) ∙ zeros r (omega arith);
     }
 
--- a list without a mark
-pub no_marks : (n : ℕ) → All (λ gone. gone ≡ false) (take n (replicate 63 false))
-no_marks n k d low = get_or-take n (replicate 63 false) k d (omega (arith, length-take n (replicate 63 false))) ∙ get_or-replicate 63 k false d (omega (arith, length-take n (replicate 63 false), length-replicate 63 false))
+-- a list without an erasure
+pub no_erasures : (n : ℕ) → All (λ gone. gone ≡ false) (take n (replicate 63 false))
+no_erasures n k d low = get_or-take n (replicate 63 false) k d (omega (arith, length-take n (replicate 63 false))) ∙ get_or-replicate 63 k false d (omega (arith, length-take n (replicate 63 false), length-replicate 63 false))

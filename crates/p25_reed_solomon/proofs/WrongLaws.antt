@@ -1,4 +1,4 @@
--- The wrong places of a word without a mark are the zeros of its locator.
+-- The wrong places of a word without an erasure are the zeros of its locator.
 use Rattle.std.proofs.Common.{◌≡◌, ◌≢◌, ◌↔◌, ℕ, zero, suc, ◌+◌, ◌-◌, ◌*◌, ◌<◌, ◌≤◌, Bool, false, List, length, take, replicate, inl, inr, ap, sym, ◌∙◌, arith}
 use Rattle.std.proofs.lemmas.Bool.{cases_lt, cond-false}
 use Rattle.std.proofs.lemmas.List.{get_or-take, get_or_past, length-take}
@@ -12,31 +12,31 @@ use Rattle.p25_algebra.proofs.ValueLaws.{value_same}
 use Rattle.p25_reed_solomon.specs.Words.{IsCode, IsWord, value_of, same_symbols}
 use Rattle.p25_reed_solomon.specs.DistanceLaws.{distance-nonzeros}
 use Rattle.p25_reed_solomon.specs.ValueLaws.{value-power_sum, front_value-add}
-use Rattle.p25_reed_solomon.specs.Errors.{point_of, is_marked, marks_below, unmarked, Explains, AreErrors}
+use Rattle.p25_reed_solomon.specs.Errors.{point_of, is_erased, erased_below, kept_errors, Explains, AreErrors}
 use Rattle.p25_reed_solomon.specs.Locator.{IsLocator}
-use Rattle.p25_reed_solomon.proofs.MarksLaws.{marks_below-none, marks_below-plain}
+use Rattle.p25_reed_solomon.proofs.ErasuresLaws.{erased_below-none, erased_below-kept}
 use Rattle.p25_reed_solomon.proofs.ErrorsLaws.{nonzeros_same}
-use Rattle.p25_reed_solomon.proofs.ReaderLaws.{no_marks}
+use Rattle.p25_reed_solomon.proofs.ReaderLaws.{no_erasures}
 
-no_mark : (n j : ℕ) → is_marked (take n (replicate 63 false)) j ≡ false
-no_mark n j =
+no_erasure : (n j : ℕ) → is_erased (take n (replicate 63 false)) j ≡ false
+no_erasure n j =
     elim (cases_lt j (length (take n (replicate 63 false)))) [
-      | inl low ↦ no_marks n j false low
+      | inl low ↦ no_erasures n j false low
       | inr high ↦ get_or_past (take n (replicate 63 false)) j false high
     ]
 
-no_marks_below : (erased : List Bool) → ((j : ℕ) → is_marked erased j ≡ false) → (n : ℕ) → marks_below erased n ≡ 0
-no_marks_below erased none zero = marks_below-none erased
-no_marks_below erased none (suc n) = marks_below-plain erased n (none n) ∙ no_marks_below erased none n
+none_erased_below : (erased : List Bool) → ((j : ℕ) → is_erased erased j ≡ false) → (n : ℕ) → erased_below erased n ≡ 0
+none_erased_below erased none zero = erased_below-none erased
+none_erased_below erased none (suc n) = erased_below-kept erased n (none n) ∙ none_erased_below erased none n
 
--- no place of a list without a mark is marked
-pub none_marked : (n m : ℕ) → marks_below (take n (replicate 63 false)) m ≡ 0
-none_marked n m = no_marks_below (take n (replicate 63 false)) (no_mark n) m
+-- no place of a list without an erasure is erased
+pub none_erased : (n m : ℕ) → erased_below (take n (replicate 63 false)) m ≡ 0
+none_erased n m = none_erased_below (take n (replicate 63 false)) (no_erasure n) m
 
--- without a mark
-plain_explains : (n checks : ℕ) (syndromes : List Sym) (erased : List Bool) (errors : ℕ → Sym) → ((j : ℕ) → is_marked erased j ≡ false) → AreErrors n checks syndromes errors → Explains n checks syndromes erased errors
-plain_explains n checks syndromes erased errors none are = record {
-  few = omega (arith, are.few, nonzeros_same n (unmarked erased errors) errors (λ j low. cond-false (is_marked erased j) gf64.zero (errors j) (none j)), no_marks_below erased none n);
+-- without an erasure
+kept_explains : (n checks : ℕ) (syndromes : List Sym) (erased : List Bool) (errors : ℕ → Sym) → ((j : ℕ) → is_erased erased j ≡ false) → AreErrors n checks syndromes errors → Explains n checks syndromes erased errors
+kept_explains n checks syndromes erased errors none are = record {
+  few = omega (arith, are.few, nonzeros_same n (kept_errors erased errors) errors (λ j low. cond-false (is_erased erased j) gf64.zero (errors j) (none j)), none_erased_below erased none n);
   sums = are.sums;
 }
 
@@ -45,12 +45,12 @@ pub wrong_exactly : (n checks most : ℕ) (syndromes locator : List Sym) (evalua
     → AreErrors n checks syndromes errors → (value : Sym) (j : ℕ) → j < n → most + 1 ≤ length locator
     → value ≡ value_at gf64 (length (take (most + 1) locator)) (coefficient gf64 (take (most + 1) locator)) (point_of n j) → (value ≡ gf64.zero) ↔ (errors j ≢ gf64.zero)
 wrong_exactly n checks most syndromes locator evaluator errors is are value j inside fits is_value = (
-  (λ none. is.found errors explains j inside (no_mark n j) (sym same ∙ sym is_value ∙ none)),
+  (λ none. is.found errors explains j inside (no_erasure n j) (sym same ∙ sym is_value ∙ none)),
   (λ other. is_value ∙ same ∙ is.wrong errors explains j inside other),
 )
   where
     explains : Explains n checks syndromes (take n (replicate 63 false)) errors
-    explains = plain_explains n checks syndromes (take n (replicate 63 false)) errors (no_mark n) are
+    explains = kept_explains n checks syndromes (take n (replicate 63 false)) errors (no_erasure n) are
 
     long : length (take (most + 1) locator) ≡ most + 1
     long = omega (arith, length-take (most + 1) locator)

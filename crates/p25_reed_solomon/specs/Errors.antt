@@ -1,4 +1,4 @@
--- Errors of a received word: what is added to it at each place. Places may be marked: what stands there is not known.
+-- Errors of a received word: what is added to it at each place. Places may be erased: what stands there is not known.
 use Rattle.std.specs.Prelude.{◌≡◌, ℕ, zero, suc, ◌+◌, ◌-◌, ◌*◌, ◌<◌, ◌≤◌, Bool, false, List, length, slice_index_or, eqb, cond}
 use Rattle.p25_gf64.specs.declared.symbol.Sym.{Sym}
 use Rattle.p25_gf64.specs.Field.{power}
@@ -15,26 +15,26 @@ element_of n j = power gf64 alpha (n - 1 - j)
 abbrev pub point_of : ℕ → ℕ → Sym
 point_of n j = gf64.inverse (element_of n j)
 
--- whether a place is marked
-abbrev pub is_marked : List Bool → ℕ → Bool
-is_marked erased j = slice_index_or erased j false
+-- whether a place is erased
+abbrev pub is_erased : List Bool → ℕ → Bool
+is_erased erased j = slice_index_or erased j false
 
--- how many of the places 0 to n - 1 are marked
-unfoldable pub marks_below : List Bool → ℕ → ℕ
-marks_below erased zero = 0
-marks_below erased (suc n) = marks_below erased n + cond (is_marked erased n) 1 0
+-- how many of the places 0 to n - 1 are erased
+unfoldable pub erased_below : List Bool → ℕ → ℕ
+erased_below erased zero = 0
+erased_below erased (suc n) = erased_below erased n + cond (is_erased erased n) 1 0
 
--- the errors at places that are not marked
-abbrev pub unmarked : List Bool → (ℕ → Sym) → ℕ → Sym
-unmarked erased errors j = cond (is_marked erased j) gf64.zero (errors j)
+-- the errors at places that are not erased
+abbrev pub kept_errors : List Bool → (ℕ → Sym) → ℕ → Sym
+kept_errors erased errors j = cond (is_erased erased j) gf64.zero (errors j)
 
--- these errors explain so many syndromes: twice the wrong places that are not marked, and the marked places, are no more than these,
+-- these errors explain so many syndromes: twice the wrong places that are not erased, and the erased places, are no more than these,
 -- and the power sums of the errors are the syndromes
 pub record Explains (n checks : ℕ) (syndromes : List Sym) (erased : List Bool) (errors : ℕ → Sym) : Type 0 where
-  pub few : 2 * nonzeros gf64 n (unmarked erased errors) + marks_below erased n ≤ checks
+  pub few : 2 * nonzeros gf64 n (kept_errors erased errors) + erased_below erased n ≤ checks
   pub sums : (r : ℕ) → r < checks → power_sum gf64 n (element_of n) errors (r + 1) ≡ coefficient gf64 syndromes r
 
--- these errors, without a mark, explain so many syndromes: they are half as many at most
+-- these errors, without an erasure, explain so many syndromes: they are half as many at most
 pub record AreErrors (n checks : ℕ) (syndromes : List Sym) (errors : ℕ → Sym) : Type 0 where
   pub few : 2 * nonzeros gf64 n errors ≤ checks
   pub sums : (r : ℕ) → r < checks → power_sum gf64 n (element_of n) errors (r + 1) ≡ coefficient gf64 syndromes r

@@ -1,22 +1,22 @@
--- Locators of the places of a received word that are marked or wrong, and their evaluators.
+-- Locators of the places of a received word that are erased or wrong, and their evaluators.
 use Rattle.std.specs.Prelude.{◌≡◌, ◌≢◌, ℕ, zero, suc, ◌+◌, ◌<◌, Bool, true, false, List, cond}
 use Rattle.p25_gf64.specs.declared.symbol.Sym.{Sym}
 use Rattle.p25_gf64.specs.Gf64.{gf64}
 use Rattle.p25_algebra.specs.Series.{value_at, slope_at, times_linear, IsZero, IsShort}
-use Rattle.p25_reed_solomon.specs.Errors.{element_of, point_of, is_marked, Explains}
+use Rattle.p25_reed_solomon.specs.Errors.{element_of, point_of, is_erased, Explains}
 
--- a polynomial times 1 + x times the element of each marked place below `upto`, among n
-unfoldable pub times_marks : ℕ → List Bool → ℕ → (ℕ → Sym) → ℕ → Sym
-times_marks n erased zero f = f
-times_marks n erased (suc j) f = cond (is_marked erased j) (times_linear gf64 (element_of n j) (times_marks n erased j f)) (times_marks n erased j f)
+-- a polynomial times 1 + x times the element of each erased place below `upto`, among n
+unfoldable pub times_erasures : ℕ → List Bool → ℕ → (ℕ → Sym) → ℕ → Sym
+times_erasures n erased zero f = f
+times_erasures n erased (suc j) f = cond (is_erased erased j) (times_linear gf64 (element_of n j) (times_erasures n erased j f)) (times_erasures n erased j f)
 
--- a polynomial of degree `most` at most that vanishes at the points of the marked places and, for any errors that explain the
+-- a polynomial of degree `most` at most that vanishes at the points of the erased places and, for any errors that explain the
 -- syndromes, at those of the wrong ones. Where it vanishes, the error times its slope is the evaluator's value and the slope is not
--- zero, so the error is known; and a place where it vanishes and that is not marked is wrong
+-- zero, so the error is known; and a place where it vanishes and that is not erased is wrong
 pub record IsLocator (n checks : ℕ) (syndromes : List Sym) (erased : List Bool) (most : ℕ) (locator evaluator : ℕ → Sym) : Type 0 where
   pub short : IsShort gf64 (most + 1) locator
   pub nonzero : IsZero gf64 locator → ⊥
-  pub marked : (j : ℕ) → j < n → is_marked erased j ≡ true → value_at gf64 (most + 1) locator (point_of n j) ≡ gf64.zero
+  pub gone : (j : ℕ) → j < n → is_erased erased j ≡ true → value_at gf64 (most + 1) locator (point_of n j) ≡ gf64.zero
   pub wrong : (errors : ℕ → Sym) → Explains n checks syndromes erased errors → (j : ℕ) → j < n → errors j ≢ gf64.zero
       → value_at gf64 (most + 1) locator (point_of n j) ≡ gf64.zero
   pub slope : (errors : ℕ → Sym) → Explains n checks syndromes erased errors → (j : ℕ) → j < n
@@ -24,5 +24,5 @@ pub record IsLocator (n checks : ℕ) (syndromes : List Sym) (erased : List Bool
   pub value : (errors : ℕ → Sym) → Explains n checks syndromes erased errors → (j : ℕ) → j < n
       → value_at gf64 (most + 1) locator (point_of n j) ≡ gf64.zero
       → gf64.mul (errors j) (slope_at gf64 (most + 1) locator (point_of n j)) ≡ value_at gf64 most evaluator (point_of n j)
-  pub found : (errors : ℕ → Sym) → Explains n checks syndromes erased errors → (j : ℕ) → j < n → is_marked erased j ≡ false
+  pub found : (errors : ℕ → Sym) → Explains n checks syndromes erased errors → (j : ℕ) → j < n → is_erased erased j ≡ false
       → value_at gf64 (most + 1) locator (point_of n j) ≡ gf64.zero → errors j ≢ gf64.zero

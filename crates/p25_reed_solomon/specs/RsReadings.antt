@@ -1,10 +1,10 @@
--- The readings of the Reed-Solomon codes as functions, of symbols and of lists with marks: symbols are searched by their numbers, and
+-- The readings of the Reed-Solomon codes as functions, of symbols and of lists with erasures: symbols are searched by their numbers, and
 -- whether a word vanishes is tested at each power of α.
 use Rattle.std.specs.Prelude.{◌≡◌, ◌⊎◌, ℕ, zero, suc, ◌+◌, ◌-◌, ◌*◌, ◌<◌, ◌≤◌, List, length, Option}
 use Rattle.std.proofs.Common.{ap, sym, subst, ◌∙◌, inl, inr, arith, lit≤}
 use Rattle.std.proofs.lemmas.Bool.{cases_eq}
 use Rattle.p25_code.specs.Readings.{Tested, Searched, reading_of, IsReadAs, IsReadAs-reading_of}
-use Rattle.p25_code.specs.MarkedReadings.{marked_reading_of, IsMarkedReadAs, IsMarkedReadAs-marked_reading_of}
+use Rattle.p25_code.specs.ErasedReadings.{erased_reading_of, IsErasedReadAs, IsErasedReadAs-erased_reading_of}
 use Rattle.p25_gf64.specs.declared.symbol.Sym.{Sym}
 use Rattle.p25_gf64.specs.Symbol.{number, symbol_of, same_symbol}
 use Rattle.p25_gf64.specs.Gf64.{gf64}
@@ -79,19 +79,19 @@ pub rs_reads_as : (n k : ℕ) (received : List Sym) → IsReadAs same_symbols (I
 unfolding rs_reading_of
 rs_reads_as n k = IsReadAs-reading_of symbols_searched same_symbols (IsWord n k) (IsWord-tested n k) n (radius_of n k) (length_of_word_of n k)
 
--- the word that costs at most n - k, two for each wrong symbol and one for each mark, or none
-pub rs_marked_reading_of : (n k : ℕ) → List (Option Sym) → Option (List Sym)
-rs_marked_reading_of n k = marked_reading_of symbols_searched same_symbols (IsWord n k) (IsWord-tested n k) n (n - k)
+-- the word that costs at most n - k, two for each wrong symbol and one for each erasure, or none
+pub rs_erased_reading_of : (n k : ℕ) → List (Option Sym) → Option (List Sym)
+rs_erased_reading_of n k = erased_reading_of symbols_searched same_symbols (IsWord n k) (IsWord-tested n k) n (n - k)
 
 -- it is the reading
-pub rs_marked_reads_as : (n k : ℕ) (list : List (Option Sym)) → IsMarkedReadAs same_symbols (IsWord n k) (n - k) list (rs_marked_reading_of n k list)
-unfolding rs_marked_reading_of
-rs_marked_reads_as n k = IsMarkedReadAs-marked_reading_of symbols_searched same_symbols (IsWord n k) (IsWord-tested n k) n (n - k) (length_of_word_of n k)
+pub rs_erased_reads_as : (n k : ℕ) (list : List (Option Sym)) → IsErasedReadAs same_symbols (IsWord n k) (n - k) list (rs_erased_reading_of n k list)
+unfolding rs_erased_reading_of
+rs_erased_reads_as n k = IsErasedReadAs-erased_reading_of symbols_searched same_symbols (IsWord n k) (IsWord-tested n k) n (n - k) (length_of_word_of n k)
 
--- twice the radius is the number of check symbols, so a list without a mark is read as the symbols are
+-- twice the radius is the number of check symbols, so a list without an erasure is read as the symbols are
 pub checks_twice_radius : (n k : ℕ) → IsCode n k → n - k ≡ 2 * radius_of n k
 checks_twice_radius n k code = sym code.even
 
--- fewer marks are allowed than two words differ in symbols
-pub marks_within_of : (n k : ℕ) → n - k < n - k + 1
-marks_within_of n k = omega arith
+-- fewer erasures are allowed than two words differ in symbols
+pub erasures_within_of : (n k : ℕ) → n - k < n - k + 1
+erasures_within_of n k = omega arith

@@ -2,7 +2,7 @@ ghost use Rattle.std.specs.Prelude.{◌≡◌, ◌+◌, ◌-◌, ◌/◌};
 ghost use Rattle.p25_gf64.proofs.SymbolLaws.{same_from_eq};
 ghost use Rattle.p25_reed_solomon.specs.Words.{IsCode, IsWord, radius_of};
 ghost use Rattle.p25_reed_solomon.specs.WordLaws.{begins_of, length_of_word_of, one_word_of, within_of, words_apart};
-ghost use Rattle.p25_reed_solomon.specs.RsReadings.{marks_within_of, rs_marked_reading_of, rs_marked_reads_as, rs_reading_of, rs_reads_as};
+ghost use Rattle.p25_reed_solomon.specs.RsReadings.{erasures_within_of, rs_erased_reading_of, rs_erased_reads_as, rs_reading_of, rs_reads_as};
 
 use crate::encoder::encode;
 use crate::reader::{read, read_erased};
@@ -65,11 +65,11 @@ impl<const N: usize, const K: usize> BlockCode for Rs<N, K> {
 }
 
 impl<const N: usize, const K: usize> ErasedCode for Rs<N, K> {
-    ghost marked_reading_is = { rs_marked_reading_of N K };
+    ghost erased_reading_is = { rs_erased_reading_of N K };
 
-    ghost marked_reads_as = { λ _. rs_marked_reads_as N K };
+    ghost erased_reads_as = { λ _. rs_erased_reads_as N K };
 
-    ghost marks_within = { λ _. marks_within_of N K };
+    ghost erasures_within = { λ _. erasures_within_of N K };
 
     fn read_erased(word: &mut [Sym], erased: &[bool]) -> Reading {
         read_erased(word, K, erased)

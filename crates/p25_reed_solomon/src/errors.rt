@@ -4,7 +4,7 @@ ghost use Rattle.std.specs.Prelude.{◌≡◌, ◌≢◌, ℕ, ◌+◌, ◌*◌,
 ghost use Rattle.p25_gf64.specs.declared.symbol.Sym.{Sym};
 ghost use Rattle.p25_gf64.specs.Gf64.{gf64};
 ghost use Rattle.p25_algebra.specs.Series.{coefficient};
-ghost use Rattle.p25_reed_solomon.specs.Errors.{Explains, marks_below, placed};
+ghost use Rattle.p25_reed_solomon.specs.Errors.{Explains, erased_below, placed};
 
 use crate::locator::locate;
 use crate::sums::are_sums;
@@ -12,7 +12,7 @@ use crate::values::fill_errors;
 use crate::zeros::zeros;
 use p25_gf64::Sym;
 
-// Sets `out` to errors that explain the first `checks` syndromes of a word with these marks, and answers true, exactly where some do.
+// Sets `out` to errors that explain the first `checks` syndromes of a word with these erasures, and answers true, exactly where some do.
 pub(crate) fn find_errors(
     syndromes: &[Sym],
     checks: usize,
@@ -20,7 +20,7 @@ pub(crate) fn find_errors(
     out: &mut [Sym],
 ) -> bool
     requires places { length erased.now ≤ 63 }
-    requires marks { marks_below erased.now (length erased.now) ≤ checks }
+    requires erasures { erased_below erased.now (length erased.now) ≤ checks }
     requires some { 2 ≤ checks }
     requires few { checks ≤ 22 }
     requires syndromes { length syndromes.now ≡ 32 }

@@ -28,8 +28,8 @@
 //! assert_eq!(word, sent);
 //! ```
 //!
-//! With `read_erased` some symbols are marked as not known. A word is then read where twice the wrong symbols without a mark, and
-//! the marks, are at most N - K together:
+//! With `read_erased` some symbols are erased. A word is then read where twice the wrong symbols without an erasure, and
+//! the erasures, are at most N - K together:
 //!
 //! ```text
 //! use p25_code::ErasedCode;
@@ -41,17 +41,17 @@
 //! ```
 //!
 //! The encoder divides by the generator polynomial. The reader is one for both calls. It makes the syndromes of what was received, and
-//! a word whose syndromes are zero is answered at once. From the syndromes, times a factor for each mark, the key equation gives a
+//! a word whose syndromes are zero is answered at once. From the syndromes, times a factor for each erasure, the key equation gives a
 //! polynomial that vanishes at the wrong places; its zeros, and its evaluator divided by its slope there (Forney's formula), give the
 //! errors. It answers Found only once the power sums of these are the syndromes. No call takes memory or fails.
 #![tactic(auto)]
 
 mod code;
 mod encoder;
+mod erasures;
 mod errors;
 pub mod laws;
 mod locator;
-mod marks;
 mod points;
 mod reader;
 mod sums;

@@ -1,19 +1,19 @@
-//! The locator: a polynomial that vanishes at the inverse of the element of each place that is marked or wrong, and its evaluator.
+//! The locator: a polynomial that vanishes at the inverse of the element of each place that is erased or wrong, and its evaluator.
 
 ghost use Rattle.std.specs.Prelude.{◌≡◌, ℕ, ◌+◌, ◌*◌, ◌/◌, ◌<◌, ◌≤◌, length};
 ghost use Rattle.p25_gf64.specs.Gf64.{gf64};
 ghost use Rattle.p25_algebra.specs.Series.{coefficient, IsShort};
 ghost use Rattle.p25_poly.specs.Key.{IsKey};
 ghost use Rattle.p25_poly.specs.Polynomial.{coefficient_of};
-ghost use Rattle.p25_reed_solomon.specs.Errors.{marks_below};
+ghost use Rattle.p25_reed_solomon.specs.Errors.{erased_below};
 ghost use Rattle.p25_reed_solomon.specs.Locator.{IsLocator};
 
-use crate::marks::{count_marks, multiply_by_marks, multiply_by_x_and_add};
+use crate::erasures::{count_erasures, multiply_by_erasures, multiply_by_x_and_add};
 use p25_gf64::Sym;
 use p25_poly::{Key, Poly, key_solve};
 
-// Sets `locator` and `evaluator` to a locator of the first `checks` syndromes of a word with marks, and its evaluator: the solution
-// of the key equation of the syndromes times the factor of each mark, and this factor again. Answers the locator's degree, or 1.
+// Sets `locator` and `evaluator` to a locator of the first `checks` syndromes of a word with erasures, and its evaluator: the solution
+// of the key equation of the syndromes times the factor of each erasure, and this factor again. Answers the locator's degree, or 1.
 pub(crate) fn locate(
     syndromes: &[Sym],
     checks: usize,
@@ -22,27 +22,27 @@ pub(crate) fn locate(
     evaluator: &mut [Sym],
 ) -> usize
     requires places { length erased.now ≤ 63 }
-    requires marks { marks_below erased.now (length erased.now) ≤ checks }
+    requires erasures { erased_below erased.now (length erased.now) ≤ checks }
     requires some { 2 ≤ checks }
     requires few { checks ≤ 22 }
     requires syndromes { length syndromes.now ≡ 32 }
     requires locator { length locator.old ≡ 32 }
     requires evaluator { length evaluator.old ≡ 32 }
     ensures locator { IsLocator (length erased.now) checks syndromes.now erased.now result (coefficient gf64 locator.new) (coefficient gf64 evaluator.new) }
-    ensures most { 2 * result ≤ checks + marks_below erased.now (length erased.now) }
+    ensures most { 2 * result ≤ checks + erased_below erased.now (length erased.now) }
 {
-    let marks = count_marks(erased);
-    let half = (checks - marks) / 2;
+    let erasures = count_erasures(erased);
+    let half = (checks - erasures) / 2;
     let mut lowered = [Sym::default(); 32];
     lowered.copy_from_slice(syndromes);
-    multiply_by_marks(&mut lowered, erased);
-    let key = key_of(&lowered[marks..marks + 2 * half]);
+    multiply_by_erasures(&mut lowered, erased);
+    let key = key_of(&lowered[erasures..erasures + 2 * half]);
     fill_front(&key.locator, locator);
     fill_front(&key.evaluator, evaluator);
-    for i in (0..marks).rev() {
+    for i in (0..erasures).rev() {
         multiply_by_x_and_add(evaluator, lowered[i], locator);
     }
-    multiply_by_marks(locator, erased);
+    multiply_by_erasures(locator, erased);
     degree_bound(locator)
 }
 

@@ -1,20 +1,20 @@
-//! The reader of a received word, with marks or without.
+//! The reader of a received word, with erasures or without.
 
 ghost use Rattle.std.specs.Prelude.{◌≡◌, ℕ, ◌-◌, ◌<◌, ◌≤◌, length};
 ghost use Rattle.p25_gf64.specs.Gf64.{gf64};
 ghost use Rattle.p25_algebra.specs.Sums.{nonzeros};
 ghost use Rattle.p25_algebra.specs.Series.{coefficient};
 ghost use Rattle.p25_code.specs.Words.{IsReading};
-ghost use Rattle.p25_code.specs.Marks.{marked, IsMarkedReading};
+ghost use Rattle.p25_code.specs.Erasures.{without_erased, IsErasedReading};
 ghost use Rattle.p25_reed_solomon.specs.Words.{IsCode, IsWord, radius_of, same_symbols};
 
+use crate::erasures::count_erasures;
 use crate::errors::find_errors;
-use crate::marks::count_marks;
 use crate::syndromes::{all_zero, fill_syndromes};
 use p25_code::Reading;
 use p25_gf64::Sym;
 
-// Reads a received word of the code with k information symbols to the radius: as one without a mark.
+// Reads a received word of the code with k information symbols to the radius: as one without an erasure.
 pub(crate) fn read(word: &mut [Sym], k: usize) -> Reading
     requires { IsCode (length word.old) k }
     ensures { IsReading same_symbols (IsWord (length word.old) k) (radius_of (length word.old) k) word.old word.new result }
@@ -23,15 +23,15 @@ pub(crate) fn read(word: &mut [Sym], k: usize) -> Reading
     read_erased(word, k, &[false; 63][..n])
 }
 
-// Reads a received word with marks of the code with k information symbols, to a cost of as many as there are check symbols: the errors
+// Reads a received word with erasures of the code with k information symbols, to a cost of as many as there are check symbols: the errors
 // that explain its syndromes are taken away.
 pub(crate) fn read_erased(word: &mut [Sym], k: usize, erased: &[bool]) -> Reading
     requires code { IsCode (length word.old) k }
     requires erased { length erased.now ≡ length word.old }
-    ensures { IsMarkedReading same_symbols (IsWord (length word.old) k) (length word.old - k) (marked word.old erased.now) word.old word.new result }
+    ensures { IsErasedReading same_symbols (IsWord (length word.old) k) (length word.old - k) (without_erased word.old erased.now) word.old word.new result }
 {
     let checks = word.len() - k;
-    if count_marks(erased) > checks {
+    if count_erasures(erased) > checks {
         return Reading::Beyond;
     }
     let mut syndromes = [Sym::default(); 32];

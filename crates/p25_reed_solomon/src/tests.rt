@@ -8,7 +8,7 @@ use self::words::{
     BEYOND_24_12, BEYOND_24_16, BEYOND_36_20, FOUND_24_12, FOUND_24_16, FOUND_36_20,
 };
 use crate::Rs;
-use p25_code::{BlockCode, Reading, encode_then_read, read_marked, read_received};
+use p25_code::{BlockCode, Reading, encode_then_read, read_received, read_with_erasures};
 use p25_gf64::Sym;
 use std::process::Abort;
 
@@ -105,8 +105,8 @@ fn with_wrong<const N: usize>(sent: &[Sym; N], count: usize) -> [Sym; N] {
     word
 }
 
-// So many marks after the first places.
-fn marks_behind<const N: usize>(first: usize, count: usize) -> [bool; N] {
+// So many erasures after the first places.
+fn erased_from<const N: usize>(first: usize, count: usize) -> [bool; N] {
     let mut erased = [false; N];
     for gone in erased.iter_mut().skip(first).take(count) {
         *gone = true;
@@ -114,49 +114,49 @@ fn marks_behind<const N: usize>(first: usize, count: usize) -> [bool; N] {
     erased
 }
 
-// A word so many of whose first symbols are wrong is read, some of which are marked.
-fn assert_marked<const N: usize, const K: usize>(
+// A word so many of whose first symbols are wrong is read, some of which are erased.
+fn assert_erased<const N: usize, const K: usize>(
     rt: &impl Abort,
     sent: &[Sym; N],
-    marks: usize,
+    erasures: usize,
     fixes: u32,
 )
     requires { IsCode N K }
 {
     let mut word = with_wrong::<N>(sent, fixes as usize);
-    let reading = read_marked::<Rs<N, K>>(&mut word, &marks_behind::<N>(0, marks));
+    let reading = read_with_erasures::<Rs<N, K>>(&mut word, &erased_from::<N>(0, erasures));
     assert_eq!(rt; reading, Reading::Found { fixes });
     assert_eq!(rt; word, *sent);
 }
 
-// A word is read with so many marks, and as many wrong symbols after them as there may be: each mark costs one, each wrong symbol
+// A word is read with so many erasures, and as many wrong symbols after them as there may be: each erasure costs one, each wrong symbol
 // two.
-fn assert_marks<const N: usize, const K: usize>(rt: &impl Abort, sent: &str)
+fn assert_erasures<const N: usize, const K: usize>(rt: &impl Abort, sent: &str)
     requires { IsCode N K }
 {
     let sent = symbols_of::<N>(sent);
-    for marks in 0..N - K + 1 {
-        for wrong in 0..(N - K - marks) / 2 + 1 {
-            assert_marked::<N, K>(rt, &sent, marks, (marks + wrong) as u32);
+    for erasures in 0..N - K + 1 {
+        for wrong in 0..(N - K - erasures) / 2 + 1 {
+            assert_erased::<N, K>(rt, &sent, erasures, (erasures + wrong) as u32);
         }
     }
 }
 
 // The coefficients of (x - α)(x - α^2)..(x - α^(N - K - 1)), which stand in the check symbols, differ from each word of the code in
-// N - K symbols at least. So with fewer marks than that no word costs so little as is allowed, one too much with one mark less, and
+// N - K symbols at least. So with fewer erasures than that no word costs so little as is allowed, one too much with one erasure less, and
 // with as many the word is read.
-fn assert_too_few_marks<const N: usize, const K: usize>(rt: &impl Abort, received: &str)
+fn assert_too_few_erasures<const N: usize, const K: usize>(rt: &impl Abort, received: &str)
     requires { IsCode N K }
 {
     let received = symbols_of::<N>(received);
-    for marks in 0..N - K + 1 {
+    for erasures in 0..N - K + 1 {
         let mut word = received;
-        let reading = read_marked::<Rs<N, K>>(&mut word, &marks_behind::<N>(K, marks));
-        if marks < N - K {
+        let reading = read_with_erasures::<Rs<N, K>>(&mut word, &erased_from::<N>(K, erasures));
+        if erasures < N - K {
             assert_eq!(rt; reading, Reading::Beyond);
             assert_eq!(rt; word, received);
         } else {
-            let fixes = marks as u32;
+            let fixes = erasures as u32;
             assert_eq!(rt; reading, Reading::Found { fixes });
             assert_eq!(rt; word, [Sym::default(); N]);
         }
@@ -164,23 +164,23 @@ fn assert_too_few_marks<const N: usize, const K: usize>(rt: &impl Abort, receive
 }
 
 #[test]
-fn reads_with_marks(rt: HostRuntime) {
-    assert_marks::<36, 20>(
+fn reads_with_erasures(rt: HostRuntime) {
+    assert_erasures::<36, 20>(
         &rt,
         "270175232777377521255315260744575571261610414715134206634110723660117725",
     );
-    assert_marks::<24, 12>(&rt, "035000476356506273717415466536506351313017440371");
-    assert_marks::<24, 16>(&rt, "031163745554154624037047554717145530440712313622");
+    assert_erasures::<24, 12>(&rt, "035000476356506273717415466536506351313017440371");
+    assert_erasures::<24, 16>(&rt, "031163745554154624037047554717145530440712313622");
 }
 
 #[test]
-fn reads_no_more_than_the_marks_allow(rt: HostRuntime) {
-    assert_too_few_marks::<36, 20>(
+fn reads_no_more_than_the_erasures_allow(rt: HostRuntime) {
+    assert_too_few_erasures::<36, 20>(
         &rt,
         "000000000000000000000000000000000000000001177110152336315267373505657576",
     );
-    assert_too_few_marks::<24, 12>(&rt, "000000000000000000000000017414212573160627644310");
-    assert_too_few_marks::<24, 16>(&rt, "000000000000000000000000000000000173053132213534");
+    assert_too_few_erasures::<24, 12>(&rt, "000000000000000000000000017414212573160627644310");
+    assert_too_few_erasures::<24, 16>(&rt, "000000000000000000000000000000000173053132213534");
 }
 
 #[test]

@@ -65,6 +65,6 @@ sessions_text sessions = cond (nat_lt 1 sessions) (codes " sessions=" ++ decimal
 -- the text that closes a run, without the end of its line
 unfoldable pub closing_text_of : WorldState → List ℕ
 closing_text_of world =
-    codes "sent=" ++ decimal (length world.link.outbound.sent) ++ codes " delivered=" ++ decimal (length world.link.inbound.received)
-    ++ codes " acknowledged=" ++ decimal world.link.outbound.acknowledged ++ codes " false=" ++ decimal world.false_passes
-    ++ sessions_text (length world.link.outbound.marks + 1)
+    codes "sent=" ++ decimal (length world.delivery.outbound.sent) ++ codes " delivered=" ++ decimal (length world.delivery.inbound.received)
+    ++ codes " acknowledged=" ++ decimal world.delivery.outbound.acknowledged ++ codes " false=" ++ decimal world.false_passes
+    ++ sessions_text (length world.delivery.outbound.marks + 1)

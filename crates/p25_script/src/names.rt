@@ -12,7 +12,7 @@ pub enum EventKind {
     Send,
     /// Time is up.
     Timeout,
-    /// The link is to be opened again.
+    /// The session is to be opened again.
     Reopen,
     /// The newest transmission of one direction is delivered.
     Deliver,

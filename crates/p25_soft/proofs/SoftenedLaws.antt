@@ -6,7 +6,7 @@ use Rattle.p25_bits.specs.Bits.{part}
 use Rattle.p25_bits.specs.Numbers.{joined_below}
 use Rattle.p25_bits.proofs.NumbersLaws.{each_below-same, each_below-list, joined_below-same, joined_below-parts}
 use Rattle.p25_bits.proofs.PartLaws.{drop-is_part}
-use Rattle.p25_status.specs.Woven.{woven, plain_of, statuses_of}
+use Rattle.p25_status.specs.Woven.{woven, bare_of, statuses_of}
 use Rattle.p25_status.specs.declared.fields.Field.{Field}
 use Rattle.p25_status.specs.declared.symbols.Status.{Status}
 use Rattle.p25_status.proofs.WovenLaws.{woven-of}
@@ -14,7 +14,7 @@ use Rattle.p25_trellis.specs.Tables.{half_point, three_quarter_point}
 use Rattle.p25_packet_blocks.specs.Lengths.{packet_sent_length}
 use Rattle.p25_packet_blocks.specs.Reading.{block_bits}
 use Rattle.p25_soft.specs.SoftPaths.{soft_block}
-use Rattle.p25_soft.specs.Softened.{block_levels, blocks_replaced, blocks_to_follow, names_all, names_block, sent_dibit, softened_block, softened_packet, softened_plain}
+use Rattle.p25_soft.specs.Softened.{block_levels, blocks_replaced, blocks_to_follow, names_all, names_block, sent_dibit, softened_block, softened_packet, softened_bare}
 
 -- one more level of a block
 pub levels_more : (levels block : List ℤ) (j i : ℕ) (level : ℤ) → i < length block → ((k : ℕ) → k < i → get_or block k (pos 0) ≡ get_or levels (sent_dibit (154 + 98 * j + k)) (pos 0))
@@ -47,25 +47,25 @@ unfolding sent_dibit
 sent_dibit-inside n levels long = omega arith
 
 -- a block where the packet CRC fails
-pub softened_block-all : (fields : List Field) (levels : List ℤ) (plain : List Bool) (j : ℕ) → names_all fields ≡ true → softened_block fields levels plain j ≡ soft_block 4 half_point (block_levels levels j)
+pub softened_block-all : (fields : List Field) (levels : List ℤ) (bare : List Bool) (j : ℕ) → names_all fields ≡ true → softened_block fields levels bare j ≡ soft_block 4 half_point (block_levels levels j)
 unfolding softened_block
-softened_block-all fields levels plain j all =
-    cond-true (names_all fields) (soft_block 4 half_point (block_levels levels j)) (cond (names_block fields j) (soft_block 8 three_quarter_point (block_levels levels j)) (block_bits plain j)) all
+softened_block-all fields levels bare j all =
+    cond-true (names_all fields) (soft_block 4 half_point (block_levels levels j)) (cond (names_block fields j) (soft_block 8 three_quarter_point (block_levels levels j)) (block_bits bare j)) all
 
 -- one that fails itself
-pub softened_block-named : (fields : List Field) (levels : List ℤ) (plain : List Bool) (j : ℕ) → names_all fields ≡ false → names_block fields j ≡ true
-    → softened_block fields levels plain j ≡ soft_block 8 three_quarter_point (block_levels levels j)
+pub softened_block-named : (fields : List Field) (levels : List ℤ) (bare : List Bool) (j : ℕ) → names_all fields ≡ false → names_block fields j ≡ true
+    → softened_block fields levels bare j ≡ soft_block 8 three_quarter_point (block_levels levels j)
 unfolding softened_block
-softened_block-named fields levels plain j not_all named =
-    cond-false (names_all fields) (soft_block 4 half_point (block_levels levels j)) (cond (names_block fields j) (soft_block 8 three_quarter_point (block_levels levels j)) (block_bits plain j)) not_all
-    ∙ cond-true (names_block fields j) (soft_block 8 three_quarter_point (block_levels levels j)) (block_bits plain j) named
+softened_block-named fields levels bare j not_all named =
+    cond-false (names_all fields) (soft_block 4 half_point (block_levels levels j)) (cond (names_block fields j) (soft_block 8 three_quarter_point (block_levels levels j)) (block_bits bare j)) not_all
+    ∙ cond-true (names_block fields j) (soft_block 8 three_quarter_point (block_levels levels j)) (block_bits bare j) named
 
 -- and one that does not
-pub softened_block-kept : (fields : List Field) (levels : List ℤ) (plain : List Bool) (j : ℕ) → names_all fields ≡ false → names_block fields j ≡ false → softened_block fields levels plain j ≡ block_bits plain j
+pub softened_block-kept : (fields : List Field) (levels : List ℤ) (bare : List Bool) (j : ℕ) → names_all fields ≡ false → names_block fields j ≡ false → softened_block fields levels bare j ≡ block_bits bare j
 unfolding softened_block
-softened_block-kept fields levels plain j not_all not_named =
-    cond-false (names_all fields) (soft_block 4 half_point (block_levels levels j)) (cond (names_block fields j) (soft_block 8 three_quarter_point (block_levels levels j)) (block_bits plain j)) not_all
-    ∙ cond-false (names_block fields j) (soft_block 8 three_quarter_point (block_levels levels j)) (block_bits plain j) not_named
+softened_block-kept fields levels bare j not_all not_named =
+    cond-false (names_all fields) (soft_block 4 half_point (block_levels levels j)) (cond (names_block fields j) (soft_block 8 three_quarter_point (block_levels levels j)) (block_bits bare j)) not_all
+    ∙ cond-false (names_block fields j) (soft_block 8 three_quarter_point (block_levels levels j)) (block_bits bare j) not_named
 
 pub blocks_replaced-zero : (fields : List Field) → 0 ≡ blocks_replaced fields 0
 unfolding blocks_replaced
@@ -76,15 +76,15 @@ unfolding blocks_replaced
 blocks_replaced-more fields n = ap (blocks_replaced fields) (add-one n)
 
 -- the unit with its blocks replaced, as it is put together
-pub softened_plain-from : (fields : List Field) (levels : List ℤ) (n count : ℕ) (plain none start blocks whole : List Bool) → none ≡ [] → start ≡ none ++ part 0 308 plain
-    → blocks ≡ start ++ joined_below n (softened_block fields levels plain) → count ≡ length plain → whole ≡ blocks ++ part (308 + 196 * n) (count - (308 + 196 * n)) plain
-    → whole ≡ softened_plain fields levels n plain
-unfolding softened_plain
-softened_plain-from fields levels n count plain none start blocks whole none_is start_is blocks_are count_is whole_is =
-    let middle = joined_below n (softened_block fields levels plain) in
-    let first : start ≡ take 308 plain = start_is ∙ ap (λ (xs : List Bool). xs ++ part 0 308 plain) none_is in
-    let last : part (308 + 196 * n) (count - (308 + 196 * n)) plain ≡ drop (308 + 196 * n) plain
-    = ap (λ c. part (308 + 196 * n) (c - (308 + 196 * n)) plain) count_is ∙ sym (drop-is_part (308 + 196 * n) plain) in
+pub softened_bare-from : (fields : List Field) (levels : List ℤ) (n count : ℕ) (bare none start blocks whole : List Bool) → none ≡ [] → start ≡ none ++ part 0 308 bare
+    → blocks ≡ start ++ joined_below n (softened_block fields levels bare) → count ≡ length bare → whole ≡ blocks ++ part (308 + 196 * n) (count - (308 + 196 * n)) bare
+    → whole ≡ softened_bare fields levels n bare
+unfolding softened_bare
+softened_bare-from fields levels n count bare none start blocks whole none_is start_is blocks_are count_is whole_is =
+    let middle = joined_below n (softened_block fields levels bare) in
+    let first : start ≡ take 308 bare = start_is ∙ ap (λ (xs : List Bool). xs ++ part 0 308 bare) none_is in
+    let last : part (308 + 196 * n) (count - (308 + 196 * n)) bare ≡ drop (308 + 196 * n) bare
+    = ap (λ c. part (308 + 196 * n) (c - (308 + 196 * n)) bare) count_is ∙ sym (drop-is_part (308 + 196 * n) bare) in
     whole_is ∙ ap₂ (λ (xs ys : List Bool). xs ++ ys) (blocks_are ∙ ap (λ (xs : List Bool). xs ++ middle) first) last
 
 none_of_two : (a b : Bool) → ◌≡◌ {A = ℕ} (cond (a || b) 1 0) 0 → (a ≡ false) × (b ≡ false)
@@ -93,39 +93,39 @@ none_of_two false true e = absurd (omega arith)
 none_of_two false false e = (refl, refl)
 
 -- where none is replaced each block stays
-blocks_kept : (fields : List Field) (levels : List ℤ) (plain : List Bool) (n : ℕ) → blocks_replaced fields n ≡ 0 → (j : ℕ) → j < n → softened_block fields levels plain j ≡ block_bits plain j
+blocks_kept : (fields : List Field) (levels : List ℤ) (bare : List Bool) (n : ℕ) → blocks_replaced fields n ≡ 0 → (j : ℕ) → j < n → softened_block fields levels bare j ≡ block_bits bare j
 unfolding blocks_replaced
-blocks_kept fields levels plain zero none j below = absurd (omega arith)
-blocks_kept fields levels plain (suc n) none j below =
+blocks_kept fields levels bare zero none j below = absurd (omega arith)
+blocks_kept fields levels bare (suc n) none j below =
     let before : blocks_replaced fields n ≡ 0 = omega arith in
     let here : ◌≡◌ {A = ℕ} (cond (names_all fields || names_block fields n) 1 0) 0 = omega arith in
     let both = none_of_two (names_all fields) (names_block fields n) here in
     let more : j < n + 1 = omega arith in
-    below_more (λ k. softened_block fields levels plain k ≡ block_bits plain k) n (blocks_kept fields levels plain n before) (softened_block-kept fields levels plain n both.0 both.1) j more
+    below_more (λ k. softened_block fields levels bare k ≡ block_bits bare k) n (blocks_kept fields levels bare n before) (softened_block-kept fields levels bare n both.0 both.1) j more
 
-softened_plain-kept : (fields : List Field) (levels : List ℤ) (n : ℕ) (plain : List Bool) → blocks_replaced fields n ≡ 0 → softened_plain fields levels n plain ≡ plain
-unfolding softened_plain
-softened_plain-kept fields levels n plain none =
-    let blocks : joined_below n (softened_block fields levels plain) ≡ take (196 * n) (drop 308 plain)
-    = joined_below-same n (softened_block fields levels plain) (block_bits plain) (blocks_kept fields levels plain n none) ∙ joined_below-parts 308 196 n plain in
-    let last : drop (308 + 196 * n) plain ≡ drop (196 * n) (drop 308 plain) = sym (drop-drop (196 * n) 308 plain) in
-    append_assoc (take 308 plain) (joined_below n (softened_block fields levels plain)) (drop (308 + 196 * n) plain)
-    ∙ ap (λ (xs : List Bool). take 308 plain ++ xs) (ap₂ (λ (xs ys : List Bool). xs ++ ys) blocks last ∙ take-append-drop (196 * n) (drop 308 plain))
-    ∙ take-append-drop 308 plain
+softened_bare-kept : (fields : List Field) (levels : List ℤ) (n : ℕ) (bare : List Bool) → blocks_replaced fields n ≡ 0 → softened_bare fields levels n bare ≡ bare
+unfolding softened_bare
+softened_bare-kept fields levels n bare none =
+    let blocks : joined_below n (softened_block fields levels bare) ≡ take (196 * n) (drop 308 bare)
+    = joined_below-same n (softened_block fields levels bare) (block_bits bare) (blocks_kept fields levels bare n none) ∙ joined_below-parts 308 196 n bare in
+    let last : drop (308 + 196 * n) bare ≡ drop (196 * n) (drop 308 bare) = sym (drop-drop (196 * n) 308 bare) in
+    append_assoc (take 308 bare) (joined_below n (softened_block fields levels bare)) (drop (308 + 196 * n) bare)
+    ∙ ap (λ (xs : List Bool). take 308 bare ++ xs) (ap₂ (λ (xs ys : List Bool). xs ++ ys) blocks last ∙ take-append-drop (196 * n) (drop 308 bare))
+    ∙ take-append-drop 308 bare
 
 -- where none is replaced all bits stay
 pub softened_packet-kept : (fields : List Field) (levels : List ℤ) (sent : List Bool) (parts : ℕ) → length sent ≡ 72 * parts → blocks_replaced fields (blocks_to_follow sent) ≡ 0 → softened_packet fields levels sent ≡ sent
 unfolding softened_packet
 softened_packet-kept fields levels sent parts long none =
-    ap (λ (plain : List Bool). woven plain (statuses_of sent)) (softened_plain-kept fields levels (blocks_to_follow sent) (plain_of sent) none) ∙ woven-of parts sent long
+    ap (λ (bare : List Bool). woven bare (statuses_of sent)) (softened_bare-kept fields levels (blocks_to_follow sent) (bare_of sent) none) ∙ woven-of parts sent long
 
 -- all of it as it is sent
-pub softened_packet-from : (fields : List Field) (levels : List ℤ) (sent received plain softened_bits whole : List Bool) (statuses : List Status) (n : ℕ) → received ≡ sent → plain ≡ plain_of received
-    → statuses ≡ statuses_of received → n ≡ blocks_to_follow sent → softened_bits ≡ softened_plain fields levels n plain → whole ≡ woven softened_bits statuses
+pub softened_packet-from : (fields : List Field) (levels : List ℤ) (sent received bare softened_bits whole : List Bool) (statuses : List Status) (n : ℕ) → received ≡ sent → bare ≡ bare_of received
+    → statuses ≡ statuses_of received → n ≡ blocks_to_follow sent → softened_bits ≡ softened_bare fields levels n bare → whole ≡ woven softened_bits statuses
     → whole ≡ softened_packet fields levels sent
 unfolding softened_packet
-softened_packet-from fields levels sent received plain softened_bits whole statuses n same plain_is statuses_are n_is bits_are whole_is =
+softened_packet-from fields levels sent received bare softened_bits whole statuses n same bare_is statuses_are n_is bits_are whole_is =
     whole_is
     ∙ ap₂ (λ (bits : List Bool) (s : List Status). woven bits s)
-    (bits_are ∙ ap₂ (λ k (xs : List Bool). softened_plain fields levels k xs) n_is (plain_is ∙ ap plain_of same))
+    (bits_are ∙ ap₂ (λ k (xs : List Bool). softened_bare fields levels k xs) n_is (bare_is ∙ ap bare_of same))
     (statuses_are ∙ ap statuses_of same)

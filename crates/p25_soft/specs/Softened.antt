@@ -2,7 +2,7 @@
 use Rattle.std.specs.Prelude.{◌≡◌, ℕ, zero, suc, ◌+◌, ◌*◌, ◌/◌, Bool, true, false, ◌||◌, cond, nat_eq, List, ◌++◌, length, take, drop, ℤ, pos, slice_index_or, Result, Ok, Err, if◌then◌else◌}
 use Rattle.std.specs.List.{list_any}
 use Rattle.p25_bits.specs.Numbers.{each_below, joined_below}
-use Rattle.p25_status.specs.Woven.{woven, plain_of, statuses_of}
+use Rattle.p25_status.specs.Woven.{woven, bare_of, statuses_of}
 use Rattle.p25_status.specs.declared.fields.Field.{Field}
 use Rattle.p25_status.specs.declared.fields.Field.TheVariants.{PacketCrc, Block}
 use Rattle.p25_trellis.specs.Tables.{half_point, three_quarter_point}
@@ -47,10 +47,10 @@ names_block fields j = list_any (is_block j) fields
 -- the block at place j of a broken packet: where the packet CRC fails the sent bits of its soft path at half rate, where
 -- the block itself fails those at three-quarter rate, and else what it was
 unfoldable pub softened_block : List Field → List ℤ → List Bool → ℕ → List Bool
-softened_block fields levels plain j =
+softened_block fields levels bare j =
     if names_all fields
     then soft_block 4 half_point (block_levels levels j)
-    else (if names_block fields j then soft_block 8 three_quarter_point (block_levels levels j) else block_bits plain j)
+    else (if names_block fields j then soft_block 8 three_quarter_point (block_levels levels j) else block_bits bare j)
 
 -- how many of the first n blocks are replaced
 unfoldable pub blocks_replaced : List Field → ℕ → ℕ
@@ -67,12 +67,12 @@ unfoldable pub blocks_to_follow : List Bool → ℕ
 blocks_to_follow sent = told_blocks (sent_head_of sent)
 
 -- the unit of a packet with n blocks to follow, without status symbols, its blocks replaced
-unfoldable pub softened_plain : List Field → List ℤ → ℕ → List Bool → List Bool
-softened_plain fields levels n plain = take 308 plain ++ joined_below n (softened_block fields levels plain) ++ drop (308 + 196 * n) plain
+unfoldable pub softened_bare : List Field → List ℤ → ℕ → List Bool → List Bool
+softened_bare fields levels n bare = take 308 bare ++ joined_below n (softened_block fields levels bare) ++ drop (308 + 196 * n) bare
 
 -- the sent bits of a broken packet, its blocks replaced
 unfoldable pub softened_packet : List Field → List ℤ → List Bool → List Bool
-softened_packet fields levels sent = woven (softened_plain fields levels (blocks_to_follow sent) (plain_of sent)) (statuses_of sent)
+softened_packet fields levels sent = woven (softened_bare fields levels (blocks_to_follow sent) (bare_of sent)) (statuses_of sent)
 
 -- the bits of an item, the blocks of a broken packet replaced
 unfoldable pub softened : Item → List ℤ → List Bool → List Bool

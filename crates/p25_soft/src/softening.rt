@@ -15,7 +15,7 @@ use p25_trellis::{Half, Rate, ThreeQuarter, encode_block};
 use p25_units::Item;
 
 // How many dibits of a unit stand before each of its status symbols.
-const PLAIN_DIBITS: usize = 35;
+const BARE_DIBITS: usize = 35;
 
 // The number of blocks to follow that the header of a packet tells.
 fn told_blocks(sent: &BitBuf) -> usize
@@ -75,7 +75,7 @@ fn levels_of(levels: &[i8], j: usize) -> [i8; BLOCK_LEVELS]
     let mut block = [0; BLOCK_LEVELS];
     for i in 0..BLOCK_LEVELS {
         let dibit = first + i;
-        block[i] = levels[dibit + dibit / PLAIN_DIBITS];
+        block[i] = levels[dibit + dibit / BARE_DIBITS];
     }
     block
 }
@@ -95,12 +95,12 @@ fn append_soft<R: Rate>(levels: &[i8], out: &mut BitBuf)
 
 // Appends the block at a place, read from its levels where it fails or the packet CRC does, and answers how many blocks were
 // read so, 1 or 0.
-fn append_block(fields: &FieldList, levels: &[i8], plain: &BitBuf, j: u8, out: &mut BitBuf) -> u32
+fn append_block(fields: &FieldList, levels: &[i8], bare: &BitBuf, j: u8, out: &mut BitBuf) -> u32
     requires place { j ≤ 126 }
     requires levels { sent_dibit (154 + 98 * j + 97) < length levels.now }
-    requires there { 308 + 196 * j + 196 ≤ length plain.now }
+    requires there { 308 + 196 * j + 196 ≤ length bare.now }
     requires room { length out.old + 196 ≤ 25928 }
-    ensures list { out.new ≡ out.old ++ softened_block fields.now levels.now plain.now j }
+    ensures list { out.new ≡ out.old ++ softened_block fields.now levels.now bare.now j }
     ensures len { length out.new ≡ length out.old + 196 }
     ensures count { result ≡ (if names_all fields.now || names_block fields.now j then 1 else 0) }
     ensures few { result ≤ 1 }
@@ -114,7 +114,7 @@ fn append_block(fields: &FieldList, levels: &[i8], plain: &BitBuf, j: u8, out: &
         append_soft::<ThreeQuarter>(&levels_of(levels, place), out);
         return 1;
     }
-    out.append(plain, BLOCKS_AT + BLOCK_LENGTH * place, BLOCK_LENGTH);
+    out.append(bare, BLOCKS_AT + BLOCK_LENGTH * place, BLOCK_LENGTH);
     0
 }
 
@@ -122,21 +122,21 @@ fn append_block(fields: &FieldList, levels: &[i8], plain: &BitBuf, j: u8, out: &
 fn append_blocks(
     fields: &FieldList,
     levels: &[i8],
-    plain: &BitBuf,
+    bare: &BitBuf,
     blocks: usize,
     out: &mut BitBuf,
 ) -> u32
     requires few { blocks ≤ 127 }
     requires levels { sent_dibit (153 + 98 * blocks) < length levels.now }
-    requires there { 308 + 196 * blocks ≤ length plain.now }
+    requires there { 308 + 196 * blocks ≤ length bare.now }
     requires room { length out.old + 196 * blocks ≤ 25928 }
-    ensures list { out.new ≡ out.old ++ joined_below blocks (softened_block fields.now levels.now plain.now) }
+    ensures list { out.new ≡ out.old ++ joined_below blocks (softened_block fields.now levels.now bare.now) }
     ensures len { length out.new ≡ length out.old + 196 * blocks }
     ensures count { result ≡ blocks_replaced fields.now blocks }
 {
     let mut count = 0;
     for j in 0..blocks {
-        count += append_block(fields, levels, plain, j as u8, out);
+        count += append_block(fields, levels, bare, j as u8, out);
     }
     count
 }
@@ -151,14 +151,14 @@ fn soften_packet(fields: &FieldList, levels: &[i8], raw: &mut BitBuf) -> u32
     ensures kept { result ≡ 0 → raw.new ≡ raw.old }
 {
     let blocks = told_blocks(raw);
-    let mut plain = BitBuf::new();
+    let mut bare = BitBuf::new();
     let mut statuses = Statuses::new();
-    unweave(raw, 0, raw.len(), &mut plain, &mut statuses);
+    unweave(raw, 0, raw.len(), &mut bare, &mut statuses);
     let mut softened = BitBuf::new();
-    softened.append(&plain, 0, BLOCKS_AT);
-    let count = append_blocks(fields, levels, &plain, blocks, &mut softened);
+    softened.append(&bare, 0, BLOCKS_AT);
+    let count = append_blocks(fields, levels, &bare, blocks, &mut softened);
     let behind = BLOCKS_AT + BLOCK_LENGTH * blocks;
-    softened.append(&plain, behind, plain.len() - behind);
+    softened.append(&bare, behind, bare.len() - behind);
     weave(&softened, &statuses, raw);
     count
 }

@@ -63,21 +63,21 @@ const FORMAT_17: [u64; 6] = [
 
 // The first bits of some words, the most significant bit first, and then bits 0, with the status symbol 0 throughout.
 fn sent(words: &[u64], len: usize) -> BitBuf {
-    let mut plain = BitBuf::new();
+    let mut bare = BitBuf::new();
     for place in 0..len {
-        if plain.len() < 25_200 {
+        if bare.len() < 25_200 {
             let word = if place / 64 < words.len() {
                 words[place / 64]
             } else {
                 0
             };
-            plain.push((word >> (63 - place % 64)) & 1 == 1);
+            bare.push((word >> (63 - place % 64)) & 1 == 1);
         }
     }
-    let statuses = Statuses::filled(Status::default(), (plain.len() / 70).min(360));
+    let statuses = Statuses::filled(Status::default(), (bare.len() / 70).min(360));
     let mut out = BitBuf::new();
-    if 70 * statuses.len() == plain.len() {
-        weave(&plain, &statuses, &mut out);
+    if 70 * statuses.len() == bare.len() {
+        weave(&bare, &statuses, &mut out);
     }
     out
 }

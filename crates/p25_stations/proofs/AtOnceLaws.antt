@@ -1,5 +1,5 @@
 -- What comes of deliveries within radius: a message is taken, delivered and acknowledged, and a sender that is down opens
--- again. By the laws of links, each delivery heard as it was sent.
+-- again. By the laws of deliveries, each packet heard as it was sent.
 use Rattle.std.proofs.Common.{◌≡◌, ℕ, Bool, true, false, List, [], ◌∷◌, length, Option, Some, None, refl, ap, ap₂, sym, subst, ◌∙◌}
 use Rattle.std.specs.Prelude.{IfSome}
 use Rattle.std.proofs.lemmas.Bool.{cond-true}
@@ -24,10 +24,10 @@ use Rattle.p25_delivery.specs.declared.receiver.Heard.TheVariants.{Delivered as 
 use Rattle.p25_delivery.specs.declared.step_kind.Way.{Way}
 use Rattle.p25_delivery.specs.declared.step_kind.Way.TheVariants.{Packets, Answers}
 use Rattle.p25_delivery.specs.HalfRules.{after_offer, after_reopening, after_data, after_answer}
-use Rattle.p25_delivery.specs.Link.{Link, first_link, Happening, newest_after, with_outbound, with_inbound, happens, link_run}
-use Rattle.p25_delivery.specs.Clean.{IsCleanRun as IsCleanLink}
+use Rattle.p25_delivery.specs.Delivery.{Delivery, first_delivery, Happening, newest_after, with_outbound, with_inbound, happens, delivery_run}
+use Rattle.p25_delivery.specs.Clean.{IsCleanRun as IsCleanDelivery}
 use Rattle.p25_delivery.specs.AtOnce.{DeliversAtOnce, OpensAtOnce}
-use Rattle.p25_delivery.proofs.LinkLaws.{run-delivers}
+use Rattle.p25_delivery.proofs.DeliveryLaws.{run-delivers}
 use Rattle.p25_delivery.proofs.AtOnceLaws.{opens-down}
 use Rattle.p25_stations.specs.declared.step.Event.{Event}
 use Rattle.p25_stations.specs.declared.step.Event.TheVariants.{Send, Reopen, ToReceiver, ToSender}
@@ -42,8 +42,8 @@ use Rattle.p25_stations.specs.Steps.{quiet_step, counted_when, heard_by, newest_
 use Rattle.p25_stations.specs.Runs.{IsEvent, AreEvents, world_run, steps_of}
 use Rattle.p25_stations.specs.RunLaws.{IsWithin, AreWithin, true_step}
 use Rattle.p25_stations.proofs.AirLaws.{ReadsWithin, air-within}
-use Rattle.p25_stations.proofs.SoundLaws.{IsSoundLink, step-sound, run-sound, first-sound}
-use Rattle.p25_stations.proofs.CleanLaws.{from-links}
+use Rattle.p25_stations.proofs.SoundLaws.{IsSoundDelivery, step-sound, run-sound, first-sound}
+use Rattle.p25_stations.proofs.CleanLaws.{from-deliveries}
 use Rattle.p25_stations.proofs.FalsePassLaws.{clean-from_none}
 
 -- Three steps.
@@ -75,26 +75,26 @@ second-within w a b c within = within.1.0
 -- A delivery within radius.
 
 within-step : ReadsWithin → (w : WorldState) (way : Way) (newest : Option Packet) (packet : Packet) (flips : List ℕ) → newest ≡ Some packet → IfSome newest IsSendable → IfSome newest (λ sent. ArrivesWithin sent flips) →
-    delivered w way (delivery_of way newest flips) ≡ quiet_step w (happens w.link (heard_by way packet))
+    delivered w way (delivery_of way newest flips) ≡ quiet_step w (happens w.delivery (heard_by way packet))
 unfolding delivered delivery_of heard_of counted_when
 within-step reads w way newest packet flips e sendable within =
     let can = subst (λ (n : Option Packet). IfSome n IsSendable) e sendable in
     let arrives = subst (λ (n : Option Packet). IfSome n (λ sent. ArrivesWithin sent flips)) e within in
     ap (λ (n : Option Packet). delivered w way (delivery_of way n flips)) e ∙ ap (λ (c : Carried). delivered w way (heard_of way c)) (air-within reads packet flips can arrives)
 
-data-step : ReadsWithin → (w : WorldState) (packet : Packet) (flips : List ℕ) (x : Receiving × HeardAnswer) → IsSoundLink w.link → w.link.packet_sent ≡ Some packet → IsWithin w (ToReceiver flips) →
-    receiver_heard w.link.inbound.receiver packet ≡ x →
-    world_step w (ToReceiver flips) ≡ quiet_step w (with_inbound w.link (after_data w.link.inbound x))
+data-step : ReadsWithin → (w : WorldState) (packet : Packet) (flips : List ℕ) (x : Receiving × HeardAnswer) → IsSoundDelivery w.delivery → w.delivery.packet_sent ≡ Some packet → IsWithin w (ToReceiver flips) →
+    receiver_heard w.delivery.inbound.receiver packet ≡ x →
+    world_step w (ToReceiver flips) ≡ quiet_step w (with_inbound w.delivery (after_data w.delivery.inbound x))
 unfolding world_step newest_by heard_by happens IsWithin
 data-step reads w packet flips x sound e within h =
-    within-step reads w Packets w.link.packet_sent packet flips e sound.packet_sent within ∙ ap (λ (y : Receiving × HeardAnswer). quiet_step w (with_inbound w.link (after_data w.link.inbound y))) h
+    within-step reads w Packets w.delivery.packet_sent packet flips e sound.packet_sent within ∙ ap (λ (y : Receiving × HeardAnswer). quiet_step w (with_inbound w.delivery (after_data w.delivery.inbound y))) h
 
-answer-step : ReadsWithin → (w : WorldState) (packet : Packet) (flips : List ℕ) (x : Sending × SenderHeard) → IsSoundLink w.link → w.link.answer ≡ Some packet → IsWithin w (ToSender flips) →
-    sender_heard w.link.outbound.sender packet ≡ x →
-    world_step w (ToSender flips) ≡ quiet_step w (with_outbound w.link (after_answer w.link.outbound x))
+answer-step : ReadsWithin → (w : WorldState) (packet : Packet) (flips : List ℕ) (x : Sending × SenderHeard) → IsSoundDelivery w.delivery → w.delivery.answer ≡ Some packet → IsWithin w (ToSender flips) →
+    sender_heard w.delivery.outbound.sender packet ≡ x →
+    world_step w (ToSender flips) ≡ quiet_step w (with_outbound w.delivery (after_answer w.delivery.outbound x))
 unfolding world_step newest_by heard_by happens IsWithin
 answer-step reads w packet flips x sound e within h =
-    within-step reads w Answers w.link.answer packet flips e sound.answer within ∙ ap (λ (y : Sending × SenderHeard). quiet_step w (with_outbound w.link (after_answer w.link.outbound y))) h
+    within-step reads w Answers w.delivery.answer packet flips e sound.answer within ∙ ap (λ (y : Sending × SenderHeard). quiet_step w (with_outbound w.delivery (after_answer w.delivery.outbound y))) h
 
 -- the events are those of any world
 to-receiver : (flips : List ℕ) → IsEvent (ToReceiver flips)
@@ -109,45 +109,45 @@ send-event : (message : List ℕ) → IsMessage message → IsEvent (Send messag
 unfolding IsEvent
 send-event message is = is
 
-next-sound : (w v : WorldState) (event : Event) (x : Step) → world_step w event ≡ (v, x) → IsEvent event → IsSoundLink w.link → IsSoundLink v.link
-next-sound w v event x e is sound = subst (λ (u : WorldState). IsSoundLink u.link) (ap (λ (p : WorldState × Step). p.0) e) (step-sound w event is sound)
+next-sound : (w v : WorldState) (event : Event) (x : Step) → world_step w event ≡ (v, x) → IsEvent event → IsSoundDelivery w.delivery → IsSoundDelivery v.delivery
+next-sound w v event x e is sound = subst (λ (u : WorldState). IsSoundDelivery u.delivery) (ap (λ (p : WorldState × Step). p.0) e) (step-sound w event is sound)
 
 -- A message.
 
 -- a quiet world with stations that deliver at once
-delivers : ReadsWithin → (w : WorldState) (message first second : List ℕ) → IsSoundLink w.link → IsMessage message → DeliversAtOnce w.link.outbound.sender w.link.inbound.receiver message →
+delivers : ReadsWithin → (w : WorldState) (message first second : List ℕ) → IsSoundDelivery w.delivery → IsMessage message → DeliversAtOnce w.delivery.outbound.sender w.delivery.inbound.receiver message →
     AreWithin w (Send message ∷ ToReceiver first ∷ ToSender second ∷ []) →
     steps_of w (Send message ∷ ToReceiver first ∷ ToSender second ∷ []) ≡
-    true_step (Taken w.link.outbound.sender.next (block_count (length message))) ∷ true_step (Delivered w.link.outbound.sender.next message) ∷ true_step (Acknowledged w.link.outbound.sender.next) ∷ []
+    true_step (Taken w.delivery.outbound.sender.next (block_count (length message))) ∷ true_step (Delivered w.delivery.outbound.sender.next message) ∷ true_step (Acknowledged w.delivery.outbound.sender.next) ∷ []
 unfolding world_step happens with_outbound with_inbound newest_after after_offer after_data after_answer
 delivers reads w message first second sound is d within =
-    let number = w.link.outbound.sender.next in
+    let number = w.delivery.outbound.sender.next in
     let blocks = block_count (length message) in
-    let v = (quiet_step w (with_outbound w.link (after_offer w.link.outbound message (d.waits, OfferTaken number blocks d.packet)))).0 in
-    let u = (quiet_step v (with_inbound v.link (after_data v.link.inbound (d.after, HeardDelivered number message d.answer)))).0 in
-    let t = (quiet_step u (with_outbound u.link (after_answer u.link.outbound (sending_after number, HeardAck number)))).0 in
+    let v = (quiet_step w (with_outbound w.delivery (after_offer w.delivery.outbound message (d.waits, OfferTaken number blocks d.packet)))).0 in
+    let u = (quiet_step v (with_inbound v.delivery (after_data v.delivery.inbound (d.after, HeardDelivered number message d.answer)))).0 in
+    let t = (quiet_step u (with_outbound u.delivery (after_answer u.delivery.outbound (sending_after number, HeardAck number)))).0 in
     let one : world_step w (Send message) ≡ (v, true_step (Taken number blocks))
-    = ap (λ (x : Sending × Offer). quiet_step w (with_outbound w.link (after_offer w.link.outbound message x))) d.taken in
-    let v_sound : IsSoundLink v.link = next-sound w v (Send message) (true_step (Taken number blocks)) one (send-event message is) sound in
+    = ap (λ (x : Sending × Offer). quiet_step w (with_outbound w.delivery (after_offer w.delivery.outbound message x))) d.taken in
+    let v_sound : IsSoundDelivery v.delivery = next-sound w v (Send message) (true_step (Taken number blocks)) one (send-event message is) sound in
     let v_within : IsWithin v (ToReceiver first) = subst (λ (p : WorldState). IsWithin p (ToReceiver first)) (ap (λ (p : WorldState × Step). p.0) one) (second-within w (Send message) (ToReceiver first) (ToSender second) within) in
     let two : world_step v (ToReceiver first) ≡ (u, true_step (Delivered number message))
     = data-step reads v d.packet first (d.after, HeardDelivered number message d.answer) v_sound refl v_within d.delivered in
     let m = moments w v u (Send message) (ToReceiver first) (ToSender second) (true_step (Taken number blocks)) (true_step (Delivered number message)) one two within in
-    let u_sound : IsSoundLink u.link = next-sound v u (ToReceiver first) (true_step (Delivered number message)) two (to-receiver first) v_sound in
+    let u_sound : IsSoundDelivery u.delivery = next-sound v u (ToReceiver first) (true_step (Delivered number message)) two (to-receiver first) v_sound in
     let three : world_step u (ToSender second) ≡ (t, true_step (Acknowledged number))
     = answer-step reads u d.answer second (sending_after number, HeardAck number) u_sound refl m.second d.acknowledged in
     three-steps w v u t (Send message) (ToReceiver first) (ToSender second) (true_step (Taken number blocks)) (true_step (Delivered number message)) (true_step (Acknowledged number)) one two three
 
 pub run-delivers_within : ReadsWithin → (events : List Event) (message first second : List ℕ) → AreEvents events → (world_run first_world events).false_passes ≡ 0 → IsMessage message →
-    (world_run first_world events).link.outbound.sender.outstanding ≡ Nothing →
+    (world_run first_world events).delivery.outbound.sender.outstanding ≡ Nothing →
     AreWithin (world_run first_world events) (Send message ∷ ToReceiver first ∷ ToSender second ∷ []) →
     steps_of (world_run first_world events) (Send message ∷ ToReceiver first ∷ ToSender second ∷ []) ≡
-    true_step (Taken (world_run first_world events).link.outbound.sender.next (block_count (length message))) ∷ true_step (Delivered (world_run first_world events).link.outbound.sender.next message) ∷
-    true_step (Acknowledged (world_run first_world events).link.outbound.sender.next) ∷ []
+    true_step (Taken (world_run first_world events).delivery.outbound.sender.next (block_count (length message))) ∷ true_step (Delivered (world_run first_world events).delivery.outbound.sender.next message) ∷
+    true_step (Acknowledged (world_run first_world events).delivery.outbound.sender.next) ∷ []
 run-delivers_within reads events message first second are none is quiet within =
     let w = world_run first_world events in
-    let at_once = from-links (λ (link : Link). link.outbound.sender.outstanding ≡ Nothing → DeliversAtOnce link.outbound.sender link.inbound.receiver message)
-    (λ (happenings : List Happening) (clean : IsCleanLink first_link happenings) (nothing : (link_run first_link happenings).outbound.sender.outstanding ≡ Nothing). run-delivers happenings message clean nothing is.short)
+    let at_once = from-deliveries (λ (delivery : Delivery). delivery.outbound.sender.outstanding ≡ Nothing → DeliversAtOnce delivery.outbound.sender delivery.inbound.receiver message)
+    (λ (happenings : List Happening) (clean : IsCleanDelivery first_delivery happenings) (nothing : (delivery_run first_delivery happenings).outbound.sender.outstanding ≡ Nothing). run-delivers happenings message clean nothing is.short)
     events are (clean-from_none events none) in
     delivers reads w message first second (run-sound events first_world are first-sound) is (at_once quiet) within
 
@@ -156,15 +156,15 @@ run-delivers_within reads events message first second are none is quiet within =
 -- the world after it, whether a message is given up or not
 record Opens (w v : WorldState) (number : ℕ) (packet : Packet) (s : Sending) : Type 0 where
   pub step : world_step w Reopen ≡ (v, true_step (Reopened number))
-  pub sender : v.link.outbound.sender ≡ s
-  pub receiver : v.link.inbound.receiver ≡ w.link.inbound.receiver
-  pub newest : v.link.packet_sent ≡ Some packet
+  pub sender : v.delivery.outbound.sender ≡ s
+  pub receiver : v.delivery.inbound.receiver ≡ w.delivery.inbound.receiver
+  pub newest : v.delivery.packet_sent ≡ Some packet
 
 -- it, where the opening packet was outstanding or not
 reopened_world : WorldState → Bool → Sending × ReopenAnswer → WorldState × Step
-reopened_world w again x = quiet_step w (with_outbound w.link (after_reopening w.link.outbound (length w.link.inbound.received) again x))
+reopened_world w again x = quiet_step w (with_outbound w.delivery (after_reopening w.delivery.outbound (length w.delivery.inbound.received) again x))
 
-after-opening : (w : WorldState) (again : Bool) (s : Sending) (number : ℕ) (packet : Packet) → is_opening w.link.outbound.sender.outstanding ≡ again → reopened w.link.outbound.sender ≡ (s, ReopenSent number packet) →
+after-opening : (w : WorldState) (again : Bool) (s : Sending) (number : ℕ) (packet : Packet) → is_opening w.delivery.outbound.sender.outstanding ≡ again → reopened w.delivery.outbound.sender ≡ (s, ReopenSent number packet) →
     Opens w (reopened_world w again (s, ReopenSent number packet)).0 number packet s
 unfolding world_step happens with_outbound newest_after after_reopening reopened_world
 after-opening w true s number packet a e = record { step = ap₂ (reopened_world w) a e; sender = refl; receiver = refl; newest = refl }
@@ -180,34 +180,34 @@ number-is s t number packet down e =
     let same : ReopenSent y (opening_packet y) ≡ ReopenSent number packet = ap (λ (x : Sending × ReopenAnswer). x.1) is in
     cc
 
-opens : ReadsWithin → (w v : WorldState) (first second : List ℕ) → IsSoundLink w.link → (o : OpensAtOnce w.link.outbound.sender w.link.inbound.receiver) → Opens w v o.number o.packet o.waits →
+opens : ReadsWithin → (w v : WorldState) (first second : List ℕ) → IsSoundDelivery w.delivery → (o : OpensAtOnce w.delivery.outbound.sender w.delivery.inbound.receiver) → Opens w v o.number o.packet o.waits →
     AreWithin w (Reopen ∷ ToReceiver first ∷ ToSender second ∷ []) →
     steps_of w (Reopen ∷ ToReceiver first ∷ ToSender second ∷ []) ≡ true_step (Reopened o.number) ∷ true_step (SynHeard o.number) ∷ true_step (LinkOpened o.number) ∷ []
 unfolding with_outbound with_inbound newest_after after_data after_answer
 opens reads w v first second sound o h within =
     let number = o.number in
-    let u = (quiet_step v (with_inbound v.link (after_data v.link.inbound (record { last = number; kept = None }, ReceiverOpened number o.answer)))).0 in
-    let t = (quiet_step u (with_outbound u.link (after_answer u.link.outbound (sending_after number, SenderOpened number)))).0 in
-    let v_sound : IsSoundLink v.link = next-sound w v Reopen (true_step (Reopened number)) h.step reopen-event sound in
+    let u = (quiet_step v (with_inbound v.delivery (after_data v.delivery.inbound (record { last = number; kept = None }, ReceiverOpened number o.answer)))).0 in
+    let t = (quiet_step u (with_outbound u.delivery (after_answer u.delivery.outbound (sending_after number, SenderOpened number)))).0 in
+    let v_sound : IsSoundDelivery v.delivery = next-sound w v Reopen (true_step (Reopened number)) h.step reopen-event sound in
     let v_within : IsWithin v (ToReceiver first) = subst (λ (p : WorldState). IsWithin p (ToReceiver first)) (ap (λ (p : WorldState × Step). p.0) h.step) (second-within w Reopen (ToReceiver first) (ToSender second) within) in
     let two : world_step v (ToReceiver first) ≡ (u, true_step (SynHeard number))
     = data-step reads v o.packet first (record { last = number; kept = None }, ReceiverOpened number o.answer) v_sound h.newest v_within (ap (λ (r : Receiving). receiver_heard r o.packet) h.receiver ∙ o.heard) in
     let m = moments w v u Reopen (ToReceiver first) (ToSender second) (true_step (Reopened number)) (true_step (SynHeard number)) h.step two within in
-    let u_sound : IsSoundLink u.link = next-sound v u (ToReceiver first) (true_step (SynHeard number)) two (to-receiver first) v_sound in
+    let u_sound : IsSoundDelivery u.delivery = next-sound v u (ToReceiver first) (true_step (SynHeard number)) two (to-receiver first) v_sound in
     let three : world_step u (ToSender second) ≡ (t, true_step (LinkOpened number))
     = answer-step reads u o.answer second (sending_after number, SenderOpened number) u_sound refl m.second (ap (λ (s : Sending). sender_heard s o.answer) h.sender ∙ o.opened) in
     three-steps w v u t Reopen (ToReceiver first) (ToSender second) (true_step (Reopened number)) (true_step (SynHeard number)) (true_step (LinkOpened number)) h.step two three
 
-pub run-opens_within : ReadsWithin → (events : List Event) (first second : List ℕ) → AreEvents events → (world_run first_world events).link.outbound.sender.down ≡ true →
+pub run-opens_within : ReadsWithin → (events : List Event) (first second : List ℕ) → AreEvents events → (world_run first_world events).delivery.outbound.sender.down ≡ true →
     AreWithin (world_run first_world events) (Reopen ∷ ToReceiver first ∷ ToSender second ∷ []) →
-    (let s = (world_run first_world events).link.outbound.sender in
+    (let s = (world_run first_world events).delivery.outbound.sender in
     steps_of (world_run first_world events) (Reopen ∷ ToReceiver first ∷ ToSender second ∷ []) ≡
     true_step (Reopened (opening_number s.outstanding s.next)) ∷ true_step (SynHeard (opening_number s.outstanding s.next)) ∷ true_step (LinkOpened (opening_number s.outstanding s.next)) ∷ [])
 run-opens_within reads events first second are down within =
     let w = world_run first_world events in
-    let s = w.link.outbound.sender in
+    let s = w.delivery.outbound.sender in
     let sound = run-sound events first_world are first-sound in
-    let o = opens-down s w.link.inbound.receiver sound.outbound.sender down in
+    let o = opens-down s w.delivery.inbound.receiver sound.outbound.sender down in
     let h = after-opening w (is_opening s.outstanding) o.waits o.number o.packet refl o.sent in
     let steps = opens reads w (reopened_world w (is_opening s.outstanding) (o.waits, ReopenSent o.number o.packet)).0 first second sound o h within in
     steps ∙ ap (λ (n : ℕ). true_step (Reopened n) ∷ true_step (SynHeard n) ∷ true_step (LinkOpened n) ∷ []) (number-is s o.waits o.number o.packet down o.sent)

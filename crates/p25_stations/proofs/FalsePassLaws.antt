@@ -19,23 +19,24 @@ use Rattle.p25_stations.specs.RunLaws.{IsWithin, IsTwiceDamaged}
 use Rattle.p25_stations.proofs.AirLaws.{ReadsWithin, air-within}
 use Rattle.p25_stations.proofs.CountedLaws.{none-counted, none-from}
 use Rattle.p25_stations.proofs.FewFlipsLaws.{few-arrive}
-use Rattle.p25_stations.proofs.SoundLaws.{IsSoundLink}
+use Rattle.p25_stations.proofs.SoundLaws.{IsSoundDelivery}
 use Rattle.p25_stations.proofs.StepLaws.{Does, rests, does, step-does}
 
 -- Within radius.
 
-delivered-within : ReadsWithin → (w : WorldState) (way : Way) (newest : Option Packet) (flips : List ℕ) → IfSome newest IsSendable → IfSome newest (λ packet. ArrivesWithin packet flips) → (delivered w way (delivery_of way newest flips)).1.false_pass ≡ false
+delivered-within : ReadsWithin → (w : WorldState) (way : Way) (newest : Option Packet) (flips : List ℕ) → IfSome newest IsSendable → IfSome newest (λ packet. ArrivesWithin packet flips)
+    → (delivered w way (delivery_of way newest flips)).1.false_pass ≡ false
 unfolding delivered delivery_of heard_of
 delivered-within reads w way None flips sendable within = refl
 delivered-within reads w way (Some packet) flips sendable within = ap (λ (c : Carried). (delivered w way (heard_of way c)).1.false_pass) (air-within reads packet flips sendable within)
 
-pub step-within : ReadsWithin → (w : WorldState) (event : Event) → IsSoundLink w.link → IsWithin w event → (world_step w event).1.false_pass ≡ false
+pub step-within : ReadsWithin → (w : WorldState) (event : Event) → IsSoundDelivery w.delivery → IsWithin w event → (world_step w event).1.false_pass ≡ false
 unfolding world_step newest_by IsWithin
 step-within reads w (Send message) sound within = refl
 step-within reads w Timeout sound within = refl
 step-within reads w Reopen sound within = refl
-step-within reads w (ToReceiver flips) sound within = delivered-within reads w Packets w.link.packet_sent flips sound.packet_sent within
-step-within reads w (ToSender flips) sound within = delivered-within reads w Answers w.link.answer flips sound.answer within
+step-within reads w (ToReceiver flips) sound within = delivered-within reads w Packets w.delivery.packet_sent flips sound.packet_sent within
+step-within reads w (ToSender flips) sound within = delivered-within reads w Answers w.delivery.answer flips sound.answer within
 
 -- A false pass takes two wrong bits.
 
@@ -53,13 +54,13 @@ delivered-twice reads w way None flips sendable e = absurd (false≢true e)
 delivered-twice reads w way (Some packet) flips sendable e =
     (packet, refl, twice packet flips (delivered w way (delivery_of way (Some packet) flips)).1.false_pass (λ (within : ArrivesWithin packet flips). delivered-within reads w way (Some packet) flips sendable within) e sendable)
 
-pub step-twice : ReadsWithin → (w : WorldState) (event : Event) → IsSoundLink w.link → (world_step w event).1.false_pass ≡ true → IsTwiceDamaged w event
+pub step-twice : ReadsWithin → (w : WorldState) (event : Event) → IsSoundDelivery w.delivery → (world_step w event).1.false_pass ≡ true → IsTwiceDamaged w event
 unfolding world_step newest_by IsTwiceDamaged
 step-twice reads w (Send message) sound e = false≢true e
 step-twice reads w Timeout sound e = false≢true e
 step-twice reads w Reopen sound e = false≢true e
-step-twice reads w (ToReceiver flips) sound e = delivered-twice reads w Packets w.link.packet_sent flips sound.packet_sent e
-step-twice reads w (ToSender flips) sound e = delivered-twice reads w Answers w.link.answer flips sound.answer e
+step-twice reads w (ToReceiver flips) sound e = delivered-twice reads w Packets w.delivery.packet_sent flips sound.packet_sent e
+step-twice reads w (ToSender flips) sound e = delivered-twice reads w Answers w.delivery.answer flips sound.answer e
 
 -- The count.
 

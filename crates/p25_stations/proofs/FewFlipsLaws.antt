@@ -11,8 +11,8 @@ use Rattle.p25_bits.specs.Bits.{part, flipped}
 use Rattle.p25_bits.specs.Distance.{distance_by, distance_of}
 use Rattle.p25_bits.proofs.PartLaws.{length-part}
 use Rattle.p25_bits.proofs.DistanceLaws.{distance_by-append, distance_of-same, distance_of-sym, distance_of-triangle}
-use Rattle.p25_status.specs.Woven.{plain_in, plain_of}
-use Rattle.p25_status.proofs.WovenLaws.{length-woven, length-plain_of}
+use Rattle.p25_status.specs.Woven.{bare_in, bare_of}
+use Rattle.p25_status.proofs.WovenLaws.{length-woven, length-bare_of}
 use Rattle.p25_unit_front.specs.Front.{identifier_bits}
 use Rattle.p25_packet_blocks.specs.declared.packet.Packet.{Packet}
 use Rattle.p25_packet_blocks.specs.declared.packet.Packet.TheVariants.{Confirmed, Plain}
@@ -44,25 +44,25 @@ distance-part : (at count : ℕ) (xs ys : List Bool) → length xs ≡ length ys
 distance-part at count xs ys e = omega (arith, distance-split at xs ys e, distance-take count (drop at xs) (drop at ys) (omega (arith, e, length-drop at xs, length-drop at ys)))
 
 -- the bits of blocks without their status symbols
-distance-plain_in : (blocks : ℕ) (xs ys : List Bool) → length xs ≡ 72 * blocks → length ys ≡ 72 * blocks → distance_of (plain_in blocks xs) (plain_in blocks ys) ≤ distance_of xs ys
-unfolding plain_in distance_by
-distance-plain_in zero xs ys e f = omega arith
-distance-plain_in (suc blocks) xs ys e f =
+distance-bare_in : (blocks : ℕ) (xs ys : List Bool) → length xs ≡ 72 * blocks → length ys ≡ 72 * blocks → distance_of (bare_in blocks xs) (bare_in blocks ys) ≤ distance_of xs ys
+unfolding bare_in distance_by
+distance-bare_in zero xs ys e f = omega arith
+distance-bare_in (suc blocks) xs ys e f =
     let long : length (take 70 xs) ≡ length (take 70 ys) = omega (arith, length-part 0 70 xs (omega (arith, e)), length-part 0 70 ys (omega (arith, f))) in
     let front : distance_of (take 70 xs) (take 70 ys) ≤ distance_of (take 72 xs) (take 72 ys)
     = subst (λ (bits : List Bool). distance_of bits (take 70 ys) ≤ distance_of (take 72 xs) (take 72 ys)) (take-take 70 72 xs (omega arith))
     (subst (λ (bits : List Bool). distance_of (take 70 (take 72 xs)) bits ≤ distance_of (take 72 xs) (take 72 ys)) (take-take 70 72 ys (omega arith))
     (distance-take 70 (take 72 xs) (take 72 ys) (omega (arith, length-part 0 72 xs (omega (arith, e)), length-part 0 72 ys (omega (arith, f)))))) in
-    let rest = distance-plain_in blocks (drop 72 xs) (drop 72 ys) (omega (arith, e, length-drop 72 xs)) (omega (arith, f, length-drop 72 ys)) in
-    omega (arith, distance_by-append beq (take 70 xs) (plain_in blocks (drop 72 xs)) (take 70 ys) (plain_in blocks (drop 72 ys)) long, front, rest, distance-split 72 xs ys (e ∙ sym f))
+    let rest = distance-bare_in blocks (drop 72 xs) (drop 72 ys) (omega (arith, e, length-drop 72 xs)) (omega (arith, f, length-drop 72 ys)) in
+    omega (arith, distance_by-append beq (take 70 xs) (bare_in blocks (drop 72 xs)) (take 70 ys) (bare_in blocks (drop 72 ys)) long, front, rest, distance-split 72 xs ys (e ∙ sym f))
 
-distance-plain_of : (blocks : ℕ) (xs ys : List Bool) → length xs ≡ 72 * blocks → length ys ≡ 72 * blocks → distance_of (plain_of xs) (plain_of ys) ≤ distance_of xs ys
-unfolding plain_of
-distance-plain_of blocks xs ys e f =
+distance-bare_of : (blocks : ℕ) (xs ys : List Bool) → length xs ≡ 72 * blocks → length ys ≡ 72 * blocks → distance_of (bare_of xs) (bare_of ys) ≤ distance_of xs ys
+unfolding bare_of
+distance-bare_of blocks xs ys e f =
     let x : length xs / 72 ≡ blocks = omega (arith, e) in
     let y : length ys / 72 ≡ blocks = omega (arith, f) in
-    subst (λ (n : ℕ). distance_of (plain_in n xs) (plain_in (length ys / 72) ys) ≤ distance_of xs ys) (sym x)
-    (subst (λ (n : ℕ). distance_of (plain_in blocks xs) (plain_in n ys) ≤ distance_of xs ys) (sym y) (distance-plain_in blocks xs ys e f))
+    subst (λ (n : ℕ). distance_of (bare_in n xs) (bare_in (length ys / 72) ys) ≤ distance_of xs ys) (sym x)
+    (subst (λ (n : ℕ). distance_of (bare_in blocks xs) (bare_in n ys) ≤ distance_of xs ys) (sym y) (distance-bare_in blocks xs ys e f))
 
 -- Flips.
 
@@ -142,16 +142,16 @@ few-arrive packet flips sendable few =
     let long : length sent ≡ 72 * n = length-transmission packet sendable in
     let same : length received ≡ length sent = length-with_flips sent flips in
     let wrong : distance_of received sent ≤ 1 = omega (arith, few, distance-with_flips sent flips (length sent) refl) in
-    let plain : distance_of (plain_of received) (plain_of sent) ≤ 1 = omega (arith, wrong, distance-plain_of n received sent (same ∙ long) long) in
-    let plain_long : length (plain_of received) ≡ length (plain_of sent) = length-plain_of n received (same ∙ long) ∙ sym (length-plain_of n sent long) in
+    let bare : distance_of (bare_of received) (bare_of sent) ≤ 1 = omega (arith, wrong, distance-bare_of n received sent (same ∙ long) long) in
+    let bare_long : length (bare_of received) ≡ length (bare_of sent) = length-bare_of n received (same ∙ long) ∙ sym (length-bare_of n sent long) in
     record {
       long = same;
       sync = omega (arith, wrong, distance-take 48 received sent same);
       identifier = omega (arith, wrong, distance-identifier received sent same (omega (arith, same, long)));
       blocks = record {
-        long = plain_long;
-        header = omega (arith, plain, distance-part 112 196 (plain_of received) (plain_of sent) plain_long, distance_of-sym (header_bits (plain_of sent)) (header_bits (plain_of received)));
+        long = bare_long;
+        header = omega (arith, bare, distance-part 112 196 (bare_of received) (bare_of sent) bare_long, distance_of-sym (header_bits (bare_of sent)) (header_bits (bare_of received)));
         blocks = λ (j : ℕ) (h : j < head_blocks (packet_head packet)).
-            omega (arith, plain, least-radius packet, distance-part (308 + 196 * j) 196 (plain_of received) (plain_of sent) plain_long, distance_of-sym (block_bits (plain_of sent) j) (block_bits (plain_of received) j));
+            omega (arith, bare, least-radius packet, distance-part (308 + 196 * j) 196 (bare_of received) (bare_of sent) bare_long, distance_of-sym (block_bits (bare_of sent) j) (block_bits (bare_of received) j));
       };
     }

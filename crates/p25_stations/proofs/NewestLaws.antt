@@ -3,7 +3,7 @@ use Rattle.std.proofs.Common.{Option, Some, None}
 use Rattle.std.specs.Prelude.{IfSome}
 use Rattle.p25_packet_blocks.specs.declared.packet.Packet.{Packet}
 use Rattle.p25_packet_blocks.specs.Sendable.{IsSendable}
-use Rattle.p25_delivery.specs.Link.{newest_after}
+use Rattle.p25_delivery.specs.Delivery.{newest_after}
 
 pub newest-sendable : (packet newest : Option Packet) → IfSome packet IsSendable → IfSome newest IsSendable → IfSome (newest_after packet newest) IsSendable
 unfolding newest_after

@@ -1,4 +1,4 @@
--- A step of the world is no happening of its link, or one. By what is carried.
+-- A step of the world is no happening of its delivery, or one. By what is carried.
 use Rattle.std.proofs.Common.{◌≡◌, ℕ, Bool, false, List, Option, Some, None, refl}
 use Rattle.p25_status.specs.declared.fields.Field.{Field}
 use Rattle.p25_packet_blocks.specs.declared.packet.Packet.{Packet}
@@ -6,7 +6,7 @@ use Rattle.p25_delivery.specs.declared.step_kind.Way.{Way}
 use Rattle.p25_delivery.specs.declared.step_kind.Way.TheVariants.{Packets, Answers}
 use Rattle.p25_delivery.specs.declared.step_kind.StepKind.{StepKind}
 use Rattle.p25_delivery.specs.declared.step_kind.StepKind.TheVariants.{Nothing, Lost, Ignored}
-use Rattle.p25_delivery.specs.Link.{Link, Happening, Offering, Time_up, Opening_again, Data_heard, Answer_heard, happens}
+use Rattle.p25_delivery.specs.Delivery.{Delivery, Happening, Offering, Time_up, Opening_again, Data_heard, Answer_heard, happens}
 use Rattle.p25_stations.specs.declared.air.Carried.{Carried}
 use Rattle.p25_stations.specs.declared.air.Carried.TheVariants.{Lost as CarriedLost, Foreign, Heard}
 use Rattle.p25_stations.specs.declared.step.Event.{Event}
@@ -17,13 +17,13 @@ use Rattle.p25_stations.specs.WorldState.{WorldState}
 use Rattle.p25_stations.specs.Deliveries.{heard_of, delivery_of}
 use Rattle.p25_stations.specs.Steps.{counted_when, quiet_step, heard_step, heard_by, newest_by, delivered, world_step}
 
--- what an event has happen at a link, and whether it is a false pass
-pub data HasHappen (link : Link) : Event → Bool → Happening → Type 0 where
-  offers : (message : List ℕ) → HasHappen link (Send message) false (Offering message)
-  is_late : HasHappen link Timeout false Time_up
-  opens : HasHappen link Reopen false Opening_again
-  brings_data : (flips : List ℕ) (sent packet : Packet) (false_pass : Bool) → link.packet_sent ≡ Some sent → carried_of sent flips ≡ Heard packet false_pass → HasHappen link (ToReceiver flips) false_pass (Data_heard packet)
-  brings_answer : (flips : List ℕ) (sent packet : Packet) (false_pass : Bool) → link.answer ≡ Some sent → carried_of sent flips ≡ Heard packet false_pass → HasHappen link (ToSender flips) false_pass (Answer_heard packet)
+-- what an event has happen at a delivery, and whether it is a false pass
+pub data HasHappen (delivery : Delivery) : Event → Bool → Happening → Type 0 where
+  offers : (message : List ℕ) → HasHappen delivery (Send message) false (Offering message)
+  is_late : HasHappen delivery Timeout false Time_up
+  opens : HasHappen delivery Reopen false Opening_again
+  brings_data : (flips : List ℕ) (sent packet : Packet) (false_pass : Bool) → delivery.packet_sent ≡ Some sent → carried_of sent flips ≡ Heard packet false_pass → HasHappen delivery (ToReceiver flips) false_pass (Data_heard packet)
+  brings_answer : (flips : List ℕ) (sent packet : Packet) (false_pass : Bool) → delivery.answer ≡ Some sent → carried_of sent flips ≡ Heard packet false_pass → HasHappen delivery (ToSender flips) false_pass (Answer_heard packet)
 
 -- a kind of step in which nothing happens
 pub data IsQuiet : StepKind → Type 0 where
@@ -31,29 +31,29 @@ pub data IsQuiet : StepKind → Type 0 where
   lost : (way : Way) (field : Field) → IsQuiet (Lost way field)
   ignored : (way : Way) → IsQuiet (Ignored way)
 
--- what a step does at the link
+-- what a step does at the delivery
 pub data Does (w : WorldState) (event : Event) : WorldState × Step → Type 0 where
-  rests : (kind : StepKind) → IsQuiet kind → Does w event (quiet_step w (w.link, kind))
-  does : (happening : Happening) (false_pass : Bool) → HasHappen w.link event false_pass happening → Does w event (heard_step w false_pass (happens w.link happening))
+  rests : (kind : StepKind) → IsQuiet kind → Does w event (quiet_step w (w.delivery, kind))
+  does : (happening : Happening) (false_pass : Bool) → HasHappen w.delivery event false_pass happening → Does w event (heard_step w false_pass (happens w.delivery happening))
 
 -- a delivery that way
-abbrev pub delivery : Way → List ℕ → Event
-delivery Packets flips = ToReceiver flips
-delivery Answers flips = ToSender flips
+abbrev pub carrying_event : Way → List ℕ → Event
+carrying_event Packets flips = ToReceiver flips
+carrying_event Answers flips = ToSender flips
 
-brings : (link : Link) (way : Way) (flips : List ℕ) (sent packet : Packet) (false_pass : Bool) → newest_by way link ≡ Some sent → carried_of sent flips ≡ Heard packet false_pass →
-    HasHappen link (delivery way flips) false_pass (heard_by way packet)
+brings : (delivery : Delivery) (way : Way) (flips : List ℕ) (sent packet : Packet) (false_pass : Bool) → newest_by way delivery ≡ Some sent → carried_of sent flips ≡ Heard packet false_pass →
+    HasHappen delivery (carrying_event way flips) false_pass (heard_by way packet)
 unfolding newest_by heard_by
-brings link Packets flips sent packet false_pass n e = brings_data flips sent packet false_pass n e
-brings link Answers flips sent packet false_pass n e = brings_answer flips sent packet false_pass n e
+brings delivery Packets flips sent packet false_pass n e = brings_data flips sent packet false_pass n e
+brings delivery Answers flips sent packet false_pass n e = brings_answer flips sent packet false_pass n e
 
-carried-does : (w : WorldState) (way : Way) (flips : List ℕ) (sent : Packet) (c : Carried) → newest_by way w.link ≡ Some sent → carried_of sent flips ≡ c → Does w (delivery way flips) (delivered w way (heard_of way c))
+carried-does : (w : WorldState) (way : Way) (flips : List ℕ) (sent : Packet) (c : Carried) → newest_by way w.delivery ≡ Some sent → carried_of sent flips ≡ c → Does w (carrying_event way flips) (delivered w way (heard_of way c))
 unfolding delivered heard_of
 carried-does w way flips sent (CarriedLost field) n e = rests (Lost way field) (lost way field)
 carried-does w way flips sent Foreign n e = rests (Ignored way) (ignored way)
-carried-does w way flips sent (Heard packet false_pass) n e = does (heard_by way packet) false_pass (brings w.link way flips sent packet false_pass n e)
+carried-does w way flips sent (Heard packet false_pass) n e = does (heard_by way packet) false_pass (brings w.delivery way flips sent packet false_pass n e)
 
-delivered-does : (w : WorldState) (way : Way) (flips : List ℕ) (newest : Option Packet) → newest_by way w.link ≡ newest → Does w (delivery way flips) (delivered w way (delivery_of way newest flips))
+delivered-does : (w : WorldState) (way : Way) (flips : List ℕ) (newest : Option Packet) → newest_by way w.delivery ≡ newest → Does w (carrying_event way flips) (delivered w way (delivery_of way newest flips))
 unfolding delivered delivery_of
 delivered-does w way flips None n = rests (Nothing way) (nothing way)
 delivered-does w way flips (Some sent) n = carried-does w way flips sent (carried_of sent flips) n refl
@@ -63,5 +63,5 @@ unfolding world_step counted_when
 step-does w (Send message) = does (Offering message) false (offers message)
 step-does w Timeout = does Time_up false is_late
 step-does w Reopen = does Opening_again false opens
-step-does w (ToReceiver flips) = delivered-does w Packets flips (newest_by Packets w.link) refl
-step-does w (ToSender flips) = delivered-does w Answers flips (newest_by Answers w.link) refl
+step-does w (ToReceiver flips) = delivered-does w Packets flips (newest_by Packets w.delivery) refl
+step-does w (ToSender flips) = delivered-does w Answers flips (newest_by Answers w.delivery) refl

@@ -19,7 +19,7 @@ use Rattle.p25_delivery.specs.declared.receiver.Heard.{Heard as HeardAnswer}
 use Rattle.p25_delivery.specs.declared.receiver.Heard.TheVariants.{Delivered as HeardDelivered, Opened as ReceiverOpened, Again as HeardAgain, Kept as HeardKept, RefusedCrc as HeardCrc, RefusedOrder as HeardOrder, Ignored as ReceiverIgnored}
 use Rattle.p25_delivery.specs.declared.step_kind.StepKind.{StepKind}
 use Rattle.p25_delivery.specs.HalfRules.{after_offer, after_timeout, after_reopening, after_data, after_answer}
-use Rattle.p25_delivery.specs.Link.{Link, Happening, with_outbound, with_inbound, happens}
+use Rattle.p25_delivery.specs.Delivery.{Delivery, Happening, with_outbound, with_inbound, happens}
 use Rattle.p25_stations.specs.declared.step.Event.{Event}
 use Rattle.p25_stations.specs.declared.step.Event.TheVariants.{Send, Timeout, Reopen, ToReceiver, ToSender}
 use Rattle.p25_stations.specs.declared.step.Step.{Step}
@@ -29,8 +29,8 @@ use Rattle.p25_stations.specs.Runs.{steps_of, world_run}
 use Rattle.p25_stations.specs.StepLists.{delivered_by, delivered_in, sent_by, sent_in, is_acknowledged, acknowledged_in}
 use Rattle.p25_stations.proofs.StepLaws.{HasHappen, offers, is_late, opens, brings_data, brings_answer, IsQuiet, nothing, lost, ignored, Does, rests, does, step-does}
 
--- what an event of a kind adds to the lists of a link
-record Tells (event : Event) (w : Link) (x : Link × StepKind) : Type 0 where
+-- what an event of a kind adds to the lists of a delivery
+record Tells (event : Event) (w : Delivery) (x : Delivery × StepKind) : Type 0 where
   pub delivered : x.0.inbound.received ≡ w.inbound.received ++ delivered_by x.1
   pub sent : x.0.outbound.sent ≡ w.outbound.sent ++ sent_by event x.1
   pub acknowledged : x.0.outbound.acknowledged ≡ w.outbound.acknowledged + cond (is_acknowledged x.1) 1 0
@@ -40,7 +40,7 @@ none : (messages : List (List ℕ)) → messages ≡ messages ++ []
 none messages = sym (append-nil messages)
 
 -- the lists stay as they are, and nothing is told
-silent : (event : Event) (w : Link) (x : Link × StepKind) → (x.0.inbound.received ≡ w.inbound.received) × (x.0.outbound.sent ≡ w.outbound.sent) × (x.0.outbound.acknowledged ≡ w.outbound.acknowledged) →
+silent : (event : Event) (w : Delivery) (x : Delivery × StepKind) → (x.0.inbound.received ≡ w.inbound.received) × (x.0.outbound.sent ≡ w.outbound.sent) × (x.0.outbound.acknowledged ≡ w.outbound.acknowledged) →
     (delivered_by x.1 ≡ []) × (sent_by event x.1 ≡ []) × (is_acknowledged x.1 ≡ false) → Tells event w x
 silent event w x same told =
     record {
@@ -49,26 +49,26 @@ silent event w x same told =
       acknowledged = omega (arith, same.2, ap (λ (b : Bool). cond {A = ℕ} b 1 0) told.2);
     }
 
-offer-tells : (w : Link) (message : List ℕ) (answer : Sending × Offer) → Tells (Send message) w (with_outbound w (after_offer w.outbound message answer))
+offer-tells : (w : Delivery) (message : List ℕ) (answer : Sending × Offer) → Tells (Send message) w (with_outbound w (after_offer w.outbound message answer))
 unfolding with_outbound after_offer
 offer-tells w message (s, OfferTaken number blocks packet) = record { delivered = none w.inbound.received; sent = refl; acknowledged = omega arith }
 offer-tells w message (s, OfferBusy) = silent (Send message) w _ (refl, refl, refl) (refl, refl, refl)
 offer-tells w message (s, DownAtOffer) = silent (Send message) w _ (refl, refl, refl) (refl, refl, refl)
 
-timeout-tells : (w : Link) (answer : Sending × Resend) → Tells Timeout w (with_outbound w (after_timeout w.outbound answer))
+timeout-tells : (w : Delivery) (answer : Sending × Resend) → Tells Timeout w (with_outbound w (after_timeout w.outbound answer))
 unfolding with_outbound after_timeout
 timeout-tells w (s, Sent number tries packet) = silent Timeout w _ (refl, refl, refl) (refl, refl, refl)
 timeout-tells w (s, ResendIdle) = silent Timeout w _ (refl, refl, refl) (refl, refl, refl)
 timeout-tells w (s, DownAtTimeout) = silent Timeout w _ (refl, refl, refl) (refl, refl, refl)
 
-reopen-tells : (w : Link) (count : ℕ) (again : Bool) (answer : Sending × ReopenAnswer) → Tells Reopen w (with_outbound w (after_reopening w.outbound count again answer))
+reopen-tells : (w : Delivery) (count : ℕ) (again : Bool) (answer : Sending × ReopenAnswer) → Tells Reopen w (with_outbound w (after_reopening w.outbound count again answer))
 unfolding with_outbound after_reopening
 reopen-tells w count true (s, ReopenSent number packet) = silent Reopen w _ (refl, refl, refl) (refl, refl, refl)
 reopen-tells w count false (s, ReopenSent number packet) = silent Reopen w _ (refl, refl, refl) (refl, refl, refl)
 reopen-tells w count true (s, ReopenUp) = silent Reopen w _ (refl, refl, refl) (refl, refl, refl)
 reopen-tells w count false (s, ReopenUp) = silent Reopen w _ (refl, refl, refl) (refl, refl, refl)
 
-data-tells : (w : Link) (flips : List ℕ) (answer : Receiving × HeardAnswer) → Tells (ToReceiver flips) w (with_inbound w (after_data w.inbound answer))
+data-tells : (w : Delivery) (flips : List ℕ) (answer : Receiving × HeardAnswer) → Tells (ToReceiver flips) w (with_inbound w (after_data w.inbound answer))
 unfolding with_inbound after_data
 data-tells w flips (r, HeardDelivered number message answer) = record { delivered = refl; sent = none w.outbound.sent; acknowledged = omega arith }
 data-tells w flips (r, ReceiverOpened number answer) = silent (ToReceiver flips) w _ (refl, refl, refl) (refl, refl, refl)
@@ -78,7 +78,7 @@ data-tells w flips (r, HeardCrc number answer) = silent (ToReceiver flips) w _ (
 data-tells w flips (r, HeardOrder last answer) = silent (ToReceiver flips) w _ (refl, refl, refl) (refl, refl, refl)
 data-tells w flips (r, ReceiverIgnored) = silent (ToReceiver flips) w _ (refl, refl, refl) (refl, refl, refl)
 
-answer-tells : (w : Link) (flips : List ℕ) (answer : Sending × SenderHeard) → Tells (ToSender flips) w (with_outbound w (after_answer w.outbound answer))
+answer-tells : (w : Delivery) (flips : List ℕ) (answer : Sending × SenderHeard) → Tells (ToSender flips) w (with_outbound w (after_answer w.outbound answer))
 unfolding with_outbound after_answer
 answer-tells w flips (s, HeardAck number) = record { delivered = none w.inbound.received; sent = none w.outbound.sent; acknowledged = omega arith }
 answer-tells w flips (s, SenderOpened number) = silent (ToSender flips) w _ (refl, refl, refl) (refl, refl, refl)
@@ -87,7 +87,7 @@ answer-tells w flips (s, HeardRepeat number tries packet) = silent (ToSender fli
 answer-tells w flips (s, SenderIgnored) = silent (ToSender flips) w _ (refl, refl, refl) (refl, refl, refl)
 answer-tells w flips (s, DownAtAnswer) = silent (ToSender flips) w _ (refl, refl, refl) (refl, refl, refl)
 
-happening-tells : (w : Link) (event : Event) (false_pass : Bool) (happening : Happening) → HasHappen w event false_pass happening → Tells event w (happens w happening)
+happening-tells : (w : Delivery) (event : Event) (false_pass : Bool) (happening : Happening) → HasHappen w event false_pass happening → Tells event w (happens w happening)
 unfolding happens
 happening-tells w event false_pass happening (offers message) = offer-tells w message (offered w.outbound.sender message)
 happening-tells w event false_pass happening is_late = timeout-tells w (timed_out w.outbound.sender)
@@ -96,7 +96,7 @@ happening-tells w event false_pass happening (brings_data flips sent packet b n 
 happening-tells w event false_pass happening (brings_answer flips sent packet b n e) = answer-tells w flips (sender_heard w.outbound.sender packet)
 
 -- a quiet step is none of an event that sends
-quiet-tells : (event : Event) (w : Link) (kind : StepKind) → IsQuiet kind → sent_by event kind ≡ [] → Tells event w (w, kind)
+quiet-tells : (event : Event) (w : Delivery) (kind : StepKind) → IsQuiet kind → sent_by event kind ≡ [] → Tells event w (w, kind)
 quiet-tells event w kind (nothing way) none_sent = silent event w _ (refl, refl, refl) (refl, none_sent, refl)
 quiet-tells event w kind (lost way field) none_sent = silent event w _ (refl, refl, refl) (refl, none_sent, refl)
 quiet-tells event w kind (ignored way) none_sent = silent event w _ (refl, refl, refl) (refl, none_sent, refl)
@@ -110,34 +110,34 @@ none-sent Reopen kind quiet = refl
 none-sent (ToReceiver flips) kind quiet = refl
 none-sent (ToSender flips) kind quiet = refl
 
-told : (w : WorldState) (event : Event) (x : WorldState × Step) → Does w event x → Tells event w.link (x.0.link, x.1.kind)
-told w event x (rests kind quiet) = quiet-tells event w.link kind quiet (none-sent event kind quiet)
-told w event x (does happening false_pass has) = happening-tells w.link event false_pass happening has
+told : (w : WorldState) (event : Event) (x : WorldState × Step) → Does w event x → Tells event w.delivery (x.0.delivery, x.1.kind)
+told w event x (rests kind quiet) = quiet-tells event w.delivery kind quiet (none-sent event kind quiet)
+told w event x (does happening false_pass has) = happening-tells w.delivery event false_pass happening has
 
-step-tells : (w : WorldState) (event : Event) → Tells event w.link ((world_step w event).0.link, (world_step w event).1.kind)
+step-tells : (w : WorldState) (event : Event) → Tells event w.delivery ((world_step w event).0.delivery, (world_step w event).1.kind)
 step-tells w event = told w event (world_step w event) (step-does w event)
 
 -- A run adds what its steps tell of.
 
-pub run-delivered : (events : List Event) (w : WorldState) → (world_run w events).link.inbound.received ≡ w.link.inbound.received ++ delivered_in (steps_of w events)
+pub run-delivered : (events : List Event) (w : WorldState) → (world_run w events).delivery.inbound.received ≡ w.delivery.inbound.received ++ delivered_in (steps_of w events)
 unfolding run_by steps_by delivered_in
-run-delivered [] w = none w.link.inbound.received
+run-delivered [] w = none w.delivery.inbound.received
 run-delivered (event ∷ events) w =
     let step = world_step w event in
     run-delivered events step.0
     ∙ ap (λ (ms : List (List ℕ)). ms ++ delivered_in (steps_of step.0 events)) (step-tells w event).delivered
-    ∙ append_assoc w.link.inbound.received (delivered_by step.1.kind) (delivered_in (steps_of step.0 events))
+    ∙ append_assoc w.delivery.inbound.received (delivered_by step.1.kind) (delivered_in (steps_of step.0 events))
 
-pub run-sent : (events : List Event) (w : WorldState) → (world_run w events).link.outbound.sent ≡ w.link.outbound.sent ++ sent_in events (steps_of w events)
+pub run-sent : (events : List Event) (w : WorldState) → (world_run w events).delivery.outbound.sent ≡ w.delivery.outbound.sent ++ sent_in events (steps_of w events)
 unfolding run_by steps_by sent_in
-run-sent [] w = none w.link.outbound.sent
+run-sent [] w = none w.delivery.outbound.sent
 run-sent (event ∷ events) w =
     let step = world_step w event in
     run-sent events step.0
     ∙ ap (λ (ms : List (List ℕ)). ms ++ sent_in events (steps_of step.0 events)) (step-tells w event).sent
-    ∙ append_assoc w.link.outbound.sent (sent_by event step.1.kind) (sent_in events (steps_of step.0 events))
+    ∙ append_assoc w.delivery.outbound.sent (sent_by event step.1.kind) (sent_in events (steps_of step.0 events))
 
-pub run-acknowledged : (events : List Event) (w : WorldState) → (world_run w events).link.outbound.acknowledged ≡ w.link.outbound.acknowledged + acknowledged_in (steps_of w events)
+pub run-acknowledged : (events : List Event) (w : WorldState) → (world_run w events).delivery.outbound.acknowledged ≡ w.delivery.outbound.acknowledged + acknowledged_in (steps_of w events)
 unfolding run_by steps_by
 run-acknowledged [] w = omega arith
 run-acknowledged (event ∷ events) w =

@@ -29,7 +29,7 @@ use Rattle.p25_delivery.specs.declared.step_kind.StepKind.{StepKind}
 use Rattle.p25_delivery.specs.Halves.{Outgoing, Incoming}
 use Rattle.p25_delivery.specs.HalfRules.{after_offer, after_timeout, after_reopening, after_data, after_answer}
 use Rattle.p25_delivery.specs.SoundHalves.{IsOutgoing}
-use Rattle.p25_delivery.specs.Link.{Link, Happening, Offering, Time_up, Opening_again, Data_heard, Answer_heard, with_outbound, with_inbound, happens}
+use Rattle.p25_delivery.specs.Delivery.{Delivery, Happening, Offering, Time_up, Opening_again, Data_heard, Answer_heard, with_outbound, with_inbound, happens}
 use Rattle.p25_delivery.proofs.SenderLaws.{offer-quiet, offer-message, offer-opening}
 use Rattle.p25_delivery.proofs.HalfLaws.{counted-at, quiet-is}
 use Rattle.p25_stations.specs.declared.step.Event.{Event}
@@ -39,7 +39,7 @@ use Rattle.p25_stations.specs.Steps.{world_step}
 use Rattle.p25_stations.specs.Runs.{AreEvents, world_run, steps_of}
 use Rattle.p25_stations.specs.RunLaws.{tries_after, tries_in}
 use Rattle.p25_stations.proofs.StepLaws.{IsQuiet, nothing, lost, ignored, Does, rests, does, step-does}
-use Rattle.p25_stations.proofs.SoundLaws.{IsSoundLink, step-sound, run-sound, first-sound}
+use Rattle.p25_stations.proofs.SoundLaws.{IsSoundDelivery, step-sound, run-sound, first-sound}
 
 -- what happened tells how often the half has sent what is outstanding, where it had sent it so often before
 abbrev Tells : ℕ → Outgoing × (StepKind × Option Packet) → Type 0
@@ -149,9 +149,9 @@ answer-tries o s (Plain packet) =
     = elim (is_response packet.head) as (λ (b : Bool). AnswerTells o s (cond b heard (s, SenderIgnored))) [ true ↦ response-tries o s.outstanding s packet | false ↦ refl ] in
     elim s.down as (λ (b : Bool). AnswerTells o s (cond b (s, SenderIgnored) (cond (is_response packet.head) heard (s, SenderIgnored)))) [ true ↦ refl | false ↦ ours ]
 
--- What happens at a link, every step, and every run.
+-- What happens at a delivery, every step, and every run.
 
-happening-tries : (w : Link) (happening : Happening) → IsOutgoing w.outbound → tries_after w.outbound.sender.tries (happens w happening).1 ≡ (happens w happening).0.outbound.sender.tries
+happening-tries : (w : Delivery) (happening : Happening) → IsOutgoing w.outbound → tries_after w.outbound.sender.tries (happens w happening).1 ≡ (happens w happening).0.outbound.sender.tries
 unfolding happens with_outbound with_inbound
 happening-tries w (Offering message) sound = offer-tries w.outbound message w.outbound.sender.outstanding refl sound
 happening-tries w Time_up sound = timeout-tries w.outbound w.outbound.sender
@@ -164,16 +164,17 @@ quiet-tries kind (nothing way) tries = refl
 quiet-tries kind (lost way field) tries = refl
 quiet-tries kind (ignored way) tries = refl
 
-tries-told : (w : WorldState) (event : Event) (x : WorldState × Step) → Does w event x → IsSoundLink w.link → tries_after w.link.outbound.sender.tries x.1.kind ≡ x.0.link.outbound.sender.tries
-tries-told w event x (rests kind quiet) sound = quiet-tries kind quiet w.link.outbound.sender.tries
-tries-told w event x (does happening false_pass has) sound = happening-tries w.link happening sound.outbound
+tries-told : (w : WorldState) (event : Event) (x : WorldState × Step) → Does w event x → IsSoundDelivery w.delivery → tries_after w.delivery.outbound.sender.tries x.1.kind ≡ x.0.delivery.outbound.sender.tries
+tries-told w event x (rests kind quiet) sound = quiet-tries kind quiet w.delivery.outbound.sender.tries
+tries-told w event x (does happening false_pass has) sound = happening-tries w.delivery happening sound.outbound
 
-run-tries : (events : List Event) (w : WorldState) (tries : ℕ) → tries ≡ w.link.outbound.sender.tries → AreEvents events → IsSoundLink w.link → tries_in tries (steps_of w events) ≡ (world_run w events).link.outbound.sender.tries
+run-tries : (events : List Event) (w : WorldState) (tries : ℕ) → tries ≡ w.delivery.outbound.sender.tries → AreEvents events → IsSoundDelivery w.delivery
+    → tries_in tries (steps_of w events) ≡ (world_run w events).delivery.outbound.sender.tries
 unfolding EachIs run_by steps_by tries_in
 run-tries [] w tries e are sound = e
 run-tries (event ∷ events) w tries e are sound =
     let next = world_step w event in
-    let now : tries_after tries next.1.kind ≡ next.0.link.outbound.sender.tries = ap (λ (n : ℕ). tries_after n next.1.kind) e ∙ tries-told w event next (step-does w event) sound in
+    let now : tries_after tries next.1.kind ≡ next.0.delivery.outbound.sender.tries = ap (λ (n : ℕ). tries_after n next.1.kind) e ∙ tries-told w event next (step-does w event) sound in
     run-tries events next.0 (tries_after tries next.1.kind) now are.1 (step-sound w event are.0 sound)
 
 pub run-sixteen : (events : List Event) → AreEvents events → tries_in 0 (steps_of first_world events) ≤ 16

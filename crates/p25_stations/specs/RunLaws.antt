@@ -13,8 +13,8 @@ use Rattle.p25_stations.specs.Steps.{world_step}
 
 -- a delivery whose bits arrive within radius of what was sent, or any other event
 unfoldable pub IsWithin : WorldState → Event → Type 0
-IsWithin w (ToReceiver flips) = IfSome w.link.packet_sent (λ packet. ArrivesWithin packet flips)
-IsWithin w (ToSender flips) = IfSome w.link.answer (λ packet. ArrivesWithin packet flips)
+IsWithin w (ToReceiver flips) = IfSome w.delivery.packet_sent (λ packet. ArrivesWithin packet flips)
+IsWithin w (ToSender flips) = IfSome w.delivery.answer (λ packet. ArrivesWithin packet flips)
 IsWithin w other = Unit {0}
 
 -- each event of a list, at its moment
@@ -23,8 +23,8 @@ AreWithin w events = MeetAt world_step IsWithin w events
 
 -- a delivery of which at least two bits come inverted
 unfoldable pub IsTwiceDamaged : WorldState → Event → Type 0
-IsTwiceDamaged w (ToReceiver flips) = (packet : Packet) × (w.link.packet_sent ≡ Some packet) × (2 ≤ places_within packet flips)
-IsTwiceDamaged w (ToSender flips) = (packet : Packet) × (w.link.answer ≡ Some packet) × (2 ≤ places_within packet flips)
+IsTwiceDamaged w (ToReceiver flips) = (packet : Packet) × (w.delivery.packet_sent ≡ Some packet) × (2 ≤ places_within packet flips)
+IsTwiceDamaged w (ToSender flips) = (packet : Packet) × (w.delivery.answer ≡ Some packet) × (2 ≤ places_within packet flips)
 IsTwiceDamaged w other = ⊥
 
 -- a step that is no false pass
@@ -32,7 +32,7 @@ abbrev pub true_step : StepKind → Step
 true_step kind = record { kind = kind; false_pass = false }
 
 -- how often the present message or opening packet was sent, after a step before which it was sent so often: a taken message
--- and an opening begin a count, an acknowledgement and an opened link end it, and what is sent again counts on
+-- and an opening begin a count, an acknowledgement and an opened session end it, and what is sent again counts on
 abbrev pub tries_after : ℕ → StepKind → ℕ
 tries_after tries (Taken number blocks) = tries + 1
 tries_after tries (Resent number again) = tries + 1

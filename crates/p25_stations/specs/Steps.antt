@@ -4,7 +4,7 @@ use Rattle.p25_packet_blocks.specs.declared.packet.Packet.{Packet}
 use Rattle.p25_delivery.specs.declared.step_kind.Way.{Way}
 use Rattle.p25_delivery.specs.declared.step_kind.Way.TheVariants.{Packets, Answers}
 use Rattle.p25_delivery.specs.declared.step_kind.StepKind.{StepKind}
-use Rattle.p25_delivery.specs.Link.{Link, Happening, Offering, Time_up, Opening_again, Data_heard, Answer_heard, happens}
+use Rattle.p25_delivery.specs.Delivery.{Delivery, Happening, Offering, Time_up, Opening_again, Data_heard, Answer_heard, happens}
 use Rattle.p25_stations.specs.declared.step.Event.{Event}
 use Rattle.p25_stations.specs.declared.step.Event.TheVariants.{Send, Timeout, Reopen, ToReceiver, ToSender}
 use Rattle.p25_stations.specs.declared.step.Step.{Step}
@@ -17,35 +17,35 @@ counted_when true passes = min (passes + 1) (2 ^ 64 - 1)
 counted_when false passes = passes
 
 -- a step that is no delivery, or in which nothing is heard
-abbrev pub quiet_step : WorldState → Link × StepKind → WorldState × Step
-quiet_step w (link, kind) = (record w { link = link }, record { kind = kind; false_pass = false })
+abbrev pub quiet_step : WorldState → Delivery × StepKind → WorldState × Step
+quiet_step w (delivery, kind) = (record w { delivery = delivery }, record { kind = kind; false_pass = false })
 
 -- a step in which a packet is heard
-abbrev pub heard_step : WorldState → Bool → Link × StepKind → WorldState × Step
-heard_step w false_pass (link, kind) =
-    (record { link = link; false_passes = counted_when false_pass w.false_passes }, record { kind = kind; false_pass = false_pass })
+abbrev pub heard_step : WorldState → Bool → Delivery × StepKind → WorldState × Step
+heard_step w false_pass (delivery, kind) =
+    (record { delivery = delivery; false_passes = counted_when false_pass w.false_passes }, record { kind = kind; false_pass = false_pass })
 
--- what happens at the link where a packet is heard that way, and the newest transmission of that way
+-- what happens at the delivery where a packet is heard that way, and the newest transmission of that way
 unfoldable pub heard_by : Way → Packet → Happening
 heard_by Packets packet = Data_heard packet
 heard_by Answers packet = Answer_heard packet
 
-unfoldable pub newest_by : Way → Link → Option Packet
-newest_by Packets link = link.packet_sent
-newest_by Answers link = link.answer
+unfoldable pub newest_by : Way → Delivery → Option Packet
+newest_by Packets delivery = delivery.packet_sent
+newest_by Answers delivery = delivery.answer
 
 -- what is delivered that way comes to its station
 unfoldable pub delivered : WorldState → Way → Result (Packet × Bool) StepKind → WorldState × Step
-delivered w way (Err kind) = quiet_step w (w.link, kind)
-delivered w way (Ok (packet, false_pass)) = heard_step w false_pass (happens w.link (heard_by way packet))
+delivered w way (Err kind) = quiet_step w (w.delivery, kind)
+delivered w way (Ok (packet, false_pass)) = heard_step w false_pass (happens w.delivery (heard_by way packet))
 
 abbrev pub delivery_step : WorldState → Way → List ℕ → WorldState × Step
-delivery_step w way flips = delivered w way (delivery_of way (newest_by way w.link) flips)
+delivery_step w way flips = delivered w way (delivery_of way (newest_by way w.delivery) flips)
 
 -- what an event makes of the world, and its step
 unfoldable pub world_step : WorldState → Event → WorldState × Step
-world_step w (Send message) = quiet_step w (happens w.link (Offering message))
-world_step w Timeout = quiet_step w (happens w.link Time_up)
-world_step w Reopen = quiet_step w (happens w.link Opening_again)
+world_step w (Send message) = quiet_step w (happens w.delivery (Offering message))
+world_step w Timeout = quiet_step w (happens w.delivery Time_up)
+world_step w Reopen = quiet_step w (happens w.delivery Opening_again)
 world_step w (ToReceiver flips) = delivery_step w Packets flips
 world_step w (ToSender flips) = delivery_step w Answers flips

@@ -1,10 +1,10 @@
 -- What the world of the two stations keeps.
 use Rattle.std.specs.Prelude.{ℕ}
-use Rattle.p25_delivery.specs.Link.{Link, first_link}
+use Rattle.p25_delivery.specs.Delivery.{Delivery, first_delivery}
 
--- a link of the two stations, and how many false passes there were
+-- a delivery of the two stations, and how many false passes there were
 pub record WorldState : Type 0 where
-  pub link : Link
+  pub delivery : Delivery
   pub false_passes : ℕ
 
 -- what contracts see of a world, or of a station: its state, and for how many steps it has room
@@ -14,4 +14,4 @@ pub record Roomy (State : Type 0) : Type 0 where
 
 -- a world before the first step
 abbrev pub first_world : WorldState
-first_world = record { link = first_link; false_passes = 0 }
+first_world = record { delivery = first_delivery; false_passes = 0 }

@@ -12,7 +12,7 @@ use p25_bits::BitBuf;
 use p25_delivery::NAC;
 use p25_messages::Flips;
 use p25_packet_blocks::{Packet, packet_image, read_packet_unit};
-use p25_status::{Field, PLAIN_BLOCK_LENGTH, Status, Statuses, weave};
+use p25_status::{BARE_BLOCK_LENGTH, Field, Status, Statuses, weave};
 
 /// What comes of a transmission.
 #[derive(Drop)]
@@ -33,13 +33,13 @@ pub fn transmit(packet: &Packet, out: &mut BitBuf)
     ensures len { length out.new ≡ packet_sent_length (head_blocks (packet_head packet.now)) }
     ensures sendable { IsSendable packet.now }
 {
-    let mut plain = BitBuf::new();
-    packet_image(NAC, packet, &mut plain);
+    let mut bare = BitBuf::new();
+    packet_image(NAC, packet, &mut bare);
     let mut statuses = Statuses::new();
-    for _block in 0..plain.len() / PLAIN_BLOCK_LENGTH {
+    for _block in 0..bare.len() / BARE_BLOCK_LENGTH {
         statuses.push(Status::default());
     }
-    weave(&plain, &statuses, out);
+    weave(&bare, &statuses, out);
 }
 
 // Inverts the bits at some places; a place past the end inverts nothing.

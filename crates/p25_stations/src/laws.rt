@@ -6,8 +6,8 @@ ghost use Rattle.p25_delivery.specs.MessageBlocks.{block_count};
 ghost use Rattle.p25_delivery.specs.SenderRules.{opening_number};
 ghost use Rattle.p25_delivery.specs.declared.sender_state.Outstanding.TheVariants.{Nothing};
 ghost use Rattle.p25_delivery.specs.Orderly.{AreOrderly, AreCounted};
-ghost use Rattle.p25_delivery.specs.Link.{sessions_of};
-ghost use Rattle.p25_delivery.specs.Facts.{LinkFacts};
+ghost use Rattle.p25_delivery.specs.Delivery.{sessions_of};
+ghost use Rattle.p25_delivery.specs.Facts.{DeliveryFacts};
 ghost use Rattle.p25_stations.specs.declared.step.Event.{Event as event_type};
 ghost use Rattle.p25_stations.specs.declared.step.Event.TheVariants.{Send, Reopen, ToReceiver, ToSender};
 ghost use Rattle.p25_delivery.specs.declared.step_kind.StepKind.TheVariants.{Taken, Reopened, Delivered, SynHeard, Acknowledged, LinkOpened};
@@ -30,20 +30,20 @@ use p25_packet_blocks::laws::packet_radius;
 /// one at most was delivered that was not acknowledged.
 pub fn clean_runs_are_orderly()
     ensures { (events : List event_type) → AreEvents events → IsCleanRun events →
-        AreOrderly (sessions_of (world_run first_world events).link) }
+        AreOrderly (sessions_of (world_run first_world events).delivery) }
 {}
 
-/// **Theorem.** Its clause says that the link of a world keeps the facts that `LinkFacts` names while no step was a false
+/// **Theorem.** Its clause says that the delivery of a world keeps the facts that `DeliveryFacts` names while no step was a false
 /// pass.
 pub fn world_facts()
-    ensures { (events : List event_type) → AreEvents events → IsCleanRun events → LinkFacts (world_run first_world events).link }
+    ensures { (events : List event_type) → AreEvents events → IsCleanRun events → DeliveryFacts (world_run first_world events).delivery }
 {}
 
 /// **Theorem.** Its clauses say what every run keeps, clean or not. In each session what was acknowledged was sent, and
 /// one message at most was sent that was not acknowledged. A message or an opening packet is sent 16 times at most. And no
 /// step was a false pass exactly where none is counted.
 pub fn runs_are_counted()
-    ensures sessions { (events : List event_type) → AreCounted (sessions_of (world_run first_world events).link) }
+    ensures sessions { (events : List event_type) → AreCounted (sessions_of (world_run first_world events).delivery) }
     ensures tries { (events : List event_type) → AreEvents events → tries_in 0 (steps_of first_world events) ≤ 16 }
     ensures clean { (events : List event_type) → (world_run first_world events).false_passes ≡ 0 → IsCleanRun events }
     ensures none { (events : List event_type) → IsCleanRun events → (world_run first_world events).false_passes ≡ 0 }
@@ -63,20 +63,20 @@ pub fn damage_within_radius()
 }
 
 /// **Theorem.** Its clauses say what comes of deliveries within radius. After a clean run, where nothing is outstanding,
-/// a message is taken, delivered and acknowledged. After any run a sender that is down opens the link again.
+/// a message is taken, delivered and acknowledged. After any run a sender that is down opens the session again.
 pub fn deliveries_within_radius()
     ensures delivered { (events : List event_type) (message first second : List ℕ) → AreEvents events →
         (world_run first_world events).false_passes ≡ 0 → IsMessage message →
-        (world_run first_world events).link.outbound.sender.outstanding ≡ Nothing →
+        (world_run first_world events).delivery.outbound.sender.outstanding ≡ Nothing →
         AreWithin (world_run first_world events) (Send message ∷ ToReceiver first ∷ ToSender second ∷ []) →
-        (let number = (world_run first_world events).link.outbound.sender.next in
+        (let number = (world_run first_world events).delivery.outbound.sender.next in
         steps_of (world_run first_world events) (Send message ∷ ToReceiver first ∷ ToSender second ∷ []) ≡
         true_step (Taken number (block_count (length message))) ∷ true_step (Delivered number message) ∷
         true_step (Acknowledged number) ∷ []) }
     ensures opened { (events : List event_type) (first second : List ℕ) → AreEvents events →
-        (world_run first_world events).link.outbound.sender.down ≡ true →
+        (world_run first_world events).delivery.outbound.sender.down ≡ true →
         AreWithin (world_run first_world events) (Reopen ∷ ToReceiver first ∷ ToSender second ∷ []) →
-        (let sender = (world_run first_world events).link.outbound.sender in
+        (let sender = (world_run first_world events).delivery.outbound.sender in
         let number = opening_number sender.outstanding sender.next in
         steps_of (world_run first_world events) (Reopen ∷ ToReceiver first ∷ ToSender second ∷ []) ≡
         true_step (Reopened number) ∷ true_step (SynHeard number) ∷ true_step (LinkOpened number) ∷ []) }
@@ -104,9 +104,9 @@ pub fn air_is_true()
 /// steps is that of the messages acknowledged.
 pub fn steps_tell_lists()
     ensures delivered { (events : List event_type) →
-        (world_run first_world events).link.inbound.received ≡ delivered_in (steps_of first_world events) }
+        (world_run first_world events).delivery.inbound.received ≡ delivered_in (steps_of first_world events) }
     ensures sent { (events : List event_type) →
-        (world_run first_world events).link.outbound.sent ≡ sent_in events (steps_of first_world events) }
+        (world_run first_world events).delivery.outbound.sent ≡ sent_in events (steps_of first_world events) }
     ensures acknowledged { (events : List event_type) →
-        (world_run first_world events).link.outbound.acknowledged ≡ acknowledged_in (steps_of first_world events) }
+        (world_run first_world events).delivery.outbound.acknowledged ≡ acknowledged_in (steps_of first_world events) }
 {}

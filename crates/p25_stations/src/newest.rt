@@ -1,6 +1,6 @@
 ghost use Rattle.std.specs.Prelude.{◌≡◌, None, IfSome};
 ghost use Rattle.p25_packet_blocks.specs.Sendable.{IsSendable};
-ghost use Rattle.p25_delivery.specs.Link.{newest_after};
+ghost use Rattle.p25_delivery.specs.Delivery.{newest_after};
 ghost use Rattle.p25_stations.specs.Deliveries.{delivery_of};
 
 use crate::air::{Carried, carry};
@@ -36,7 +36,7 @@ impl Newest {
     }
 
     /// Makes what a call of a half sends the newest transmission, and answers what happened.
-    #[tactic(auto, unfolding(p25_delivery::specs::Link::newest_after))]
+    #[tactic(auto, unfolding(p25_delivery::specs::Delivery::newest_after))]
     pub fn keep(&mut self, called: (StepKind, Option<Packet>)) -> StepKind
         requires { IfSome called.1 IsSendable }
         ensures newest { self.new ≡ newest_after called.1 self.old }

@@ -11,7 +11,7 @@ pub enum Event {
     Send(Message),
     /// The sender's time is up.
     Timeout,
-    /// The link is to be opened again.
+    /// The session is to be opened again.
     Reopen,
     /// The newest transmission of data comes to the receiver, with the bits at these places inverted.
     ToReceiver(Flips),

@@ -27,7 +27,7 @@ impl Model for World {
 
     ghost view = { λ w. record {
       state = record {
-        link = record { outbound = w.outbound.half; inbound = w.inbound.half; packet_sent = w.packet_sent; answer = w.answer };
+        delivery = record { outbound = w.outbound.half; inbound = w.inbound.half; packet_sent = w.packet_sent; answer = w.answer };
         false_passes = w.false_passes;
       };
       spare = min w.outbound.spare w.inbound.spare;
@@ -53,21 +53,21 @@ impl World {
 
     /// Answers the messages that were sent, in order.
     pub fn sent(&self) -> &MessageList
-        ensures { result.now.list ≡ self.now.state.link.outbound.sent }
+        ensures { result.now.list ≡ self.now.state.delivery.outbound.sent }
     {
         self.outbound.sent()
     }
 
     /// Answers the messages that were delivered, in order.
     pub fn delivered(&self) -> &MessageList
-        ensures { result.now.list ≡ self.now.state.link.inbound.received }
+        ensures { result.now.list ≡ self.now.state.delivery.inbound.received }
     {
         self.inbound.received()
     }
 
     /// Answers how many messages were acknowledged.
     pub fn acknowledged(&self) -> u64
-        ensures { result ≡ self.now.state.link.outbound.acknowledged }
+        ensures { result ≡ self.now.state.delivery.outbound.acknowledged }
     {
         self.outbound.acknowledged()
     }
@@ -81,7 +81,7 @@ impl World {
 
     /// Answers the number of sessions: one more than a message was given up.
     pub fn sessions(&self) -> u64
-        ensures { result ≡ length self.now.state.link.outbound.marks + 1 }
+        ensures { result ≡ length self.now.state.delivery.outbound.marks + 1 }
     {
         self.outbound.sessions()
     }
@@ -101,7 +101,7 @@ impl World {
     }
 
     /// Answers the step that an event is, and has it happen. There is room for it, and it takes no memory.
-    #[tactic(auto, unfolding(crate::specs::Steps::world_step, p25_delivery::specs::Link::happens, p25_delivery::specs::Link::with_outbound))]
+    #[tactic(auto, unfolding(crate::specs::Steps::world_step, p25_delivery::specs::Delivery::happens, p25_delivery::specs::Delivery::with_outbound))]
     pub fn step_ready(&mut self, event: &Event) -> Step
         requires { 0 < self.old.spare }
         ensures state { self.new.state ≡ (world_step self.old.state event.now).0 }
@@ -135,16 +135,16 @@ impl World {
 }
 
 impl World {
-    ghost use Rattle.p25_delivery.specs.Link.{happens};
+    ghost use Rattle.p25_delivery.specs.Delivery.{happens};
     ghost use Rattle.p25_stations.specs.Steps.{heard_by, newest_by, delivery_step};
 
     // Has a station hear a packet that came that way.
-    #[tactic(auto, unfolding(crate::specs::Steps::heard_by, p25_delivery::specs::Link::happens, p25_delivery::specs::Link::with_outbound, p25_delivery::specs::Link::with_inbound))]
+    #[tactic(auto, unfolding(crate::specs::Steps::heard_by, p25_delivery::specs::Delivery::happens, p25_delivery::specs::Delivery::with_outbound, p25_delivery::specs::Delivery::with_inbound))]
     fn hear(&mut self, way: Way, packet: &Packet) -> StepKind
         requires { 0 < self.old.spare }
-        ensures link { self.new.state.link ≡ (happens self.old.state.link (heard_by way packet.now)).0 }
+        ensures delivery { self.new.state.delivery ≡ (happens self.old.state.delivery (heard_by way packet.now)).0 }
         ensures passes { self.new.state.false_passes ≡ self.old.state.false_passes }
-        ensures kind { result ≡ (happens self.old.state.link (heard_by way packet.now)).1 }
+        ensures kind { result ≡ (happens self.old.state.delivery (heard_by way packet.now)).1 }
         ensures spare { self.old.spare ≤ self.new.spare + 1 }
     {
         match way {
@@ -156,7 +156,7 @@ impl World {
     // The newest transmission of a way.
     #[tactic(auto, unfolding(crate::specs::Steps::newest_by))]
     fn newest(&self, way: Way) -> &Newest
-        ensures { result.now ≡ newest_by way self.now.state.link }
+        ensures { result.now ≡ newest_by way self.now.state.delivery }
     {
         match way {
             Way::Packets => &self.packet_sent,

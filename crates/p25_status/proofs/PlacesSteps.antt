@@ -21,10 +21,10 @@ first_block bits rest u low whole =
     ∙ sym (slice_get-front (take 70 bits) (drop 70 bits) u inside)
     ∙ ap (λ l. slice_get l u) (take-append-drop 70 bits)
 
-pub plain_places : (bits : List Bool) (statuses : List Status) → length bits ≡ 70 * length statuses → (u : ℕ) → u < length bits → slice_get (woven bits statuses) (u + 2 * (u / 70)) ≡ slice_get bits u
+pub bare_places : (bits : List Bool) (statuses : List Status) → length bits ≡ 70 * length statuses → (u : ℕ) → u < length bits → slice_get (woven bits statuses) (u + 2 * (u / 70)) ≡ slice_get bits u
 unfolding woven
-plain_places bits [] e u h = absurd (omega arith)
-plain_places bits (s ∷ ss) e u h =
+bare_places bits [] e u h = absurd (omega arith)
+bare_places bits (s ∷ ss) e u h =
     let whole : length (take 70 bits) ≡ 70 = length-take-le 70 bits (omega arith) in
     let left : length (drop 70 bits) ≡ 70 * length ss = omega (arith, length-drop 70 bits) in
     let symbol = bits_of 2 (status_number s) in
@@ -41,7 +41,7 @@ plain_places bits (s ∷ ss) e u h =
           ap (slice_get sent) place
           ∙ sym (slice_get-drop 72 sent ((u - 70) + 2 * ((u - 70) / 70)))
           ∙ ap (λ l. slice_get l ((u - 70) + 2 * ((u - 70) / 70))) (after_block (take 70 bits) symbol rest whole (length-bits_of 2 (status_number s)))
-          ∙ plain_places (drop 70 bits) ss left (u - 70) inside
+          ∙ bare_places (drop 70 bits) ss left (u - 70) inside
           ∙ slice_get-drop 70 bits (u - 70)
           ∙ ap (slice_get bits) back_again
     ]
@@ -71,7 +71,7 @@ symbol_places bits (s ∷ ss) e (suc i) status h =
 -- woven bits stand by the rule
 pub woven-places : (bits : List Bool) (statuses : List Status) → length bits ≡ 70 * length statuses → StandsByPlaces bits statuses (woven bits statuses)
 woven-places bits statuses e =
-    record { places = length-woven bits statuses e; plain = plain_places bits statuses e; symbols = symbol_places bits statuses e }
+    record { places = length-woven bits statuses e; bare = bare_places bits statuses e; symbols = symbol_places bits statuses e }
 
 -- an element at a place that is there
 element : {X : Type 0} (xs : List X) (i : ℕ) → i < length xs → (x : X) × (slice_get xs i ≡ Some x)
@@ -100,7 +100,7 @@ same_place bits statuses a b e first second p d h =
           let of_block : u / 70 ≡ block = omega arith in
           let place : u + 2 * (u / 70) ≡ p = omega arith in
           let there : u < length bits = omega arith in
-          let same = first.plain u there ∙ sym (second.plain u there) in
+          let same = first.bare u there ∙ sym (second.bare u there) in
           sym (unwrap_or-slice_get a p d)
           ∙ ap (λ n. unwrap_or (slice_get a n) d) (sym place)
           ∙ ap (λ o. unwrap_or o d) same

@@ -6,7 +6,7 @@ use Rattle.p25_bits.specs.Bits.{digit_of, bits_of, field_of, field_after, part}
 use Rattle.std.proofs.lemmas.Option.{get_or_from_slice_get}
 use Rattle.p25_bits.proofs.PartLaws.{get_or-part}
 use Rattle.p25_status.specs.Status.{status_number, status_from_bits, same_status}
-use Rattle.p25_status.specs.Woven.{woven, plain_in, statuses_in}
+use Rattle.p25_status.specs.Woven.{woven, bare_in, statuses_in}
 use Rattle.p25_status.specs.declared.symbols.Status.{Status}
 
 -- the blocks from block i on begin with that block
@@ -25,13 +25,13 @@ pub woven_none : (bits : List Bool) (statuses : List Status) → statuses ≡ []
 unfolding woven
 woven_none bits statuses none = ap (woven bits) none
 
-pub plain_block : (blocks i : ℕ) (sent : List Bool) → i < blocks → plain_in (blocks - i) (drop (72 * i) sent) ≡ part (72 * i) 70 sent ++ plain_in (blocks - (i + 1)) (drop (72 * (i + 1)) sent)
-unfolding plain_in
-plain_block blocks i sent h =
+pub bare_block : (blocks i : ℕ) (sent : List Bool) → i < blocks → bare_in (blocks - i) (drop (72 * i) sent) ≡ part (72 * i) 70 sent ++ bare_in (blocks - (i + 1)) (drop (72 * (i + 1)) sent)
+unfolding bare_in
+bare_block blocks i sent h =
     let more : blocks - i ≡ suc (blocks - (i + 1)) = omega arith in
     let next : 72 * i + 72 ≡ 72 * (i + 1) = omega arith in
-    ap (λ n. plain_in n (drop (72 * i) sent)) more
-    ∙ ap (λ l. part (72 * i) 70 sent ++ plain_in (blocks - (i + 1)) l) (drop-drop 72 (72 * i) sent ∙ ap (λ n. drop n sent) next)
+    ap (λ n. bare_in n (drop (72 * i) sent)) more
+    ∙ ap (λ l. part (72 * i) 70 sent ++ bare_in (blocks - (i + 1)) l) (drop-drop 72 (72 * i) sent ∙ ap (λ n. drop n sent) next)
 
 pub statuses_block : (blocks i : ℕ) (sent : List Bool) → i < blocks
     → statuses_in (blocks - i) (drop (72 * i) sent) ≡ status_from_bits (get_or sent (72 * i + 70) false) (get_or sent (72 * i + 71) false) ∷ statuses_in (blocks - (i + 1)) (drop (72 * (i + 1)) sent)
@@ -44,9 +44,9 @@ statuses_block blocks i sent h =
     (ap₂ status_from_bits (get_or-drop (72 * i) sent 70 false) (get_or-drop (72 * i) sent 71 false))
     (ap (statuses_in (blocks - (i + 1))) (drop-drop 72 (72 * i) sent ∙ ap (λ n. drop n sent) next))
 
-pub plain_none : (blocks i : ℕ) (sent : List Bool) → blocks ≤ i → plain_in (blocks - i) sent ≡ []
-unfolding plain_in
-plain_none blocks i sent h = let none : blocks - i ≡ 0 = omega arith in ap (λ n. plain_in n sent) none
+pub bare_none : (blocks i : ℕ) (sent : List Bool) → blocks ≤ i → bare_in (blocks - i) sent ≡ []
+unfolding bare_in
+bare_none blocks i sent h = let none : blocks - i ≡ 0 = omega arith in ap (λ n. bare_in n sent) none
 
 pub statuses_none : (blocks i : ℕ) (sent : List Bool) → blocks ≤ i → statuses_in (blocks - i) sent ≡ []
 unfolding statuses_in
@@ -66,13 +66,13 @@ woven_more bits statuses i status out longer h is =
     ∙ ap (λ xs. out ++ xs) (sym (woven_block bits statuses i status h))
 
 -- the bits of one block more, taken apart
-pub plain_more : (blocks i : ℕ) (sent out longer block : List Bool) → i < blocks → block ≡ part (72 * i) 70 sent → longer ≡ out ++ block
-    → longer ++ plain_in (blocks - (i + 1)) (drop (72 * (i + 1)) sent) ≡ out ++ plain_in (blocks - i) (drop (72 * i) sent)
-plain_more blocks i sent out longer block h same is =
-    let rest = plain_in (blocks - (i + 1)) (drop (72 * (i + 1)) sent) in
+pub bare_more : (blocks i : ℕ) (sent out longer block : List Bool) → i < blocks → block ≡ part (72 * i) 70 sent → longer ≡ out ++ block
+    → longer ++ bare_in (blocks - (i + 1)) (drop (72 * (i + 1)) sent) ≡ out ++ bare_in (blocks - i) (drop (72 * i) sent)
+bare_more blocks i sent out longer block h same is =
+    let rest = bare_in (blocks - (i + 1)) (drop (72 * (i + 1)) sent) in
     ap (λ xs. xs ++ rest) (is ∙ ap (λ xs. out ++ xs) same)
     ∙ append_assoc out (part (72 * i) 70 sent) rest
-    ∙ ap (λ xs. out ++ xs) (sym (plain_block blocks i sent h))
+    ∙ ap (λ xs. out ++ xs) (sym (bare_block blocks i sent h))
 
 -- the status symbol of one block more, taken apart
 pub statuses_more : (blocks i : ℕ) (sent : List Bool) (out longer : List Status) (status : Status) → i < blocks

@@ -8,7 +8,7 @@ use Rattle.p25_bits.specs.Bits.{digit_of, bits_of, field_of, field_after, part}
 use Rattle.p25_bits.proofs.PartLaws.{part-take, drop_behind}
 use Rattle.p25_bits.proofs.BitsLaws.{length-bits_of, field_of-bits_of}
 use Rattle.p25_status.specs.Status.{status_number, status_from_bits, same_status}
-use Rattle.p25_status.specs.Woven.{woven, plain_in, plain_of, statuses_in, statuses_of}
+use Rattle.p25_status.specs.Woven.{woven, bare_in, bare_of, statuses_in, statuses_of}
 use Rattle.p25_status.specs.declared.symbols.Status.{Status}
 
 -- two bits of a number below 4 write it
@@ -37,8 +37,8 @@ rest_of_blocks : {X : Type 0} (bits : List Bool) (s : X) (ss : List X) → lengt
 rest_of_blocks bits s ss e = omega (arith, length-drop 70 bits)
 
 -- a block's 72 bits, and those after it
-pub after_block : (front symbol rest : List Bool) → length front ≡ 70 → length symbol ≡ 2 → drop 72 (front ++ (symbol ++ rest)) ≡ rest
-after_block front symbol rest long short = drop_behind 70 2 front (symbol ++ rest) long ∙ drop_at symbol rest 2 short
+pub after_block : (beginning symbol rest : List Bool) → length beginning ≡ 70 → length symbol ≡ 2 → drop 72 (beginning ++ (symbol ++ rest)) ≡ rest
+after_block beginning symbol rest long short = drop_behind 70 2 beginning (symbol ++ rest) long ∙ drop_at symbol rest 2 short
 
 pub length-woven : (bits : List Bool) (statuses : List Status) → length bits ≡ 70 * length statuses → length (woven bits statuses) ≡ 72 * length statuses
 unfolding woven
@@ -53,16 +53,16 @@ length-woven bits (s ∷ ss) e =
       length-woven (drop 70 bits) ss (rest_of_blocks bits s ss e),
     )
 
-pub plain_in-woven : (bits : List Bool) (statuses : List Status) → length bits ≡ 70 * length statuses → plain_in (length statuses) (woven bits statuses) ≡ bits
-unfolding woven plain_in
-plain_in-woven bits [] e = sym (nil_from_length bits e)
-plain_in-woven bits (s ∷ ss) e =
+pub bare_in-woven : (bits : List Bool) (statuses : List Status) → length bits ≡ 70 * length statuses → bare_in (length statuses) (woven bits statuses) ≡ bits
+unfolding woven bare_in
+bare_in-woven bits [] e = sym (nil_from_length bits e)
+bare_in-woven bits (s ∷ ss) e =
     let block = take 70 bits in
     let rest = woven (drop 70 bits) ss in
     let whole = whole_block bits s ss e in
     ap₂ ◌++◌
     (take_at block (bits_of 2 (status_number s) ++ rest) 70 whole)
-    (ap (plain_in (length ss)) (after_block block (bits_of 2 (status_number s)) rest whole (length-bits_of 2 (status_number s))) ∙ plain_in-woven (drop 70 bits) ss (rest_of_blocks bits s ss e))
+    (ap (bare_in (length ss)) (after_block block (bits_of 2 (status_number s)) rest whole (length-bits_of 2 (status_number s))) ∙ bare_in-woven (drop 70 bits) ss (rest_of_blocks bits s ss e))
     ∙ take-append-drop 70 bits
 
 pub statuses_in-woven : (bits : List Bool) (statuses : List Status) → length bits ≡ 70 * length statuses → statuses_in (length statuses) (woven bits statuses) ≡ statuses
@@ -84,11 +84,11 @@ statuses_in-woven bits (s ∷ ss) e =
 blocks_counted : (blocks : ℕ) → 72 * blocks / 72 ≡ blocks
 blocks_counted blocks = omega arith
 
-pub plain_of-woven : (bits : List Bool) (statuses : List Status) → length bits ≡ 70 * length statuses → plain_of (woven bits statuses) ≡ bits
-unfolding plain_of
-plain_of-woven bits statuses e =
+pub bare_of-woven : (bits : List Bool) (statuses : List Status) → length bits ≡ 70 * length statuses → bare_of (woven bits statuses) ≡ bits
+unfolding bare_of
+bare_of-woven bits statuses e =
     let blocks = ap (λ n. n / 72) (length-woven bits statuses e) ∙ blocks_counted (length statuses) in
-    ap (λ n. plain_in n (woven bits statuses)) blocks ∙ plain_in-woven bits statuses e
+    ap (λ n. bare_in n (woven bits statuses)) blocks ∙ bare_in-woven bits statuses e
 
 pub statuses_of-woven : (bits : List Bool) (statuses : List Status) → length bits ≡ 70 * length statuses → statuses_of (woven bits statuses) ≡ statuses
 unfolding statuses_of
@@ -105,8 +105,8 @@ block_whole sent h =
     ∙ ap (λ l. take 70 sent ++ l) (sym (drop-cons sent 70 false first))
     ∙ take-append-drop 70 sent
 
-pub woven-in : (blocks : ℕ) (sent : List Bool) → length sent ≡ 72 * blocks → woven (plain_in blocks sent) (statuses_in blocks sent) ≡ sent
-unfolding woven plain_in statuses_in
+pub woven-in : (blocks : ℕ) (sent : List Bool) → length sent ≡ 72 * blocks → woven (bare_in blocks sent) (statuses_in blocks sent) ≡ sent
+unfolding woven bare_in statuses_in
 woven-in zero sent e = sym (nil_from_length sent e)
 woven-in (suc blocks) sent e =
     let enough : 72 ≤ length sent = omega arith in
@@ -114,40 +114,40 @@ woven-in (suc blocks) sent e =
     let left : length (drop 72 sent) ≡ 72 * blocks = omega (arith, length-drop 72 sent) in
     let high = get_or sent 70 false in
     let low = get_or sent 71 false in
-    let plain = plain_in blocks (drop 72 sent) in
+    let bare = bare_in blocks (drop 72 sent) in
     ap₂ ◌++◌
-    (take_at (take 70 sent) plain 70 whole)
+    (take_at (take 70 sent) bare 70 whole)
     (
     ap₂ ◌++◌
     (bits_again high low)
-    (ap (λ l. woven l (statuses_in blocks (drop 72 sent))) (drop_at (take 70 sent) plain 70 whole) ∙ woven-in blocks (drop 72 sent) left)
+    (ap (λ l. woven l (statuses_in blocks (drop 72 sent))) (drop_at (take 70 sent) bare 70 whole) ∙ woven-in blocks (drop 72 sent) left)
     )
     ∙ block_whole sent enough
 
 -- to weave what was taken apart gives it back
-pub woven-of : (blocks : ℕ) (sent : List Bool) → length sent ≡ 72 * blocks → woven (plain_of sent) (statuses_of sent) ≡ sent
-unfolding plain_of statuses_of
+pub woven-of : (blocks : ℕ) (sent : List Bool) → length sent ≡ 72 * blocks → woven (bare_of sent) (statuses_of sent) ≡ sent
+unfolding bare_of statuses_of
 woven-of blocks sent e =
     let counted : length sent / 72 ≡ blocks = ap (λ n. n / 72) e ∙ blocks_counted blocks in
-    ap (λ n. woven (plain_in n sent) (statuses_in n sent)) counted ∙ woven-in blocks sent e
+    ap (λ n. woven (bare_in n sent) (statuses_in n sent)) counted ∙ woven-in blocks sent e
 
-pub length-plain_in : (blocks : ℕ) (sent : List Bool) → length sent ≡ 72 * blocks → length (plain_in blocks sent) ≡ 70 * blocks
-unfolding plain_in
-length-plain_in zero sent e = refl
-length-plain_in (suc blocks) sent e =
+pub length-bare_in : (blocks : ℕ) (sent : List Bool) → length sent ≡ 72 * blocks → length (bare_in blocks sent) ≡ 70 * blocks
+unfolding bare_in
+length-bare_in zero sent e = refl
+length-bare_in (suc blocks) sent e =
     let left : length (drop 72 sent) ≡ 72 * blocks = omega (arith, length-drop 72 sent) in
-    length-append (take 70 sent) (plain_in blocks (drop 72 sent)) ∙ omega (arith, length-take-le 70 sent (omega arith), length-plain_in blocks (drop 72 sent) left)
+    length-append (take 70 sent) (bare_in blocks (drop 72 sent)) ∙ omega (arith, length-take-le 70 sent (omega arith), length-bare_in blocks (drop 72 sent) left)
 
 pub length-statuses_in : (blocks : ℕ) (sent : List Bool) → length (statuses_in blocks sent) ≡ blocks
 unfolding statuses_in
 length-statuses_in zero sent = refl
 length-statuses_in (suc blocks) sent = ap suc (length-statuses_in blocks (drop 72 sent))
 
-pub length-plain_of : (blocks : ℕ) (sent : List Bool) → length sent ≡ 72 * blocks → length (plain_of sent) ≡ 70 * blocks
-unfolding plain_of
-length-plain_of blocks sent e =
+pub length-bare_of : (blocks : ℕ) (sent : List Bool) → length sent ≡ 72 * blocks → length (bare_of sent) ≡ 70 * blocks
+unfolding bare_of
+length-bare_of blocks sent e =
     let counted : length sent / 72 ≡ blocks = ap (λ n. n / 72) e ∙ blocks_counted blocks in
-    ap (λ n. length (plain_in n sent)) counted ∙ length-plain_in blocks sent e
+    ap (λ n. length (bare_in n sent)) counted ∙ length-bare_in blocks sent e
 
 pub length-statuses_of : (blocks : ℕ) (sent : List Bool) → length sent ≡ 72 * blocks → length (statuses_of sent) ≡ blocks
 unfolding statuses_of
@@ -159,14 +159,14 @@ length-statuses_of blocks sent e =
 part_of_front : (xs ys : List Bool) (from count n : ℕ) → length xs ≡ n → from + count ≤ n → part from count (xs ++ ys) ≡ part from count xs
 part_of_front xs ys from count n e h = sym (part-take from count n (xs ++ ys) h) ∙ ap (part from count) (take_at xs ys n e)
 
-part_in : (blocks i from count : ℕ) (sent : List Bool) → length sent ≡ 72 * blocks → i < blocks → from + count ≤ 70 → part (70 * i + from) count (plain_in blocks sent) ≡ part (72 * i + from) count sent
-unfolding plain_in
+part_in : (blocks i from count : ℕ) (sent : List Bool) → length sent ≡ 72 * blocks → i < blocks → from + count ≤ 70 → part (70 * i + from) count (bare_in blocks sent) ≡ part (72 * i + from) count sent
+unfolding bare_in
 part_in zero i from count sent e h few = absurd (omega arith)
 part_in (suc blocks) zero from count sent e h few =
     let whole : length (take 70 sent) ≡ 70 = length-take-le 70 sent (omega arith) in
     let place : 0 + from ≡ from = omega arith in
-    ap (λ n. part n count (take 70 sent ++ plain_in blocks (drop 72 sent))) place
-    ∙ part_of_front (take 70 sent) (plain_in blocks (drop 72 sent)) from count 70 whole few
+    ap (λ n. part n count (take 70 sent ++ bare_in blocks (drop 72 sent))) place
+    ∙ part_of_front (take 70 sent) (bare_in blocks (drop 72 sent)) from count 70 whole few
     ∙ part-take from count 70 sent few
     ∙ ap (λ n. part n count sent) (sym place)
 part_in (suc blocks) (suc i) from count sent e h few =
@@ -175,15 +175,15 @@ part_in (suc blocks) (suc i) from count sent e h few =
     let place : 70 * suc i + from ≡ 70 + (70 * i + from) = omega arith in
     let sent_place : 72 + (72 * i + from) ≡ 72 * suc i + from = omega arith in
     let inside : i < blocks = omega arith in
-    ap (λ n. part n count (take 70 sent ++ plain_in blocks (drop 72 sent))) place
-    ∙ ap (take count) (drop_behind 70 (70 * i + from) (take 70 sent) (plain_in blocks (drop 72 sent)) whole)
+    ap (λ n. part n count (take 70 sent ++ bare_in blocks (drop 72 sent))) place
+    ∙ ap (take count) (drop_behind 70 (70 * i + from) (take 70 sent) (bare_in blocks (drop 72 sent)) whole)
     ∙ part_in blocks i from count (drop 72 sent) left inside few
     ∙ ap (take count) (drop-drop (72 * i + from) 72 sent)
     ∙ ap (λ n. part n count sent) sent_place
 
 -- a part of one block of a unit is a part of that block as sent
-pub part-plain_of : (blocks i from count : ℕ) (sent : List Bool) → length sent ≡ 72 * blocks → i < blocks → from + count ≤ 70 → part (70 * i + from) count (plain_of sent) ≡ part (72 * i + from) count sent
-unfolding plain_of
-part-plain_of blocks i from count sent e h few =
+pub part-bare_of : (blocks i from count : ℕ) (sent : List Bool) → length sent ≡ 72 * blocks → i < blocks → from + count ≤ 70 → part (70 * i + from) count (bare_of sent) ≡ part (72 * i + from) count sent
+unfolding bare_of
+part-bare_of blocks i from count sent e h few =
     let counted : length sent / 72 ≡ blocks = ap (λ n. n / 72) e ∙ blocks_counted blocks in
-    ap (λ n. part (70 * i + from) count (plain_in n sent)) counted ∙ part_in blocks i from count sent e h few
+    ap (λ n. part (70 * i + from) count (bare_in n sent)) counted ∙ part_in blocks i from count sent e h few

@@ -12,8 +12,8 @@ abbrev pub identifier_length : ℕ
 identifier_length = 64
 
 -- how many bits of a unit stand before each status symbol
-abbrev pub plain_block_length : ℕ
-plain_block_length = 70
+abbrev pub bare_block_length : ℕ
+bare_block_length = 70
 
 -- how many bits are sent for them: their status symbol has two
 abbrev pub sent_block_length : ℕ

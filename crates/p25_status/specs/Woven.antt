@@ -10,9 +10,9 @@ woven bits [] = []
 woven bits (status ∷ statuses) = take 70 bits ++ (bits_of 2 (status_number status) ++ woven (drop 70 bits) statuses)
 
 -- the bits of so many blocks of 72 without their status symbols
-unfoldable pub plain_in : ℕ → List Bool → List Bool
-plain_in zero sent = []
-plain_in (suc blocks) sent = take 70 sent ++ plain_in blocks (drop 72 sent)
+unfoldable pub bare_in : ℕ → List Bool → List Bool
+bare_in zero sent = []
+bare_in (suc blocks) sent = take 70 sent ++ bare_in blocks (drop 72 sent)
 
 -- the status symbols of so many blocks of 72 bits
 unfoldable pub statuses_in : ℕ → List Bool → List Status
@@ -20,8 +20,8 @@ statuses_in zero sent = []
 statuses_in (suc blocks) sent = status_from_bits (slice_index_or sent 70 false) (slice_index_or sent 71 false) ∷ statuses_in blocks (drop 72 sent)
 
 -- sent bits without their status symbols
-unfoldable pub plain_of : List Bool → List Bool
-plain_of sent = plain_in (length sent / 72) sent
+unfoldable pub bare_of : List Bool → List Bool
+bare_of sent = bare_in (length sent / 72) sent
 
 -- the status symbols of sent bits
 unfoldable pub statuses_of : List Bool → List Status
@@ -31,5 +31,5 @@ statuses_of sent = statuses_in (length sent / 72) sent
 -- 72 · i + 71; there are no other places
 pub record StandsByPlaces (bits : List Bool) (statuses : List Status) (sent : List Bool) : Type 0 where
   pub places : length sent ≡ 72 * length statuses
-  pub plain : (u : ℕ) → u < length bits → slice_get sent (u + 2 * (u / 70)) ≡ slice_get bits u
+  pub bare : (u : ℕ) → u < length bits → slice_get sent (u + 2 * (u / 70)) ≡ slice_get bits u
   pub symbols : (i : ℕ) (status : Status) → slice_get statuses i ≡ Some status → part (72 * i + 70) 2 sent ≡ bits_of 2 (status_number status)

@@ -2,14 +2,14 @@
 //!
 //! A unit is sent with a status symbol of two bits, the higher one first, after every 70 of its bits, counted from the
 //! first bit of its sync. So bit u of a unit is sent at place u + 2 · (u / 70), and status symbol i at the places
-//! 72 · i + 70 and 72 · i + 71. Contracts speak of the sent bits as `woven bits statuses`, of the way back as `plain_of`
+//! 72 · i + 70 and 72 · i + 71. Contracts speak of the sent bits as `woven bits statuses`, of the way back as `bare_of`
 //! and `statuses_of`, and of the rule by places as `StandsByPlaces`. Lists are seen as lists.
 //!
 //! ```text
 //! let mut sent = BitBuf::new();
-//! weave(&plain, &statuses, &mut sent);
+//! weave(&bare, &statuses, &mut sent);
 //! if is_sync(&sent, 0) {
-//!     unweave(&sent, 0, sent.len(), &mut plain, &mut statuses);
+//!     unweave(&sent, 0, sent.len(), &mut bare, &mut statuses);
 //! }
 //! ```
 #![tactic(auto)]
@@ -27,4 +27,4 @@ pub use frame_sync::{
     IDENTIFIER_LENGTH, SYNC, SYNC_LENGTH, SYNC_SLACK, is_sync, is_sync_window, sync_distance,
 };
 pub use symbols::{Status, Statuses};
-pub use weaving::{PLAIN_BLOCK_LENGTH, SENT_BLOCK_LENGTH, unweave, weave};
+pub use weaving::{BARE_BLOCK_LENGTH, SENT_BLOCK_LENGTH, unweave, weave};

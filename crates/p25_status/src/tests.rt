@@ -36,24 +36,24 @@ fn sync_with_wrong_bits(rt: HostRuntime) {
 
 #[test]
 fn two_blocks(rt: HostRuntime) -> Result<(), Fail> {
-    let mut plain = BitBuf::new();
-    plain.put_field(0x5555_5555_5555_5555, 64);
-    plain.put_field(0x3F, 6);
-    plain.put_field(0, 64);
-    plain.put_field(0x2A, 6);
+    let mut bare = BitBuf::new();
+    bare.put_field(0x5555_5555_5555_5555, 64);
+    bare.put_field(0x3F, 6);
+    bare.put_field(0, 64);
+    bare.put_field(0x2A, 6);
     let mut statuses = Statuses::new();
     statuses.push(Status::new(1).ok_or("1 is a status symbol")?);
     statuses.push(Status::new(2).ok_or("2 is a status symbol")?);
     let mut sent = BitBuf::new();
-    weave(&plain, &statuses, &mut sent);
+    weave(&bare, &statuses, &mut sent);
     assert_eq!(rt; sent.len(), 144);
     assert_eq!(rt; sent.field(56, 16), 0x55FD);
     assert_eq!(rt; sent.field(128, 16), 0x00AA);
 
-    let mut plain_again = BitBuf::new();
+    let mut bare_again = BitBuf::new();
     let mut statuses_again = Statuses::new();
-    unweave(&sent, 72, 72, &mut plain_again, &mut statuses_again);
-    assert_eq!(rt; plain_again.field(6, 64), 0x2A);
+    unweave(&sent, 72, 72, &mut bare_again, &mut statuses_again);
+    assert_eq!(rt; bare_again.field(6, 64), 0x2A);
     assert_eq!(rt; statuses_again.len(), 1);
     assert_eq!(rt; statuses_again.get(0).value(), 2);
     Ok(())

@@ -1,12 +1,12 @@
 ghost use Rattle.std.specs.Prelude.{◌≡◌, ◌+◌, ◌*◌, ◌%◌, ◌≤◌, Bool, List, length};
 ghost use Rattle.p25_bits.specs.Bits.{part};
-ghost use Rattle.p25_status.specs.Woven.{woven, plain_of, statuses_of, StandsByPlaces};
+ghost use Rattle.p25_status.specs.Woven.{woven, bare_of, statuses_of, StandsByPlaces};
 
 use crate::symbols::{Status, Statuses};
 use p25_bits::BitBuf;
 
 /// How many bits of a unit stand before each of its status symbols. TIA-102.BAAA, Status Symbols.
-pub const PLAIN_BLOCK_LENGTH: usize = 70;
+pub const BARE_BLOCK_LENGTH: usize = 70;
 
 /// How many bits are sent for them: a status symbol has two. TIA-102.BAAA, Status Symbols.
 pub const SENT_BLOCK_LENGTH: usize = 72;
@@ -14,20 +14,20 @@ pub const SENT_BLOCK_LENGTH: usize = 72;
 // How many bits a status symbol has.
 const STATUS_WIDTH: u32 = 2;
 
-/// Replaces `out` by a unit's bits as they are sent: after every 70 bits of `plain` comes one of the status symbols, in
+/// Replaces `out` by a unit's bits as they are sent: after every 70 bits of `bare` comes one of the status symbols, in
 /// order. There are 70 bits for each symbol. TIA-102.BAAA, Status Symbols.
-pub fn weave(plain: &BitBuf, statuses: &Statuses, out: &mut BitBuf)
-    requires { length plain.now ≡ 70 * length statuses.now }
-    ensures list { out.new ≡ woven plain.now statuses.now }
+pub fn weave(bare: &BitBuf, statuses: &Statuses, out: &mut BitBuf)
+    requires { length bare.now ≡ 70 * length statuses.now }
+    ensures list { out.new ≡ woven bare.now statuses.now }
     ensures len { length out.new ≡ 72 * length statuses.now }
-    ensures places { StandsByPlaces plain.now statuses.now out.new }
-    ensures only { (other : List Bool) → StandsByPlaces plain.now statuses.now other → other ≡ out.new }
-    ensures plain_again { plain_of out.new ≡ plain.now }
+    ensures places { StandsByPlaces bare.now statuses.now out.new }
+    ensures only { (other : List Bool) → StandsByPlaces bare.now statuses.now other → other ≡ out.new }
+    ensures bare_again { bare_of out.new ≡ bare.now }
     ensures statuses_again { statuses_of out.new ≡ statuses.now }
 {
     out.clear();
     for i in 0..statuses.len() {
-        out.append(plain, PLAIN_BLOCK_LENGTH * i, PLAIN_BLOCK_LENGTH);
+        out.append(bare, BARE_BLOCK_LENGTH * i, BARE_BLOCK_LENGTH);
         out.put_field(u64::from(statuses.get(i).value()), STATUS_WIDTH);
     }
 }
@@ -38,11 +38,11 @@ pub fn unweave(bits: &BitBuf, at: usize, len: usize, out: &mut BitBuf, statuses:
     requires blocks { len % 72 ≡ 0 }
     requires most { len ≤ 25920 }
     requires there { at + len ≤ length bits.now }
-    ensures plain { out.new ≡ plain_of (part at len bits.now) }
+    ensures bare { out.new ≡ bare_of (part at len bits.now) }
     ensures statuses { statuses.new ≡ statuses_of (part at len bits.now) }
     ensures woven { woven out.new statuses.new ≡ part at len bits.now }
     ensures places { StandsByPlaces out.new statuses.new (part at len bits.now) }
-    ensures plain_len { length out.new ≡ 70 * length statuses.new }
+    ensures bare_len { length out.new ≡ 70 * length statuses.new }
     ensures len { 72 * length statuses.new ≡ len }
 {
     // The number of bits held bounds every place below.
@@ -51,8 +51,8 @@ pub fn unweave(bits: &BitBuf, at: usize, len: usize, out: &mut BitBuf, statuses:
     *statuses = Statuses::new();
     for i in 0..len / SENT_BLOCK_LENGTH {
         let start = at + SENT_BLOCK_LENGTH * i;
-        out.append(bits, start, PLAIN_BLOCK_LENGTH);
-        let status = bits.field(start + PLAIN_BLOCK_LENGTH, STATUS_WIDTH);
+        out.append(bits, start, BARE_BLOCK_LENGTH);
+        let status = bits.field(start + BARE_BLOCK_LENGTH, STATUS_WIDTH);
         statuses.push(Status::at_number(status as u8));
     }
 }

@@ -56,13 +56,13 @@ repaired-as_many at bits (Cut place have) same fits = omega (arith, length-take 
 
 -- the repaired bits of some items, and then those of the items after them
 record IsRepairedTo (before items : List Item) (bits : List Bool) : Type 0 where
-  front : List Bool
-  as_many : length front ≡ sum_by covered before
-  joined : changed_bits repaired (before ++ items) bits ≡ front ++ changed_bits repaired items (drop (sum_by covered before) bits)
+  beginning : List Bool
+  as_many : length beginning ≡ sum_by covered before
+  joined : changed_bits repaired (before ++ items) bits ≡ beginning ++ changed_bits repaired items (drop (sum_by covered before) bits)
 
 repaired-to : (before items : List Item) (at : ℕ) (bits : List Bool) → items_of at bits ≡ before ++ items → IsRepairedTo before items bits
 unfolding changed_bits
-repaired-to [] items at bits is = record { front = []; as_many = refl; joined = refl }
+repaired-to [] items at bits is = record { beginning = []; as_many = refl; joined = refl }
 repaired-to (item ∷ before) items at bits is =
     let first = items_by-first true at bits item (before ++ items) is in
     let count = covered item in
@@ -71,13 +71,13 @@ repaired-to (item ∷ before) items at bits is =
     let rest = repaired-to before items (at + count) (drop count bits) (sym first.2) in
     let sum = sum_by-cons covered item before in
     record {
-      front = raw ++ rest.front;
-      as_many = omega (arith, length-append raw rest.front, repaired-as_many at bits item first.1 fits, rest.as_many, sum);
+      beginning = raw ++ rest.beginning;
+      as_many = omega (arith, length-append raw rest.beginning, repaired-as_many at bits item first.1 fits, rest.as_many, sum);
       joined =
           ap (λ (zs : List Bool). raw ++ zs) rest.joined
-          ∙ sym (append_assoc raw rest.front (changed_bits repaired items (drop (sum_by covered before) (drop count bits))))
-          ∙ ap (λ (left : List Bool). (raw ++ rest.front) ++ changed_bits repaired items left) (drop-drop (sum_by covered before) count bits)
-          ∙ ap (λ (n : ℕ). (raw ++ rest.front) ++ changed_bits repaired items (drop n bits)) (sym sum);
+          ∙ sym (append_assoc raw rest.beginning (changed_bits repaired items (drop (sum_by covered before) (drop count bits))))
+          ∙ ap (λ (left : List Bool). (raw ++ rest.beginning) ++ changed_bits repaired items left) (drop-drop (sum_by covered before) count bits)
+          ∙ ap (λ (n : ℕ). (raw ++ rest.beginning) ++ changed_bits repaired items (drop n bits)) (sym sum);
     }
 
 -- so all repaired bits are as many as there were
@@ -88,7 +88,7 @@ repaired-length bits =
     let all = repaired-to items [] 0 bits (sym (append-nil items)) in
     ap (λ (is : List Item). length (changed_bits repaired is bits)) (sym (append-nil items))
     ∙ ap length all.joined
-    ∙ ap length (append-nil all.front)
+    ∙ ap length (append-nil all.beginning)
     ∙ all.as_many
     ∙ covered-items_of 0 bits
 
@@ -113,11 +113,11 @@ repairs-each_unit octets bits arrival more is all =
           let split = repaired-to found.before (unit ∷ after) 0 input found.among in
           let left = drop (sum_by covered found.before) input in
           let tail = changed_bits repaired after (drop (covered unit) left) in
-          let joined : changed ≡ split.front ++ (image ++ tail) = ap (λ (items : List Item). changed_bits repaired items input) found.among ∙ split.joined in
-          let here : length split.front ≡ place = omega (arith, split.as_many, found.ends) in
+          let joined : changed ≡ split.beginning ++ (image ++ tail) = ap (λ (items : List Item). changed_bits repaired items input) found.among ∙ split.joined in
+          let here : length split.beginning ≡ place = omega (arith, split.as_many, found.ends) in
           let read = frame_arrived-sound place arrival is in
           let long : length image ≡ length arrival.bits = length-image_of (frame_arrived arrival) read.0 read.1 ∙ covered-whole_of place arrival is in
           inr
           (ap (part place (length arrival.bits)) (octet_bits-whole changed whole ∙ joined)
-          ∙ part_joined place (length arrival.bits) split.front image tail here long)
+          ∙ part_joined place (length arrival.bits) split.beginning image tail here long)
     ]

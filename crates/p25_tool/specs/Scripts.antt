@@ -3,7 +3,7 @@ use Rattle.std.specs.Prelude.{◌≡◌, ℕ, ◌≤◌, ◌⊎◌, true, List, 
 use Rattle.std.specs.List.{flat_map}
 use Rattle.p25_io.specs.Octets.{Appended}
 use Rattle.p25_delivery.specs.Orderly.{AreOrderly}
-use Rattle.p25_delivery.specs.Link.{sessions_of}
+use Rattle.p25_delivery.specs.Delivery.{sessions_of}
 use Rattle.p25_stations.specs.Runs.{IsCleanRun, steps_of, world_run}
 use Rattle.p25_stations.specs.WorldState.{first_world}
 use Rattle.p25_stations.specs.declared.step.Event.{Event}
@@ -15,7 +15,7 @@ use Rattle.p25_fragment_script.specs.LongScript.{long_event_of}
 use Rattle.p25_fragment_script.specs.LongTexts.{long_step_text_of}
 use Rattle.p25_duplex.specs.declared.side.Side.{Side}
 use Rattle.p25_duplex.specs.declared.event.DuplexEvent.{DuplexEvent}
-use Rattle.p25_duplex.specs.DuplexState.{first_duplex, link_at}
+use Rattle.p25_duplex.specs.DuplexState.{first_duplex, delivery_at}
 use Rattle.p25_duplex.specs.DuplexRuns.{IsCleanDuplex, duplex_run, duplex_steps}
 use Rattle.p25_duplex_script.specs.DuplexLines.{duplex_event_of}
 use Rattle.p25_filter.specs.Lines.{lines_in}
@@ -39,7 +39,7 @@ script_text events = flat_map step_line (steps_of first_world events) ++ closing
 pub record HasRun (first last : Option (List ℕ)) (events : List Event) (outcome : Outcome) : Type 0 where
   pub ended : (outcome ≡ Done) ⊎ (outcome ≡ Memory)
   pub wrote : outcome ≡ Done → Appended first (script_text events) last
-  pub orderly : IsCleanRun events → AreOrderly (sessions_of (world_run first_world events).link)
+  pub orderly : IsCleanRun events → AreOrderly (sessions_of (world_run first_world events).delivery)
 
 -- the lines of an input are events of long messages
 pub record IsLongScriptOf (input : List ℕ) (events : List LongEvent) : Type 0 where
@@ -72,4 +72,4 @@ duplex_script_text events = flat_map duplex_step_line (duplex_steps first_duplex
 pub record HasDuplexRun (first last : Option (List ℕ)) (events : List DuplexEvent) (outcome : Outcome) : Type 0 where
   pub ended : (outcome ≡ Done) ⊎ (outcome ≡ Memory)
   pub wrote : outcome ≡ Done → Appended first (duplex_script_text events) last
-  pub orderly : (side : Side) → IsCleanDuplex events → AreOrderly (sessions_of (link_at side (duplex_run first_duplex events)))
+  pub orderly : (side : Side) → IsCleanDuplex events → AreOrderly (sessions_of (delivery_at side (duplex_run first_duplex events)))

@@ -32,7 +32,7 @@ pub sends_more : (point : ℕ → ℕ → ℕ) (nibbles path : List ℕ) (step s
     → ((rest : List ℕ) → nibbles_from point 0 (take step path ++ rest) ≡ take step nibbles ++ nibbles_from point state rest)
     → (rest : List ℕ) → nibbles_from point 0 (take (step + 1) (set path step symbol) ++ rest) ≡ take (step + 1) nibbles ++ nibbles_from point symbol rest
 sends_more point nibbles path step state symbol inside there sends so_far rest =
-    ap (λ (front : List ℕ). nibbles_from point 0 (front ++ rest)) (take_more_set path step symbol inside)
+    ap (λ (beginning : List ℕ). nibbles_from point 0 (beginning ++ rest)) (take_more_set path step symbol inside)
     ∙ ap (nibbles_from point 0) (append_assoc (take step path) (symbol ∷ []) rest)
     ∙ so_far (symbol ∷ rest)
     ∙ ap (λ (xs : List ℕ). take step nibbles ++ xs) (nibbles_from-cons point state symbol rest ∙ ap (λ n. n ∷ nibbles_from point symbol rest) sends)

@@ -139,7 +139,7 @@ completes_more states point cost rests path step state symbol least has early lo
     let whole = so_far (suc before) (symbol ∷ end) there (IsFirstLeastEnd-cons states point cost rests step before state symbol least end after there choice next) in
     subst
     (λ (whole_path : List ℕ). IsFirstLeastEnd states 48 (symbols_cost point cost 0 0) whole_path)
-    (sym (ap (λ (front : List ℕ). front ++ end) (take_more_set path step symbol inside) ∙ append_assoc (take step path) (symbol ∷ []) end))
+    (sym (ap (λ (beginning : List ℕ). beginning ++ end) (take_more_set path step symbol inside) ∙ append_assoc (take step path) (symbol ∷ []) end))
     whole
 
 -- two lists of which neither is after the other are one

@@ -151,23 +151,23 @@ pub same_from_take : {X : Type 0} (n : ℕ) (xs ys : List X) → length xs ≤ n
 same_from_take n xs ys short brief same = sym (take_all n xs short) ∙ same ∙ take_all n ys brief
 
 -- one more nibble is written to its place
-pub written_more : (plain nibbles : List ℕ) (place : ℕ) → length plain ≡ 49 → place < 49
-    → ((k : ℕ) → k < place → get_or plain (get_or SENT_ORDER k 0) 0 ≡ get_or nibbles k 0) → (k : ℕ) → k < place + 1
-    → get_or (set plain (get_or SENT_ORDER place 0) (get_or nibbles place 0)) (get_or SENT_ORDER k 0) 0 ≡ get_or nibbles k 0
-written_more plain nibbles place long inside so_far =
-    below_more (λ k. get_or (set plain (get_or SENT_ORDER place 0) (get_or nibbles place 0)) (get_or SENT_ORDER k 0) 0 ≡ get_or nibbles k 0) place before here
+pub written_more : (gathered nibbles : List ℕ) (place : ℕ) → length gathered ≡ 49 → place < 49
+    → ((k : ℕ) → k < place → get_or gathered (get_or SENT_ORDER k 0) 0 ≡ get_or nibbles k 0) → (k : ℕ) → k < place + 1
+    → get_or (set gathered (get_or SENT_ORDER place 0) (get_or nibbles place 0)) (get_or SENT_ORDER k 0) 0 ≡ get_or nibbles k 0
+written_more gathered nibbles place long inside so_far =
+    below_more (λ k. get_or (set gathered (get_or SENT_ORDER place 0) (get_or nibbles place 0)) (get_or SENT_ORDER k 0) 0 ≡ get_or nibbles k 0) place before here
   where
-    before : (k : ℕ) → k < place → get_or (set plain (get_or SENT_ORDER place 0) (get_or nibbles place 0)) (get_or SENT_ORDER k 0) 0 ≡ get_or nibbles k 0
+    before : (k : ℕ) → k < place → get_or (set gathered (get_or SENT_ORDER place 0) (get_or nibbles place 0)) (get_or SENT_ORDER k 0) 0 ≡ get_or nibbles k 0
     before k h =
         let other : k ≢ place = omega arith in
         let below : k < 49 = omega arith in
-        get_or-set_other plain (get_or SENT_ORDER place 0) (get_or SENT_ORDER k 0) (get_or nibbles place 0) 0 (order-differs k place below inside other)
+        get_or-set_other gathered (get_or SENT_ORDER place 0) (get_or SENT_ORDER k 0) (get_or nibbles place 0) 0 (order-differs k place below inside other)
         ∙ so_far k h
 
-    here : get_or (set plain (get_or SENT_ORDER place 0) (get_or nibbles place 0)) (get_or SENT_ORDER place 0) 0 ≡ get_or nibbles place 0
+    here : get_or (set gathered (get_or SENT_ORDER place 0) (get_or nibbles place 0)) (get_or SENT_ORDER place 0) 0 ≡ get_or nibbles place 0
     here =
-        let there : get_or SENT_ORDER place 0 < length plain = omega (arith, order-lt place inside) in
-        get_or-set_same plain (get_or SENT_ORDER place 0) (get_or nibbles place 0) 0 there
+        let there : get_or SENT_ORDER place 0 < length gathered = omega (arith, order-lt place inside) in
+        get_or-set_same gathered (get_or SENT_ORDER place 0) (get_or nibbles place 0) 0 there
 
 -- what holds of each element of two lists, one after the other, holds of each of either
 All-front : {X : Type 0} (P : X → Type 0) (xs ys : List X) → All P (xs ++ ys) → All P xs
@@ -208,6 +208,6 @@ All-from_interleaved P xs all =
     let e1 = each_fourth 1 xs in
     let e2 = each_fourth 2 xs in
     let e3 = each_fourth 3 xs in
-    let front = All-front P (e0 ++ e1 ++ e2) e3 all in
-    let half = All-front P (e0 ++ e1) e2 front in
-    All-from_fourths P xs (All-front P e0 e1 half) (All-back P e0 e1 half) (All-back P (e0 ++ e1) e2 front) (All-back P (e0 ++ e1 ++ e2) e3 all)
+    let beginning = All-front P (e0 ++ e1 ++ e2) e3 all in
+    let half = All-front P (e0 ++ e1) e2 beginning in
+    All-from_fourths P xs (All-front P e0 e1 half) (All-back P e0 e1 half) (All-back P (e0 ++ e1) e2 beginning) (All-back P (e0 ++ e1 ++ e2) e3 all)

@@ -68,9 +68,9 @@ pub seven_written : (j word : ℕ) (before written after : List Bool) (nibbles :
 seven_written j word before written after nibbles early long is seven so_far =
     let count : 7 * j + 7 - 7 * j ≡ 7 = omega arith in
     let more : 7 * j + 7 ≡ 7 * (j + 1) = omega arith in
-    let front = take (7 * j) nibbles in
+    let beginning = take (7 * j) nibbles in
     let group = take 7 (drop (7 * j) nibbles) in
     is
     ∙ ap₂ (λ (xs ys : List Bool). xs ++ ys) so_far (seven ∙ ap (λ n. number_bits 4 (take n (drop (7 * j) nibbles))) count)
-    ∙ append_assoc before (number_bits 4 front) (number_bits 4 group)
-    ∙ ap (λ (xs : List Bool). before ++ xs) (sym (number_bits-append 4 front group) ∙ ap (number_bits 4) (sym (take-add (7 * j) 7 nibbles) ∙ ap (λ n. take n nibbles) more))
+    ∙ append_assoc before (number_bits 4 beginning) (number_bits 4 group)
+    ∙ ap (λ (xs : List Bool). before ++ xs) (sym (number_bits-append 4 beginning group) ∙ ap (number_bits 4) (sym (take-add (7 * j) 7 nibbles) ∙ ap (λ n. take n nibbles) more))

@@ -10,11 +10,11 @@ use Rattle.p25_bits.proofs.NumbersLaws.{length-number_bits, number_bits-octets, 
 
 -- few symbols and then 0 are a path
 pub IsPath-from_front : (states : ℕ) (path : List ℕ) → 0 < states → length path ≡ 49 → All (λ n. n < states) (take 48 path) → drop 48 path ≡ 0 ∷ [] → IsPath states path
-IsPath-from_front states path some long front last =
+IsPath-from_front states path some long beginning last =
     let P : ℕ → Type 0 = λ n. n < states in record {
       long = long;
       below
-          = All-same P path (take 48 path ++ 0 ∷ []) (sym (take-append-drop 48 path) ∙ ap (λ (zs : List ℕ). take 48 path ++ zs) last) (All-append P (take 48 path) (0 ∷ []) front (All-cons P 0 [] some (All-nil P)));
+          = All-same P path (take 48 path ++ 0 ∷ []) (sym (take-append-drop 48 path) ∙ ap (λ (zs : List ℕ). take 48 path ++ zs) last) (All-append P (take 48 path) (0 ∷ []) beginning (All-cons P 0 [] some (All-nil P)));
       last = last;
     }
 

@@ -23,12 +23,12 @@ pub comes_out : (queue left : List Bool) (width : ℕ) (numbers : List ℕ) (wri
     → number ≡ field_of (take width queue) → left ≡ drop width queue
     → number_bits width (take (written + 1) (set numbers written number)) ++ left ≡ number_bits width (take written numbers) ++ queue
 comes_out queue left width numbers written number inside there is rest =
-    let front : bits_of width number ≡ take width queue
+    let beginning : bits_of width number ≡ take width queue
     = ap (bits_of width) is ∙ ap (λ n. bits_of n (field_of (take width queue))) (sym (length-take-le width queue there)) ∙ bits_of-field_of (take width queue) in
     ap₂ (λ (xs ys : List Bool). xs ++ ys)
     (ap (number_bits width) (take_more_set numbers written number inside)
     ∙ number_bits-append width (take written numbers) (number ∷ [])
-    ∙ ap (λ (xs : List Bool). number_bits width (take written numbers) ++ xs) (number_bits-one width number ∙ front))
+    ∙ ap (λ (xs : List Bool). number_bits width (take written numbers) ++ xs) (number_bits-one width number ∙ beginning))
     rest
     ∙ append_assoc (number_bits width (take written numbers)) (take width queue) (drop width queue)
     ∙ ap (λ (xs : List Bool). number_bits width (take written numbers) ++ xs) (take-append-drop width queue)

@@ -28,14 +28,14 @@ pub fn spread(nibbles: &[u8; 49]) -> [u8; 49]
 /// Answers the nibbles of a path from those that were sent. It undoes `spread`, and `spread` undoes it.
 pub fn gather(nibbles: &[u8; 49]) -> [u8; 49]
     ensures sent { interleaved result ≡ nibbles.now }
-    ensures undone { (plain : List ℕ) → interleaved plain ≡ nibbles.now → result ≡ plain }
+    ensures undone { (gathered : List ℕ) → interleaved gathered ≡ nibbles.now → result ≡ gathered }
     ensures len { length result ≡ 49 }
 {
-    let mut plain = [0; 49];
+    let mut gathered = [0; 49];
     for place in 0..49 {
-        plain[SENT_ORDER[place]] = nibbles[place];
+        gathered[SENT_ORDER[place]] = nibbles[place];
     }
-    plain
+    gathered
 }
 
 #[cfg(test)]

@@ -11,9 +11,9 @@ use Rattle.p25_bits.proofs.DistanceLaws.{distance_of-same, distance_by-append}
 use Rattle.std.specs.Bool.{beq}
 use Rattle.p25_code.specs.Words.{IsEncoding}
 use Rattle.p25_status.specs.Sync.{sync_bits}
-use Rattle.p25_status.specs.Woven.{plain_of}
+use Rattle.p25_status.specs.Woven.{bare_of}
 use Rattle.p25_status.proofs.SyncLaws.{length-sync_bits}
-use Rattle.p25_status.proofs.WovenLaws.{part-plain_of}
+use Rattle.p25_status.proofs.WovenLaws.{part-bare_of}
 use Rattle.p25_bch_nid.specs.Bch63.{IsBch63}
 use Rattle.p25_bch_nid.specs.Bch63Laws.{one_word}
 use Rattle.p25_bch_nid.specs.NidReading.{IsNidFound, IsNidReading, nid_reading_of}
@@ -111,18 +111,18 @@ pub front_fixes_of-none : (nid : ℕ × ℕ) (sent : List Bool) → front_of sen
 unfolding front_fixes_of
 front_fixes_of-none nid sent same = ap (λ (xs : List Bool). distance_of (take 111 xs) (take 111 (unit_front nid.0 nid.1))) same ∙ distance_of-same (take 111 (unit_front nid.0 nid.1))
 
--- the front of a sent unit is that of its plain bits
-pub front_of-plain_of : (blocks : ℕ) (sent : List Bool) → 2 ≤ blocks → length sent ≡ 72 * blocks → take 112 (plain_of sent) ≡ front_of sent
+-- the front of a sent unit is that of its bare bits
+pub front_of-bare_of : (blocks : ℕ) (sent : List Bool) → 2 ≤ blocks → length sent ≡ 72 * blocks → take 112 (bare_of sent) ≡ front_of sent
 unfolding front_of identifier_bits
-front_of-plain_of blocks sent two long =
-    let plain = plain_of sent in
-    take-add 48 64 plain
+front_of-bare_of blocks sent two long =
+    let bare = bare_of sent in
+    take-add 48 64 bare
     ∙ ap₂ (λ (xs ys : List Bool). xs ++ ys)
-    (part-plain_of blocks 0 0 48 sent long (omega arith) (omega arith))
-    (take-add 22 42 (drop 48 plain)
+    (part-bare_of blocks 0 0 48 sent long (omega arith) (omega arith))
+    (take-add 22 42 (drop 48 bare)
     ∙ ap₂ (λ (xs ys : List Bool). xs ++ ys)
-    (part-plain_of blocks 0 48 22 sent long (omega arith) (omega arith))
-    (ap (take 42) (drop-drop 22 48 plain) ∙ part-plain_of blocks 1 0 42 sent long (omega arith) (omega arith)))
+    (part-bare_of blocks 0 48 22 sent long (omega arith) (omega arith))
+    (ap (take 42) (drop-drop 22 48 bare) ∙ part-bare_of blocks 1 0 42 sent long (omega arith) (omega arith)))
 
 -- a sent unit whose front is the one that is sent has the sync and the identifier of it
 pub front_of-sync : (nac duid : ℕ) (sent : List Bool) → 48 ≤ length sent → front_of sent ≡ unit_front nac duid → take 48 sent ≡ sync_bits

@@ -6,8 +6,8 @@
 //! the places 48 to 69 and 72 to 113.
 //!
 //! ```text
-//! let mut plain = BitBuf::new();
-//! put_front(&nid, &mut plain);
+//! let mut bare = BitBuf::new();
+//! put_front(&nid, &mut bare);
 //! let read = read_identifier(&sent, 0);
 //! let fixes = front_fixes(&sent, 0, &nid);
 //! ```

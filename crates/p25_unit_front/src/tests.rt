@@ -23,10 +23,10 @@ fn sent_front(wrong_sync: u64, wrong_identifier: u64) -> BitBuf
 #[test]
 fn fronts(rt: HostRuntime) -> Result<(), Fail> {
     let nid = Nid::new(0, 3).ok_or("an identifier")?;
-    let mut plain = BitBuf::new();
-    put_front(&nid, &mut plain);
-    assert_eq!(rt; plain.len(), 112);
-    assert_eq!(rt; plain.field(0, 48), 0x5575_F5FF_77FF);
+    let mut bare = BitBuf::new();
+    put_front(&nid, &mut bare);
+    assert_eq!(rt; bare.len(), 112);
+    assert_eq!(rt; bare.field(0, 48), 0x5575_F5FF_77FF);
     // Rows: wrong bits of the sync, wrong bits of the identifier, whether it is read, and the fixes.
     let rows: [(u64, u64, bool, u32); 4] = [
         (0, 0, true, 0),

@@ -1,7 +1,7 @@
 -- A unit that is refused has a field that fails: by its kind, and by what was read of each of its fields.
 use Rattle.std.proofs.Common.{◌≡◌, ℕ, ◌%◌, ◌<◌, inl, inr, Bool, List, [], ◌∷◌, length, take, Some, Result, Ok, Err, refl, ap, sym, ◌∙◌, arith}
 use Rattle.std.specs.Prelude.{IfErr}
-use Rattle.p25_status.specs.Woven.{plain_of, statuses_of}
+use Rattle.p25_status.specs.Woven.{bare_of, statuses_of}
 use Rattle.p25_status.specs.declared.fields.Field.{Field}
 use Rattle.p25_unit_front.specs.Front.{identifier_of}
 use Rattle.p25_unit_front.proofs.FrontLaws.{identifier_of-take}
@@ -38,15 +38,15 @@ packet_fails (Err field) fields e = first_fails fields field [] (cc)
 
 -- Units.
 
-body_fails : (duid : ℕ) (sent : List Bool) (fields : List Field) → IsUnitOf duid sent → body_reading_of duid (plain_of sent) ≡ Err fields → 0 < length fields
+body_fails : (duid : ℕ) (sent : List Bool) (fields : List Field) → IsUnitOf duid sent → body_reading_of duid (bare_of sent) ≡ Err fields → 0 < length fields
 body_fails duid sent fields unit e = elim unit.kind [
   | inl voice ↦
-      voice_fails (plain_of sent) fields duid voice.plain voice.kind (voice_body_fails (voice_reading_of duid (plain_of sent)) fields (sym (body_reading_of-voice duid (plain_of sent) voice.other) ∙ e))
+      voice_fails (bare_of sent) fields duid voice.bare voice.kind (voice_body_fails (voice_reading_of duid (bare_of sent)) fields (sym (body_reading_of-voice duid (bare_of sent) voice.other) ∙ e))
   | inr packet ↦
-      packet_fails (packet_reading_of (plain_of sent)) fields (sym (body_reading_of-packet (plain_of sent)) ∙ ap (λ d. body_reading_of d (plain_of sent)) (sym packet.packet) ∙ e)
+      packet_fails (packet_reading_of (bare_of sent)) fields (sym (body_reading_of-packet (bare_of sent)) ∙ ap (λ d. body_reading_of d (bare_of sent)) (sym packet.packet) ∙ e)
 ]
 
-frame_fails : (nid : ℕ × ℕ) (sent : List Bool) (reading : Result Body (List Field)) (fields : List Field) → IsUnitOf nid.1 sent → body_reading_of nid.1 (plain_of sent) ≡ reading
+frame_fails : (nid : ℕ × ℕ) (sent : List Bool) (reading : Result Body (List Field)) (fields : List Field) → IsUnitOf nid.1 sent → body_reading_of nid.1 (bare_of sent) ≡ reading
     → frame_from nid.0 (statuses_of sent) reading ≡ Err fields → 0 < length fields
 frame_fails nid sent (Ok body) fields unit read e = absurd (cc)
 frame_fails nid sent (Err other) fields unit read e = let same : other ≡ fields = cc in body_fails nid.1 sent fields unit (read ∙ ap Err same)
@@ -60,7 +60,7 @@ unit_fails bits count fields need e =
     let some : 72 < count = bounds.0 in
     let whole : count % 72 ≡ 0 = bounds.2 in
     let read : identifier_of sent ≡ Some found.nid = identifier_of-take count bits (omega arith) ∙ found.read in
-    frame_fails found.nid sent (body_reading_of found.nid.1 (plain_of sent)) fields (IsUnitOf-need count bits found.nid.1 found.kind) refl
+    frame_fails found.nid sent (body_reading_of found.nid.1 (bare_of sent)) fields (IsUnitOf-need count bits found.nid.1 found.kind) refl
     (sym (reading_from-some found.nid sent) ∙ sym (unit_reading_of-read sent (Some found.nid) read) ∙ e)
 
 -- so it is with a reading of it

@@ -8,10 +8,10 @@ use Rattle.p25_bits.specs.Distance.{distance_of}
 use Rattle.p25_bits.proofs.PartLaws.{part_add}
 use Rattle.p25_bits.proofs.NumbersLaws.{each_below-zero, each_below-suc}
 use Rattle.p25_bits.proofs.DistanceLaws.{distance_of-same, distance_by-append}
-use Rattle.p25_status.specs.Woven.{plain_of}
-use Rattle.p25_status.proofs.WovenLaws.{length-plain_of}
+use Rattle.p25_status.specs.Woven.{bare_of}
+use Rattle.p25_status.proofs.WovenLaws.{length-bare_of}
 use Rattle.p25_unit_front.specs.Front.{unit_front, front_of, front_fixes_of}
-use Rattle.p25_unit_front.proofs.FrontLaws.{front_of-plain_of}
+use Rattle.p25_unit_front.proofs.FrontLaws.{front_of-bare_of}
 use Rattle.p25_voice_units.specs.declared.unit.VoiceUnit.{VoiceUnit}
 use Rattle.p25_voice_units.specs.declared.unit.VoiceUnit.TheVariants.{End}
 use Rattle.p25_voice_units.specs.Fixes.{voice_looked, bits_at, voice_fixes_of}
@@ -25,7 +25,7 @@ use Rattle.p25_units.specs.Units.{body_duid, unit_image_of, image_of, IsSoundFra
 use Rattle.p25_units.specs.Fixes.{packet_looked, body_looked, looked_of, body_fixes_of, fixes_of}
 use Rattle.p25_units.specs.declared.unit.Body.TheVariants.{Voice, Packet}
 use Rattle.p25_units.specs.declared.frame.Frame.{Frame}
-use Rattle.p25_units.proofs.UnitsLaws.{unit_image_of-front, plain_of-image_of, length-unit_image_of, IsSentLength-body}
+use Rattle.p25_units.proofs.UnitsLaws.{unit_image_of-front, bare_of-image_of, length-unit_image_of, IsSentLength-body}
 
 -- the bits at one place, and at none
 bits_at-cons : (place : ℕ × ℕ) (places : List (ℕ × ℕ)) (bits : List Bool) → bits_at (place ∷ places) bits ≡ part place.0 place.1 bits ++ bits_at places bits
@@ -42,34 +42,34 @@ first_111 bits start is = sym (take-take 111 112 bits (omega arith)) ∙ ap (tak
 
 -- the fixes of a frame that can be sent are those of its front and those after it
 pub fixes_of-parts : (frame : Frame) (blocks : ℕ) (sent : List Bool) → IsSendableBody frame.unit.body → 2 ≤ blocks → length sent ≡ 72 * blocks
-    → fixes_of frame sent ≡ front_fixes_of (frame.unit.nac, body_duid frame.unit.body) sent + body_fixes_of frame.unit (plain_of sent)
+    → fixes_of frame sent ≡ front_fixes_of (frame.unit.nac, body_duid frame.unit.body) sent + body_fixes_of frame.unit (bare_of sent)
 unfolding fixes_of front_fixes_of body_fixes_of
 fixes_of-parts frame blocks sent sendable two long =
     let unit = frame.unit in
     let places = body_looked unit.body in
-    let plain = plain_of sent in
+    let bare = bare_of sent in
     let image = unit_image_of unit in
     let is = IsSentLength-body unit.body in
-    let plain_long : 111 ≤ length plain = omega (arith, length-plain_of blocks sent long, two) in
+    let bare_long : 111 ≤ length bare = omega (arith, length-bare_of blocks sent long, two) in
     let image_long : 111 ≤ length image = omega (arith, length-unit_image_of unit sendable, is.fills, is.least) in
-    ap₂ (λ (xs ys : List Bool). distance_of xs ys) (bits_at-cons (0, 111) places plain) (bits_at-cons (0, 111) places image)
-    ∙ distance_by-append beq (take 111 plain) (bits_at places plain) (take 111 image) (bits_at places image) (length-take-le 111 plain plain_long ∙ sym (length-take-le 111 image image_long))
-    ∙ ap (λ n. n + distance_of (bits_at places plain) (bits_at places image))
+    ap₂ (λ (xs ys : List Bool). distance_of xs ys) (bits_at-cons (0, 111) places bare) (bits_at-cons (0, 111) places image)
+    ∙ distance_by-append beq (take 111 bare) (bits_at places bare) (take 111 image) (bits_at places image) (length-take-le 111 bare bare_long ∙ sym (length-take-le 111 image image_long))
+    ∙ ap (λ n. n + distance_of (bits_at places bare) (bits_at places image))
     (ap₂ (λ (xs ys : List Bool). distance_of xs ys)
-    (first_111 plain (front_of sent) (front_of-plain_of blocks sent two long))
+    (first_111 bare (front_of sent) (front_of-bare_of blocks sent two long))
     (first_111 image (unit_front unit.nac (body_duid unit.body)) (unit_image_of-front unit sendable)))
 
 -- of a voice unit
-pub body_fixes_of-voice : (nac : ℕ) (voice : VoiceUnit) (plain : List Bool) → let unit : UnitParts = record { nac = nac; body = Voice voice } in body_fixes_of unit plain ≡ voice_fixes_of voice plain (voice_image_of nac voice)
+pub body_fixes_of-voice : (nac : ℕ) (voice : VoiceUnit) (bare : List Bool) → let unit : UnitParts = record { nac = nac; body = Voice voice } in body_fixes_of unit bare ≡ voice_fixes_of voice bare (voice_image_of nac voice)
 unfolding body_fixes_of unit_image_of voice_fixes_of
-body_fixes_of-voice nac voice plain = refl
+body_fixes_of-voice nac voice bare = refl
 
 -- after the front of a terminator nothing is looked at
-pub body_fixes_of-end : (nac : ℕ) (plain : List Bool) → let unit : UnitParts = record { nac = nac; body = Voice End } in body_fixes_of unit plain ≡ 0
+pub body_fixes_of-end : (nac : ℕ) (bare : List Bool) → let unit : UnitParts = record { nac = nac; body = Voice End } in body_fixes_of unit bare ≡ 0
 unfolding body_fixes_of voice_looked
-body_fixes_of-end nac plain =
+body_fixes_of-end nac bare =
     let unit : UnitParts = record { nac = nac; body = Voice End } in
-    ap₂ (λ (xs ys : List Bool). distance_of xs ys) (bits_at-nil plain) (bits_at-nil (unit_image_of unit)) ∙ distance_of-same []
+    ap₂ (λ (xs ys : List Bool). distance_of xs ys) (bits_at-nil bare) (bits_at-nil (unit_image_of unit)) ∙ distance_of-same []
 
 -- the looked-at places of a packet touch
 bits_at-append : (xs ys : List (ℕ × ℕ)) (bits : List Bool) → bits_at (xs ++ ys) bits ≡ bits_at xs bits ++ bits_at ys bits
@@ -103,19 +103,19 @@ bits_at-packet : (n : ℕ) (bits : List Bool) → bits_at (packet_looked n) bits
 unfolding packet_looked block_places
 bits_at-packet n bits = bits_at-cons (112, 196) (block_places n) bits ∙ bits_at-blocks n bits
 
-pub body_fixes_of-packet : (nac : ℕ) (packet : packet_type) (plain : List Bool)
+pub body_fixes_of-packet : (nac : ℕ) (packet : packet_type) (bare : List Bool)
     → let unit : UnitParts = record { nac = nac; body = Packet packet } in
     let count = 196 * (1 + head_blocks (packet_head packet)) in
-    body_fixes_of unit plain ≡ distance_of (part 112 count plain) (part 112 count (packet_image_of nac packet))
+    body_fixes_of unit bare ≡ distance_of (part 112 count bare) (part 112 count (packet_image_of nac packet))
 unfolding body_fixes_of unit_image_of
-body_fixes_of-packet nac packet plain =
+body_fixes_of-packet nac packet bare =
     let n = head_blocks (packet_head packet) in
-    ap₂ (λ (xs ys : List Bool). distance_of xs ys) (bits_at-packet n plain) (bits_at-packet n (packet_image_of nac packet))
+    ap₂ (λ (xs ys : List Bool). distance_of xs ys) (bits_at-packet n bare) (bits_at-packet n (packet_image_of nac packet))
 
 -- an undamaged image has none
 pub fixes_of-image_of : (frame : Frame) → IsSoundFrame frame → IsSendableUnit frame.unit → fixes_of frame (image_of frame) ≡ 0
 unfolding fixes_of
 fixes_of-image_of frame sound sendable =
     let places = looked_of frame.unit in
-    ap (λ (xs : List Bool). distance_of (bits_at places xs) (bits_at places (unit_image_of frame.unit))) (plain_of-image_of frame sound sendable)
+    ap (λ (xs : List Bool). distance_of (bits_at places xs) (bits_at places (unit_image_of frame.unit))) (bare_of-image_of frame sound sendable)
     ∙ distance_of-same (bits_at places (unit_image_of frame.unit))

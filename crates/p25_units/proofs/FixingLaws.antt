@@ -2,7 +2,7 @@
 use Rattle.std.proofs.Common.{◌≡◌, ℕ, ◌+◌, ◌*◌, ◌≤◌, Bool, List, length, take, drop, ap, ap₂, sym, ◌∙◌, arith, length-drop}
 use Rattle.std.proofs.lemmas.List.{length-take-le}
 use Rattle.p25_bits.specs.Bits.{part}
-use Rattle.p25_status.specs.Woven.{plain_of}
+use Rattle.p25_status.specs.Woven.{bare_of}
 use Rattle.p25_unit_front.specs.Front.{front_fixes_of}
 use Rattle.p25_unit_front.proofs.FrontLaws.{front_fixes_of-take}
 use Rattle.p25_voice_units.specs.declared.unit.VoiceUnit.{VoiceUnit}
@@ -31,14 +31,14 @@ frame_length_of-voice unit voice is = ap (λ body. sent_length (body_length body
 
 -- the fixes of what a unit carries are those of the unit
 pub body_fixes-is : (unit : UnitParts) (body : Body) (nac count at : ℕ) (bits : List Bool) → unit.body ≡ body → nac ≡ unit.nac → frame_length_of unit ≡ count
-    → let made : UnitParts = record { nac = nac; body = body } in body_fixes_of made (plain_of (part at count bits)) ≡ body_fixes_of unit (plain_of (part at (frame_length_of unit) bits))
+    → let made : UnitParts = record { nac = nac; body = body } in body_fixes_of made (bare_of (part at count bits)) ≡ body_fixes_of unit (bare_of (part at (frame_length_of unit) bits))
 body_fixes-is unit body nac count at bits is nac_is long =
     let make : ℕ → Body → UnitParts = λ n b. record { nac = n; body = b } in
-    ap₂ (λ n b. body_fixes_of (make n b) (plain_of (part at count bits))) nac_is (sym is) ∙ ap (λ n. body_fixes_of unit (plain_of (part at n bits))) (sym long)
+    ap₂ (λ n b. body_fixes_of (make n b) (bare_of (part at count bits))) nac_is (sym is) ∙ ap (λ n. body_fixes_of unit (bare_of (part at n bits))) (sym long)
 
 -- the fixes of a sound frame where its bits stand among others
 pub fixes_in : (frame : Frame) (bits : List Bool) (at nac duid : ℕ) → IsSoundFrame frame → IsSendableUnit frame.unit → at + frame_length_of frame.unit ≤ length bits → nac ≡ frame.unit.nac → duid ≡ body_duid frame.unit.body
-    → (m n : ℕ) → m ≡ front_fixes_of (nac, duid) (drop at bits) → n ≡ body_fixes_of frame.unit (plain_of (part at (frame_length_of frame.unit) bits)) → m + n ≡ fixes_of frame (part at (frame_length_of frame.unit) bits)
+    → (m n : ℕ) → m ≡ front_fixes_of (nac, duid) (drop at bits) → n ≡ body_fixes_of frame.unit (bare_of (part at (frame_length_of frame.unit) bits)) → m + n ≡ fixes_of frame (part at (frame_length_of frame.unit) bits)
 fixes_in frame bits at nac duid sound sendable there nac_is duid_is m n front body =
     let count = frame_length_of frame.unit in
     let rest = drop at bits in

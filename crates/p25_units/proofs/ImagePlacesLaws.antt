@@ -13,10 +13,10 @@ use Rattle.p25_units.specs.declared.frame.Frame.{Frame}
 use Rattle.p25_units.proofs.UnitsLaws.{symbols-image}
 
 -- bits are those of what a unit carries exactly where they stand by places
-body-only : (nac : ℕ) (body : Body) → IsSendableBody body → (plain : List Bool) → IsBodyImage nac body plain → plain ≡ body_image_of nac body
+body-only : (nac : ℕ) (body : Body) → IsSendableBody body → (bare : List Bool) → IsBodyImage nac body bare → bare ≡ body_image_of nac body
 unfolding IsSendableBody IsBodyImage
-body-only nac (Voice voice) sendable plain is = (IsVoiceImage-iff nac voice plain sendable).0 is
-body-only nac (Packet packet) sendable plain is = IsPacketImage-only nac packet sendable plain is
+body-only nac (Voice voice) sendable bare is = (IsVoiceImage-iff nac voice bare sendable).0 is
+body-only nac (Packet packet) sendable bare is = IsPacketImage-only nac packet sendable bare is
 
 body-image : (nac : ℕ) (body : Body) → IsSendableBody body → IsBodyImage nac body (body_image_of nac body)
 unfolding IsSendableBody IsBodyImage
@@ -27,15 +27,15 @@ module _ (frame : Frame) (sound : IsSoundFrame frame) (sendable : IsSendableUnit
   image-only : (sent : List Bool) → IsImage frame sent → sent ≡ image_of frame
   unfolding image_of unit_image_of
   image-only sent is =
-      let plain : is.plain ≡ unit_image_of frame.unit = body-only frame.unit.nac frame.unit.body sendable.body is.plain is.laid_out in
-      let long : length is.plain ≡ 70 * length frame.statuses = ap length plain ∙ symbols-image frame sound sendable in
-      StandsByPlaces-unique is.plain frame.statuses sent (woven is.plain frame.statuses) long is.woven (woven-places is.plain frame.statuses long)
-      ∙ ap (λ (bits : List Bool). woven bits frame.statuses) plain
+      let bare : is.bare ≡ unit_image_of frame.unit = body-only frame.unit.nac frame.unit.body sendable.body is.bare is.laid_out in
+      let long : length is.bare ≡ 70 * length frame.statuses = ap length bare ∙ symbols-image frame sound sendable in
+      StandsByPlaces-unique is.bare frame.statuses sent (woven is.bare frame.statuses) long is.woven (woven-places is.bare frame.statuses long)
+      ∙ ap (λ (bits : List Bool). woven bits frame.statuses) bare
 
   image-is : IsImage frame (image_of frame)
   unfolding image_of unit_image_of
   image-is = record {
-    plain = unit_image_of frame.unit;
+    bare = unit_image_of frame.unit;
     laid_out = body-image frame.unit.nac frame.unit.body sendable.body;
     woven = woven-places (unit_image_of frame.unit) frame.statuses (symbols-image frame sound sendable);
   }

@@ -2,7 +2,7 @@
 use Rattle.std.proofs.Common.{◌≡◌, ◌≢◌, ℕ, ◌*◌, ◌/◌, ◌%◌, ◌<◌, ◌≤◌, ◌⊎◌, inl, inr, Bool, List, length, take, Option, Some, None, Result, Ok, Err, refl, ap, sym, ◌∙◌, subst, arith}
 use Rattle.std.proofs.lemmas.Bool.{cases_eq, cases_lt}
 use Rattle.std.proofs.lemmas.List.{length-take-le}
-use Rattle.p25_status.specs.Woven.{plain_of}
+use Rattle.p25_status.specs.Woven.{bare_of}
 use Rattle.p25_status.specs.declared.fields.Field.{Field}
 use Rattle.p25_status.specs.declared.fields.Field.TheVariants.{Duid}
 use Rattle.p25_voice_units.specs.Lengths.{voice_length_of}
@@ -11,7 +11,7 @@ use Rattle.p25_packet_blocks.specs.Heads.{head_blocks}
 use Rattle.p25_packet_blocks.specs.Lengths.{packet_sent_length}
 use Rattle.p25_packet_blocks.specs.Reading.{head_reading_of}
 use Rattle.p25_packet_blocks.specs.UnitReading.{sent_head_of}
-use Rattle.p25_packet_blocks.proofs.SentLaws.{sent_head_of-plain_of}
+use Rattle.p25_packet_blocks.proofs.SentLaws.{sent_head_of-bare_of}
 use Rattle.p25_packet_blocks.proofs.UnitLaws.{sent_head_of-take}
 use Rattle.p25_units.specs.Units.{sent_length}
 use Rattle.p25_units.specs.Needs.{length_need, voice_need, head_need, packet_need, kind_need}
@@ -21,15 +21,15 @@ use Rattle.p25_units.proofs.NeedsLaws.{length_need-cases, voice_need-none, voice
 -- the bits of a voice unit are as many as its DUID tells
 pub record IsVoiceKind (duid : ℕ) (sent : List Bool) : Type 0 where
   pub other : duid ≢ 0xC
-  pub plain : ℕ
-  pub kind : voice_length_of duid ≡ Some plain
-  pub is : length sent ≡ sent_length plain
+  pub bare : ℕ
+  pub kind : voice_length_of duid ≡ Some bare
+  pub is : length sent ≡ sent_length bare
 
 -- the bits of a packet are as many as its header tells
 pub record IsPacketKind (duid : ℕ) (sent : List Bool) : Type 0 where
   pub packet : duid ≡ 0xC
   pub head : PacketHead
-  pub read : head_reading_of (plain_of sent) ≡ Ok head
+  pub read : head_reading_of (bare_of sent) ≡ Ok head
   pub is : length sent ≡ packet_sent_length (head_blocks head)
 
 -- the bits of a unit: blocks of 72, as many as its kind tells
@@ -41,25 +41,25 @@ pub record IsUnitOf (duid : ℕ) (sent : List Bool) : Type 0 where
   pub kind : IsVoiceKind duid sent ⊎ IsPacketKind duid sent
 
 -- a length that is known is the one that was asked for
-known_length : (plain have count : ℕ) → length_need plain have ≡ Length count → count ≡ plain
-known_length plain have count =
-    length_need-cases (λ need. need ≡ Length count → count ≡ plain) plain have (λ short e. absurd (cc)) (λ enough e. let same : plain ≡ count = cc in sym same)
+known_length : (bare have count : ℕ) → length_need bare have ≡ Length count → count ≡ bare
+known_length bare have count =
+    length_need-cases (λ need. need ≡ Length count → count ≡ bare) bare have (λ short e. absurd (cc)) (λ enough e. let same : bare ≡ count = cc in sym same)
 
 module _ (count : ℕ) (bits : List Bool) where
   voice_in : (duid : ℕ) (found : Option ℕ) → duid ≢ 0xC → count ≤ length bits → voice_length_of duid ≡ found → voice_need found (length bits) ≡ Length count → IsVoiceKind duid (take count bits)
   voice_in duid None other there is e = let two : NoLength Duid ≡ Length count = sym (voice_need-none (length bits)) ∙ e in absurd (cc)
-  voice_in duid (Some plain) other there is e = record {
+  voice_in duid (Some bare) other there is e = record {
     other = other;
-    plain = plain;
+    bare = bare;
     kind = is;
-    is = length-take-le count bits there ∙ known_length (sent_length plain) (length bits) count (sym (voice_need-some plain (length bits)) ∙ e);
+    is = length-take-le count bits there ∙ known_length (sent_length bare) (length bits) count (sym (voice_need-some bare (length bits)) ∙ e);
   }
 
   -- the header of the unit's own bits is that of all
-  own_head : (n : ℕ) → count ≤ length bits → count ≡ packet_sent_length n → sent_head_of bits ≡ head_reading_of (plain_of (take count bits))
+  own_head : (n : ℕ) → count ≤ length bits → count ≡ packet_sent_length n → sent_head_of bits ≡ head_reading_of (bare_of (take count bits))
   own_head n there is =
       let long : length (take count bits) ≡ 72 * (count / 72) = length-take-le count bits there ∙ omega (arith, is) in
-      sym (sent_head_of-take count bits (omega (arith, is))) ∙ sent_head_of-plain_of (count / 72) (take count bits) (omega (arith, is)) long
+      sym (sent_head_of-take count bits (omega (arith, is))) ∙ sent_head_of-bare_of (count / 72) (take count bits) (omega (arith, is)) long
 
   head_in : (reading : Result PacketHead Field) → count ≤ length bits → sent_head_of bits ≡ reading → head_need reading (length bits) ≡ Length count → IsPacketKind 0xC (take count bits)
   head_in (Err field) there is e = let two : NoLength field ≡ Length count = sym (head_need-bad field (length bits)) ∙ e in absurd (cc)

@@ -93,19 +93,19 @@ pub voice_need-none : (have : ℕ) → voice_need None have ≡ NoLength Duid
 unfolding voice_need
 voice_need-none have = refl
 
-pub voice_need-some : (plain have : ℕ) → voice_need (Some plain) have ≡ length_need (sent_length plain) have
+pub voice_need-some : (bare have : ℕ) → voice_need (Some bare) have ≡ length_need (sent_length bare) have
 unfolding voice_need
-voice_need-some plain have = refl
+voice_need-some bare have = refl
 
-IsHead-voice : (found : Option ℕ) → ((plain : ℕ) → found ≡ Some plain → IsSentLength plain) → IsHead (λ bits. voice_need found (length bits))
+IsHead-voice : (found : Option ℕ) → ((bare : ℕ) → found ≡ Some bare → IsSentLength bare) → IsHead (λ bits. voice_need found (length bits))
 IsHead-voice None lengths = IsHead-same (λ bits. NoLength Duid) (λ bits. voice_need None (length bits)) (λ bits. voice_need-none (length bits)) (IsHead-none Duid)
-IsHead-voice (Some plain) lengths =
-    let is = lengths plain refl in
+IsHead-voice (Some bare) lengths =
+    let is = lengths bare refl in
     IsHead-same
-    (λ bits. length_need (sent_length plain) (length bits))
-    (λ bits. voice_need (Some plain) (length bits))
-    (λ bits. voice_need-some plain (length bits))
-    (IsHead-length (sent_length plain) (omega (arith, is.sent, is.least)) (omega (arith, is.sent, is.most)) (omega (arith, is.sent)))
+    (λ bits. length_need (sent_length bare) (length bits))
+    (λ bits. voice_need (Some bare) (length bits))
+    (λ bits. voice_need-some bare (length bits))
+    (IsHead-length (sent_length bare) (omega (arith, is.sent, is.least)) (omega (arith, is.sent, is.most)) (omega (arith, is.sent)))
 
 -- a packet whose header was read, or fails
 pub head_need-bad : (field : Field) (have : ℕ) → head_need (Err field) have ≡ NoLength field
@@ -199,11 +199,11 @@ no_voice : voice_length_of 0xC ≡ None
 unfolding voice_length_of
 no_voice = refl
 
-pub voice-other : (duid plain : ℕ) → voice_length_of duid ≡ Some plain → duid ≢ 0xC
-voice-other duid plain is packet = let two : None ≡ Some plain = sym no_voice ∙ ap voice_length_of (sym packet) ∙ is in absurd (cc)
+pub voice-other : (duid bare : ℕ) → voice_length_of duid ≡ Some bare → duid ≢ 0xC
+voice-other duid bare is packet = let two : None ≡ Some bare = sym no_voice ∙ ap voice_length_of (sym packet) ∙ is in absurd (cc)
 
-pub kind_need-voice : (duid plain : ℕ) (bits : List Bool) → voice_length_of duid ≡ Some plain → kind_need duid bits ≡ length_need (sent_length plain) (length bits)
-kind_need-voice duid plain bits is = kind_need-unpacked duid bits (voice-other duid plain is) ∙ ap (λ found. voice_need found (length bits)) is ∙ voice_need-some plain (length bits)
+pub kind_need-voice : (duid bare : ℕ) (bits : List Bool) → voice_length_of duid ≡ Some bare → kind_need duid bits ≡ length_need (sent_length bare) (length bits)
+kind_need-voice duid bare bits is = kind_need-unpacked duid bits (voice-other duid bare is) ∙ ap (λ found. voice_need found (length bits)) is ∙ voice_need-some bare (length bits)
 
 -- after an identifier, or none
 pub identified_need-none : (bits : List Bool) → identified_need None bits ≡ NoLength Nid

@@ -3,7 +3,7 @@ use Rattle.std.proofs.Common.{◌≡◌, ℕ, ◌+◌, ◌≤◌, Bool, List, []
 use Rattle.std.specs.Bool.{beq}
 use Rattle.p25_bits.specs.Bits.{part}
 use Rattle.p25_bits.proofs.DistanceLaws.{distance_by-le}
-use Rattle.p25_status.specs.Woven.{plain_of, statuses_of}
+use Rattle.p25_status.specs.Woven.{bare_of, statuses_of}
 use Rattle.p25_status.specs.declared.fields.Field.{Field}
 use Rattle.p25_status.specs.declared.symbols.Status.{Status}
 use Rattle.p25_unit_front.specs.Front.{front_fixes_of}
@@ -35,42 +35,42 @@ packet_of_body packet [] body made = cc
 packet_of_body packet (field ∷ fields) body made = absurd (cc)
 
 -- the count of a packet's blocks is that of the body that it is read as
-pub packet_body-fixes : (plain : List Bool) (reading : Result packet_type Field) (body : Body) (fixes : ℕ) → reading ≡ packet_reading_of plain → packet_body_from reading ≡ Ok body
-    → ((nac : ℕ) (packet : packet_type) → reading ≡ Ok packet → IsWholePacket packet → fixes ≡ packet_fixes_of nac packet plain)
-    → (nac : ℕ) → let unit : UnitParts = record { nac = nac; body = body } in fixes ≡ body_fixes_of unit plain
+pub packet_body-fixes : (bare : List Bool) (reading : Result packet_type Field) (body : Body) (fixes : ℕ) → reading ≡ packet_reading_of bare → packet_body_from reading ≡ Ok body
+    → ((nac : ℕ) (packet : packet_type) → reading ≡ Ok packet → IsWholePacket packet → fixes ≡ packet_fixes_of nac packet bare)
+    → (nac : ℕ) → let unit : UnitParts = record { nac = nac; body = body } in fixes ≡ body_fixes_of unit bare
 unfolding packet_body_from packet_fixes_of IsWholeBody
-packet_body-fixes plain (Err field) body fixes is made counted nac = absurd (cc)
-packet_body-fixes plain (Ok packet) body fixes is made counted nac =
+packet_body-fixes bare (Err field) body fixes is made counted nac = absurd (cc)
+packet_body-fixes bare (Ok packet) body fixes is made counted nac =
     let make : Body → UnitParts = λ b. record { nac = nac; body = b } in
     let same : Packet packet ≡ body = packet_of_body packet (failing_blocks_of packet) body made in
-    let read : body_reading_of 0xC plain ≡ Ok body = body_reading_of-packet plain ∙ ap packet_body_from (sym is) ∙ made in
-    let whole : IsWholePacket packet = subst IsWholeBody (sym same) (IsBodyOf-reading 0xC plain body read).whole in
-    counted nac packet refl whole ∙ sym (body_fixes_of-packet nac packet plain) ∙ ap (λ b. body_fixes_of (make b) plain) same
+    let read : body_reading_of 0xC bare ≡ Ok body = body_reading_of-packet bare ∙ ap packet_body_from (sym is) ∙ made in
+    let whole : IsWholePacket packet = subst IsWholeBody (sym same) (IsBodyOf-reading 0xC bare body read).whole in
+    counted nac packet refl whole ∙ sym (body_fixes_of-packet nac packet bare) ∙ ap (λ b. body_fixes_of (make b) bare) same
 
 -- it is at most all bits
-pub packet_body-le : (plain : List Bool) (reading : Result packet_type Field) (body : Body) → packet_body_from reading ≡ Ok body → (nac : ℕ)
-    → let unit : UnitParts = record { nac = nac; body = body } in body_fixes_of unit plain ≤ length plain
+pub packet_body-le : (bare : List Bool) (reading : Result packet_type Field) (body : Body) → packet_body_from reading ≡ Ok body → (nac : ℕ)
+    → let unit : UnitParts = record { nac = nac; body = body } in body_fixes_of unit bare ≤ length bare
 unfolding packet_body_from
-packet_body-le plain (Err field) body made nac = absurd (cc)
-packet_body-le plain (Ok packet) body made nac =
+packet_body-le bare (Err field) body made nac = absurd (cc)
+packet_body-le bare (Ok packet) body made nac =
     let make : Body → UnitParts = λ b. record { nac = nac; body = b } in
     let count = 196 * (1 + head_blocks (packet_head packet)) in
-    let looked = part 112 count plain in
+    let looked = part 112 count bare in
     let same : Packet packet ≡ body = packet_of_body packet (failing_blocks_of packet) body made in
     omega (
       arith,
-      ap (λ b. body_fixes_of (make b) plain) same,
-      body_fixes_of-packet nac packet plain,
+      ap (λ b. body_fixes_of (make b) bare) same,
+      body_fixes_of-packet nac packet bare,
       distance_by-le beq looked (part 112 count (packet_image_of nac packet)),
-      length-take count (drop 112 plain),
-      length-drop 112 plain,
+      length-take count (drop 112 bare),
+      length-drop 112 bare,
     )
 
 -- the item of a whole unit by what it carries
 pub whole_body-is : (place nac duid : ℕ) (bits : List Bool) (at count : ℕ) (body : Body) (statuses : List Status) → at ≤ length bits → kind_need duid (drop at bits) ≡ Length count → nac ≤ 4095
-    → statuses ≡ statuses_of (part at count bits) → Ok body ≡ body_reading_of duid (plain_of (part at count bits))
+    → statuses ≡ statuses_of (part at count bits) → Ok body ≡ body_reading_of duid (bare_of (part at count bits))
     → (m n : ℕ) → m ≡ front_fixes_of (nac, duid) (drop at bits)
-    → (let unit : UnitParts = record { nac = nac; body = body } in n ≡ body_fixes_of unit (plain_of (part at count bits)))
+    → (let unit : UnitParts = record { nac = nac; body = body } in n ≡ body_fixes_of unit (bare_of (part at count bits)))
     → let unit : UnitParts = record { nac = nac; body = body } in
     let frame : Frame = record { unit = unit; statuses = statuses } in
     Whole place frame (m + n) ≡ item_from place (nac, duid) (part at count bits) (reading_from (Some (nac, duid)) (part at count bits))
@@ -82,7 +82,7 @@ whole_body-is place nac duid bits at count body statuses inside kind fits status
     let is = IsFrameOf-reading (nac, duid) sent frame (IsUnitOf-need count (drop at bits) duid kind) (sym reading) in
     let long : frame_length_of frame.unit ≡ count = (frame-is nac duid bits at count frame inside kind (sym reading)).1 in
     let there : at + frame_length_of frame.unit ≤ length bits = omega (arith, long, (IsCountAt-kind duid bits at count inside kind).there) in
-    let rest = behind ∙ ap (λ k. body_fixes_of frame.unit (plain_of (part at k bits))) (sym long) in
+    let rest = behind ∙ ap (λ k. body_fixes_of frame.unit (bare_of (part at k bits))) (sym long) in
     let fixed : m + n ≡ fixes_of frame sent
     = fixes_in frame bits at nac duid is.sound (record { nac_fits = fits; body = is.sendable }) there refl (sym is.duid) m n front rest ∙ ap (λ k. fixes_of frame (part at k bits)) long in
     ap (Whole place frame) fixed ∙ ap (item_from place (nac, duid) sent) reading

@@ -4,7 +4,7 @@ use Rattle.std.proofs.Common.{◌≡◌, ◌≢◌, ℕ, zero, suc, ◌+◌, ◌
 use Rattle.std.specs.Option.{unwrap_or}
 use Rattle.std.proofs.lemmas.Bool.{cases_eq, cond-false, ne_eqb}
 use Rattle.p25_bits.proofs.NumbersLaws.{joined_below-zero, joined_below-suc}
-use Rattle.p25_status.specs.Woven.{plain_of, statuses_of}
+use Rattle.p25_status.specs.Woven.{bare_of, statuses_of}
 use Rattle.p25_status.proofs.WovenLaws.{length-statuses_of}
 use Rattle.p25_status.specs.declared.fields.Field.{Field}
 use Rattle.p25_status.specs.declared.fields.Field.TheVariants.{Nid}
@@ -51,7 +51,7 @@ pub frame_of : ℕ → List Status → Body → Frame
 frame_of nac statuses body = let unit : UnitParts = record { nac = nac; body = body } in record { unit = unit; statuses = statuses }
 
 -- by what was read
-pub reading_from-some : (nid : ℕ × ℕ) (sent : List Bool) → reading_from (Some nid) sent ≡ frame_from nid.0 (statuses_of sent) (body_reading_of nid.1 (plain_of sent))
+pub reading_from-some : (nid : ℕ × ℕ) (sent : List Bool) → reading_from (Some nid) sent ≡ frame_from nid.0 (statuses_of sent) (body_reading_of nid.1 (bare_of sent))
 unfolding reading_from
 reading_from-some nid sent = refl
 
@@ -63,9 +63,9 @@ pub unit_reading_of-read : (sent : List Bool) (read : Option (ℕ × ℕ)) → i
 unfolding unit_reading_of
 unit_reading_of-read sent read is = ap (λ r. reading_from r sent) is
 
-pub body_reading_of-packet : (plain : List Bool) → body_reading_of 0xC plain ≡ packet_body_from (packet_reading_of plain)
+pub body_reading_of-packet : (bare : List Bool) → body_reading_of 0xC bare ≡ packet_body_from (packet_reading_of bare)
 unfolding body_reading_of
-body_reading_of-packet plain = refl
+body_reading_of-packet bare = refl
 
 pub packet_body_from-bad : (field : Field) → packet_body_from (Err field) ≡ Err (field ∷ [])
 unfolding packet_body_from
@@ -75,9 +75,9 @@ pub packet_body_from-read : (packet : packet_type) → packet_body_from (Ok pack
 unfolding packet_body_from
 packet_body_from-read packet = refl
 
-pub body_reading_of-voice : (duid : ℕ) (plain : List Bool) → duid ≢ 0xC → body_reading_of duid plain ≡ body_from (voice_reading_of duid plain)
+pub body_reading_of-voice : (duid : ℕ) (bare : List Bool) → duid ≢ 0xC → body_reading_of duid bare ≡ body_from (voice_reading_of duid bare)
 unfolding body_reading_of
-body_reading_of-voice duid plain other = cond-false (eqb duid 0xC) (packet_body_from (packet_reading_of plain)) (body_from (voice_reading_of duid plain)) (ne_eqb duid 0xC other)
+body_reading_of-voice duid bare other = cond-false (eqb duid 0xC) (packet_body_from (packet_reading_of bare)) (body_from (voice_reading_of duid bare)) (ne_eqb duid 0xC other)
 
 -- The fields that fail of a packet.
 
@@ -154,64 +154,64 @@ IsVoiceImage-same nac voice sendable = (IsVoiceImage-iff nac voice (voice_image_
 
 -- the header of a packet, of which the length of its unit hangs
 abbrev HasHead : Body → List Bool → Type 0
-HasHead (Voice voice) plain = Unit {0}
-HasHead (Packet packet) plain = head_reading_of plain ≡ Ok (packet_head packet)
+HasHead (Voice voice) bare = Unit {0}
+HasHead (Packet packet) bare = head_reading_of bare ≡ Ok (packet_head packet)
 
 -- a body that was read is of the DUID, whole, can be sent, and is what the received bits read as
-pub record IsBodyOf (duid : ℕ) (plain : List Bool) (body : Body) : Type 0 where
+pub record IsBodyOf (duid : ℕ) (bare : List Bool) (body : Body) : Type 0 where
   pub duid_is : body_duid body ≡ duid
   pub whole : IsWholeBody body
   pub sendable : IsSendableBody body
-  pub read : (nac : ℕ) → IsBodyRead body (body_image_of nac body) plain
-  pub head : HasHead body plain
+  pub read : (nac : ℕ) → IsBodyRead body (body_image_of nac body) bare
+  pub head : HasHead body bare
 
-IsBodyOf-packet : (plain : List Bool) (packet : packet_type) → packet_reading_of plain ≡ Ok packet → failing_blocks_of packet ≡ [] → IsBodyOf 0xC plain (Packet packet)
+IsBodyOf-packet : (bare : List Bool) (packet : packet_type) → packet_reading_of bare ≡ Ok packet → failing_blocks_of packet ≡ [] → IsBodyOf 0xC bare (Packet packet)
 unfolding IsWholeBody IsSendableBody IsBodyRead
-IsBodyOf-packet plain packet read none =
+IsBodyOf-packet bare packet read none =
     let whole = IsWholePacket-none packet none in
-    let is = IsWholeRead-reading plain packet read whole in
+    let is = IsWholeRead-reading bare packet read whole in
     record { duid_is = refl; whole = whole; sendable = is.sendable; read = λ nac. is.read; head = is.head }
 
-packet_body-whole : (plain : List Bool) (packet : packet_type) (fields : List Field) (body : Body) → packet_reading_of plain ≡ Ok packet → failing_blocks_of packet ≡ fields → whole_from packet fields ≡ Ok body → IsBodyOf 0xC plain body
-packet_body-whole plain packet [] body read none e = let same : Packet packet ≡ body = cc in subst (IsBodyOf 0xC plain) same (IsBodyOf-packet plain packet read none)
-packet_body-whole plain packet (field ∷ fields) body read some e = absurd (cc)
+packet_body-whole : (bare : List Bool) (packet : packet_type) (fields : List Field) (body : Body) → packet_reading_of bare ≡ Ok packet → failing_blocks_of packet ≡ fields → whole_from packet fields ≡ Ok body → IsBodyOf 0xC bare body
+packet_body-whole bare packet [] body read none e = let same : Packet packet ≡ body = cc in subst (IsBodyOf 0xC bare) same (IsBodyOf-packet bare packet read none)
+packet_body-whole bare packet (field ∷ fields) body read some e = absurd (cc)
 
-packet_body-from : (plain : List Bool) (reading : Result packet_type Field) (body : Body) → packet_reading_of plain ≡ reading → packet_body_from reading ≡ Ok body → IsBodyOf 0xC plain body
+packet_body-from : (bare : List Bool) (reading : Result packet_type Field) (body : Body) → packet_reading_of bare ≡ reading → packet_body_from reading ≡ Ok body → IsBodyOf 0xC bare body
 unfolding packet_body_from
-packet_body-from plain (Err field) body read e = absurd (cc)
-packet_body-from plain (Ok packet) body read e = packet_body-whole plain packet (failing_blocks_of packet) body read refl e
+packet_body-from bare (Err field) body read e = absurd (cc)
+packet_body-from bare (Ok packet) body read e = packet_body-whole bare packet (failing_blocks_of packet) body read refl e
 
 -- a voice unit that was read lies within radius of its own bits
-voice_read : (nac duid : ℕ) (plain : List Bool) (voice : VoiceUnit) (unit : IsVoiceOf duid voice) → voice_reading_of duid plain ≡ Ok voice → IsVoiceWithin voice (voice_image_of nac voice) plain
-voice_read nac duid plain voice unit is =
-    voice_whole nac voice (voice_image_of nac voice) plain (IsVoiceImage-same nac voice unit.sendable) (ap (λ d. voice_reading_of d plain) unit.kind ∙ is)
+voice_read : (nac duid : ℕ) (bare : List Bool) (voice : VoiceUnit) (unit : IsVoiceOf duid voice) → voice_reading_of duid bare ≡ Ok voice → IsVoiceWithin voice (voice_image_of nac voice) bare
+voice_read nac duid bare voice unit is =
+    voice_whole nac voice (voice_image_of nac voice) bare (IsVoiceImage-same nac voice unit.sendable) (ap (λ d. voice_reading_of d bare) unit.kind ∙ is)
 
-voice_body-from : (duid : ℕ) (plain : List Bool) (reading : Result VoiceUnit (List Field)) (body : Body) → voice_reading_of duid plain ≡ reading → body_from reading ≡ Ok body → IsBodyOf duid plain body
+voice_body-from : (duid : ℕ) (bare : List Bool) (reading : Result VoiceUnit (List Field)) (body : Body) → voice_reading_of duid bare ≡ reading → body_from reading ≡ Ok body → IsBodyOf duid bare body
 unfolding IsWholeBody IsSendableBody IsBodyRead
-voice_body-from duid plain (Ok voice) body is e =
+voice_body-from duid bare (Ok voice) body is e =
     let same : Voice voice ≡ body = cc in
-    let unit = unit_read duid plain voice is in
-    let read : IsBodyOf duid plain (Voice voice) = record {
+    let unit = unit_read duid bare voice is in
+    let read : IsBodyOf duid bare (Voice voice) = record {
       duid_is = unit.kind;
       whole = tt;
       sendable = unit.sendable;
-      read = λ nac. voice_read nac duid plain voice unit is;
+      read = λ nac. voice_read nac duid bare voice unit is;
       head = tt;
     } in
-    subst (IsBodyOf duid plain) same read
-voice_body-from duid plain (Err fields) body is e = absurd (cc)
+    subst (IsBodyOf duid bare) same read
+voice_body-from duid bare (Err fields) body is e = absurd (cc)
 
-pub IsBodyOf-reading : (duid : ℕ) (plain : List Bool) (body : Body) → body_reading_of duid plain ≡ Ok body → IsBodyOf duid plain body
-IsBodyOf-reading duid plain body e =
+pub IsBodyOf-reading : (duid : ℕ) (bare : List Bool) (body : Body) → body_reading_of duid bare ≡ Ok body → IsBodyOf duid bare body
+IsBodyOf-reading duid bare body e =
     elim (cases_eq duid 0xC) [
       | inl packet ↦
-          let here : packet_body_from (packet_reading_of plain) ≡ Ok body = sym (body_reading_of-packet plain) ∙ ap (λ d. body_reading_of d plain) (sym packet) ∙ e in
-          subst (λ (d : ℕ). IsBodyOf d plain body) (sym packet) (packet_body-from plain (packet_reading_of plain) body refl here)
-      | inr other ↦ voice_body-from duid plain (voice_reading_of duid plain) body refl (sym (body_reading_of-voice duid plain other) ∙ e)
+          let here : packet_body_from (packet_reading_of bare) ≡ Ok body = sym (body_reading_of-packet bare) ∙ ap (λ d. body_reading_of d bare) (sym packet) ∙ e in
+          subst (λ (d : ℕ). IsBodyOf d bare body) (sym packet) (packet_body-from bare (packet_reading_of bare) body refl here)
+      | inr other ↦ voice_body-from duid bare (voice_reading_of duid bare) body refl (sym (body_reading_of-voice duid bare other) ∙ e)
     ]
 
 -- its length is that of the unit's bits
-length_of_body : (duid : ℕ) (sent : List Bool) (body : Body) → IsUnitOf duid sent → IsBodyOf duid (plain_of sent) body → sent_length (body_length body) ≡ length sent
+length_of_body : (duid : ℕ) (sent : List Bool) (body : Body) → IsUnitOf duid sent → IsBodyOf duid (bare_of sent) body → sent_length (body_length body) ≡ length sent
 length_of_body duid sent (Voice voice) unit is = elim unit.kind [
   | inl kind ↦ ap (λ d. sent_length (unwrap_or (voice_length_of d) 0)) is.duid_is ∙ ap (λ found. sent_length (unwrap_or found 0)) kind.kind ∙ sym kind.is
   | inr kind ↦ absurd (packet_is_no_voice voice (is.duid_is ∙ kind.packet))
@@ -236,12 +236,12 @@ pub record IsFrameOf (nid : ℕ × ℕ) (sent : List Bool) (frame : Frame) : Typ
   pub sound : IsSoundFrame frame
   pub sendable : IsSendableBody frame.unit.body
   pub long : frame_length_of frame.unit ≡ length sent
-  pub read : IsBodyRead frame.unit.body (unit_image_of frame.unit) (plain_of sent)
+  pub read : IsBodyRead frame.unit.body (unit_image_of frame.unit) (bare_of sent)
 
-IsFrameOf-body : (nid : ℕ × ℕ) (sent : List Bool) (body : Body) → IsUnitOf nid.1 sent → body_reading_of nid.1 (plain_of sent) ≡ Ok body → IsFrameOf nid sent (frame_of nid.0 (statuses_of sent) body)
+IsFrameOf-body : (nid : ℕ × ℕ) (sent : List Bool) (body : Body) → IsUnitOf nid.1 sent → body_reading_of nid.1 (bare_of sent) ≡ Ok body → IsFrameOf nid sent (frame_of nid.0 (statuses_of sent) body)
 unfolding frame_length_of frame_of unit_image_of
 IsFrameOf-body nid sent body unit read =
-    let is = IsBodyOf-reading nid.1 (plain_of sent) body read in
+    let is = IsBodyOf-reading nid.1 (bare_of sent) body read in
     let whole = length_of_body nid.1 sent body unit is in
     let symbols : length (statuses_of sent) ≡ unit.blocks = length-statuses_of unit.blocks sent unit.long in
     record {
@@ -254,7 +254,7 @@ IsFrameOf-body nid sent body unit read =
       read = is.read nid.0;
     }
 
-frame_from-frame : (nid : ℕ × ℕ) (sent : List Bool) (reading : Result Body (List Field)) (frame : Frame) → IsUnitOf nid.1 sent → body_reading_of nid.1 (plain_of sent) ≡ reading
+frame_from-frame : (nid : ℕ × ℕ) (sent : List Bool) (reading : Result Body (List Field)) (frame : Frame) → IsUnitOf nid.1 sent → body_reading_of nid.1 (bare_of sent) ≡ reading
     → frame_from nid.0 (statuses_of sent) reading ≡ Ok frame → IsFrameOf nid sent frame
 unfolding frame_of
 frame_from-frame nid sent (Ok body) frame unit read e =
@@ -263,31 +263,31 @@ frame_from-frame nid sent (Ok body) frame unit read e =
 frame_from-frame nid sent (Err fields) frame unit read e = absurd (cc)
 
 pub IsFrameOf-reading : (nid : ℕ × ℕ) (sent : List Bool) (frame : Frame) → IsUnitOf nid.1 sent → reading_from (Some nid) sent ≡ Ok frame → IsFrameOf nid sent frame
-IsFrameOf-reading nid sent frame unit e = frame_from-frame nid sent (body_reading_of nid.1 (plain_of sent)) frame unit refl (sym (reading_from-some nid sent) ∙ e)
+IsFrameOf-reading nid sent frame unit e = frame_from-frame nid sent (body_reading_of nid.1 (bare_of sent)) frame unit refl (sym (reading_from-some nid sent) ∙ e)
 
 -- Bits within radius.
 
 -- a packet reads as itself
-pub packet_reading_of-near : (nac : ℕ) (packet : packet_type) (plain : List Bool) → IsSendable packet → IsBodyWithin (Packet packet) (body_image_of nac (Packet packet)) plain → packet_reading_of plain ≡ Ok packet
+pub packet_reading_of-near : (nac : ℕ) (packet : packet_type) (bare : List Bool) → IsSendable packet → IsBodyWithin (Packet packet) (body_image_of nac (Packet packet)) bare → packet_reading_of bare ≡ Ok packet
 unfolding IsBodyWithin
-packet_reading_of-near nac packet plain sendable within = packet_within half_near three_quarter_near nac packet plain sendable within
+packet_reading_of-near nac packet bare sendable within = packet_within half_near three_quarter_near nac packet bare sendable within
 
 -- and so its header does
-pub head_reading_of-near : (nac : ℕ) (packet : packet_type) (plain : List Bool) → IsSendable packet → IsBodyWithin (Packet packet) (body_image_of nac (Packet packet)) plain → head_reading_of plain ≡ Ok (packet_head packet)
-head_reading_of-near nac packet plain sendable within =
-    (IsWholeRead-reading plain packet (packet_reading_of-near nac packet plain sendable within) (IsWholePacket-sendable packet sendable)).head
+pub head_reading_of-near : (nac : ℕ) (packet : packet_type) (bare : List Bool) → IsSendable packet → IsBodyWithin (Packet packet) (body_image_of nac (Packet packet)) bare → head_reading_of bare ≡ Ok (packet_head packet)
+head_reading_of-near nac packet bare sendable within =
+    (IsWholeRead-reading bare packet (packet_reading_of-near nac packet bare sendable within) (IsWholePacket-sendable packet sendable)).head
 
 packet_body_from-whole : (packet : packet_type) → IsWholePacket packet → packet_body_from (Ok packet) ≡ Ok (Packet packet)
 packet_body_from-whole packet whole = packet_body_from-read packet ∙ ap (whole_from packet) (failing_blocks_of-none packet whole)
 
 -- a body is read from bits that are within radius of its own, with the voice frames as received
-pub body_reading_of-near : (nac : ℕ) (body : Body) (plain : List Bool) → IsSendableBody body → length plain ≡ length (body_image_of nac body) → IsBodyWithin body (body_image_of nac body) plain
-    → body_reading_of (body_duid body) plain ≡ Ok (received_body body plain)
+pub body_reading_of-near : (nac : ℕ) (body : Body) (bare : List Bool) → IsSendableBody body → length bare ≡ length (body_image_of nac body) → IsBodyWithin body (body_image_of nac body) bare
+    → body_reading_of (body_duid body) bare ≡ Ok (received_body body bare)
 unfolding IsSendableBody IsBodyWithin
-body_reading_of-near nac (Voice voice) plain sendable long within =
-    body_reading_of-voice (voice_duid voice) plain (voice-other (voice_duid voice) (body_length (Voice voice)) (body_length-known voice))
-    ∙ ap body_from (voice_within nac voice (voice_image_of nac voice) plain sendable (IsVoiceImage-same nac voice sendable) long within)
-body_reading_of-near nac (Packet packet) plain sendable long within =
-    body_reading_of-packet plain
-    ∙ ap packet_body_from (packet_reading_of-near nac packet plain sendable within)
+body_reading_of-near nac (Voice voice) bare sendable long within =
+    body_reading_of-voice (voice_duid voice) bare (voice-other (voice_duid voice) (body_length (Voice voice)) (body_length-known voice))
+    ∙ ap body_from (voice_within nac voice (voice_image_of nac voice) bare sendable (IsVoiceImage-same nac voice sendable) long within)
+body_reading_of-near nac (Packet packet) bare sendable long within =
+    body_reading_of-packet bare
+    ∙ ap packet_body_from (packet_reading_of-near nac packet bare sendable within)
     ∙ packet_body_from-whole packet (IsWholePacket-sendable packet sendable)

@@ -4,7 +4,7 @@ use Rattle.std.proofs.Common.{◌≡◌, ℕ, ◌+◌, ◌*◌, ◌<◌, ◌≤�
 use Rattle.std.proofs.lemmas.List.{length-take-le, take-take}
 use Rattle.p25_bits.specs.Distance.{distance_of}
 use Rattle.p25_status.specs.Sync.{sync_bits, sync_slack}
-use Rattle.p25_status.specs.Woven.{woven, plain_of, statuses_of}
+use Rattle.p25_status.specs.Woven.{woven, bare_of, statuses_of}
 use Rattle.p25_status.specs.declared.symbols.Status.{Status}
 use Rattle.p25_status.proofs.WovenLaws.{length-statuses_of}
 use Rattle.p25_bch_nid.specs.NidWord.{nid_word}
@@ -116,5 +116,5 @@ fixes_of-terminator nac statuses bits there =
     fixes_of-parts (terminator nac statuses) 2 sent IsSendableBody-terminator (omega arith) long
     ∙ ap₂ (λ a b. a + b)
     (front_fixes_of-parts (nac, 3) sent (omega (arith, long)) ∙ ap₂ (λ a b. a + b) (sync_errors-take bits) (identifier_errors-take nac bits))
-    (body_fixes_of-end nac (plain_of sent))
+    (body_fixes_of-end nac (bare_of sent))
     ∙ omega arith

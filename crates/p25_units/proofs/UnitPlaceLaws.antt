@@ -7,8 +7,8 @@ use Rattle.p25_bits.specs.Bits.{part}
 use Rattle.p25_bits.specs.Distance.{distance_of}
 use Rattle.p25_status.specs.Sync.{sync_bits, sync_slack}
 use Rattle.p25_status.proofs.SyncLaws.{has_sync-yes, has_sync-no}
-use Rattle.p25_status.specs.Woven.{plain_of, statuses_of}
-use Rattle.p25_status.proofs.WovenLaws.{length-plain_of}
+use Rattle.p25_status.specs.Woven.{bare_of, statuses_of}
+use Rattle.p25_status.proofs.WovenLaws.{length-bare_of}
 use Rattle.p25_status.specs.declared.fields.Field.{Field}
 use Rattle.p25_status.specs.declared.fields.Field.TheVariants.{Nid}
 use Rattle.p25_status.specs.declared.symbols.Status.{Status}
@@ -19,7 +19,7 @@ use Rattle.p25_voice_units.specs.Lengths.{voice_length_of}
 use Rattle.p25_packet_blocks.specs.Heads.{head_blocks}
 use Rattle.p25_packet_blocks.specs.Reading.{head_reading_of, HasItsLength}
 use Rattle.p25_packet_blocks.specs.UnitReading.{sent_head_of}
-use Rattle.p25_packet_blocks.proofs.SentLaws.{sent_head_of-plain_of}
+use Rattle.p25_packet_blocks.proofs.SentLaws.{sent_head_of-bare_of}
 use Rattle.p25_packet_blocks.proofs.UnitLaws.{sent_head_of-take}
 use Rattle.p25_units.specs.Units.{frame_length_of, IsSoundFrame}
 use Rattle.p25_units.specs.Items.{item_from, unit_item_of}
@@ -102,7 +102,7 @@ pub kind-is : (bits : List Bool) (at count : ℕ) (is : IsUnitAt bits at count) 
 kind-is bits at count is nid read = ap (λ n. kind_need n.1 (drop at bits)) (same_nid bits at count is nid read) ∙ is.kind
 
 -- the reading by what the unit carries
-pub reading-is : (nid : ℕ × ℕ) (sent : List Bool) (statuses : List Status) (reading : Result Body (List Field)) → statuses ≡ statuses_of sent → reading ≡ body_reading_of nid.1 (plain_of sent)
+pub reading-is : (nid : ℕ × ℕ) (sent : List Bool) (statuses : List Status) (reading : Result Body (List Field)) → statuses ≡ statuses_of sent → reading ≡ body_reading_of nid.1 (bare_of sent)
     → frame_from nid.0 statuses reading ≡ reading_from (Some nid) sent
 reading-is nid sent statuses reading statuses_is read = ap₂ (λ (s : List Status) (r : Result Body (List Field)). frame_from nid.0 s r) statuses_is read ∙ sym (reading_from-some nid sent)
 
@@ -115,14 +115,14 @@ frame-is nac duid bits at count frame inside kind read =
     (is.sound, is.long ∙ length-take-le count (drop at bits) (omega (arith, counted.there, length-drop at bits)))
 
 -- the length of a voice unit without status symbols
-pub voice_long : (duid : ℕ) (bits : List Bool) (at count : ℕ) (plain : List Bool) → duid ≢ 0xC → kind_need duid (drop at bits) ≡ Length count → 72 * (count / 72) ≡ count
-    → length plain ≡ 70 * (count / 72) → at + count ≤ length bits → voice_length_of duid ≡ Some (length plain)
-voice_long duid bits at count plain other kind whole long there =
+pub voice_long : (duid : ℕ) (bits : List Bool) (at count : ℕ) (bare : List Bool) → duid ≢ 0xC → kind_need duid (drop at bits) ≡ Length count → 72 * (count / 72) ≡ count
+    → length bare ≡ 70 * (count / 72) → at + count ≤ length bits → voice_length_of duid ≡ Some (length bare)
+voice_long duid bits at count bare other kind whole long there =
     elim (IsUnitOf-need count (drop at bits) duid kind).kind [
       | inl voice ↦
-          let is = IsSentLength-voice duid voice.plain voice.kind in
+          let is = IsSentLength-voice duid voice.bare voice.kind in
           let counted : length (part at count bits) ≡ count = length-take-le count (drop at bits) (omega (arith, there, length-drop at bits)) in
-          let same : voice.plain ≡ length plain = omega (arith, voice.is, counted, is.fills, is.sent, long, whole) in
+          let same : voice.bare ≡ length bare = omega (arith, voice.is, counted, is.fills, is.sent, long, whole) in
           voice.kind ∙ ap Some same
       | inr packet ↦ absurd (other packet.packet)
     ]
@@ -130,8 +130,8 @@ voice_long duid bits at count plain other kind whole long there =
 -- a packet has a header that was read, and the length that it tells
 pub record IsPacketAt (bits : List Bool) (at count : ℕ) : Type 0 where
   pub there : at + 316 ≤ length bits
-  pub head : sent_head_of (drop at bits) ≡ head_reading_of (plain_of (part at count bits))
-  pub has : HasItsLength (plain_of (part at count bits))
+  pub head : sent_head_of (drop at bits) ≡ head_reading_of (bare_of (part at count bits))
+  pub has : HasItsLength (bare_of (part at count bits))
 
 pub IsPacketAt-kind : (bits : List Bool) (at count : ℕ) → at ≤ length bits → kind_need 0xC (drop at bits) ≡ Length count → IsPacketAt bits at count
 unfolding HasItsLength
@@ -149,11 +149,11 @@ IsPacketAt-kind bits at count inside kind =
           let many : 316 ≤ count = omega (arith, packet.is, long) in
           record {
             there = omega (arith, counted.there, many);
-            head = sym (sent_head_of-take count rest many) ∙ sent_head_of-plain_of unit.blocks sent five unit.long;
+            head = sym (sent_head_of-take count rest many) ∙ sent_head_of-bare_of unit.blocks sent five unit.long;
             has = λ head read.
                 let two : Ok head ≡ Ok packet.head = sym read ∙ packet.read in
                 let same : head_blocks head ≡ n = ap head_blocks (let h : head ≡ packet.head = cc in h) in
-                omega (arith, same, packet.is, unit.long, length-plain_of unit.blocks sent unit.long);
+                omega (arith, same, packet.is, unit.long, length-bare_of unit.blocks sent unit.long);
           }
     ]
 

@@ -1,11 +1,11 @@
 -- The bits of units: each kind has its length and begins with its front.
 use Rattle.std.proofs.Common.{◌≡◌, List, ℕ, ◌*◌, ◌/◌, ◌%◌, ◌<◌, ◌≤◌, length, take, Some, ap, sym, ◌∙◌, arith}
 use Rattle.std.specs.Option.{unwrap_or}
-use Rattle.p25_status.specs.Woven.{plain_of, statuses_of}
+use Rattle.p25_status.specs.Woven.{bare_of, statuses_of}
 use Rattle.std.proofs.lemmas.List.{take_at}
-use Rattle.p25_status.proofs.WovenLaws.{length-woven, plain_of-woven, statuses_of-woven}
+use Rattle.p25_status.proofs.WovenLaws.{length-woven, bare_of-woven, statuses_of-woven}
 use Rattle.p25_unit_front.specs.Front.{unit_front, front_of}
-use Rattle.p25_unit_front.proofs.FrontLaws.{length-unit_front, front_of-plain_of}
+use Rattle.p25_unit_front.proofs.FrontLaws.{length-unit_front, front_of-bare_of}
 use Rattle.p25_voice_units.specs.declared.unit.VoiceUnit.{VoiceUnit}
 use Rattle.p25_voice_units.specs.declared.unit.VoiceUnit.TheVariants.{Header, Link1, Link2, End, EndLink}
 use Rattle.p25_voice_units.specs.Images.{voice_body, voice_image_of}
@@ -13,7 +13,7 @@ use Rattle.p25_voice_units.specs.Lengths.{voice_duid, voice_length_of}
 use Rattle.p25_voice_units.proofs.ImagesLaws.{length-voice_image_of}
 use Rattle.p25_voice_units.proofs.LengthsLaws.{length-header, length-ldu1, length-ldu2, length-end, length-tdulc, voice_lengths}
 use Rattle.p25_packet_blocks.specs.Heads.{head_blocks}
-use Rattle.p25_packet_blocks.specs.Lengths.{packet_plain_length, packet_sent_length}
+use Rattle.p25_packet_blocks.specs.Lengths.{packet_bare_length, packet_sent_length}
 use Rattle.p25_packet_blocks.specs.Whole.{packet_head}
 use Rattle.p25_packet_blocks.proofs.HeadLaws.{head_blocks-lt}
 use Rattle.p25_packet_blocks.proofs.PlacesLaws.{image_long, image_front}
@@ -25,42 +25,42 @@ use Rattle.p25_units.specs.declared.unit.Body.TheVariants.{Voice, Packet}
 use Rattle.p25_units.specs.declared.frame.Frame.{Frame}
 
 -- what a length without status symbols is sent as
-pub record IsSentLength (plain : ℕ) : Type 0 where
+pub record IsSentLength (bare : ℕ) : Type 0 where
   pub blocks : ℕ
-  pub fills : plain ≡ 70 * blocks
-  pub sent : sent_length plain ≡ 72 * blocks
+  pub fills : bare ≡ 70 * blocks
+  pub sent : sent_length bare ≡ 72 * blocks
   pub least : 2 ≤ blocks
   pub most : blocks ≤ 360
 
 -- whole blocks of 70, at least a front and at most the longest unit
-pub IsSentLength-from : (plain : ℕ) → 112 ≤ plain → plain ≤ 25200 → plain % 70 ≡ 0 → IsSentLength plain
-IsSentLength-from plain least most whole = record {
-  blocks = plain / 70;
+pub IsSentLength-from : (bare : ℕ) → 112 ≤ bare → bare ≤ 25200 → bare % 70 ≡ 0 → IsSentLength bare
+IsSentLength-from bare least most whole = record {
+  blocks = bare / 70;
   fills = omega arith;
   sent = omega arith;
   least = omega arith;
   most = omega arith;
 }
 
-pub IsSentLength-voice : (duid plain : ℕ) → voice_length_of duid ≡ Some plain → IsSentLength plain
-IsSentLength-voice duid plain is = let bounds = voice_lengths duid plain is in IsSentLength-from plain bounds.0 (omega (arith, bounds.1)) bounds.2
+pub IsSentLength-voice : (duid bare : ℕ) → voice_length_of duid ≡ Some bare → IsSentLength bare
+IsSentLength-voice duid bare is = let bounds = voice_lengths duid bare is in IsSentLength-from bare bounds.0 (omega (arith, bounds.1)) bounds.2
 
 -- the length of a voice unit, by its kind
-voice_some : (voice : VoiceUnit) → (plain : ℕ) × (voice_length_of (voice_duid voice) ≡ Some plain)
+voice_some : (voice : VoiceUnit) → (bare : ℕ) × (voice_length_of (voice_duid voice) ≡ Some bare)
 voice_some (Header word) = (770, length-header)
 voice_some (Link1 link low voice) = (1680, length-ldu1)
 voice_some (Link2 sync low voice) = (1680, length-ldu2)
 voice_some End = (140, length-end)
 voice_some (EndLink link) = (420, length-tdulc)
 
-pub body_length-voice : (voice : VoiceUnit) (plain : ℕ) → voice_length_of (voice_duid voice) ≡ Some plain → body_length (Voice voice) ≡ plain
-body_length-voice voice plain is = ap (λ found. unwrap_or found 0) is
+pub body_length-voice : (voice : VoiceUnit) (bare : ℕ) → voice_length_of (voice_duid voice) ≡ Some bare → body_length (Voice voice) ≡ bare
+body_length-voice voice bare is = ap (λ found. unwrap_or found 0) is
 
 pub body_length-known : (voice : VoiceUnit) → voice_length_of (voice_duid voice) ≡ Some (body_length (Voice voice))
 body_length-known voice = let some = voice_some voice in some.1 ∙ ap Some (sym (body_length-voice voice some.0 some.1))
 
 -- the length of a packet as it is sent
-pub sent_length-packet : (n : ℕ) → sent_length (packet_plain_length n) ≡ packet_sent_length n
+pub sent_length-packet : (n : ℕ) → sent_length (packet_bare_length n) ≡ packet_sent_length n
 sent_length-packet n = omega arith
 
 -- the length of what a unit carries
@@ -69,7 +69,7 @@ IsSentLength-body (Voice voice) = IsSentLength-voice (voice_duid voice) (body_le
 IsSentLength-body (Packet packet) =
     let n = head_blocks (packet_head packet) in
     let few = head_blocks-lt (packet_head packet) in
-    IsSentLength-from (packet_plain_length n) (omega arith) (omega (arith, few)) (omega arith)
+    IsSentLength-from (packet_bare_length n) (omega arith) (omega (arith, few)) (omega arith)
 
 -- DUIDs have 4 bits
 pub body_duid-lt : (body : Body) → body_duid body < 16
@@ -118,9 +118,9 @@ length-image_of-blocks frame sound sendable = length-woven (unit_image_of frame.
 pub length-image_of : (frame : Frame) → IsSoundFrame frame → IsSendableUnit frame.unit → length (image_of frame) ≡ frame_length_of frame.unit
 length-image_of frame sound sendable = length-image_of-blocks frame sound sendable ∙ sound.symbols
 
-pub plain_of-image_of : (frame : Frame) → IsSoundFrame frame → IsSendableUnit frame.unit → plain_of (image_of frame) ≡ unit_image_of frame.unit
+pub bare_of-image_of : (frame : Frame) → IsSoundFrame frame → IsSendableUnit frame.unit → bare_of (image_of frame) ≡ unit_image_of frame.unit
 unfolding image_of
-plain_of-image_of frame sound sendable = plain_of-woven (unit_image_of frame.unit) frame.statuses (symbols-image frame sound sendable)
+bare_of-image_of frame sound sendable = bare_of-woven (unit_image_of frame.unit) frame.statuses (symbols-image frame sound sendable)
 
 pub statuses_of-image_of : (frame : Frame) → IsSoundFrame frame → IsSendableUnit frame.unit → statuses_of (image_of frame) ≡ frame.statuses
 unfolding image_of
@@ -135,8 +135,8 @@ blocks-sound frame sound =
 -- the front of its sent bits
 pub front_of-image_of : (frame : Frame) → IsSoundFrame frame → IsSendableUnit frame.unit → front_of (image_of frame) ≡ unit_front frame.unit.nac (body_duid frame.unit.body)
 front_of-image_of frame sound sendable =
-    sym (front_of-plain_of (length frame.statuses) (image_of frame) (blocks-sound frame sound).0 (length-image_of-blocks frame sound sendable))
-    ∙ ap (take 112) (plain_of-image_of frame sound sendable)
+    sym (front_of-bare_of (length frame.statuses) (image_of frame) (blocks-sound frame sound).0 (length-image_of-blocks frame sound sendable))
+    ∙ ap (take 112) (bare_of-image_of frame sound sendable)
     ∙ unit_image_of-front frame.unit sendable.body
 
 -- a frame under another network access code

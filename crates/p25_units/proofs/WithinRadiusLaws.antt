@@ -3,7 +3,7 @@ use Rattle.std.proofs.Common.{◌≡◌, ℕ, ◌*◌, ◌≤◌, Bool, true, Li
 use Rattle.p25_bits.specs.Distance.{distance_of}
 use Rattle.p25_bits.proofs.DistanceLaws.{distance_of-same}
 use Rattle.p25_status.specs.Sync.{sync_slack, has_sync}
-use Rattle.p25_status.specs.Woven.{plain_of, statuses_of}
+use Rattle.p25_status.specs.Woven.{bare_of, statuses_of}
 use Rattle.p25_status.proofs.SyncLaws.{has_sync-yes, has_sync-append}
 use Rattle.p25_unit_front.specs.Front.{identifier_bits, identifier_of}
 use Rattle.p25_unit_front.proofs.FrontLaws.{front_of-sync, front_of-identifier, identifier_of-near, identifier_of-append}
@@ -14,10 +14,10 @@ use Rattle.p25_packet_blocks.specs.Heads.{head_blocks}
 use Rattle.p25_packet_blocks.specs.Reading.{header_bits, block_bits}
 use Rattle.p25_packet_blocks.specs.Whole.{packet_head}
 use Rattle.p25_packet_blocks.specs.Within.{block_radius}
-use Rattle.p25_packet_blocks.proofs.SentLaws.{sent_head_of-plain_of}
+use Rattle.p25_packet_blocks.proofs.SentLaws.{sent_head_of-bare_of}
 use Rattle.p25_packet_blocks.proofs.UnitLaws.{sent_head_of-append}
 use Rattle.p25_units.specs.Units.{body_duid, body_length, body_image_of, unit_image_of, sent_length, frame_length_of, image_of, IsSoundFrame, IsSendableBody, IsSendableUnit}
-use Rattle.p25_status.proofs.WovenLaws.{length-plain_of}
+use Rattle.p25_status.proofs.WovenLaws.{length-bare_of}
 use Rattle.p25_status.specs.declared.symbols.Status.{Status}
 use Rattle.p25_packet_blocks.specs.Image.{packet_image_of}
 use Rattle.p25_units.specs.UnitParts.{UnitParts}
@@ -31,7 +31,7 @@ use Rattle.p25_units.specs.declared.unit.Body.TheVariants.{Voice, Packet}
 use Rattle.p25_units.specs.declared.frame.Frame.{Frame}
 use Rattle.p25_units.specs.declared.needs.Need.TheVariants.{Length}
 use Rattle.p25_units.specs.declared.item.Item.TheVariants.{Whole}
-use Rattle.p25_units.proofs.UnitsLaws.{body_duid-lt, body_length-known, sent_length-packet, symbols-sound, symbols-image, front_of-image_of, length-image_of, length-image_of-blocks, blocks-sound, plain_of-image_of, statuses_of-image_of}
+use Rattle.p25_units.proofs.UnitsLaws.{body_duid-lt, body_length-known, sent_length-packet, symbols-sound, symbols-image, front_of-image_of, length-image_of, length-image_of-blocks, blocks-sound, bare_of-image_of, statuses_of-image_of}
 use Rattle.p25_units.proofs.NeedsLaws.{need_of-synced, synced_need-read, identified_need-some, kind_need-voice, kind_need-packet, packet_need-long, head_need-good, length_need-there}
 use Rattle.p25_units.proofs.ReadingsLaws.{IsVoiceImage-same, reading_from-some, unit_reading_of-read, body_reading_of-near, head_reading_of-near}
 use Rattle.p25_units.proofs.ItemsLaws.{unit_item_of-some}
@@ -63,7 +63,7 @@ module _ (frame : Frame) (sound : IsSoundFrame frame) (sendable : IsSendableUnit
       (subst (λ (xs : List Bool). distance_of (take 63 (identifier_bits sent)) (take 63 xs) ≤ 11) is near.front.identifier)
 
 -- what a unit needs is its length: of a voice unit by its DUID, of a packet by its header
-kind_need-near : (nac : ℕ) (body : Body) (blocks : ℕ) (sent more : List Bool) → IsSendableBody body → IsBodyWithin body (body_image_of nac body) (plain_of sent) → length sent ≡ 72 * blocks → body_length body ≡ 70 * blocks
+kind_need-near : (nac : ℕ) (body : Body) (blocks : ℕ) (sent more : List Bool) → IsSendableBody body → IsBodyWithin body (body_image_of nac body) (bare_of sent) → length sent ≡ 72 * blocks → body_length body ≡ 70 * blocks
     → kind_need (body_duid body) (sent ++ more) ≡ length_need (sent_length (body_length body)) (length (sent ++ more))
 unfolding IsSendableBody
 kind_need-near nac (Voice voice) blocks sent more sendable within long fills =
@@ -73,7 +73,7 @@ kind_need-near nac (Packet packet) blocks sent more sendable within long fills =
     let head = packet_head packet in
     let five : 5 ≤ blocks = omega (arith, fills) in
     let there : 316 ≤ length sent = omega (arith, long, five) in
-    let read = sent_head_of-append sent more there ∙ sent_head_of-plain_of blocks sent five long ∙ head_reading_of-near nac packet (plain_of sent) sendable within in
+    let read = sent_head_of-append sent more there ∙ sent_head_of-bare_of blocks sent five long ∙ head_reading_of-near nac packet (bare_of sent) sendable within in
     kind_need-packet all
     ∙ packet_need-long all (omega (arith, length-append sent more, there))
     ∙ ap (λ reading. head_need reading (length all)) read
@@ -106,9 +106,9 @@ unfolding unit_image_of
 reading_from-near frame sent sound sendable near =
     let blocks = length frame.statuses in
     let long : length sent ≡ 72 * blocks = near.front.long ∙ length-image_of-blocks frame sound sendable in
-    let plain = length-plain_of blocks sent long ∙ sym (symbols-image frame sound sendable) in
+    let bare = length-bare_of blocks sent long ∙ sym (symbols-image frame sound sendable) in
     reading_from-some (frame.unit.nac, body_duid frame.unit.body) sent
-    ∙ ap (frame_from frame.unit.nac (statuses_of sent)) (body_reading_of-near frame.unit.nac frame.unit.body (plain_of sent) sendable.body plain near.body)
+    ∙ ap (frame_from frame.unit.nac (statuses_of sent)) (body_reading_of-near frame.unit.nac frame.unit.body (bare_of sent) sendable.body bare near.body)
 
 pub unit_reading_of-near : (frame : Frame) (sent : List Bool) → IsSoundFrame frame → IsSendableUnit frame.unit → IsWithinRadius frame sent → unit_reading_of sent ≡ Ok (received_frame frame sent)
 unit_reading_of-near frame sent sound sendable near =
@@ -133,7 +133,7 @@ pub IsWithinRadius-image_of : (frame : Frame) → IsSoundFrame frame → IsSenda
 unfolding unit_image_of
 IsWithinRadius-image_of frame sound sendable = record {
   front = record { long = refl; sync = none_wrong (take 48 (image_of frame)) sync_slack; identifier = none_wrong (take 63 (identifier_bits (image_of frame))) 11 };
-  body = subst (IsBodyWithin frame.unit.body (unit_image_of frame.unit)) (sym (plain_of-image_of frame sound sendable)) (IsBodyWithin-same frame.unit.nac frame.unit.body sendable.body);
+  body = subst (IsBodyWithin frame.unit.body (unit_image_of frame.unit)) (sym (bare_of-image_of frame sound sendable)) (IsBodyWithin-same frame.unit.nac frame.unit.body sendable.body);
 }
 
 received_body-same : (nac : ℕ) (body : Body) → IsSendableBody body → received_body body (body_image_of nac body) ≡ body
@@ -145,7 +145,7 @@ pub received-image_of : (frame : Frame) → IsSoundFrame frame → IsSendableUni
 unfolding unit_image_of
 received-image_of frame sound sendable =
     ap₂ (λ (body : Body) (statuses : List Status). let unit : UnitParts = record { nac = frame.unit.nac; body = body } in let same : Frame = record { unit = unit; statuses = statuses } in same)
-    (ap (received_body frame.unit.body) (plain_of-image_of frame sound sendable) ∙ received_body-same frame.unit.nac frame.unit.body sendable.body)
+    (ap (received_body frame.unit.body) (bare_of-image_of frame sound sendable) ∙ received_body-same frame.unit.nac frame.unit.body sendable.body)
     (statuses_of-image_of frame sound sendable)
 
 pub unit_reading_of-image_of : (frame : Frame) → IsSoundFrame frame → IsSendableUnit frame.unit → unit_reading_of (image_of frame) ≡ Ok frame

@@ -2,7 +2,7 @@
 use Rattle.std.specs.Prelude.{ℕ, ◌+◌, ◌*◌, Bool, List, ◌∷◌}
 use Rattle.p25_bits.specs.Distance.{distance_of}
 use Rattle.p25_bits.specs.Numbers.{each_below}
-use Rattle.p25_status.specs.Woven.{plain_of}
+use Rattle.p25_status.specs.Woven.{bare_of}
 use Rattle.p25_voice_units.specs.Fixes.{voice_looked, bits_at}
 use Rattle.p25_packet_blocks.specs.Heads.{head_blocks}
 use Rattle.p25_packet_blocks.specs.Whole.{packet_head}
@@ -29,8 +29,8 @@ looked_of unit = (0, 111) ∷ body_looked unit.body
 -- in how many of the looked-at places after the front the bits of a unit differ from those that were received, both
 -- without status symbols
 unfoldable pub body_fixes_of : UnitParts → List Bool → ℕ
-body_fixes_of unit plain = distance_of (bits_at (body_looked unit.body) plain) (bits_at (body_looked unit.body) (unit_image_of unit))
+body_fixes_of unit bare = distance_of (bits_at (body_looked unit.body) bare) (bits_at (body_looked unit.body) (unit_image_of unit))
 
 -- the fixes of a frame that was read from sent bits
 unfoldable pub fixes_of : Frame → List Bool → ℕ
-fixes_of frame sent = distance_of (bits_at (looked_of frame.unit) (plain_of sent)) (bits_at (looked_of frame.unit) (unit_image_of frame.unit))
+fixes_of frame sent = distance_of (bits_at (looked_of frame.unit) (bare_of sent)) (bits_at (looked_of frame.unit) (unit_image_of frame.unit))

@@ -9,11 +9,11 @@ use Rattle.p25_units.specs.declared.frame.Frame.{Frame}
 
 -- bits are those of what a unit carries: the front, the words of each code at their places, and every other bit 0
 unfoldable pub IsBodyImage : ℕ → Body → List Bool → Type 0
-IsBodyImage nac (Voice voice) plain = IsVoiceImage nac voice plain
-IsBodyImage nac (Packet packet) plain = IsPacketImage nac packet plain
+IsBodyImage nac (Voice voice) bare = IsVoiceImage nac voice bare
+IsBodyImage nac (Packet packet) bare = IsPacketImage nac packet bare
 
 -- sent bits are the image of a frame: such bits of its unit, with its status symbols after every 70 of them
 pub record IsImage (frame : Frame) (sent : List Bool) : Type 0 where
-  pub plain : List Bool
-  pub laid_out : IsBodyImage frame.unit.nac frame.unit.body plain
-  pub woven : StandsByPlaces plain frame.statuses sent
+  pub bare : List Bool
+  pub laid_out : IsBodyImage frame.unit.nac frame.unit.body bare
+  pub woven : StandsByPlaces bare frame.statuses sent

@@ -21,7 +21,7 @@ length_need count have = cond (nat_lt have count) (More count) (Length count)
 -- what a voice unit needs, by how many bits its kind has without status symbols; none where there is no such kind
 unfoldable pub voice_need : Option ℕ → ℕ → Need
 voice_need None have = NoLength Duid
-voice_need (Some plain) have = length_need (sent_length plain) have
+voice_need (Some bare) have = length_need (sent_length bare) have
 
 -- what a packet needs whose header was read, or fails
 unfoldable pub head_need : Result PacketHead Field → ℕ → Need

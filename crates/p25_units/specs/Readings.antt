@@ -2,7 +2,7 @@
 use Rattle.std.specs.Prelude.{ℕ, Bool, cond, nat_eq, List, [], ◌∷◌, length, Option, Some, None, Result, Ok, Err}
 use Rattle.std.proofs.Common.{get_or}
 use Rattle.p25_bits.specs.Numbers.{joined_below}
-use Rattle.p25_status.specs.Woven.{plain_of, statuses_of}
+use Rattle.p25_status.specs.Woven.{bare_of, statuses_of}
 use Rattle.p25_status.specs.declared.fields.Field.{Field}
 use Rattle.p25_status.specs.declared.fields.Field.TheVariants.{Nid, Block}
 use Rattle.p25_status.specs.declared.symbols.Status.{Status}
@@ -50,7 +50,7 @@ packet_body_from (Ok packet) = whole_from packet (failing_blocks_of packet)
 
 -- what a unit of a DUID carries, or exactly the fields that fail
 unfoldable pub body_reading_of : ℕ → List Bool → Result Body (List Field)
-body_reading_of duid plain = cond (nat_eq duid 0xC) (packet_body_from (packet_reading_of plain)) (body_from (voice_reading_of duid plain))
+body_reading_of duid bare = cond (nat_eq duid 0xC) (packet_body_from (packet_reading_of bare)) (body_from (voice_reading_of duid bare))
 
 -- a frame, where what it carries was read
 abbrev pub frame_from : ℕ → List Status → Result Body (List Field) → Result Frame (List Field)
@@ -63,7 +63,7 @@ frame_from nac statuses (Err fields) = Err fields
 -- the frame of sent bits by their identifier
 unfoldable pub reading_from : Option (ℕ × ℕ) → List Bool → Result Frame (List Field)
 reading_from None sent = Err (Nid ∷ [])
-reading_from (Some nid) sent = frame_from nid.0 (statuses_of sent) (body_reading_of nid.1 (plain_of sent))
+reading_from (Some nid) sent = frame_from nid.0 (statuses_of sent) (body_reading_of nid.1 (bare_of sent))
 
 -- the frame of sent bits, or exactly the fields that fail
 unfoldable pub unit_reading_of : List Bool → Result Frame (List Field)

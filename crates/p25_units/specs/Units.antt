@@ -8,7 +8,7 @@ use Rattle.p25_voice_units.specs.Lengths.{voice_duid, voice_length_of}
 use Rattle.p25_voice_units.specs.Sendable.{IsSendableVoice}
 use Rattle.p25_packet_blocks.specs.Heads.{head_blocks}
 use Rattle.p25_packet_blocks.specs.Whole.{packet_head, IsWholePacket}
-use Rattle.p25_packet_blocks.specs.Lengths.{packet_plain_length}
+use Rattle.p25_packet_blocks.specs.Lengths.{packet_bare_length}
 use Rattle.p25_packet_blocks.specs.Image.{packet_image_of}
 use Rattle.p25_packet_blocks.specs.Sendable.{IsSendable}
 use Rattle.p25_units.specs.UnitParts.{UnitParts}
@@ -24,7 +24,7 @@ body_duid (Packet packet) = 0xC
 -- how many bits a unit has without status symbols, by what it carries
 abbrev pub body_length : Body → ℕ
 body_length (Voice voice) = unwrap_or (voice_length_of (voice_duid voice)) 0
-body_length (Packet packet) = packet_plain_length (head_blocks (packet_head packet))
+body_length (Packet packet) = packet_bare_length (head_blocks (packet_head packet))
 
 -- the bits of a unit without status symbols, by what it carries
 abbrev pub body_image_of : ℕ → Body → List Bool
@@ -37,7 +37,7 @@ unit_image_of unit = body_image_of unit.nac unit.body
 
 -- how many bits are sent for so many bits of a unit: 72 for every 70
 abbrev pub sent_length : ℕ → ℕ
-sent_length plain = plain / 70 * 72
+sent_length bare = bare / 70 * 72
 
 -- how many bits a unit has as it is sent
 unfoldable pub frame_length_of : UnitParts → ℕ

@@ -1,7 +1,7 @@
 -- What the item of a whole unit says of its sent bits.
 use Rattle.std.specs.Prelude.{◌≡◌, ℕ, Bool, true, List, take}
 use Rattle.p25_status.specs.Sync.{has_sync}
-use Rattle.p25_status.specs.Woven.{plain_of, statuses_of}
+use Rattle.p25_status.specs.Woven.{bare_of, statuses_of}
 use Rattle.p25_voice_units.specs.WithinRadius.{IsVoiceWithin}
 use Rattle.p25_packet_blocks.specs.WholeReading.{IsPacketRead}
 use Rattle.p25_units.specs.Fixes.{fixes_of}
@@ -18,15 +18,15 @@ use Rattle.p25_units.specs.declared.item.Item.TheVariants.{Whole}
 -- the bits after the front, without status symbols, read as what the unit carries: of a voice unit they lie within radius of
 -- its own; of a packet, the first nearest paths to its header block and its other blocks carry it, with all its checks
 unfoldable pub IsBodyRead : Body → List Bool → List Bool → Type 0
-IsBodyRead (Voice voice) image plain = IsVoiceWithin voice image plain
-IsBodyRead (Packet packet) image plain = IsPacketRead packet plain
+IsBodyRead (Voice voice) image bare = IsVoiceWithin voice image bare
+IsBodyRead (Packet packet) image bare = IsPacketRead packet bare
 
 -- a whole unit as it was sent: few bits of its sync and its identifier are wrong, its code words and blocks are those that
 -- the received ones read as, it could be sent, its status symbols are those that were sent, it begins at its place, and its
 -- fixes are counted
 pub record IsWholeOf (at : ℕ) (sent : List Bool) (place : ℕ) (frame : Frame) (fixes : ℕ) : Type 0 where
   pub front : IsFrontWithin frame sent
-  pub body : IsBodyRead frame.unit.body (unit_image_of frame.unit) (plain_of sent)
+  pub body : IsBodyRead frame.unit.body (unit_image_of frame.unit) (bare_of sent)
   pub sound : IsSoundFrame frame
   pub sendable : IsSendableUnit frame.unit
   pub statuses : frame.statuses ≡ statuses_of sent

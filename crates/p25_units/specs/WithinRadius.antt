@@ -2,7 +2,7 @@
 use Rattle.std.specs.Prelude.{◌≡◌, ◌≤◌, Bool, List, length, take}
 use Rattle.p25_bits.specs.Distance.{distance_of}
 use Rattle.p25_status.specs.Sync.{sync_slack}
-use Rattle.p25_status.specs.Woven.{plain_of, statuses_of}
+use Rattle.p25_status.specs.Woven.{bare_of, statuses_of}
 use Rattle.p25_unit_front.specs.Front.{identifier_bits}
 use Rattle.p25_voice_units.specs.WithinRadius.{IsVoiceWithin, received_voice}
 use Rattle.p25_packet_blocks.specs.Within.{AreBlocksWithin}
@@ -21,22 +21,22 @@ pub record IsFrontWithin (frame : Frame) (sent : List Bool) : Type 0 where
 -- the bits after the front, without status symbols, have few wrong ones: of a voice unit so few as its codes correct, of a
 -- packet at most two in the header block and in each half-rate block, and one in each three-quarter-rate block
 unfoldable pub IsBodyWithin : Body → List Bool → List Bool → Type 0
-IsBodyWithin (Voice voice) image plain = IsVoiceWithin voice image plain
-IsBodyWithin (Packet packet) image plain = AreBlocksWithin packet image plain
+IsBodyWithin (Voice voice) image bare = IsVoiceWithin voice image bare
+IsBodyWithin (Packet packet) image bare = AreBlocksWithin packet image bare
 
 -- bits are those of a frame, but for so few wrong ones; the last bit of the identifier, voice frames, status symbols and nulls
 -- are free
 pub record IsWithinRadius (frame : Frame) (sent : List Bool) : Type 0 where
   pub front : IsFrontWithin frame sent
-  pub body : IsBodyWithin frame.unit.body (unit_image_of frame.unit) (plain_of sent)
+  pub body : IsBodyWithin frame.unit.body (unit_image_of frame.unit) (bare_of sent)
 
 -- what a unit carries, with the voice frames as received
 abbrev pub received_body : Body → List Bool → Body
-received_body (Voice voice) plain = Voice (received_voice voice plain)
-received_body (Packet packet) plain = Packet packet
+received_body (Voice voice) bare = Voice (received_voice voice bare)
+received_body (Packet packet) bare = Packet packet
 
 -- a frame with the voice frames and the status symbols as received
 abbrev pub received_frame : Frame → List Bool → Frame
 received_frame frame sent =
-    let unit : UnitParts = record { nac = frame.unit.nac; body = received_body frame.unit.body (plain_of sent) } in
+    let unit : UnitParts = record { nac = frame.unit.nac; body = received_body frame.unit.body (bare_of sent) } in
     record { unit = unit; statuses = statuses_of sent }

@@ -7,7 +7,7 @@ ghost use Rattle.p25_packet_blocks.specs.Heads.{head_blocks};
 ghost use Rattle.p25_packet_blocks.specs.Lengths.{packet_sent_length};
 ghost use Rattle.p25_packet_blocks.specs.Sendable.{IsSendable};
 ghost use Rattle.p25_packet_blocks.specs.Whole.{packet_head, IsWholePacket};
-ghost use Rattle.p25_status.specs.Woven.{plain_of};
+ghost use Rattle.p25_status.specs.Woven.{bare_of};
 ghost use Rattle.p25_units.specs.Fixes.{body_fixes_of, fixes_of};
 ghost use Rattle.p25_units.specs.Units.{IsSendableUnit, IsSoundFrame, IsWholeBody, body_length, frame_length_of, sent_length};
 ghost use Rattle.p25_units.specs.declared.unit.Body.TheVariants.{Packet as packet_in, Voice as voice_in};
@@ -18,7 +18,7 @@ use crate::frame::Frame;
 use crate::unit::{Body, Unit};
 use p25_bits::BitBuf;
 use p25_packet_blocks::{BLOCK_LENGTH, HEADER_AT, Packet, packet_image, packet_length};
-use p25_status::{PLAIN_BLOCK_LENGTH, SENT_BLOCK_LENGTH, Statuses, unweave};
+use p25_status::{BARE_BLOCK_LENGTH, SENT_BLOCK_LENGTH, Statuses, unweave};
 use p25_unit_front::front_fixes;
 use p25_voice_units::{VoiceUnit, voice_fixes, voice_image};
 
@@ -37,7 +37,7 @@ fn body_fixes(bits: &BitBuf, at: usize, unit: &Unit) -> u32
     requires there { at + frame_length_of unit.now ≤ length bits.now }
     requires whole { IsWholeBody unit.now.body }
     ensures sendable { IsSendableUnit unit.now }
-    ensures value { result ≡ body_fixes_of unit.now (plain_of (part at (frame_length_of unit.now) bits.now)) }
+    ensures value { result ≡ body_fixes_of unit.now (bare_of (part at (frame_length_of unit.now) bits.now)) }
     ensures most { result ≤ 25200 }
 {
     let nac = unit.nac();
@@ -53,46 +53,46 @@ fn voice_unit_fixes(bits: &BitBuf, at: usize, nac: u16, voice: &VoiceUnit) -> u3
     requires nac { nac ≤ 4095 }
     ensures sendable { IsSendableVoice voice.now }
     ensures value { result ≡ body_fixes_of (record { nac = nac; body = voice_in voice.now })
-        (plain_of (part at (sent_length (body_length (voice_in voice.now))) bits.now)) }
+        (bare_of (part at (sent_length (body_length (voice_in voice.now))) bits.now)) }
     ensures most { result ≤ 25200 }
 {
-    let mut plain = BitBuf::new();
+    let mut bare = BitBuf::new();
     unweave(
         bits,
         at,
-        voice.length() / PLAIN_BLOCK_LENGTH * SENT_BLOCK_LENGTH,
-        &mut plain,
+        voice.length() / BARE_BLOCK_LENGTH * SENT_BLOCK_LENGTH,
+        &mut bare,
         &mut Statuses::new(),
     );
-    coded_fixes(nac, voice, &plain)
+    coded_fixes(nac, voice, &bare)
 }
 
 // Counts them by the unit's bits without status symbols. After the front of a terminator stand no words.
-fn coded_fixes(nac: u16, voice: &VoiceUnit, plain: &BitBuf) -> u32
+fn coded_fixes(nac: u16, voice: &VoiceUnit, bare: &BitBuf) -> u32
     requires nac { nac ≤ 4095 }
-    requires long { voice_length_of (voice_duid voice.now) ≡ Some (length plain.now) }
+    requires long { voice_length_of (voice_duid voice.now) ≡ Some (length bare.now) }
     ensures sendable { IsSendableVoice voice.now }
-    ensures value { result ≡ body_fixes_of (record { nac = nac; body = voice_in voice.now }) plain.now }
+    ensures value { result ≡ body_fixes_of (record { nac = nac; body = voice_in voice.now }) bare.now }
     ensures most { result ≤ 1680 }
 {
     match voice {
         VoiceUnit::End => 0,
-        _ => word_fixes(nac, voice, plain),
+        _ => word_fixes(nac, voice, bare),
     }
 }
 
 // Counts them by the bits that are sent for the unit. They take room, so they are made apart from the caller.
 #[inline(never)]
-fn word_fixes(nac: u16, voice: &VoiceUnit, plain: &BitBuf) -> u32
+fn word_fixes(nac: u16, voice: &VoiceUnit, bare: &BitBuf) -> u32
     requires nac { nac ≤ 4095 }
-    requires long { voice_length_of (voice_duid voice.now) ≡ Some (length plain.now) }
+    requires long { voice_length_of (voice_duid voice.now) ≡ Some (length bare.now) }
     ensures sendable { IsSendableVoice voice.now }
-    ensures value { result ≡ body_fixes_of (record { nac = nac; body = voice_in voice.now }) plain.now }
+    ensures value { result ≡ body_fixes_of (record { nac = nac; body = voice_in voice.now }) bare.now }
     ensures most { result ≤ 1680 }
 {
     let mut image = BitBuf::new();
     voice_image(nac, voice, &mut image);
-    voice_fixes(voice, plain, &image)
+    voice_fixes(voice, bare, &image)
 }
 
 // Counts the wrong bits of a packet after its front.
@@ -102,22 +102,22 @@ fn packet_fixes(bits: &BitBuf, at: usize, nac: u16, packet: &Packet) -> u32
     requires whole { IsWholePacket packet.now }
     ensures sendable { IsSendable packet.now }
     ensures value { result ≡ body_fixes_of (record { nac = nac; body = packet_in packet.now })
-        (plain_of (part at (packet_sent_length (head_blocks (packet_head packet.now))) bits.now)) }
+        (bare_of (part at (packet_sent_length (head_blocks (packet_head packet.now))) bits.now)) }
     ensures most { result ≤ 25200 }
 {
     let head = packet.head();
-    let mut plain = BitBuf::new();
+    let mut bare = BitBuf::new();
     unweave(
         bits,
         at,
         packet_length(&head),
-        &mut plain,
+        &mut bare,
         &mut Statuses::new(),
     );
     let mut image = BitBuf::new();
     packet_image(nac, packet, &mut image);
     let count = BLOCK_LENGTH * (1 + usize::from(head.blocks()));
-    part_distance(&plain, &image, HEADER_AT, count)
+    part_distance(&bare, &image, HEADER_AT, count)
 }
 
 // In how many of the `count` places from `at` on two lists differ.

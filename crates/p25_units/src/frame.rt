@@ -4,7 +4,7 @@ ghost use Rattle.std.specs.Prelude.{◌≡◌, ◌≤◌, ◌<◌, ◌*◌};
 ghost use Rattle.p25_units.specs.Units.{frame_length_of};
 
 use crate::unit::Unit;
-use p25_status::{PLAIN_BLOCK_LENGTH, SENT_BLOCK_LENGTH, Statuses};
+use p25_status::{BARE_BLOCK_LENGTH, SENT_BLOCK_LENGTH, Statuses};
 
 /// A unit and its status symbols. It is sound where a packet in it is whole and there is one symbol for each 72 of
 /// its sent bits.
@@ -22,5 +22,5 @@ pub fn frame_length(unit: &Unit) -> usize
     ensures value { result ≡ frame_length_of unit.now }
     ensures most { result ≤ 25920 }
 {
-    unit.body().length() / PLAIN_BLOCK_LENGTH * SENT_BLOCK_LENGTH
+    unit.body().length() / BARE_BLOCK_LENGTH * SENT_BLOCK_LENGTH
 }

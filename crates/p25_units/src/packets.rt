@@ -15,17 +15,17 @@ use p25_status::{Field, FieldList};
 // the number of wrong bits of its blocks.
 pub(crate) fn read_packet_body(
     head: Result<PacketHead, Field>,
-    plain: &BitBuf,
+    bare: &BitBuf,
     fixes: &mut u32,
 ) -> Result<Body, FieldList>
-    requires head { head ≡ head_reading_of plain.now }
-    requires there { HasItsLength plain.now }
-    ensures body { result ≡ packet_body_from (packet_reading_of plain.now) }
-    ensures fixes { (nac : ℕ) (body : body_type) → result ≡ Ok body → fixes.new ≡ body_fixes_of (record { nac = nac; body = body }) plain.now }
+    requires head { head ≡ head_reading_of bare.now }
+    requires there { HasItsLength bare.now }
+    ensures body { result ≡ packet_body_from (packet_reading_of bare.now) }
+    ensures fixes { (nac : ℕ) (body : body_type) → result ≡ Ok body → fixes.new ≡ body_fixes_of (record { nac = nac; body = body }) bare.now }
 {
     match head {
         Err(field) => Err(FieldList::one(field)),
-        Ok(head) => packet_body(read_packet_and_fixes(head, plain, fixes)),
+        Ok(head) => packet_body(read_packet_and_fixes(head, bare, fixes)),
     }
 }
 

@@ -2,7 +2,7 @@
 
 ghost use Rattle.std.specs.Prelude.{◌≡◌, ◌+◌, ◌<◌, ◌≤◌, Some, Ok, length, drop, IfErr, IfOk};
 ghost use Rattle.p25_bits.specs.Bits.{part};
-ghost use Rattle.p25_status.specs.Woven.{plain_of, statuses_of};
+ghost use Rattle.p25_status.specs.Woven.{bare_of, statuses_of};
 ghost use Rattle.p25_units.specs.Begins.{IsBegun};
 ghost use Rattle.p25_units.specs.Needs.{kind_need, need_of};
 ghost use Rattle.p25_units.specs.declared.needs.Need.TheVariants.{Length};
@@ -75,24 +75,24 @@ fn read_body(
     requires there { at ≤ length bits.now }
     requires kind { kind_need duid (drop at bits.now) ≡ Length count }
     requires begun { IsBegun begun.old (drop at bits.now) }
-    ensures body { result ≡ body_reading_of duid (plain_of (part at count bits.now)) }
+    ensures body { result ≡ body_reading_of duid (bare_of (part at count bits.now)) }
     ensures statuses { statuses.new ≡ statuses_of (part at count bits.now) }
 {
-    let mut plain = BitBuf::new();
-    unweave(bits, at, count, &mut plain, statuses);
+    let mut bare = BitBuf::new();
+    unweave(bits, at, count, &mut bare, statuses);
     if duid == PDU {
         let head = begun.read_head(bits, at);
-        return read_packet_body(head, &plain, &mut 0);
+        return read_packet_body(head, &bare, &mut 0);
     }
-    read_voice_body(duid, &plain)
+    read_voice_body(duid, &bare)
 }
 
 // The voice unit of a DUID, as what a unit carries.
-fn read_voice_body(duid: u8, plain: &BitBuf) -> Result<Body, FieldList>
-    requires { voice_length_of duid ≡ Some (length plain.now) }
-    ensures { result ≡ body_from (voice_reading_of duid plain.now) }
+fn read_voice_body(duid: u8, bare: &BitBuf) -> Result<Body, FieldList>
+    requires { voice_length_of duid ≡ Some (length bare.now) }
+    ensures { result ≡ body_from (voice_reading_of duid bare.now) }
 {
-    match read_voice(duid, plain) {
+    match read_voice(duid, bare) {
         Ok(voice) => Ok(Body::Voice(voice)),
         Err(fields) => Err(fields),
     }

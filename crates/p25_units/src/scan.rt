@@ -11,7 +11,7 @@ use crate::needs::Need;
 use p25_bch_nid::PDU;
 use p25_bits::BitBuf;
 use p25_packet_blocks::packet_length;
-use p25_status::{Field, PLAIN_BLOCK_LENGTH, SENT_BLOCK_LENGTH, is_sync};
+use p25_status::{BARE_BLOCK_LENGTH, Field, SENT_BLOCK_LENGTH, is_sync};
 use p25_voice_units::voice_length;
 
 // The bits from which an identifier can be read: those up to its last, with the status symbol within it.
@@ -83,7 +83,7 @@ fn need_of_voice(duid: u8, have: usize) -> Need
 {
     match voice_length(duid) {
         None => Need::NoLength(Field::Duid),
-        Some(plain) => need_of_length(plain / PLAIN_BLOCK_LENGTH * SENT_BLOCK_LENGTH, have),
+        Some(bare) => need_of_length(bare / BARE_BLOCK_LENGTH * SENT_BLOCK_LENGTH, have),
     }
 }
 

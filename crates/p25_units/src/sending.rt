@@ -21,9 +21,9 @@ pub fn image(frame: &Frame, out: &mut BitBuf)
     ensures sendable { IsSendableUnit frame.now.unit }
     ensures again { unit_reading_of out.new ≡ Ok frame.now }
 {
-    let mut plain = BitBuf::new();
-    unit_image(&frame.unit, &mut plain);
-    weave(&plain, &frame.statuses, out);
+    let mut bare = BitBuf::new();
+    unit_image(&frame.unit, &mut bare);
+    weave(&bare, &frame.statuses, out);
 }
 
 /// Sets `out` to the sent bits of a frame's unit under another network access code, with other status symbols, as many as
@@ -34,9 +34,9 @@ pub fn image_as(frame: &Frame, nac: u16, statuses: &Statuses, out: &mut BitBuf)
     requires symbols { length statuses.now ≡ length frame.now.statuses }
     ensures { out.new ≡ image_of (frame_as nac statuses.now frame.now) }
 {
-    let mut plain = BitBuf::new();
-    body_image(nac, frame.unit.body(), &mut plain);
-    weave(&plain, statuses, out);
+    let mut bare = BitBuf::new();
+    body_image(nac, frame.unit.body(), &mut bare);
+    weave(&bare, statuses, out);
 }
 
 /// Sets `out` to the bits of a unit without status symbols, first to last. No slot of a packet is Bad.

@@ -17,17 +17,17 @@ use std::process::Abort;
 
 // The first bits of some words, of which the last goes on, with the status symbol 0 throughout.
 fn sent(words: &[u64], len: usize) -> BitBuf {
-    let mut plain = BitBuf::new();
+    let mut bare = BitBuf::new();
     for place in 0..len {
-        if plain.len() < 25_200 && words.len() > 0 {
+        if bare.len() < 25_200 && words.len() > 0 {
             let word = words[(place / 64).min(words.len() - 1)];
-            plain.push((word >> (63 - place % 64)) & 1 == 1);
+            bare.push((word >> (63 - place % 64)) & 1 == 1);
         }
     }
-    let statuses = Statuses::filled(Status::default(), (plain.len() / 70).min(360));
+    let statuses = Statuses::filled(Status::default(), (bare.len() / 70).min(360));
     let mut out = BitBuf::new();
-    if 70 * statuses.len() == plain.len() {
-        weave(&plain, &statuses, &mut out);
+    if 70 * statuses.len() == bare.len() {
+        weave(&bare, &statuses, &mut out);
     }
     out
 }

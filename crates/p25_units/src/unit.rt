@@ -6,7 +6,7 @@ ghost use Rattle.p25_units.specs.declared.unit.Body.TheVariants.{Voice as voice_
 
 use p25_bch_nid::{Nid, PDU};
 use p25_packet_blocks::{Packet, packet_length};
-use p25_status::{PLAIN_BLOCK_LENGTH, SENT_BLOCK_LENGTH};
+use p25_status::{BARE_BLOCK_LENGTH, SENT_BLOCK_LENGTH};
 use p25_voice_units::VoiceUnit;
 use std::marker::Model;
 
@@ -49,7 +49,7 @@ impl Body {
         match self {
             Body::Voice(voice) => voice.length(),
             Body::Packet(packet) => packet_length(&packet.head()) / SENT_BLOCK_LENGTH
-                * PLAIN_BLOCK_LENGTH,
+                * BARE_BLOCK_LENGTH,
         }
     }
 }

@@ -10,11 +10,11 @@ use Rattle.p25_bits.specs.Distance.{distance_of}
 use Rattle.p25_bits.specs.Numbers.{each_below, numbers_from}
 use Rattle.p25_bits.proofs.PartLaws.{drop-part, take-part}
 use Rattle.p25_bits.proofs.NumbersLaws.{numbers_from-take, each_below-zero, each_below-more}
-use Rattle.p25_status.specs.Woven.{plain_of, statuses_of}
+use Rattle.p25_status.specs.Woven.{bare_of, statuses_of}
 use Rattle.p25_status.specs.declared.symbols.Status.{Status}
-use Rattle.p25_status.proofs.WovenLaws.{length-woven, plain_of-woven, statuses_of-woven}
+use Rattle.p25_status.proofs.WovenLaws.{length-woven, bare_of-woven, statuses_of-woven}
 use Rattle.p25_unit_front.specs.Front.{front_of, identifier_bits}
-use Rattle.p25_unit_front.proofs.FrontLaws.{front_of-plain_of}
+use Rattle.p25_unit_front.proofs.FrontLaws.{front_of-bare_of}
 use Rattle.p25_voice_units.specs.declared.voice.VoiceFrame.{VoiceFrame}
 use Rattle.p25_voice_units.specs.declared.unit.VoiceUnit.{VoiceUnit}
 use Rattle.p25_voice_units.specs.declared.unit.VoiceUnit.TheVariants.{Header, Link1, Link2, End, EndLink}
@@ -40,7 +40,7 @@ use Rattle.p25_units.specs.declared.unit.Body.TheVariants.{Voice, Packet}
 use Rattle.p25_units.specs.declared.frame.Frame.{Frame}
 use Rattle.p25_units.specs.declared.needs.Need.TheVariants.{Length}
 use Rattle.p25_units.proofs.ReadingsLaws.{IsVoiceImage-same}
-use Rattle.p25_units.proofs.UnitsLaws.{length-body_image_of, blocks-sound, symbols-image, length-image_of-blocks, plain_of-image_of}
+use Rattle.p25_units.proofs.UnitsLaws.{length-body_image_of, blocks-sound, symbols-image, length-image_of-blocks, bare_of-image_of}
 use Rattle.p25_units.proofs.WithinRadiusLaws.{need_of-near, unit_reading_of-near}
 use Rattle.p25_status.specs.Status.{status_modulo}
 use Rattle.p25_vectors.specs.Draws.{draw, state_after}
@@ -153,14 +153,14 @@ body-within nac (Packet packet) state received sendable long is = packet-within 
 
 -- The front of a sent unit, by its bits without status symbols.
 sent-front : (blocks : ℕ) (sent : List Bool) → 2 ≤ blocks → length sent ≡ 72 * blocks
-    → (take 48 sent ≡ part 0 48 (plain_of sent)) × (take 63 (identifier_bits sent) ≡ part 48 63 (plain_of sent))
+    → (take 48 sent ≡ part 0 48 (bare_of sent)) × (take 63 (identifier_bits sent) ≡ part 48 63 (bare_of sent))
 unfolding front_of
 sent-front blocks sent two long =
-    let plain = plain_of sent in
-    let front : take 112 plain ≡ take 48 sent ++ identifier_bits sent = front_of-plain_of blocks sent two long in
+    let bare = bare_of sent in
+    let front : take 112 bare ≡ take 48 sent ++ identifier_bits sent = front_of-bare_of blocks sent two long in
     let first : length (take 48 sent) ≡ 48 = length-take-le 48 sent (omega arith) in (
-      sym (take_at (take 48 sent) (identifier_bits sent) 48 first) ∙ sym (ap (take 48) front) ∙ take-take 48 112 plain (omega arith),
-      ap (take 63) (sym (drop_at (take 48 sent) (identifier_bits sent) 48 first) ∙ sym (ap (drop 48) front) ∙ drop-part 0 112 48 plain (omega arith)) ∙ take-part 48 64 63 plain (omega arith),
+      sym (take_at (take 48 sent) (identifier_bits sent) 48 first) ∙ sym (ap (take 48) front) ∙ take-take 48 112 bare (omega arith),
+      ap (take 63) (sym (drop_at (take 48 sent) (identifier_bits sent) 48 first) ∙ sym (ap (drop 48) front) ∙ drop-part 0 112 48 bare (omega arith)) ∙ take-part 48 64 63 bare (omega arith),
     )
 
 -- A frame.
@@ -172,27 +172,27 @@ module _ (frame : Frame) (sound : IsSoundFrame frame) (sendable : IsSendableUnit
   sent : List Bool
   sent = damaged_image frame state
 
-  plain : List Bool
-  plain = damaged (damaged_words frame.unit.body) (damage_counts frame.unit.body state) (unit_image_of frame.unit)
+  bare : List Bool
+  bare = damaged (damaged_words frame.unit.body) (damage_counts frame.unit.body state) (unit_image_of frame.unit)
 
-  long_plain : length plain ≡ 70 * blocks
-  unfolding plain blocks
-  long_plain = length-damaged (damaged_words frame.unit.body) (damage_counts frame.unit.body state) (unit_image_of frame.unit) ∙ symbols-image frame sound sendable
+  long_bare : length bare ≡ 70 * blocks
+  unfolding bare blocks
+  long_bare = length-damaged (damaged_words frame.unit.body) (damage_counts frame.unit.body state) (unit_image_of frame.unit) ∙ symbols-image frame sound sendable
 
   long_sent : length sent ≡ 72 * blocks
-  unfolding sent damaged_image plain blocks
-  long_sent = length-woven plain frame.statuses long_plain
+  unfolding sent damaged_image bare blocks
+  long_sent = length-woven bare frame.statuses long_bare
 
-  plain_is : plain_of sent ≡ plain
-  unfolding sent damaged_image plain blocks
-  plain_is = plain_of-woven plain frame.statuses long_plain
+  bare_is : bare_of sent ≡ bare
+  unfolding sent damaged_image bare blocks
+  bare_is = bare_of-woven bare frame.statuses long_bare
 
   statuses_are : statuses_of sent ≡ frame.statuses
-  unfolding sent damaged_image plain blocks
-  statuses_are = statuses_of-woven plain frame.statuses long_plain
+  unfolding sent damaged_image bare blocks
+  statuses_are = statuses_of-woven bare frame.statuses long_bare
 
-  near : IsNearAt (damaged_words frame.unit.body) (damage_counts frame.unit.body state) (unit_image_of frame.unit) plain
-  unfolding plain
+  near : IsNearAt (damaged_words frame.unit.body) (damage_counts frame.unit.body state) (unit_image_of frame.unit) bare
+  unfolding bare
   near = damaged-near frame.unit.body state (unit_image_of frame.unit)
 
   front-within : IsFrontWithin frame sent
@@ -202,35 +202,35 @@ module _ (frame : Frame) (sound : IsSoundFrame frame) (sendable : IsSendableUnit
       let two = (blocks-sound frame sound).0 in
       let here = sent-front blocks sent two long_sent in
       let there = sent-front blocks image two (length-image_of-blocks frame sound sendable) in
-      let image_plain = plain_of-image_of frame sound sendable in
-      let sync = sync-near frame.unit.body state (unit_image_of frame.unit) plain near in
-      let identifier = identifier-near frame.unit.body state (unit_image_of frame.unit) plain near in
-      let first = here.0 ∙ ap (part 0 48) plain_is in
-      let second = there.0 ∙ ap (part 0 48) image_plain in
-      let third = here.1 ∙ ap (part 48 63) plain_is in
-      let fourth = there.1 ∙ ap (part 48 63) image_plain in
+      let image_bare = bare_of-image_of frame sound sendable in
+      let sync = sync-near frame.unit.body state (unit_image_of frame.unit) bare near in
+      let identifier = identifier-near frame.unit.body state (unit_image_of frame.unit) bare near in
+      let first = here.0 ∙ ap (part 0 48) bare_is in
+      let second = there.0 ∙ ap (part 0 48) image_bare in
+      let third = here.1 ∙ ap (part 48 63) bare_is in
+      let fourth = there.1 ∙ ap (part 48 63) image_bare in
       record {
         long = long_sent ∙ sym (length-image_of-blocks frame sound sendable);
         sync = omega (arith, sync, ap₂ (λ (xs ys : List Bool). distance_of xs ys) first second);
         identifier = omega (arith, identifier, ap₂ (λ (xs ys : List Bool). distance_of xs ys) third fourth);
       }
 
-  body-is-within : IsBodyWithin frame.unit.body (unit_image_of frame.unit) plain
-  unfolding unit_image_of plain
+  body-is-within : IsBodyWithin frame.unit.body (unit_image_of frame.unit) bare
+  unfolding unit_image_of bare
   body-is-within =
       let body = frame.unit.body in
       let long = length-damaged (damaged_words body) (damage_counts body state) (unit_image_of frame.unit) in
-      body-within frame.unit.nac body (state_after 2 state) plain sendable.body long (body-near body state (unit_image_of frame.unit) plain near)
+      body-within frame.unit.nac body (state_after 2 state) bare sendable.body long (body-near body state (unit_image_of frame.unit) bare near)
 
   pub image-within : IsWithinRadius frame (damaged_image frame state)
   unfolding sent
-  image-within = record { front = front-within; body = subst (IsBodyWithin frame.unit.body (unit_image_of frame.unit)) (sym plain_is) body-is-within }
+  image-within = record { front = front-within; body = subst (IsBodyWithin frame.unit.body (unit_image_of frame.unit)) (sym bare_is) body-is-within }
 
   pub image-received : received_frame frame (damaged_image frame state) ≡ frame
-  unfolding sent plain unit_image_of
+  unfolding sent bare unit_image_of
   image-received =
       ap₂ (λ (body : Body) (statuses : List Status). let unit : UnitParts = record { nac = frame.unit.nac; body = body } in let same : Frame = record { unit = unit; statuses = statuses } in same)
-      (ap (received_body frame.unit.body) plain_is ∙ received-same frame.unit.nac frame.unit.body state sendable.body)
+      (ap (received_body frame.unit.body) bare_is ∙ received-same frame.unit.nac frame.unit.body state sendable.body)
       statuses_are
 
   pub image-length : need_of (damaged_image frame state) ≡ Length (length (damaged_image frame state))

@@ -112,10 +112,10 @@ fn put_damaged(frame: &Frame, draws: &mut Draws, bits: &mut BitBuf) -> u32
     ensures sendable { IsSendableUnit frame.now.unit }
     ensures state { draws.new ≡ state_after (damage_draws frame.now.unit.body draws.old) draws.old }
 {
-    let mut plain = BitBuf::new();
-    unit_image(&frame.unit, &mut plain);
-    let flips = damage(frame.unit.body(), draws, &mut plain);
-    weave(&plain, &frame.statuses, bits);
+    let mut bare = BitBuf::new();
+    unit_image(&frame.unit, &mut bare);
+    let flips = damage(frame.unit.body(), draws, &mut bare);
+    weave(&bare, &frame.statuses, bits);
     flips
 }
 

@@ -65,7 +65,8 @@ unfolding word_places places_from
 link_words_there bits there = all_end 10 1680 (length bits) (word_places 10 ldu_rows) refl there
 
 -- a unit with voice
-link_distance : (symbols : List Sym) (first second : ℕ) (received image : List Bool) → 1680 ≤ length received → 1680 ≤ length image → inner_bits 10 (word_places 10 ldu_rows) image ≡ field_bits hamming10_word 1 (length (word_places 10 ldu_rows)) symbols
+link_distance : (symbols : List Sym) (first second : ℕ) (received image : List Bool) → 1680 ≤ length received → 1680 ≤ length image
+    → inner_bits 10 (word_places 10 ldu_rows) image ≡ field_bits hamming10_word 1 (length (word_places 10 ldu_rows)) symbols
     → part 1504 16 image ≡ lsd16_word (bits_of 8 first) → part 1520 16 image ≡ lsd16_word (bits_of 8 second)
     → distance_of (bits_at link_looked received) (bits_at link_looked image) ≡ field_fixes_of hamming10_word 10 1 (word_places 10 ldu_rows) symbols received + (low_fixes_of 0 first received + low_fixes_of 1 second received)
 unfolding link_looked

@@ -46,17 +46,17 @@ ldu2_fails voice (Some sync) (Some first) None fields e = some_field _ _ fields 
 ldu2_fails voice (Some sync) None second fields e = some_field _ _ fields (ldu2_from voice (Some sync) None second) refl e
 ldu2_fails voice None first second fields e = some_field _ _ fields (ldu2_from voice None first second) refl e
 
-pub voice_fails : (plain : List Bool) (fields : List Field) (duid count : ℕ) → voice_length_of duid ≡ Some count → voice_reading_of duid plain ≡ Err fields → 0 < length fields
+pub voice_fails : (bare : List Bool) (fields : List Field) (duid count : ℕ) → voice_length_of duid ≡ Some count → voice_reading_of duid bare ≡ Err fields → 0 < length fields
 unfolding ldu1_in ldu2_in
-voice_fails plain fields =
-    length-cases (λ duid count. voice_reading_of duid plain ≡ Err fields → 0 < length fields)
-    (λ e. header_fails (header_in plain) fields (sym (reading-header plain) ∙ e))
-    (λ e. let two : Ok End ≡ Err fields = sym (reading-end plain) ∙ e in absurd (cc))
-    (λ e. ldu1_fails (voice_in plain) (link_in link_layout plain) (low_in 0 plain) (low_in 1 plain) fields (sym (reading-ldu1 plain) ∙ e))
-    (λ e. ldu2_fails (voice_in plain) (sync_in plain) (low_in 0 plain) (low_in 1 plain) fields (sym (reading-ldu2 plain) ∙ e))
-    (λ e. tdulc_fails (link_in tdulc_layout plain) fields (sym (reading-tdulc plain) ∙ e))
+voice_fails bare fields =
+    length-cases (λ duid count. voice_reading_of duid bare ≡ Err fields → 0 < length fields)
+    (λ e. header_fails (header_in bare) fields (sym (reading-header bare) ∙ e))
+    (λ e. let two : Ok End ≡ Err fields = sym (reading-end bare) ∙ e in absurd (cc))
+    (λ e. ldu1_fails (voice_in bare) (link_in link_layout bare) (low_in 0 bare) (low_in 1 bare) fields (sym (reading-ldu1 bare) ∙ e))
+    (λ e. ldu2_fails (voice_in bare) (sync_in bare) (low_in 0 bare) (low_in 1 bare) fields (sym (reading-ldu2 bare) ∙ e))
+    (λ e. tdulc_fails (link_in tdulc_layout bare) fields (sym (reading-tdulc bare) ∙ e))
 
 -- so it is with a reading of it
-pub some_fields : (duid count : ℕ) (plain : List Bool) (reading : Result VoiceUnit (List Field)) → voice_length_of duid ≡ Some count → reading ≡ voice_reading_of duid plain → IfErr reading (λ fields. 0 < length fields)
-some_fields duid count plain (Ok unit) long is = tt
-some_fields duid count plain (Err fields) long is = voice_fails plain fields duid count long (sym is)
+pub some_fields : (duid count : ℕ) (bare : List Bool) (reading : Result VoiceUnit (List Field)) → voice_length_of duid ≡ Some count → reading ≡ voice_reading_of duid bare → IfErr reading (λ fields. 0 < length fields)
+some_fields duid count bare (Ok unit) long is = tt
+some_fields duid count bare (Err fields) long is = voice_fails bare fields duid count long (sym is)

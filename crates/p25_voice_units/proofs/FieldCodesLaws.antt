@@ -35,14 +35,14 @@ unfolding word_places places_from
 tdulc_codes = layout_codes golay24_is_code golay24_reading_of golay24_reads_as (word_places 24 tdulc_rows) 2 24 12 link_code refl
 
 -- the inner words stand within the unit
-pub header_there : (plain : List Bool) → length plain ≡ 770 → All (λ at. at + 18 ≤ length plain) header_layout.places
+pub header_there : (bare : List Bool) → length bare ≡ 770 → All (λ at. at + 18 ≤ length bare) header_layout.places
 unfolding word_places places_from
-header_there plain long = let fits : 770 ≤ length plain = omega arith in all_end 18 770 (length plain) (word_places 18 hdu_rows) refl fits
+header_there bare long = let fits : 770 ≤ length bare = omega arith in all_end 18 770 (length bare) (word_places 18 hdu_rows) refl fits
 
-pub link_there : (plain : List Bool) → length plain ≡ 1680 → All (λ at. at + 10 ≤ length plain) link_layout.places
+pub link_there : (bare : List Bool) → length bare ≡ 1680 → All (λ at. at + 10 ≤ length bare) link_layout.places
 unfolding word_places places_from
-link_there plain long = let fits : 1680 ≤ length plain = omega arith in all_end 10 1680 (length plain) (word_places 10 ldu_rows) refl fits
+link_there bare long = let fits : 1680 ≤ length bare = omega arith in all_end 10 1680 (length bare) (word_places 10 ldu_rows) refl fits
 
-pub tdulc_there : (plain : List Bool) → length plain ≡ 420 → All (λ at. at + 24 ≤ length plain) tdulc_layout.places
+pub tdulc_there : (bare : List Bool) → length bare ≡ 420 → All (λ at. at + 24 ≤ length bare) tdulc_layout.places
 unfolding word_places places_from
-tdulc_there plain long = let fits : 420 ≤ length plain = omega arith in all_end 24 420 (length plain) (word_places 24 tdulc_rows) refl fits
+tdulc_there bare long = let fits : 420 ≤ length bare = omega arith in all_end 24 420 (length bare) (word_places 24 tdulc_rows) refl fits

@@ -76,29 +76,29 @@ module _ {IsWord : List Bool → Type 0} {size k : ℕ} {carried : Contents} (ca
   group_word i = carried.encoding (symbol_bits (part (carried.each * i) carried.each carried.symbols))
 
   -- the words of a piece that is there
-  row_words : (at : ℕ) (piece : Piece) (n : ℕ) (plain : List Bool) → begins_at n piece ≡ true → piece_fits carried.each (length carried.symbols) (length carried.low) (length carried.voice) piece ≡ true
-      → part at (piece_length size piece) plain ≡ piece_bits carried piece → (i : ℕ) → i < length (words_at size at piece) → part (get_or (words_at size at piece) i 0) size plain ≡ group_word (n + i)
+  row_words : (at : ℕ) (piece : Piece) (n : ℕ) (bare : List Bool) → begins_at n piece ≡ true → piece_fits carried.each (length carried.symbols) (length carried.low) (length carried.voice) piece ≡ true
+      → part at (piece_length size piece) bare ≡ piece_bits carried piece → (i : ℕ) → i < length (words_at size at piece) → part (get_or (words_at size at piece) i 0) size bare ≡ group_word (n + i)
   unfolding group_word
-  row_words at (Words first count) n plain begins fits is i inside =
+  row_words at (Words first count) n bare begins fits is i inside =
       let each = carried.each in
       let group = part (each * first) (each * count) carried.symbols in
       let low : i < count = subst (λ m. i < m) (length-places_from at size count) inside in
       let covers : each * count ≡ length group = sym (length-part (each * first) (each * count) carried.symbols (leb-true (each * first + each * count) (length carried.symbols) fits)) in
-      ap (λ m. part m size plain) (get_or-places_from at size count i 0 low)
-      ∙ sym (part-part at (size * count) (size * i) size plain (room_at size i count (size * count) low refl))
+      ap (λ m. part m size bare) (get_or-places_from at size count i 0 low)
+      ∙ sym (part-part at (size * count) (size * i) size bare (room_at size i count (size * count) low refl))
       ∙ ap (λ (xs : List Bool). part (size * i) size xs) (is ∙ piece-words carried first count)
       ∙ part-field_bits carries.long carried.encoding carries.encodes each count group carries.sixes covers i low
       ∙ ap (λ xs. carried.encoding (symbol_bits xs)) (group_of_part each first count n i carried.symbols (eqb-true first n begins) low)
-  row_words at (Frame j) n plain begins fits is i inside = absurd (omega (arith, inside))
-  row_words at (LowSpeed j) n plain begins fits is i inside = absurd (omega (arith, inside))
-  row_words at (Nulls count) n plain begins fits is i inside = absurd (omega (arith, inside))
+  row_words at (Frame j) n bare begins fits is i inside = absurd (omega (arith, inside))
+  row_words at (LowSpeed j) n bare begins fits is i inside = absurd (omega (arith, inside))
+  row_words at (Nulls count) n bare begins fits is i inside = absurd (omega (arith, inside))
 
   -- the words of rows that are there
-  pub words_from_rows : (rows : List (ℕ × Piece)) (n : ℕ) (plain : List Bool) → rows_counted n rows ≡ true → rows_supplied carried.each (length carried.symbols) (length carried.low) (length carried.voice) rows ≡ true
-      → All (λ row. part row.0 (piece_length size row.1) plain ≡ piece_bits carried row.1) rows
-      → (i : ℕ) → i < length (word_places size rows) → part (get_or (word_places size rows) i 0) size plain ≡ group_word (n + i)
-  words_from_rows [] n plain counted fit there i inside = absurd (omega (arith, inside, ap length (word_places-nil size)))
-  words_from_rows (row ∷ rows) n plain counted fit there i inside =
+  pub words_from_rows : (rows : List (ℕ × Piece)) (n : ℕ) (bare : List Bool) → rows_counted n rows ≡ true → rows_supplied carried.each (length carried.symbols) (length carried.low) (length carried.voice) rows ≡ true
+      → All (λ row. part row.0 (piece_length size row.1) bare ≡ piece_bits carried row.1) rows
+      → (i : ℕ) → i < length (word_places size rows) → part (get_or (word_places size rows) i 0) size bare ≡ group_word (n + i)
+  words_from_rows [] n bare counted fit there i inside = absurd (omega (arith, inside, ap length (word_places-nil size)))
+  words_from_rows (row ∷ rows) n bare counted fit there i inside =
       let here = words_at size row.0 row.1 in
       let others = word_places size rows in
       let counts = and_parts (begins_at n row.1) (rows_counted (n + word_count row.1) rows) counted in
@@ -107,73 +107,73 @@ module _ {IsWord : List Bool → Type 0} {size k : ℕ} {carried : Contents} (ca
       let many = length-words_at size row.0 row.1 in
       elim (cases_lt i (length here)) [
         | inl below ↦
-            ap (λ places. part (get_or places i 0) size plain) split
-            ∙ ap (λ m. part m size plain) (get_or_append_left here others 0 i below)
-            ∙ row_words row.0 row.1 n plain counts.0 fits.0 (there 0 row (omega arith)) i below
+            ap (λ places. part (get_or places i 0) size bare) split
+            ∙ ap (λ m. part m size bare) (get_or_append_left here others 0 i below)
+            ∙ row_words row.0 row.1 n bare counts.0 fits.0 (there 0 row (omega arith)) i below
         | inr above ↦
             let behind : i - length here < length others = omega (arith, inside, above, ap length split, length-append here others) in
             let number : n + word_count row.1 + (i - length here) ≡ n + i = omega (arith, above, many) in
-            ap (λ places. part (get_or places i 0) size plain) split
-            ∙ ap (λ m. part m size plain) (get_or-append_right here others i 0 above)
-            ∙ words_from_rows rows (n + word_count row.1) plain counts.1 fits.1 (λ j d low. there (suc j) d (omega arith)) (i - length here) behind
+            ap (λ places. part (get_or places i 0) size bare) split
+            ∙ ap (λ m. part m size bare) (get_or-append_right here others i 0 above)
+            ∙ words_from_rows rows (n + word_count row.1) bare counts.1 fits.1 (λ j d low. there (suc j) d (omega arith)) (i - length here) behind
             ∙ ap group_word number
       ]
 
   -- a piece is there where its words are, and what else it may be
-  piece_there : (at : ℕ) (piece : Piece) (n : ℕ) (plain : List Bool) → begins_at n piece ≡ true
-      → ((i : ℕ) → i < length (words_at size at piece) → part (get_or (words_at size at piece) i 0) size plain ≡ group_word (n + i))
-      → HasPiece carried.low carried.voice plain at piece → part at (piece_length size piece) plain ≡ piece_bits carried piece
+  piece_there : (at : ℕ) (piece : Piece) (n : ℕ) (bare : List Bool) → begins_at n piece ≡ true
+      → ((i : ℕ) → i < length (words_at size at piece) → part (get_or (words_at size at piece) i 0) size bare ≡ group_word (n + i))
+      → HasPiece carried.low carried.voice bare at piece → part at (piece_length size piece) bare ≡ piece_bits carried piece
   unfolding group_word field_bits piece_bits
-  piece_there at (Words first count) n plain begins words has =
+  piece_there at (Words first count) n bare begins words has =
       let each = carried.each in
-      sym (joined_below-parts at size count plain)
-      ∙ joined_below-same count (λ i. part (at + size * i) size plain) (λ i. carried.encoding (symbol_bits (part (each * i) each (part (each * first) (each * count) carried.symbols))))
+      sym (joined_below-parts at size count bare)
+      ∙ joined_below-same count (λ i. part (at + size * i) size bare) (λ i. carried.encoding (symbol_bits (part (each * i) each (part (each * first) (each * count) carried.symbols))))
       (λ i low.
-      ap (λ m. part m size plain) (sym (get_or-places_from at size count i 0 low))
+      ap (λ m. part m size bare) (sym (get_or-places_from at size count i 0 low))
       ∙ words i (subst (λ m. i < m) (sym (length-places_from at size count)) low)
       ∙ ap (λ xs. carried.encoding (symbol_bits xs)) (sym (group_of_part each first count n i carried.symbols (eqb-true first n begins) low)))
-  piece_there at (Frame i) n plain begins words has = has
-  piece_there at (LowSpeed i) n plain begins words has = lsd16_only (bits_of 8 (get_or carried.low i 0)) (part at 16 plain) (length-bits_of 8 (get_or carried.low i 0)) has
-  piece_there at (Nulls count) n plain begins words has = has
+  piece_there at (Frame i) n bare begins words has = has
+  piece_there at (LowSpeed i) n bare begins words has = lsd16_only (bits_of 8 (get_or carried.low i 0)) (part at 16 bare) (length-bits_of 8 (get_or carried.low i 0)) has
+  piece_there at (Nulls count) n bare begins words has = has
 
   -- rows are there where their words are
-  pub rows_from_words : (rows : List (ℕ × Piece)) (n : ℕ) (plain : List Bool) → rows_counted n rows ≡ true
-      → ((i : ℕ) → i < length (word_places size rows) → part (get_or (word_places size rows) i 0) size plain ≡ group_word (n + i))
-      → All (λ row. HasPiece carried.low carried.voice plain row.0 row.1) rows → All (λ row. part row.0 (piece_length size row.1) plain ≡ piece_bits carried row.1) rows
-  rows_from_words [] n plain counted words has = All-nil (λ row. part row.0 (piece_length size row.1) plain ≡ piece_bits carried row.1)
-  rows_from_words (row ∷ rows) n plain counted words has =
+  pub rows_from_words : (rows : List (ℕ × Piece)) (n : ℕ) (bare : List Bool) → rows_counted n rows ≡ true
+      → ((i : ℕ) → i < length (word_places size rows) → part (get_or (word_places size rows) i 0) size bare ≡ group_word (n + i))
+      → All (λ row. HasPiece carried.low carried.voice bare row.0 row.1) rows → All (λ row. part row.0 (piece_length size row.1) bare ≡ piece_bits carried row.1) rows
+  rows_from_words [] n bare counted words has = All-nil (λ row. part row.0 (piece_length size row.1) bare ≡ piece_bits carried row.1)
+  rows_from_words (row ∷ rows) n bare counted words has =
       let here = words_at size row.0 row.1 in
       let others = word_places size rows in
       let counts = and_parts (begins_at n row.1) (rows_counted (n + word_count row.1) rows) counted in
       let split = word_places-cons size row rows in
       let many = length-words_at size row.0 row.1 in
       let first
-      = piece_there row.0 row.1 n plain counts.0
+      = piece_there row.0 row.1 n bare counts.0
       (λ i below.
-      ap (λ m. part m size plain) (sym (ap (λ places. get_or places i 0) split ∙ get_or_append_left here others 0 i below))
+      ap (λ m. part m size bare) (sym (ap (λ places. get_or places i 0) split ∙ get_or_append_left here others 0 i below))
       ∙ words i (omega (arith, below, ap length split, length-append here others)))
       (has 0 row (omega arith)) in
-      let next : (i : ℕ) → i < length others → part (get_or others i 0) size plain ≡ group_word (n + word_count row.1 + i)
+      let next : (i : ℕ) → i < length others → part (get_or others i 0) size bare ≡ group_word (n + word_count row.1 + i)
       = λ i below.
       let above : length here ≤ length here + i = omega arith in
       let back : length here + i - length here ≡ i = omega arith in
       let number : n + (length here + i) ≡ n + word_count row.1 + i = omega (arith, many) in
-      ap (λ m. part m size plain) (sym (ap (λ places. get_or places (length here + i) 0) split ∙ get_or-append_right here others (length here + i) 0 above ∙ ap (λ m. get_or others m 0) back))
+      ap (λ m. part m size bare) (sym (ap (λ places. get_or places (length here + i) 0) split ∙ get_or-append_right here others (length here + i) 0 above ∙ ap (λ m. get_or others m 0) back))
       ∙ words (length here + i) (omega (arith, below, ap length split, length-append here others))
       ∙ ap group_word number in
-      All-cons (λ other. part other.0 (piece_length size other.1) plain ≡ piece_bits carried other.1) row rows first
-      (rows_from_words rows (n + word_count row.1) plain counts.1 next (λ j d low. has (suc j) d (omega arith)))
+      All-cons (λ other. part other.0 (piece_length size other.1) bare ≡ piece_bits carried other.1) row rows first
+      (rows_from_words rows (n + word_count row.1) bare counts.1 next (λ j d low. has (suc j) d (omega arith)))
 
 -- and then they have what they may be besides
-piece_has : (carried : Contents) (size at : ℕ) (piece : Piece) (plain : List Bool) → part at (piece_length size piece) plain ≡ piece_bits carried piece → HasPiece carried.low carried.voice plain at piece
+piece_has : (carried : Contents) (size at : ℕ) (piece : Piece) (bare : List Bool) → part at (piece_length size piece) bare ≡ piece_bits carried piece → HasPiece carried.low carried.voice bare at piece
 unfolding piece_bits
-piece_has carried size at (Words first count) plain is = tt
-piece_has carried size at (Frame i) plain is = is
-piece_has carried size at (LowSpeed i) plain is =
+piece_has carried size at (Words first count) bare is = tt
+piece_has carried size at (Frame i) bare is = is
+piece_has carried size at (LowSpeed i) bare is =
     let octet = get_or carried.low i 0 in
     subst (λ w. IsEncoding IsLsd16 8 (bits_of 8 octet) w) (sym is) (lsd16_encodes (bits_of 8 octet) (length-bits_of 8 octet))
-piece_has carried size at (Nulls count) plain is = is
+piece_has carried size at (Nulls count) bare is = is
 
-pub rows_have : (carried : Contents) (size : ℕ) (rows : List (ℕ × Piece)) (plain : List Bool) → All (λ row. part row.0 (piece_length size row.1) plain ≡ piece_bits carried row.1) rows
-    → All (λ row. HasPiece carried.low carried.voice plain row.0 row.1) rows
-rows_have carried size rows plain there i d inside = piece_has carried size (get_or rows i d).0 (get_or rows i d).1 plain (there i d inside)
+pub rows_have : (carried : Contents) (size : ℕ) (rows : List (ℕ × Piece)) (bare : List Bool) → All (λ row. part row.0 (piece_length size row.1) bare ≡ piece_bits carried row.1) rows
+    → All (λ row. HasPiece carried.low carried.voice bare row.0 row.1) rows
+rows_have carried size rows bare there i d inside = piece_has carried size (get_or rows i d).0 (get_or rows i d).1 bare (there i d inside)

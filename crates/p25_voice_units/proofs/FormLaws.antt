@@ -46,44 +46,44 @@ module _ {IsWord : List Bool → Type 0} {size k : ℕ} {carried : Contents} (ca
       length-append (unit_front nac duid) (rows_bits carried rows) ∙ ap₂ ◌+◌ (length-unit_front nac duid) (length-rows_bits carries rows are.fit) ∙ sym are.fill
 
   -- and have each piece at its place
-  pub unit_parts : (nac duid : ℕ) (plain : List Bool) → plain ≡ unit_front nac duid ++ rows_bits carried rows → All (λ row. part row.0 (piece_length size row.1) plain ≡ piece_bits carried row.1) rows
-  unit_parts nac duid plain is =
+  pub unit_parts : (nac duid : ℕ) (bare : List Bool) → bare ≡ unit_front nac duid ++ rows_bits carried rows → All (λ row. part row.0 (piece_length size row.1) bare ≡ piece_bits carried row.1) rows
+  unit_parts nac duid bare is =
       subst (λ (xs : List Bool). All (λ row. part row.0 (piece_length size row.1) xs ≡ piece_bits carried row.1) rows) (sym is)
       (rows_parts carries rows 112 (unit_front nac duid) (length-unit_front nac duid) are.stand are.fit)
 
   -- so they are laid out
-  pub laid_out : (nac duid : ℕ) (plain : List Bool) → plain ≡ unit_front nac duid ++ rows_bits carried rows → IsLaidOut nac duid count rows carried.low carried.voice plain
-  laid_out nac duid plain is = record {
+  pub laid_out : (nac duid : ℕ) (bare : List Bool) → bare ≡ unit_front nac duid ++ rows_bits carried rows → IsLaidOut nac duid count rows carried.low carried.voice bare
+  laid_out nac duid bare is = record {
     long = ap length is ∙ length-unit nac duid;
     front = subst (λ (xs : List Bool). IsFront nac duid xs) (sym (ap (take 112) is ∙ take_at (unit_front nac duid) (rows_bits carried rows) 112 (length-unit_front nac duid))) (IsFront-unit_front nac duid);
-    pieces = rows_have carried size rows plain (unit_parts nac duid plain is);
+    pieces = rows_have carried size rows bare (unit_parts nac duid bare is);
   }
 
   -- bits that are laid out and have their words are the unit's
-  pub laid_out-only : (nac duid : ℕ) (plain : List Bool) → IsLaidOut nac duid count rows carried.low carried.voice plain
-      → ((i : ℕ) → i < length (word_places size rows) → part (get_or (word_places size rows) i 0) size plain ≡ group_word carries (0 + i)) → plain ≡ unit_front nac duid ++ rows_bits carried rows
-  laid_out-only nac duid plain is words =
-      sym (take-append-drop 112 plain)
-      ∙ ap₂ (λ (xs ys : List Bool). xs ++ ys) (unit_front-only nac duid (take 112 plain) is.front)
-      (rows_only size carried rows 112 plain are.stand (is.long ∙ are.fill) (rows_from_words carries rows 0 plain are.counted words is.pieces))
+  pub laid_out-only : (nac duid : ℕ) (bare : List Bool) → IsLaidOut nac duid count rows carried.low carried.voice bare
+      → ((i : ℕ) → i < length (word_places size rows) → part (get_or (word_places size rows) i 0) size bare ≡ group_word carries (0 + i)) → bare ≡ unit_front nac duid ++ rows_bits carried rows
+  laid_out-only nac duid bare is words =
+      sym (take-append-drop 112 bare)
+      ∙ ap₂ (λ (xs ys : List Bool). xs ++ ys) (unit_front-only nac duid (take 112 bare) is.front)
+      (rows_only size carried rows 112 bare are.stand (is.long ∙ are.fill) (rows_from_words carries rows 0 bare are.counted words is.pieces))
 
   -- its inner words are those of its symbols
-  pub words_in_unit : (nac duid : ℕ) (plain : List Bool) → plain ≡ unit_front nac duid ++ rows_bits carried rows
-      → inner_bits size (word_places size rows) plain ≡ field_bits carried.encoding carried.each (length (word_places size rows)) carried.symbols
+  pub words_in_unit : (nac duid : ℕ) (bare : List Bool) → bare ≡ unit_front nac duid ++ rows_bits carried rows
+      → inner_bits size (word_places size rows) bare ≡ field_bits carried.encoding carried.each (length (word_places size rows)) carried.symbols
   unfolding inner_bits field_bits group_word
-  words_in_unit nac duid plain is =
+  words_in_unit nac duid bare is =
       let places = word_places size rows in
       let every : length places ≤ length places = omega arith in
-      let run : ℕ → List Bool = λ at. part at size plain in
+      let run : ℕ → List Bool = λ at. part at size bare in
       let word : ℕ → List Bool = λ i. carried.encoding (symbol_bits (part (carried.each * i) carried.each carried.symbols)) in
       ap (flat_map run) (sym (take_all (length places) places every))
       ∙ flat_map_by_place run places 0 (length places) every
       ∙ joined_below-same (length places) (λ i. run (get_or places i 0)) word
-      (λ i inside. let none : 0 + i ≡ i = omega arith in words_from_rows carries rows 0 plain are.counted are.fit (unit_parts nac duid plain is) i inside ∙ ap word none)
+      (λ i inside. let none : 0 + i ≡ i = omega arith in words_from_rows carries rows 0 bare are.counted are.fit (unit_parts nac duid bare is) i inside ∙ ap word none)
 
   module _ (places : AreWordPlaces size count carried (word_places size rows)) where
-    within : (plain : List Bool) → length plain ≡ count → All (λ at. at + size ≤ length plain) (word_places size rows)
-    within plain long i d inside =
+    within : (bare : List Bool) → length bare ≡ count → All (λ at. at + size ≤ length bare) (word_places size rows)
+    within bare long i d inside =
         subst (λ m. get_or (word_places size rows) i d + size ≤ m) (sym long) (leb-true _ count (AllPass-from_list_all (λ at. nat_le (at + size) count) (word_places size rows) places.inside i d inside))
 
     -- the inner word of a group carries it
@@ -97,26 +97,26 @@ module _ {IsWord : List Bool → Type 0} {size k : ℕ} {carried : Contents} (ca
 
     module _ (inner_reading : List Bool → Option (List Bool)) (outer_reading : List (Option Sym) → Option (List Sym)) (n : ℕ) {IsOuterWord : List Sym → Type 0} where
       -- the unit carries its field
-      pub field_carried : (info : List Sym) → IsEncoding IsOuterWord n info carried.symbols → (nac duid : ℕ) (plain : List Bool) → plain ≡ unit_front nac duid ++ rows_bits carried rows
-          → HasField IsWord IsOuterWord (field_layout (word_places size rows) size carried.each inner_reading outer_reading n) info plain
-      field_carried info outer nac duid plain is =
+      pub field_carried : (info : List Sym) → IsEncoding IsOuterWord n info carried.symbols → (nac duid : ℕ) (bare : List Bool) → bare ≡ unit_front nac duid ++ rows_bits carried rows
+          → HasField IsWord IsOuterWord (field_layout (word_places size rows) size carried.each inner_reading outer_reading n) info bare
+      field_carried info outer nac duid bare is =
           let layout = field_layout (word_places size rows) size carried.each inner_reading outer_reading n in
-          let words = words_from_rows carries rows 0 plain are.counted are.fit (unit_parts nac duid plain is) in
-          subst (λ xs. HasField IsWord IsOuterWord layout xs plain) outer.begins
-          (field_there layout k carried.symbols plain carries.sixes carries.begins places.cover (within plain (ap length is ∙ length-unit nac duid)) outer.word_of_set
+          let words = words_from_rows carries rows 0 bare are.counted are.fit (unit_parts nac duid bare is) in
+          subst (λ xs. HasField IsWord IsOuterWord layout xs bare) outer.begins
+          (field_there layout k carried.symbols bare carries.sixes carries.begins places.cover (within bare (ap length is ∙ length-unit nac duid)) outer.word_of_set
           (λ i d inside.
           subst (λ w. IsEncoding IsWord k (symbol_bits (part (carried.each * i) carried.each carried.symbols)) w)
-          (sym (ap (λ m. part m size plain) (get_or_default (word_places size rows) i d 0 inside) ∙ words i inside))
+          (sym (ap (λ m. part m size bare) (get_or_default (word_places size rows) i d 0 inside) ∙ words i inside))
           (group_encoded i inside)))
 
       -- what carries the field has its words
-      pub words_carried : (info : List Sym) → ((word : List Sym) → IsEncoding IsOuterWord n info word → word ≡ carried.symbols) → (plain : List Bool) → length plain ≡ count
-          → HasField IsWord IsOuterWord (field_layout (word_places size rows) size carried.each inner_reading outer_reading n) info plain
-          → (i : ℕ) → i < length (word_places size rows) → part (get_or (word_places size rows) i 0) size plain ≡ group_word carries (0 + i)
-      words_carried info only plain long has i inside =
+      pub words_carried : (info : List Sym) → ((word : List Sym) → IsEncoding IsOuterWord n info word → word ≡ carried.symbols) → (bare : List Bool) → length bare ≡ count
+          → HasField IsWord IsOuterWord (field_layout (word_places size rows) size carried.each inner_reading outer_reading n) info bare
+          → (i : ℕ) → i < length (word_places size rows) → part (get_or (word_places size rows) i 0) size bare ≡ group_word carries (0 + i)
+      words_carried info only bare long has i inside =
           let layout = field_layout (word_places size rows) size carried.each inner_reading outer_reading n in
-          let sent = only (sent_in layout plain) (record { word_of_set = has.outer; begins = has.begins }) in
-          let there = field_word_there layout k info plain carries.sixes carries.begins (within plain long) has i inside in
+          let sent = only (sent_in layout bare) (record { word_of_set = has.outer; begins = has.begins }) in
+          let there = field_word_there layout k info bare carries.sixes carries.begins (within bare long) has i inside in
           let made = group_encoded i inside in
-          carries.one_word (part (get_or (word_places size rows) i 0) size plain) (group_word carries (0 + i)) there.word_of_set made.word_of_set
+          carries.one_word (part (get_or (word_places size rows) i 0) size bare) (group_word carries (0 + i)) there.word_of_set made.word_of_set
           (there.begins ∙ ap (λ (xs : List Sym). symbol_bits (part (carried.each * i) carried.each xs)) sent ∙ sym made.begins)

@@ -15,7 +15,7 @@ use Rattle.p25_golay.specs.Golay24Readings.{golay24_reading_of}
 use Rattle.p25_gf64.specs.declared.symbol.Sym.{Sym}
 use Rattle.p25_reed_solomon.specs.Words.{IsWord}
 use Rattle.p25_reed_solomon.specs.Encoding.{rs_word}
-use Rattle.p25_reed_solomon.specs.RsReadings.{rs_marked_reading_of}
+use Rattle.p25_reed_solomon.specs.RsReadings.{rs_erased_reading_of}
 use Rattle.p25_reed_solomon.proofs.EncodingLaws.{IsEncoding-rs_word, rs_word-only}
 use Rattle.p25_link.specs.declared.link_control.LinkControl.{LinkControl}
 use Rattle.p25_link.specs.declared.encryption_sync.EncryptionSync.{EncryptionSync}
@@ -119,18 +119,18 @@ header_long : (nac : ℕ) (word : HeaderWord) → voice_length_of 0 ≡ Some (le
 header_long nac word =
     length-header ∙ ap Some (sym (ap length (header_bits nac word) ∙ length-unit (header_carries word) (header_suits word) nac 0))
 
-header_form : (nac : ℕ) (word : HeaderWord) (plain : List Bool)
-    → (IsLaidOut nac 0 770 hdu_rows [] [] plain × HasField IsGolay18 (IsWord 36 20) header_layout (header_symbols word) plain) ↔ (plain ≡ voice_image_of nac (Header word))
-header_form nac word plain = (
+header_form : (nac : ℕ) (word : HeaderWord) (bare : List Bool)
+    → (IsLaidOut nac 0 770 hdu_rows [] [] bare × HasField IsGolay18 (IsWord 36 20) header_layout (header_symbols word) bare) ↔ (bare ≡ voice_image_of nac (Header word))
+header_form nac word bare = (
   λ (laid, has).
-      laid_out-only (header_carries word) (header_suits word) nac 0 plain laid
-      (words_carried (header_carries word) (header_suits word) (header_stands word) golay18_reading_of (rs_marked_reading_of 36 20) 20
-      (header_symbols word) (λ w is. rs_word-only 36 20 (header_symbols word) w header_code (length-header_symbols word) is) plain laid.long has)
+      laid_out-only (header_carries word) (header_suits word) nac 0 bare laid
+      (words_carried (header_carries word) (header_suits word) (header_stands word) golay18_reading_of (rs_erased_reading_of 36 20) 20
+      (header_symbols word) (λ w is. rs_word-only 36 20 (header_symbols word) w header_code (length-header_symbols word) is) bare laid.long has)
       ∙ sym (header_bits nac word),
   λ is.
       let whole = is ∙ header_bits nac word in (
-        laid_out (header_carries word) (header_suits word) nac 0 plain whole,
-        field_carried (header_carries word) (header_suits word) (header_stands word) golay18_reading_of (rs_marked_reading_of 36 20) 20 (header_symbols word) (header_outer word) nac 0 plain whole,
+        laid_out (header_carries word) (header_suits word) nac 0 bare whole,
+        field_carried (header_carries word) (header_suits word) (header_stands word) golay18_reading_of (rs_erased_reading_of 36 20) 20 (header_symbols word) (header_outer word) nac 0 bare whole,
       ),
 )
 
@@ -155,18 +155,18 @@ ldu1_long : (nac : ℕ) (link : LinkControl) (low : List ℕ) (voice : List Voic
 ldu1_long nac link low voice speech =
     length-ldu1 ∙ ap Some (sym (ap length (ldu1_bits nac link low voice) ∙ length-unit (ldu1_carries link low voice speech) (ldu1_suits link low voice speech) nac 5))
 
-ldu1_form : (nac : ℕ) (link : LinkControl) (low : List ℕ) (voice : List VoiceFrame) (plain : List Bool) → IsSpeech low voice
-    → (IsLaidOut nac 5 1680 ldu_rows low voice plain × HasField IsHamming10 (IsWord 24 12) link_layout (link_symbols link) plain) ↔ (plain ≡ voice_image_of nac (Link1 link low voice))
-ldu1_form nac link low voice plain speech = (
+ldu1_form : (nac : ℕ) (link : LinkControl) (low : List ℕ) (voice : List VoiceFrame) (bare : List Bool) → IsSpeech low voice
+    → (IsLaidOut nac 5 1680 ldu_rows low voice bare × HasField IsHamming10 (IsWord 24 12) link_layout (link_symbols link) bare) ↔ (bare ≡ voice_image_of nac (Link1 link low voice))
+ldu1_form nac link low voice bare speech = (
   λ (laid, has).
-      laid_out-only (ldu1_carries link low voice speech) (ldu1_suits link low voice speech) nac 5 plain laid
-      (words_carried (ldu1_carries link low voice speech) (ldu1_suits link low voice speech) (ldu1_stands link low voice) hamming10_reading_of (rs_marked_reading_of 24 12) 12
-      (link_symbols link) (λ w is. rs_word-only 24 12 (link_symbols link) w link_code (length-link_symbols link) is) plain laid.long has)
+      laid_out-only (ldu1_carries link low voice speech) (ldu1_suits link low voice speech) nac 5 bare laid
+      (words_carried (ldu1_carries link low voice speech) (ldu1_suits link low voice speech) (ldu1_stands link low voice) hamming10_reading_of (rs_erased_reading_of 24 12) 12
+      (link_symbols link) (λ w is. rs_word-only 24 12 (link_symbols link) w link_code (length-link_symbols link) is) bare laid.long has)
       ∙ sym (ldu1_bits nac link low voice),
   λ is.
       let whole = is ∙ ldu1_bits nac link low voice in (
-        laid_out (ldu1_carries link low voice speech) (ldu1_suits link low voice speech) nac 5 plain whole,
-        field_carried (ldu1_carries link low voice speech) (ldu1_suits link low voice speech) (ldu1_stands link low voice) hamming10_reading_of (rs_marked_reading_of 24 12) 12 (link_symbols link) (link_outer link) nac 5 plain whole,
+        laid_out (ldu1_carries link low voice speech) (ldu1_suits link low voice speech) nac 5 bare whole,
+        field_carried (ldu1_carries link low voice speech) (ldu1_suits link low voice speech) (ldu1_stands link low voice) hamming10_reading_of (rs_erased_reading_of 24 12) 12 (link_symbols link) (link_outer link) nac 5 bare whole,
       ),
 )
 
@@ -191,18 +191,18 @@ ldu2_long : (nac : ℕ) (sync : EncryptionSync) (low : List ℕ) (voice : List V
 ldu2_long nac sync low voice speech =
     length-ldu2 ∙ ap Some (sym (ap length (ldu2_bits nac sync low voice) ∙ length-unit (ldu2_carries sync low voice speech) (ldu2_suits sync low voice speech) nac 10))
 
-ldu2_form : (nac : ℕ) (sync : EncryptionSync) (low : List ℕ) (voice : List VoiceFrame) (plain : List Bool) → IsSpeech low voice
-    → (IsLaidOut nac 10 1680 ldu_rows low voice plain × HasField IsHamming10 (IsWord 24 16) sync_layout (sync_symbols sync) plain) ↔ (plain ≡ voice_image_of nac (Link2 sync low voice))
-ldu2_form nac sync low voice plain speech = (
+ldu2_form : (nac : ℕ) (sync : EncryptionSync) (low : List ℕ) (voice : List VoiceFrame) (bare : List Bool) → IsSpeech low voice
+    → (IsLaidOut nac 10 1680 ldu_rows low voice bare × HasField IsHamming10 (IsWord 24 16) sync_layout (sync_symbols sync) bare) ↔ (bare ≡ voice_image_of nac (Link2 sync low voice))
+ldu2_form nac sync low voice bare speech = (
   λ (laid, has).
-      laid_out-only (ldu2_carries sync low voice speech) (ldu2_suits sync low voice speech) nac 10 plain laid
-      (words_carried (ldu2_carries sync low voice speech) (ldu2_suits sync low voice speech) (ldu2_stands sync low voice) hamming10_reading_of (rs_marked_reading_of 24 16) 16
-      (sync_symbols sync) (λ w is. rs_word-only 24 16 (sync_symbols sync) w sync_code (length-sync_symbols sync) is) plain laid.long has)
+      laid_out-only (ldu2_carries sync low voice speech) (ldu2_suits sync low voice speech) nac 10 bare laid
+      (words_carried (ldu2_carries sync low voice speech) (ldu2_suits sync low voice speech) (ldu2_stands sync low voice) hamming10_reading_of (rs_erased_reading_of 24 16) 16
+      (sync_symbols sync) (λ w is. rs_word-only 24 16 (sync_symbols sync) w sync_code (length-sync_symbols sync) is) bare laid.long has)
       ∙ sym (ldu2_bits nac sync low voice),
   λ is.
       let whole = is ∙ ldu2_bits nac sync low voice in (
-        laid_out (ldu2_carries sync low voice speech) (ldu2_suits sync low voice speech) nac 10 plain whole,
-        field_carried (ldu2_carries sync low voice speech) (ldu2_suits sync low voice speech) (ldu2_stands sync low voice) hamming10_reading_of (rs_marked_reading_of 24 16) 16 (sync_symbols sync) (sync_outer sync) nac 10 plain whole,
+        laid_out (ldu2_carries sync low voice speech) (ldu2_suits sync low voice speech) nac 10 bare whole,
+        field_carried (ldu2_carries sync low voice speech) (ldu2_suits sync low voice speech) (ldu2_stands sync low voice) hamming10_reading_of (rs_erased_reading_of 24 16) 16 (sync_symbols sync) (sync_outer sync) nac 10 bare whole,
       ),
 )
 
@@ -227,18 +227,18 @@ tdulc_long : (nac : ℕ) (link : LinkControl) → voice_length_of 15 ≡ Some (l
 tdulc_long nac link =
     length-tdulc ∙ ap Some (sym (ap length (tdulc_bits nac link) ∙ length-unit (tdulc_carries link) (tdulc_suits link) nac 15))
 
-tdulc_form : (nac : ℕ) (link : LinkControl) (plain : List Bool)
-    → (IsLaidOut nac 15 420 tdulc_rows [] [] plain × HasField IsGolay24 (IsWord 24 12) tdulc_layout (link_symbols link) plain) ↔ (plain ≡ voice_image_of nac (EndLink link))
-tdulc_form nac link plain = (
+tdulc_form : (nac : ℕ) (link : LinkControl) (bare : List Bool)
+    → (IsLaidOut nac 15 420 tdulc_rows [] [] bare × HasField IsGolay24 (IsWord 24 12) tdulc_layout (link_symbols link) bare) ↔ (bare ≡ voice_image_of nac (EndLink link))
+tdulc_form nac link bare = (
   λ (laid, has).
-      laid_out-only (tdulc_carries link) (tdulc_suits link) nac 15 plain laid
-      (words_carried (tdulc_carries link) (tdulc_suits link) (tdulc_stands link) golay24_reading_of (rs_marked_reading_of 24 12) 12
-      (link_symbols link) (λ w is. rs_word-only 24 12 (link_symbols link) w link_code (length-link_symbols link) is) plain laid.long has)
+      laid_out-only (tdulc_carries link) (tdulc_suits link) nac 15 bare laid
+      (words_carried (tdulc_carries link) (tdulc_suits link) (tdulc_stands link) golay24_reading_of (rs_erased_reading_of 24 12) 12
+      (link_symbols link) (λ w is. rs_word-only 24 12 (link_symbols link) w link_code (length-link_symbols link) is) bare laid.long has)
       ∙ sym (tdulc_bits nac link),
   λ is.
       let whole = is ∙ tdulc_bits nac link in (
-        laid_out (tdulc_carries link) (tdulc_suits link) nac 15 plain whole,
-        field_carried (tdulc_carries link) (tdulc_suits link) (tdulc_stands link) golay24_reading_of (rs_marked_reading_of 24 12) 12 (link_symbols link) (link_outer link) nac 15 plain whole,
+        laid_out (tdulc_carries link) (tdulc_suits link) nac 15 bare whole,
+        field_carried (tdulc_carries link) (tdulc_suits link) (tdulc_stands link) golay24_reading_of (rs_erased_reading_of 24 12) 12 (link_symbols link) (link_outer link) nac 15 bare whole,
       ),
 )
 
@@ -250,12 +250,12 @@ end_bits nac = refl
 end_long : (nac : ℕ) → voice_length_of 3 ≡ Some (length (voice_image_of nac End))
 end_long nac = length-end ∙ ap Some (sym (ap length (end_bits nac) ∙ length-unit (golay18_carried []) end_are nac 3))
 
-end_form : (nac : ℕ) (plain : List Bool) → IsLaidOut nac 3 140 tdu_rows [] [] plain ↔ (plain ≡ voice_image_of nac End)
-end_form nac plain = (
+end_form : (nac : ℕ) (bare : List Bool) → IsLaidOut nac 3 140 tdu_rows [] [] bare ↔ (bare ≡ voice_image_of nac End)
+end_form nac bare = (
   λ laid.
-      laid_out-only (golay18_carried []) end_are nac 3 plain laid (λ i inside. absurd (omega (arith, inside, no_words i)))
+      laid_out-only (golay18_carried []) end_are nac 3 bare laid (λ i inside. absurd (omega (arith, inside, no_words i)))
       ∙ sym (end_bits nac),
-  λ is. laid_out (golay18_carried []) end_are nac 3 plain (is ∙ end_bits nac),
+  λ is. laid_out (golay18_carried []) end_are nac 3 bare (is ∙ end_bits nac),
 )
 
 -- a unit's bits are as many as its kind has
@@ -268,10 +268,10 @@ length-voice_image_of nac End keeps = end_long nac
 length-voice_image_of nac (EndLink link) keeps = tdulc_long nac link
 
 -- a unit's bits are those that stand as its kind says
-pub IsVoiceImage-iff : (nac : ℕ) (unit : VoiceUnit) (plain : List Bool) → IsSendableVoice unit → IsVoiceImage nac unit plain ↔ (plain ≡ voice_image_of nac unit)
+pub IsVoiceImage-iff : (nac : ℕ) (unit : VoiceUnit) (bare : List Bool) → IsSendableVoice unit → IsVoiceImage nac unit bare ↔ (bare ≡ voice_image_of nac unit)
 unfolding IsSendableVoice IsVoiceImage
-IsVoiceImage-iff nac (Header word) plain keeps = header_form nac word plain
-IsVoiceImage-iff nac (Link1 link low voice) plain keeps = ldu1_form nac link low voice plain keeps.speech
-IsVoiceImage-iff nac (Link2 sync low voice) plain keeps = ldu2_form nac sync low voice plain keeps.speech
-IsVoiceImage-iff nac End plain keeps = end_form nac plain
-IsVoiceImage-iff nac (EndLink link) plain keeps = tdulc_form nac link plain
+IsVoiceImage-iff nac (Header word) bare keeps = header_form nac word bare
+IsVoiceImage-iff nac (Link1 link low voice) bare keeps = ldu1_form nac link low voice bare keeps.speech
+IsVoiceImage-iff nac (Link2 sync low voice) bare keeps = ldu2_form nac sync low voice bare keeps.speech
+IsVoiceImage-iff nac End bare keeps = end_form nac bare
+IsVoiceImage-iff nac (EndLink link) bare keeps = tdulc_form nac link bare

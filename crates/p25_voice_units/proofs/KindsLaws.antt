@@ -22,29 +22,29 @@ long_by_kind duid kind count len same is has =
     let e : Some len ≡ Some count = sym has ∙ ap voice_length_of same ∙ is in
     cc
 
-pub reading-header : (plain : List Bool) → voice_reading_of 0 plain ≡ header_from (header_in plain)
+pub reading-header : (bare : List Bool) → voice_reading_of 0 bare ≡ header_from (header_in bare)
 unfolding voice_reading_of
-reading-header plain = refl
+reading-header bare = refl
 
-pub reading-end : (plain : List Bool) → voice_reading_of 3 plain ≡ Ok End
+pub reading-end : (bare : List Bool) → voice_reading_of 3 bare ≡ Ok End
 unfolding voice_reading_of
-reading-end plain = refl
+reading-end bare = refl
 
-pub reading-ldu1 : (plain : List Bool) → voice_reading_of 5 plain ≡ ldu1_in plain
+pub reading-ldu1 : (bare : List Bool) → voice_reading_of 5 bare ≡ ldu1_in bare
 unfolding voice_reading_of
-reading-ldu1 plain = refl
+reading-ldu1 bare = refl
 
-pub reading-ldu2 : (plain : List Bool) → voice_reading_of 10 plain ≡ ldu2_in plain
+pub reading-ldu2 : (bare : List Bool) → voice_reading_of 10 bare ≡ ldu2_in bare
 unfolding voice_reading_of
-reading-ldu2 plain = refl
+reading-ldu2 bare = refl
 
-pub reading-tdulc : (plain : List Bool) → voice_reading_of 15 plain ≡ tdulc_from (link_in tdulc_layout plain)
+pub reading-tdulc : (bare : List Bool) → voice_reading_of 15 bare ≡ tdulc_from (link_in tdulc_layout bare)
 unfolding voice_reading_of
-reading-tdulc plain = refl
+reading-tdulc bare = refl
 
 -- what a kind's reader answers
-pub reading_by_kind : (duid kind : ℕ) (plain : List Bool) (answer value : Result VoiceUnit (List Field)) → duid ≡ kind → answer ≡ value → voice_reading_of kind plain ≡ value → answer ≡ voice_reading_of duid plain
-reading_by_kind duid kind plain answer value same is read = is ∙ sym read ∙ ap (λ d. voice_reading_of d plain) (sym same)
+pub reading_by_kind : (duid kind : ℕ) (bare : List Bool) (answer value : Result VoiceUnit (List Field)) → duid ≡ kind → answer ≡ value → voice_reading_of kind bare ≡ value → answer ≡ voice_reading_of duid bare
+reading_by_kind duid kind bare answer value same is read = is ∙ sym read ∙ ap (λ d. voice_reading_of d bare) (sym same)
 
 -- a unit with link control, all of whose parts were read
 pub ldu1_whole : (voice : List VoiceFrame) (answer : Option LinkControl) (low_first low_second : Option ℕ) (link : LinkControl) (first second : ℕ) → answer ≡ Some link → low_first ≡ Some first → low_second ≡ Some second
@@ -64,13 +64,13 @@ ldu1_fails voice (Some link) None second other = refl
 ldu1_fails voice None first second other = refl
 
 -- the parts are those of the bits
-pub ldu1_parts : (plain : List Bool) (voice : List VoiceFrame) (answer : Option LinkControl) (first second : Option ℕ) → voice ≡ voice_in plain → answer ≡ link_in link_layout plain → first ≡ low_in 0 plain → second ≡ low_in 1 plain
-    → ldu1_from voice answer first second ≡ ldu1_in plain
+pub ldu1_parts : (bare : List Bool) (voice : List VoiceFrame) (answer : Option LinkControl) (first second : Option ℕ) → voice ≡ voice_in bare → answer ≡ link_in link_layout bare → first ≡ low_in 0 bare → second ≡ low_in 1 bare
+    → ldu1_from voice answer first second ≡ ldu1_in bare
 unfolding ldu1_in
-ldu1_parts plain voice answer first second a b c d =
+ldu1_parts bare voice answer first second a b c d =
     ap (λ x. ldu1_from x answer first second) a
-    ∙ ap (λ x. ldu1_from (voice_in plain) x first second) b
-    ∙ ap₂ (ldu1_from (voice_in plain) (link_in link_layout plain)) c d
+    ∙ ap (λ x. ldu1_from (voice_in bare) x first second) b
+    ∙ ap₂ (ldu1_from (voice_in bare) (link_in link_layout bare)) c d
 
 -- a unit with encryption sync, likewise
 pub ldu2_whole : (voice : List VoiceFrame) (answer : Option EncryptionSync) (low_first low_second : Option ℕ) (sync : EncryptionSync) (first second : ℕ) → answer ≡ Some sync → low_first ≡ Some first → low_second ≡ Some second
@@ -88,13 +88,13 @@ ldu2_fails voice (Some sync) (Some first) None other = refl
 ldu2_fails voice (Some sync) None second other = refl
 ldu2_fails voice None first second other = refl
 
-pub ldu2_parts : (plain : List Bool) (voice : List VoiceFrame) (answer : Option EncryptionSync) (first second : Option ℕ) → voice ≡ voice_in plain → answer ≡ sync_in plain → first ≡ low_in 0 plain → second ≡ low_in 1 plain
-    → ldu2_from voice answer first second ≡ ldu2_in plain
+pub ldu2_parts : (bare : List Bool) (voice : List VoiceFrame) (answer : Option EncryptionSync) (first second : Option ℕ) → voice ≡ voice_in bare → answer ≡ sync_in bare → first ≡ low_in 0 bare → second ≡ low_in 1 bare
+    → ldu2_from voice answer first second ≡ ldu2_in bare
 unfolding ldu2_in
-ldu2_parts plain voice answer first second a b c d =
+ldu2_parts bare voice answer first second a b c d =
     ap (λ x. ldu2_from x answer first second) a
-    ∙ ap (λ x. ldu2_from (voice_in plain) x first second) b
-    ∙ ap₂ (ldu2_from (voice_in plain) (sync_in plain)) c d
+    ∙ ap (λ x. ldu2_from (voice_in bare) x first second) b
+    ∙ ap₂ (ldu2_from (voice_in bare) (sync_in bare)) c d
 
 -- a terminator is its front and nulls
 pub image-end : (nac : ℕ) → voice_image_of nac End ≡ unit_front nac 3 ++ replicate 28 false

@@ -125,53 +125,53 @@ within_itself nac End sent is = tt
 within_itself nac (EndLink link) sent is = near_itself tdulc_codes (link_symbols link) sent is.1 (tdulc_there sent is.0.long)
 
 -- the voice frame at its place
-frame_back : (at : ℕ) (frame : VoiceFrame) (plain : List Bool) → IsVoiceFrame frame → at + 144 ≤ length plain → part at 144 plain ≡ octet_bits frame.0 → frame_in at plain ≡ frame
+frame_back : (at : ℕ) (frame : VoiceFrame) (bare : List Bool) → IsVoiceFrame frame → at + 144 ≤ length bare → part at 144 bare ≡ octet_bits frame.0 → frame_in at bare ≡ frame
 unfolding frame_in
-frame_back at frame plain keeps there is =
+frame_back at frame bare keeps there is =
     let made : List ℕ → VoiceFrame = λ octets. record { 0 = octets } in
     let inside : 8 * 18 ≤ 144 = omega arith in
-    let left : 8 * 18 ≤ length (drop at plain) = omega (arith, length-drop at plain) in
+    let left : 8 * 18 ≤ length (drop at bare) = omega (arith, length-drop at bare) in
     ap made
     (
-    sym (numbers_from-take 8 18 144 (drop at plain) inside left)
+    sym (numbers_from-take 8 18 144 (drop at bare) inside left)
     ∙ ap₂ (numbers_from 8) (sym keeps.long) (is ∙ sym (number_bits-octets frame.0))
     ∙ numbers_from-number_bits 8 frame.0 keeps.small
     )
 
 -- which stands in a row of its own
-frame_row : (low : List ℕ) (voice : List VoiceFrame) (plain : List Bool) → All (λ row. HasPiece low voice plain row.0 row.1) ldu_rows → (i : ℕ) → i < 9
-    → (part (slice_index (frame_places ldu_rows) i) 144 plain ≡ octet_bits (frame_at voice i).0) × (slice_index (frame_places ldu_rows) i + 144 ≤ 1680)
+frame_row : (low : List ℕ) (voice : List VoiceFrame) (bare : List Bool) → All (λ row. HasPiece low voice bare row.0 row.1) ldu_rows → (i : ℕ) → i < 9
+    → (part (slice_index (frame_places ldu_rows) i) 144 bare ≡ octet_bits (frame_at voice i).0) × (slice_index (frame_places ldu_rows) i + 144 ≤ 1680)
 unfolding frame_places
-frame_row low voice plain pieces zero inside = (pieces 0 (0, Nulls 0) (lit< tt), omega arith)
-frame_row low voice plain pieces (suc zero) inside = (pieces 1 (0, Nulls 0) (lit< tt), omega arith)
-frame_row low voice plain pieces (suc (suc zero)) inside = (pieces 3 (0, Nulls 0) (lit< tt), omega arith)
-frame_row low voice plain pieces (suc (suc (suc zero))) inside = (pieces 5 (0, Nulls 0) (lit< tt), omega arith)
-frame_row low voice plain pieces (suc (suc (suc (suc zero)))) inside = (pieces 7 (0, Nulls 0) (lit< tt), omega arith)
-frame_row low voice plain pieces (suc (suc (suc (suc (suc zero))))) inside = (pieces 9 (0, Nulls 0) (lit< tt), omega arith)
-frame_row low voice plain pieces (suc (suc (suc (suc (suc (suc zero)))))) inside = (pieces 11 (0, Nulls 0) (lit< tt), omega arith)
-frame_row low voice plain pieces (suc (suc (suc (suc (suc (suc (suc zero))))))) inside = (pieces 13 (0, Nulls 0) (lit< tt), omega arith)
-frame_row low voice plain pieces (suc (suc (suc (suc (suc (suc (suc (suc zero)))))))) inside = (pieces 16 (0, Nulls 0) (lit< tt), omega arith)
-frame_row low voice plain pieces (suc (suc (suc (suc (suc (suc (suc (suc (suc i))))))))) inside = absurd (omega arith)
+frame_row low voice bare pieces zero inside = (pieces 0 (0, Nulls 0) (lit< tt), omega arith)
+frame_row low voice bare pieces (suc zero) inside = (pieces 1 (0, Nulls 0) (lit< tt), omega arith)
+frame_row low voice bare pieces (suc (suc zero)) inside = (pieces 3 (0, Nulls 0) (lit< tt), omega arith)
+frame_row low voice bare pieces (suc (suc (suc zero))) inside = (pieces 5 (0, Nulls 0) (lit< tt), omega arith)
+frame_row low voice bare pieces (suc (suc (suc (suc zero)))) inside = (pieces 7 (0, Nulls 0) (lit< tt), omega arith)
+frame_row low voice bare pieces (suc (suc (suc (suc (suc zero))))) inside = (pieces 9 (0, Nulls 0) (lit< tt), omega arith)
+frame_row low voice bare pieces (suc (suc (suc (suc (suc (suc zero)))))) inside = (pieces 11 (0, Nulls 0) (lit< tt), omega arith)
+frame_row low voice bare pieces (suc (suc (suc (suc (suc (suc (suc zero))))))) inside = (pieces 13 (0, Nulls 0) (lit< tt), omega arith)
+frame_row low voice bare pieces (suc (suc (suc (suc (suc (suc (suc (suc zero)))))))) inside = (pieces 16 (0, Nulls 0) (lit< tt), omega arith)
+frame_row low voice bare pieces (suc (suc (suc (suc (suc (suc (suc (suc (suc i))))))))) inside = absurd (omega arith)
 
 -- so undamaged bits give the frames
-voice_back : (nac duid : ℕ) (low : List ℕ) (voice : List VoiceFrame) (plain : List Bool) → IsSpeech low voice → IsLaidOut nac duid 1680 ldu_rows low voice plain → voice_in plain ≡ voice
+voice_back : (nac duid : ℕ) (low : List ℕ) (voice : List VoiceFrame) (bare : List Bool) → IsSpeech low voice → IsLaidOut nac duid 1680 ldu_rows low voice bare → voice_in bare ≡ voice
 unfolding voice_in
-voice_back nac duid low voice plain keeps is = ext_get_or blank (map frame (frame_places ldu_rows)) voice (many ∙ sym keeps.nine) (λ i inside. at i (omega (arith, many)))
+voice_back nac duid low voice bare keeps is = ext_get_or blank (map frame (frame_places ldu_rows)) voice (many ∙ sym keeps.nine) (λ i inside. at i (omega (arith, many)))
   where
     blank : VoiceFrame
     blank = record { 0 = [] }
 
     frame : ℕ → VoiceFrame
-    frame at = frame_in at plain
+    frame at = frame_in at bare
 
     many : length (map frame (frame_places ldu_rows)) ≡ 9
     many = length-map (frame_places ldu_rows) frame ∙ nine_frames
 
     at : (i : ℕ) → i < 9 → get_or (map frame (frame_places ldu_rows)) i blank ≡ get_or voice i blank
     at i inside =
-        let row = frame_row low voice plain is.pieces i inside in
+        let row = frame_row low voice bare is.pieces i inside in
         get_or-map frame (frame_places ldu_rows) i 0 blank (omega (arith, nine_frames))
-        ∙ frame_back (slice_index (frame_places ldu_rows) i) (frame_at voice i) plain (keeps.frames i blank (omega (arith, keeps.nine))) (omega (arith, row.1, is.long)) row.0
+        ∙ frame_back (slice_index (frame_places ldu_rows) i) (frame_at voice i) bare (keeps.frames i blank (omega (arith, keeps.nine))) (omega (arith, row.1, is.long)) row.0
 
 pub received_itself : (nac : ℕ) (unit : VoiceUnit) (sent : List Bool) → IsSendableVoice unit → IsVoiceImage nac unit sent → received_voice unit sent ≡ unit
 unfolding IsSendableVoice IsVoiceImage

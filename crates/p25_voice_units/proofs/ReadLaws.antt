@@ -51,11 +51,11 @@ low_place-le (suc zero) inside = omega arith
 low_place-le (suc (suc i)) inside = absurd (omega arith)
 
 -- the bits of a low speed word, by the number that they write
-low_taken : (i received : ℕ) (plain : List Bool) → i < 2 → 1680 ≤ length plain → received ≡ field_of (part (slice_index (low_places ldu_rows) i) 16 plain) → bits_of 16 received ≡ part (slice_index (low_places ldu_rows) i) 16 plain
-low_taken i received plain inside long is =
+low_taken : (i received : ℕ) (bare : List Bool) → i < 2 → 1680 ≤ length bare → received ≡ field_of (part (slice_index (low_places ldu_rows) i) 16 bare) → bits_of 16 received ≡ part (slice_index (low_places ldu_rows) i) 16 bare
+low_taken i received bare inside long is =
     let at = slice_index (low_places ldu_rows) i in
-    let there : at + 16 ≤ length plain = omega (arith, low_place-le i inside) in
-    ap (bits_of 16) is ∙ bits_of-field 16 at plain there
+    let there : at + 16 ≤ length bare = omega (arith, low_place-le i inside) in
+    ap (bits_of 16) is ∙ bits_of-field 16 at bare there
 
 -- the octet of a word
 low_octet : (value : ℕ) → value < 2 ^ 16 → value / 2 ^ 8 ≡ field_of (take 8 (bits_of 16 value))
@@ -64,18 +64,18 @@ low_octet value small =
     sym (ap field_of (take-bits_of 8 16 value (lit≤ tt)) ∙ field_of-bits_of 8 (value / 2 ^ 8) ∙ below)
 
 -- a low speed word that is read
-pub low_found : (i received value : ℕ) (plain : List Bool) (answer : Option ℕ) → i < 2 → 1680 ≤ length plain → received ≡ field_of (part (slice_index (low_places ldu_rows) i) 16 plain) → value < 2 ^ 16 → answer ≡ Some value
-    → option_map (bits_of 16) answer ≡ lsd16_reading_of (bits_of 16 received) → Some (value / 2 ^ 8) ≡ low_in i plain
+pub low_found : (i received value : ℕ) (bare : List Bool) (answer : Option ℕ) → i < 2 → 1680 ≤ length bare → received ≡ field_of (part (slice_index (low_places ldu_rows) i) 16 bare) → value < 2 ^ 16 → answer ≡ Some value
+    → option_map (bits_of 16) answer ≡ lsd16_reading_of (bits_of 16 received) → Some (value / 2 ^ 8) ≡ low_in i bare
 unfolding low_in
-low_found i received value plain answer inside long is small some read =
-    part_some (λ w. field_of (take 8 w)) (option_map (bits_of 16) answer) (lsd16_reading_of (part (slice_index (low_places ldu_rows) i) 16 plain)) (bits_of 16 value) (value / 2 ^ 8) (ap (option_map (bits_of 16)) some)
-    (read ∙ ap lsd16_reading_of (low_taken i received plain inside long is)) (low_octet value small)
+low_found i received value bare answer inside long is small some read =
+    part_some (λ w. field_of (take 8 w)) (option_map (bits_of 16) answer) (lsd16_reading_of (part (slice_index (low_places ldu_rows) i) 16 bare)) (bits_of 16 value) (value / 2 ^ 8) (ap (option_map (bits_of 16)) some)
+    (read ∙ ap lsd16_reading_of (low_taken i received bare inside long is)) (low_octet value small)
 
 -- its wrong bits
-pub low_wrong : (i received value : ℕ) (plain : List Bool) (answer : Option ℕ) → i < 2 → 1680 ≤ length plain → received ≡ field_of (part (slice_index (low_places ldu_rows) i) 16 plain) → received < 2 ^ 16 → value < 2 ^ 16 → answer ≡ Some value
-    → option_map (bits_of 16) answer ≡ lsd16_reading_of (bits_of 16 received) → count_ones (bit_xor received value) ≡ low_fixes_of i (value / 2 ^ 8) plain
+pub low_wrong : (i received value : ℕ) (bare : List Bool) (answer : Option ℕ) → i < 2 → 1680 ≤ length bare → received ≡ field_of (part (slice_index (low_places ldu_rows) i) 16 bare) → received < 2 ^ 16 → value < 2 ^ 16 → answer ≡ Some value
+    → option_map (bits_of 16) answer ≡ lsd16_reading_of (bits_of 16 received) → count_ones (bit_xor received value) ≡ low_fixes_of i (value / 2 ^ 8) bare
 unfolding low_fixes_of
-low_wrong i received value plain answer inside long is small_received small some read =
+low_wrong i received value bare answer inside long is small_received small some read =
     let bits = bits_of 16 received in
     let word = bits_of 16 value in
     let info = bits_of 8 (value / 2 ^ 8) in
@@ -83,15 +83,15 @@ low_wrong i received value plain answer inside long is small_received small some
     let is_word = read_word_of_set beq IsLsd16 2 bits word (lsd16_reading_of bits) (lsd16_reads_as bits) found in
     let encoding : IsEncoding IsLsd16 8 info word = record { word_of_set = is_word; begins = take-bits_of 8 16 value (lit≤ tt) } in
     sym (distance_of-bits_of 16 received value small_received small)
-    ∙ ap₂ (λ (xs ys : List Bool). distance_of xs ys) (low_taken i received plain inside long is) (lsd16_only info word (length-bits_of 8 (value / 2 ^ 8)) encoding)
+    ∙ ap₂ (λ (xs ys : List Bool). distance_of xs ys) (low_taken i received bare inside long is) (lsd16_only info word (length-bits_of 8 (value / 2 ^ 8)) encoding)
 
 -- and one that is not read
-pub low_beyond : (i received : ℕ) (plain : List Bool) (answer : Option ℕ) → i < 2 → 1680 ≤ length plain → received ≡ field_of (part (slice_index (low_places ldu_rows) i) 16 plain) → answer ≡ None
-    → option_map (bits_of 16) answer ≡ lsd16_reading_of (bits_of 16 received) → None ≡ low_in i plain
+pub low_beyond : (i received : ℕ) (bare : List Bool) (answer : Option ℕ) → i < 2 → 1680 ≤ length bare → received ≡ field_of (part (slice_index (low_places ldu_rows) i) 16 bare) → answer ≡ None
+    → option_map (bits_of 16) answer ≡ lsd16_reading_of (bits_of 16 received) → None ≡ low_in i bare
 unfolding low_in
-low_beyond i received plain answer inside long is none read =
-    part_none (λ w. field_of (take 8 w)) (option_map (bits_of 16) answer) (lsd16_reading_of (part (slice_index (low_places ldu_rows) i) 16 plain)) (ap (option_map (bits_of 16)) none)
-    (read ∙ ap lsd16_reading_of (low_taken i received plain inside long is))
+low_beyond i received bare answer inside long is none read =
+    part_none (λ w. field_of (take 8 w)) (option_map (bits_of 16) answer) (lsd16_reading_of (part (slice_index (low_places ldu_rows) i) 16 bare)) (ap (option_map (bits_of 16)) none)
+    (read ∙ ap lsd16_reading_of (low_taken i received bare inside long is))
 
 -- there are nine voice frames
 pub nine_frames : length (frame_places ldu_rows) ≡ 9
@@ -99,19 +99,19 @@ unfolding frame_places
 nine_frames = refl
 
 -- one more of them was read
-pub frames_next : (i : ℕ) (plain : List Bool) (frames : List VoiceFrame) (frame : VoiceFrame) → i < 9 → length frames ≡ 9 → take i frames ≡ map (λ at. frame_in at plain) (take i (frame_places ldu_rows))
-    → frame ≡ frame_in (slice_index (frame_places ldu_rows) i) plain → take (i + 1) (set frames i frame) ≡ map (λ at. frame_in at plain) (take (i + 1) (frame_places ldu_rows))
-frames_next i plain frames frame inside nine before is =
+pub frames_next : (i : ℕ) (bare : List Bool) (frames : List VoiceFrame) (frame : VoiceFrame) → i < 9 → length frames ≡ 9 → take i frames ≡ map (λ at. frame_in at bare) (take i (frame_places ldu_rows))
+    → frame ≡ frame_in (slice_index (frame_places ldu_rows) i) bare → take (i + 1) (set frames i frame) ≡ map (λ at. frame_in at bare) (take (i + 1) (frame_places ldu_rows))
+frames_next i bare frames frame inside nine before is =
     let there : i < length frames = omega arith in
     let within : i < length (frame_places ldu_rows) = omega (arith, nine_frames) in
     take_more_set frames i frame there
     ∙ ap₂ (λ (xs : List VoiceFrame) (x : VoiceFrame). xs ++ x ∷ []) before is
-    ∙ sym (map_more (λ at. frame_in at plain) (frame_places ldu_rows) i 0 within)
+    ∙ sym (map_more (λ at. frame_in at bare) (frame_places ldu_rows) i 0 within)
 
 -- all of them
-pub frames_all : (i : ℕ) (plain : List Bool) (frames : List VoiceFrame) → i ≡ 9 → length frames ≡ 9 → take i frames ≡ map (λ at. frame_in at plain) (take i (frame_places ldu_rows)) → frames ≡ voice_in plain
+pub frames_all : (i : ℕ) (bare : List Bool) (frames : List VoiceFrame) → i ≡ 9 → length frames ≡ 9 → take i frames ≡ map (λ at. frame_in at bare) (take i (frame_places ldu_rows)) → frames ≡ voice_in bare
 unfolding voice_in
-frames_all i plain frames all nine is =
+frames_all i bare frames all nine is =
     let fits : length frames ≤ i = omega arith in
     let every : length (frame_places ldu_rows) ≤ i = omega (arith, nine_frames) in
-    sym (take_all i frames fits) ∙ is ∙ ap (map (λ at. frame_in at plain)) (take_all i (frame_places ldu_rows) every)
+    sym (take_all i frames fits) ∙ is ∙ ap (map (λ at. frame_in at bare)) (take_all i (frame_places ldu_rows) every)

@@ -50,26 +50,26 @@ read_keeps P f None word keeps is = absurd (cc)
 read_keeps P f (Some s) word keeps is = let same : f s ≡ word = cc in subst P same (keeps s)
 
 -- low speed data and voice
-low_keeps : (i octet : ℕ) (plain : List Bool) → low_in i plain ≡ Some octet → octet < 256
+low_keeps : (i octet : ℕ) (bare : List Bool) → low_in i bare ≡ Some octet → octet < 256
 unfolding low_in
-low_keeps i octet plain is =
-    read_keeps (λ n. n < 256) (λ (w : List Bool). field_of (take 8 w)) (lsd16_reading_of (part (slice_index (low_places ldu_rows) i) 16 plain)) octet (λ w. field-lt 8 0 w) is
+low_keeps i octet bare is =
+    read_keeps (λ n. n < 256) (λ (w : List Bool). field_of (take 8 w)) (lsd16_reading_of (part (slice_index (low_places ldu_rows) i) 16 bare)) octet (λ w. field-lt 8 0 w) is
 
-voice_keeps : (plain : List Bool) → (length (voice_in plain) ≡ 9) × All IsVoiceFrame (voice_in plain)
+voice_keeps : (bare : List Bool) → (length (voice_in bare) ≡ 9) × All IsVoiceFrame (voice_in bare)
 unfolding voice_in frame_in
-voice_keeps plain = (
-  length-map (frame_places ldu_rows) (λ at. frame_in at plain) ∙ nine_frames,
-  All-map IsVoiceFrame (λ at. frame_in at plain) (frame_places ldu_rows) (λ i d inside.
-      let behind = drop (get_or (frame_places ldu_rows) i d) plain in
+voice_keeps bare = (
+  length-map (frame_places ldu_rows) (λ at. frame_in at bare) ∙ nine_frames,
+  All-map IsVoiceFrame (λ at. frame_in at bare) (frame_places ldu_rows) (λ i d inside.
+      let behind = drop (get_or (frame_places ldu_rows) i d) bare in
       record { long = length-numbers_from 8 18 behind; small = All-numbers_from 8 18 behind }),
 )
 
-pub speech_keeps : (first second : ℕ) (plain : List Bool) → low_in 0 plain ≡ Some first → low_in 1 plain ≡ Some second → IsSpeech (first ∷ second ∷ []) (voice_in plain)
-speech_keeps first second plain a b = record {
+pub speech_keeps : (first second : ℕ) (bare : List Bool) → low_in 0 bare ≡ Some first → low_in 1 bare ≡ Some second → IsSpeech (first ∷ second ∷ []) (voice_in bare)
+speech_keeps first second bare a b = record {
   two = refl;
-  small = All-cons (λ n. n < 256) first (second ∷ []) (low_keeps 0 first plain a) (All-cons (λ n. n < 256) second [] (low_keeps 1 second plain b) (All-nil (λ n. n < 256)));
-  nine = (voice_keeps plain).0;
-  frames = (voice_keeps plain).1;
+  small = All-cons (λ n. n < 256) first (second ∷ []) (low_keeps 0 first bare a) (All-cons (λ n. n < 256) second [] (low_keeps 1 second bare b) (All-nil (λ n. n < 256)));
+  nine = (voice_keeps bare).0;
+  frames = (voice_keeps bare).1;
 }
 
 -- a unit of a DUID that keeps what its type keeps
@@ -78,46 +78,46 @@ pub record IsUnitOf (duid : ℕ) (unit : VoiceUnit) : Type 0 where
   pub sendable : IsSendableVoice unit
 
 -- what was read is such a unit, by kinds
-header_read : (plain : List Bool) (answer : Option HeaderWord) (unit : VoiceUnit) → header_in plain ≡ answer → header_from answer ≡ Ok unit → IsUnitOf 0 unit
+header_read : (bare : List Bool) (answer : Option HeaderWord) (unit : VoiceUnit) → header_in bare ≡ answer → header_from answer ≡ Ok unit → IsUnitOf 0 unit
 unfolding header_in header_from IsSendableVoice
-header_read plain None unit is read = absurd (cc)
-header_read plain (Some word) unit is read =
+header_read bare None unit is read = absurd (cc)
+header_read bare (Some word) unit is read =
     let same : Header word ≡ unit = cc in
-    subst (IsUnitOf 0) same (record { kind = refl; sendable = read_keeps IsHeaderWord header_of_symbols (field_reading_of header_layout plain) word header_keeps is })
+    subst (IsUnitOf 0) same (record { kind = refl; sendable = read_keeps IsHeaderWord header_of_symbols (field_reading_of header_layout bare) word header_keeps is })
 
-tdulc_read : (plain : List Bool) (answer : Option LinkControl) (unit : VoiceUnit) → link_in tdulc_layout plain ≡ answer → tdulc_from answer ≡ Ok unit → IsUnitOf 15 unit
+tdulc_read : (bare : List Bool) (answer : Option LinkControl) (unit : VoiceUnit) → link_in tdulc_layout bare ≡ answer → tdulc_from answer ≡ Ok unit → IsUnitOf 15 unit
 unfolding link_in tdulc_from IsSendableVoice
-tdulc_read plain None unit is read = absurd (cc)
-tdulc_read plain (Some link) unit is read =
+tdulc_read bare None unit is read = absurd (cc)
+tdulc_read bare (Some link) unit is read =
     let same : EndLink link ≡ unit = cc in
-    subst (IsUnitOf 15) same (record { kind = refl; sendable = read_keeps IsLinkControl link_of_symbols (field_reading_of tdulc_layout plain) link link_keeps is })
+    subst (IsUnitOf 15) same (record { kind = refl; sendable = read_keeps IsLinkControl link_of_symbols (field_reading_of tdulc_layout bare) link link_keeps is })
 
-ldu1_read : (plain : List Bool) (answer : Option LinkControl) (first second : Option ℕ) (unit : VoiceUnit) → link_in link_layout plain ≡ answer → low_in 0 plain ≡ first → low_in 1 plain ≡ second
-    → ldu1_from (voice_in plain) answer first second ≡ Ok unit
+ldu1_read : (bare : List Bool) (answer : Option LinkControl) (first second : Option ℕ) (unit : VoiceUnit) → link_in link_layout bare ≡ answer → low_in 0 bare ≡ first → low_in 1 bare ≡ second
+    → ldu1_from (voice_in bare) answer first second ≡ Ok unit
     → IsUnitOf 5 unit
 unfolding link_in ldu1_from IsSendableVoice
-ldu1_read plain None first second unit is a b read = absurd (cc)
-ldu1_read plain (Some link) None second unit is a b read = absurd (cc)
-ldu1_read plain (Some link) (Some first) None unit is a b read = absurd (cc)
-ldu1_read plain (Some link) (Some first) (Some second) unit is a b read =
-    let same : Link1 link (first ∷ second ∷ []) (voice_in plain) ≡ unit = cc in
+ldu1_read bare None first second unit is a b read = absurd (cc)
+ldu1_read bare (Some link) None second unit is a b read = absurd (cc)
+ldu1_read bare (Some link) (Some first) None unit is a b read = absurd (cc)
+ldu1_read bare (Some link) (Some first) (Some second) unit is a b read =
+    let same : Link1 link (first ∷ second ∷ []) (voice_in bare) ≡ unit = cc in
     subst (IsUnitOf 5) same (record {
       kind = refl;
-      sendable = record { word = read_keeps IsLinkControl link_of_symbols (field_reading_of link_layout plain) link link_keeps is; speech = speech_keeps first second plain a b };
+      sendable = record { word = read_keeps IsLinkControl link_of_symbols (field_reading_of link_layout bare) link link_keeps is; speech = speech_keeps first second bare a b };
     })
 
-ldu2_read : (plain : List Bool) (answer : Option EncryptionSync) (first second : Option ℕ) (unit : VoiceUnit) → sync_in plain ≡ answer → low_in 0 plain ≡ first → low_in 1 plain ≡ second
-    → ldu2_from (voice_in plain) answer first second ≡ Ok unit
+ldu2_read : (bare : List Bool) (answer : Option EncryptionSync) (first second : Option ℕ) (unit : VoiceUnit) → sync_in bare ≡ answer → low_in 0 bare ≡ first → low_in 1 bare ≡ second
+    → ldu2_from (voice_in bare) answer first second ≡ Ok unit
     → IsUnitOf 10 unit
 unfolding sync_in ldu2_from IsSendableVoice
-ldu2_read plain None first second unit is a b read = absurd (cc)
-ldu2_read plain (Some sync) None second unit is a b read = absurd (cc)
-ldu2_read plain (Some sync) (Some first) None unit is a b read = absurd (cc)
-ldu2_read plain (Some sync) (Some first) (Some second) unit is a b read =
-    let same : Link2 sync (first ∷ second ∷ []) (voice_in plain) ≡ unit = cc in
+ldu2_read bare None first second unit is a b read = absurd (cc)
+ldu2_read bare (Some sync) None second unit is a b read = absurd (cc)
+ldu2_read bare (Some sync) (Some first) None unit is a b read = absurd (cc)
+ldu2_read bare (Some sync) (Some first) (Some second) unit is a b read =
+    let same : Link2 sync (first ∷ second ∷ []) (voice_in bare) ≡ unit = cc in
     subst (IsUnitOf 10) same (record {
       kind = refl;
-      sendable = record { word = read_keeps IsEncryptionSync sync_of_symbols (field_reading_of sync_layout plain) sync sync_keeps is; speech = speech_keeps first second plain a b };
+      sendable = record { word = read_keeps IsEncryptionSync sync_of_symbols (field_reading_of sync_layout bare) sync sync_keeps is; speech = speech_keeps first second bare a b };
     })
 
 end_read : (unit : VoiceUnit) → ◌≡◌ {A = Result VoiceUnit (List Field)} (Ok End) (Ok unit) → IsUnitOf 3 unit
@@ -125,9 +125,9 @@ unfolding IsSendableVoice
 end_read unit read = let same : End ≡ unit = cc in subst (IsUnitOf 3) same (record { kind = refl; sendable = tt })
 
 -- DUIDs of no voice unit are not read
-pub reading-other : (duid : ℕ) (plain : List Bool) → duid ≢ 0 → duid ≢ 3 → duid ≢ 5 → duid ≢ 10 → duid ≢ 15 → voice_reading_of duid plain ≡ Err []
+pub reading-other : (duid : ℕ) (bare : List Bool) → duid ≢ 0 → duid ≢ 3 → duid ≢ 5 → duid ≢ 10 → duid ≢ 15 → voice_reading_of duid bare ≡ Err []
 unfolding voice_reading_of
-reading-other duid plain header end ldu1 ldu2 tdulc =
+reading-other duid bare header end ldu1 ldu2 tdulc =
     cond-false (eqb duid 0) _ _ (ne_eqb duid 0 header)
     ∙ cond-false (eqb duid 3) _ _ (ne_eqb duid 3 end)
     ∙ cond-false (eqb duid 5) _ _ (ne_eqb duid 5 ldu1)
@@ -135,21 +135,21 @@ reading-other duid plain header end ldu1 ldu2 tdulc =
     ∙ cond-false (eqb duid 15) _ _ (ne_eqb duid 15 tdulc)
 
 -- what is read for a DUID is a unit of it
-pub unit_read : (duid : ℕ) (plain : List Bool) (unit : VoiceUnit) → voice_reading_of duid plain ≡ Ok unit → IsUnitOf duid unit
+pub unit_read : (duid : ℕ) (bare : List Bool) (unit : VoiceUnit) → voice_reading_of duid bare ≡ Ok unit → IsUnitOf duid unit
 unfolding ldu1_in ldu2_in
-unit_read duid plain unit read =
+unit_read duid bare unit read =
     elim (cases_eq duid 0) [
-      | inl same ↦ at 0 same (header_read plain (header_in plain) unit refl (sym (reading-header plain) ∙ there 0 same))
+      | inl same ↦ at 0 same (header_read bare (header_in bare) unit refl (sym (reading-header bare) ∙ there 0 same))
       | inr not_header ↦ elim (cases_eq duid 3) [
-        | inl same ↦ at 3 same (end_read unit (sym (reading-end plain) ∙ there 3 same))
+        | inl same ↦ at 3 same (end_read unit (sym (reading-end bare) ∙ there 3 same))
         | inr not_end ↦ elim (cases_eq duid 5) [
-          | inl same ↦ at 5 same (ldu1_read plain (link_in link_layout plain) (low_in 0 plain) (low_in 1 plain) unit refl refl refl (sym (reading-ldu1 plain) ∙ there 5 same))
+          | inl same ↦ at 5 same (ldu1_read bare (link_in link_layout bare) (low_in 0 bare) (low_in 1 bare) unit refl refl refl (sym (reading-ldu1 bare) ∙ there 5 same))
           | inr not_ldu1 ↦ elim (cases_eq duid 10) [
-            | inl same ↦ at 10 same (ldu2_read plain (sync_in plain) (low_in 0 plain) (low_in 1 plain) unit refl refl refl (sym (reading-ldu2 plain) ∙ there 10 same))
+            | inl same ↦ at 10 same (ldu2_read bare (sync_in bare) (low_in 0 bare) (low_in 1 bare) unit refl refl refl (sym (reading-ldu2 bare) ∙ there 10 same))
             | inr not_ldu2 ↦ elim (cases_eq duid 15) [
-              | inl same ↦ at 15 same (tdulc_read plain (link_in tdulc_layout plain) unit refl (sym (reading-tdulc plain) ∙ there 15 same))
+              | inl same ↦ at 15 same (tdulc_read bare (link_in tdulc_layout bare) unit refl (sym (reading-tdulc bare) ∙ there 15 same))
               | inr not_tdulc ↦
-                  let none : Err [] ≡ Ok unit = sym (reading-other duid plain not_header not_end not_ldu1 not_ldu2 not_tdulc) ∙ read in
+                  let none : Err [] ≡ Ok unit = sym (reading-other duid bare not_header not_end not_ldu1 not_ldu2 not_tdulc) ∙ read in
                   absurd (cc)
             ]
           ]
@@ -160,5 +160,5 @@ unit_read duid plain unit read =
     at : (kind : ℕ) → duid ≡ kind → IsUnitOf kind unit → IsUnitOf duid unit
     at kind same is = subst (λ d. IsUnitOf d unit) (sym same) is
 
-    there : (kind : ℕ) → duid ≡ kind → voice_reading_of kind plain ≡ Ok unit
-    there kind same = ap (λ d. voice_reading_of d plain) (sym same) ∙ read
+    there : (kind : ℕ) → duid ≡ kind → voice_reading_of kind bare ≡ Ok unit
+    there kind same = ap (λ d. voice_reading_of d bare) (sym same) ∙ read

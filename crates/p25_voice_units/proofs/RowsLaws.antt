@@ -100,16 +100,16 @@ module _ {IsWord : List Bool → Type 0} {size k : ℕ} {carried : Contents} (ca
       (λ i d inside. ap (λ (xs : List Bool). part (get_or rows i d).0 (piece_length size (get_or rows i d).1) xs) moved ∙ others i d inside)
 
 -- what has each piece at its place is the pieces joined
-pub rows_only : (size : ℕ) (carried : Contents) (rows : List (ℕ × Piece)) (at : ℕ) (plain : List Bool) → rows_stand size at rows ≡ true → length plain ≡ at + rows_length size rows
-    → All (λ row. part row.0 (piece_length size row.1) plain ≡ piece_bits carried row.1) rows → drop at plain ≡ rows_bits carried rows
-rows_only size carried [] at plain stand long parts = drop_all at plain (omega (arith, long)) ∙ sym (rows_bits-nil carried)
-rows_only size carried (row ∷ rows) at plain stand long parts =
+pub rows_only : (size : ℕ) (carried : Contents) (rows : List (ℕ × Piece)) (at : ℕ) (bare : List Bool) → rows_stand size at rows ≡ true → length bare ≡ at + rows_length size rows
+    → All (λ row. part row.0 (piece_length size row.1) bare ≡ piece_bits carried row.1) rows → drop at bare ≡ rows_bits carried rows
+rows_only size carried [] at bare stand long parts = drop_all at bare (omega (arith, long)) ∙ sym (rows_bits-nil carried)
+rows_only size carried (row ∷ rows) at bare stand long parts =
     let wide = piece_length size row.1 in
     let stands = and_parts (eqb row.0 at) (rows_stand size (at + wide) rows) stand in
     let here = eqb-true row.0 at stands.0 in
-    let first : part at wide plain ≡ piece_bits carried row.1 = ap (λ n. part n wide plain) (sym here) ∙ parts 0 row (omega arith) in
-    let others : drop (at + wide) plain ≡ rows_bits carried rows
-    = rows_only size carried rows (at + wide) plain stands.1 (omega (arith, long)) (λ i d inside. parts (suc i) d (omega arith)) in
-    sym (take-append-drop wide (drop at plain))
-    ∙ ap₂ (λ (xs ys : List Bool). xs ++ ys) first (drop-drop wide at plain ∙ others)
+    let first : part at wide bare ≡ piece_bits carried row.1 = ap (λ n. part n wide bare) (sym here) ∙ parts 0 row (omega arith) in
+    let others : drop (at + wide) bare ≡ rows_bits carried rows
+    = rows_only size carried rows (at + wide) bare stands.1 (omega (arith, long)) (λ i d inside. parts (suc i) d (omega arith)) in
+    sym (take-append-drop wide (drop at bare))
+    ∙ ap₂ (λ (xs ys : List Bool). xs ++ ys) first (drop-drop wide at bare ∙ others)
     ∙ sym (rows_bits-cons carried row rows)

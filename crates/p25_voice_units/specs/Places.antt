@@ -22,25 +22,25 @@ use Rattle.p25_voice_units.specs.Images.{frame_at}
 -- what stands at a place: the 144 bits of a voice frame, a low speed word with an octet of data, or nulls. Of the inner words of the
 -- coded field `HasField` speaks
 abbrev pub HasPiece : List ℕ → List VoiceFrame → List Bool → ℕ → Piece → Type 0
-HasPiece low voice plain at (Words first count) = Unit {0}
-HasPiece low voice plain at (Frame i) = part at 144 plain ≡ octet_bits (frame_at voice i).0
-HasPiece low voice plain at (LowSpeed i) = IsEncoding IsLsd16 8 (bits_of 8 (slice_index low i)) (part at 16 plain)
-HasPiece low voice plain at (Nulls count) = part at count plain ≡ replicate count false
+HasPiece low voice bare at (Words first count) = Unit {0}
+HasPiece low voice bare at (Frame i) = part at 144 bare ≡ octet_bits (frame_at voice i).0
+HasPiece low voice bare at (LowSpeed i) = IsEncoding IsLsd16 8 (bits_of 8 (slice_index low i)) (part at 16 bare)
+HasPiece low voice bare at (Nulls count) = part at count bare ≡ replicate count false
 
 -- bits are a unit of a NAC and a DUID by a layout: so many, and what should stands at each place
-pub record IsLaidOut (nac duid count : ℕ) (rows : List (ℕ × Piece)) (low : List ℕ) (voice : List VoiceFrame) (plain : List Bool) : Type 0 where
-  pub long : length plain ≡ count
-  pub front : IsFront nac duid (take 112 plain)
-  pub pieces : All (λ row. HasPiece low voice plain row.0 row.1) rows
+pub record IsLaidOut (nac duid count : ℕ) (rows : List (ℕ × Piece)) (low : List ℕ) (voice : List VoiceFrame) (bare : List Bool) : Type 0 where
+  pub long : length bare ≡ count
+  pub front : IsFront nac duid (take 112 bare)
+  pub pieces : All (λ row. HasPiece low voice bare row.0 row.1) rows
 
 -- bits are a voice unit: they are laid out as its kind is, and carry its coded field
 unfoldable pub IsVoiceImage : ℕ → VoiceUnit → List Bool → Type 0
-IsVoiceImage nac (Header word) plain =
-    IsLaidOut nac 0 770 hdu_rows [] [] plain × HasField IsGolay18 (IsWord 36 20) header_layout (header_symbols word) plain
-IsVoiceImage nac (Link1 link low voice) plain =
-    IsLaidOut nac 5 1680 ldu_rows low voice plain × HasField IsHamming10 (IsWord 24 12) link_layout (link_symbols link) plain
-IsVoiceImage nac (Link2 sync low voice) plain =
-    IsLaidOut nac 10 1680 ldu_rows low voice plain × HasField IsHamming10 (IsWord 24 16) sync_layout (sync_symbols sync) plain
-IsVoiceImage nac End plain = IsLaidOut nac 3 140 tdu_rows [] [] plain
-IsVoiceImage nac (EndLink link) plain =
-    IsLaidOut nac 15 420 tdulc_rows [] [] plain × HasField IsGolay24 (IsWord 24 12) tdulc_layout (link_symbols link) plain
+IsVoiceImage nac (Header word) bare =
+    IsLaidOut nac 0 770 hdu_rows [] [] bare × HasField IsGolay18 (IsWord 36 20) header_layout (header_symbols word) bare
+IsVoiceImage nac (Link1 link low voice) bare =
+    IsLaidOut nac 5 1680 ldu_rows low voice bare × HasField IsHamming10 (IsWord 24 12) link_layout (link_symbols link) bare
+IsVoiceImage nac (Link2 sync low voice) bare =
+    IsLaidOut nac 10 1680 ldu_rows low voice bare × HasField IsHamming10 (IsWord 24 16) sync_layout (sync_symbols sync) bare
+IsVoiceImage nac End bare = IsLaidOut nac 3 140 tdu_rows [] [] bare
+IsVoiceImage nac (EndLink link) bare =
+    IsLaidOut nac 15 420 tdulc_rows [] [] bare × HasField IsGolay24 (IsWord 24 12) tdulc_layout (link_symbols link) bare

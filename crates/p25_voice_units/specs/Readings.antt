@@ -42,25 +42,25 @@ low_places rows = flat_map (λ row. low_at_place row.0 row.1) rows
 
 -- the voice frame at a place: eighteen octets
 unfoldable pub frame_in : ℕ → List Bool → VoiceFrame
-frame_in at plain = record { 0 = octets_from 18 (drop at plain) }
+frame_in at bare = record { 0 = octets_from 18 (drop at bare) }
 
 -- the voice frames of a unit, as received
 unfoldable pub voice_in : List Bool → List VoiceFrame
-voice_in plain = map (λ at. frame_in at plain) (frame_places ldu_rows)
+voice_in bare = map (λ at. frame_in at bare) (frame_places ldu_rows)
 
 -- the octet of the low speed word of a number, from 0, or none where no word lies within 2 bits
 unfoldable pub low_in : ℕ → List Bool → Option ℕ
-low_in i plain = option_map (λ word. field_of (take 8 word)) (lsd16_reading_of (part (slice_index (low_places ldu_rows) i) 16 plain))
+low_in i bare = option_map (λ word. field_of (take 8 word)) (lsd16_reading_of (part (slice_index (low_places ldu_rows) i) 16 bare))
 
 -- the words of the coded fields, or none where the field fails
 unfoldable pub header_in : List Bool → Option HeaderWord
-header_in plain = option_map header_of_symbols (field_reading_of header_layout plain)
+header_in bare = option_map header_of_symbols (field_reading_of header_layout bare)
 
 unfoldable pub link_in : Layout → List Bool → Option LinkControl
-link_in layout plain = option_map link_of_symbols (field_reading_of layout plain)
+link_in layout bare = option_map link_of_symbols (field_reading_of layout bare)
 
 unfoldable pub sync_in : List Bool → Option EncryptionSync
-sync_in plain = option_map sync_of_symbols (field_reading_of sync_layout plain)
+sync_in bare = option_map sync_of_symbols (field_reading_of sync_layout bare)
 
 -- a field, if it was not read
 unfoldable pub missing : {X : Type 0} → Field → Option X → List Field
@@ -94,17 +94,17 @@ tdulc_from None = Err (LinkField ∷ [])
 
 -- units by their bits
 unfoldable pub ldu1_in : List Bool → Result VoiceUnit (List Field)
-ldu1_in plain = ldu1_from (voice_in plain) (link_in link_layout plain) (low_in 0 plain) (low_in 1 plain)
+ldu1_in bare = ldu1_from (voice_in bare) (link_in link_layout bare) (low_in 0 bare) (low_in 1 bare)
 
 unfoldable pub ldu2_in : List Bool → Result VoiceUnit (List Field)
-ldu2_in plain = ldu2_from (voice_in plain) (sync_in plain) (low_in 0 plain) (low_in 1 plain)
+ldu2_in bare = ldu2_from (voice_in bare) (sync_in bare) (low_in 0 bare) (low_in 1 bare)
 
 -- the unit that bits without status symbols read as where the identifier has a DUID, or else exactly the fields that fail.
 -- DUIDs of no voice unit are not read
 unfoldable pub voice_reading_of : ℕ → List Bool → Result VoiceUnit (List Field)
-voice_reading_of duid plain =
-    cond (nat_eq duid 0) (header_from (header_in plain)) (
+voice_reading_of duid bare =
+    cond (nat_eq duid 0) (header_from (header_in bare)) (
     cond (nat_eq duid 3) (Ok End) (
-    cond (nat_eq duid 5) (ldu1_in plain) (
-    cond (nat_eq duid 10) (ldu2_in plain) (
-    cond (nat_eq duid 15) (tdulc_from (link_in tdulc_layout plain)) (Err [])))))
+    cond (nat_eq duid 5) (ldu1_in bare) (
+    cond (nat_eq duid 10) (ldu2_in bare) (
+    cond (nat_eq duid 15) (tdulc_from (link_in tdulc_layout bare)) (Err [])))))

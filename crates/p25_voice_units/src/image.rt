@@ -18,7 +18,7 @@ use crate::voice::{Voice, VoiceFrame};
 use p25_bch_nid::Nid;
 use p25_bits::BitBuf;
 use p25_code::{BlockCode, NumberCode};
-use p25_coded_fields::put_field;
+use p25_coded_fields::put_coded;
 use p25_gf64::Sym;
 use p25_golay::{Golay18, Golay24};
 use p25_hamming::{Hamming10, Lsd16};
@@ -66,7 +66,7 @@ fn put_piece<I: NumberCode>(
     match piece {
         Piece::Words(first, count) => {
             let start = each * first;
-            put_field::<I>(&symbols[start..start + each * count], count, out);
+            put_coded::<I>(&symbols[start..start + each * count], count, out);
         }
         Piece::Frame(i) => put_frame(&frames[i].0, out),
         Piece::LowSpeed(i) => put_low(low[i], out),

@@ -171,24 +171,24 @@ fn counted_voice() -> Voice {
 }
 
 // Asserts that bits are these words of 64, the last shorter.
-fn assert_bits(rt: &impl Abort, plain: &BitBuf, words: &[u64]) {
-    assert!(rt; plain.len().div_ceil(64) == words.len());
+fn assert_bits(rt: &impl Abort, bare: &BitBuf, words: &[u64]) {
+    assert!(rt; bare.len().div_ceil(64) == words.len());
     for (i, word) in words.iter().enumerate() {
-        assert!(rt; i < 27 && 64 * i < plain.len());
-        let width = (plain.len() - 64 * i).min(64);
-        assert_eq!(rt; plain.field(64 * i, width as u32), *word);
+        assert!(rt; i < 27 && 64 * i < bare.len());
+        let width = (bare.len() - 64 * i).min(64);
+        assert_eq!(rt; bare.field(64 * i, width as u32), *word);
     }
 }
 
 // Asserts that a unit of a NAC has these bits.
 fn assert_image(rt: &impl Abort, nac: u16, unit: &VoiceUnit, words: &[u64]) {
     assert!(rt; nac < 4096);
-    let mut plain = BitBuf::new();
-    plain.push(true);
-    voice_image(nac, unit, &mut plain);
-    assert_eq!(rt; voice_length(unit.duid()), Some(plain.len()));
-    assert_eq!(rt; unit.length(), plain.len());
-    assert_bits(rt, &plain, words);
+    let mut bare = BitBuf::new();
+    bare.push(true);
+    voice_image(nac, unit, &mut bare);
+    assert_eq!(rt; voice_length(unit.duid()), Some(bare.len()));
+    assert_eq!(rt; unit.length(), bare.len());
+    assert_bits(rt, &bare, words);
 }
 
 #[test]

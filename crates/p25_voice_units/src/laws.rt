@@ -21,8 +21,8 @@ use super::places::{FRAMES, HDU_WORDS, LDU_WORDS, LOW_WORDS, TDULC_WORDS};
 /// - `fills`: a unit's bits are as many as its kind has.
 /// - `lengths`: a unit of each kind has at least its front, at most 1,680 bits, and fills blocks of 70.
 pub fn image_laws()
-    ensures form { (nac : ℕ) (unit : VoiceUnit) (plain : List Bool) → IsSendableVoice unit
-        → IsVoiceImage nac unit plain ↔ (plain ≡ voice_image_of nac unit) }
+    ensures form { (nac : ℕ) (unit : VoiceUnit) (bare : List Bool) → IsSendableVoice unit
+        → IsVoiceImage nac unit bare ↔ (bare ≡ voice_image_of nac unit) }
     ensures fills { (nac : ℕ) (unit : VoiceUnit) → IsSendableVoice unit → voice_length_of (voice_duid unit) ≡ Some (length (voice_image_of nac unit)) }
     ensures lengths { (duid count : ℕ) → voice_length_of duid ≡ Some count → (112 ≤ count) × (count ≤ 1680) × (count % 70 ≡ 0) }
 {}
@@ -38,8 +38,8 @@ pub fn image_laws()
 /// - `again`: and are read as the unit.
 /// - `whole`: bits are within radius of the own bits of what they are read as.
 pub fn radius_laws()
-    ensures kind { (duid : ℕ) (plain : List Bool) (unit : VoiceUnit) → voice_reading_of duid plain ≡ Ok unit → voice_duid unit ≡ duid }
-    ensures sendable { (duid : ℕ) (plain : List Bool) (unit : VoiceUnit) → voice_reading_of duid plain ≡ Ok unit → IsSendableVoice unit }
+    ensures kind { (duid : ℕ) (bare : List Bool) (unit : VoiceUnit) → voice_reading_of duid bare ≡ Ok unit → voice_duid unit ≡ duid }
+    ensures sendable { (duid : ℕ) (bare : List Bool) (unit : VoiceUnit) → voice_reading_of duid bare ≡ Ok unit → IsSendableVoice unit }
     ensures within { (nac : ℕ) (unit : VoiceUnit) (received : List Bool) → IsSendableVoice unit → length received ≡ length (voice_image_of nac unit)
         → IsVoiceWithin unit (voice_image_of nac unit) received → voice_reading_of (voice_duid unit) received ≡ Ok (received_voice unit received) }
     ensures words { (nac : ℕ) (unit : VoiceUnit) (received : List Bool) → IsSendableVoice unit → length received ≡ length (voice_image_of nac unit)

@@ -15,8 +15,8 @@
 //!
 //! ```text
 //! let unit = VoiceUnit::EndLink { link: LinkControl([0; 9]) };
-//! let mut plain = BitBuf::new();
-//! voice_image(0x293, &unit, &mut plain);
+//! let mut bare = BitBuf::new();
+//! voice_image(0x293, &unit, &mut bare);
 //! let mut fixes = 0;
 //! match read_voice_counted(unit.duid(), &received, &mut fixes) {
 //!     Ok(read) => …,     // so many bits of its code words were wrong

@@ -3,7 +3,7 @@
 ghost use Rattle.std.specs.Prelude.{◌≡◌, ◌+◌, ◌*◌, ◌/◌, ◌<◌, ◌≤◌, [], ◌∷◌, ◌++◌, All, Bool, List, Some, IfErr, IfOk, IfSome, length};
 ghost use Rattle.p25_reed_solomon.specs.Encoding.{rs_word};
 ghost use Rattle.p25_reed_solomon.specs.Words.{IsCode};
-ghost use Rattle.p25_reed_solomon.specs.RsReadings.{rs_marked_reading_of};
+ghost use Rattle.p25_reed_solomon.specs.RsReadings.{rs_erased_reading_of};
 ghost use Rattle.p25_link.specs.Words.{header_symbols, link_symbols, sync_symbols};
 ghost use Rattle.p25_coded_fields.specs.Fixes.{field_fixes_of};
 ghost use Rattle.p25_coded_fields.specs.Layouts.{Layout, field_layout, field_reading_of};
@@ -32,7 +32,7 @@ use p25_status::{Field, FieldList};
 // The information of a coded field, whose inner words stand at the places. None comes exactly where the field fails; else the
 // wrong bits of its inner words are added to `fixes`.
 fn read_symbols<I: NumberCode, const N: usize, const K: usize>(
-    plain: &BitBuf,
+    bare: &BitBuf,
     places: &[usize],
     fixes: &mut u32,
 ) -> Option<[Sym; K]>
@@ -44,15 +44,15 @@ fn read_symbols<I: NumberCode, const N: usize, const K: usize>(
     requires short { N ≤ 36 }
     requires many { length places.now ≤ 36 }
     requires places { length places.now * (I.K / 6) ≡ N }
-    requires there { All (λ at. at + I.N ≤ length plain.now) places.now }
+    requires there { All (λ at. at + I.N ≤ length bare.now) places.now }
     requires few { fixes.old ≤ 1000 }
-    ensures value { result ≡ field_reading_of (field_layout places.now I.N (I.K / 6) I.reading_is (rs_marked_reading_of N K) K) plain.now }
+    ensures value { result ≡ field_reading_of (field_layout places.now I.N (I.K / 6) I.reading_is (rs_erased_reading_of N K) K) bare.now }
     ensures fixes { IfSome result (λ symbols. (encoding : List Bool → List Bool) → Encodes I.IsWord I.K encoding
-        → fixes.new ≡ fixes.old + field_fixes_of encoding I.N (I.K / 6) places.now (rs_word N K symbols) plain.now) }
+        → fixes.new ≡ fixes.old + field_fixes_of encoding I.N (I.K / 6) places.now (rs_word N K symbols) bare.now) }
     ensures most { fixes.new ≤ fixes.old + 24 * length places.now }
 {
     let mut word = [Sym::ZERO; N];
-    match read_field::<I, Rs<N, K>>(plain, places, &mut word) {
+    match read_field::<I, Rs<N, K>>(bare, places, &mut word) {
         Reading::Found { fixes: wrong } => {
             *fixes += wrong;
             let mut symbols = [Sym::ZERO; K];
@@ -64,75 +64,75 @@ fn read_symbols<I: NumberCode, const N: usize, const K: usize>(
 }
 
 // The header word of a header. Where it is read its wrong bits are added to `fixes`.
-fn read_header_word(plain: &BitBuf, fixes: &mut u32) -> Option<HeaderWord>
-    requires there { 770 ≤ length plain.now }
+fn read_header_word(bare: &BitBuf, fixes: &mut u32) -> Option<HeaderWord>
+    requires there { 770 ≤ length bare.now }
     requires few { fixes.old ≤ 1000 }
-    ensures value { result ≡ header_in plain.now }
+    ensures value { result ≡ header_in bare.now }
     ensures fixes { IfSome result (λ word. fixes.new ≡ fixes.old
-        + field_fixes_of golay18_word 18 1 (word_places 18 hdu_rows) (rs_word 36 20 (header_symbols word)) plain.now) }
+        + field_fixes_of golay18_word 18 1 (word_places 18 hdu_rows) (rs_word 36 20 (header_symbols word)) bare.now) }
     ensures most { fixes.new ≤ fixes.old + 864 }
 {
-    match read_symbols::<Golay18, 36, 20>(plain, &HDU_WORDS, fixes) {
+    match read_symbols::<Golay18, 36, 20>(bare, &HDU_WORDS, fixes) {
         Some(symbols) => Some(HeaderWord::from_symbols(&symbols)),
         None => None,
     }
 }
 
 // The link control of a unit with voice. Where it is read its wrong bits are added to `fixes`.
-fn read_link_control(plain: &BitBuf, fixes: &mut u32) -> Option<LinkControl>
-    requires there { 1680 ≤ length plain.now }
+fn read_link_control(bare: &BitBuf, fixes: &mut u32) -> Option<LinkControl>
+    requires there { 1680 ≤ length bare.now }
     requires few { fixes.old ≤ 1000 }
-    ensures value { result ≡ link_in link_layout plain.now }
+    ensures value { result ≡ link_in link_layout bare.now }
     ensures fixes { IfSome result (λ link. fixes.new ≡ fixes.old
-        + field_fixes_of hamming10_word 10 1 (word_places 10 ldu_rows) (rs_word 24 12 (link_symbols link)) plain.now) }
+        + field_fixes_of hamming10_word 10 1 (word_places 10 ldu_rows) (rs_word 24 12 (link_symbols link)) bare.now) }
     ensures most { fixes.new ≤ fixes.old + 576 }
 {
-    match read_symbols::<Hamming10, 24, 12>(plain, &LDU_WORDS, fixes) {
+    match read_symbols::<Hamming10, 24, 12>(bare, &LDU_WORDS, fixes) {
         Some(symbols) => Some(LinkControl::from_symbols(&symbols)),
         None => None,
     }
 }
 
 // The encryption sync of a unit with voice. Where it is read its wrong bits are added to `fixes`.
-fn read_encryption_sync(plain: &BitBuf, fixes: &mut u32) -> Option<EncryptionSync>
-    requires there { 1680 ≤ length plain.now }
+fn read_encryption_sync(bare: &BitBuf, fixes: &mut u32) -> Option<EncryptionSync>
+    requires there { 1680 ≤ length bare.now }
     requires few { fixes.old ≤ 1000 }
-    ensures value { result ≡ sync_in plain.now }
+    ensures value { result ≡ sync_in bare.now }
     ensures fixes { IfSome result (λ sync. fixes.new ≡ fixes.old
-        + field_fixes_of hamming10_word 10 1 (word_places 10 ldu_rows) (rs_word 24 16 (sync_symbols sync)) plain.now) }
+        + field_fixes_of hamming10_word 10 1 (word_places 10 ldu_rows) (rs_word 24 16 (sync_symbols sync)) bare.now) }
     ensures most { fixes.new ≤ fixes.old + 576 }
 {
-    match read_symbols::<Hamming10, 24, 16>(plain, &LDU_WORDS, fixes) {
+    match read_symbols::<Hamming10, 24, 16>(bare, &LDU_WORDS, fixes) {
         Some(symbols) => Some(EncryptionSync::from_symbols(&symbols)),
         None => None,
     }
 }
 
 // The link control of a terminator. Where it is read its wrong bits are added to `fixes`.
-fn read_end_control(plain: &BitBuf, fixes: &mut u32) -> Option<LinkControl>
-    requires there { 420 ≤ length plain.now }
+fn read_end_control(bare: &BitBuf, fixes: &mut u32) -> Option<LinkControl>
+    requires there { 420 ≤ length bare.now }
     requires few { fixes.old ≤ 1000 }
-    ensures value { result ≡ link_in tdulc_layout plain.now }
+    ensures value { result ≡ link_in tdulc_layout bare.now }
     ensures fixes { IfSome result (λ link. fixes.new ≡ fixes.old
-        + field_fixes_of golay24_word 24 2 (word_places 24 tdulc_rows) (rs_word 24 12 (link_symbols link)) plain.now) }
+        + field_fixes_of golay24_word 24 2 (word_places 24 tdulc_rows) (rs_word 24 12 (link_symbols link)) bare.now) }
     ensures most { fixes.new ≤ fixes.old + 288 }
 {
-    match read_symbols::<Golay24, 24, 12>(plain, &TDULC_WORDS, fixes) {
+    match read_symbols::<Golay24, 24, 12>(bare, &TDULC_WORDS, fixes) {
         Some(symbols) => Some(LinkControl::from_symbols(&symbols)),
         None => None,
     }
 }
 
 // The octet of a low speed word, by its number. Where it is read its wrong bits are added to `fixes`.
-fn read_low(plain: &BitBuf, i: usize, fixes: &mut u32) -> Option<u8>
+fn read_low(bare: &BitBuf, i: usize, fixes: &mut u32) -> Option<u8>
     requires i { i < 2 }
-    requires there { 1680 ≤ length plain.now }
+    requires there { 1680 ≤ length bare.now }
     requires few { fixes.old ≤ 1000 }
-    ensures value { result ≡ low_in i plain.now }
-    ensures fixes { IfSome result (λ octet. fixes.new ≡ fixes.old + low_fixes_of i octet plain.now) }
+    ensures value { result ≡ low_in i bare.now }
+    ensures fixes { IfSome result (λ octet. fixes.new ≡ fixes.old + low_fixes_of i octet bare.now) }
     ensures most { fixes.new ≤ fixes.old + 16 }
 {
-    let received = plain.field(LOW_WORDS[i], 16) as u32;
+    let received = bare.field(LOW_WORDS[i], 16) as u32;
     match Lsd16::read_number(received) {
         Some(sent) => {
             *fixes += (received ^ sent).count_ones();
@@ -143,23 +143,23 @@ fn read_low(plain: &BitBuf, i: usize, fixes: &mut u32) -> Option<u8>
 }
 
 // The voice frame at a place.
-fn read_frame(plain: &BitBuf, at: usize) -> VoiceFrame
-    requires { at + 144 ≤ length plain.now }
-    ensures { result ≡ frame_in at plain.now }
+fn read_frame(bare: &BitBuf, at: usize) -> VoiceFrame
+    requires { at + 144 ≤ length bare.now }
+    ensures { result ≡ frame_in at bare.now }
 {
     let mut octets = [0; 18];
-    plain.take_numbers(at, 8, &mut octets);
+    bare.take_numbers(at, 8, &mut octets);
     VoiceFrame(octets)
 }
 
 // The nine voice frames of a unit with voice.
-fn read_frames(plain: &BitBuf) -> Voice
-    requires { 1680 ≤ length plain.now }
-    ensures { result ≡ voice_in plain.now }
+fn read_frames(bare: &BitBuf) -> Voice
+    requires { 1680 ≤ length bare.now }
+    ensures { result ≡ voice_in bare.now }
 {
     let mut frames = [VoiceFrame([0; 18]); 9];
     for i in 0..9 {
-        frames[i] = read_frame(plain, FRAMES[i]);
+        frames[i] = read_frame(bare, FRAMES[i]);
     }
     Voice::new(frames)
 }
@@ -192,32 +192,32 @@ fn failing_of<T>(
 }
 
 // A header. Where it is read `fixes` becomes the number of its wrong bits.
-fn read_header(plain: &BitBuf, fixes: &mut u32) -> Result<VoiceUnit, FieldList>
-    requires there { 770 ≤ length plain.now }
+fn read_header(bare: &BitBuf, fixes: &mut u32) -> Result<VoiceUnit, FieldList>
+    requires there { 770 ≤ length bare.now }
     requires none { fixes.old ≡ 0 }
-    ensures value { result ≡ header_from (header_in plain.now) }
-    ensures fixes { IfOk result (λ unit. AreFixes unit plain.now fixes.new) }
+    ensures value { result ≡ header_from (header_in bare.now) }
+    ensures fixes { IfOk result (λ unit. AreFixes unit bare.now fixes.new) }
     ensures most { fixes.new ≤ 864 }
 {
-    match read_header_word(plain, fixes) {
+    match read_header_word(bare, fixes) {
         Some(word) => Ok(VoiceUnit::Header(word)),
         None => Err(FieldList::one(Field::HeaderWord)),
     }
 }
 
 // Voice with link control. Where it is read `fixes` becomes the number of its wrong bits.
-fn read_ldu1(plain: &BitBuf, fixes: &mut u32) -> Result<VoiceUnit, FieldList>
-    requires there { 1680 ≤ length plain.now }
+fn read_ldu1(bare: &BitBuf, fixes: &mut u32) -> Result<VoiceUnit, FieldList>
+    requires there { 1680 ≤ length bare.now }
     requires none { fixes.old ≡ 0 }
-    ensures value { result ≡ ldu1_in plain.now }
-    ensures fixes { IfOk result (λ unit. AreFixes unit plain.now fixes.new) }
+    ensures value { result ≡ ldu1_in bare.now }
+    ensures fixes { IfOk result (λ unit. AreFixes unit bare.now fixes.new) }
     ensures most { fixes.new ≤ 864 }
 {
-    let link = read_link_control(plain, fixes);
-    let first = read_low(plain, 0, fixes);
-    let second = read_low(plain, 1, fixes);
+    let link = read_link_control(bare, fixes);
+    let first = read_low(bare, 0, fixes);
+    let second = read_low(bare, 1, fixes);
     let fields = failing_of(Field::LinkControl, &link, &first, &second);
-    let voice = read_frames(plain);
+    let voice = read_frames(bare);
     let Some(link) = link else {
         return Err(fields);
     };
@@ -235,18 +235,18 @@ fn read_ldu1(plain: &BitBuf, fixes: &mut u32) -> Result<VoiceUnit, FieldList>
 }
 
 // Voice with encryption sync. Where it is read `fixes` becomes the number of its wrong bits.
-fn read_ldu2(plain: &BitBuf, fixes: &mut u32) -> Result<VoiceUnit, FieldList>
-    requires there { 1680 ≤ length plain.now }
+fn read_ldu2(bare: &BitBuf, fixes: &mut u32) -> Result<VoiceUnit, FieldList>
+    requires there { 1680 ≤ length bare.now }
     requires none { fixes.old ≡ 0 }
-    ensures value { result ≡ ldu2_in plain.now }
-    ensures fixes { IfOk result (λ unit. AreFixes unit plain.now fixes.new) }
+    ensures value { result ≡ ldu2_in bare.now }
+    ensures fixes { IfOk result (λ unit. AreFixes unit bare.now fixes.new) }
     ensures most { fixes.new ≤ 864 }
 {
-    let sync = read_encryption_sync(plain, fixes);
-    let first = read_low(plain, 0, fixes);
-    let second = read_low(plain, 1, fixes);
+    let sync = read_encryption_sync(bare, fixes);
+    let first = read_low(bare, 0, fixes);
+    let second = read_low(bare, 1, fixes);
     let fields = failing_of(Field::EncryptionSync, &sync, &first, &second);
-    let voice = read_frames(plain);
+    let voice = read_frames(bare);
     let Some(sync) = sync else {
         return Err(fields);
     };
@@ -264,14 +264,14 @@ fn read_ldu2(plain: &BitBuf, fixes: &mut u32) -> Result<VoiceUnit, FieldList>
 }
 
 // A terminator with link control. Where it is read `fixes` becomes the number of its wrong bits.
-fn read_tdulc(plain: &BitBuf, fixes: &mut u32) -> Result<VoiceUnit, FieldList>
-    requires there { 420 ≤ length plain.now }
+fn read_tdulc(bare: &BitBuf, fixes: &mut u32) -> Result<VoiceUnit, FieldList>
+    requires there { 420 ≤ length bare.now }
     requires none { fixes.old ≡ 0 }
-    ensures value { result ≡ tdulc_from (link_in tdulc_layout plain.now) }
-    ensures fixes { IfOk result (λ unit. AreFixes unit plain.now fixes.new) }
+    ensures value { result ≡ tdulc_from (link_in tdulc_layout bare.now) }
+    ensures fixes { IfOk result (λ unit. AreFixes unit bare.now fixes.new) }
     ensures most { fixes.new ≤ 864 }
 {
-    match read_end_control(plain, fixes) {
+    match read_end_control(bare, fixes) {
         Some(link) => Ok(VoiceUnit::EndLink { link }),
         None => Err(FieldList::one(Field::LinkControl)),
     }
@@ -285,34 +285,30 @@ fn read_tdulc(plain: &BitBuf, fixes: &mut u32) -> Result<VoiceUnit, FieldList>
 /// The refusal is the list of exactly the fields that fail, in order, and never empty: of a header HeaderWord; of voice with link control
 /// LinkControl, LowSpeed1 and LowSpeed2; of voice with encryption sync EncryptionSync, LowSpeed1 and LowSpeed2; of a
 /// terminator with link control LinkControl. Of a terminator none fails. TIA-102.BAAA, Voice Data Units.
-pub fn read_voice(duid: u8, plain: &BitBuf) -> Result<VoiceUnit, FieldList>
-    requires { voice_length_of duid ≡ Some (length plain.now) }
-    ensures reading { result ≡ voice_reading_of duid plain.now }
+pub fn read_voice(duid: u8, bare: &BitBuf) -> Result<VoiceUnit, FieldList>
+    requires { voice_length_of duid ≡ Some (length bare.now) }
+    ensures reading { result ≡ voice_reading_of duid bare.now }
     ensures some { IfErr result (λ fields. 0 < length fields) }
 {
     let mut fixes = 0;
-    read_voice_counted(duid, plain, &mut fixes)
+    read_voice_counted(duid, bare, &mut fixes)
 }
 
 /// Answers what `read_voice` answers. Where it is a unit, sets `fixes` to what `voice_fixes` answers for it, whatever network
 /// access code its image has: the number of wrong bits in its inner words and its low speed words. No image is made.
-pub fn read_voice_counted(
-    duid: u8,
-    plain: &BitBuf,
-    fixes: &mut u32,
-) -> Result<VoiceUnit, FieldList>
-    requires { voice_length_of duid ≡ Some (length plain.now) }
-    ensures value { result ≡ voice_reading_of duid plain.now }
-    ensures fixes { IfOk result (λ unit. AreFixes unit plain.now fixes.new) }
+pub fn read_voice_counted(duid: u8, bare: &BitBuf, fixes: &mut u32) -> Result<VoiceUnit, FieldList>
+    requires { voice_length_of duid ≡ Some (length bare.now) }
+    ensures value { result ≡ voice_reading_of duid bare.now }
+    ensures fixes { IfOk result (λ unit. AreFixes unit bare.now fixes.new) }
     ensures most { fixes.new ≤ 864 }
 {
     *fixes = 0;
     match duid {
-        HDU => read_header(plain, fixes),
+        HDU => read_header(bare, fixes),
         TDU => Ok(VoiceUnit::End),
-        LDU1 => read_ldu1(plain, fixes),
-        LDU2 => read_ldu2(plain, fixes),
-        TDULC => read_tdulc(plain, fixes),
+        LDU1 => read_ldu1(bare, fixes),
+        LDU2 => read_ldu2(bare, fixes),
+        TDULC => read_tdulc(bare, fixes),
         _ => Err(FieldList::new()),
     }
 }

@@ -76,16 +76,16 @@ fn assert_read_as(
 ) {
     let mut image = BitBuf::new();
     voice_image(0x293, unit, &mut image);
-    let mut plain = BitBuf::new();
-    plain.append(&image, 0, image.len());
-    spoil(&mut plain, all);
-    assert!(rt; plain.len() == image.len());
+    let mut bare = BitBuf::new();
+    bare.append(&image, 0, image.len());
+    spoil(&mut bare, all);
+    assert!(rt; bare.len() == image.len());
     let mut counted = 0;
-    match read_voice_counted(unit.duid(), &plain, &mut counted) {
+    match read_voice_counted(unit.duid(), &bare, &mut counted) {
         Ok(read) => {
             assert!(rt; read == *other && fields.len() == 0, "for {fixes} fixes");
             assert_eq!(rt; counted, fixes);
-            assert_eq!(rt; voice_fixes(unit, &plain, &image), fixes);
+            assert_eq!(rt; voice_fixes(unit, &bare, &image), fixes);
         }
         Err(failing) => assert_fields(rt, &failing, fields),
     }
@@ -255,7 +255,12 @@ fn terminators(rt: HostRuntime) {
     let mut nulls = BitBuf::new();
     nulls.extend(&[false; 140]);
     assert!(rt; nulls.len() == 140);
-    assert!(rt; matches!(read_voice(VoiceUnit::End.duid(), &nulls), Ok(VoiceUnit::End)));
+    assert!(rt;
+        matches!(
+            read_voice(VoiceUnit::End.duid(), &nulls),
+            Ok(VoiceUnit::End)
+        )
+    );
     assert_eq!(rt; voice_length(7), None);
 }
 

@@ -165,7 +165,7 @@ fn done(sender: &mut Sender, act: Act) -> Told {
     }
 }
 
-// Sixteen transmissions, and the link opened again.
+// Sixteen transmissions, and the session opened again.
 const SIXTEEN: [(Act, Told); 29] = [
     (Act::Timeout, ("idle", 0, 0)),
     (Act::Reopen, ("up", 0, 0)),

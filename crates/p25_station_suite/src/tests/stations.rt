@@ -108,7 +108,7 @@ const ROWS: [Row; 13] = [
         ],
     ),
     (
-        "a link that is opened again",
+        "a delivery that is opened again",
         &[
             b"send -\nsend -\n",
             TIMEOUTS,

@@ -121,7 +121,8 @@ fn a_recording_is_cut_off_behind_each_octet(rt: HostRuntime) {
 }
 
 // A line that is taken, and one with a value that is refused.
-const REFUSED_SECOND_LINE: &[u8] = b"tdu nac=000\nhdu nac=000 mi=0 mfid=00 algid=00 kid=0000 tgid=0000\n";
+const REFUSED_SECOND_LINE: &[u8] =
+    b"tdu nac=000\nhdu nac=000 mi=0 mfid=00 algid=00 kid=0000 tgid=0000\n";
 
 // What the lines before a refused one ask for is written first.
 #[test]

@@ -2,7 +2,7 @@
 
 ghost use Rattle.std.specs.Prelude.{◌≡◌, None, OnOk, OnErr};
 ghost use Rattle.p25_io.specs.Faults.{HasCause};
-ghost use Rattle.p25_io.specs.Octets.{Appended, AppendedFront};
+ghost use Rattle.p25_io.specs.Octets.{Appended, AppendedBeginning};
 
 use super::words_of;
 use p25_io::{Failed, Sink, SteadySource};

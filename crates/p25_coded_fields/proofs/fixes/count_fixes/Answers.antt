@@ -12,7 +12,7 @@ use Rattle.p25_coded_fields.proofs.SymbolsLaws.{group_is, length_group, room_at}
 use Rattle.p25_coded_fields.proofs.fixes.count_fixes.Goals as goal
 
 pub loop-i-init : goal.loop-i-init
-loop-i-init g c = let b = g.I.BlockCode in counted_none b.N b.K (c.K-each.result / 6) c.args.places.now (take (c.K-each.result / 6 * 0) c.args.word.now) c.args.plain.now
+loop-i-init g c = let b = g.I.BlockCode in counted_none b.N b.K (c.K-each.result / 6) c.args.places.now (take (c.K-each.result / 6 * 0) c.args.word.now) c.args.bare.now
 
 pub loop-i-preserved : goal.loop-i-preserved
 loop-i-preserved g c =
@@ -27,14 +27,14 @@ loop-i-preserved g c =
     let sixes : 6 * each ≡ b.K = ap (λ n. 6 * n) group ∙ c.requires.sixes in
     let inside : i < length places = omega arith in
     let there : each * i + each ≤ length word = room_at each i (length places) (length word) inside (mul_comm each (length places) ∙ covers) in
-    let front : length (take (each * i) word) ≡ each * i = length-take-le (each * i) word (omega arith) in
+    let beginning : length (take (each * i) word) ≡ each * i = length-take-le (each * i) word (omega arith) in
     let cut = group_is each each i word refl in
-    subst (λ (xs : List Sym). AreCounted b.IsWord b.N b.K each (i + 1) places xs c.args.plain.now c.total-wrong.result) (front_more each i word)
-    (counted_more (g.met.I.BlockCode.length_of_word c.requires.code) each i places (take (each * i) word) (part (each * i) each word) c.args.plain.now c.loop-i.wrong c.inner_fixes-more.result c.total-wrong.result
-    sixes inside short c.requires.there front (length-part (each * i) each word there) c.loop-i.invariant c.inner_fixes-more.ensures.few
+    subst (λ (xs : List Sym). AreCounted b.IsWord b.N b.K each (i + 1) places xs c.args.bare.now c.total-wrong.result) (front_more each i word)
+    (counted_more (g.met.I.BlockCode.length_of_word c.requires.code) each i places (take (each * i) word) (part (each * i) each word) c.args.bare.now c.loop-i.wrong c.inner_fixes-more.result c.total-wrong.result
+    sixes inside short c.requires.there beginning (length-part (each * i) each word there) c.loop-i.invariant c.inner_fixes-more.ensures.few
     (λ sent is. c.inner_fixes-more.ensures.wrong sent (subst (λ (xs : List Sym). IsEncoding b.IsWord b.K (symbol_bits xs) sent) (sym cut) is)) c.total-wrong.ensures)
 
 pub returns : goal.returns
 returns g c =
     let b = g.I.BlockCode in
-    counted_end (c.K-each.result / 6) (b.K / 6) c.loop-i.i c.args.places.now c.args.word.now c.args.plain.now c.loop-i.wrong (ap (λ n. n / 6) c.K-each.ensures) (omega arith) (omega arith) c.requires.word c.loop-i.invariant
+    counted_end (c.K-each.result / 6) (b.K / 6) c.loop-i.i c.args.places.now c.args.word.now c.args.bare.now c.loop-i.wrong (ap (λ n. n / 6) c.K-each.ensures) (omega arith) (omega arith) c.requires.word c.loop-i.invariant

@@ -7,17 +7,17 @@ use Rattle.p25_link.specs.Symbols.{symbol_bits, symbols_in}
 use Rattle.p25_coded_fields.proofs.ReadLaws.{inner_found, inner_beyond, read_encoding, read_word_of_set, wrong_bits}
 use Rattle.p25_coded_fields.proofs.read.read_inner.Goals as goal
 
-pub returns-in-Some-clause-marks : goal.returns-in-Some-clause-marks
-returns-in-Some-clause-marks g c =
+pub returns-in-Some-clause-erasures : goal.returns-in-Some-clause-erasures
+returns-in-Some-clause-erasures g c =
     let b = g.I.BlockCode in
-    let plain = c.args.plain.now in
+    let bare = c.args.bare.now in
     let at = c.args.at in
     let each = length c.args.symbols.now in
     let value = c.in-Some.sent in
-    let taken : bits_of b.N c.field-received.result ≡ part at b.N plain
-    = ap (bits_of b.N) c.field-received.ensures.value ∙ ap (λ n. bits_of b.N (field_of (part at n plain))) c.N.ensures ∙ bits_of-field b.N at plain c.requires.there in
-    let read : Some (bits_of b.N value) ≡ b.reading_is (part at b.N plain) = ap (option_map (bits_of b.N)) (sym c.in-Some.is) ∙ c.read_number.ensures.reading ∙ ap b.reading_is taken in
-    inner_found b.N b.K each value (b.reading_is (part at b.N plain)) c.take_symbols.new.symbols c.set_all.new.erased c.requires.sixes (g.met.I.BlockCode.begins c.requires.code) read
+    let taken : bits_of b.N c.field-received.result ≡ part at b.N bare
+    = ap (bits_of b.N) c.field-received.ensures.value ∙ ap (λ n. bits_of b.N (field_of (part at n bare))) c.N.ensures ∙ bits_of-field b.N at bare c.requires.there in
+    let read : Some (bits_of b.N value) ≡ b.reading_is (part at b.N bare) = ap (option_map (bits_of b.N)) (sym c.in-Some.is) ∙ c.read_number.ensures.reading ∙ ap b.reading_is taken in
+    inner_found b.N b.K each value (b.reading_is (part at b.N bare)) c.take_symbols.new.symbols c.set_all.new.erased c.requires.sixes (g.met.I.BlockCode.begins c.requires.code) read
     (c.take_symbols.ensures ∙ ap₂ (λ m n. symbols_in each (bits_of (6 * each) (value / 2 ^ (m - n)))) c.N-in-Some.ensures c.K.ensures)
     (c.set_all.ensures ∙ ap (λ n. replicate n false) c.requires.same)
 
@@ -32,14 +32,14 @@ pub returns-in-Some-clause-wrong : goal.returns-in-Some-clause-wrong
 returns-in-Some-clause-wrong g c = λ sent is.
     let b = g.I.BlockCode in
     let m = g.met.I.BlockCode in
-    let plain = c.args.plain.now in
+    let bare = c.args.bare.now in
     let at = c.args.at in
     let each = length c.args.symbols.now in
     let value = c.in-Some.sent in
     let symbols = c.take_symbols.new.symbols in
-    let bits = part at b.N plain in
+    let bits = part at b.N bare in
     let taken : bits_of b.N c.field-received.result ≡ bits
-    = ap (bits_of b.N) c.field-received.ensures.value ∙ ap (λ n. bits_of b.N (field_of (part at n plain))) c.N.ensures ∙ bits_of-field b.N at plain c.requires.there in
+    = ap (bits_of b.N) c.field-received.ensures.value ∙ ap (λ n. bits_of b.N (field_of (part at n bare))) c.N.ensures ∙ bits_of-field b.N at bare c.requires.there in
     let read : Some (bits_of b.N value) ≡ b.reading_is bits = ap (option_map (bits_of b.N)) (sym c.in-Some.is) ∙ c.read_number.ensures.reading ∙ ap b.reading_is taken in
     let fits : c.field-received.result < 2 ^ b.N = subst (λ n. c.field-received.result < 2 ^ n) c.N.ensures c.field-received.ensures.fits in
     let small : value < 2 ^ b.N = subst (λ r. IfSome r (λ sent. sent < 2 ^ b.N)) c.in-Some.is c.read_number.ensures.fits in
@@ -48,13 +48,13 @@ returns-in-Some-clause-wrong g c = λ sent is.
     let is_word = read_word_of_set beq b.IsWord b.radius_is bits (bits_of b.N value) (b.reading_is bits) (m.reads_as c.requires.code bits) (sym read) in
     wrong_bits b.N b.K (m.one_word c.requires.code) c.field-received.result value (symbol_bits symbols) bits sent (read_encoding b.N b.K each value symbols c.requires.sixes (m.begins c.requires.code) is_word made) is taken fits small
 
-pub returns-in-None-clause-marks : goal.returns-in-None-clause-marks
-returns-in-None-clause-marks g c =
+pub returns-in-None-clause-erasures : goal.returns-in-None-clause-erasures
+returns-in-None-clause-erasures g c =
     let b = g.I.BlockCode in
-    let plain = c.args.plain.now in
+    let bare = c.args.bare.now in
     let at = c.args.at in
-    let taken : bits_of b.N c.field-received.result ≡ part at b.N plain
-    = ap (bits_of b.N) c.field-received.ensures.value ∙ ap (λ n. bits_of b.N (field_of (part at n plain))) c.N.ensures ∙ bits_of-field b.N at plain c.requires.there in
-    inner_beyond (length c.args.symbols.now) (b.reading_is (part at b.N plain)) c.args.symbols.now c.set_all-in-None.new.erased refl
+    let taken : bits_of b.N c.field-received.result ≡ part at b.N bare
+    = ap (bits_of b.N) c.field-received.ensures.value ∙ ap (λ n. bits_of b.N (field_of (part at n bare))) c.N.ensures ∙ bits_of-field b.N at bare c.requires.there in
+    inner_beyond (length c.args.symbols.now) (b.reading_is (part at b.N bare)) c.args.symbols.now c.set_all-in-None.new.erased refl
     (ap (option_map (bits_of b.N)) (sym c.in-None.is) ∙ c.read_number.ensures.reading ∙ ap b.reading_is taken)
     (c.set_all-in-None.ensures ∙ ap (λ n. replicate n true) c.requires.same)

@@ -1,4 +1,4 @@
-use Rattle.p25_delivery.proofs.LinkLaws.{facts-kept, first-is}
+use Rattle.p25_delivery.proofs.DeliveryLaws.{facts-kept, first-is}
 use Rattle.p25_delivery.proofs.laws.facts_are_kept.Goals as goal
 
 pub returns : goal.returns

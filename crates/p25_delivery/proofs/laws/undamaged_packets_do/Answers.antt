@@ -1,5 +1,5 @@
 use Rattle.p25_delivery.proofs.AtOnceLaws.{opens-down}
-use Rattle.p25_delivery.proofs.LinkLaws.{run-delivers}
+use Rattle.p25_delivery.proofs.DeliveryLaws.{run-delivers}
 use Rattle.p25_delivery.proofs.laws.undamaged_packets_do.Goals as goal
 
 pub returns : goal.returns

@@ -9,9 +9,9 @@ use Rattle.p25_io.proofs.tests.gather.Goals as goal
 take-put_rest : (room buf : List ℕ) (held count : ℕ) → held ≤ length room → count ≤ length buf
     → take (held + count) (put_mid held (length room - held) room buf) ≡ take held room ++ take count buf
 take-put_rest room buf held count within fits =
-    let front : length (take held room) ≡ held = simp length-take (omega arith) in
+    let beginning : length (take held room) ≡ held = simp length-take (omega arith) in
     let rest = post_of held (length room - held) room in
-    subst (λ n. take (n + count) (take held room ++ (buf ++ rest)) ≡ take held room ++ take count buf) front
+    subst (λ n. take (n + count) (take held room ++ (buf ++ rest)) ≡ take held room ++ take count buf) beginning
     (take-append-add (take held room) (buf ++ rest) count ∙ ap (λ l. take held room ++ l) (take-append-le count buf rest fits))
 
 -- it fits the room

@@ -3,7 +3,7 @@ use Rattle.std.specs.Prelude.{flat_map, OnErr}
 use Rattle.std.proofs.lemmas.Grind.{flat_map-append}
 use Rattle.std.proofs.lemmas.List.Concat.{flat_map-cons}
 use Rattle.std.proofs.Math.Seq.{drop-cons}
-use Rattle.p25_io.proofs.OctetsLaws.{AppendedFront-same, AppendedFront-next, AppendedFront-longer}
+use Rattle.p25_io.proofs.OctetsLaws.{AppendedBeginning-same, AppendedBeginning-next, AppendedBeginning-longer}
 use Rattle.p25_io.proofs.tests.put_all.Goals as goal
 
 -- the pieces before one, that piece, and those after it
@@ -21,6 +21,6 @@ on_err (Err fault) p = p
 
 pub returns-in_err-write-clause-err : goal.returns-in_err-write-clause-err
 returns-in_err-write-clause-err g c =
-    let front = AppendedFront-next c.loop-piece.invariant.0 c.in_err-write.ensures.err in
+    let beginning = AppendedBeginning-next c.loop-piece.invariant.0 c.in_err-write.ensures.err in
     let split = flat_map-around (λ piece. piece.now) c.args.pieces.now c.loop-piece.piece-index _ (omega arith) in
-    on_err c.from_residual.result (AppendedFront-same (sym split) (AppendedFront-longer _ front))
+    on_err c.from_residual.result (AppendedBeginning-same (sym split) (AppendedBeginning-longer _ beginning))

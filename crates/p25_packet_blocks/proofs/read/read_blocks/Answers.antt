@@ -12,18 +12,18 @@ pub returns-in-22-clause-packet : goal.returns-in-22-clause-packet
 returns-in-22-clause-packet c =
     let head = c.args.head in
     let make : List Slot → ConfirmedParts = λ slots. record { head = head; slots = slots } in
-    let slots = c.read_slots-slots.ensures.list ∙ ap (λ n. slots_read n c.args.plain.now) (c.from.ensures ∙ c.blocks-in-22.ensures.value) in
-    ap (λ packet. Ok (Confirmed packet)) (c.new.ensures ∙ ap make slots) ∙ sym (packet_of_head-confirmed head c.args.plain.now (sym c.format.ensures.value ∙ c.in-22.is))
+    let slots = c.read_slots-slots.ensures.list ∙ ap (λ n. slots_read n c.args.bare.now) (c.from.ensures ∙ c.blocks-in-22.ensures.value) in
+    ap (λ packet. Ok (Confirmed packet)) (c.new.ensures ∙ ap make slots) ∙ sym (packet_of_head-confirmed head c.args.bare.now (sym c.format.ensures.value ∙ c.in-22.is))
 
 pub returns-in-21-clause-packet : goal.returns-in-21-clause-packet
 returns-in-21-clause-packet c =
     let format : IsPlainFormat (head_format c.args.head)
     = elim c.in-21.is [ inl response ↦ inr (sym c.format.ensures.value ∙ response) | inr unconfirmed ↦ inl (sym c.format.ensures.value ∙ unconfirmed) ] in
-    c.read_plain.ensures.packet ∙ sym (packet_of_head-plain c.args.head c.args.plain.now format)
+    c.read_plain.ensures.packet ∙ sym (packet_of_head-plain c.args.head c.args.bare.now format)
 
 pub returns-in_default-clause-packet : goal.returns-in_default-clause-packet
 returns-in_default-clause-packet c =
     let not_16 : head_format c.args.head ≢ 0x16 = grind (arith, c.format.ensures.value) in
     let not_15 : head_format c.args.head ≢ 0x15 = grind (arith, c.format.ensures.value) in
     let not_03 : head_format c.args.head ≢ 0x03 = grind (arith, c.format.ensures.value) in
-    sym (packet_of_head-other c.args.head c.args.plain.now not_16 not_15 not_03)
+    sym (packet_of_head-other c.args.head c.args.bare.now not_16 not_15 not_03)

@@ -4,4 +4,4 @@ use Rattle.p25_packet_blocks.proofs.ReadingLaws.{head_reading_of-is}
 use Rattle.p25_packet_blocks.proofs.read.read_head.Goals as goal
 
 pub returns : goal.returns
-returns c = c.head_in.ensures ∙ ap head_from c.read_block.ensures.octets ∙ sym (head_reading_of-is c.args.plain.now)
+returns c = c.head_in.ensures ∙ ap head_from c.read_block.ensures.octets ∙ sym (head_reading_of-is c.args.bare.now)

@@ -4,4 +4,4 @@ use Rattle.p25_packet_blocks.specs.Reading.{octets_read}
 use Rattle.p25_packet_blocks.proofs.read.read_octets.Given as goal
 
 abbrev pub invariant-loop-j : goal.invariant-loop-j
-invariant-loop-j l = record { so_far : take (12 * l.j) l.octets ≡ octets_read l.j l.plain; counted : l.fixes ≡ l.initial.fixes + half_distance l.j l.plain }
+invariant-loop-j l = record { so_far : take (12 * l.j) l.octets ≡ octets_read l.j l.bare; counted : l.fixes ≡ l.initial.fixes + half_distance l.j l.bare }

@@ -6,11 +6,11 @@ use Rattle.p25_packet_blocks.proofs.PacketFixesLaws.{packet_fixes-is}
 use Rattle.p25_packet_blocks.proofs.read.read_packet_and_fixes.Goals as goal
 
 pub read_blocks-requires-clause-few : goal.read_blocks-requires-clause-few
-read_blocks-requires-clause-few c = omega (arith, c.read_block.ensures.distance, nearest_distance-le 4 2 half_point (header_bits c.args.plain.now) (omega arith))
+read_blocks-requires-clause-few c = omega (arith, c.read_block.ensures.distance, nearest_distance-le 4 2 half_point (header_bits c.args.bare.now) (omega arith))
 
 pub returns-clause-fixes : goal.returns-clause-fixes
 returns-clause-fixes c = λ nac packet is whole.
-    packet_fixes-is nac c.args.head packet c.args.plain.now c.read_blocks.new.fixes c.read_block.result c.requires.head c.requires.there (sym c.read_blocks.ensures.packet ∙ is) whole
+    packet_fixes-is nac c.args.head packet c.args.bare.now c.read_blocks.new.fixes c.read_block.result c.requires.head c.requires.there (sym c.read_blocks.ensures.packet ∙ is) whole
     c.read_block.ensures.distance
     c.read_blocks.ensures.confirmed
-    c.read_blocks.ensures.plain
+    c.read_blocks.ensures.bare

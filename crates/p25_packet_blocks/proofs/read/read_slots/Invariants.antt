@@ -4,4 +4,4 @@ use Rattle.p25_packet_blocks.specs.Reading.{slots_read}
 use Rattle.p25_packet_blocks.proofs.read.read_slots.Given as goal
 
 abbrev pub invariant-loop-j : goal.invariant-loop-j
-invariant-loop-j l = record { so_far : l.slots ≡ slots_read l.j l.plain; len : length l.slots ≡ l.j; counted : l.fixes ≡ l.initial.fixes + three_quarter_distance l.j l.plain }
+invariant-loop-j l = record { so_far : l.slots ≡ slots_read l.j l.bare; len : length l.slots ≡ l.j; counted : l.fixes ≡ l.initial.fixes + three_quarter_distance l.j l.bare }

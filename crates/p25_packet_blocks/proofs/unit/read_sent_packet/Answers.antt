@@ -1,6 +1,6 @@
 use Rattle.std.proofs.Common.{◌<◌, ◌≤◌, Err, length, take, ap, sym, ◌∙◌, arith}
 use Rattle.std.proofs.lemmas.Result.{err_from_is_err_and}
-use Rattle.p25_status.specs.Woven.{plain_of}
+use Rattle.p25_status.specs.Woven.{bare_of}
 use Rattle.p25_packet_blocks.specs.Heads.{head_blocks}
 use Rattle.p25_packet_blocks.specs.Lengths.{packet_sent_length}
 use Rattle.p25_packet_blocks.specs.Reading.{packet_of_head}
@@ -22,5 +22,5 @@ returns c =
     let head = c.in_ok-head.head in
     let fits : packet_sent_length (head_blocks head) ≤ length c.args.bits.now = omega (arith, c.len.ensures.value, c.packet_length-len.ensures.value, c.if-len.false) in
     c.read_packet_of_head.ensures
-    ∙ ap (packet_of_head head) (c.unweave.ensures.plain ∙ ap (λ count. plain_of (take count c.args.bits.now)) c.packet_length-len.ensures.value)
+    ∙ ap (packet_of_head head) (c.unweave.ensures.bare ∙ ap (λ count. bare_of (take count c.args.bits.now)) c.packet_length-len.ensures.value)
     ∙ sym (sent_packet_of-whole c.args.bits.now head (sym c.in_ok-head.ensures) fits)

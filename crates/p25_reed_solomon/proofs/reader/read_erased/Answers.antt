@@ -6,26 +6,26 @@ use Rattle.p25_gf64.specs.declared.symbol.Sym.{Sym}
 use Rattle.p25_gf64.specs.Gf64.{gf64}
 use Rattle.p25_algebra.specs.Sums.{nonzeros}
 use Rattle.p25_algebra.specs.Series.{coefficient}
-use Rattle.p25_code.specs.Marks.{marked, marked_cost, IsMarkedReading}
+use Rattle.p25_code.specs.Erasures.{without_erased, erased_cost, IsErasedReading}
 use Rattle.p25_reed_solomon.specs.Words.{same_symbols}
-use Rattle.p25_reed_solomon.specs.Errors.{marks_below, Explains}
+use Rattle.p25_reed_solomon.specs.Errors.{erased_below, Explains}
 use Rattle.p25_reed_solomon.specs.DistanceLaws.{same_symbols-same}
-use Rattle.p25_reed_solomon.proofs.ReaderLaws.{difference_explains, cost_of_errors, cost_of_received, cost_of_marks, corrected, changed_letters, without_errors}
+use Rattle.p25_reed_solomon.proofs.ReaderLaws.{difference_explains, cost_of_errors, cost_of_received, cost_of_erasures, corrected, changed_letters, without_errors}
 use Rattle.p25_reed_solomon.proofs.reader.read_erased.Goals as goal
 
-pub returns-then-count_marks-checks : goal.returns-then-count_marks-checks
-unfolding IsMarkedReading
-returns-then-count_marks-checks c =
+pub returns-then-count_erasures-checks : goal.returns-then-count_erasures-checks
+unfolding IsErasedReading
+returns-then-count_erasures-checks c =
     let n = length c.args.word.now in
     record {
       unchanged = refl;
       none_within = record {
-        dearer = λ word of_code. omega (arith, cost_of_marks n c.args.word.now word c.args.erased.now refl of_code.long c.requires.erased, c.count_marks.ensures.count, ap (marks_below c.args.erased.now) c.requires.erased);
+        dearer = λ word of_code. omega (arith, cost_of_erasures n c.args.word.now word c.args.erased.now refl of_code.long c.requires.erased, c.count_erasures.ensures.count, ap (erased_below c.args.erased.now) c.requires.erased);
       };
     }
 
 pub returns-then-all_zero : goal.returns-then-all_zero
-unfolding IsMarkedReading
+unfolding IsErasedReading
 returns-then-all_zero c =
     let n = length c.args.word.now in
     let k = c.args.k in
@@ -33,18 +33,18 @@ returns-then-all_zero c =
       word_of_set = without_errors n k c.args.word.now c.fill_syndromes.new.out refl (λ r low. c.fill_syndromes.ensures.values r (omega (arith, c.requires.code.few)))
           (λ r low. sym (get_or-take (n - k) c.fill_syndromes.new.out r gf64.zero low) ∙ c.all_zero.ensures.0 c.if-all_zero.true r (omega (arith, length-take (n - k) c.fill_syndromes.new.out, c.requires.code.few)));
       fixes_is = sym (distance_by-same same_symbols same_symbols-same c.args.word.now);
-      within = omega (arith, cost_of_received n c.args.word.now c.args.erased.now refl c.requires.erased, c.count_marks.ensures.count, ap (marks_below c.args.erased.now) c.requires.erased);
+      within = omega (arith, cost_of_received n c.args.word.now c.args.erased.now refl c.requires.erased, c.count_erasures.ensures.count, ap (erased_below c.args.erased.now) c.requires.erased);
     }
 
 pub returns-then-not-find_errors : goal.returns-then-not-find_errors
-unfolding IsMarkedReading
+unfolding IsErasedReading
 returns-then-not-find_errors c =
     let n = length c.args.word.now in
     let k = c.args.k in
     record {
       unchanged = refl;
       none_within = record {
-        dearer = λ word of_code. elim (cases_lt (n - k) (marked_cost same_symbols (marked c.args.word.now c.args.erased.now) word)) [
+        dearer = λ word of_code. elim (cases_lt (n - k) (erased_cost same_symbols (without_erased c.args.word.now c.args.erased.now) word)) [
           | inl far ↦ far
           | inr near ↦
               let errors : ℕ → Sym = λ j. gf64.add (coefficient gf64 c.args.word.now j) (coefficient gf64 word j) in
@@ -56,7 +56,7 @@ returns-then-not-find_errors c =
     }
 
 pub returns : goal.returns
-unfolding IsMarkedReading
+unfolding IsErasedReading
 returns c =
     let n = length c.args.word.now in
     let k = c.args.k in

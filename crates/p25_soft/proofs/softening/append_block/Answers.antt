@@ -13,7 +13,7 @@ returns-then-fails_whole-clause-list c =
     ∙ ap (λ (bits : List Bool). c.args.out.now ++ bits)
     (
     ap (λ (ls : List ℤ). soft_block 4 half_point ls) (c.levels_of.ensures.list ∙ ap (block_levels levels) c.from-place.ensures)
-    ∙ sym (softened_block-all c.args.fields.now levels c.args.plain.now c.args.j (sym c.fails_whole.ensures ∙ c.if-fails_whole.true))
+    ∙ sym (softened_block-all c.args.fields.now levels c.args.bare.now c.args.j (sym c.fails_whole.ensures ∙ c.if-fails_whole.true))
     )
 
 pub returns-then-fails_block-clause-list : goal.returns-then-fails_block-clause-list
@@ -23,7 +23,7 @@ returns-then-fails_block-clause-list c =
     ∙ ap (λ (bits : List Bool). c.args.out.now ++ bits)
     (
     ap (λ (ls : List ℤ). soft_block 8 three_quarter_point ls) (c.levels_of-then-fails_block.ensures.list ∙ ap (block_levels levels) c.from-place.ensures)
-    ∙ sym (softened_block-named c.args.fields.now levels c.args.plain.now c.args.j (sym c.fails_whole.ensures ∙ c.if-fails_whole.false) (sym c.fails_block.ensures ∙ c.if-fails_block.true))
+    ∙ sym (softened_block-named c.args.fields.now levels c.args.bare.now c.args.j (sym c.fails_whole.ensures ∙ c.if-fails_whole.false) (sym c.fails_block.ensures ∙ c.if-fails_block.true))
     )
 
 pub returns-clause-list : goal.returns-clause-list
@@ -31,6 +31,6 @@ returns-clause-list c =
     c.append.ensures.list
     ∙ ap (λ (bits : List Bool). c.args.out.now ++ bits)
     (
-    ap (λ k. part (308 + 196 * k) 196 c.args.plain.now) c.from-place.ensures
-    ∙ sym (softened_block-kept c.args.fields.now c.args.levels.now c.args.plain.now c.args.j (sym c.fails_whole.ensures ∙ c.if-fails_whole.false) (sym c.fails_block.ensures ∙ c.if-fails_block.false))
+    ap (λ k. part (308 + 196 * k) 196 c.args.bare.now) c.from-place.ensures
+    ∙ sym (softened_block-kept c.args.fields.now c.args.levels.now c.args.bare.now c.args.j (sym c.fails_whole.ensures ∙ c.if-fails_whole.false) (sym c.fails_block.ensures ∙ c.if-fails_block.false))
     )

@@ -7,7 +7,7 @@ use Rattle.p25_soft.proofs.softening.append_blocks.Goals as goal
 
 pub loop-j-init : goal.loop-j-init
 loop-j-init c =
-    let blocks = softened_block c.args.fields.now c.args.levels.now c.args.plain.now in record {
+    let blocks = softened_block c.args.fields.now c.args.levels.now c.args.bare.now in record {
       list = sym (ap (λ (bits : List Bool). c.args.out.now ++ bits) (joined_below-zero blocks) ∙ append-nil c.args.out.now);
       len = omega arith;
       count = blocks_replaced-zero c.args.fields.now;
@@ -19,7 +19,7 @@ append_block-count-requires-clause-levels c = sent_dibit-lt c.loop-j.j c.args.bl
 
 pub loop-j-preserved : goal.loop-j-preserved
 loop-j-preserved c =
-    let blocks = softened_block c.args.fields.now c.args.levels.now c.args.plain.now in
+    let blocks = softened_block c.args.fields.now c.args.levels.now c.args.bare.now in
     let j = c.loop-j.j in record {
       list =
           c.append_block-count.ensures.list

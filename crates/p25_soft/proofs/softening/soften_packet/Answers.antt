@@ -2,7 +2,7 @@ use Rattle.std.proofs.Common.{◌≡◌, ◌*◌, length, ap, sym, ◌∙◌}
 use Rattle.p25_bits.proofs.PartLaws.{part_whole}
 use Rattle.p25_packet_blocks.specs.Lengths.{packet_sent_length, packet_parts}
 use Rattle.p25_soft.specs.Softened.{blocks_replaced, blocks_to_follow}
-use Rattle.p25_soft.proofs.SoftenedLaws.{sent_dibit-inside, softened_plain-from, softened_packet-from, softened_packet-kept}
+use Rattle.p25_soft.proofs.SoftenedLaws.{sent_dibit-inside, softened_bare-from, softened_packet-from, softened_packet-kept}
 use Rattle.p25_soft.proofs.softening.soften_packet.Goals as goal
 
 pub append_blocks-count-requires-clause-levels : goal.append_blocks-count-requires-clause-levels
@@ -16,13 +16,13 @@ returns-clause-bits c =
     let levels = c.args.levels.now in
     let sent = c.args.raw.now in
     let n = c.told_blocks-blocks.result in
-    let plain = c.unweave.new.out in
-    softened_packet-from fields levels sent _ plain c.append-2.new.self c.weave.new.out c.unweave.new.statuses n
+    let bare = c.unweave.new.out in
+    softened_packet-from fields levels sent _ bare c.append-2.new.self c.weave.new.out c.unweave.new.statuses n
     (part_whole c.len.result sent (sym c.len.ensures.value))
-    c.unweave.ensures.plain
+    c.unweave.ensures.bare
     c.unweave.ensures.statuses
     c.told_blocks-blocks.ensures.value
-    (softened_plain-from fields levels n c.len-2.result plain c.new-softened.result c.append.new.self c.append_blocks-count.new.out c.append-2.new.self
+    (softened_bare-from fields levels n c.len-2.result bare c.new-softened.result c.append.new.self c.append_blocks-count.new.out c.append-2.new.self
     c.new-softened.ensures c.append.ensures.list c.append_blocks-count.ensures.list c.len-2.ensures.value c.append-2.ensures.list)
     c.weave.ensures.list
 

@@ -4,10 +4,10 @@ use Rattle.p25_bits.specs.Bits.{field_of, part}
 use Rattle.p25_bits.proofs.PartLaws.{length-part, part-part}
 use Rattle.p25_status.specs.Status.{status_from_bits}
 use Rattle.p25_status.specs.declared.symbols.Status.{Status}
-use Rattle.p25_status.specs.Woven.{woven, plain_in, plain_of, statuses_in, statuses_of, StandsByPlaces}
+use Rattle.p25_status.specs.Woven.{woven, bare_in, bare_of, statuses_in, statuses_of, StandsByPlaces}
 use Rattle.p25_status.proofs.PlacesSteps.{woven-places}
 use Rattle.p25_status.proofs.WovenLaws.{woven-of}
-use Rattle.p25_status.proofs.WeavingSteps.{plain_more, statuses_more, plain_none, statuses_none, status_read}
+use Rattle.p25_status.proofs.WeavingSteps.{bare_more, statuses_more, bare_none, statuses_none, status_read}
 use Rattle.p25_status.proofs.weaving.unweave.Goals as goal
 
 pub loop-i-preserved : goal.loop-i-preserved
@@ -25,24 +25,24 @@ loop-i-preserved c =
     let read = c.field-status.ensures.value ∙ ap (λ k. field_of (part k 2 bits)) place in
     let symbol = status_read bits at len (72 * i + 70) c.field-status.result c.at_number.result both c.requires.there c.at_number.ensures read
     ∙ ap (λ k. status_from_bits (get_or sent (72 * i + 70) false) (get_or sent k false)) second in record {
-      plain =
-          plain_more (len / 72) i sent c.loop-i.out c.append.new.self (part (at + 72 * i) 70 bits) more (sym (part-part at len (72 * i) 70 bits block)) c.append.ensures.list
-          ∙ c.loop-i.invariant.plain;
+      bare =
+          bare_more (len / 72) i sent c.loop-i.out c.append.new.self (part (at + 72 * i) 70 bits) more (sym (part-part at len (72 * i) 70 bits block)) c.append.ensures.list
+          ∙ c.loop-i.invariant.bare;
       statuses = statuses_more (len / 72) i sent c.loop-i.statuses c.push.new.self c.at_number.result more symbol c.push.ensures.list ∙ c.loop-i.invariant.statuses;
-      plain_len = omega arith;
+      bare_len = omega arith;
       statuses_len = omega arith;
     }
 
-pub returns-clause-plain : goal.returns-clause-plain
-unfolding plain_of
-returns-clause-plain c =
+pub returns-clause-bare : goal.returns-clause-bare
+unfolding bare_of
+returns-clause-bare c =
     let sent = part c.args.at c.args.len c.args.bits.now in
     let long : length sent ≡ c.args.len = length-part c.args.at c.args.len c.args.bits.now c.requires.there in
     let done : c.args.len / 72 ≤ c.loop-i.i = c.loop-i-test.false in
     sym (append-nil c.loop-i.out)
-    ∙ ap (λ (xs : List Bool). c.loop-i.out ++ xs) (sym (plain_none (c.args.len / 72) c.loop-i.i (drop (72 * c.loop-i.i) sent) done))
-    ∙ c.loop-i.invariant.plain
-    ∙ ap (λ n. plain_in (n / 72) sent) (sym long)
+    ∙ ap (λ (xs : List Bool). c.loop-i.out ++ xs) (sym (bare_none (c.args.len / 72) c.loop-i.i (drop (72 * c.loop-i.i) sent) done))
+    ∙ c.loop-i.invariant.bare
+    ∙ ap (λ n. bare_in (n / 72) sent) (sym long)
 
 pub returns-clause-statuses : goal.returns-clause-statuses
 unfolding statuses_of
@@ -60,7 +60,7 @@ returns-clause-woven c =
     let sent = part c.args.at c.args.len c.args.bits.now in
     let blocks : c.args.len ≡ 72 * (c.args.len / 72) = omega arith in
     let long : length sent ≡ 72 * (c.args.len / 72) = length-part c.args.at c.args.len c.args.bits.now c.requires.there ∙ blocks in
-    ap₂ woven (returns-clause-plain c) (returns-clause-statuses c) ∙ woven-of (c.args.len / 72) sent long
+    ap₂ woven (returns-clause-bare c) (returns-clause-statuses c) ∙ woven-of (c.args.len / 72) sent long
 
 pub returns-clause-places : goal.returns-clause-places
 returns-clause-places c =

@@ -5,27 +5,27 @@ use Rattle.p25_trellis.specs.declared.interleave.TheConstants.{SENT_ORDER}
 use Rattle.p25_trellis.proofs.InterleaveLaws.{length-interleaved, get_or-interleaved, order-lt, written_more, same_from_interleaved}
 use Rattle.p25_trellis.proofs.interleave.gather.Goals as goal
 
-pub bounds-plain-place : goal.bounds-plain-place
-bounds-plain-place c = order-lt c.loop-place.place c.loop-place-test.true
+pub bounds-gathered-place : goal.bounds-gathered-place
+bounds-gathered-place c = order-lt c.loop-place.place c.loop-place-test.true
 
 pub loop-place-preserved : goal.loop-place-preserved
 loop-place-preserved c =
     let place = c.loop-place.place in
     let value = get_or c.args.nibbles.now place 0 in (
-      written_more c.loop-place.plain c.args.nibbles.now place c.loop-place.invariant.1 c.loop-place-test.true c.loop-place.invariant.0,
-      length-set c.loop-place.plain (get_or SENT_ORDER place 0) value ∙ c.loop-place.invariant.1,
+      written_more c.loop-place.gathered c.args.nibbles.now place c.loop-place.invariant.1 c.loop-place-test.true c.loop-place.invariant.0,
+      length-set c.loop-place.gathered (get_or SENT_ORDER place 0) value ∙ c.loop-place.invariant.1,
     )
 
 pub returns-clause-sent : goal.returns-clause-sent
 returns-clause-sent c =
-    let plain = c.loop-place.plain in
+    let gathered = c.loop-place.gathered in
     let nibbles = c.args.nibbles.now in
-    let long : length (interleaved plain) ≡ length nibbles = length-interleaved plain ∙ c.loop-place.invariant.1 ∙ sym c.told-nibbles in
-    ext_get_or 0 (interleaved plain) nibbles long
+    let long : length (interleaved gathered) ≡ length nibbles = length-interleaved gathered ∙ c.loop-place.invariant.1 ∙ sym c.told-nibbles in
+    ext_get_or 0 (interleaved gathered) nibbles long
     (λ i inside.
-    let below : i < 49 = omega (arith, length-interleaved plain) in
+    let below : i < 49 = omega (arith, length-interleaved gathered) in
     let done : i < c.loop-place.place = omega arith in
-    get_or-interleaved plain i c.loop-place.invariant.1 below ∙ c.loop-place.invariant.0 i done)
+    get_or-interleaved gathered i c.loop-place.invariant.1 below ∙ c.loop-place.invariant.0 i done)
 
 pub returns-clause-undone : goal.returns-clause-undone
-returns-clause-undone c = λ plain same. same_from_interleaved c.loop-place.plain plain (returns-clause-sent c ∙ sym same)
+returns-clause-undone c = λ gathered same. same_from_interleaved c.loop-place.gathered gathered (returns-clause-sent c ∙ sym same)

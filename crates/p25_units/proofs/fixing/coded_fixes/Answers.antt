@@ -14,4 +14,4 @@ returns-in-End-clause-sendable c = subst IsSendableVoice (sym c.in-End.is) tt
 pub returns-in-End-clause-value : goal.returns-in-End-clause-value
 returns-in-End-clause-value c =
     let unit : VoiceUnit → UnitParts = λ voice. record { nac = c.args.nac; body = Voice voice } in
-    sym (ap (λ voice. body_fixes_of (unit voice) c.args.plain.now) c.in-End.is ∙ body_fixes_of-end c.args.nac c.args.plain.now)
+    sym (ap (λ voice. body_fixes_of (unit voice) c.args.bare.now) c.in-End.is ∙ body_fixes_of-end c.args.nac c.args.bare.now)

@@ -9,13 +9,13 @@ pub read_packet_and_fixes-requires-clause-head : goal.read_packet_and_fixes-requ
 read_packet_and_fixes-requires-clause-head c = sym c.requires.head ∙ c.in-Ok.is
 
 pub read_packet_and_fixes-requires-clause-there : goal.read_packet_and_fixes-requires-clause-there
-read_packet_and_fixes-requires-clause-there c = omega (arith, HasItsLength-head c.args.plain.now c.in-Ok.head c.requires.there (sym c.requires.head ∙ c.in-Ok.is))
+read_packet_and_fixes-requires-clause-there c = omega (arith, HasItsLength-head c.args.bare.now c.in-Ok.head c.requires.there (sym c.requires.head ∙ c.in-Ok.is))
 
 pub returns-in-Err-clause-body : goal.returns-in-Err-clause-body
 returns-in-Err-clause-body c =
     ap Err c.one.ensures
     ∙ sym (packet_body_from-bad c.in-Err.field)
-    ∙ ap packet_body_from (sym (packet_reading_of-bad c.args.plain.now c.in-Err.field (sym c.requires.head ∙ c.in-Err.is)))
+    ∙ ap packet_body_from (sym (packet_reading_of-bad c.args.bare.now c.in-Err.field (sym c.requires.head ∙ c.in-Err.is)))
 
 pub returns-in-Err-clause-fixes : goal.returns-in-Err-clause-fixes
 returns-in-Err-clause-fixes c = λ nac body made. absurd (cc)
@@ -23,12 +23,12 @@ returns-in-Err-clause-fixes c = λ nac body made. absurd (cc)
 pub returns-in-Ok-clause-body : goal.returns-in-Ok-clause-body
 returns-in-Ok-clause-body c =
     c.packet_body.ensures
-    ∙ ap packet_body_from (c.read_packet_and_fixes.ensures.packet ∙ sym (packet_reading_of-good c.args.plain.now c.in-Ok.head (sym c.requires.head ∙ c.in-Ok.is)))
+    ∙ ap packet_body_from (c.read_packet_and_fixes.ensures.packet ∙ sym (packet_reading_of-good c.args.bare.now c.in-Ok.head (sym c.requires.head ∙ c.in-Ok.is)))
 
 pub returns-in-Ok-clause-fixes : goal.returns-in-Ok-clause-fixes
 returns-in-Ok-clause-fixes c = λ nac body made.
-    packet_body-fixes c.args.plain.now c.read_packet_and_fixes.result body c.read_packet_and_fixes.new.fixes
-    (c.read_packet_and_fixes.ensures.packet ∙ sym (packet_reading_of-good c.args.plain.now c.in-Ok.head (sym c.requires.head ∙ c.in-Ok.is)))
+    packet_body-fixes c.args.bare.now c.read_packet_and_fixes.result body c.read_packet_and_fixes.new.fixes
+    (c.read_packet_and_fixes.ensures.packet ∙ sym (packet_reading_of-good c.args.bare.now c.in-Ok.head (sym c.requires.head ∙ c.in-Ok.is)))
     (sym c.packet_body.ensures ∙ made)
     c.read_packet_and_fixes.ensures.fixes
     nac

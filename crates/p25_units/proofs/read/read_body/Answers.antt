@@ -1,6 +1,6 @@
 use Rattle.std.proofs.Common.{◌≡◌, ◌*◌, ◌/◌, ap, sym, ◌∙◌, subst, arith, drop, length}
 use Rattle.p25_bits.specs.Bits.{part}
-use Rattle.p25_status.specs.Woven.{plain_of}
+use Rattle.p25_status.specs.Woven.{bare_of}
 use Rattle.p25_voice_units.specs.Readings.{voice_reading_of}
 use Rattle.p25_packet_blocks.specs.Reading.{head_reading_of, packet_reading_of, HasItsLength}
 use Rattle.p25_units.specs.Needs.{kind_need}
@@ -26,31 +26,31 @@ read_head-head-requires-clause-there c =
 pub read_packet_body-requires-clause-head : goal.read_packet_body-requires-clause-head
 read_packet_body-requires-clause-head c =
     let kind = ap (λ duid. kind_need duid (drop c.args.at c.args.bits.now)) (sym c.if-duid-eq-PDU.true) ∙ c.requires.kind in
-    c.read_head-head.ensures.value ∙ (IsPacketAt-kind c.args.bits.now c.args.at c.args.count c.requires.there kind).head ∙ ap head_reading_of (sym c.unweave.ensures.plain)
+    c.read_head-head.ensures.value ∙ (IsPacketAt-kind c.args.bits.now c.args.at c.args.count c.requires.there kind).head ∙ ap head_reading_of (sym c.unweave.ensures.bare)
 
 pub read_packet_body-requires-clause-there : goal.read_packet_body-requires-clause-there
 read_packet_body-requires-clause-there c =
     let kind = ap (λ duid. kind_need duid (drop c.args.at c.args.bits.now)) (sym c.if-duid-eq-PDU.true) ∙ c.requires.kind in
-    subst HasItsLength (sym c.unweave.ensures.plain) (IsPacketAt-kind c.args.bits.now c.args.at c.args.count c.requires.there kind).has
+    subst HasItsLength (sym c.unweave.ensures.bare) (IsPacketAt-kind c.args.bits.now c.args.at c.args.count c.requires.there kind).has
 
 pub returns-then-duid-eq-PDU-clause-body : goal.returns-then-duid-eq-PDU-clause-body
 returns-then-duid-eq-PDU-clause-body c =
-    let plain = plain_of (part c.args.at c.args.count c.args.bits.now) in
+    let bare = bare_of (part c.args.at c.args.count c.args.bits.now) in
     c.read_packet_body.ensures.body
-    ∙ ap (λ xs. packet_body_from (packet_reading_of xs)) c.unweave.ensures.plain
-    ∙ sym (body_reading_of-packet plain)
-    ∙ ap (λ duid. body_reading_of duid plain) (sym c.if-duid-eq-PDU.true)
+    ∙ ap (λ xs. packet_body_from (packet_reading_of xs)) c.unweave.ensures.bare
+    ∙ sym (body_reading_of-packet bare)
+    ∙ ap (λ duid. body_reading_of duid bare) (sym c.if-duid-eq-PDU.true)
 
 pub read_voice_body-requires : goal.read_voice_body-requires
 read_voice_body-requires c =
     let counted = IsCountAt-kind c.args.duid c.args.bits.now c.args.at c.args.count c.requires.there c.requires.kind in
     let whole : 72 * (c.args.count / 72) ≡ c.args.count = omega (arith, counted.whole) in
-    let long : length c.unweave.new.out ≡ 70 * (c.args.count / 72) = omega (arith, c.unweave.ensures.plain_len, c.unweave.ensures.len) in
+    let long : length c.unweave.new.out ≡ 70 * (c.args.count / 72) = omega (arith, c.unweave.ensures.bare_len, c.unweave.ensures.len) in
     voice_long c.args.duid c.args.bits.now c.args.at c.args.count c.unweave.new.out c.if-duid-eq-PDU.false c.requires.kind whole long counted.there
 
 pub returns-clause-body : goal.returns-clause-body
 returns-clause-body c =
-    let plain = plain_of (part c.args.at c.args.count c.args.bits.now) in
+    let bare = bare_of (part c.args.at c.args.count c.args.bits.now) in
     c.read_voice_body.ensures
-    ∙ ap (λ xs. body_from (voice_reading_of c.args.duid xs)) c.unweave.ensures.plain
-    ∙ sym (body_reading_of-voice c.args.duid plain c.if-duid-eq-PDU.false)
+    ∙ ap (λ xs. body_from (voice_reading_of c.args.duid xs)) c.unweave.ensures.bare
+    ∙ sym (body_reading_of-voice c.args.duid bare c.if-duid-eq-PDU.false)

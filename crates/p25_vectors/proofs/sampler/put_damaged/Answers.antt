@@ -13,5 +13,5 @@ pub returns-clause-bits : goal.returns-clause-bits
 unfolding damaged_image
 returns-clause-bits c =
     let state = c.args.draws.now in
-    let plain = c.damage-flips.ensures.list ∙ ap₂ (λ (b : Body) (xs : List Bool). damaged (damaged_words b) (damage_counts b state) xs) c.body.ensures c.unit_image.ensures.list in
-    c.weave.ensures.list ∙ ap (λ (xs : List Bool). woven xs c.args.frame.now.statuses) plain
+    let bare = c.damage-flips.ensures.list ∙ ap₂ (λ (b : Body) (xs : List Bool). damaged (damaged_words b) (damage_counts b state) xs) c.body.ensures c.unit_image.ensures.list in
+    c.weave.ensures.list ∙ ap (λ (xs : List Bool). woven xs c.args.frame.now.statuses) bare

@@ -9,8 +9,8 @@ use Rattle.p25_voice_units.proofs.laws.radius_laws.Goals as goal
 
 pub returns : goal.returns
 returns c = record {
-  kind = λ duid plain unit read. (unit_read duid plain unit read).kind;
-  sendable = λ duid plain unit read. (unit_read duid plain unit read).sendable;
+  kind = λ duid bare unit read. (unit_read duid bare unit read).kind;
+  sendable = λ duid bare unit read. (unit_read duid bare unit read).sendable;
   within = λ nac unit received keeps long near. voice_within nac unit (voice_image_of nac unit) received keeps (IsVoiceImage-voice_image_of nac unit keeps) long near;
   words = λ nac unit received keeps long few. within_from_words nac unit (voice_image_of nac unit) received (IsVoiceImage-voice_image_of nac unit keeps) long few;
   undamaged = λ nac unit keeps. within_itself nac unit (voice_image_of nac unit) (IsVoiceImage-voice_image_of nac unit keeps);

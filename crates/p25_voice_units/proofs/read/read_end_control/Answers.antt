@@ -14,14 +14,14 @@ use Rattle.p25_voice_units.proofs.read.read_end_control.Goals as goal
 pub returns-in-Some-clause-value : goal.returns-in-Some-clause-value
 unfolding link_in word_places places_from
 returns-in-Some-clause-value c =
-    part_some link_of_symbols c.read_symbols.result (field_reading_of tdulc_layout c.args.plain.now) c.in-Some.symbols c.from_symbols.result c.in-Some.is c.read_symbols.ensures.value c.from_symbols.ensures.value
+    part_some link_of_symbols c.read_symbols.result (field_reading_of tdulc_layout c.args.bare.now) c.in-Some.symbols c.from_symbols.result c.in-Some.is c.read_symbols.ensures.value c.from_symbols.ensures.value
 
 pub returns-in-Some-clause-fixes : goal.returns-in-Some-clause-fixes
 unfolding word_places places_from
 returns-in-Some-clause-fixes c =
     let counted = some_at _ c.read_symbols.result c.in-Some.symbols c.read_symbols.ensures.fixes c.in-Some.is in
-    counted golay24_word golay24_encodes ∙ ap (λ symbols. c.args.fixes.now + field_fixes_of golay24_word 24 2 (word_places 24 tdulc_rows) (rs_word 24 12 symbols) c.args.plain.now) (sym c.from_symbols.ensures.back)
+    counted golay24_word golay24_encodes ∙ ap (λ symbols. c.args.fixes.now + field_fixes_of golay24_word 24 2 (word_places 24 tdulc_rows) (rs_word 24 12 symbols) c.args.bare.now) (sym c.from_symbols.ensures.back)
 
 pub returns-in-None-clause-value : goal.returns-in-None-clause-value
 unfolding link_in word_places places_from
-returns-in-None-clause-value c = part_none link_of_symbols c.read_symbols.result (field_reading_of tdulc_layout c.args.plain.now) c.in-None.is c.read_symbols.ensures.value
+returns-in-None-clause-value c = part_none link_of_symbols c.read_symbols.result (field_reading_of tdulc_layout c.args.bare.now) c.in-None.is c.read_symbols.ensures.value

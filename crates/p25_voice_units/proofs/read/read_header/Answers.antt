@@ -11,7 +11,7 @@ returns-in-Some-clause-value c = ap header_from (sym c.in-Some.is ∙ c.read_hea
 pub returns-in-Some-clause-fixes : goal.returns-in-Some-clause-fixes
 returns-in-Some-clause-fixes c =
     let counted = some_at _ c.read_header_word.result c.in-Some.word c.read_header_word.ensures.fixes c.in-Some.is in
-    header_fixes c.in-Some.word c.args.plain.now c.read_header_word.new.fixes (omega (arith, counted, c.requires.none))
+    header_fixes c.in-Some.word c.args.bare.now c.read_header_word.new.fixes (omega (arith, counted, c.requires.none))
 
 pub returns-in-None-clause-value : goal.returns-in-None-clause-value
 unfolding header_from

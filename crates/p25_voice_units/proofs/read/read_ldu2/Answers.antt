@@ -11,28 +11,28 @@ pub returns-in_default-clause-value : goal.returns-in_default-clause-value
 returns-in_default-clause-value c =
     ap Err c.failing_of-fields.ensures
     ∙ sym (ldu2_fails c.read_frames-voice.result c.read_encryption_sync-sync.result c.read_low-first.result c.read_low-second.result (λ x first second is a b. c.in_default.not-Some x is))
-    ∙ ldu2_parts c.args.plain.now c.read_frames-voice.result c.read_encryption_sync-sync.result c.read_low-first.result c.read_low-second.result
+    ∙ ldu2_parts c.args.bare.now c.read_frames-voice.result c.read_encryption_sync-sync.result c.read_low-first.result c.read_low-second.result
     c.read_frames-voice.ensures c.read_encryption_sync-sync.ensures.value c.read_low-first.ensures.value c.read_low-second.ensures.value
 
 pub returns-in_default-first-clause-value : goal.returns-in_default-first-clause-value
 returns-in_default-first-clause-value c =
     ap Err c.failing_of-fields.ensures
     ∙ sym (ldu2_fails c.read_frames-voice.result c.read_encryption_sync-sync.result c.read_low-first.result c.read_low-second.result (λ x first second a is b. c.in_default-first.not-Some first is))
-    ∙ ldu2_parts c.args.plain.now c.read_frames-voice.result c.read_encryption_sync-sync.result c.read_low-first.result c.read_low-second.result
+    ∙ ldu2_parts c.args.bare.now c.read_frames-voice.result c.read_encryption_sync-sync.result c.read_low-first.result c.read_low-second.result
     c.read_frames-voice.ensures c.read_encryption_sync-sync.ensures.value c.read_low-first.ensures.value c.read_low-second.ensures.value
 
 pub returns-in_default-second-clause-value : goal.returns-in_default-second-clause-value
 returns-in_default-second-clause-value c =
     ap Err c.failing_of-fields.ensures
     ∙ sym (ldu2_fails c.read_frames-voice.result c.read_encryption_sync-sync.result c.read_low-first.result c.read_low-second.result (λ x first second a b is. c.in_default-second.not-Some second is))
-    ∙ ldu2_parts c.args.plain.now c.read_frames-voice.result c.read_encryption_sync-sync.result c.read_low-first.result c.read_low-second.result
+    ∙ ldu2_parts c.args.bare.now c.read_frames-voice.result c.read_encryption_sync-sync.result c.read_low-first.result c.read_low-second.result
     c.read_frames-voice.ensures c.read_encryption_sync-sync.ensures.value c.read_low-first.ensures.value c.read_low-second.ensures.value
 
 pub returns-clause-value : goal.returns-clause-value
 returns-clause-value c =
     sym (ldu2_whole c.read_frames-voice.result c.read_encryption_sync-sync.result c.read_low-first.result c.read_low-second.result c.in-Some.sync c.in-Some-first.first c.in-Some-second.second
     c.in-Some.is c.in-Some-first.is c.in-Some-second.is)
-    ∙ ldu2_parts c.args.plain.now c.read_frames-voice.result c.read_encryption_sync-sync.result c.read_low-first.result c.read_low-second.result
+    ∙ ldu2_parts c.args.bare.now c.read_frames-voice.result c.read_encryption_sync-sync.result c.read_low-first.result c.read_low-second.result
     c.read_frames-voice.ensures c.read_encryption_sync-sync.ensures.value c.read_low-first.ensures.value c.read_low-second.ensures.value
 
 pub returns-clause-fixes : goal.returns-clause-fixes
@@ -42,6 +42,6 @@ returns-clause-fixes c =
     let field = some_at _ c.read_encryption_sync-sync.result c.in-Some.sync c.read_encryption_sync-sync.ensures.fixes c.in-Some.is in
     let low_first = some_at _ c.read_low-first.result first c.read_low-first.ensures.fixes c.in-Some-first.is in
     let low_second = some_at _ c.read_low-second.result second c.read_low-second.ensures.fixes c.in-Some-second.is in
-    let speech = speech_keeps first second c.args.plain.now (sym c.read_low-first.ensures.value ∙ c.in-Some-first.is) (sym c.read_low-second.ensures.value ∙ c.in-Some-second.is) in
-    ldu2_fixes c.in-Some.sync first second c.read_frames-voice.result c.args.plain.now c.read_low-second.new.fixes
+    let speech = speech_keeps first second c.args.bare.now (sym c.read_low-first.ensures.value ∙ c.in-Some-first.is) (sym c.read_low-second.ensures.value ∙ c.in-Some-second.is) in
+    ldu2_fixes c.in-Some.sync first second c.read_frames-voice.result c.args.bare.now c.read_low-second.new.fixes
     (subst (λ (frames : List VoiceFrame). IsSpeech (first ∷ second ∷ []) frames) (sym c.read_frames-voice.ensures) speech) c.requires.there (omega (arith, field, low_first, low_second, c.requires.none))

@@ -11,7 +11,7 @@ returns-in-Some-clause-value c = ap tdulc_from (sym c.in-Some.is ∙ c.read_end_
 pub returns-in-Some-clause-fixes : goal.returns-in-Some-clause-fixes
 returns-in-Some-clause-fixes c =
     let counted = some_at _ c.read_end_control.result c.in-Some.link c.read_end_control.ensures.fixes c.in-Some.is in
-    tdulc_fixes c.in-Some.link c.args.plain.now c.read_end_control.new.fixes (omega (arith, counted, c.requires.none))
+    tdulc_fixes c.in-Some.link c.args.bare.now c.read_end_control.new.fixes (omega (arith, counted, c.requires.none))
 
 pub returns-in-None-clause-value : goal.returns-in-None-clause-value
 unfolding tdulc_from

@@ -6,38 +6,38 @@ use Rattle.p25_voice_units.proofs.CountedLaws.{end_fixes}
 use Rattle.p25_voice_units.proofs.read.read_voice_counted.Goals as goal
 
 pub read_header-requires-clause-there : goal.read_header-requires-clause-there
-read_header-requires-clause-there c = omega (arith, long_by_kind c.args.duid 0 770 (length c.args.plain.now) c.in-0.is length-header c.requires)
+read_header-requires-clause-there c = omega (arith, long_by_kind c.args.duid 0 770 (length c.args.bare.now) c.in-0.is length-header c.requires)
 
 pub read_ldu1-requires-clause-there : goal.read_ldu1-requires-clause-there
-read_ldu1-requires-clause-there c = omega (arith, long_by_kind c.args.duid 5 1680 (length c.args.plain.now) c.in-5.is length-ldu1 c.requires)
+read_ldu1-requires-clause-there c = omega (arith, long_by_kind c.args.duid 5 1680 (length c.args.bare.now) c.in-5.is length-ldu1 c.requires)
 
 pub read_ldu2-requires-clause-there : goal.read_ldu2-requires-clause-there
-read_ldu2-requires-clause-there c = omega (arith, long_by_kind c.args.duid 10 1680 (length c.args.plain.now) c.in-10.is length-ldu2 c.requires)
+read_ldu2-requires-clause-there c = omega (arith, long_by_kind c.args.duid 10 1680 (length c.args.bare.now) c.in-10.is length-ldu2 c.requires)
 
 pub read_tdulc-requires-clause-there : goal.read_tdulc-requires-clause-there
-read_tdulc-requires-clause-there c = omega (arith, long_by_kind c.args.duid 15 420 (length c.args.plain.now) c.in-15.is length-tdulc c.requires)
+read_tdulc-requires-clause-there c = omega (arith, long_by_kind c.args.duid 15 420 (length c.args.bare.now) c.in-15.is length-tdulc c.requires)
 
 pub returns-in-0-clause-value : goal.returns-in-0-clause-value
-returns-in-0-clause-value c = reading_by_kind c.args.duid 0 c.args.plain.now c.read_header.result _ c.in-0.is c.read_header.ensures.value (reading-header c.args.plain.now)
+returns-in-0-clause-value c = reading_by_kind c.args.duid 0 c.args.bare.now c.read_header.result _ c.in-0.is c.read_header.ensures.value (reading-header c.args.bare.now)
 
 pub returns-in-3-clause-value : goal.returns-in-3-clause-value
-returns-in-3-clause-value c = reading_by_kind c.args.duid 3 c.args.plain.now _ _ c.in-3.is refl (reading-end c.args.plain.now)
+returns-in-3-clause-value c = reading_by_kind c.args.duid 3 c.args.bare.now _ _ c.in-3.is refl (reading-end c.args.bare.now)
 
 pub returns-in-5-clause-value : goal.returns-in-5-clause-value
-returns-in-5-clause-value c = reading_by_kind c.args.duid 5 c.args.plain.now c.read_ldu1.result _ c.in-5.is c.read_ldu1.ensures.value (reading-ldu1 c.args.plain.now)
+returns-in-5-clause-value c = reading_by_kind c.args.duid 5 c.args.bare.now c.read_ldu1.result _ c.in-5.is c.read_ldu1.ensures.value (reading-ldu1 c.args.bare.now)
 
 pub returns-in-10-clause-value : goal.returns-in-10-clause-value
-returns-in-10-clause-value c = reading_by_kind c.args.duid 10 c.args.plain.now c.read_ldu2.result _ c.in-10.is c.read_ldu2.ensures.value (reading-ldu2 c.args.plain.now)
+returns-in-10-clause-value c = reading_by_kind c.args.duid 10 c.args.bare.now c.read_ldu2.result _ c.in-10.is c.read_ldu2.ensures.value (reading-ldu2 c.args.bare.now)
 
 pub returns-in-15-clause-value : goal.returns-in-15-clause-value
-returns-in-15-clause-value c = reading_by_kind c.args.duid 15 c.args.plain.now c.read_tdulc.result _ c.in-15.is c.read_tdulc.ensures.value (reading-tdulc c.args.plain.now)
+returns-in-15-clause-value c = reading_by_kind c.args.duid 15 c.args.bare.now c.read_tdulc.result _ c.in-15.is c.read_tdulc.ensures.value (reading-tdulc c.args.bare.now)
 
 pub returns-in_default-clause-value : goal.returns-in_default-clause-value
 returns-in_default-clause-value c =
     let none : voice_length_of c.args.duid ≡ None
     = length-other c.args.duid (λ is. omega arith) (λ is. omega arith) (λ is. omega arith) (λ is. omega arith) (λ is. omega arith) in
-    let both : None ≡ Some (length c.args.plain.now) = sym none ∙ c.requires in
+    let both : None ≡ Some (length c.args.bare.now) = sym none ∙ c.requires in
     absurd (cc)
 
 pub returns-in-3-clause-fixes : goal.returns-in-3-clause-fixes
-returns-in-3-clause-fixes c = end_fixes c.args.plain.now
+returns-in-3-clause-fixes c = end_fixes c.args.bare.now

@@ -17,6 +17,6 @@ returns c =
     let fits : field_of info * 2 ^ 47 < 18446744073709551616 = omega arith in
     let message : c.number_of.result * 2 ^ 47 % 18446744073709551616 ≡ field_of info * 2 ^ 47 = ap (λ n. n * 2 ^ 47 % 18446744073709551616) c.number_of.ensures.value ∙ mod-eq_of_lt fits in
     let is = subst (λ (n : ℕ). IsRemainder generator 47 n r) message c.number_remainder-remainder.ensures.is in
-    let places : length c.split_at_mut-front.result.1.now ≡ 47 = omega (arith, c.requires.word) in
+    let places : length c.split_at_mut-beginning.result.1.now ≡ 47 = omega (arith, c.requires.word) in
     let word = ap₂ ◌++◌ c.copy_from_slice.ensures.after (c.put_number.ensures ∙ ap (λ n. bits_of n r) places) in
     subst (IsEncoding IsBch63 16 info) (sym word) (IsEncoding-encoded_by info r c.requires.info is)

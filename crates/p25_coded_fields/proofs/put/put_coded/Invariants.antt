@@ -1,6 +1,6 @@
 use Rattle.std.proofs.Common.{◌≡◌, ◌+◌, ◌*◌, ◌/◌, length}
 use Rattle.p25_coded_fields.specs.Written.{IsWritten}
-use Rattle.p25_coded_fields.proofs.put.put_field.Given as goal
+use Rattle.p25_coded_fields.proofs.put.put_coded.Given as goal
 
 abbrev pub invariant-loop-i : goal.invariant-loop-i
 invariant-loop-i g l =

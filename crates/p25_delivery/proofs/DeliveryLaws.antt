@@ -1,4 +1,4 @@
--- A packet that is heard and true to the one sent keeps a link in a phase: each phase in turn, by what the station answers
+-- A packet that is heard and true to the one sent keeps a delivery in a phase: each phase in turn, by what the station answers
 -- there. And so does every event of a clean run.
 use Rattle.std.proofs.Common.{◌≡◌, ℕ, ◌+◌, ◌%◌, ◌<◌, ◌≤◌, ◌⊎◌, inl, inr, Bool, true, false, List, [], ◌∷◌, length, Option, Some, None, refl, ap, sym, ◌∙◌, subst, arith, length-append}
 use Rattle.std.specs.Prelude.{IfSome}
@@ -20,8 +20,8 @@ use Rattle.p25_delivery.specs.declared.receiver.Heard.{Heard}
 use Rattle.p25_delivery.specs.declared.step_kind.StepKind.TheVariants.{Reopened}
 use Rattle.p25_delivery.specs.Halves.{Outgoing}
 use Rattle.p25_delivery.specs.HalfRules.{after_reopening, after_data, after_answer}
-use Rattle.p25_delivery.specs.Link.{Session, Link, first_link, last_mark, sessions_of, present_session, first_number, newest_after, with_outbound, with_inbound, Happening, Offering, Time_up, Opening_again, Data_heard, Answer_heard, happens, link_run}
-use Rattle.p25_delivery.specs.Facts.{IsDataOf, KeepsOf, LinkFacts}
+use Rattle.p25_delivery.specs.Delivery.{Session, Delivery, first_delivery, last_mark, sessions_of, present_session, first_number, newest_after, with_outbound, with_inbound, Happening, Offering, Time_up, Opening_again, Data_heard, Answer_heard, happens, delivery_run}
+use Rattle.p25_delivery.specs.Facts.{IsDataOf, KeepsOf, DeliveryFacts}
 use Rattle.p25_delivery.specs.Clean.{IsTrueTo, IsHeardOf, IsClean, IsCleanRun}
 use Rattle.p25_delivery.specs.Orderly.{IsOrderly, AreOrderly}
 use Rattle.p25_delivery.specs.AtOnce.{DeliversAtOnce}
@@ -30,22 +30,22 @@ use Rattle.p25_delivery.proofs.ReceiverLaws.{HearsNext, ignores, keeps, delivers
 use Rattle.p25_delivery.proofs.SenderLaws.{IsSame, RetriesOf, HearsAnswer, goes_on, stays, HearsOpening, opens, waits, acks, acks-ack, acks-retry, message-answer, opening-answer, quiet-answer, reopen-cases}
 use Rattle.p25_delivery.proofs.SessionLaws.{with_delivered, with_acknowledged, one_delivered, one_acknowledged, IsMarked, first-divided, present-delivered, present-acknowledged}
 use Rattle.p25_delivery.proofs.EndedLaws.{happens-divided}
-use Rattle.p25_delivery.proofs.PhaseLaws.{IsQuietData, IsQuiet, IsWaitingAnswer, IsWaiting, IsArrived, IsBusy, IsOpeningAnswer, IsOpening, IsLinked, IsLinkedNow, quiet, busy, opening, IsKept, orderly-linked, orderly-kept}
-use Rattle.p25_delivery.proofs.FactsLaws.{facts-linked}
+use Rattle.p25_delivery.proofs.PhaseLaws.{IsQuietData, IsQuiet, IsWaitingAnswer, IsWaiting, IsArrived, IsBusy, IsOpeningAnswer, IsOpening, IsDelivering, IsDeliveringNow, quiet, busy, opening, IsKept, orderly-delivering, orderly-kept}
+use Rattle.p25_delivery.proofs.FactsLaws.{facts-delivering}
 use Rattle.p25_delivery.proofs.RunLaws.{run-keeps}
-use Rattle.p25_delivery.proofs.AtOnceLaws.{delivers-linked}
-use Rattle.p25_delivery.proofs.CallLaws.{newest, link_of_sender, busy-sender, busy-data, offer-phase, timeout-phase, reopen-phase}
+use Rattle.p25_delivery.proofs.AtOnceLaws.{delivers-delivering}
+use Rattle.p25_delivery.proofs.CallLaws.{newest, delivery_of_sender, busy-sender, busy-data, offer-phase, timeout-phase, reopen-phase}
 
--- a link with another receiver, and another newest answer beside it
-abbrev link_of_answer : Link → Receiving → Packet → Link
-link_of_answer w r packet = record w { inbound = record w.inbound { receiver = r }; answer = Some packet }
+-- a delivery with another receiver, and another newest answer beside it
+abbrev delivery_of_answer : Delivery → Receiving → Packet → Delivery
+delivery_of_answer w r packet = record w { inbound = record w.inbound { receiver = r }; answer = Some packet }
 
 -- the receiver hears a packet
 
-AfterData : Link → Receiving × Heard → Type 0
-AfterData w x = IsLinkedNow (with_inbound w (after_data w.inbound x)).0
+AfterData : Delivery → Receiving × Heard → Type 0
+AfterData w x = IsDeliveringNow (with_inbound w (after_data w.inbound x)).0
 
-quiet-heard : (last b : ℕ) (s : Session) (w : Link) (r : Receiving) → IsQuiet last b s w → r.last ≡ last → r.kept ≡ None → IsQuiet last b s (link_of_answer w r (ack_packet last))
+quiet-heard : (last b : ℕ) (s : Session) (w : Delivery) (r : Receiving) → IsQuiet last b s w → r.last ≡ last → r.kept ≡ None → IsQuiet last b s (delivery_of_answer w r (ack_packet last))
 quiet-heard last b s w r q l k = record {
   up = q.up;
   outstanding = q.outstanding;
@@ -61,7 +61,7 @@ quiet-heard last b s w r q l k = record {
 }
 
 -- a message that is outstanding has come to another place
-busy-place : (number : ℕ) (message : List ℕ) (b : ℕ) (s t : Session) (w v : Link) → v.outbound.sender ≡ w.outbound.sender → v.packet_sent ≡ w.packet_sent → t.acknowledged ≡ s.acknowledged → IsBusy number message b s w →
+busy-place : (number : ℕ) (message : List ℕ) (b : ℕ) (s t : Session) (w v : Delivery) → v.outbound.sender ≡ w.outbound.sender → v.packet_sent ≡ w.packet_sent → t.acknowledged ≡ s.acknowledged → IsBusy number message b s w →
     IsWaiting number message t v.inbound.receiver v.answer ⊎ IsArrived number message t v.inbound.receiver v.answer → IsBusy number message b t v
 busy-place number message b s t w v sender packet a h place = record {
   next = ap (λ (x : Sending). x.next) sender ∙ h.next;
@@ -87,7 +87,7 @@ waiting-delivered number message s r answered h = record { last_is = refl; kept 
 arrived-again : (number : ℕ) (message : List ℕ) (s : Session) (r : Receiving) (answered : Option Packet) → IsArrived number message s r answered → IsArrived number message s r (Some (ack_packet r.last))
 arrived-again number message s r answered h = record { last_is = h.last_is; kept = h.kept; answer = ap ack_packet h.last_is; earlier = h.earlier; sent = h.sent; delivered = h.delivered; acknowledged = h.acknowledged }
 
-opening-heard : (number b : ℕ) (s : Session) (w : Link) → IsOpening number b s w → IsOpening number b s (link_of_answer w (record { last = number; kept = None }) (ack_packet number))
+opening-heard : (number b : ℕ) (s : Session) (w : Delivery) → IsOpening number b s w → IsOpening number b s (delivery_of_answer w (record { last = number; kept = None }) (ack_packet number))
 opening-heard number b s w h = record {
   outstanding = h.outstanding;
   small = h.small;
@@ -99,7 +99,7 @@ opening-heard number b s w h = record {
   base_is = h.base_is;
 }
 
-data-quiet : (last : ℕ) (w : Link) (packet : Packet) → IsQuiet last (first_number w) (present_session w) w → IsHeardOf w.packet_sent packet → AfterData w (receiver_heard w.inbound.receiver packet)
+data-quiet : (last : ℕ) (w : Delivery) (packet : Packet) → IsQuiet last (first_number w) (present_session w) w → IsHeardOf w.packet_sent packet → AfterData w (receiver_heard w.inbound.receiver packet)
 unfolding AfterData with_inbound after_data newest_after
 data-quiet last w packet q heard =
     let r = w.inbound.receiver in
@@ -112,26 +112,26 @@ data-quiet last w packet q heard =
           (subst (AfterData w) (sym (opening-is_heard r last p.0 q.small p.2)) (quiet last (quiet-heard last b s w (record { last = last; kept = None }) q refl refl))))
       | inr (earlier, message, e, short, d) ↦
           (let p = data-heard last message heard.sent packet q.small short d heard.true_to in
-          let again : IsQuiet last b s (link_of_answer w r (ack_packet r.last))
-          = subst (λ (n : ℕ). IsQuiet last b s (link_of_answer w r (ack_packet n))) (sym q.last_is) (quiet-heard last b s w r q q.last_is q.kept) in
+          let again : IsQuiet last b s (delivery_of_answer w r (ack_packet r.last))
+          = subst (λ (n : ℕ). IsQuiet last b s (delivery_of_answer w r (ack_packet n))) (sym q.last_is) (quiet-heard last b s w r q q.last_is q.kept) in
           subst (λ (x : Packet). AfterData w (receiver_heard r x)) (sym p.1) (subst (AfterData w) (sym (last-heard r last message p.0 q.last_is p.2)) (quiet last again)))
     ]
 
-data-waiting : (number : ℕ) (message : List ℕ) (w : Link) (x : Receiving × Heard) → IsMarked w → IsBusy number message (first_number w) (present_session w) w → IsWaiting number message (present_session w) w.inbound.receiver w.answer →
+data-waiting : (number : ℕ) (message : List ℕ) (w : Delivery) (x : Receiving × Heard) → IsMarked w → IsBusy number message (first_number w) (present_session w) w → IsWaiting number message (present_session w) w.inbound.receiver w.answer →
     HearsNext w.inbound.receiver number message x → AfterData w x
 unfolding AfterData with_inbound after_data newest_after
 data-waiting number message w x m h p (ignores e) = subst (AfterData w) (sym e) (busy number message h)
 data-waiting number message w x m h p (keeps kept k e) =
     let s = present_session w in
-    let now = link_of_answer w (record { last = w.inbound.receiver.last; kept = Some kept }) (retry_packet number (held_flags kept.places)) in
+    let now = delivery_of_answer w (record { last = w.inbound.receiver.last; kept = Some kept }) (retry_packet number (held_flags kept.places)) in
     subst (AfterData w) (sym e) (busy number message (busy-place number message (first_number w) s s w now refl refl refl h (inl (waiting-kept number message s w.inbound.receiver w.answer kept p k))))
 data-waiting number message w x m h p (delivers e) =
     let s = present_session w in
-    let now = link_of_answer (one_delivered w message) (record { last = number; kept = None }) (ack_packet number) in
+    let now = delivery_of_answer (one_delivered w message) (record { last = number; kept = None }) (ack_packet number) in
     let arrives = busy-place number message (first_number w) s (with_delivered s message) w now refl refl refl h (inr (waiting-delivered number message s w.inbound.receiver w.answer p)) in
     subst (AfterData w) (sym e) (busy number message (subst (λ (t : Session). IsBusy number message (first_number w) t now) (sym (present-delivered w message m)) arrives))
 
-data-busy : (number : ℕ) (message : List ℕ) (w : Link) (packet : Packet) → IsMarked w → IsBusy number message (first_number w) (present_session w) w → IsHeardOf w.packet_sent packet →
+data-busy : (number : ℕ) (message : List ℕ) (w : Delivery) (packet : Packet) → IsMarked w → IsBusy number message (first_number w) (present_session w) w → IsHeardOf w.packet_sent packet →
     IsWaiting number message (present_session w) w.inbound.receiver w.answer ⊎ IsArrived number message (present_session w) w.inbound.receiver w.answer → AfterData w (receiver_heard w.inbound.receiver packet)
 unfolding AfterData with_inbound after_data newest_after
 data-busy number message w packet m h heard place =
@@ -144,10 +144,10 @@ data-busy number message w packet m h heard place =
       | inl here ↦ data-waiting number message w (receiver_heard r (Confirmed p.0)) m h here (next-heard r number message p.0 here.last_small here.sync here.kept p.2)
       | inr came ↦
           subst (AfterData w) (sym (last-heard r number message p.0 came.last_is p.2))
-          (busy number message (busy-place number message (first_number w) s s w (link_of_answer w r (ack_packet r.last)) refl refl refl h (inr (arrived-again number message s r w.answer came))))
+          (busy number message (busy-place number message (first_number w) s s w (delivery_of_answer w r (ack_packet r.last)) refl refl refl h (inr (arrived-again number message s r w.answer came))))
     ])
 
-data-opening : (number : ℕ) (w : Link) (packet : Packet) → IsOpening number (first_number w) (present_session w) w → IsHeardOf w.packet_sent packet → AfterData w (receiver_heard w.inbound.receiver packet)
+data-opening : (number : ℕ) (w : Delivery) (packet : Packet) → IsOpening number (first_number w) (present_session w) w → IsHeardOf w.packet_sent packet → AfterData w (receiver_heard w.inbound.receiver packet)
 unfolding AfterData with_inbound after_data newest_after
 data-opening number w packet h heard =
     let r = w.inbound.receiver in
@@ -156,17 +156,17 @@ data-opening number w packet h heard =
     subst (λ (x : Packet). AfterData w (receiver_heard r x)) (sym p.1)
     (subst (AfterData w) (sym (opening-is_heard r number p.0 h.small p.2)) (opening number (opening-heard number (first_number w) (present_session w) w h)))
 
-data-phase : (w : Link) (packet : Packet) → IsMarked w → IsLinkedNow w → IsHeardOf w.packet_sent packet → AfterData w (receiver_heard w.inbound.receiver packet)
+data-phase : (w : Delivery) (packet : Packet) → IsMarked w → IsDeliveringNow w → IsHeardOf w.packet_sent packet → AfterData w (receiver_heard w.inbound.receiver packet)
 data-phase w packet m (quiet last q) heard = data-quiet last w packet q heard
 data-phase w packet m (busy number message h) heard = data-busy number message w packet m h heard h.place
 data-phase w packet m (opening number h) heard = data-opening number w packet h heard
 
 -- the sender hears a packet
 
-AfterAnswer : Link → Sending × SenderHeard → Type 0
-AfterAnswer w x = IsLinkedNow (with_outbound w (after_answer w.outbound x)).0
+AfterAnswer : Delivery → Sending × SenderHeard → Type 0
+AfterAnswer w x = IsDeliveringNow (with_outbound w (after_answer w.outbound x)).0
 
-busy-stays : (number : ℕ) (message : List ℕ) (w : Link) (x : Sending × SenderHeard) → IsBusy number message (first_number w) (present_session w) w → IsSame w.outbound.sender x.0 → RetriesOf number message x.1 → AfterAnswer w x
+busy-stays : (number : ℕ) (message : List ℕ) (w : Delivery) (x : Sending × SenderHeard) → IsBusy number message (first_number w) (present_session w) w → IsSame w.outbound.sender x.0 → RetriesOf number message x.1 → AfterAnswer w x
 unfolding AfterAnswer with_outbound after_answer newest_after
 busy-stays number message w (t, Acknowledged n) h e r = absurd r
 busy-stays number message w (t, SenderOpened n) h e r = absurd r
@@ -185,8 +185,8 @@ waiting-unacknowledged number r sent packet small last sync (inr (kept, k, e)) t
     let is : packet ≡ retry_packet number (held_flags kept.places) = retry-heard number (held_flags kept.places) sent packet e t ∙ e in
     acks-retry number number (held_flags kept.places) small (subst (λ (p : Packet). acks p number ≡ true) is a)
 
-arrived-acknowledged : (number : ℕ) (message : List ℕ) (b : ℕ) (s : Session) (w : Link) → IsBusy number message b s w → IsArrived number message s w.inbound.receiver w.answer →
-    IsQuiet number b (with_acknowledged s) (link_of_sender (one_acknowledged w) (sending_after number))
+arrived-acknowledged : (number : ℕ) (message : List ℕ) (b : ℕ) (s : Session) (w : Delivery) → IsBusy number message b s w → IsArrived number message s w.inbound.receiver w.answer →
+    IsQuiet number b (with_acknowledged s) (delivery_of_sender (one_acknowledged w) (sending_after number))
 arrived-acknowledged number message b s w h p = record {
   up = refl;
   outstanding = refl;
@@ -201,17 +201,17 @@ arrived-acknowledged number message b s w h p = record {
   counted = omega (arith, h.counted);
 }
 
-answer-place : (number : ℕ) (message : List ℕ) (w : Link) (packet : Packet) → IsMarked w → IsBusy number message (first_number w) (present_session w) w → IsHeardOf w.answer packet → acks packet number ≡ true →
+answer-place : (number : ℕ) (message : List ℕ) (w : Delivery) (packet : Packet) → IsMarked w → IsBusy number message (first_number w) (present_session w) w → IsHeardOf w.answer packet → acks packet number ≡ true →
     IsWaiting number message (present_session w) w.inbound.receiver w.answer ⊎ IsArrived number message (present_session w) w.inbound.receiver w.answer → AfterAnswer w (sending_after number, Acknowledged number)
 unfolding AfterAnswer with_outbound after_answer newest_after
 answer-place number message w packet m h heard a (inl p) =
     let sent = newest w.answer (IsWaitingAnswer w.inbound.receiver number) heard.sent p.answer heard.newest_is in
     absurd (waiting-unacknowledged number w.inbound.receiver heard.sent packet h.small p.last_small p.sync sent heard.true_to a)
 answer-place number message w packet m h heard a (inr p) =
-    let now = link_of_sender (one_acknowledged w) (sending_after number) in
+    let now = delivery_of_sender (one_acknowledged w) (sending_after number) in
     quiet number (subst (λ (t : Session). IsQuiet number (first_number w) t now) (sym (present-acknowledged w m)) (arrived-acknowledged number message (first_number w) (present_session w) w h p))
 
-answer-busy : (number : ℕ) (message : List ℕ) (w : Link) (packet : Packet) (x : Sending × SenderHeard) → IsMarked w → IsBusy number message (first_number w) (present_session w) w → IsHeardOf w.answer packet →
+answer-busy : (number : ℕ) (message : List ℕ) (w : Delivery) (packet : Packet) (x : Sending × SenderHeard) → IsMarked w → IsBusy number message (first_number w) (present_session w) w → IsHeardOf w.answer packet →
     HearsAnswer w.outbound.sender message packet x → AfterAnswer w x
 answer-busy number message w packet x m h heard (goes_on a e) =
     let is : x ≡ (sending_after number, Acknowledged number) = e ∙ ap (λ (n : ℕ). (sending_after n, Acknowledged n)) h.next in
@@ -219,7 +219,7 @@ answer-busy number message w packet x m h heard (goes_on a e) =
 answer-busy number message w packet x m h heard (stays t) = busy-stays number message w x h t.0 (subst (λ (n : ℕ). RetriesOf n message x.1) h.next t.1)
 
 -- an opening packet is acknowledged only once it has come
-opened-place : (number b : ℕ) (s : Session) (w : Link) (sent packet : Packet) → IsOpening number b s w → IsOpeningAnswer w.inbound.receiver.last number sent → IsTrueTo sent packet → acks packet number ≡ true →
+opened-place : (number b : ℕ) (s : Session) (w : Delivery) (sent packet : Packet) → IsOpening number b s w → IsOpeningAnswer w.inbound.receiver.last number sent → IsTrueTo sent packet → acks packet number ≡ true →
     (w.inbound.receiver.last ≡ number) × (w.inbound.receiver.kept ≡ None) × (sent ≡ ack_packet number)
 opened-place number b s w sent packet h (inl e) t a =
     let last = w.inbound.receiver.last in
@@ -233,8 +233,8 @@ opened-place number b s w sent packet h (inr (away, flags, e)) t a =
     let is : packet ≡ retry_packet ((number + 4) % 8) flags = retry-heard ((number + 4) % 8) flags sent packet e t ∙ e in
     absurd (acks-retry ((number + 4) % 8) number flags (omega arith) (subst (λ (p : Packet). acks p number ≡ true) is a))
 
-opened : (number b : ℕ) (s : Session) (w : Link) (sent : Packet) → IsOpening number b s w → w.inbound.receiver.last ≡ number → w.inbound.receiver.kept ≡ None → w.answer ≡ Some sent → sent ≡ ack_packet number →
-    IsQuiet number b s (link_of_sender w (sending_after number))
+opened : (number b : ℕ) (s : Session) (w : Delivery) (sent : Packet) → IsOpening number b s w → w.inbound.receiver.last ≡ number → w.inbound.receiver.kept ≡ None → w.answer ≡ Some sent → sent ≡ ack_packet number →
+    IsQuiet number b s (delivery_of_sender w (sending_after number))
 opened number b s w sent h l k n e = record {
   up = refl;
   outstanding = refl;
@@ -249,7 +249,8 @@ opened number b s w sent h l k n e = record {
   counted = omega (arith, h.base_is, ap (λ (t : Session). t.acknowledged) h.session_is);
 }
 
-answer-opening : (number : ℕ) (w : Link) (packet : Packet) (x : Sending × SenderHeard) → IsOpening number (first_number w) (present_session w) w → IsHeardOf w.answer packet → HearsOpening w.outbound.sender number packet x → AfterAnswer w x
+answer-opening : (number : ℕ) (w : Delivery) (packet : Packet) (x : Sending × SenderHeard) → IsOpening number (first_number w) (present_session w) w → IsHeardOf w.answer packet → HearsOpening w.outbound.sender number packet x
+    → AfterAnswer w x
 unfolding AfterAnswer with_outbound after_answer newest_after
 answer-opening number w packet x h heard (opens a e) =
     let answer = newest w.answer (IsOpeningAnswer w.inbound.receiver.last number) heard.sent h.answer heard.newest_is in
@@ -257,7 +258,7 @@ answer-opening number w packet x h heard (opens a e) =
     subst (AfterAnswer w) (sym e) (quiet number (opened number (first_number w) (present_session w) w heard.sent h place.0 place.1 heard.newest_is place.2))
 answer-opening number w packet x h heard (waits e) = subst (AfterAnswer w) (sym e) (opening number h)
 
-answer-phase : (w : Link) (packet : Packet) → IsMarked w → IsLinkedNow w → IsHeardOf w.answer packet → AfterAnswer w (sender_heard w.outbound.sender packet)
+answer-phase : (w : Delivery) (packet : Packet) → IsMarked w → IsDeliveringNow w → IsHeardOf w.answer packet → AfterAnswer w (sender_heard w.outbound.sender packet)
 unfolding AfterAnswer with_outbound after_answer newest_after
 answer-phase w packet m (quiet last q) heard = subst (AfterAnswer w) (sym (quiet-answer w.outbound.sender packet q.outstanding)) (quiet last q)
 answer-phase w packet m (busy number message h) heard = answer-busy number message w packet (sender_heard w.outbound.sender packet) m h heard (message-answer w.outbound.sender message packet h.outstanding)
@@ -265,27 +266,27 @@ answer-phase w packet m (opening number h) heard = answer-opening number w packe
 
 -- every event, and every run
 
-happens-linked : (w : Link) (event : Happening) → IsMarked w → IsLinkedNow w → IsClean w event → IsLinkedNow (happens w event).0
+happens-delivering : (w : Delivery) (event : Happening) → IsMarked w → IsDeliveringNow w → IsClean w event → IsDeliveringNow (happens w event).0
 unfolding happens IsClean AfterData AfterAnswer
-happens-linked w (Offering message) m k c = offer-phase w message m k c
-happens-linked w Time_up m k c = timeout-phase w k
-happens-linked w Opening_again m k c = reopen-phase w m k
-happens-linked w (Data_heard packet) m k c = data-phase w packet m k c
-happens-linked w (Answer_heard packet) m k c = answer-phase w packet m k c
+happens-delivering w (Offering message) m k c = offer-phase w message m k c
+happens-delivering w Time_up m k c = timeout-phase w k
+happens-delivering w Opening_again m k c = reopen-phase w m k
+happens-delivering w (Data_heard packet) m k c = data-phase w packet m k c
+happens-delivering w (Answer_heard packet) m k c = answer-phase w packet m k c
 
-pub happens-kept : (w : Link) (event : Happening) → IsKept w → IsClean w event → IsKept (happens w event).0
+pub happens-kept : (w : Delivery) (event : Happening) → IsKept w → IsClean w event → IsKept (happens w event).0
 happens-kept w event k c = record {
-  linked = happens-linked w event k.divided.0 k.linked c;
-  divided = happens-divided IsOrderly w event k.divided (orderly-linked (first_number w) (present_session w) w k.linked);
+  delivering = happens-delivering w event k.divided.0 k.delivering c;
+  divided = happens-divided IsOrderly w event k.divided (orderly-delivering (first_number w) (present_session w) w k.delivering);
 }
 
-pub run-kept : (events : List Happening) (w : Link) → IsKept w → IsCleanRun w events → IsKept (link_run w events)
+pub run-kept : (events : List Happening) (w : Delivery) → IsKept w → IsCleanRun w events → IsKept (delivery_run w events)
 run-kept events w k c = run-keeps happens IsClean IsKept happens-kept events w k c
 
-pub first-kept : IsKept first_link
+pub first-kept : IsKept first_delivery
 unfolding last_mark
 first-kept = record {
-  linked =
+  delivering =
       quiet 7 (record {
         up = refl;
         outstanding = refl;
@@ -302,19 +303,19 @@ first-kept = record {
   divided = first-divided IsOrderly;
 }
 
-pub sessions-orderly : (events : List Happening) → IsCleanRun first_link events → AreOrderly (sessions_of (link_run first_link events))
-sessions-orderly events c = orderly-kept (link_run first_link events) (run-kept events first_link first-kept c)
+pub sessions-orderly : (events : List Happening) → IsCleanRun first_delivery events → AreOrderly (sessions_of (delivery_run first_delivery events))
+sessions-orderly events c = orderly-kept (delivery_run first_delivery events) (run-kept events first_delivery first-kept c)
 
-pub facts-kept : (events : List Happening) → IsCleanRun first_link events → LinkFacts (link_run first_link events)
+pub facts-kept : (events : List Happening) → IsCleanRun first_delivery events → DeliveryFacts (delivery_run first_delivery events)
 facts-kept events c =
-    let w = link_run first_link events in
-    facts-linked (first_number w) (present_session w) w (run-kept events first_link first-kept c).linked
+    let w = delivery_run first_delivery events in
+    facts-delivering (first_number w) (present_session w) w (run-kept events first_delivery first-kept c).delivering
 
-pub run-delivers : (events : List Happening) (message : List ℕ) → IsCleanRun first_link events → (link_run first_link events).outbound.sender.outstanding ≡ Nothing → length message ≤ 2028 →
-    DeliversAtOnce (link_run first_link events).outbound.sender (link_run first_link events).inbound.receiver message
+pub run-delivers : (events : List Happening) (message : List ℕ) → IsCleanRun first_delivery events → (delivery_run first_delivery events).outbound.sender.outstanding ≡ Nothing → length message ≤ 2028 →
+    DeliversAtOnce (delivery_run first_delivery events).outbound.sender (delivery_run first_delivery events).inbound.receiver message
 run-delivers events message c o short =
-    let w = link_run first_link events in
-    delivers-linked (first_number w) (present_session w) w message (run-kept events first_link first-kept c).linked o short
+    let w = delivery_run first_delivery events in
+    delivers-delivering (first_number w) (present_session w) w message (run-kept events first_delivery first-kept c).delivering o short
 
 -- where the session is opened again, its first number is one more than that of the opening packet
 
@@ -329,7 +330,7 @@ unfolding after_reopening
 up-reopens o delivered true s number e = cc
 up-reopens o delivered false s number e = cc
 
-reopened-opens : (w : Link) (number : ℕ) → (happens w Opening_again).1 ≡ Reopened number → (happens w Opening_again).0.outbound.sender.outstanding ≡ Opening number
+reopened-opens : (w : Delivery) (number : ℕ) → (happens w Opening_again).1 ≡ Reopened number → (happens w Opening_again).0.outbound.sender.outstanding ≡ Opening number
 unfolding happens with_outbound
 reopened-opens w number e =
     let o = w.outbound in
@@ -343,15 +344,15 @@ reopened-opens w number e =
       | inr is ↦ subst Opens (sym is) (sent-reopens o delivered again _ n number (opening_packet n) refl) e
     ]
 
-opening-base : (number b : ℕ) (s : Session) (w : Link) → IsLinked b s w → w.outbound.sender.outstanding ≡ Opening number → b ≡ (number + 1) % 8
+opening-base : (number b : ℕ) (s : Session) (w : Delivery) → IsDelivering b s w → w.outbound.sender.outstanding ≡ Opening number → b ≡ (number + 1) % 8
 opening-base number b s w (quiet last q) o = let both : Nothing ≡ Opening number = sym q.outstanding ∙ o in cc
 opening-base number b s w (busy other message h) o = let both : Message message ≡ Opening number = sym h.outstanding ∙ o in cc
 opening-base number b s w (opening other h) o = let both : Opening other ≡ Opening number = sym h.outstanding ∙ o in let same : other ≡ number = cc in h.base_is ∙ ap (λ (n : ℕ). (n + 1) % 8) same
 
-pub first-is : (events : List Happening) → IsCleanRun first_link events → (number : ℕ) → (happens (link_run first_link events) Opening_again).1 ≡ Reopened number →
-    first_number (happens (link_run first_link events) Opening_again).0 ≡ (number + 1) % 8
+pub first-is : (events : List Happening) → IsCleanRun first_delivery events → (number : ℕ) → (happens (delivery_run first_delivery events) Opening_again).1 ≡ Reopened number →
+    first_number (happens (delivery_run first_delivery events) Opening_again).0 ≡ (number + 1) % 8
 unfolding IsClean
 first-is events c number e =
-    let w = link_run first_link events in
+    let w = delivery_run first_delivery events in
     let v = (happens w Opening_again).0 in
-    opening-base number (first_number v) (present_session v) v (happens-kept w Opening_again (run-kept events first_link first-kept c) tt).linked (reopened-opens w number e)
+    opening-base number (first_number v) (present_session v) v (happens-kept w Opening_again (run-kept events first_delivery first-kept c) tt).delivering (reopened-opens w number e)

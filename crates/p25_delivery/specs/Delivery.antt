@@ -1,4 +1,4 @@
--- A link of two stations: the half of the one that sends, the half of the other that receives, and the newest transmission of
+-- A delivery of two stations: the half of the one that sends, the half of the other that receives, and the newest transmission of
 -- each direction. What each event makes of it, and the sessions of its messages.
 use Rattle.std.specs.Prelude.{ℕ, ◌+◌, ◌*◌, ◌-◌, ◌%◌, List, [], ◌∷◌, length, Option, Some, None}
 use Rattle.p25_bits.specs.Bits.{part}
@@ -11,7 +11,7 @@ use Rattle.p25_delivery.specs.Runs.{run_by}
 use Rattle.p25_delivery.specs.Halves.{Outgoing, Incoming, first_outgoing, first_incoming}
 use Rattle.p25_delivery.specs.HalfRules.{mark_of, after_offer, after_timeout, after_reopening, after_data, after_answer}
 
--- what happens at a link: a message is offered, time is up, the session is opened again, or a station hears a packet
+-- what happens at a delivery: a message is offered, time is up, the session is opened again, or a station hears a packet
 pub data Happening : Type 0 where
   Offering : (message : List ℕ) → Happening
   Time_up : Happening
@@ -20,30 +20,30 @@ pub data Happening : Type 0 where
   Answer_heard : (packet : Packet) → Happening
 
 -- both halves, and the newest transmission of each direction
-pub record Link : Type 0 where
+pub record Delivery : Type 0 where
   pub outbound : Outgoing
   pub inbound : Incoming
   pub packet_sent : Option Packet
   pub answer : Option Packet
 
--- a link before anything happens
-abbrev pub first_link : Link
-first_link = record { outbound = first_outgoing; inbound = first_incoming; packet_sent = None; answer = None }
+-- a delivery before anything happens
+abbrev pub first_delivery : Delivery
+first_delivery = record { outbound = first_outgoing; inbound = first_incoming; packet_sent = None; answer = None }
 
 -- the newest transmission of a direction after a call: what the call sends, or else what it was before
 unfoldable pub newest_after : Option Packet → Option Packet → Option Packet
 newest_after (Some packet) newest = Some packet
 newest_after None newest = newest
 
--- a link after a call of its sending half, or of its receiving half, and what happened
-unfoldable pub with_outbound : Link → Outgoing × (StepKind × Option Packet) → Link × StepKind
+-- a delivery after a call of its sending half, or of its receiving half, and what happened
+unfoldable pub with_outbound : Delivery → Outgoing × (StepKind × Option Packet) → Delivery × StepKind
 with_outbound w (o, (kind, packet)) = (record w { outbound = o; packet_sent = newest_after packet w.packet_sent }, kind)
 
-unfoldable pub with_inbound : Link → Incoming × (StepKind × Option Packet) → Link × StepKind
+unfoldable pub with_inbound : Delivery → Incoming × (StepKind × Option Packet) → Delivery × StepKind
 with_inbound w (i, (kind, packet)) = (record w { inbound = i; answer = newest_after packet w.answer }, kind)
 
--- what happens makes this of a link, and is this kind of step
-unfoldable pub happens : Link → Happening → Link × StepKind
+-- what happens makes this of a delivery, and is this kind of step
+unfoldable pub happens : Delivery → Happening → Delivery × StepKind
 happens w (Offering message) = with_outbound w (after_offer w.outbound message (offered w.outbound.sender message))
 happens w Time_up = with_outbound w (after_timeout w.outbound (timed_out w.outbound.sender))
 happens w Opening_again =
@@ -52,8 +52,8 @@ happens w (Data_heard packet) = with_inbound w (after_data w.inbound (receiver_h
 happens w (Answer_heard packet) = with_outbound w (after_answer w.outbound (sender_heard w.outbound.sender packet))
 
 -- all that happens, in order
-abbrev pub link_run : Link → List Happening → Link
-link_run w events = run_by happens w events
+abbrev pub delivery_run : Delivery → List Happening → Delivery
+delivery_run w events = run_by happens w events
 
 -- the messages of one session: those sent, those delivered, and the number of those acknowledged
 pub record Session : Type 0 where
@@ -69,11 +69,11 @@ empty_session = record { sent = []; delivered = []; acknowledged = 0 }
 abbrev pub first_mark : Mark
 first_mark = record { sent = 0; delivered = 0; acknowledged = 0 }
 
-abbrev pub present_mark : Link → Mark
+abbrev pub present_mark : Delivery → Mark
 present_mark w = mark_of w.outbound (length w.inbound.received)
 
--- the session between two marks of a link
-abbrev pub session_between : Mark → Mark → Link → Session
+-- the session between two marks of a delivery
+abbrev pub session_between : Mark → Mark → Delivery → Session
 session_between from to w =
     record {
       sent = part from.sent (to.sent - from.sent) w.outbound.sent;
@@ -81,13 +81,13 @@ session_between from to w =
       acknowledged = to.acknowledged - from.acknowledged;
     }
 
--- the sessions of a link from a mark on: each lies between two marks that are neighbors, and the last after all marks
-unfoldable pub sessions_from : Mark → List Mark → Link → List Session
+-- the sessions of a delivery from a mark on: each lies between two marks that are neighbors, and the last after all marks
+unfoldable pub sessions_from : Mark → List Mark → Delivery → List Session
 sessions_from from [] w = session_between from (present_mark w) w ∷ []
 sessions_from from (mark ∷ marks) w = session_between from mark w ∷ sessions_from mark marks w
 
--- the sessions of a link: those between its marks, the first before all of them and the last after them
-abbrev pub sessions_of : Link → List Session
+-- the sessions of a delivery: those between its marks, the first before all of them and the last after them
+abbrev pub sessions_of : Delivery → List Session
 sessions_of w = sessions_from first_mark w.outbound.marks w
 
 -- the last mark of a list of marks, or the one before them
@@ -96,10 +96,10 @@ last_mark from [] = from
 last_mark from (mark ∷ marks) = last_mark mark marks
 
 -- the present session: what was sent, delivered and acknowledged after the last mark
-abbrev pub present_session : Link → Session
+abbrev pub present_session : Delivery → Session
 present_session w = session_between (last_mark first_mark w.outbound.marks) (present_mark w) w
 
 -- the number of the first message of the present session: each message that was acknowledged in a session before took one
 -- number, and each session that ended took five, from that of the message given up to that of the opening packet
-abbrev pub first_number : Link → ℕ
+abbrev pub first_number : Delivery → ℕ
 first_number w = ((last_mark first_mark w.outbound.marks).acknowledged + 5 * length w.outbound.marks) % 8

@@ -3,7 +3,7 @@ use Rattle.p25_gf64.specs.declared.symbol.Sym.{Sym}
 use Rattle.p25_coded_fields.specs.Written.{IsPut, IsWritten}
 use Rattle.p25_coded_fields.proofs.SymbolsLaws.{group_is, one_more}
 use Rattle.p25_coded_fields.proofs.WrittenLaws.{written_next, written_by}
-use Rattle.p25_coded_fields.proofs.put.put_field.Goals as goal
+use Rattle.p25_coded_fields.proofs.put.put_coded.Goals as goal
 
 pub loop-i-preserved : goal.loop-i-preserved
 loop-i-preserved g c =

@@ -1,7 +1,7 @@
 use Rattle.std.proofs.Common.{◌≡◌, ℕ, ◌<◌}
 use Rattle.p25_gf64.specs.Gf64.{gf64}
 use Rattle.p25_algebra.specs.Series.{coefficient}
-use Rattle.p25_reed_solomon.proofs.marks.multiply_by_x_and_add.Given as goal
+use Rattle.p25_reed_solomon.proofs.erasures.multiply_by_x_and_add.Given as goal
 
 abbrev pub invariant-loop-i : goal.invariant-loop-i
 invariant-loop-i l = (k : ℕ) → k < l.i → coefficient gf64 l.polynomial k ≡ gf64.add (coefficient gf64 l.below k) (gf64.mul l.factor (coefficient gf64 l.other k))

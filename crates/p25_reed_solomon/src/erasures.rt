@@ -1,17 +1,17 @@
-//! The marks of a received word: how many there are, and the polynomial with a zero for each of them as a factor of others.
+//! The erasures of a received word: how many there are, and the polynomial with a zero for each of them as a factor of others.
 
 ghost use Rattle.std.specs.Prelude.{◌≡◌, ℕ, suc, ◌+◌, ◌<◌, ◌≤◌, length};
 ghost use Rattle.p25_gf64.specs.Gf64.{gf64};
 ghost use Rattle.p25_algebra.specs.Series.{coefficient, shifted, times_linear};
-ghost use Rattle.p25_reed_solomon.specs.Errors.{marks_below};
-ghost use Rattle.p25_reed_solomon.specs.Locator.{times_marks};
+ghost use Rattle.p25_reed_solomon.specs.Errors.{erased_below};
+ghost use Rattle.p25_reed_solomon.specs.Locator.{times_erasures};
 
 use p25_gf64::Sym;
 
-// How many places are marked.
-pub(crate) fn count_marks(erased: &[bool]) -> usize
+// How many places are erased.
+pub(crate) fn count_erasures(erased: &[bool]) -> usize
     requires { length erased.now ≤ 63 }
-    ensures count { result ≡ marks_below erased.now (length erased.now) }
+    ensures count { result ≡ erased_below erased.now (length erased.now) }
     ensures few { result ≤ length erased.now }
 {
     let mut count = 0;
@@ -23,12 +23,12 @@ pub(crate) fn count_marks(erased: &[bool]) -> usize
     count
 }
 
-// Multiplies a polynomial of 32 coefficients by 1 + x times the element of each marked place, as far as there is room.
-pub(crate) fn multiply_by_marks(polynomial: &mut [Sym], erased: &[bool])
+// Multiplies a polynomial of 32 coefficients by 1 + x times the element of each erased place, as far as there is room.
+pub(crate) fn multiply_by_erasures(polynomial: &mut [Sym], erased: &[bool])
     requires room { length polynomial.old ≡ 32 }
     requires places { length erased.now ≤ 63 }
     ensures { (k : ℕ) → k < 32 → coefficient gf64 polynomial.new k
-        ≡ times_marks (length erased.now) erased.now (length erased.now) (coefficient gf64 polynomial.old) k }
+        ≡ times_erasures (length erased.now) erased.now (length erased.now) (coefficient gf64 polynomial.old) k }
 {
     for j in 0..erased.len() {
         if erased[j] {

@@ -1,0 +1,136 @@
+-- Lists with erasures: a word within the cost of one is the only one, by the way round from word to list to word, on which each erasure
+-- counts one; and a list without an erasure is read as what was received.
+use Rattle.std.proofs.Common.{◌≡◌, ℕ, suc, ◌+◌, ◌*◌, ◌<◌, ◌≤◌, Bool, true, false, cond, List, [], ◌∷◌, length, map, Option, Some, None, All, ap, ap₂, sym, ◌∙◌, subst, refl, arith}
+use Rattle.p25_bits.specs.Distance.{distance_by}
+use Rattle.p25_code.specs.declared.code.Reading.{Reading}
+use Rattle.p25_code.specs.declared.code.Reading.TheVariants.{Found, Beyond}
+use Rattle.p25_code.specs.Words.{IsReading}
+use Rattle.p25_code.specs.Readings.{IsReadAs, word_read}
+use Rattle.p25_code.specs.Erasures.{without_erased, erasures_in, letter_distance, kept_distance, erased_cost, IsErasedReading}
+use Rattle.p25_code.specs.ErasedReadings.{IsErasedReadAs, IsWithinCost}
+use Rattle.p25_code.proofs.ReadingLaws.{IsBlockCode, near_words, one_reading}
+
+-- a list with erasures is as long as what was received
+pub length-without_erased : {L : Type 0} (received : List L) (erased : List Bool) → length (without_erased received erased) ≡ length received
+unfolding without_erased
+length-without_erased [] erased = refl
+length-without_erased (x ∷ received) [] = ap suc (length-without_erased received [])
+length-without_erased (x ∷ received) (gone ∷ erased) = ap suc (length-without_erased received erased)
+
+-- where nothing is erased no place has an erasure
+pub without_erased-none : {L : Type 0} (received : List L) (erased : List Bool) → All (λ gone. gone ≡ false) erased → without_erased received erased ≡ map Some received
+unfolding without_erased
+without_erased-none [] erased none = refl
+without_erased-none (x ∷ received) [] none = ap (λ list. Some x ∷ list) (without_erased-none received [] none)
+without_erased-none (x ∷ received) (gone ∷ erased) none =
+    ap₂ (λ b list. cond b None (Some x) ∷ list) (none 0 gone (omega arith)) (without_erased-none received erased (λ k d h. none (suc k) d (omega arith)))
+
+-- a list without an erasure differs where the letters differ, and has no erasure
+pub kept_distance-letters : {L : Type 0} (same : L → L → Bool) (received word : List L) → kept_distance same (map Some received) word ≡ distance_by same received word
+unfolding kept_distance distance_by
+kept_distance-letters same [] word = refl
+kept_distance-letters same (y ∷ received) [] = refl
+kept_distance-letters same (y ∷ received) (x ∷ word) = ap (λ n. cond (same y x) 0 1 + n) (kept_distance-letters same received word)
+
+pub erasures_in-letters : {L : Type 0} (received : List L) → erasures_in (map Some received) ≡ 0
+unfolding erasures_in
+erasures_in-letters [] = refl
+erasures_in-letters (y ∷ received) = omega (arith, erasures_in-letters received)
+
+-- so its cost is twice the distance
+pub erased_cost-letters : {L : Type 0} (same : L → L → Bool) (received word : List L) → erased_cost same (map Some received) word ≡ 2 * distance_by same received word
+unfolding erased_cost
+erased_cost-letters same received word = omega (arith, kept_distance-letters same received word, erasures_in-letters received)
+
+module _ {L : Type 0} {same : L → L → Bool} {IsWord : List L → Type 0} {n k radius apart : ℕ} (code : IsBlockCode same IsWord n k radius apart) where
+  -- two letters that differ: one of them differs from the letter between them, or there is an erasure
+  letters_apart : (x z : L) (y : Option L) → cond (same x z) 0 1 ≤ letter_distance same y x + letter_distance same y z + erasures_in (y ∷ [])
+  unfolding erasures_in
+  letters_apart x z None = elim (same x z) as (λ b. cond b 0 1 ≤ 1) [ true ↦ omega arith | false ↦ omega arith ]
+  letters_apart x z (Some y) = through (same y x) (same y z) refl refl
+    where
+      at_most_one : (b : Bool) → cond b 0 1 ≤ 1
+      at_most_one true = omega arith
+      at_most_one false = omega arith
+
+      through : (a b : Bool) → same y x ≡ a → same y z ≡ b → cond (same x z) 0 1 ≤ cond (same y x) 0 1 + cond (same y z) 0 1 + 0
+      through true true ea eb = omega (arith, ap {B = ℕ} (λ t. cond t 0 1) (subst (λ w. same w z ≡ true) (code.alike y x ea) eb))
+      through false b ea eb = omega (arith, ap {B = ℕ} (λ t. cond t 0 1) ea, at_most_one (same x z))
+      through true false ea eb = omega (arith, ap {B = ℕ} (λ t. cond t 0 1) eb, at_most_one (same x z))
+
+  -- the way from one word to another by a list with erasures
+  pub wrong_triangle : (list : List (Option L)) (v w : List L) → length list ≡ length v → length v ≡ length w → distance_by same v w ≤ kept_distance same list v + kept_distance same list w + erasures_in list
+  unfolding kept_distance distance_by erasures_in
+  wrong_triangle [] [] w first second = omega arith
+  wrong_triangle [] (x ∷ v) w first second = absurd (omega arith)
+  wrong_triangle (y ∷ list) [] w first second = absurd (omega arith)
+  wrong_triangle (y ∷ list) (x ∷ v) [] first second = absurd (omega arith)
+  wrong_triangle (y ∷ list) (x ∷ v) (z ∷ w) first second =
+      omega (arith, letters_apart x z y, wrong_triangle list v w (omega arith) (omega arith))
+
+  module _ {most : ℕ} (close : most < apart) where
+    -- two words within the cost of a list are one
+    pub one_within_cost : (list : List (Option L)) (v w : List L) → length list ≡ n → IsWithinCost same IsWord most list v → IsWithinCost same IsWord most list w → v ≡ w
+    unfolding erased_cost
+    one_within_cost list v w long first second =
+        let long_v = code.long v first.word_of_set in
+        let long_w = code.long w second.word_of_set in
+        near_words code v w first.word_of_set second.word_of_set
+        (omega (arith, wrong_triangle list v w (long ∙ sym long_v) (long_v ∙ sym long_w), first.within, second.within, close))
+
+    -- so a list has one reading
+    pub one_erased_reading : (list : List (Option L)) (a b : Option (List L)) → length list ≡ n → IsErasedReadAs same IsWord most list a → IsErasedReadAs same IsWord most list b → a ≡ b
+    unfolding IsErasedReadAs
+    one_erased_reading list None None long first second = refl
+    one_erased_reading list None (Some w) long first second = absurd (omega (arith, first.dearer w second.word_of_set, second.within))
+    one_erased_reading list (Some v) None long first second = absurd (omega (arith, second.dearer v first.word_of_set, first.within))
+    one_erased_reading list (Some v) (Some w) long first second = ap Some (one_within_cost list v w long first second)
+
+    -- a word of the set within the cost is the reading
+    pub erased_read_as_sent : (list : List (Option L)) (sent : List L) (answer : Option (List L)) → length list ≡ n → IsErasedReadAs same IsWord most list answer → IsWord sent → erased_cost same list sent ≤ most → answer ≡ Some sent
+    unfolding IsErasedReadAs
+    erased_read_as_sent list sent answer long is sent_is near = one_erased_reading list answer (Some sent) long is (record { word_of_set = sent_is; within = near })
+
+    -- what a reader leaves is the word within the cost, wherever there is one
+    pub erased_reading_sent : (list : List (Option L)) (received word sent : List L) (reading : Reading) → length list ≡ n → IsErasedReading same IsWord most list received word reading → IsWord sent → erased_cost same list sent ≤ most
+        → word ≡ sent
+    unfolding IsErasedReading
+    erased_reading_sent list received word sent (Found fixes) long is sent_is near =
+        one_within_cost list word sent long (record { word_of_set = is.word_of_set; within = is.within }) (record { word_of_set = sent_is; within = near })
+    erased_reading_sent list received word sent Beyond long is sent_is near = absurd (omega (arith, is.none_within.dearer sent sent_is))
+
+  -- where the cost is twice the radius, a list without an erasure is read as what was received
+  pub whole_reading : (most : ℕ) → most ≡ 2 * radius → (received : List L) (a b : Option (List L)) → length received ≡ n → IsErasedReadAs same IsWord most (map Some received) a → IsReadAs same IsWord radius received b → a ≡ b
+  unfolding IsReadAs IsErasedReadAs
+  whole_reading most twice received a b long first second = one_reading code received a b long (as_read a first) second
+    where
+      as_read : (a : Option (List L)) → IsErasedReadAs same IsWord most (map Some received) a → IsReadAs same IsWord radius received a
+      as_read (Some word) is = record { word_of_set = is.word_of_set; within = omega (arith, is.within, erased_cost-letters same received word) }
+      as_read None is = record { farther = λ word w. omega (arith, is.dearer word w, erased_cost-letters same received word) }
+
+-- where the cost is twice the radius, what a reader of a list without an erasure answers and leaves is the reading of the letters
+pub reading_without_erasures : {L : Type 0} (same : L → L → Bool) (IsWord : List L → Type 0) (most radius : ℕ) → most ≡ 2 * radius → (received word : List L) (erased : List Bool) (reading : Reading) → All (λ gone. gone ≡ false) erased
+    → IsErasedReading same IsWord most (without_erased received erased) received word reading → IsReading same IsWord radius received word reading
+unfolding IsReading IsErasedReading
+reading_without_erasures {L} same IsWord most radius twice received word erased reading none is = as_read reading is
+  where
+    cost : (other : List L) → erased_cost same (without_erased received erased) other ≡ 2 * distance_by same received other
+    cost other = ap (λ list. erased_cost same list other) (without_erased-none received erased none) ∙ erased_cost-letters same received other
+
+    as_read : (reading : Reading) → IsErasedReading same IsWord most (without_erased received erased) received word reading → IsReading same IsWord radius received word reading
+    as_read (Found fixes) found = record {
+      word_of_set = found.word_of_set;
+      fixes_is = found.fixes_is;
+      within = omega (arith, found.within, found.fixes_is, cost word);
+    }
+    as_read Beyond beyond = record {
+      unchanged = beyond.unchanged;
+      none_within = record { farther = λ other w. omega (arith, beyond.none_within.dearer other w, cost other) };
+    }
+
+-- what a reader answers and leaves is the reading
+pub erased_word_read_as : {L : Type 0} (same : L → L → Bool) (IsWord : List L → Type 0) (most : ℕ) (list : List (Option L)) (received word : List L) (reading : Reading) → IsErasedReading same IsWord most list received word reading
+    → IsErasedReadAs same IsWord most list (word_read reading word)
+unfolding IsErasedReading IsErasedReadAs word_read
+erased_word_read_as same IsWord most list received word (Found fixes) is = record { word_of_set = is.word_of_set; within = is.within }
+erased_word_read_as same IsWord most list received word Beyond is = is.none_within

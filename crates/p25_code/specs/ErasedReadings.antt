@@ -1,0 +1,31 @@
+-- Readings of lists with erasures as functions: the word of the set within the cost, or none where no word costs so little.
+use Rattle.std.specs.Prelude.{◌≡◌, ℕ, ◌≤◌, Bool, List, length, Option, Some, None}
+use Rattle.p25_code.specs.Erasures.{erased_cost, NoneWithinCost}
+use Rattle.p25_code.specs.Readings.{Tested, Searched, IsWordWithin, word_within, IsWordWithin-word_within}
+
+-- a word of the set is within the cost
+pub record IsWithinCost {L : Type 0} (same : L → L → Bool) (IsWord : List L → Type 0) (most : ℕ) (list : List (Option L)) (word : List L) : Type 0 where
+  pub word_of_set : IsWord word
+  pub within : erased_cost same list word ≤ most
+
+-- a reading as a value: a word of the set within the cost, or none exactly where no word costs so little
+unfoldable pub IsErasedReadAs : {L : Type 0} → (L → L → Bool) → (List L → Type 0) → ℕ → List (Option L) → Option (List L) → Type 0
+IsErasedReadAs same IsWord most list (Some word) = IsWithinCost same IsWord most list word
+IsErasedReadAs same IsWord most list None = NoneWithinCost same IsWord most list
+
+-- the reading of a list with erasures, for a set of words of n letters
+pub erased_reading_of : {L : Type 0} → Searched L → (L → L → Bool) → (IsWord : List L → Type 0) → Tested IsWord → (n most : ℕ) → List (Option L)
+    → Option (List L)
+erased_reading_of letters same IsWord test n most list = word_within letters IsWord test n (erased_cost same list) most
+
+pub IsErasedReadAs-erased_reading_of : {L : Type 0} (letters : Searched L) (same : L → L → Bool) (IsWord : List L → Type 0) (test : Tested IsWord) (n most : ℕ)
+    → ((word : List L) → IsWord word → length word ≡ n) → (list : List (Option L))
+    → IsErasedReadAs same IsWord most list (erased_reading_of letters same IsWord test n most list)
+unfolding IsErasedReadAs IsWordWithin erased_reading_of
+IsErasedReadAs-erased_reading_of {L} letters same IsWord test n most long list =
+    read (erased_reading_of letters same IsWord test n most list)
+    (IsWordWithin-word_within letters IsWord test n (erased_cost same list) most long)
+  where
+    read : (answer : Option (List L)) → IsWordWithin IsWord (erased_cost same list) most answer → IsErasedReadAs same IsWord most list answer
+    read (Some word) is = record { word_of_set = is.0; within = is.1 }
+    read None is = record { dearer = is }

@@ -1,0 +1,263 @@
+-- Erased places: their number, the polynomial with a zero for each as a factor, and errors with the factors that this gives them. All
+-- by induction on the places.
+use Rattle.std.proofs.Common.{◌≡◌, ◌≢◌, ℕ, zero, suc, ◌+◌, ◌<◌, ◌≤◌, Bool, true, false, cond, List, refl, sym, ap, ap₂, ◌∙◌, subst, inl, inr, arith}
+use Rattle.std.proofs.lemmas.Bool.{cases_eq, cases_Bool, cond-true, cond-false, both_ways}
+use Rattle.p25_gf64.specs.declared.symbol.Sym.{Sym}
+use Rattle.p25_gf64.specs.Gf64.{gf64}
+use Rattle.p25_gf64.proofs.FieldLaws.{add_self, add_zero, mul_zero, zero_mul, mul_one, mul_inverse, mul_assoc, mul_comm, mul_ne_zero, same_from_sum}
+use Rattle.p25_algebra.specs.Sums.{power_sum, nonzeros}
+use Rattle.p25_algebra.specs.Series.{value_at, product_at, times_linear, IsZero, IsShort}
+use Rattle.p25_algebra.proofs.VanishingLaws.{lowered, power_sum-lowered, nonzeros_mono}
+use Rattle.p25_algebra.proofs.QuotientLaws.{shifted-first, shifted-next, short_times_linear, value-times_linear, times_linear_same, product-times_linear, product-times_linear_right}
+use Rattle.p25_reed_solomon.specs.ElementLaws.{same_place, element_ne_zero}
+use Rattle.p25_reed_solomon.specs.Errors.{element_of, point_of, is_erased, erased_below, kept_errors}
+use Rattle.p25_reed_solomon.specs.Locator.{times_erasures}
+
+-- ---- one place more
+
+pub erased_below-none : (erased : List Bool) → erased_below erased 0 ≡ 0
+unfolding erased_below
+erased_below-none erased = refl
+
+pub erased_below-gone : (erased : List Bool) (j : ℕ) → is_erased erased j ≡ true → erased_below erased (suc j) ≡ suc (erased_below erased j)
+unfolding erased_below
+erased_below-gone erased j here = omega (arith, ap {B = ℕ} (λ t. cond t 1 0) here)
+
+pub erased_below-kept : (erased : List Bool) (j : ℕ) → is_erased erased j ≡ false → erased_below erased (suc j) ≡ erased_below erased j
+unfolding erased_below
+erased_below-kept erased j none = omega (arith, ap {B = ℕ} (λ t. cond t 1 0) none)
+
+pub erased_below-mono : (erased : List Bool) (j n : ℕ) → j ≤ n → erased_below erased j ≤ erased_below erased n
+erased_below-mono erased j zero low = let e : j ≡ 0 = omega arith in rw e (omega arith)
+erased_below-mono erased j (suc n) low =
+    elim (cases_eq j (suc n)) [
+      | inl same ↦ rw same (omega arith)
+      | inr apart ↦
+          let before = erased_below-mono erased j n (omega arith) in
+          elim (cases_Bool (is_erased erased n)) [
+            | inl here ↦ omega (arith, erased_below-gone erased n here)
+            | inr none ↦ omega (arith, erased_below-kept erased n none)
+          ]
+    ]
+
+module _ (n : ℕ) (erased : List Bool) where
+  pub times_erasures-none : (f : ℕ → Sym) → times_erasures n erased 0 f ≡ f
+  unfolding times_erasures
+  times_erasures-none f = refl
+
+  pub times_erasures-gone : (j : ℕ) (f : ℕ → Sym) → is_erased erased j ≡ true → times_erasures n erased (suc j) f ≡ times_linear gf64 (element_of n j) (times_erasures n erased j f)
+  unfolding times_erasures
+  times_erasures-gone j f here = cond-true (is_erased erased j) (times_linear gf64 (element_of n j) (times_erasures n erased j f)) (times_erasures n erased j f) here
+
+  pub times_erasures-kept : (j : ℕ) (f : ℕ → Sym) → is_erased erased j ≡ false → times_erasures n erased (suc j) f ≡ times_erasures n erased j f
+  unfolding times_erasures
+  times_erasures-kept j f none = cond-false (is_erased erased j) (times_linear gf64 (element_of n j) (times_erasures n erased j f)) (times_erasures n erased j f) none
+
+  -- ---- as a polynomial
+
+  pub short_times_erasures : (m j : ℕ) (f : ℕ → Sym) → IsShort gf64 m f → IsShort gf64 (m + erased_below erased j) (times_erasures n erased j f)
+  short_times_erasures m zero f short = let e : m + erased_below erased 0 ≡ m = omega (arith, erased_below-none erased) in rw (e, times_erasures-none f) short
+  short_times_erasures m (suc j) f short =
+      elim (cases_Bool (is_erased erased j)) [
+        | inl here ↦
+            let e : m + erased_below erased (suc j) ≡ suc (m + erased_below erased j) = omega (arith, erased_below-gone erased j here) in
+            rw (e, times_erasures-gone j f here) (short_times_linear gf64 (m + erased_below erased j) (element_of n j) (times_erasures n erased j f) (short_times_erasures m j f short))
+        | inr none ↦ rw (erased_below-kept erased j none, times_erasures-kept j f none) (short_times_erasures m j f short)
+      ]
+
+  zero_from_times_linear : (y : Sym) (f : ℕ → Sym) → IsZero gf64 (times_linear gf64 y f) → IsZero gf64 f
+  zero_from_times_linear y f none zero =
+      sym (ap (λ w. gf64.add (f 0) (gf64.mul y w)) (shifted-first gf64 f) ∙ ap (gf64.add (f 0)) (mul_zero gf64 y) ∙ add_zero gf64 (f 0)) ∙ none 0
+  zero_from_times_linear y f none (suc i) =
+      sym (ap (λ w. gf64.add (f (suc i)) (gf64.mul y w)) (shifted-next gf64 f i ∙ zero_from_times_linear y f none i) ∙ ap (gf64.add (f (suc i))) (mul_zero gf64 y) ∙ add_zero gf64 (f (suc i))) ∙ none (suc i)
+
+  pub zero_from_times_erasures : (j : ℕ) (f : ℕ → Sym) → IsZero gf64 (times_erasures n erased j f) → IsZero gf64 f
+  zero_from_times_erasures zero f none = rw times_erasures-none at none
+  zero_from_times_erasures (suc j) f none =
+      elim (cases_Bool (is_erased erased j)) [
+        | inl here ↦ zero_from_times_erasures j f (zero_from_times_linear (element_of n j) (times_erasures n erased j f) (subst (IsZero gf64) (times_erasures-gone j f here) none))
+        | inr kept ↦ zero_from_times_erasures j f (subst (IsZero gf64) (times_erasures-kept j f kept) none)
+      ]
+
+  -- it makes no difference which factor of a product is multiplied
+  pub product-times_erasures : (j : ℕ) (f g : ℕ → Sym) (i : ℕ) → product_at gf64 (times_erasures n erased j f) g i ≡ product_at gf64 f (times_erasures n erased j g) i
+  product-times_erasures zero f g i = rw (times_erasures-none f, times_erasures-none g) refl
+  product-times_erasures (suc j) f g i =
+      elim (cases_Bool (is_erased erased j)) [
+        | inl here ↦
+            rw (times_erasures-gone j f here, times_erasures-gone j g here)
+            (product-times_linear gf64 (element_of n j) (times_erasures n erased j f) g i
+            ∙ times_linear_same gf64 (element_of n j) (product_at gf64 (times_erasures n erased j f) g) (product_at gf64 f (times_erasures n erased j g)) (product-times_erasures j f g) i
+            ∙ sym (product-times_linear_right gf64 (element_of n j) f (times_erasures n erased j g) i))
+        | inr none ↦ rw (times_erasures-kept j f none, times_erasures-kept j g none) (product-times_erasures j f g i)
+      ]
+
+  -- equal coefficients below a bound stay equal
+  pub times_linear_agree : (y : Sym) (bound : ℕ) (f g : ℕ → Sym) → ((i : ℕ) → i < bound → f i ≡ g i) → (i : ℕ) → i < bound → times_linear gf64 y f i ≡ times_linear gf64 y g i
+  times_linear_agree y bound f g same zero low = ap₂ (λ a b. gf64.add a (gf64.mul y b)) (same 0 low) (shifted-first gf64 f ∙ sym (shifted-first gf64 g))
+  times_linear_agree y bound f g same (suc i) low = ap₂ (λ a b. gf64.add a (gf64.mul y b)) (same (suc i) low) (shifted-next gf64 f i ∙ same i (omega arith) ∙ sym (shifted-next gf64 g i))
+
+  -- ---- values at the points of places
+
+  abbrev long : ℕ → ℕ → ℕ
+  long m j = m + erased_below erased j
+
+  -- the factor of a place, at the point of another
+  factor_at : ℕ → ℕ → Sym
+  factor_at i j = gf64.add gf64.one (gf64.mul (element_of n i) (point_of n j))
+
+  pub point_inverse : (j : ℕ) → gf64.mul (element_of n j) (point_of n j) ≡ gf64.one
+  point_inverse j = mul_inverse gf64 (element_of n j) (element_ne_zero n j)
+
+  pub factor_zero : (j : ℕ) → gf64.add gf64.one (gf64.mul (element_of n j) (point_of n j)) ≡ gf64.zero
+  factor_zero j = ap (gf64.add gf64.one) (point_inverse j) ∙ add_self gf64 gf64.one
+
+  pub factor_ne_zero : (i j : ℕ) → n ≤ 63 → i < n → j < n → i ≢ j → gf64.add gf64.one (gf64.mul (element_of n i) (point_of n j)) ≢ gf64.zero
+  factor_ne_zero i j most first second apart none =
+      apart (same_place n i j most first second (
+      sym (mul_one gf64 (element_of n i))
+      ∙ ap (gf64.mul (element_of n i)) (sym (point_inverse j) ∙ mul_comm gf64 (element_of n j) (point_of n j))
+      ∙ sym (mul_assoc gf64 (element_of n i) (point_of n j) (element_of n j))
+      ∙ ap (λ w. gf64.mul w (element_of n j)) (sym (same_from_sum gf64 gf64.one (gf64.mul (element_of n i) (point_of n j)) none))
+      ∙ mul_comm gf64 gf64.one (element_of n j)
+      ∙ mul_one gf64 (element_of n j)))
+
+  -- one place more
+  pub value-times_erasures : (m j : ℕ) (f : ℕ → Sym) (z : Sym) → IsShort gf64 m f → is_erased erased j ≡ true
+      → value_at gf64 (m + erased_below erased (suc j)) (times_erasures n erased (suc j) f) z ≡ gf64.mul (gf64.add gf64.one (gf64.mul (element_of n j) z)) (value_at gf64 (m + erased_below erased j) (times_erasures n erased j f) z)
+  value-times_erasures m j f z short here =
+      let e : m + erased_below erased (suc j) ≡ suc (m + erased_below erased j) = omega (arith, erased_below-gone erased j here) in
+      ap₂ (λ k g. value_at gf64 k g z) e (times_erasures-gone j f here)
+      ∙ value-times_linear gf64 (m + erased_below erased j) (element_of n j) (times_erasures n erased j f) z (short_times_erasures m j f short)
+
+  pub value-times_kept : (m j : ℕ) (f : ℕ → Sym) (z : Sym) → is_erased erased j ≡ false
+      → value_at gf64 (m + erased_below erased (suc j)) (times_erasures n erased (suc j) f) z ≡ value_at gf64 (m + erased_below erased j) (times_erasures n erased j f) z
+  value-times_kept m j f z none = ap₂ (λ k g. value_at gf64 (m + k) g z) (erased_below-kept erased j none) (times_erasures-kept j f none)
+
+  -- a zero stays
+  pub zero_stays : (m j : ℕ) (f : ℕ → Sym) (z : Sym) → IsShort gf64 m f → value_at gf64 m f z ≡ gf64.zero → value_at gf64 (m + erased_below erased j) (times_erasures n erased j f) z ≡ gf64.zero
+  zero_stays m zero f z short none = let e : m + erased_below erased 0 ≡ m = omega (arith, erased_below-none erased) in ap₂ (λ k g. value_at gf64 k g z) e (times_erasures-none f) ∙ none
+  zero_stays m (suc j) f z short none =
+      elim (cases_Bool (is_erased erased j)) [
+        | inl here ↦
+            value-times_erasures m j f z short here
+            ∙ ap (gf64.mul (gf64.add gf64.one (gf64.mul (element_of n j) z))) (zero_stays m j f z short none)
+            ∙ mul_zero gf64 (gf64.add gf64.one (gf64.mul (element_of n j) z))
+        | inr kept ↦ value-times_kept m j f z kept ∙ zero_stays m j f z short none
+      ]
+
+  -- the erased places are zeros
+  pub erasure_vanishes : (m j : ℕ) (f : ℕ → Sym) (i : ℕ) → IsShort gf64 m f → i < j → is_erased erased i ≡ true → value_at gf64 (m + erased_below erased j) (times_erasures n erased j f) (point_of n i) ≡ gf64.zero
+  erasure_vanishes m zero f i short low gone = absurd (omega arith)
+  erasure_vanishes m (suc j) f i short low gone =
+      elim (cases_eq i j) [
+        | inl last ↦
+            value-times_erasures m j f (point_of n i) short (ap (is_erased erased) (sym last) ∙ gone)
+            ∙ ap (λ w. gf64.mul (gf64.add gf64.one (gf64.mul (element_of n w) (point_of n i))) (value_at gf64 (m + erased_below erased j) (times_erasures n erased j f) (point_of n i))) (sym last)
+            ∙ ap (λ w. gf64.mul w (value_at gf64 (m + erased_below erased j) (times_erasures n erased j f) (point_of n i))) (factor_zero i)
+            ∙ zero_mul gf64 (value_at gf64 (m + erased_below erased j) (times_erasures n erased j f) (point_of n i))
+        | inr before ↦ elim (cases_Bool (is_erased erased j)) [
+          | inl here ↦
+              value-times_erasures m j f (point_of n i) short here
+              ∙ ap (gf64.mul (gf64.add gf64.one (gf64.mul (element_of n j) (point_of n i)))) (erasure_vanishes m j f i short (omega arith) gone)
+              ∙ mul_zero gf64 (gf64.add gf64.one (gf64.mul (element_of n j) (point_of n i)))
+          | inr kept ↦ value-times_kept m j f (point_of n i) kept ∙ erasure_vanishes m j f i short (omega arith) gone
+        ]
+      ]
+
+  -- ---- errors with the factors of erased places
+
+  -- the errors, each times the sum of its element and that of each erased place below `upto`
+  unfoldable pub lowered_by : ℕ → (ℕ → Sym) → ℕ → Sym
+  lowered_by zero v = v
+  lowered_by (suc j) v = cond (is_erased erased j) (lowered gf64 (element_of n) (lowered_by j v) (element_of n j)) (lowered_by j v)
+
+  lowered_by-gone : (j : ℕ) (v : ℕ → Sym) → is_erased erased j ≡ true → lowered_by (suc j) v ≡ lowered gf64 (element_of n) (lowered_by j v) (element_of n j)
+  unfolding lowered_by
+  lowered_by-gone j v here = cond-true (is_erased erased j) (lowered gf64 (element_of n) (lowered_by j v) (element_of n j)) (lowered_by j v) here
+
+  lowered_by-kept : (j : ℕ) (v : ℕ → Sym) → is_erased erased j ≡ false → lowered_by (suc j) v ≡ lowered_by j v
+  unfolding lowered_by
+  lowered_by-kept j v none = cond-false (is_erased erased j) (lowered gf64 (element_of n) (lowered_by j v) (element_of n j)) (lowered_by j v) none
+
+  lowered_by-none : (v : ℕ → Sym) → lowered_by 0 v ≡ v
+  unfolding lowered_by
+  lowered_by-none v = refl
+
+  -- their power sums are the coefficients of the product, one fewer for each erasure
+  pub lowered_sums : (checks : ℕ) (s v : ℕ → Sym) → ((r : ℕ) → r < checks → power_sum gf64 n (element_of n) v (r + 1) ≡ s r) → (j r : ℕ) → erased_below erased j + r < checks
+      → power_sum gf64 n (element_of n) (lowered_by j v) (r + 1) ≡ times_erasures n erased j s (erased_below erased j + r)
+  lowered_sums checks s v sums zero r fits =
+      let e : erased_below erased 0 + r ≡ r = omega (arith, erased_below-none erased) in
+      rw (lowered_by-none v, times_erasures-none s, e) (sums r (omega (arith, erased_below-none erased)))
+  lowered_sums checks s v sums (suc j) r fits =
+      elim (cases_Bool (is_erased erased j)) [
+        | inl here ↦
+            let u = erased_below erased j in
+            let more = erased_below-gone erased j here in
+            let up : suc (r + 1) ≡ suc r + 1 = omega arith in
+            let at : erased_below erased (suc j) + r ≡ suc (u + r) = omega (arith, more) in
+            let next : u + suc r ≡ suc (u + r) = omega arith in
+            ap (λ w. power_sum gf64 n (element_of n) w (r + 1)) (lowered_by-gone j v here)
+            ∙ power_sum-lowered gf64 n (element_of n) (lowered_by j v) (element_of n j) (r + 1)
+            ∙ ap₂ (λ a b. gf64.add a (gf64.mul (element_of n j) b))
+            (ap (power_sum gf64 n (element_of n) (lowered_by j v)) up ∙ lowered_sums checks s v sums j (suc r) (omega (arith, more)) ∙ ap (times_erasures n erased j s) next)
+            (lowered_sums checks s v sums j r (omega (arith, more)) ∙ sym (shifted-next gf64 (times_erasures n erased j s) (u + r)))
+            ∙ sym (ap₂ (λ g i. g i) (times_erasures-gone j s here) at)
+        | inr none ↦
+            let fewer = erased_below-kept erased j none in
+            ap (λ w. power_sum gf64 n (element_of n) w (r + 1)) (lowered_by-kept j v none)
+            ∙ lowered_sums checks s v sums j r (omega (arith, fewer))
+            ∙ sym (ap₂ (λ g i. g (i + r)) (times_erasures-kept j s none) fewer)
+      ]
+
+  -- where there is no error there is none
+  pub lowered_zero : (j : ℕ) (v : ℕ → Sym) (l : ℕ) → v l ≡ gf64.zero → lowered_by j v l ≡ gf64.zero
+  lowered_zero zero v l none = ap (λ (g : ℕ → Sym). g l) (lowered_by-none v) ∙ none
+  lowered_zero (suc j) v l none =
+      elim (cases_Bool (is_erased erased j)) [
+        | inl here ↦
+            ap (λ (g : ℕ → Sym). g l) (lowered_by-gone j v here)
+            ∙ ap (λ w. gf64.mul w (gf64.add (element_of n l) (element_of n j))) (lowered_zero j v l none)
+            ∙ zero_mul gf64 (gf64.add (element_of n l) (element_of n j))
+        | inr kept ↦ ap (λ (g : ℕ → Sym). g l) (lowered_by-kept j v kept) ∙ lowered_zero j v l none
+      ]
+
+  -- erased places have none left
+  pub lowered_gone : (j : ℕ) (v : ℕ → Sym) (l : ℕ) → l < j → is_erased erased l ≡ true → lowered_by j v l ≡ gf64.zero
+  lowered_gone zero v l low gone = absurd (omega arith)
+  lowered_gone (suc j) v l low gone =
+      elim (cases_eq l j) [
+        | inl last ↦
+            ap (λ (g : ℕ → Sym). g l) (lowered_by-gone j v (ap (is_erased erased) (sym last) ∙ gone))
+            ∙ ap (λ i. gf64.mul (lowered_by j v l) (gf64.add (element_of n l) (element_of n i))) (sym last)
+            ∙ ap (gf64.mul (lowered_by j v l)) (add_self gf64 (element_of n l))
+            ∙ mul_zero gf64 (lowered_by j v l)
+        | inr before ↦ elim (cases_Bool (is_erased erased j)) [
+          | inl here ↦
+              ap (λ (g : ℕ → Sym). g l) (lowered_by-gone j v here)
+              ∙ ap (λ w. gf64.mul w (gf64.add (element_of n l) (element_of n j))) (lowered_gone j v l (omega arith) gone)
+              ∙ zero_mul gf64 (gf64.add (element_of n l) (element_of n j))
+          | inr kept ↦ ap (λ (g : ℕ → Sym). g l) (lowered_by-kept j v kept) ∙ lowered_gone j v l (omega arith) gone
+        ]
+      ]
+
+  -- other errors stay
+  pub lowered_kept : (j : ℕ) (v : ℕ → Sym) (l : ℕ) → n ≤ 63 → j ≤ n → l < n → is_erased erased l ≡ false → v l ≢ gf64.zero → lowered_by j v l ≢ gf64.zero
+  lowered_kept zero v l most low inside kept wrong none = wrong (sym (ap (λ (g : ℕ → Sym). g l) (lowered_by-none v)) ∙ none)
+  lowered_kept (suc j) v l most low inside kept wrong none =
+      elim (cases_Bool (is_erased erased j)) [
+        | inl here ↦
+            mul_ne_zero gf64 (lowered_by j v l) (gf64.add (element_of n l) (element_of n j)) (lowered_kept j v l most (omega arith) inside kept wrong)
+            (λ same. both_ways (is_erased erased l) kept (ap (is_erased erased) (same_place n l j most inside (omega arith) (same_from_sum gf64 (element_of n l) (element_of n j) same)) ∙ here))
+            (sym (ap (λ (g : ℕ → Sym). g l) (lowered_by-gone j v here)) ∙ none)
+        | inr other ↦ lowered_kept j v l most (omega arith) inside kept wrong (sym (ap (λ (g : ℕ → Sym). g l) (lowered_by-kept j v other)) ∙ none)
+      ]
+
+  -- no more are left than wrong places without an erasure
+  pub nonzeros-lowered : (v : ℕ → Sym) → nonzeros gf64 n (lowered_by n v) ≤ nonzeros gf64 n (kept_errors erased v)
+  nonzeros-lowered v =
+      nonzeros_mono gf64 n (lowered_by n v) (kept_errors erased v) (λ l low none. elim (cases_Bool (is_erased erased l)) [
+        | inl here ↦ lowered_gone n v l low here
+        | inr kept ↦ lowered_zero n v l (sym (cond-false (is_erased erased l) gf64.zero (v l) kept) ∙ none)
+      ])

@@ -1,0 +1,16 @@
+use Rattle.std.proofs.Common.{◌≡◌, suc, ◌+◌, sym, subst, arith}
+use Rattle.p25_reed_solomon.specs.Errors.{erased_below}
+use Rattle.p25_reed_solomon.proofs.ErasuresLaws.{erased_below-none, erased_below-gone, erased_below-kept}
+use Rattle.p25_reed_solomon.proofs.erasures.count_erasures.Goals as goal
+use Rattle.p25_reed_solomon.proofs.erasures.count_erasures.Goals.{then-gone, else-gone}
+
+pub loop-gone-init : goal.loop-gone-init
+loop-gone-init c = (sym (erased_below-none c.args.erased.now), omega arith)
+
+pub loop-gone-preserved : goal.loop-gone-preserved
+loop-gone-preserved c =
+    let next : suc c.loop-gone.gone-index ≡ c.loop-gone.gone-index + 1 = omega arith in
+    elim c.if-gone.branch [
+      | then-gone w ↦ (subst (λ m. c.if-gone.count ≡ erased_below c.args.erased.now m) next (omega (arith, w.count-is, erased_below-gone c.args.erased.now c.loop-gone.gone-index w.if-gone.true)), omega (arith, w.count-is))
+      | else-gone w ↦ (subst (λ m. c.if-gone.count ≡ erased_below c.args.erased.now m) next (omega (arith, w.count-is, erased_below-kept c.args.erased.now c.loop-gone.gone-index w.if-gone.false)), omega (arith, w.count-is))
+    ]

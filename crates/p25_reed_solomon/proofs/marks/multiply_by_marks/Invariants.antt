@@ -1,8 +1,0 @@
-use Rattle.std.proofs.Common.{◌≡◌, ℕ, ◌<◌, length}
-use Rattle.p25_gf64.specs.Gf64.{gf64}
-use Rattle.p25_algebra.specs.Series.{coefficient}
-use Rattle.p25_reed_solomon.specs.Locator.{times_marks}
-use Rattle.p25_reed_solomon.proofs.marks.multiply_by_marks.Given as goal
-
-abbrev pub invariant-loop-j : goal.invariant-loop-j
-invariant-loop-j l = (k : ℕ) → k < 32 → coefficient gf64 l.polynomial k ≡ times_marks (length l.erased) l.erased l.j (coefficient gf64 l.fn.polynomial) k
