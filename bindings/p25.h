@@ -35,10 +35,10 @@ uint32_t p25_version(void);
 
 /* Items of a recording ---------------------------------------------------------------------------------------------------- */
 
-/* The kinds of items, and with what the line of each begins. */
 /* The data unit identifiers. */
 enum { P25_HDU = 0, P25_TDU = 3, P25_LDU1 = 5, P25_LDU2 = 10, P25_PDU = 12, P25_TDULC = 15 };
 
+/* The kinds of items, and with what the line of each begins. */
 enum {
     P25_UNIT = 1,   /* unit: a whole unit */
     P25_BROKEN = 2, /* broken: a unit of which some fields fail */
