@@ -1,7 +1,9 @@
 -- Laws of the distance of two lists, for any test that calls letters equal exactly where they are one letter, and of the distance of bits as the
 -- weight of an exclusive or. By induction on both lists.
-use Rattle.std.proofs.Common.{◌≡◌, ℕ, zero, suc, ◌+◌, ◌*◌, ◌^◌, ◌<◌, ◌≤◌, inl, inr, Bool, true, false, cond, List, [], ◌∷◌, ◌++◌, length, get_or, drop, refl, ap, ap₂, sym, ◌∙◌, subst, arith, add-one, bit_xor, mod-eq_of_lt}
+use Rattle.std.proofs.Common.{◌≡◌, ℕ, zero, suc, ◌+◌, ◌*◌, ◌^◌, ◌<◌, ◌≤◌, inl, inr, Bool, true, false, cond, List, [], ◌∷◌, ◌++◌, length, get_or, drop, refl, ap, ap₂, sym, ◌∙◌, subst, arith, add-one, bit_xor, mod-eq_of_lt, nat_eq}
 use Rattle.std.specs.Bool.{beq}
+use Rattle.std.specs.Cmp.{booleans_Decides, unsigned_Decides, both_ways}
+use Rattle.std.specs.Cmp.Lexicographic.{pointwise, pointwise_decides}
 use Rattle.std.proofs.lemmas.Bool.{cases_Bool, cond-true, cond-false}
 use Rattle.std.specs.Int.RustNames.{count_ones}
 use Rattle.std.proofs.lemmas.Nat.{ones_cat, xor_block, xor_lt}
@@ -119,6 +121,14 @@ same_from_distance_of = same_from_distance_by beq beq-alike
 
 pub distance_of-triangle : (xs ys zs : List Bool) → length xs ≡ length ys → distance_of xs zs ≤ distance_of xs ys + distance_of ys zs
 distance_of-triangle = distance_by-triangle beq (λ x y z a b. subst (λ w. beq x w ≡ true) (beq-alike y z b) a)
+
+-- lists of one length are the same where they differ in no place
+pub pointwise-distance_of : (xs ys : List Bool) → length xs ≡ length ys → nat_eq (distance_of xs ys) 0 ≡ pointwise beq xs ys
+pointwise-distance_of xs ys long =
+    let tells = pointwise_decides booleans_Decides xs ys in
+    both_ways (nat_eq (distance_of xs ys) 0) (pointwise beq xs ys)
+    (λ e. tells.1 (same_from_distance_of xs ys long ((unsigned_Decides (distance_of xs ys) 0).0 e)))
+    (λ e. (unsigned_Decides (distance_of xs ys) 0).1 (subst (λ zs. distance_of xs zs ≡ 0) (tells.0 e) (distance_of-same xs)))
 
 -- the exclusive or of two digits has a 1 exactly where they differ
 ones_digits : (x y : Bool) → count_ones (bit_xor (digit_of x) (digit_of y)) ≡ cond (beq x y) 0 1

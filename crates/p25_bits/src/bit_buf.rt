@@ -1,10 +1,15 @@
-ghost use Rattle.std.specs.Prelude.{◌≡◌, ℕ, ◌+◌, ◌-◌, ◌*◌, ◌^◌, ◌<◌, ◌≤◌, Bool, List, [], ◌∷◌, ◌++◌, length, take, drop, slice_get, slice_set};
+ghost use Rattle.std.specs.Prelude.{◌≡◌, ⊤, ℕ, ◌+◌, ◌-◌, ◌*◌, ◌^◌, ◌<◌, ◌≤◌, ◌↔◌, Bool, IsTrue, List, [], ◌∷◌, ◌++◌, length, take, drop, slice_get, slice_set};
+ghost use Rattle.std.specs.Bool.{beq};
+ghost use Rattle.std.specs.Cmp.{bool_eq_equiv, partial_equiv_from_equiv};
+ghost use Rattle.std.specs.Cmp.Lexicographic.{pointwise, lists_equiv};
 ghost use Rattle.p25_bits.specs.Bits.{bits_of, field_of, part, flipped};
 ghost use Rattle.p25_bits.specs.Distance.{distance_of};
 ghost use Rattle.p25_bits.specs.Numbers.{number_bits};
 
 use super::numbers::number_of;
 use super::words::{append_windows, beginning, differing, put_window, shift_down, window};
+use std::alloc::AllocError;
+use std::fmt;
 use std::marker::Model;
 
 /// The most bits that a `BitBuf` holds: those of the longest unit, 25,920, and one octet more.
@@ -43,6 +48,13 @@ impl BitBuf {
         ensures limit { BITS_MOST ≡ 25928 }
     {
         self.len
+    }
+
+    /// Answers whether the list holds no bit.
+    pub fn is_empty(&self) -> bool
+        ensures { IsTrue result ↔ (self.now ≡ []) }
+    {
+        self.len() == 0
     }
 
     /// Empties the list.
@@ -170,5 +182,53 @@ impl BitBuf {
         let rest = (a.len % 64) as u32;
         differing(&a.words, &b.words, words)
             + (a.field(64 * words, rest) ^ b.field(64 * words, rest)).count_ones()
+    }
+}
+
+/// Two lists are equal where they hold the same bits, whatever they held before.
+impl PartialEq for BitBuf {
+    ghost eq = { pointwise beq };
+
+    ghost laws = { partial_equiv_from_equiv (lists_equiv bool_eq_equiv) };
+
+    fn eq(&self, other: &BitBuf) -> bool {
+        self.len() == other.len() && BitBuf::distance(self, other) == 0
+    }
+}
+
+impl Eq for BitBuf {
+    ghost laws = { lists_equiv bool_eq_equiv };
+}
+
+impl Default for BitBuf {
+    ghost is_default = { λ bits. bits ≡ [] };
+
+    /// An empty list.
+    fn default() -> BitBuf {
+        BitBuf::new()
+    }
+}
+
+impl Clone for BitBuf {
+    ghost is_clone = { λ bits copy. copy ≡ bits };
+
+    ghost is_infallible = { λ _. ⊤ };
+
+    fn clone(&self) -> Result<BitBuf, AllocError> {
+        Ok(BitBuf {
+            words: self.words,
+            len: self.len,
+        })
+    }
+}
+
+/// Its bits, as `BitBuf(0101)`. No contract says so.
+impl fmt::Debug for BitBuf {
+    fn fmt<W: fmt::Write>(&self, f: &mut fmt::Formatter<W>) -> fmt::Result {
+        f.write_str("BitBuf(")?;
+        for i in 0..self.len() {
+            f.write_str(if self.get(i) { "1" } else { "0" })?;
+        }
+        f.write_str(")")
     }
 }

@@ -3,14 +3,12 @@
 //! A `BitBuf` holds at most `BITS_MOST` bits, in words of 64. Contracts see it as a list of truth values, `true` for a 1,
 //! and a number as the bits that write it. Places are counted from 0, from the first bit on.
 //!
-//! ```text
+//! ```
 //! let mut bits = BitBuf::new();
 //! bits.put_field(0x5575_F5FF_77FF, 48);
 //! bits.push(true);
-//! assert_eq!(bits.field(0, 4), 0x5);
-//! assert_eq!(bits.field(44, 5), 0x1F);
 //! bits.drop_front(8);
-//! assert_eq!(bits.field(0, 8), 0x75);
+//! assert_eq!(rt; bits.field(0, 8), 0x75);
 //! ```
 //!
 //! `number_of` and `put_number` do the same with a slice of bits. `pair_at` and `triple_at` answer the number of two or three

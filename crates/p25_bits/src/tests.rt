@@ -4,6 +4,15 @@ ghost use Rattle.std.specs.Prelude.{◌≡◌, ◌<◌, length};
 
 use super::*;
 
+#[test]
+fn the_example_of_the_head(rt: HostRuntime) {
+    let mut bits = BitBuf::new();
+    bits.put_field(0x5575_F5FF_77FF, 48);
+    bits.push(true);
+    bits.drop_front(8);
+    assert_eq!(rt; bits.field(0, 8), 0x75);
+}
+
 // A full list: 405 times 64 bits, and 8 more.
 fn full() -> BitBuf
     ensures { length result ≡ 25928 }
@@ -61,8 +70,9 @@ fn changes(rt: HostRuntime) {
     bits.drop_front(4);
     bits.push(true);
     assert_eq!(rt; bits.field(0, 21), 0xAEBE9);
+    assert!(rt; bits != BitBuf::new());
     bits.clear();
-    assert_eq!(rt; bits.len(), 0);
+    assert_eq!(rt; bits, BitBuf::new());
     assert_eq!(rt; BITS_MOST, 25_928);
 }
 

@@ -6,9 +6,9 @@
 //! modulo x^6 + x + 1. α is the symbol 2; its powers are all symbols but 0.
 //!
 //! ```
-//! let two = Sym::new(2)?;
-//! let half = two.inv();
-//! // half.value() is 33, and two.mul(half) is Sym::ONE
+//! let two = Sym::try_from(2)?;
+//! let three = two + Sym::ONE;
+//! assert_eq!(rt; u8::from(two * three), 6);
 //! ```
 //!
 //! Contracts speak of `gf64`, the field as a record of its operations, and of a symbol's `number`.
@@ -20,7 +20,7 @@ mod products;
 mod symbol;
 mod tables;
 
-pub use symbol::Sym;
+pub use symbol::{NotASymbol, Sym};
 
 #[cfg(test)]
 mod tests {
@@ -28,8 +28,16 @@ mod tests {
     use std::test::Fail;
 
     #[test]
+    fn the_example_of_the_head(rt: HostRuntime) -> Result<(), Fail> {
+        let two = Sym::try_from(2)?;
+        let three = two + Sym::ONE;
+        assert_eq!(rt; u8::from(two * three), 6);
+        Ok(())
+    }
+
+    #[test]
     fn field_values(rt: HostRuntime) -> Result<(), Fail> {
-        assert_eq!(rt; Sym::new(64), None);
+        assert_eq!(rt; Sym::try_from(64), Err(NotASymbol(64)));
         let two = Sym::new(2).ok_or("2 is a symbol")?;
         assert!(rt; !two.is_zero());
         assert_eq!(rt; two.inv().value(), 33);

@@ -2,6 +2,9 @@ ghost use Rattle.std.specs.Prelude.{◌≡◌, ◌≢◌, ℕ, ◌<◌, ◌↔�
 
 use crate::products::product;
 use crate::tables::{LOGARITHMS, POWERS};
+use std::error::Error;
+use std::fmt;
+use std::ops::{Add, Mul};
 
 /// An element of GF(64): a number from 0 to 63, whose bit k is the coefficient of x^k.
 #[derive(Clone, Copy, Debug, PartialEq, Eq)]
@@ -121,5 +124,78 @@ impl Sym {
         ensures power { power gf64 alpha result ≡ self }
     {
         LOGARITHMS[self.value as usize]
+    }
+}
+
+/// The number of a symbol.
+impl From<Sym> for u8 {
+    ghost use Rattle.std.specs.Prelude.{◌≡◌};
+    ghost use Rattle.p25_gf64.specs.Symbol.{number};
+
+    ghost from_gives = { λ symbol value. value ≡ number symbol };
+
+    fn from(symbol: Sym) -> u8 {
+        symbol.value()
+    }
+}
+
+/// The symbol of a number, as `Sym::new` answers it. `NotASymbol` comes exactly above 63, with the number.
+impl TryFrom<u8> for Sym {
+    type Error = NotASymbol;
+
+    ghost use Rattle.std.specs.Prelude.{◌≡◌, ◌≤◌, ◌<◌, MatchResult};
+    ghost use Rattle.p25_gf64.specs.Symbol.{number};
+
+    ghost try_from_gives = { λ value result. MatchResult result
+        (λ symbol. (number symbol ≡ value) × (value < 64))
+        (λ refused. (refused.0 ≡ value) × (64 ≤ value)) };
+
+    fn try_from(value: u8) -> Result<Sym, NotASymbol> {
+        Sym::new(value).ok_or(NotASymbol(value))
+    }
+}
+
+/// A number above 63, which is that of no symbol.
+#[derive(Clone, Copy, Debug, PartialEq, Eq)]
+pub struct NotASymbol(pub u8);
+
+impl fmt::Display for NotASymbol {
+    ghost use Rattle.std.specs.Prelude.{Some, ◌++◌, codes, decimal};
+
+    ghost output = { λ refused. Some (decimal refused.0 ++ codes " is no symbol, since it is above 63") };
+
+    fn fmt<W: fmt::Write>(&self, f: &mut fmt::Formatter<W>) -> fmt::Result {
+        let value = self.0;
+        write!(f, "{value} is no symbol, since it is above 63")
+    }
+}
+
+impl Error for NotASymbol {}
+
+/// The sum, as `Sym::add` answers it.
+impl Add for Sym {
+    type Output = Sym;
+
+    ghost use Rattle.std.specs.Prelude.{◌≡◌};
+    ghost use Rattle.p25_gf64.specs.Gf64.{gf64};
+
+    ghost add_gives = { λ a b sum. sum ≡ gf64.add a b };
+
+    fn add(self, other: Sym) -> Sym {
+        Sym::add(self, other)
+    }
+}
+
+/// The product, as `Sym::mul` answers it.
+impl Mul for Sym {
+    type Output = Sym;
+
+    ghost use Rattle.std.specs.Prelude.{◌≡◌};
+    ghost use Rattle.p25_gf64.specs.Gf64.{gf64};
+
+    ghost mul_gives = { λ a b product. product ≡ gf64.mul a b };
+
+    fn mul(self, other: Sym) -> Sym {
+        Sym::mul(self, other)
     }
 }

@@ -9,7 +9,7 @@ use std::marker::Model;
 /// A sink that counts the octets written to it, tells none of them, and never fails. Its count of faults is 0.
 ///
 /// Contracts see it as the number of octets, which stands still at 2^64 - 1.
-#[derive(Drop)]
+#[derive(Clone, Debug, Default, Drop, PartialEq, Eq)]
 pub struct CountSink {
     octets: u64,
 }
@@ -20,6 +20,8 @@ impl Model for CountSink {
     ghost Value = { ℕ };
 
     ghost view = { λ s. s.octets };
+
+    ghost inverse = { λ octets. record { octets = octets } };
 }
 
 impl CountSink {

@@ -1,17 +1,13 @@
 //! The outside of the toolkit: where octets come from ([`Source`]) and where they go to ([`Sink`]).
 //!
-//! ```text
-//! let mut source = SteadySource::new(&recording, 4096);
-//! let mut room = [0; 4096];
+//! ```
+//! let mut source = SteadySource::new(b"octets", 4096);
+//! let mut room = [0; 8];
 //! let mut sink = SliceSink::new(&mut room, &[]);
-//! let mut buf = [0; 64];
-//! for _ in 0..u64::MAX {
-//!     match source.read(&mut buf)? {
-//!         0 => break,
-//!         count => sink.write(&buf[..count])?,
-//!     }
-//! }
-//! sink.written()
+//! let mut buf = [0; 4];
+//! let count = source.read(&mut buf)?;
+//! sink.write(&buf[..count])?;
+//! assert_eq!(rt; sink.written(), b"octe".as_slice());
 //! ```
 //!
 //! - What stands above is written over any source and any sink, and proved from their clauses alone.

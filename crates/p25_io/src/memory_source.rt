@@ -10,7 +10,7 @@ use std::marker::Model;
 ///
 /// Contracts see it as a `Supply`: the octets left, the most that a read gives, the numbers of the calls that fail,
 /// the calls made and the faults. Calls are counted from 1; both counts stand still at 2^64 - 1.
-#[derive(Drop)]
+#[derive(Debug, Drop)]
 pub struct MemorySource<'a> {
     rest: &'a [u8],
     piece: usize,

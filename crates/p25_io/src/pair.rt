@@ -5,7 +5,7 @@ ghost use Rattle.std.specs.Prelude.{◌≡◌};
 use crate::{Failed, Port, Sink, Source};
 
 /// A port that reads from a source and writes to a sink. Contracts see what each went through.
-#[derive(Drop)]
+#[derive(Debug, Drop)]
 pub struct Pair<'a, S, K> {
     source: &'a mut S,
     sink: &'a mut K,

@@ -11,7 +11,7 @@ use std::io::Read;
 /// A source over one of std's readers. It doesn't tell what is left.
 ///
 /// Each Err of the reader is a fault, whatever its kind, and raises a count that stands still at 2^64 - 1.
-#[derive(Drop)]
+#[derive(Debug, Drop)]
 pub struct ReadSource<R> {
     inner: R,
     faults: u64,

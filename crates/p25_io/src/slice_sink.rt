@@ -10,7 +10,7 @@ use std::marker::Model;
 ///
 /// Contracts see it as a `Storage`: the octets written, how many more fit, the numbers of the calls that fail, the
 /// calls made and the faults. Calls are counted from 1; both counts stand still at 2^64 - 1.
-#[derive(Drop)]
+#[derive(Debug, Drop)]
 pub struct SliceSink<'a> {
     room: &'a mut [u8],
     len: usize,

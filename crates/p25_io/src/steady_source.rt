@@ -9,7 +9,7 @@ use std::marker::Model;
 /// A source over octets in memory that never fails. Its count of faults is 0.
 ///
 /// Contracts see it as a `SteadySupply`: the octets left, and the most that a read gives.
-#[derive(Drop)]
+#[derive(Debug, Drop)]
 pub struct SteadySource<'a> {
     rest: &'a [u8],
     piece: usize,

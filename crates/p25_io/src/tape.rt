@@ -8,7 +8,7 @@ use crate::{Failed, MemorySource, Port, Sink, SliceSink, Source};
 use std::alloc::Global;
 
 /// A call of a port.
-#[derive(Drop)]
+#[derive(Debug, Drop, PartialEq, Eq)]
 pub enum Call {
     /// A read gave these octets, or none at the end of the input.
     Read(Vec<u8>),
@@ -23,7 +23,7 @@ pub enum Call {
 /// A port over a source and a sink in memory that keeps all its calls, in their order: to try what stands on a port.
 ///
 /// Contracts see that the calls on it are those that were made, unless it is torn: there was not enough memory for one of them.
-#[derive(Drop)]
+#[derive(Debug, Drop)]
 pub struct Tape<'a> {
     source: MemorySource<'a>,
     sink: SliceSink<'a>,

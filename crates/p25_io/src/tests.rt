@@ -4,6 +4,19 @@ ghost use Rattle.p25_io.specs.Faults.{HasCause};
 ghost use Rattle.p25_io.specs.Octets.{Taken, Appended, AppendedBeginning};
 
 use super::*;
+use std::test::Fail;
+
+#[test]
+fn the_example_of_the_head(rt: HostRuntime) -> Result<(), Fail> {
+    let mut source = SteadySource::new(b"octets", 4096);
+    let mut room = [0; 8];
+    let mut sink = SliceSink::new(&mut room, &[]);
+    let mut buf = [0; 4];
+    let count = source.read(&mut buf)?;
+    sink.write(&buf[..count])?;
+    assert_eq!(rt; sink.written(), b"octe".as_slice());
+    Ok(())
+}
 
 // Reads to the end, or until the room is full.
 pub(crate) fn gather<S: Source>(source: &mut S, room: &mut [u8]) -> Result<usize, Failed>

@@ -12,7 +12,7 @@ use std::io::Write;
 ///
 /// A fault is an Err of the writer, whatever its kind, also of its flush, or a write of the writer that takes nothing
 /// of octets that are left. It raises a count that stands still at 2^64 - 1.
-#[derive(Drop)]
+#[derive(Debug, Drop)]
 pub struct WriteSink<W> {
     inner: W,
     faults: u64,

@@ -1,4 +1,7 @@
-ghost use Rattle.std.specs.Prelude.{◌≡◌, ◌+◌, ◌*◌, ◌<◌, ◌≤◌, ◌⊎◌, ◌↔◌, false, [], ◌∷◌, ◌++◌, length, replicate, slice_get, slice_set, Some, IsSome};
+ghost use Rattle.std.specs.Prelude.{◌≡◌, ◌+◌, ◌*◌, ◌<◌, ◌≤◌, ◌⊎◌, ◌↔◌, IsTrue, false, [], ◌∷◌, ◌++◌, length, replicate, slice_get, slice_set, Some, IsSome};
+ghost use Rattle.std.specs.Bool.{beq};
+ghost use Rattle.std.specs.Cmp.{bool_eq_equiv, partial_equiv_from_equiv};
+ghost use Rattle.std.specs.Cmp.Lexicographic.{pointwise, lists_equiv};
 ghost use Rattle.p25_bits.specs.Bits.{octet_bits};
 ghost use Rattle.p25_bits.specs.Numbers.{octets_from};
 ghost use Rattle.p25_packet_blocks.specs.FlagOctets.{flag_octets, flags_of_octets};
@@ -9,7 +12,7 @@ use std::marker::Model;
 
 /// The flags of a selective retry, one for each block of a message: true means that the block was received. There are 64
 /// or 128.
-#[derive(Drop)]
+#[derive(Clone, Debug, Drop)]
 pub struct Flags {
     flags: [bool; 128],
     count: usize,
@@ -45,6 +48,21 @@ impl Flags {
         self.count
     }
 
+    /// Answers false: there are 64 flags or 128.
+    pub fn is_empty(&self) -> bool
+        ensures { IsTrue result ↔ (self.now ≡ []) }
+    {
+        self.len() == 0
+    }
+
+    /// Answers all flags, in order.
+    pub fn as_slice(&self) -> &[bool]
+        ensures value { result.now ≡ self.now }
+        ensures counts { (length self.now ≡ 64) ⊎ (length self.now ≡ 128) }
+    {
+        &self.flags[..self.count]
+    }
+
     /// Answers flag `i`.
     pub fn get(&self, i: usize) -> bool
         requires { i < length self.now }
@@ -60,6 +78,21 @@ impl Flags {
     {
         self.flags[i] = flag;
     }
+}
+
+/// Flags are equal where they are as many, and one by one the same.
+impl PartialEq for Flags {
+    ghost eq = { pointwise beq };
+
+    ghost laws = { partial_equiv_from_equiv (lists_equiv bool_eq_equiv) };
+
+    fn eq(&self, other: &Flags) -> bool {
+        self.as_slice() == other.as_slice()
+    }
+}
+
+impl Eq for Flags {
+    ghost laws = { lists_equiv bool_eq_equiv };
 }
 
 // Appends the octets that bits write, as many as are asked for.

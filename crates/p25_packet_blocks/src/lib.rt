@@ -7,14 +7,13 @@
 //! 308 + 196 · j, at three-quarter rate where the packet is confirmed and at half rate else, and then nulls up to a multiple
 //! of 70.
 //!
-//! ```text
-//! let mut slots = Slots::new();
-//! slots.push(Slot::Good(Block::new(0, octets)));
+//! ```
 //! let head = PacketHead::confirmed(1, true, 1, 0, 0);
+//! let mut slots = Slots::new();
+//! slots.push(Slot::Good(Block::new(0, [7; 16])));
 //! let packet = Packet::Confirmed(Confirmed::new(head, slots));
-//! packet_image(0x293, &packet, &mut bare);
-//! weave(&bare, &statuses, &mut sent);
-//! let (nac, again) = read_packet_unit(&sent)?;
+//! let again = packet.clone()?;
+//! assert!(rt; is_whole(&packet) && packet_length(&head) == 576 && again == packet);
 //! ```
 //!
 //! Contracts see a list as a list, and a packet, a block and the two kinds of packets as records of their parts. What a unit

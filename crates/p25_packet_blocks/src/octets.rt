@@ -1,4 +1,4 @@
-ghost use Rattle.std.specs.Prelude.{◌≡◌, ◌+◌, ◌<◌, ◌≤◌, [], ◌∷◌, ◌++◌, length, slice_get, Some};
+ghost use Rattle.std.specs.Prelude.{◌≡◌, ◌+◌, ◌<◌, ◌≤◌, ◌↔◌, IsTrue, [], ◌∷◌, ◌++◌, length, slice_get, Some};
 ghost use Rattle.arrayvec.specs.ArrayVec.{array_vec_len};
 
 use arrayvec::ArrayVec;
@@ -13,7 +13,7 @@ pub(crate) fn append<const N: usize>(items: &mut ArrayVec<u8, N>, more: &[u8])
 }
 
 /// A list of at most 1,520 octets, as many as a packet of 127 blocks that is not confirmed has before its CRC.
-#[derive(Drop)]
+#[derive(Clone, Debug, Default, Drop, PartialEq, Eq)]
 pub struct Octets {
     items: ArrayVec<u8, 1520>,
 }
@@ -24,6 +24,8 @@ impl Model for Octets {
     ghost Value = { List ℕ };
 
     ghost view = { λ s. s.items.items };
+
+    ghost inverse = { λ octets. record { items = record { items = octets } } };
 }
 
 impl Octets {
@@ -42,6 +44,21 @@ impl Octets {
         ensures most { result ≤ 1520 }
     {
         self.items.len()
+    }
+
+    /// Answers whether the list holds no octet.
+    pub fn is_empty(&self) -> bool
+        ensures { IsTrue result ↔ (self.now ≡ []) }
+    {
+        self.len() == 0
+    }
+
+    /// Answers all octets, in order, as `octets` does.
+    pub fn as_slice(&self) -> &[u8]
+        ensures value { result.now ≡ self.now }
+        ensures most { length self.now ≤ 1520 }
+    {
+        self.items.as_slice()
     }
 
     /// Answers a copy of octet `i`.

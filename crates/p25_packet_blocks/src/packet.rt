@@ -6,7 +6,7 @@ use crate::slots::Slots;
 use std::marker::Model;
 
 /// A confirmed packet: a header of format 16 hex, and a slot for each block to follow.
-#[derive(Drop)]
+#[derive(Clone, Debug, Drop, PartialEq, Eq)]
 pub struct Confirmed {
     head: PacketHead,
     slots: Slots,
@@ -21,6 +21,8 @@ impl Model for Confirmed {
     ghost view = { λ packet. record { head = packet.head; slots = packet.slots } };
 
     ghost invariant = { λ packet. IsConfirmed (record { head = packet.head; slots = packet.slots }) };
+
+    ghost inverse = { λ parts. record { head = parts.head; slots = parts.slots } };
 }
 
 impl Confirmed {
@@ -54,7 +56,7 @@ impl Confirmed {
 
 /// A packet that is not confirmed, or a response: a header of format 15 or 03 hex, and its octets before the packet CRC,
 /// twelve for each block to follow less those four, or none where there is no block to follow.
-#[derive(Drop)]
+#[derive(Clone, Debug, Drop, PartialEq, Eq)]
 pub struct Plain {
     head: PacketHead,
     octets: Octets,
@@ -69,6 +71,8 @@ impl Model for Plain {
     ghost view = { λ packet. record { head = packet.head; octets = packet.octets } };
 
     ghost invariant = { λ packet. IsPlain (record { head = packet.head; octets = packet.octets }) };
+
+    ghost inverse = { λ parts. record { head = parts.head; octets = parts.octets } };
 }
 
 impl Plain {
@@ -101,7 +105,7 @@ impl Plain {
 }
 
 /// A packet, by the way in which it is sent. TIA-102.BAAA, Packet Data.
-#[derive(Drop)]
+#[derive(Clone, Debug, Drop, PartialEq, Eq)]
 pub enum Packet {
     /// A packet whose blocks are confirmed one by one.
     Confirmed(Confirmed),

@@ -1,11 +1,11 @@
-ghost use Rattle.std.specs.Prelude.{◌≡◌, ◌+◌, ◌<◌, ◌≤◌, [], ◌∷◌, ◌++◌, length, slice_get, Some};
+ghost use Rattle.std.specs.Prelude.{◌≡◌, ◌+◌, ◌<◌, ◌≤◌, ◌↔◌, IsTrue, [], ◌∷◌, ◌++◌, length, slice_get, Some};
 
 use crate::block::Slot;
 use arrayvec::ArrayVec;
 use std::marker::Model;
 
 /// A list of at most 127 slots, one for each block to follow, in the order of sending.
-#[derive(Drop)]
+#[derive(Clone, Debug, Default, Drop, PartialEq, Eq)]
 pub struct Slots {
     items: ArrayVec<Slot, 127>,
 }
@@ -17,6 +17,8 @@ impl Model for Slots {
     ghost Value = { List Slot };
 
     ghost view = { λ s. s.items.items };
+
+    ghost inverse = { λ slots. record { items = record { items = slots } } };
 }
 
 impl Slots {
@@ -35,6 +37,21 @@ impl Slots {
         ensures most { result ≤ 127 }
     {
         self.items.len()
+    }
+
+    /// Answers whether the list holds no slot.
+    pub fn is_empty(&self) -> bool
+        ensures { IsTrue result ↔ (self.now ≡ []) }
+    {
+        self.len() == 0
+    }
+
+    /// Answers all slots, in order.
+    pub fn as_slice(&self) -> &[Slot]
+        ensures value { result.now ≡ self.now }
+        ensures most { length self.now ≤ 127 }
+    {
+        self.items.as_slice()
     }
 
     /// Answers a copy of slot `i`.

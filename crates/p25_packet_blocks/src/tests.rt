@@ -11,6 +11,18 @@ use super::{
 use p25_bits::BitBuf;
 use p25_status::{Field, Status, Statuses, weave};
 use std::process::Abort;
+use std::test::Fail;
+
+#[test]
+fn the_example_of_the_head(rt: HostRuntime) -> Result<(), Fail> {
+    let head = PacketHead::confirmed(1, true, 1, 0, 0);
+    let mut slots = Slots::new();
+    slots.push(Slot::Good(Block::new(0, [7; 16])));
+    let packet = Packet::Confirmed(Confirmed::new(head, slots));
+    let again = packet.clone()?;
+    assert!(rt; is_whole(&packet) && packet_length(&head) == 576 && again == packet);
+    Ok(())
+}
 
 // The first bits of some words, the most significant bit first, and then bits 0.
 fn unit(words: &[u64], len: usize) -> BitBuf {

@@ -10,11 +10,11 @@
 //! programs of your own.
 //!
 //! ```
-//! // 1 + x^3 divided by 1 + x
 //! let one = Sym::ONE;
-//! let dividend = Poly::from_symbols(&[one, Sym::ZERO, Sym::ZERO, one]);
-//! let (quotient, remainder) = dividend.divide(&Poly::from_symbols(&[one, one]));
-//! // quotient is 1 + x + x^2, and remainder is zero
+//! let factor = Poly::from_symbols(&[one, one]); // 1 + x
+//! let product = factor.mul(&Poly::from_symbols(&[one, one, one])); // by 1 + x + x^2
+//! let wanted = Poly::from_symbols(&[one, Sym::ZERO, Sym::ZERO, one]); // 1 + x^3
+//! assert_eq!(rt; product, wanted);
 //! ```
 //!
 //! Contracts see a polynomial as `coefficient_of` at each exponent and a matrix as its `entry` at each

@@ -4,7 +4,7 @@ use crate::row::Row;
 use p25_gf64::Sym;
 
 /// A matrix over GF(64) of at most 24 rows and 24 columns.
-#[derive(Clone, Copy, Debug)]
+#[derive(Clone, Copy, Debug, PartialEq, Eq)]
 pub struct Matrix {
     pub(crate) rows: usize,
     pub(crate) columns: usize,

@@ -6,7 +6,7 @@ use crate::multiples::add_multiple;
 use p25_gf64::Sym;
 
 /// The equation that the sum of cell times unknown is the right side.
-#[derive(Clone, Copy, Debug)]
+#[derive(Clone, Copy, Debug, PartialEq, Eq)]
 pub(crate) struct Row {
     pub(crate) cells: [Sym; 24],
     pub(crate) right: Sym,

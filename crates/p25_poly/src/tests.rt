@@ -3,6 +3,15 @@ use p25_gf64::Sym;
 use std::test::Fail;
 
 #[test]
+fn the_example_of_the_head(rt: HostRuntime) {
+    let one = Sym::ONE;
+    let factor = Poly::from_symbols(&[one, one]); // 1 + x
+    let product = factor.mul(&Poly::from_symbols(&[one, one, one])); // by 1 + x + x^2
+    let wanted = Poly::from_symbols(&[one, Sym::ZERO, Sym::ZERO, one]); // 1 + x^3
+    assert_eq!(rt; product, wanted);
+}
+
+#[test]
 fn degrees(rt: HostRuntime) -> Result<(), Fail> {
     let two = Sym::new(2).ok_or("2 is a symbol")?;
     assert_eq!(rt; Poly::zero().degree(), None);

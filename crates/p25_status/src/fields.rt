@@ -1,6 +1,8 @@
-ghost use Rattle.std.specs.Prelude.{◌≡◌, ◌+◌, ◌<◌, ◌≤◌, List, [], ◌∷◌, ◌++◌, length, slice_get};
+ghost use Rattle.std.specs.Prelude.{◌≡◌, ◌+◌, ◌<◌, ◌≤◌, ◌↔◌, IsTrue, List, [], ◌∷◌, ◌++◌, length, slice_get};
 
 use arrayvec::ArrayVec;
+use std::error::Error;
+use std::fmt;
 use std::marker::Model;
 
 /// A part of a unit that can fail to be read. The default, which fills the unused places of a list, means nothing.
@@ -36,7 +38,7 @@ pub enum Field {
 }
 
 /// A list of at most 127 fields, as many as a packet has blocks.
-#[derive(Drop)]
+#[derive(Clone, Debug, Default, Drop, PartialEq, Eq)]
 pub struct FieldList {
     items: ArrayVec<Field, 127>,
 }
@@ -48,6 +50,8 @@ impl Model for FieldList {
     ghost Value = { List Field };
 
     ghost view = { λ s. s.items.items };
+
+    ghost inverse = { λ fields. record { items = record { items = fields } } };
 }
 
 impl FieldList {
@@ -77,6 +81,21 @@ impl FieldList {
         self.items.len()
     }
 
+    /// Answers whether the list holds no field.
+    pub fn is_empty(&self) -> bool
+        ensures { IsTrue result ↔ (self.now ≡ []) }
+    {
+        self.len() == 0
+    }
+
+    /// Answers all fields, in order.
+    pub fn as_slice(&self) -> &[Field]
+        ensures value { result.now ≡ self.now }
+        ensures most { length self.now ≤ 127 }
+    {
+        self.items.as_slice()
+    }
+
     /// Answers a copy of field `i`.
     pub fn get(&self, i: usize) -> Field
         requires { i < length self.now }
@@ -94,3 +113,41 @@ impl FieldList {
         self.items.push(entry);
     }
 }
+
+/// Its name, as the lines of a unit's texts have it: `link_control`, or `block.5` of a block. No contract says so.
+impl fmt::Display for Field {
+    fn fmt<W: fmt::Write>(&self, f: &mut fmt::Formatter<W>) -> fmt::Result {
+        match self {
+            Field::Sync => f.write_str("sync"),
+            Field::Nid => f.write_str("nid"),
+            Field::Duid => f.write_str("duid"),
+            Field::HeaderWord => f.write_str("header_word"),
+            Field::LinkControl => f.write_str("link_control"),
+            Field::EncryptionSync => f.write_str("encryption_sync"),
+            Field::LowSpeed1 => f.write_str("low_speed_1"),
+            Field::LowSpeed2 => f.write_str("low_speed_2"),
+            Field::PacketHeader => f.write_str("packet_header"),
+            Field::Length => f.write_str("length"),
+            Field::Format => f.write_str("format"),
+            Field::PacketCrc => f.write_str("packet_crc"),
+            Field::Block(block) => write!(f, "block.{block}"),
+        }
+    }
+}
+
+impl Error for Field {}
+
+/// The names of its fields, with commas between them. No contract says so.
+impl fmt::Display for FieldList {
+    fn fmt<W: fmt::Write>(&self, f: &mut fmt::Formatter<W>) -> fmt::Result {
+        for i in 0..self.len() {
+            if i > 0 {
+                f.write_str(",")?;
+            }
+            fmt::Display::fmt(&self.get(i), f)?;
+        }
+        Ok(())
+    }
+}
+
+impl Error for FieldList {}

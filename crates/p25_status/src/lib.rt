@@ -5,12 +5,14 @@
 //! 72 · i + 70 and 72 · i + 71. Contracts speak of the sent bits as `woven bits statuses`, of the way back as `bare_of`
 //! and `statuses_of`, and of the rule by places as `StandsByPlaces`. Lists are seen as lists.
 //!
-//! ```text
+//! ```
+//! let mut bare = BitBuf::new();
+//! bare.put_field(SYNC, 48);
+//! bare.put_field(0, 22);
+//! let statuses = Statuses::filled(Status::default(), 1);
 //! let mut sent = BitBuf::new();
 //! weave(&bare, &statuses, &mut sent);
-//! if is_sync(&sent, 0) {
-//!     unweave(&sent, 0, sent.len(), &mut bare, &mut statuses);
-//! }
+//! assert!(rt; is_sync(&sent, 0) && sent.len() == 72);
 //! ```
 #![tactic(auto)]
 
@@ -26,5 +28,5 @@ pub use fields::{Field, FieldList};
 pub use frame_sync::{
     IDENTIFIER_LENGTH, SYNC, SYNC_LENGTH, SYNC_SLACK, is_sync, is_sync_window, sync_distance,
 };
-pub use symbols::{Status, Statuses};
+pub use symbols::{NotAStatus, Status, Statuses};
 pub use weaving::{BARE_BLOCK_LENGTH, SENT_BLOCK_LENGTH, unweave, weave};

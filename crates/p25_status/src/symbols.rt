@@ -1,6 +1,8 @@
-ghost use Rattle.std.specs.Prelude.{◌≡◌, ℕ, ◌+◌, ◌<◌, ◌≤◌, ◌↔◌, Bool, List, [], ◌∷◌, ◌++◌, length, slice_get, replicate, IsSome, IfSome};
+ghost use Rattle.std.specs.Prelude.{◌≡◌, ℕ, ◌+◌, ◌<◌, ◌≤◌, ◌↔◌, Bool, IsTrue, List, [], ◌∷◌, ◌++◌, length, slice_get, replicate, IsSome, IfSome};
 
 use arrayvec::ArrayVec;
+use std::error::Error;
+use std::fmt;
 use std::marker::Model;
 
 /// A status symbol, a number from 0 to 3 that is sent as two bits, the higher one first: 1 is inbound busy, 3 inbound
@@ -55,8 +57,53 @@ impl Status {
     }
 }
 
+/// The number of a status symbol.
+impl From<Status> for u8 {
+    ghost use Rattle.std.specs.Prelude.{◌≡◌};
+    ghost use Rattle.p25_status.specs.Status.{status_number};
+
+    ghost from_gives = { λ status value. value ≡ status_number status };
+
+    fn from(status: Status) -> u8 {
+        status.value()
+    }
+}
+
+/// The status symbol of a number, as `Status::new` answers it. `NotAStatus` comes exactly above 3, with the number.
+impl TryFrom<u8> for Status {
+    type Error = NotAStatus;
+
+    ghost use Rattle.std.specs.Prelude.{◌≡◌, ◌≤◌, ◌<◌, MatchResult};
+    ghost use Rattle.p25_status.specs.Status.{status_number};
+
+    ghost try_from_gives = { λ value result. MatchResult result
+        (λ status. (status_number status ≡ value) × (value < 4))
+        (λ refused. (refused.0 ≡ value) × (4 ≤ value)) };
+
+    fn try_from(value: u8) -> Result<Status, NotAStatus> {
+        Status::new(value).ok_or(NotAStatus(value))
+    }
+}
+
+/// A number above 3, which is that of no status symbol.
+#[derive(Clone, Copy, Debug, PartialEq, Eq)]
+pub struct NotAStatus(pub u8);
+
+impl fmt::Display for NotAStatus {
+    ghost use Rattle.std.specs.Prelude.{Some, ◌++◌, codes, decimal};
+
+    ghost output = { λ refused. Some (decimal refused.0 ++ codes " is no status symbol, since it is above 3") };
+
+    fn fmt<W: fmt::Write>(&self, f: &mut fmt::Formatter<W>) -> fmt::Result {
+        let value = self.0;
+        write!(f, "{value} is no status symbol, since it is above 3")
+    }
+}
+
+impl Error for NotAStatus {}
+
 /// A list of at most 360 status symbols, as many as the longest unit has.
-#[derive(Drop)]
+#[derive(Clone, Debug, Default, Drop, PartialEq, Eq)]
 pub struct Statuses {
     items: ArrayVec<Status, 360>,
 }
@@ -68,6 +115,8 @@ impl Model for Statuses {
     ghost Value = { List Status };
 
     ghost view = { λ s. s.items.items };
+
+    ghost inverse = { λ statuses. record { items = record { items = statuses } } };
 }
 
 impl Statuses {
@@ -99,6 +148,21 @@ impl Statuses {
         ensures most { result ≤ 360 }
     {
         self.items.len()
+    }
+
+    /// Answers whether the list holds no symbol.
+    pub fn is_empty(&self) -> bool
+        ensures { IsTrue result ↔ (self.now ≡ []) }
+    {
+        self.len() == 0
+    }
+
+    /// Answers all symbols, in order.
+    pub fn as_slice(&self) -> &[Status]
+        ensures value { result.now ≡ self.now }
+        ensures most { length self.now ≤ 360 }
+    {
+        self.items.as_slice()
     }
 
     /// Answers a copy of symbol `i`.

@@ -1,17 +1,28 @@
 //! Values computed apart from this code, and each call once.
 
 use super::{
-    Field, FieldList, SYNC, Status, Statuses, is_sync, is_sync_window, sync_distance, unweave,
-    weave,
+    Field, FieldList, NotAStatus, SYNC, Status, Statuses, is_sync, is_sync_window, sync_distance,
+    unweave, weave,
 };
 use p25_bits::BitBuf;
 use std::test::Fail;
 
 #[test]
+fn the_example_of_the_head(rt: HostRuntime) {
+    let mut bare = BitBuf::new();
+    bare.put_field(SYNC, 48);
+    bare.put_field(0, 22);
+    let statuses = Statuses::filled(Status::default(), 1);
+    let mut sent = BitBuf::new();
+    weave(&bare, &statuses, &mut sent);
+    assert!(rt; is_sync(&sent, 0) && sent.len() == 72);
+}
+
+#[test]
 fn status_values(rt: HostRuntime) -> Result<(), Fail> {
-    assert_eq!(rt; Status::new(4), None);
-    let idle = Status::new(3).ok_or("3 is a status symbol")?;
-    assert_eq!(rt; idle.value(), 3);
+    assert_eq!(rt; Status::try_from(4), Err(NotAStatus(4)));
+    let idle = Status::try_from(3)?;
+    assert_eq!(rt; u8::from(idle), 3);
     assert_eq!(rt; Status::default().value(), 0);
     Ok(())
 }
@@ -68,13 +79,31 @@ fn one_symbol_throughout(rt: HostRuntime) -> Result<(), Fail> {
 }
 
 #[test]
-fn field_lists(rt: HostRuntime) {
+fn field_lists(rt: HostRuntime) -> Result<(), Fail> {
     let mut fields = FieldList::new();
-    fields.push(Field::LinkControl);
-    fields.push(Field::Block(126));
-    assert_eq!(rt; fields.len(), 2);
-    assert_eq!(rt; fields.get(0), Field::LinkControl);
-    assert_eq!(rt; fields.get(1), Field::Block(126));
+    for field in [
+        Field::Sync,
+        Field::Nid,
+        Field::Duid,
+        Field::HeaderWord,
+        Field::LinkControl,
+        Field::EncryptionSync,
+        Field::LowSpeed1,
+        Field::LowSpeed2,
+        Field::PacketHeader,
+        Field::Length,
+        Field::Format,
+        Field::PacketCrc,
+        Field::Block(126),
+    ] {
+        assert!(rt; fields.len() < 127);
+        fields.push(field);
+    }
+    let names =
+        "sync,nid,duid,header_word,link_control,encryption_sync,low_speed_1,low_speed_2,packet_header,length,format,packet_crc,block.126";
+    assert_eq!(rt; format!(in rt.alloc(); "{fields}")?.as_str(), names);
+    assert_eq!(rt; fields.as_slice().last(), Some(&Field::Block(126)));
+    Ok(())
 }
 
 #[test]

@@ -13,15 +13,14 @@
 //!
 //! Where each part stands is a table for each kind, as `LDU_ROWS`. Voice frames are carried as they are and not decoded.
 //!
-//! ```text
-//! let unit = VoiceUnit::EndLink { link: LinkControl([0; 9]) };
+//! ```
+//! let link = LinkControl([7; 9]);
+//! let unit = VoiceUnit::EndLink { link };
 //! let mut bare = BitBuf::new();
 //! voice_image(0x293, &unit, &mut bare);
 //! let mut fixes = 0;
-//! match read_voice_counted(unit.duid(), &received, &mut fixes) {
-//!     Ok(read) => …,     // so many bits of its code words were wrong
-//!     Err(failing) => …, // exactly the fields that fail, in order
-//! }
+//! let read = read_voice_counted(unit.duid(), &bare, &mut fixes);
+//! assert!(rt; read == Ok(unit) && fixes == 0);
 //! ```
 //!
 //! Contracts see a unit's bits as `voice_image_of` and what is read as `voice_reading_of`. `image_laws` says that these bits

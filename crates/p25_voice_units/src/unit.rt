@@ -8,7 +8,7 @@ use p25_bch_nid::{HDU, LDU1, LDU2, TDU, TDULC};
 use p25_link::{EncryptionSync, HeaderWord, LinkControl};
 
 /// A voice unit without its network access code and status symbols.
-#[derive(Debug, Drop, PartialEq, Eq)]
+#[derive(Clone, Debug, Drop, PartialEq, Eq)]
 pub enum VoiceUnit {
     /// HDU: a header, with which a call begins (TIA-102.BAAA, Header Data Unit).
     Header(HeaderWord),
