@@ -5,10 +5,9 @@ ghost use Rattle.p25_bits.specs.Distance.{distance_of};
 ghost use Rattle.p25_bch_nid.specs.Bch63.{IsBch63};
 
 use crate::bch63::GENERATOR;
-use crate::symbols::put_symbols;
+use crate::syndromes::syndromes_of;
 use p25_bits::{number_of, number_remainder};
-use p25_gf64::Sym;
-use p25_reed_solomon::{fill_syndromes, mark_wrong};
+use p25_reed_solomon::mark_wrong;
 
 // Answers whether 63 bits are a word of the code: whether the generator divides them.
 pub(crate) fn is_word(word: &[bool]) -> bool
@@ -33,10 +32,7 @@ pub(crate) fn corrected(word: &[bool]) -> [bool; 63]
     ensures sent { (sent : List Bool) → IsBch63 sent → distance_of word.now sent ≤ 11 → result ≡ sent }
     ensures full { length result ≡ 63 }
 {
-    let mut symbols = [Sym::default(); 63];
-    put_symbols(word, &mut symbols);
-    let mut syndromes = [Sym::default(); 32];
-    fill_syndromes(&symbols, &mut syndromes);
+    let syndromes = syndromes_of(number_of(word));
     let mut wrong = [false; 63];
     mark_wrong(&syndromes, 22, &mut wrong);
     let mut sent = [false; 63];

@@ -26,7 +26,7 @@ pub mod laws;
 mod nid;
 mod reading;
 mod sent;
-mod symbols;
+mod syndromes;
 
 pub use bch63::Bch63;
 pub use duid::{HDU, LDU1, LDU2, PDU, TDU, TDULC};
