@@ -1,12 +1,14 @@
 -- Inverting the bits of the places that are wrong makes the word that was sent: the symbols of two bits add to zero exactly where the
 -- bits are the same.
-use Rattle.std.proofs.Common.{◌≡◌, ◌≢◌, ◌↔◌, ℕ, zero, suc, ◌+◌, ◌^◌, ◌<◌, ◌≤◌, Bool, true, false, cond, not, IsTrue, List, [], ◌∷◌, length, get_or, refl, ap, ap₂, sym, ◌∙◌, subst, arith, lit<}
+use Rattle.std.proofs.Common.{◌≡◌, ◌≢◌, ◌↔◌, ℕ, zero, suc, ◌+◌, ◌-◌, ◌%◌, ◌^◌, ◌<◌, ◌⊎◌, inl, inr, eqb, bit_xor, ◌≤◌, Bool, true, false, cond, not, IsTrue, List, [], ◌∷◌, length, get_or, refl, ap, ap₂, sym, ◌∙◌, subst, arith, lit<}
+use Rattle.std.specs.Int.{bit_at}
 use Rattle.std.specs.Int.Bits.{xor_zero_r}
-use Rattle.std.proofs.lemmas.Bool.{false≢true}
+use Rattle.std.proofs.lemmas.Nat.Bits.{bit_at_xor, bit_at-lt}
+use Rattle.std.proofs.lemmas.Bool.{false≢true, cases_lt}
 use Rattle.std.proofs.lemmas.List.{ext_get_or, length-map}
 use Rattle.p25_bits.specs.Bits.{bits_of, field_of}
 use Rattle.p25_bits.specs.Distance.{distance_of}
-use Rattle.p25_bits.proofs.BitsLaws.{bits_of-field_of, field_of-lt}
+use Rattle.p25_bits.proofs.BitsLaws.{bits_of-field_of, field_of-lt, get_or-bits_of, length-bits_of}
 use Rattle.p25_gf64.specs.Field.{power}
 use Rattle.p25_gf64.specs.Symbol.{alpha}
 use Rattle.p25_bits.specs.Divisible.{IsDivisible, IsRemainder}
@@ -69,7 +71,7 @@ errors_of_bits received sent number syndromes long is are of_code near =
     (omega (arith, distance_of_symbols received sent))
 
 -- what was sent
-pub corrected_is : (received sent made wrong : List Bool) → length received ≡ 63 → length made ≡ 63 → IsBch63 sent
+corrected_is : (received sent made wrong : List Bool) → length received ≡ 63 → length made ≡ 63 → IsBch63 sent
     → ((j : ℕ) → j < 63 → get_or made j false ≡ cond (get_or wrong j false) (not (get_or received j false)) (get_or received j false))
     → ((j : ℕ) → j < 63 → IsTrue (get_or wrong j false) ↔ (gf64.add (coefficient gf64 (symbols_of received) j) (coefficient gf64 (symbols_of sent) j) ≢ gf64.zero)) → made ≡ sent
 corrected_is received sent made wrong long full of_code is exactly =
@@ -78,3 +80,41 @@ corrected_is received sent made wrong long full of_code is exactly =
     is j inside
     ∙ inverted (get_or wrong j false) (get_or received j false) (get_or sent j false)
     (subst (λ s. IsTrue (get_or wrong j false) ↔ (s ≢ gf64.zero)) (ap₂ gf64.add (coefficient-symbols_of received j) (coefficient-symbols_of sent j)) (exactly j inside)))
+
+-- a bit of a sum is the bit of the first number, inverted where the second has a 1
+xored : (a b e : ℕ) → eqb (bit_at (bit_xor a b) e) 1 ≡ cond (eqb (bit_at b e) 1) (not (eqb (bit_at a e) 1)) (eqb (bit_at a e) 1)
+xored a b e = ap (λ n. eqb n 1) (bit_at_xor a b e) ∙ of_bits (bit_at a e) (bit_at b e) (bit_at-lt a e) (bit_at-lt b e)
+  where
+    is : ℕ → ℕ → Type 0
+    is x y = eqb ((x + y) % 2) 1 ≡ cond (eqb y 1) (not (eqb x 1)) (eqb x 1)
+
+    either : (x : ℕ) → x < 2 → (x ≡ 0) ⊎ (x ≡ 1)
+    either x low = elim (cases_lt x 1) [ inl zero_bit ↦ inl (omega arith) | inr one_bit ↦ inr (omega arith) ]
+
+    of_bits : (x y : ℕ) → x < 2 → y < 2 → eqb ((x + y) % 2) 1 ≡ cond (eqb y 1) (not (eqb x 1)) (eqb x 1)
+    of_bits x y x_low y_low =
+        elim (either x x_low) [
+          | inl x_is ↦ elim (either y y_low) [
+            | inl y_is ↦ subst (λ n. is n y) (sym x_is) (subst (λ n. is 0 n) (sym y_is) refl)
+            | inr y_is ↦ subst (λ n. is n y) (sym x_is) (subst (λ n. is 0 n) (sym y_is) refl)
+          ]
+          | inr x_is ↦ elim (either y y_low) [
+            | inl y_is ↦ subst (λ n. is n y) (sym x_is) (subst (λ n. is 1 n) (sym y_is) refl)
+            | inr y_is ↦ subst (λ n. is n y) (sym x_is) (subst (λ n. is 1 n) (sym y_is) refl)
+          ]
+        ]
+
+-- what was sent, by numbers
+pub corrected_number : (received sent made : List Bool) (number wrong : ℕ) → length received ≡ 63 → number ≡ field_of received → made ≡ bits_of 63 (bit_xor number wrong) → IsBch63 sent
+    → ((j : ℕ) → j < 63 → IsTrue (eqb (bit_at wrong (63 - 1 - j)) 1) ↔ (gf64.add (coefficient gf64 (symbols_of received) j) (coefficient gf64 (symbols_of sent) j) ≢ gf64.zero)) → made ≡ sent
+corrected_number received sent made number wrong long is is_made of_code exactly =
+    corrected_is received sent made (bits_of 63 wrong) long (ap (λ (l : List Bool). length l) is_made ∙ length-bits_of 63 (bit_xor number wrong)) of_code
+    (λ j low.
+    ap (λ (l : List Bool). get_or l j false) is_made
+    ∙ get_or-bits_of 63 (bit_xor number wrong) j false low
+    ∙ xored number wrong (63 - 1 - j)
+    ∙ sym (ap₂ (λ w x. cond w (not x) x) (get_or-bits_of 63 wrong j false low) (ap (λ (l : List Bool). get_or l j false) (sym same) ∙ get_or-bits_of 63 number j false low)))
+    (λ j low. subst (λ w. IsTrue w ↔ (gf64.add (coefficient gf64 (symbols_of received) j) (coefficient gf64 (symbols_of sent) j) ≢ gf64.zero)) (sym (get_or-bits_of 63 wrong j false low)) (exactly j low))
+  where
+    same : bits_of 63 number ≡ received
+    same = ap (bits_of 63) is ∙ ap (λ n. bits_of n (field_of received)) (sym long) ∙ bits_of-field_of received

@@ -3,6 +3,7 @@ pub mod NidSteps
 pub mod NidReadingLaws
 pub mod NidWordLaws
 pub mod SyndromesSteps
+pub mod ZerosSteps
 pub mod CorrectionSteps
 pub mod ReadingLaws
 pub mod SentSteps

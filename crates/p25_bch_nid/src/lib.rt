@@ -27,6 +27,7 @@ mod nid;
 mod reading;
 mod sent;
 mod syndromes;
+mod zeros;
 
 pub use bch63::Bch63;
 pub use duid::{HDU, LDU1, LDU2, PDU, TDU, TDULC};
