@@ -1,11 +1,16 @@
 -- Inverting the bits of the places that are wrong makes the word that was sent: the symbols of two bits add to zero exactly where the
 -- bits are the same.
-use Rattle.std.proofs.Common.{◌≡◌, ◌≢◌, ◌↔◌, ℕ, zero, suc, ◌+◌, ◌<◌, ◌≤◌, Bool, true, false, cond, not, IsTrue, List, [], ◌∷◌, length, get_or, refl, ap, ap₂, sym, ◌∙◌, subst, arith, lit<}
+use Rattle.std.proofs.Common.{◌≡◌, ◌≢◌, ◌↔◌, ℕ, zero, suc, ◌+◌, ◌-◌, ◌%◌, ◌^◌, ◌<◌, ◌⊎◌, inl, inr, eqb, bit_xor, ◌≤◌, Bool, true, false, cond, not, IsTrue, List, [], ◌∷◌, length, get_or, refl, ap, ap₂, sym, ◌∙◌, subst, arith, lit<}
+use Rattle.std.specs.Int.{bit_at}
 use Rattle.std.specs.Int.Bits.{xor_zero_r}
-use Rattle.std.proofs.lemmas.Bool.{false≢true}
+use Rattle.std.proofs.lemmas.Nat.Bits.{bit_at_xor, bit_at-lt}
+use Rattle.std.proofs.lemmas.Bool.{false≢true, cases_lt}
 use Rattle.std.proofs.lemmas.List.{ext_get_or, length-map}
-use Rattle.p25_bits.specs.Bits.{field_of}
+use Rattle.p25_bits.specs.Bits.{bits_of, field_of}
 use Rattle.p25_bits.specs.Distance.{distance_of}
+use Rattle.p25_bits.proofs.BitsLaws.{bits_of-field_of, field_of-lt, get_or-bits_of, length-bits_of}
+use Rattle.p25_gf64.specs.Field.{power}
+use Rattle.p25_gf64.specs.Symbol.{alpha}
 use Rattle.p25_bits.specs.Divisible.{IsDivisible, IsRemainder}
 use Rattle.p25_bits.proofs.DivisibleLaws.{divisible_from_remainder}
 use Rattle.p25_gf64.specs.declared.symbol.Sym.{Sym}
@@ -16,10 +21,12 @@ use Rattle.p25_reed_solomon.specs.Words.{value_of}
 use Rattle.p25_reed_solomon.specs.Errors.{AreErrors}
 use Rattle.p25_reed_solomon.proofs.WrongLaws.{difference_errors}
 use Rattle.p25_bch_nid.specs.Nid.{generator}
-use Rattle.p25_bch_nid.specs.BitValueLaws.{bit_coefficient}
+use Rattle.p25_bch_nid.specs.BitValueLaws.{bit_coefficient, bit_value}
+use Rattle.p25_bch_nid.specs.RemainderValueLaws.{number_value-suc}
+use Rattle.p25_bch_nid.proofs.SyndromesSteps.{value}
 use Rattle.p25_bch_nid.specs.Bch63.{IsBch63, symbols_of}
 use Rattle.p25_bch_nid.specs.Bch63SymbolLaws.{distance_of_symbols, IsCode-63_41, IsWord-symbols_of}
-use Rattle.p25_bch_nid.specs.Bch63FormLaws.{to_divisible, from_divisible}
+use Rattle.p25_bch_nid.specs.Bch63FormLaws.{value_of-symbols, to_divisible, from_divisible}
 
 -- the generator divides a word's number exactly where the remainder is zero
 pub word_from_remainder : (word : List Bool) → length word ≡ 63 → IsRemainder generator 47 (field_of word) 0 → IsBch63 word
@@ -45,18 +52,26 @@ inverted false true false is = absurd (false≢true (is.1 (λ none. gf64.laws.on
 inverted false false true is = absurd (false≢true (is.1 (λ none. gf64.laws.one_ne_zero (sym (zero_add gf64 gf64.one) ∙ none))))
 inverted false false false is = refl
 
+-- the value of a word's number is that of its symbols
+value_of_number : (word : List Bool) (i : ℕ) → length word ≡ 63 → value i (field_of word) ≡ value_of 63 (symbols_of word) i
+value_of_number word i long =
+    let x = power gf64 alpha i in
+    number_value-suc gf64 x 63 (field_of word) (subst (λ n. field_of word < 2 ^ n) long (field_of-lt word))
+    ∙ ap (bit_value gf64 x) (ap (λ n. bits_of n (field_of word)) (sym long) ∙ bits_of-field_of word)
+    ∙ sym (value_of-symbols word 63 i long)
+
 -- the errors between what was received and a word within 11 bits
-pub errors_of_bits : (received sent : List Bool) (symbols syndromes : List Sym) → length received ≡ 63 → symbols ≡ symbols_of received → ((r : ℕ) → r < 32 → coefficient gf64 syndromes r ≡ value_of (length symbols) symbols (r + 1))
+pub errors_of_bits : (received sent : List Bool) (number : ℕ) (syndromes : List Sym) → length received ≡ 63 → number ≡ field_of received → ((r : ℕ) → r < 24 → coefficient gf64 syndromes r ≡ value (r + 1) number)
     → IsBch63 sent → distance_of received sent ≤ 11
     → AreErrors 63 22 syndromes (λ j. gf64.add (coefficient gf64 (symbols_of received) j) (coefficient gf64 (symbols_of sent) j))
-errors_of_bits received sent symbols syndromes long is are of_code near =
+errors_of_bits received sent number syndromes long is are of_code near =
     let whole : length (symbols_of received) ≡ 63 = length-map received (bit_coefficient gf64) ∙ long in
     difference_errors 63 41 (symbols_of received) (symbols_of sent) syndromes IsCode-63_41 whole (IsWord-symbols_of sent of_code)
-    (λ r low. are r (omega arith) ∙ ap (λ s. value_of (length s) s (r + 1)) is ∙ ap (λ n. value_of n (symbols_of received) (r + 1)) whole)
+    (λ r low. are r (omega arith) ∙ ap (value (r + 1)) is ∙ value_of_number received (r + 1) long)
     (omega (arith, distance_of_symbols received sent))
 
 -- what was sent
-pub corrected_is : (received sent made wrong : List Bool) → length received ≡ 63 → length made ≡ 63 → IsBch63 sent
+corrected_is : (received sent made wrong : List Bool) → length received ≡ 63 → length made ≡ 63 → IsBch63 sent
     → ((j : ℕ) → j < 63 → get_or made j false ≡ cond (get_or wrong j false) (not (get_or received j false)) (get_or received j false))
     → ((j : ℕ) → j < 63 → IsTrue (get_or wrong j false) ↔ (gf64.add (coefficient gf64 (symbols_of received) j) (coefficient gf64 (symbols_of sent) j) ≢ gf64.zero)) → made ≡ sent
 corrected_is received sent made wrong long full of_code is exactly =
@@ -65,3 +80,41 @@ corrected_is received sent made wrong long full of_code is exactly =
     is j inside
     ∙ inverted (get_or wrong j false) (get_or received j false) (get_or sent j false)
     (subst (λ s. IsTrue (get_or wrong j false) ↔ (s ≢ gf64.zero)) (ap₂ gf64.add (coefficient-symbols_of received j) (coefficient-symbols_of sent j)) (exactly j inside)))
+
+-- a bit of a sum is the bit of the first number, inverted where the second has a 1
+xored : (a b e : ℕ) → eqb (bit_at (bit_xor a b) e) 1 ≡ cond (eqb (bit_at b e) 1) (not (eqb (bit_at a e) 1)) (eqb (bit_at a e) 1)
+xored a b e = ap (λ n. eqb n 1) (bit_at_xor a b e) ∙ of_bits (bit_at a e) (bit_at b e) (bit_at-lt a e) (bit_at-lt b e)
+  where
+    is : ℕ → ℕ → Type 0
+    is x y = eqb ((x + y) % 2) 1 ≡ cond (eqb y 1) (not (eqb x 1)) (eqb x 1)
+
+    either : (x : ℕ) → x < 2 → (x ≡ 0) ⊎ (x ≡ 1)
+    either x low = elim (cases_lt x 1) [ inl zero_bit ↦ inl (omega arith) | inr one_bit ↦ inr (omega arith) ]
+
+    of_bits : (x y : ℕ) → x < 2 → y < 2 → eqb ((x + y) % 2) 1 ≡ cond (eqb y 1) (not (eqb x 1)) (eqb x 1)
+    of_bits x y x_low y_low =
+        elim (either x x_low) [
+          | inl x_is ↦ elim (either y y_low) [
+            | inl y_is ↦ subst (λ n. is n y) (sym x_is) (subst (λ n. is 0 n) (sym y_is) refl)
+            | inr y_is ↦ subst (λ n. is n y) (sym x_is) (subst (λ n. is 0 n) (sym y_is) refl)
+          ]
+          | inr x_is ↦ elim (either y y_low) [
+            | inl y_is ↦ subst (λ n. is n y) (sym x_is) (subst (λ n. is 1 n) (sym y_is) refl)
+            | inr y_is ↦ subst (λ n. is n y) (sym x_is) (subst (λ n. is 1 n) (sym y_is) refl)
+          ]
+        ]
+
+-- what was sent, by numbers
+pub corrected_number : (received sent made : List Bool) (number wrong : ℕ) → length received ≡ 63 → number ≡ field_of received → made ≡ bits_of 63 (bit_xor number wrong) → IsBch63 sent
+    → ((j : ℕ) → j < 63 → IsTrue (eqb (bit_at wrong (63 - 1 - j)) 1) ↔ (gf64.add (coefficient gf64 (symbols_of received) j) (coefficient gf64 (symbols_of sent) j) ≢ gf64.zero)) → made ≡ sent
+corrected_number received sent made number wrong long is is_made of_code exactly =
+    corrected_is received sent made (bits_of 63 wrong) long (ap (λ (l : List Bool). length l) is_made ∙ length-bits_of 63 (bit_xor number wrong)) of_code
+    (λ j low.
+    ap (λ (l : List Bool). get_or l j false) is_made
+    ∙ get_or-bits_of 63 (bit_xor number wrong) j false low
+    ∙ xored number wrong (63 - 1 - j)
+    ∙ sym (ap₂ (λ w x. cond w (not x) x) (get_or-bits_of 63 wrong j false low) (ap (λ (l : List Bool). get_or l j false) (sym same) ∙ get_or-bits_of 63 number j false low)))
+    (λ j low. subst (λ w. IsTrue w ↔ (gf64.add (coefficient gf64 (symbols_of received) j) (coefficient gf64 (symbols_of sent) j) ≢ gf64.zero)) (sym (get_or-bits_of 63 wrong j false low)) (exactly j low))
+  where
+    same : bits_of 63 number ≡ received
+    same = ap (bits_of 63) is ∙ ap (λ n. bits_of n (field_of received)) (sym long) ∙ bits_of-field_of received

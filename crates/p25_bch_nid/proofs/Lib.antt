@@ -2,7 +2,8 @@ pub mod CheckLaws
 pub mod NidSteps
 pub mod NidReadingLaws
 pub mod NidWordLaws
-pub mod SymbolsSteps
+pub mod SyndromesSteps
+pub mod ZerosSteps
 pub mod CorrectionSteps
 pub mod ReadingLaws
 pub mod SentSteps

@@ -50,7 +50,7 @@ value_of-symbols word n i long =
 -- ---- the generator is zero at α^1 to α^22
 
 -- a value by Horner's rule, on numbers
-unfoldable horner : ℕ → ℕ → List Bool → ℕ
+unfoldable pub horner : ℕ → ℕ → List Bool → ℕ
 horner x high [] = high
 horner x high (bit ∷ bits) = horner x (bit_xor (product x high) (digit_of bit)) bits
 
@@ -59,7 +59,7 @@ digit_number true = number_one
 digit_number false = number_zero
 
 -- it is the value, after what stands before
-horner-value : (x high : Sym) (bits : List Bool)
+pub horner-value : (x high : Sym) (bits : List Bool)
     → horner (number x) (number high) bits ≡ number (gf64.add (gf64.mul high (power gf64 x (length bits))) (bit_value gf64 x bits))
 unfolding horner
 horner-value x high [] =

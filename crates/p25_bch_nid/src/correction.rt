@@ -5,10 +5,10 @@ ghost use Rattle.p25_bits.specs.Distance.{distance_of};
 ghost use Rattle.p25_bch_nid.specs.Bch63.{IsBch63};
 
 use crate::bch63::GENERATOR;
-use crate::symbols::put_symbols;
-use p25_bits::{number_of, number_remainder};
-use p25_gf64::Sym;
-use p25_reed_solomon::{fill_syndromes, mark_wrong};
+use crate::syndromes::syndromes_of;
+use crate::zeros::zeros_of;
+use p25_bits::{number_of, number_remainder, put_number};
+use p25_reed_solomon::wrong_locator;
 
 // Answers whether 63 bits are a word of the code: whether the generator divides them.
 pub(crate) fn is_word(word: &[bool]) -> bool
@@ -33,15 +33,9 @@ pub(crate) fn corrected(word: &[bool]) -> [bool; 63]
     ensures sent { (sent : List Bool) → IsBch63 sent → distance_of word.now sent ≤ 11 → result ≡ sent }
     ensures full { length result ≡ 63 }
 {
-    let mut symbols = [Sym::default(); 63];
-    put_symbols(word, &mut symbols);
-    let mut syndromes = [Sym::default(); 32];
-    fill_syndromes(&symbols, &mut syndromes);
-    let mut wrong = [false; 63];
-    mark_wrong(&syndromes, 22, &mut wrong);
+    let number = number_of(word);
+    let locator = wrong_locator(&syndromes_of(number), 22, 63);
     let mut sent = [false; 63];
-    for j in 0..63 {
-        sent[j] = if wrong[j] { !word[j] } else { word[j] };
-    }
+    put_number(number ^ zeros_of(&locator), &mut sent);
     sent
 }

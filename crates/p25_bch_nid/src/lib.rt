@@ -26,7 +26,8 @@ pub mod laws;
 mod nid;
 mod reading;
 mod sent;
-mod symbols;
+mod syndromes;
+mod zeros;
 
 pub use bch63::Bch63;
 pub use duid::{HDU, LDU1, LDU2, PDU, TDU, TDULC};

@@ -8,6 +8,7 @@ use Rattle.p25_gf64.specs.Symbol.{number, symbol_of, same_symbol, alpha}
 use Rattle.p25_gf64.specs.Gf64.{gf64}
 use Rattle.p25_gf64.specs.declared.symbol.Sym.{Sym}
 use Rattle.p25_gf64.specs.declared.tables.TheConstants.{POWERS, LOGARITHMS}
+use Rattle.p25_gf64.proofs.FieldLaws.{one_mul, mul_one, mul_assoc, mul_inverse}
 use Rattle.p25_gf64.proofs.PowerLaws.{power-add, power-mod}
 use Rattle.p25_gf64.proofs.SymbolLaws.{number-power, number_alpha, number_ne_zero, alpha_to_63}
 
@@ -65,3 +66,19 @@ inverse_by_logarithm x i h hx =
   where
     whole : i + (63 - i) ≡ 63
     whole = omega arith
+
+-- the quotient by the logarithms
+pub quotient_by_logarithms : (x y : Sym) (b m : ℕ) → y ≢ gf64.zero → power gf64 alpha (m + b) ≡ x → power gf64 alpha b ≡ y → gf64.mul (power gf64 alpha m) y ≡ x
+quotient_by_logarithms x y b m live whole is = ap (gf64.mul (power gf64 alpha m)) (sym is) ∙ sym (power-add gf64 alpha m b) ∙ whole
+
+-- exponents count modulo 63
+pub power_again : (a : ℕ) → power gf64 alpha (63 + a) ≡ power gf64 alpha a
+power_again a = power-add gf64 alpha 63 a ∙ ap (λ w. gf64.mul w (power gf64 alpha a)) alpha_to_63 ∙ one_mul gf64 (power gf64 alpha a)
+
+-- a quotient is the product with the inverse
+pub quotient_from_product : (q x y : Sym) → y ≢ gf64.zero → gf64.mul q y ≡ x → q ≡ gf64.mul x (gf64.inverse y)
+quotient_from_product q x y live is =
+    sym (mul_one gf64 q)
+    ∙ ap (gf64.mul q) (sym (mul_inverse gf64 y live))
+    ∙ sym (mul_assoc gf64 q y (gf64.inverse y))
+    ∙ ap (λ w. gf64.mul w (gf64.inverse y)) is

@@ -42,6 +42,8 @@ mod tests {
         assert!(rt; !two.is_zero());
         assert_eq!(rt; two.inv().value(), 33);
         assert_eq!(rt; two.mul(two.inv()), Sym::ONE);
+        assert_eq!(rt; Sym::ONE.div(two), two.inv());
+        assert_eq!(rt; Sym::ZERO.div(two), Sym::ZERO);
         assert_eq!(rt; Sym::pow_alpha(64), two);
         Ok(())
     }

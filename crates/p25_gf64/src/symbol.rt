@@ -100,6 +100,22 @@ impl Sym {
         Sym::power_below((63 - self.logarithm()) % 63)
     }
 
+    /// Answers the quotient by a symbol that isn't 0: the one symbol whose product with it is this one.
+    pub fn div(self, other: Sym) -> Sym
+        requires { other ≢ gf64.zero }
+        ensures quotient { result ≡ gf64.mul self (gf64.inverse other) }
+        ensures product { gf64.mul result other ≡ self }
+    {
+        if self.is_zero() {
+            return self;
+        }
+        let exponent = 63 + self.logarithm() - other.logarithm();
+        if exponent < 63 {
+            return Sym::power_below(exponent);
+        }
+        Sym::power_below(exponent - 63)
+    }
+
     /// Answers α = 2 to any power. The powers repeat after 63.
     pub fn pow_alpha(exponent: u32) -> Sym
         ensures { result ≡ power gf64 alpha exponent }

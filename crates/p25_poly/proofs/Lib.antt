@@ -4,4 +4,5 @@ pub mod PolyLaws
 pub mod DotLaws
 pub mod RowLaws
 pub mod SystemSteps
+pub mod SideLaws
 pub mod EuclidSteps

@@ -55,6 +55,16 @@ fn step(front: &mut Side, back: &mut Side)
     }
     front.reduce(back);
     if front.degree < back.degree {
-        swap(front, back);
+        exchange(front, back);
     }
+}
+
+// Lets two sides change places, part by part, since small parts are moved in registers.
+fn exchange(front: &mut Side, back: &mut Side)
+    ensures front { front.new ≡ back.old }
+    ensures back { back.new ≡ front.old }
+{
+    swap(&mut front.rest, &mut back.rest);
+    swap(&mut front.factor, &mut back.factor);
+    swap(&mut front.degree, &mut back.degree);
 }

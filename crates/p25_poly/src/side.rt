@@ -80,7 +80,7 @@ impl Side {
         ensures { IsReduced self.old other.now self.new }
     {
         let shift = self.degree - other.degree;
-        let multiple = self.leading().mul(other.leading().inv());
+        let multiple = self.leading().div(other.leading());
         add_moved(&mut self.rest, multiple, &other.rest, shift);
         add_moved(&mut self.factor, multiple, &other.factor, shift);
         self.degree -= 1;

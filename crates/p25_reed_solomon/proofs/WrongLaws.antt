@@ -9,6 +9,7 @@ use Rattle.p25_gf64.proofs.FieldLaws.{add_zero}
 use Rattle.p25_algebra.specs.Sums.{nonzeros}
 use Rattle.p25_algebra.specs.Series.{coefficient, value_at}
 use Rattle.p25_algebra.proofs.ValueLaws.{value_same}
+use Rattle.p25_algebra.proofs.ProductValueLaws.{value_longer}
 use Rattle.p25_reed_solomon.specs.Words.{IsCode, IsWord, value_of, same_symbols}
 use Rattle.p25_reed_solomon.specs.DistanceLaws.{distance-nonzeros}
 use Rattle.p25_reed_solomon.specs.ValueLaws.{value-power_sum, front_value-add}
@@ -41,24 +42,22 @@ kept_explains n checks syndromes erased errors none are = record {
 }
 
 -- a place is wrong exactly where the value of the locator is zero
-pub wrong_exactly : (n checks most : ℕ) (syndromes locator : List Sym) (evaluator errors : ℕ → Sym) → IsLocator n checks syndromes (take n (replicate 63 false)) most (coefficient gf64 locator) evaluator
-    → AreErrors n checks syndromes errors → (value : Sym) (j : ℕ) → j < n → most + 1 ≤ length locator
-    → value ≡ value_at gf64 (length (take (most + 1) locator)) (coefficient gf64 (take (most + 1) locator)) (point_of n j) → (value ≡ gf64.zero) ↔ (errors j ≢ gf64.zero)
-wrong_exactly n checks most syndromes locator evaluator errors is are value j inside fits is_value = (
-  (λ none. is.found errors explains j inside (no_erasure n j) (sym same ∙ sym is_value ∙ none)),
-  (λ other. is_value ∙ same ∙ is.wrong errors explains j inside other),
+pub wrong_exactly : (n checks most : ℕ) (syndromes locator lowest : List Sym) (evaluator errors : ℕ → Sym) → IsLocator n checks syndromes (take n (replicate 63 false)) most (coefficient gf64 locator) evaluator
+    → AreErrors n checks syndromes errors → (j : ℕ) → j < n → most + 1 ≤ 12 → lowest ≡ take 12 locator
+    → (value_at gf64 12 (coefficient gf64 lowest) (point_of n j) ≡ gf64.zero) ↔ (errors j ≢ gf64.zero)
+wrong_exactly n checks most syndromes locator lowest evaluator errors is are j inside fits is_lowest = (
+  (λ none. is.found errors explains j inside (no_erasure n j) (sym same ∙ none)),
+  (λ other. same ∙ is.wrong errors explains j inside other),
 )
   where
     explains : Explains n checks syndromes (take n (replicate 63 false)) errors
     explains = kept_explains n checks syndromes (take n (replicate 63 false)) errors (no_erasure n) are
 
-    long : length (take (most + 1) locator) ≡ most + 1
-    long = omega (arith, length-take (most + 1) locator)
-
-    same : value_at gf64 (length (take (most + 1) locator)) (coefficient gf64 (take (most + 1) locator)) (point_of n j) ≡ value_at gf64 (most + 1) (coefficient gf64 locator) (point_of n j)
+    same : value_at gf64 12 (coefficient gf64 lowest) (point_of n j) ≡ value_at gf64 (most + 1) (coefficient gf64 locator) (point_of n j)
     same =
-        ap (λ m. value_at gf64 m (coefficient gf64 (take (most + 1) locator)) (point_of n j)) long
-        ∙ value_same gf64 (most + 1) (coefficient gf64 (take (most + 1) locator)) (coefficient gf64 locator) (point_of n j) (λ k low. get_or-take (most + 1) locator k gf64.zero low)
+        value_same gf64 12 (coefficient gf64 lowest) (coefficient gf64 locator) (point_of n j)
+        (λ k low. ap (λ (l : List Sym). coefficient gf64 l k) is_lowest ∙ get_or-take 12 locator k gf64.zero low)
+        ∙ value_longer gf64 (most + 1) 12 (coefficient gf64 locator) (point_of n j) fits is.short
 
 -- the errors between a received word and a word of the code within the radius
 pub difference_errors : (n k : ℕ) (received word syndromes : List Sym) → IsCode n k → length received ≡ n → IsWord n k word → ((r : ℕ) → r < n - k → coefficient gf64 syndromes r ≡ value_of n received (r + 1))

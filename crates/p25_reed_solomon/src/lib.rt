@@ -64,4 +64,4 @@ mod zeros;
 
 pub use code::Rs;
 pub use syndromes::fill_syndromes;
-pub use wrong::mark_wrong;
+pub use wrong::{mark_wrong, wrong_locator};

@@ -3,12 +3,40 @@
 ghost use Rattle.std.specs.Prelude.{◌≡◌, ◌≢◌, ◌↔◌, ℕ, ◌*◌, ◌/◌, ◌<◌, ◌≤◌, false, IsTrue, length, slice_index_or};
 ghost use Rattle.p25_gf64.specs.declared.symbol.Sym.{Sym};
 ghost use Rattle.p25_gf64.specs.Gf64.{gf64};
-ghost use Rattle.p25_reed_solomon.specs.Errors.{AreErrors};
+ghost use Rattle.p25_algebra.specs.Series.{coefficient, value_at};
+ghost use Rattle.p25_reed_solomon.specs.Errors.{AreErrors, point_of};
 
 use crate::locator::locate;
 use crate::points::fill_values;
 use crate::zeros::fill_points;
 use p25_gf64::Sym;
+
+/// Answers a polynomial of degree 11 at most, its lowest coefficient first, that vanishes at the point of a place, the inverse of α to
+/// the exponent of its coefficient, exactly where the received word of n symbols is wrong there: for any errors that explain its first
+/// `checks` syndromes and are half as many at most. Where no errors do, nothing is said of it. There are at most 63 places, the
+/// first that of the highest coefficient, and `syndromes` are 32 as `fill_syndromes` sets them.
+pub fn wrong_locator(syndromes: &[Sym], checks: usize, n: usize) -> [Sym; 12]
+    requires places { n ≤ 63 }
+    requires some { 2 ≤ checks }
+    requires few { checks ≤ 22 }
+    requires syndromes { length syndromes.now ≡ 32 }
+    ensures zeros { (errors : ℕ → Sym) → AreErrors n checks syndromes.now errors
+        → (j : ℕ) → j < n → (value_at gf64 12 (coefficient gf64 result) (point_of n j) ≡ gf64.zero) ↔ (errors j ≢ gf64.zero) }
+    ensures full { length result ≡ 12 }
+{
+    let mut locator = [Sym::default(); 32];
+    let mut evaluator = [Sym::default(); 32];
+    locate(
+        syndromes,
+        checks,
+        &[false; 63][..n],
+        &mut locator,
+        &mut evaluator,
+    );
+    let mut lowest = [Sym::default(); 12];
+    lowest.copy_from_slice(&locator[..12]);
+    lowest
+}
 
 /// Sets each place of `wrong` to whether the received word is wrong there, for any errors that explain its first `checks` syndromes and
 /// are half as many at most. Where no errors do, nothing is said of what is set. There are at most 63 places, the first that of the
@@ -22,19 +50,11 @@ pub fn mark_wrong(syndromes: &[Sym], checks: usize, wrong: &mut [bool])
         → (j : ℕ) → j < length wrong.old → IsTrue (slice_index_or wrong.new j false) ↔ (errors j ≢ gf64.zero) }
 {
     let n = wrong.len();
-    let mut locator = [Sym::default(); 32];
-    let mut evaluator = [Sym::default(); 32];
-    let most = locate(
-        syndromes,
-        checks,
-        &[false; 63][..n],
-        &mut locator,
-        &mut evaluator,
-    );
+    let locator = wrong_locator(syndromes, checks, n);
     let mut points = [Sym::default(); 64];
     fill_points(n, &mut points);
     let mut values = [Sym::default(); 64];
-    fill_values(&locator[..most + 1], &points, &mut values);
+    fill_values(&locator, &points, &mut values);
     for j in 0..n {
         wrong[j] = values[j].is_zero();
     }
