@@ -47,5 +47,5 @@ pub use read::{
     read_packet_of_head, set_packet,
 };
 pub use slots::Slots;
-pub use unit::{read_packet_unit, read_sent_head};
+pub use unit::{read_packet_unit, read_sent_head, read_sent_head_counted};
 pub use whole::is_whole;

@@ -4,7 +4,7 @@ ghost use Rattle.std.specs.Prelude.{◌≡◌, ℕ, ◌+◌, ◌*◌, ◌≤◌,
 ghost use Rattle.p25_bits.specs.Numbers.{octets_number};
 ghost use Rattle.p25_crc.specs.Values.{crc32_of};
 ghost use Rattle.p25_packet_blocks.specs.declared.packet.Packet.{Packet as packet_type};
-ghost use Rattle.p25_packet_blocks.specs.Fixes.{half_distance, three_quarter_distance, packet_fixes_of};
+ghost use Rattle.p25_packet_blocks.specs.Fixes.{head_distance, half_distance, three_quarter_distance, packet_fixes_of};
 ghost use Rattle.p25_packet_blocks.specs.Heads.{head_format, head_blocks};
 ghost use Rattle.p25_packet_blocks.specs.Kinds.{IsPlainFormat};
 ghost use Rattle.p25_packet_blocks.specs.Reading.{head_from, head_reading_of, slot_from, slots_read, octets_read, plain_from, packet_or, packet_of_head, packet_reading_of, HasItsLength};
@@ -192,21 +192,23 @@ fn read_blocks(
 
 /// Sets `packet` to the packet of the header that a unit without status symbols holds, and answers None; or answers the field that
 /// fails, where `packet` means nothing. A packet is large: set in place it is not moved. Format and PacketCrc come as in
-/// `read_packet`. Sets `fixes`, where a packet is read and none of its slots is Bad, to the number of bits in which the header block
-/// and the blocks to follow were received otherwise than they are sent for it.
+/// `read_packet`. `distance` is in how many bits the header block differs from the nearest block. Sets `fixes`, where a packet is read
+/// and none of its slots is Bad, to the number of bits in which the header block and the blocks to follow were received otherwise
+/// than they are sent for it.
 pub fn set_packet(
     head: PacketHead,
+    distance: u32,
     bare: &BitBuf,
     packet: &mut Packet,
     fixes: &mut u32,
 ) -> Option<Field>
     requires head { head_reading_of bare.now ≡ Ok head }
+    requires distance { distance ≡ head_distance bare.now }
     requires there { 308 + 196 * head_blocks head ≤ length bare.now }
     ensures packet { packet_or result packet.new ≡ packet_of_head head bare.now }
     ensures fixes { (nac : ℕ) → result ≡ None → IsWholePacket packet.new → fixes.new ≡ packet_fixes_of nac packet.new bare.now }
 {
-    let mut octets = [0; 12];
-    *fixes = read_block::<Half>(bare, HEADER_AT, &mut octets);
+    *fixes = distance;
     read_blocks(head, bare, packet, fixes)
 }
 
@@ -223,8 +225,10 @@ pub fn read_packet_and_fixes(
     ensures packet { result ≡ packet_of_head head bare.now }
     ensures fixes { (nac : ℕ) (packet : packet_type) → result ≡ Ok packet → IsWholePacket packet → fixes.new ≡ packet_fixes_of nac packet bare.now }
 {
+    let mut octets = [0; 12];
+    let distance = read_block::<Half>(bare, HEADER_AT, &mut octets);
     let mut packet = Packet::empty();
-    match set_packet(head, bare, &mut packet, fixes) {
+    match set_packet(head, distance, bare, &mut packet, fixes) {
         None => Ok(packet),
         Some(field) => Err(field),
     }

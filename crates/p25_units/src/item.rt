@@ -267,7 +267,10 @@ fn read_packet_frame(
         Err(field) => Some(FieldList::one(field)),
         Ok(head) => {
             let mut wrong = 0;
-            match frame.unit.read_packet(nid.nac, head, room, &mut wrong) {
+            match frame
+                .unit
+                .read_packet(nid.nac, head, begun.distance(), room, &mut wrong)
+            {
                 Some(fields) => Some(fields),
                 None => {
                     *fixes = front_fixes(bits, at, nid) + wrong;

@@ -1,6 +1,7 @@
 //! Packets as what units carry.
 
 ghost use Rattle.std.specs.Prelude.{◌≡◌, ℕ, ◌+◌, ◌<◌, ◌≤◌, [], ◌∷◌, ◌++◌, length, Ok, None};
+ghost use Rattle.p25_packet_blocks.specs.Fixes.{head_distance};
 ghost use Rattle.p25_packet_blocks.specs.Reading.{head_reading_of, packet_reading_of, HasItsLength};
 ghost use Rattle.p25_units.specs.Fixes.{body_fixes_of};
 ghost use Rattle.p25_units.specs.declared.unit.Body.{Body as body_type};
@@ -31,20 +32,22 @@ pub(crate) fn read_packet_body(
     }
 }
 
-// Sets `packet` to the packet of a unit without status symbols, by its header, or answers the fields that fail. Sets `fixes`, where
-// none fails, to the number of wrong bits of its blocks.
+// Sets `packet` to the packet of a unit without status symbols, by its header, whose block differs in `distance` bits from the
+// nearest block, or answers the fields that fail. Sets `fixes`, where none fails, to the number of wrong bits of its blocks.
 pub(crate) fn set_whole_packet(
     head: PacketHead,
+    distance: u32,
     bare: &BitBuf,
     packet: &mut Packet,
     fixes: &mut u32,
 ) -> Option<FieldList>
     requires head { head_reading_of bare.now ≡ Ok head }
+    requires distance { distance ≡ head_distance bare.now }
     requires there { HasItsLength bare.now }
     ensures body { body_or result (packet_in packet.new) ≡ packet_body_from (packet_reading_of bare.now) }
     ensures fixes { (nac : ℕ) → result ≡ None → fixes.new ≡ body_fixes_of (record { nac = nac; body = packet_in packet.new }) bare.now }
 {
-    match set_packet(head, bare, packet, fixes) {
+    match set_packet(head, distance, bare, packet, fixes) {
         Some(field) => Some(FieldList::one(field)),
         None => failing_fields(failing_blocks(packet)),
     }

@@ -1,6 +1,7 @@
 //! A unit: whose it is, and what it carries.
 
 ghost use Rattle.std.specs.Prelude.{◌≡◌, ℕ, ◌<◌, ◌≤◌, None, Ok};
+ghost use Rattle.p25_packet_blocks.specs.Fixes.{head_distance};
 ghost use Rattle.p25_packet_blocks.specs.Reading.{head_reading_of, packet_reading_of, HasItsLength};
 ghost use Rattle.p25_units.specs.Fixes.{body_fixes_of};
 ghost use Rattle.p25_units.specs.Readings.{body_or, packet_body_from};
@@ -48,17 +49,24 @@ impl Body {
 
     // Becomes the packet of a unit without status symbols, by its header, or answers the fields that fail. Where it was one, no
     // room is moved. Sets `fixes`, where none fails, to the number of wrong bits of its blocks.
-    fn read_packet(&mut self, head: PacketHead, bare: &BitBuf, fixes: &mut u32) -> Option<FieldList>
+    fn read_packet(
+        &mut self,
+        head: PacketHead,
+        distance: u32,
+        bare: &BitBuf,
+        fixes: &mut u32,
+    ) -> Option<FieldList>
         requires head { head_reading_of bare.now ≡ Ok head }
+        requires distance { distance ≡ head_distance bare.now }
         requires there { HasItsLength bare.now }
         ensures body { body_or result self.new ≡ packet_body_from (packet_reading_of bare.now) }
         ensures fixes { (nac : ℕ) → result ≡ None → fixes.new ≡ body_fixes_of (record { nac = nac; body = self.new }) bare.now }
     {
         match self {
-            Body::Packet(held) => set_whole_packet(head, bare, held, fixes),
+            Body::Packet(held) => set_whole_packet(head, distance, bare, held, fixes),
             Body::Voice(_) => {
                 let mut packet = Packet::empty();
-                let failing = set_whole_packet(head, bare, &mut packet, fixes);
+                let failing = set_whole_packet(head, distance, bare, &mut packet, fixes);
                 *self = Body::Packet(packet);
                 failing
             }
@@ -120,18 +128,20 @@ impl Unit {
         &mut self,
         nac: u16,
         head: PacketHead,
+        distance: u32,
         bare: &BitBuf,
         fixes: &mut u32,
     ) -> Option<FieldList>
         requires nac { nac < 4096 }
         requires head { head_reading_of bare.now ≡ Ok head }
+        requires distance { distance ≡ head_distance bare.now }
         requires there { HasItsLength bare.now }
         ensures nac { self.new.nac ≡ nac }
         ensures body { body_or result self.new.body ≡ packet_body_from (packet_reading_of bare.now) }
         ensures fixes { result ≡ None → fixes.new ≡ body_fixes_of self.new bare.now }
     {
         self.nac = nac;
-        self.body.read_packet(head, bare, fixes)
+        self.body.read_packet(head, distance, bare, fixes)
     }
 
     /// Answers the network access code.

@@ -1,6 +1,7 @@
-use Rattle.std.proofs.Common.{Ok, Err, refl, ap, sym, subst, ◌∙◌, arith, drop}
+use Rattle.std.proofs.Common.{Bool, List, Ok, Err, refl, ap, sym, subst, ◌∙◌, arith, drop}
 use Rattle.p25_bits.specs.Bits.{part}
 use Rattle.p25_packet_blocks.specs.Reading.{head_reading_of, packet_reading_of, HasItsLength}
+use Rattle.p25_packet_blocks.specs.Fixes.{head_distance}
 use Rattle.p25_packet_blocks.proofs.ReadingLaws.{packet_reading_of-bad}
 use Rattle.p25_units.specs.Fixes.{body_fixes_of}
 use Rattle.p25_units.specs.Needs.{kind_need}
@@ -34,6 +35,14 @@ pub read_packet-requires-clause-head : goal.read_packet-requires-clause-head
 read_packet-requires-clause-head c =
     let kind = ap (λ duid. kind_need duid (drop c.args.at c.args.bits.now)) (sym c.requires.packet) ∙ c.requires.kind in
     sym (c.read_head.ensures.value ∙ (IsPacketAt-kind c.args.bits.now c.args.at c.args.count c.requires.there kind).head ∙ ap head_reading_of (sym c.unweave.ensures.bare)) ∙ c.in-Ok.is
+
+pub read_packet-requires-clause-distance : goal.read_packet-requires-clause-distance
+read_packet-requires-clause-distance c =
+    let kind = ap (λ duid. kind_need duid (drop c.args.at c.args.bits.now)) (sym c.requires.packet) ∙ c.requires.kind in
+    c.distance.ensures
+    ∙ c.in-Ok.ensures.distance c.in-Ok.head refl
+    ∙ (IsPacketAt-kind c.args.bits.now c.args.at c.args.count c.requires.there kind).distance
+    ∙ ap (λ (bare : List Bool). head_distance bare) (sym c.unweave.ensures.bare)
 
 pub read_packet-requires-clause-there : goal.read_packet-requires-clause-there
 read_packet-requires-clause-there c =
