@@ -9,13 +9,14 @@ use Rattle.p25_status.specs.declared.fields.Field.TheVariants.{Sync, Nid, Duid, 
 use Rattle.p25_status.specs.Sync.{has_sync}
 use Rattle.p25_status.specs.Woven.{bare_of}
 use Rattle.p25_unit_front.specs.Front.{identifier_of}
-use Rattle.p25_trellis.specs.Nearest.{half_octets}
+use Rattle.p25_trellis.specs.Nearest.{half_octets, nearest_distance}
+use Rattle.p25_trellis.specs.Tables.{half_point}
 use Rattle.p25_packet_blocks.specs.declared.head.PacketHead.{PacketHead}
 use Rattle.p25_packet_blocks.specs.declared.packet.Packet.{Packet}
 use Rattle.p25_packet_blocks.specs.Heads.{head_blocks}
 use Rattle.p25_packet_blocks.specs.Lengths.{packet_sent_length}
 use Rattle.p25_packet_blocks.specs.Reading.{head_from, packet_of_head}
-use Rattle.p25_packet_blocks.specs.UnitReading.{sent_header_bits, sent_head_of, sent_from, sent_packet_of, with_nac, identified_packet_of, packet_unit_of}
+use Rattle.p25_packet_blocks.specs.UnitReading.{sent_header_bits, sent_head_of, sent_head_distance, sent_from, sent_packet_of, with_nac, identified_packet_of, packet_unit_of}
 
 pub sent_header_bits-is : (sent : List Bool) → sent_header_bits sent ≡ part 114 28 sent ++ part 144 70 sent ++ part 216 70 sent ++ part 288 28 sent
 unfolding sent_header_bits
@@ -41,6 +42,16 @@ sent_head_of-take count sent long =
 pub sent_head_of-append : (sent more : List Bool) → 316 ≤ length sent → sent_head_of (sent ++ more) ≡ sent_head_of sent
 sent_head_of-append sent more long =
     sym (sent_head_of-take 316 (sent ++ more) (omega arith)) ∙ ap sent_head_of (take-append-le 316 sent more long) ∙ sent_head_of-take 316 sent (omega arith)
+
+-- So does its distance.
+
+pub sent_head_distance-take : (count : ℕ) (sent : List Bool) → 316 ≤ count → sent_head_distance (take count sent) ≡ sent_head_distance sent
+unfolding sent_head_distance
+sent_head_distance-take count sent long = ap (nearest_distance 4 half_point) (sent_header_bits-take count sent long)
+
+pub sent_head_distance-append : (sent more : List Bool) → 316 ≤ length sent → sent_head_distance (sent ++ more) ≡ sent_head_distance sent
+sent_head_distance-append sent more long =
+    sym (sent_head_distance-take 316 (sent ++ more) (omega arith)) ∙ ap sent_head_distance (take-append-le 316 sent more long) ∙ sent_head_distance-take 316 sent (omega arith)
 
 -- From the header on.
 

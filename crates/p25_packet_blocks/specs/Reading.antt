@@ -1,6 +1,6 @@
 -- The packet answer: what a unit without its status symbols reads as. Each reading is in steps, so that what decides is an
 -- argument of the next step.
-use Rattle.std.specs.Prelude.{◌≡◌, ℕ, ◌+◌, ◌-◌, ◌*◌, ◌/◌, ◌%◌, ◌≤◌, Bool, List, length, eqb, ◌||◌, take, drop, slice_index, Result, Ok, Err, if◌then◌else◌}
+use Rattle.std.specs.Prelude.{◌≡◌, ℕ, ◌+◌, ◌-◌, ◌*◌, ◌/◌, ◌%◌, ◌≤◌, Bool, List, length, eqb, ◌||◌, take, drop, slice_index, Option, Some, None, Result, Ok, Err, if◌then◌else◌}
 use Rattle.p25_bits.specs.Bits.{part}
 use Rattle.p25_bits.specs.Numbers.{octets_number, each_below, joined_below}
 use Rattle.p25_status.specs.declared.fields.Field.{Field}
@@ -61,6 +61,11 @@ plain_from head octets =
     let count = 12 * head_blocks head - 4 in
     let agrees = eqb (octets_number (drop count octets)) (crc32_of (take count octets)) in
     if eqb (head_blocks head) 0 || agrees then Ok (plain_by_parts head (take count octets)) else Err PacketCrc
+
+-- a packet that was read into its place, or the field that fails
+abbrev pub packet_or : Option Field → Packet → Result Packet Field
+packet_or None packet = Ok packet
+packet_or (Some field) packet = Err field
 
 -- the packet of a header that is not confirmed, and the bits of its unit
 abbrev pub unconfirmed_from : PacketHead → List Bool → Result Packet Field

@@ -7,7 +7,8 @@ use Rattle.p25_status.specs.declared.fields.Field.TheVariants.{Sync, Nid, Duid, 
 use Rattle.p25_status.specs.Sync.{has_sync}
 use Rattle.p25_status.specs.Woven.{bare_of}
 use Rattle.p25_unit_front.specs.Front.{identifier_of}
-use Rattle.p25_trellis.specs.Nearest.{half_octets}
+use Rattle.p25_trellis.specs.Nearest.{half_octets, nearest_distance}
+use Rattle.p25_trellis.specs.Tables.{half_point}
 use Rattle.p25_packet_blocks.specs.declared.head.PacketHead.{PacketHead}
 use Rattle.p25_packet_blocks.specs.declared.packet.Packet.{Packet}
 use Rattle.p25_packet_blocks.specs.Heads.{head_blocks}
@@ -21,6 +22,10 @@ sent_header_bits sent = part 114 28 sent ++ part 144 70 sent ++ part 216 70 sent
 -- the header of a unit as it is sent
 unfoldable pub sent_head_of : List Bool → Result PacketHead Field
 sent_head_of sent = head_from (half_octets (sent_header_bits sent))
+
+-- in how many bits the header block of a unit as it is sent differs from the nearest block
+unfoldable pub sent_head_distance : List Bool → ℕ
+sent_head_distance sent = nearest_distance 4 half_point (sent_header_bits sent)
 
 -- the packet of a unit as it is sent, from its header on
 unfoldable pub sent_from : Result PacketHead Field → List Bool → Result Packet Field

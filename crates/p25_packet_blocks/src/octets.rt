@@ -38,6 +38,13 @@ impl Octets {
         }
     }
 
+    // Becomes the empty list.
+    pub(crate) fn clear(&mut self)
+        ensures { self.new ≡ [] }
+    {
+        self.items.clear();
+    }
+
     /// Answers the number of octets held.
     pub fn len(&self) -> usize
         ensures value { result ≡ length self.now }

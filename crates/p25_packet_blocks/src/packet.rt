@@ -1,8 +1,14 @@
-ghost use Rattle.std.specs.Prelude.{◌≡◌, length};
+ghost use Rattle.std.specs.Prelude.{◌≡◌, ◌+◌, ◌-◌, ◌*◌, ◌≤◌, [], length};
+ghost use Rattle.p25_packet_blocks.specs.Fixes.{three_quarter_distance};
+ghost use Rattle.p25_packet_blocks.specs.Heads.{head_format, head_blocks, response_head};
+ghost use Rattle.p25_packet_blocks.specs.Kinds.{IsPlainFormat};
+ghost use Rattle.p25_packet_blocks.specs.Reading.{slots_read, confirmed_by_parts, plain_by_parts};
 
 use crate::head::PacketHead;
 use crate::octets::Octets;
+use crate::read::read_slots;
 use crate::slots::Slots;
+use p25_bits::BitBuf;
 use std::marker::Model;
 
 /// A confirmed packet: a header of format 16 hex, and a slot for each block to follow.
@@ -43,6 +49,18 @@ impl Confirmed {
         ensures kind { IsConfirmed self.now }
     {
         self.head
+    }
+
+    // Becomes the packet of a header and of the blocks to follow in its unit. Adds the distances of their nearest paths to `fixes`.
+    fn read(&mut self, head: PacketHead, bare: &BitBuf, fixes: &mut u32)
+        requires format { head_format head ≡ 0x16 }
+        requires there { 308 + 196 * head_blocks head ≤ length bare.now }
+        requires few { fixes.old ≤ 196 }
+        ensures parts { self.new ≡ record { head = head; slots = slots_read (head_blocks head) bare.now } }
+        ensures fixes { fixes.new ≡ fixes.old + three_quarter_distance (head_blocks head) bare.now }
+    {
+        self.head = head;
+        read_slots(bare, usize::from(head.blocks()), &mut self.slots, fixes);
     }
 
     /// Answers the slots, in the order of sending.
@@ -95,6 +113,17 @@ impl Plain {
         self.head
     }
 
+    // Becomes the packet of a header and its octets.
+    fn set(&mut self, head: PacketHead, octets: &[u8])
+        requires plain { IsPlain (record { head = head; octets = octets.now }) }
+        requires most { length octets.now ≤ 1520 }
+        ensures { self.new ≡ record { head = head; octets = octets.now } }
+    {
+        self.head = head;
+        self.octets.clear();
+        self.octets.extend(octets);
+    }
+
     /// Answers the octets before the packet CRC, in order.
     pub fn octets(&self) -> &Octets
         ensures value { result.now ≡ self.now.octets }
@@ -111,4 +140,49 @@ pub enum Packet {
     Confirmed(Confirmed),
     /// A packet that is not confirmed, or a response.
     Plain(Plain),
+}
+
+impl Packet {
+    /// Answers a response of no blocks, as the place of a packet that is to be read.
+    pub fn empty() -> Packet
+        ensures { result ≡ plain_by_parts (response_head 0 0 0 0 0) [] }
+    {
+        Packet::Plain(Plain::new(PacketHead::response(0, 0, 0, 0, 0), Octets::new()))
+    }
+
+    // Becomes the confirmed packet of a header and of the blocks to follow in its unit. Where it was one, no room is moved. Adds the
+    // distances of their nearest paths to `fixes`.
+    pub(crate) fn read_confirmed(&mut self, head: PacketHead, bare: &BitBuf, fixes: &mut u32)
+        requires format { head_format head ≡ 0x16 }
+        requires there { 308 + 196 * head_blocks head ≤ length bare.now }
+        requires few { fixes.old ≤ 196 }
+        ensures packet { self.new ≡ confirmed_by_parts head (slots_read (head_blocks head) bare.now) }
+        ensures fixes { fixes.new ≡ fixes.old + three_quarter_distance (head_blocks head) bare.now }
+    {
+        match self {
+            Packet::Confirmed(held) => held.read(head, bare, fixes),
+            Packet::Plain(_) => {
+                let mut slots = Slots::new();
+                read_slots(bare, usize::from(head.blocks()), &mut slots, fixes);
+                *self = Packet::Confirmed(Confirmed::new(head, slots));
+            }
+        }
+    }
+
+    // Becomes the packet of a header that is not confirmed and its octets. Where it was one, no room is moved.
+    pub(crate) fn set_plain(&mut self, head: PacketHead, octets: &[u8])
+        requires format { IsPlainFormat (head_format head) }
+        requires count { length octets.now ≡ 12 * head_blocks head - 4 }
+        requires most { length octets.now ≤ 1520 }
+        ensures { self.new ≡ plain_by_parts head octets.now }
+    {
+        match self {
+            Packet::Plain(held) => held.set(head, octets),
+            Packet::Confirmed(_) => {
+                let mut carried = Octets::new();
+                carried.extend(octets);
+                *self = Packet::Plain(Plain::new(head, carried));
+            }
+        }
+    }
 }

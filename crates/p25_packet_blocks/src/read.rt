@@ -1,19 +1,18 @@
 //! Units of packets read, without their status symbols.
 
-ghost use Rattle.std.specs.Prelude.{◌≡◌, ℕ, ◌+◌, ◌*◌, ◌≤◌, ◌<◌, eqb, length, take, drop, Ok};
+ghost use Rattle.std.specs.Prelude.{◌≡◌, ℕ, ◌+◌, ◌*◌, ◌≤◌, ◌<◌, eqb, length, take, drop, Ok, None};
 ghost use Rattle.p25_bits.specs.Numbers.{octets_number};
 ghost use Rattle.p25_crc.specs.Values.{crc32_of};
 ghost use Rattle.p25_packet_blocks.specs.declared.packet.Packet.{Packet as packet_type};
-ghost use Rattle.p25_packet_blocks.specs.Fixes.{half_distance, three_quarter_distance, packet_fixes_of};
+ghost use Rattle.p25_packet_blocks.specs.Fixes.{head_distance, half_distance, three_quarter_distance, packet_fixes_of};
 ghost use Rattle.p25_packet_blocks.specs.Heads.{head_format, head_blocks};
 ghost use Rattle.p25_packet_blocks.specs.Kinds.{IsPlainFormat};
-ghost use Rattle.p25_packet_blocks.specs.Reading.{head_from, head_reading_of, slot_from, slots_read, octets_read, plain_from, packet_of_head, packet_reading_of, HasItsLength};
+ghost use Rattle.p25_packet_blocks.specs.Reading.{head_from, head_reading_of, slot_from, slots_read, octets_read, plain_from, packet_or, packet_of_head, packet_reading_of, HasItsLength};
 ghost use Rattle.p25_packet_blocks.specs.Whole.{IsWholePacket};
 
 use crate::block::{Block, Slot};
 use crate::head::{CONFIRMED_FORMAT, PLAIN_FORMAT, PacketHead, RESPONSE_FORMAT};
-use crate::octets::Octets;
-use crate::packet::{Confirmed, Packet, Plain};
+use crate::packet::Packet;
 use crate::slots::Slots;
 use p25_bits::BitBuf;
 use p25_crc::{crc9, crc16, crc32};
@@ -69,22 +68,21 @@ fn slot_in(octets: &[u8; 18]) -> Slot
     }
 }
 
-// The slots of the blocks to follow of a confirmed packet. Adds the distances of their nearest paths to `fixes`.
-fn read_slots(bare: &BitBuf, blocks: usize, fixes: &mut u32) -> Slots
+// Sets `slots` to those of the blocks to follow of a confirmed packet. Adds the distances of their nearest paths to `fixes`.
+pub(crate) fn read_slots(bare: &BitBuf, blocks: usize, slots: &mut Slots, fixes: &mut u32)
     requires blocks { blocks ≤ 127 }
     requires there { 308 + 196 * blocks ≤ length bare.now }
     requires few { fixes.old ≤ 196 }
-    ensures list { result ≡ slots_read blocks bare.now }
-    ensures len { length result ≡ blocks }
+    ensures list { slots.new ≡ slots_read blocks bare.now }
+    ensures len { length slots.new ≡ blocks }
     ensures fixes { fixes.new ≡ fixes.old + three_quarter_distance blocks bare.now }
 {
-    let mut slots = Slots::new();
+    slots.clear();
     let mut octets = [0; 18];
     for j in 0..blocks {
         *fixes += read_block::<ThreeQuarter>(bare, BLOCKS_AT + BLOCK_LENGTH * j, &mut octets);
         slots.push(slot_in(&octets));
     }
-    slots
 }
 
 // Sets the octets to those of the blocks to follow at half rate. Adds the distances of their nearest paths to `fixes`.
@@ -119,35 +117,40 @@ fn check_agrees(octets: &[u8], count: usize) -> bool
     u32::from_be_bytes(check) == crc32(&octets[..count])
 }
 
-// The packet of a header and of the octets of all its blocks.
-fn plain_in(head: PacketHead, octets: &[u8]) -> Result<Packet, Field>
+// Sets `packet` to that of a header and of the octets of all its blocks, or answers the field that fails.
+fn set_plain(head: PacketHead, octets: &[u8], packet: &mut Packet) -> Option<Field>
     requires format { IsPlainFormat (head_format head) }
     requires octets { length octets.now ≡ 12 * head_blocks head }
-    ensures { result ≡ plain_from head octets.now }
+    ensures { packet_or result packet.new ≡ plain_from head octets.now }
 {
     let blocks = usize::from(head.blocks());
     let count = (12 * blocks).saturating_sub(4);
     if blocks > 0 && !check_agrees(octets, count) {
-        return Err(Field::PacketCrc);
+        return Some(Field::PacketCrc);
     }
-    let mut carried = Octets::new();
-    carried.extend(&octets[..count]);
-    Ok(Packet::Plain(Plain::new(head, carried)))
+    packet.set_plain(head, &octets[..count]);
+    None
 }
 
-// The packet of a header and the bits of its unit, where it is not confirmed. Adds the distances of the nearest paths to `fixes`.
-fn read_plain(head: PacketHead, bare: &BitBuf, fixes: &mut u32) -> Result<Packet, Field>
+// Sets `packet` to that of a header and the bits of its unit, where it is not confirmed, or answers the field that fails. Adds the
+// distances of the nearest paths to `fixes`.
+fn read_plain(
+    head: PacketHead,
+    bare: &BitBuf,
+    packet: &mut Packet,
+    fixes: &mut u32,
+) -> Option<Field>
     requires format { IsPlainFormat (head_format head) }
     requires there { 308 + 196 * head_blocks head ≤ length bare.now }
     requires few { fixes.old ≤ 196 }
-    ensures packet { result ≡ plain_from head (octets_read (head_blocks head) bare.now) }
+    ensures packet { packet_or result packet.new ≡ plain_from head (octets_read (head_blocks head) bare.now) }
     ensures fixes { fixes.new ≡ fixes.old + half_distance (head_blocks head) bare.now }
 {
     let blocks = usize::from(head.blocks());
     let mut room = [0; 1524];
     let octets = &mut room[..12 * blocks];
     read_octets(bare, blocks, octets, fixes);
-    plain_in(head, octets)
+    set_plain(head, octets, packet)
 }
 
 /// Answers the packet of a header that was read and of its unit without status symbols, which has at least as many bits as
@@ -156,25 +159,57 @@ pub fn read_packet_of_head(head: PacketHead, bare: &BitBuf) -> Result<Packet, Fi
     requires { 308 + 196 * head_blocks head ≤ length bare.now }
     ensures { result ≡ packet_of_head head bare.now }
 {
-    read_blocks(head, bare, &mut 0)
+    let mut packet = Packet::empty();
+    match read_blocks(head, bare, &mut packet, &mut 0) {
+        None => Ok(packet),
+        Some(field) => Err(field),
+    }
 }
 
-// The packet of a header and of its unit, by the format. Adds the distances of the nearest paths of its blocks to `fixes`.
-fn read_blocks(head: PacketHead, bare: &BitBuf, fixes: &mut u32) -> Result<Packet, Field>
+// Sets `packet` to that of a header and of its unit, by the format, or answers the field that fails. Adds the distances of the
+// nearest paths of its blocks to `fixes`.
+fn read_blocks(
+    head: PacketHead,
+    bare: &BitBuf,
+    packet: &mut Packet,
+    fixes: &mut u32,
+) -> Option<Field>
     requires there { 308 + 196 * head_blocks head ≤ length bare.now }
     requires few { fixes.old ≤ 196 }
-    ensures packet { result ≡ packet_of_head head bare.now }
+    ensures packet { packet_or result packet.new ≡ packet_of_head head bare.now }
     ensures confirmed { head_format head ≡ 0x16 → fixes.new ≡ fixes.old + three_quarter_distance (head_blocks head) bare.now }
     ensures bare { IsPlainFormat (head_format head) → fixes.new ≡ fixes.old + half_distance (head_blocks head) bare.now }
 {
     match head.format() {
         CONFIRMED_FORMAT => {
-            let slots = read_slots(bare, usize::from(head.blocks()), fixes);
-            Ok(Packet::Confirmed(Confirmed::new(head, slots)))
+            packet.read_confirmed(head, bare, fixes);
+            None
         }
-        PLAIN_FORMAT | RESPONSE_FORMAT => read_plain(head, bare, fixes),
-        _ => Err(Field::Format),
+        PLAIN_FORMAT | RESPONSE_FORMAT => read_plain(head, bare, packet, fixes),
+        _ => Some(Field::Format),
     }
+}
+
+/// Sets `packet` to the packet of the header that a unit without status symbols holds, and answers None; or answers the field that
+/// fails, where `packet` means nothing. A packet is large: set in place it is not moved. Format and PacketCrc come as in
+/// `read_packet`. `distance` is in how many bits the header block differs from the nearest block. Sets `fixes`, where a packet is read
+/// and none of its slots is Bad, to the number of bits in which the header block and the blocks to follow were received otherwise
+/// than they are sent for it.
+pub fn set_packet(
+    head: PacketHead,
+    distance: u32,
+    bare: &BitBuf,
+    packet: &mut Packet,
+    fixes: &mut u32,
+) -> Option<Field>
+    requires head { head_reading_of bare.now ≡ Ok head }
+    requires distance { distance ≡ head_distance bare.now }
+    requires there { 308 + 196 * head_blocks head ≤ length bare.now }
+    ensures packet { packet_or result packet.new ≡ packet_of_head head bare.now }
+    ensures fixes { (nac : ℕ) → result ≡ None → IsWholePacket packet.new → fixes.new ≡ packet_fixes_of nac packet.new bare.now }
+{
+    *fixes = distance;
+    read_blocks(head, bare, packet, fixes)
 }
 
 /// Answers the packet of the header that a unit without status symbols holds, as `read_packet_of_head` does. Sets `fixes`, where a
@@ -191,8 +226,12 @@ pub fn read_packet_and_fixes(
     ensures fixes { (nac : ℕ) (packet : packet_type) → result ≡ Ok packet → IsWholePacket packet → fixes.new ≡ packet_fixes_of nac packet bare.now }
 {
     let mut octets = [0; 12];
-    *fixes = read_block::<Half>(bare, HEADER_AT, &mut octets);
-    read_blocks(head, bare, fixes)
+    let distance = read_block::<Half>(bare, HEADER_AT, &mut octets);
+    let mut packet = Packet::empty();
+    match set_packet(head, distance, bare, &mut packet, fixes) {
+        None => Ok(packet),
+        Some(field) => Err(field),
+    }
 }
 
 /// Answers the packet that a unit holds. `bare` is the unit without status symbols, from its front on: it has at least 308

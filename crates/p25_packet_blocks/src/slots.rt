@@ -31,6 +31,13 @@ impl Slots {
         }
     }
 
+    // Becomes the empty list.
+    pub(crate) fn clear(&mut self)
+        ensures { self.new ≡ [] }
+    {
+        self.items.clear();
+    }
+
     /// Answers the number of slots held.
     pub fn len(&self) -> usize
         ensures value { result ≡ length self.now }

@@ -1,7 +1,7 @@
 //! Units of packets read as they are sent, with their status symbols.
 
 ghost use Rattle.std.specs.Prelude.{◌≡◌, ◌+◌, ◌*◌, ◌≤◌, length, drop};
-ghost use Rattle.p25_packet_blocks.specs.UnitReading.{sent_header_bits, sent_head_of, sent_packet_of, packet_unit_of};
+ghost use Rattle.p25_packet_blocks.specs.UnitReading.{sent_header_bits, sent_head_of, sent_head_distance, sent_packet_of, packet_unit_of};
 
 use crate::head::PacketHead;
 use crate::image::packet_length;
@@ -35,10 +35,24 @@ pub fn read_sent_head(bits: &BitBuf, at: usize) -> Result<PacketHead, Field>
     requires { at + 316 ≤ length bits.now }
     ensures { result ≡ sent_head_of (drop at bits.now) }
 {
+    read_sent_head_counted(bits, at, &mut 0)
+}
+
+/// Answers the header as `read_sent_head` does. Sets `distance` to the number of bits in which the header block was received
+/// otherwise than the nearest block is sent, also where its CRC does not agree.
+pub fn read_sent_head_counted(
+    bits: &BitBuf,
+    at: usize,
+    distance: &mut u32,
+) -> Result<PacketHead, Field>
+    requires { at + 316 ≤ length bits.now }
+    ensures head { result ≡ sent_head_of (drop at bits.now) }
+    ensures distance { distance.new ≡ sent_head_distance (drop at bits.now) }
+{
     let mut header = BitBuf::new();
     take_header(bits, at, &mut header);
     let mut octets = [0; 12];
-    read_block::<Half>(&header, 0, &mut octets);
+    *distance = read_block::<Half>(&header, 0, &mut octets);
     head_in(&octets)
 }
 

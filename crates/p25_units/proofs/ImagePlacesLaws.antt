@@ -1,9 +1,8 @@
 -- Bits by places are the image: those of a unit by the laws of its kind, and with status symbols since they stand in one way only.
 use Rattle.std.proofs.Common.{◌≡◌, ℕ, ◌*◌, ◌↔◌, Bool, List, length, refl, ap, sym, subst, ◌∙◌}
-use Rattle.p25_status.specs.Woven.{woven, StandsByPlaces}
+use Rattle.p25_status.specs.Woven.{woven}
 use Rattle.p25_status.proofs.PlacesSteps.{woven-places, StandsByPlaces-unique}
 use Rattle.p25_voice_units.proofs.ImagesLaws.{IsVoiceImage-iff}
-use Rattle.p25_packet_blocks.specs.Places.{IsPacketImage}
 use Rattle.p25_packet_blocks.proofs.PlacesLaws.{IsPacketImage-image, IsPacketImage-only}
 use Rattle.p25_units.specs.ImagePlaces.{IsBodyImage, IsImage}
 use Rattle.p25_units.specs.Units.{body_image_of, unit_image_of, image_of, IsSoundFrame, IsSendableBody, IsSendableUnit}

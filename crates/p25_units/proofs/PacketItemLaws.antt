@@ -1,5 +1,5 @@
--- The item of a packet that was read: its fixes are those of its front and of its blocks.
-use Rattle.std.proofs.Common.{◌≡◌, ℕ, ◌+◌, ◌≤◌, Bool, List, [], ◌∷◌, length, drop, Some, Result, Ok, Err, refl, ap, sym, subst, ◌∙◌, arith, length-drop, ◌*◌, length-take}
+-- The frame of a packet that was read: its fixes are those of its front and of its blocks.
+use Rattle.std.proofs.Common.{◌≡◌, ℕ, ◌+◌, ◌≤◌, Bool, List, [], ◌∷◌, length, drop, Option, None, Some, Result, Ok, Err, refl, ap, sym, subst, ◌∙◌, arith, length-drop, ◌*◌, length-take}
 use Rattle.std.specs.Bool.{beq}
 use Rattle.p25_bits.specs.Bits.{part}
 use Rattle.p25_bits.proofs.DistanceLaws.{distance_by-le}
@@ -15,12 +15,10 @@ use Rattle.p25_packet_blocks.specs.Reading.{packet_reading_of}
 use Rattle.p25_packet_blocks.specs.Whole.{IsWholePacket, packet_head}
 use Rattle.p25_units.specs.UnitParts.{UnitParts}
 use Rattle.p25_units.specs.Fixes.{body_fixes_of, fixes_of}
-use Rattle.p25_units.specs.Items.{item_from}
 use Rattle.p25_units.specs.Needs.{kind_need}
-use Rattle.p25_units.specs.Readings.{body_reading_of, failing_blocks_of, packet_body_from, reading_from, whole_from}
+use Rattle.p25_units.specs.Readings.{body_or, body_reading_of, failing_blocks_of, packet_body_from, reading_from, whole_from}
 use Rattle.p25_units.specs.Units.{IsWholeBody, frame_length_of}
 use Rattle.p25_units.specs.declared.frame.Frame.{Frame}
-use Rattle.p25_units.specs.declared.item.Item.TheVariants.{Whole}
 use Rattle.p25_units.specs.declared.needs.Need.TheVariants.{Length}
 use Rattle.p25_units.specs.declared.unit.Body.{Body}
 use Rattle.p25_units.specs.declared.unit.Body.TheVariants.{Packet}
@@ -66,23 +64,42 @@ packet_body-le bare (Ok packet) body made nac =
       length-drop 112 bare,
     )
 
--- the item of a whole unit by what it carries
-pub whole_body-is : (place nac duid : ℕ) (bits : List Bool) (at count : ℕ) (body : Body) (statuses : List Status) → at ≤ length bits → kind_need duid (drop at bits) ≡ Length count → nac ≤ 4095
-    → statuses ≡ statuses_of (part at count bits) → Ok body ≡ body_reading_of duid (bare_of (part at count bits))
-    → (m n : ℕ) → m ≡ front_fixes_of (nac, duid) (drop at bits)
-    → (let unit : UnitParts = record { nac = nac; body = body } in n ≡ body_fixes_of unit (bare_of (part at count bits)))
-    → let unit : UnitParts = record { nac = nac; body = body } in
-    let frame : Frame = record { unit = unit; statuses = statuses } in
-    Whole place frame (m + n) ≡ item_from place (nac, duid) (part at count bits) (reading_from (Some (nac, duid)) (part at count bits))
-whole_body-is place nac duid bits at count body statuses inside kind fits statuses_is read m n front behind =
-    let sent = part at count bits in
-    let unit : UnitParts = record { nac = nac; body = body } in
-    let frame : Frame = record { unit = unit; statuses = statuses } in
-    let reading : Ok frame ≡ reading_from (Some (nac, duid)) sent = reading-is (nac, duid) sent statuses (Ok body) statuses_is read in
-    let is = IsFrameOf-reading (nac, duid) sent frame (IsUnitOf-need count (drop at bits) duid kind) (sym reading) in
-    let long : frame_length_of frame.unit ≡ count = (frame-is nac duid bits at count frame inside kind (sym reading)).1 in
+same_packet : (packet other : packet_type) → (let first : Result packet_type Field = Ok packet in let second : Result packet_type Field = Ok other in first ≡ second) → packet ≡ other
+same_packet packet other is = cc
+
+-- the count where the packet was read into its place and no field fails
+pub packet_place-fixes : (bare : List Bool) (packet : packet_type) (failing : Option (List Field)) (fixes : ℕ) → Ok packet ≡ packet_reading_of bare → body_or failing (Packet packet) ≡ packet_body_from (packet_reading_of bare)
+    → failing ≡ None → ((nac : ℕ) → IsWholePacket packet → fixes ≡ packet_fixes_of nac packet bare)
+    → (nac : ℕ) → let unit : UnitParts = record { nac = nac; body = Packet packet } in fixes ≡ body_fixes_of unit bare
+packet_place-fixes bare packet failing fixes read body none counted nac =
+    let made : packet_body_from (Ok packet) ≡ Ok (Packet packet) = ap packet_body_from read ∙ sym body ∙ ap (λ f. body_or f (Packet packet)) none in
+    let each : (nac : ℕ) (other : packet_type) → Ok packet ≡ Ok other → IsWholePacket other → fixes ≡ packet_fixes_of nac other bare
+    = λ n other is whole. let same : packet ≡ other = same_packet packet other is in
+    subst (λ (p : packet_type). fixes ≡ packet_fixes_of n p bare) same (counted n (subst IsWholePacket (sym same) whole)) in
+    packet_body-fixes bare (Ok packet) (Packet packet) fixes read made each nac
+
+-- what a packet carries, by its bits without status symbols
+pub packet_body-is : (duid : ℕ) (sent bare : List Bool) (reading : Result Body (List Field)) → duid ≡ 0xC → bare ≡ bare_of sent → reading ≡ packet_body_from (packet_reading_of bare) → reading ≡ body_reading_of duid (bare_of sent)
+packet_body-is duid sent bare reading packet same read =
+    read ∙ ap (λ xs. packet_body_from (packet_reading_of xs)) same ∙ sym (body_reading_of-packet (bare_of sent)) ∙ ap (λ k. body_reading_of k (bare_of sent)) (sym packet)
+
+-- the frame of a whole unit by what it carries
+pub whole_frame-is : (nac duid : ℕ) (sent : List Bool) (unit : UnitParts) (statuses : List Status) → unit.nac ≡ nac → statuses ≡ statuses_of sent → Ok unit.body ≡ body_reading_of duid (bare_of sent)
+    → let frame : Frame = record { unit = unit; statuses = statuses } in Ok frame ≡ reading_from (Some (nac, duid)) sent
+whole_frame-is nac duid sent unit statuses named statuses_is read =
+    let make : ℕ → Result Frame (List Field) = λ n. let made : UnitParts = record { nac = n; body = unit.body } in
+    let frame : Frame = record { unit = made; statuses = statuses } in
+    Ok frame in
+    ap make named ∙ reading-is (nac, duid) sent statuses (Ok unit.body) statuses_is read
+
+-- its fixes are those of its front and those after it
+pub whole_fixes-is : (nac duid : ℕ) (bits : List Bool) (at count : ℕ) (frame : Frame) → at ≤ length bits → kind_need duid (drop at bits) ≡ Length count → nac ≤ 4095 → frame.unit.nac ≡ nac
+    → Ok frame ≡ reading_from (Some (nac, duid)) (part at count bits)
+    → (m n : ℕ) → m ≡ front_fixes_of (nac, duid) (drop at bits) → n ≡ body_fixes_of frame.unit (bare_of (part at count bits)) → m + n ≡ fixes_of frame (part at count bits)
+whole_fixes-is nac duid bits at count frame inside kind fits named read m n front behind =
+    let is = IsFrameOf-reading (nac, duid) (part at count bits) frame (IsUnitOf-need count (drop at bits) duid kind) (sym read) in
+    let long : frame_length_of frame.unit ≡ count = (frame-is nac duid bits at count frame inside kind (sym read)).1 in
     let there : at + frame_length_of frame.unit ≤ length bits = omega (arith, long, (IsCountAt-kind duid bits at count inside kind).there) in
+    let small : frame.unit.nac ≤ 4095 = omega (arith, named, fits) in
     let rest = behind ∙ ap (λ k. body_fixes_of frame.unit (bare_of (part at k bits))) (sym long) in
-    let fixed : m + n ≡ fixes_of frame sent
-    = fixes_in frame bits at nac duid is.sound (record { nac_fits = fits; body = is.sendable }) there refl (sym is.duid) m n front rest ∙ ap (λ k. fixes_of frame (part at k bits)) long in
-    ap (Whole place frame) fixed ∙ ap (item_from place (nac, duid) sent) reading
+    fixes_in frame bits at nac duid is.sound (record { nac_fits = small; body = is.sendable }) there (sym named) (sym is.duid) m n front rest ∙ ap (λ k. fixes_of frame (part at k bits)) long

@@ -18,9 +18,10 @@ use Rattle.p25_unit_front.proofs.FrontLaws.{identifier_of-take}
 use Rattle.p25_voice_units.specs.Lengths.{voice_length_of}
 use Rattle.p25_packet_blocks.specs.Heads.{head_blocks}
 use Rattle.p25_packet_blocks.specs.Reading.{head_reading_of, HasItsLength}
-use Rattle.p25_packet_blocks.specs.UnitReading.{sent_head_of}
-use Rattle.p25_packet_blocks.proofs.SentLaws.{sent_head_of-bare_of}
-use Rattle.p25_packet_blocks.proofs.UnitLaws.{sent_head_of-take}
+use Rattle.p25_packet_blocks.specs.Fixes.{head_distance}
+use Rattle.p25_packet_blocks.specs.UnitReading.{sent_head_of, sent_head_distance}
+use Rattle.p25_packet_blocks.proofs.SentLaws.{sent_head_of-bare_of, sent_head_distance-bare_of}
+use Rattle.p25_packet_blocks.proofs.UnitLaws.{sent_head_of-take, sent_head_distance-take}
 use Rattle.p25_units.specs.Units.{frame_length_of, IsSoundFrame}
 use Rattle.p25_units.specs.Items.{item_from, unit_item_of}
 use Rattle.p25_units.specs.Needs.{need_of, synced_need, kind_need}
@@ -131,6 +132,7 @@ voice_long duid bits at count bare other kind whole long there =
 pub record IsPacketAt (bits : List Bool) (at count : ℕ) : Type 0 where
   pub there : at + 316 ≤ length bits
   pub head : sent_head_of (drop at bits) ≡ head_reading_of (bare_of (part at count bits))
+  pub distance : sent_head_distance (drop at bits) ≡ head_distance (bare_of (part at count bits))
   pub has : HasItsLength (bare_of (part at count bits))
 
 pub IsPacketAt-kind : (bits : List Bool) (at count : ℕ) → at ≤ length bits → kind_need 0xC (drop at bits) ≡ Length count → IsPacketAt bits at count
@@ -150,6 +152,7 @@ IsPacketAt-kind bits at count inside kind =
           record {
             there = omega (arith, counted.there, many);
             head = sym (sent_head_of-take count rest many) ∙ sent_head_of-bare_of unit.blocks sent five unit.long;
+            distance = sym (sent_head_distance-take count rest many) ∙ sent_head_distance-bare_of unit.blocks sent five unit.long;
             has = λ head read.
                 let two : Ok head ≡ Ok packet.head = sym read ∙ packet.read in
                 let same : head_blocks head ≡ n = ap head_blocks (let h : head ≡ packet.head = cc in h) in

@@ -1,13 +1,14 @@
 //! What was read of a unit whose last bits are not there yet.
 
-ghost use Rattle.std.specs.Prelude.{◌≡◌, ◌+◌, ◌≤◌, Bool, List, length, drop, option_map};
+ghost use Rattle.std.specs.Prelude.{◌≡◌, ◌+◌, ◌≤◌, Bool, List, length, drop, option_map, Ok};
+ghost use Rattle.p25_packet_blocks.specs.declared.head.PacketHead.{PacketHead};
 ghost use Rattle.p25_unit_front.specs.Front.{identifier_of};
-ghost use Rattle.p25_packet_blocks.specs.UnitReading.{sent_head_of};
+ghost use Rattle.p25_packet_blocks.specs.UnitReading.{sent_head_of, sent_head_distance};
 ghost use Rattle.p25_units.specs.Begins.{IsBegun};
 
 use p25_bch_nid::Nid;
 use p25_bits::BitBuf;
-use p25_packet_blocks::{PacketHead, read_sent_head};
+use p25_packet_blocks::{PacketHead, read_sent_head_counted};
 use p25_status::Field;
 use p25_unit_front::read_identifier;
 
@@ -17,6 +18,7 @@ use p25_unit_front::read_identifier;
 pub struct Begun {
     nid: Option<Nid>,
     head: Option<PacketHead>,
+    distance: u32,
 }
 
 impl Begun {
@@ -27,6 +29,7 @@ impl Begun {
         Begun {
             nid: None,
             head: None,
+            distance: 0,
         }
     }
 
@@ -47,18 +50,28 @@ impl Begun {
         }
     }
 
-    // The header of the packet at a place, which is read where it was not.
+    // In how many bits the block of the header that was read differs from the nearest block.
+    pub(crate) fn distance(&self) -> u32
+        ensures { result ≡ self.now.distance }
+    {
+        self.distance
+    }
+
+    // The header of the packet at a place, which is read where it was not, and in how many bits its block differs from the nearest.
     pub(crate) fn read_head(&mut self, bits: &BitBuf, at: usize) -> Result<PacketHead, Field>
         requires there { at + 316 ≤ length bits.now }
         requires begun { IsBegun self.old (drop at bits.now) }
         ensures value { result ≡ sent_head_of (drop at bits.now) }
+        ensures distance { (head : PacketHead) → result ≡ Ok head → self.new.distance ≡ sent_head_distance (drop at bits.now) }
         ensures begun { IsBegun self.new (drop at bits.now) }
     {
         match self.head {
             Some(head) => Ok(head),
             None => {
-                let head = read_sent_head(bits, at)?;
+                let mut distance = 0;
+                let head = read_sent_head_counted(bits, at, &mut distance)?;
                 self.head = Some(head);
+                self.distance = distance;
                 Ok(head)
             }
         }

@@ -1,20 +1,21 @@
 //! What a stream is divided into.
 
-ghost use Rattle.std.specs.Prelude.{◌≡◌, ◌≢◌, ◌^◌, ◌<◌, ◌≤◌, Some, length, drop};
+ghost use Rattle.std.specs.Prelude.{◌≡◌, ◌≢◌, ◌^◌, ◌<◌, ◌≤◌, None, Some, length, drop};
 ghost use Rattle.p25_bits.specs.Bits.{part};
 ghost use Rattle.p25_units.specs.Begins.{IsBegun};
 ghost use Rattle.p25_units.specs.Items.{IsSoundItem, covered, item_from, place_of, unit_item_of, whole_voice};
 ghost use Rattle.p25_units.specs.Needs.{kind_need, need_of};
 ghost use Rattle.p25_units.specs.declared.item.Item.TheVariants.{Broken};
 ghost use Rattle.p25_units.specs.declared.needs.Need.TheVariants.{Length};
-ghost use Rattle.p25_units.specs.Readings.{reading_from};
+ghost use Rattle.p25_units.specs.Fixes.{fixes_of};
+ghost use Rattle.p25_units.specs.Readings.{frame_or, reading_from};
 
 use crate::begun::Begun;
 use crate::frame::{Frame, frame_length};
-use crate::packets::read_packet_body;
 use crate::unit::{Body, Unit};
 use p25_bch_nid::{Nid, PDU};
 use p25_bits::BitBuf;
+use p25_packet_blocks::Packet;
 use p25_status::{Field, FieldList, Statuses, unweave};
 use p25_unit_front::front_fixes;
 use p25_voice_units::{VoiceUnit, read_voice_counted};
@@ -210,21 +211,74 @@ fn set_packet_item(
     ensures { item.new ≡ item_from place (nid.now.nac, nid.now.duid) (part at count bits.now)
         (reading_from (Some (nid.now.nac, nid.now.duid)) (part at count bits.now)) }
 {
-    let mut statuses = Statuses::new();
-    unweave(bits, at, count, room, &mut statuses);
-    let head = begun.read_head(bits, at);
-    let mut body_fixes = 0;
-    *item = match read_packet_body(head, room, &mut body_fixes) {
-        Ok(body) => Item::Whole {
-            place,
-            frame: Frame {
-                unit: Unit::new(nid.nac, body),
-                statuses,
-            },
-            fixes: front_fixes(bits, at, nid) + body_fixes,
-        },
-        Err(fields) => broken_item(place, count, nid, fields),
+    let failing = match item {
+        Item::Whole {
+            place: held_place,
+            frame,
+            fixes,
+        } => {
+            *held_place = place;
+            read_packet_frame(bits, at, count, nid, begun, room, frame, fixes)
+        }
+        _ => {
+            let mut frame = Frame {
+                unit: Unit::new(0, Body::Packet(Packet::empty())),
+                statuses: Statuses::new(),
+            };
+            let mut fixes = 0;
+            let failing = read_packet_frame(
+                bits, at, count, nid, begun, room, &mut frame, &mut fixes,
+            );
+            *item = Item::Whole {
+                place,
+                frame,
+                fixes,
+            };
+            failing
+        }
     };
+    match failing {
+        None => {}
+        Some(fields) => *item = broken_item(place, count, nid, fields),
+    }
+}
+
+// Sets `frame` to that of a packet whose identifier was read, or answers the fields that fail. Sets `fixes`, where none fails, to
+// those of the frame.
+fn read_packet_frame(
+    bits: &BitBuf,
+    at: usize,
+    count: usize,
+    nid: &Nid,
+    begun: &mut Begun,
+    room: &mut BitBuf,
+    frame: &mut Frame,
+    fixes: &mut u32,
+) -> Option<FieldList>
+    requires there { at ≤ length bits.now }
+    requires kind { kind_need nid.now.duid (drop at bits.now) ≡ Length count }
+    requires packet { nid.now.duid ≡ 0xC }
+    requires begun { IsBegun begun.old (drop at bits.now) }
+    ensures frame { frame_or result frame.new ≡ reading_from (Some (nid.now.nac, nid.now.duid)) (part at count bits.now) }
+    ensures fixes { result ≡ None → fixes.new ≡ fixes_of frame.new (part at count bits.now) }
+{
+    unweave(bits, at, count, room, &mut frame.statuses);
+    match begun.read_head(bits, at) {
+        Err(field) => Some(FieldList::one(field)),
+        Ok(head) => {
+            let mut wrong = 0;
+            match frame
+                .unit
+                .read_packet(nid.nac, head, begun.distance(), room, &mut wrong)
+            {
+                Some(fields) => Some(fields),
+                None => {
+                    *fixes = front_fixes(bits, at, nid) + wrong;
+                    None
+                }
+            }
+        }
+    }
 }
 
 // The item of a unit some fields of which fail.

@@ -1,14 +1,17 @@
 //! Packets as what units carry.
 
-ghost use Rattle.std.specs.Prelude.{◌≡◌, ℕ, ◌+◌, ◌<◌, ◌≤◌, [], ◌∷◌, ◌++◌, length, Ok};
+ghost use Rattle.std.specs.Prelude.{◌≡◌, ℕ, ◌+◌, ◌<◌, ◌≤◌, [], ◌∷◌, ◌++◌, length, Ok, None};
+ghost use Rattle.p25_packet_blocks.specs.Fixes.{head_distance};
 ghost use Rattle.p25_packet_blocks.specs.Reading.{head_reading_of, packet_reading_of, HasItsLength};
 ghost use Rattle.p25_units.specs.Fixes.{body_fixes_of};
 ghost use Rattle.p25_units.specs.declared.unit.Body.{Body as body_type};
-ghost use Rattle.p25_units.specs.Readings.{failing_blocks_of, failing_slot, failing_slots_of, packet_body_from, whole_from};
+ghost use Rattle.p25_packet_blocks.specs.declared.packet.Packet.{Packet as packet_type};
+ghost use Rattle.p25_units.specs.declared.unit.Body.TheVariants.{Packet as packet_in};
+ghost use Rattle.p25_units.specs.Readings.{body_or, failing_blocks_of, failing_slot, failing_slots_of, packet_body_from, whole_from};
 
 use crate::unit::Body;
 use p25_bits::BitBuf;
-use p25_packet_blocks::{Packet, PacketHead, Slot, Slots, read_packet_and_fixes};
+use p25_packet_blocks::{Packet, PacketHead, Slot, Slots, read_packet_and_fixes, set_packet};
 use p25_status::{Field, FieldList};
 
 // The packet of a unit without status symbols, by its header that was read or fails. Sets `fixes`, where a packet is answered, to
@@ -26,6 +29,38 @@ pub(crate) fn read_packet_body(
     match head {
         Err(field) => Err(FieldList::one(field)),
         Ok(head) => packet_body(read_packet_and_fixes(head, bare, fixes)),
+    }
+}
+
+// Sets `packet` to the packet of a unit without status symbols, by its header, whose block differs in `distance` bits from the
+// nearest block, or answers the fields that fail. Sets `fixes`, where none fails, to the number of wrong bits of its blocks.
+pub(crate) fn set_whole_packet(
+    head: PacketHead,
+    distance: u32,
+    bare: &BitBuf,
+    packet: &mut Packet,
+    fixes: &mut u32,
+) -> Option<FieldList>
+    requires head { head_reading_of bare.now ≡ Ok head }
+    requires distance { distance ≡ head_distance bare.now }
+    requires there { HasItsLength bare.now }
+    ensures body { body_or result (packet_in packet.new) ≡ packet_body_from (packet_reading_of bare.now) }
+    ensures fixes { (nac : ℕ) → result ≡ None → fixes.new ≡ body_fixes_of (record { nac = nac; body = packet_in packet.new }) bare.now }
+{
+    match set_packet(head, distance, bare, packet, fixes) {
+        Some(field) => Some(FieldList::one(field)),
+        None => failing_fields(failing_blocks(packet)),
+    }
+}
+
+// The fields that fail, or none where there are none.
+fn failing_fields(fields: FieldList) -> Option<FieldList>
+    ensures { (packet : packet_type) → body_or result (packet_in packet) ≡ whole_from packet fields }
+{
+    if fields.len() == 0 {
+        None
+    } else {
+        Some(fields)
     }
 }
 

@@ -1,12 +1,18 @@
 //! A unit: whose it is, and what it carries.
 
-ghost use Rattle.std.specs.Prelude.{◌≡◌, ◌<◌, ◌≤◌};
+ghost use Rattle.std.specs.Prelude.{◌≡◌, ℕ, ◌<◌, ◌≤◌, None, Ok};
+ghost use Rattle.p25_packet_blocks.specs.Fixes.{head_distance};
+ghost use Rattle.p25_packet_blocks.specs.Reading.{head_reading_of, packet_reading_of, HasItsLength};
+ghost use Rattle.p25_units.specs.Fixes.{body_fixes_of};
+ghost use Rattle.p25_units.specs.Readings.{body_or, packet_body_from};
 ghost use Rattle.p25_units.specs.Units.{body_duid, body_length};
 ghost use Rattle.p25_units.specs.declared.unit.Body.TheVariants.{Voice as voice_in};
 
+use crate::packets::set_whole_packet;
 use p25_bch_nid::{Nid, PDU};
-use p25_packet_blocks::{Packet, packet_length};
-use p25_status::{BARE_BLOCK_LENGTH, SENT_BLOCK_LENGTH};
+use p25_bits::BitBuf;
+use p25_packet_blocks::{Packet, PacketHead, packet_length};
+use p25_status::{BARE_BLOCK_LENGTH, FieldList, SENT_BLOCK_LENGTH};
 use p25_voice_units::VoiceUnit;
 use std::marker::Model;
 
@@ -38,6 +44,32 @@ impl Body {
         match self {
             Body::Voice(held) => *held = voice,
             Body::Packet(_) => *self = Body::Voice(voice),
+        }
+    }
+
+    // Becomes the packet of a unit without status symbols, by its header, or answers the fields that fail. Where it was one, no
+    // room is moved. Sets `fixes`, where none fails, to the number of wrong bits of its blocks.
+    fn read_packet(
+        &mut self,
+        head: PacketHead,
+        distance: u32,
+        bare: &BitBuf,
+        fixes: &mut u32,
+    ) -> Option<FieldList>
+        requires head { head_reading_of bare.now ≡ Ok head }
+        requires distance { distance ≡ head_distance bare.now }
+        requires there { HasItsLength bare.now }
+        ensures body { body_or result self.new ≡ packet_body_from (packet_reading_of bare.now) }
+        ensures fixes { (nac : ℕ) → result ≡ None → fixes.new ≡ body_fixes_of (record { nac = nac; body = self.new }) bare.now }
+    {
+        match self {
+            Body::Packet(held) => set_whole_packet(head, distance, bare, held, fixes),
+            Body::Voice(_) => {
+                let mut packet = Packet::empty();
+                let failing = set_whole_packet(head, distance, bare, &mut packet, fixes);
+                *self = Body::Packet(packet);
+                failing
+            }
         }
     }
 
@@ -88,6 +120,28 @@ impl Unit {
     {
         self.nac = nac;
         self.body.set_voice(voice);
+    }
+
+    // Becomes the packet of a unit without status symbols under a network access code, or answers the fields that fail, as
+    // `read_packet` of what it carries does.
+    pub(crate) fn read_packet(
+        &mut self,
+        nac: u16,
+        head: PacketHead,
+        distance: u32,
+        bare: &BitBuf,
+        fixes: &mut u32,
+    ) -> Option<FieldList>
+        requires nac { nac < 4096 }
+        requires head { head_reading_of bare.now ≡ Ok head }
+        requires distance { distance ≡ head_distance bare.now }
+        requires there { HasItsLength bare.now }
+        ensures nac { self.new.nac ≡ nac }
+        ensures body { body_or result self.new.body ≡ packet_body_from (packet_reading_of bare.now) }
+        ensures fixes { result ≡ None → fixes.new ≡ body_fixes_of self.new bare.now }
+    {
+        self.nac = nac;
+        self.body.read_packet(head, distance, bare, fixes)
     }
 
     /// Answers the network access code.

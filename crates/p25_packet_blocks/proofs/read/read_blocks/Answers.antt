@@ -1,19 +1,12 @@
-use Rattle.std.proofs.Common.{◌≢◌, List, Ok, ap, sym, ◌∙◌, arith, inl, inr}
-use Rattle.p25_packet_blocks.specs.ConfirmedParts.{ConfirmedParts}
-use Rattle.p25_packet_blocks.specs.declared.block.Slot.{Slot}
-use Rattle.p25_packet_blocks.specs.declared.packet.Packet.TheVariants.{Confirmed}
+use Rattle.std.proofs.Common.{◌≢◌, Ok, ap, sym, ◌∙◌, arith, inl, inr}
 use Rattle.p25_packet_blocks.specs.Heads.{head_format}
 use Rattle.p25_packet_blocks.specs.Kinds.{IsPlainFormat}
-use Rattle.p25_packet_blocks.specs.Reading.{slots_read}
 use Rattle.p25_packet_blocks.proofs.ReadingLaws.{packet_of_head-confirmed, packet_of_head-plain, packet_of_head-other}
 use Rattle.p25_packet_blocks.proofs.read.read_blocks.Goals as goal
 
 pub returns-in-22-clause-packet : goal.returns-in-22-clause-packet
 returns-in-22-clause-packet c =
-    let head = c.args.head in
-    let make : List Slot → ConfirmedParts = λ slots. record { head = head; slots = slots } in
-    let slots = c.read_slots-slots.ensures.list ∙ ap (λ n. slots_read n c.args.bare.now) (c.from.ensures ∙ c.blocks-in-22.ensures.value) in
-    ap (λ packet. Ok (Confirmed packet)) (c.new.ensures ∙ ap make slots) ∙ sym (packet_of_head-confirmed head c.args.bare.now (sym c.format.ensures.value ∙ c.in-22.is))
+    ap Ok c.read_confirmed.ensures.packet ∙ sym (packet_of_head-confirmed c.args.head c.args.bare.now (sym c.format.ensures.value ∙ c.in-22.is))
 
 pub returns-in-21-clause-packet : goal.returns-in-21-clause-packet
 returns-in-21-clause-packet c =

@@ -8,7 +8,7 @@ use Rattle.p25_packet_blocks.proofs.ReadingLaws.{slots_read-zero, slots_read-mor
 use Rattle.p25_packet_blocks.proofs.read.read_slots.Goals as goal
 
 pub loop-j-init : goal.loop-j-init
-loop-j-init c = record { so_far = c.new-slots.ensures ∙ sym (slots_read-zero c.args.bare.now); len = rw c.new-slots.ensures refl; counted = omega (arith, blocks_distance-zero 8 three_quarter_point c.args.bare.now) }
+loop-j-init c = record { so_far = c.clear.ensures ∙ sym (slots_read-zero c.args.bare.now); len = rw c.clear.ensures refl; counted = omega (arith, blocks_distance-zero 8 three_quarter_point c.args.bare.now) }
 
 pub loop-j-preserved : goal.loop-j-preserved
 loop-j-preserved c = record {

@@ -1,12 +1,12 @@
-use Rattle.std.proofs.Common.{◌≡◌, ◌≢◌, ℕ, ◌-◌, ◌*◌, ◌++◌, List, Ok, eqb, take, drop, sym, ◌∙◌, arith, ap}
+use Rattle.std.proofs.Common.{◌≡◌, ◌≢◌, ℕ, ◌-◌, ◌*◌, List, Ok, eqb, take, drop, sym, ◌∙◌, arith, ap}
 use Rattle.p25_bits.specs.Numbers.{octets_number}
 use Rattle.p25_crc.specs.Values.{crc32_of}
 use Rattle.p25_packet_blocks.specs.Parts.{PlainParts}
 use Rattle.p25_packet_blocks.specs.declared.packet.Packet.TheVariants.{Plain}
 use Rattle.p25_packet_blocks.specs.Heads.{head_blocks}
 use Rattle.p25_packet_blocks.proofs.ReadingLaws.{plain_from-none, plain_from-good, plain_from-bad}
-use Rattle.p25_packet_blocks.proofs.read.plain_in.Goals as goal
-use Rattle.p25_packet_blocks.proofs.read.plain_in.Goals.{else-blocks-gt0-via-then-blocks-gt0+else-not-check_agrees, else-blocks-gt0-via-else-blocks-gt0}
+use Rattle.p25_packet_blocks.proofs.read.set_plain.Goals as goal
+use Rattle.p25_packet_blocks.proofs.read.set_plain.Goals.{else-blocks-gt0-via-then-blocks-gt0+else-not-check_agrees, else-blocks-gt0-via-else-blocks-gt0}
 
 pub returns-then-not-check_agrees : goal.returns-then-not-check_agrees
 returns-then-not-check_agrees c =
@@ -23,8 +23,8 @@ returns c =
     let blocks = c.from-blocks.ensures ∙ c.blocks-2.ensures.value in
     let counted = c.saturating_sub-count.ensures ∙ ap (λ n. 12 * n - 4) blocks in
     let make : List ℕ → PlainParts = λ carried. record { head = head; octets = carried } in
-    let carried = c.extend.ensures.list ∙ ap (λ (xs : List ℕ). xs ++ take c.saturating_sub-count.result octets) c.new-carried.ensures ∙ ap (λ n. take n octets) counted in
-    ap (λ packet. Ok (Plain packet)) (c.new.ensures ∙ ap make carried)
+    ap Ok c.set_plain.ensures
+    ∙ ap (λ n. Ok (Plain (make (take n octets)))) counted
     ∙ sym (elim c.else-blocks-gt0.branch [
       | else-blocks-gt0-via-then-blocks-gt0+else-not-check_agrees w ↦
           plain_from-good head octets (ap (λ n. eqb (octets_number (drop n octets)) (crc32_of (take n octets))) (sym counted) ∙ sym w.if-not-check_agrees.ensures)
