@@ -10,7 +10,7 @@ use crate::room::write_text;
 use p25_line::Line;
 use p25_stream::find_item;
 use p25_text::item_text;
-use p25_units::Item;
+use p25_units::{Body, Frame, Item, Statuses, Unit, VoiceUnit};
 
 // An item is told; none is; the place is not one of these octets.
 const ITEM: i32 = 1;
@@ -62,12 +62,24 @@ pub extern "C" fn p25_next_item(
     if !is_inside(begin, from, octets.len()) {
         return OUTSIDE;
     }
-    let mut found = Item::Cut { place: 0, have: 0 };
+    let mut found = blank();
     if !find_item(octets, (from - begin) as usize, from, ended, &mut found) {
         return NO_ITEM;
     }
     tell_item(&found, item, text);
     ITEM
+}
+
+// An item to be written over. Where it is a voice unit and another follows, only what a voice unit has is written.
+#[inline(always)]
+fn blank() -> Item {
+    let unit = Unit::new(0, Body::Voice(VoiceUnit::End));
+    let statuses = Statuses::new();
+    Item::Whole {
+        place: 0,
+        frame: Frame { unit, statuses },
+        fixes: 0,
+    }
 }
 
 // Whether an item may be asked for at a place, where so many octets of the recording stand from bit `begin` on.

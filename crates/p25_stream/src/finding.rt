@@ -28,14 +28,16 @@ pub fn find_item(octets: &[u8], at: usize, place: u64, ended: bool, item: &mut I
     if first >= octets.len() {
         return false;
     }
+    // Both are made here, side by side, so that each is set once.
     let mut held = BitBuf::new();
+    let mut room = BitBuf::new();
     held.put_field(u64::from(octets[first]), 8);
     held.drop_front(at % 8);
     let beginning = fill(&octets[first + 1..], &mut held);
     if !ended && !beginning.is_settled() {
         return false;
     }
-    set_item(beginning, &held, place, &mut BitBuf::new(), item);
+    set_item(beginning, &held, place, &mut room, item);
     true
 }
 
