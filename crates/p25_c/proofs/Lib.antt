@@ -3,7 +3,6 @@ pub mod SymbolSteps
 pub mod RoomsLaws
 pub mod ItemsLaws
 pub mod CallsLaws
-pub mod FindingLaws
 pub mod BuildingLaws
 pub mod WordSteps
 pub mod BlockSteps

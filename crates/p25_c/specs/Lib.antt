@@ -4,7 +4,6 @@ pub mod Solomon
 pub mod Rooms
 pub mod Items
 pub mod Calls
-pub mod Finding
 pub mod Building
 pub mod Version
 pub mod Words

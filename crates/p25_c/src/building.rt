@@ -9,12 +9,11 @@ ghost use Rattle.p25_status.specs.declared.symbols.Status.{Status as Symbol};
 ghost use Rattle.p25_stream.specs.Repeats.{is_whole_item};
 ghost use Rattle.p25_units.specs.Units.{IsSendableBody};
 
-use crate::finding::find_item;
 use crate::room::NO_ROOM;
 use p25_bits::BitBuf;
 use p25_line::LineFault;
 use p25_status::{SENT_BLOCK_LENGTH, Status, Statuses};
-use p25_stream::{bridge_item, repair_item};
+use p25_stream::{bridge_item, find_item, repair_item};
 use p25_text::read_line;
 use p25_units::{Frame, Item, Unit, frame_length, image};
 
@@ -117,16 +116,16 @@ fn written(count: usize) -> i32
 pub extern "C" fn p25_repair(octets: &[u8], into: &mut [u8]) -> i32
     ensures { IsWriting (unit_repaired octets.now) into.old into.new result }
 {
-    let mut raw = BitBuf::new();
     let mut found = Item::Cut { place: 0, have: 0 };
-    if !find_item(octets, 0, 0, true, &mut raw, &mut found) {
+    if !find_item(octets, 0, 0, true, &mut found) {
         return NO_UNIT;
     }
     if !is_whole(&found) {
         return NO_UNIT;
     }
-    repair_item(&found, &mut raw);
-    write_bits(&raw, into)
+    let mut bits = BitBuf::new();
+    repair_item(&found, &mut bits);
+    write_bits(&bits, into)
 }
 
 // Whether an item is a whole unit.
@@ -165,14 +164,13 @@ fn bridge_unit(octets: &[u8], nac: u16, status: Status, into: &mut [u8]) -> i32
     requires { nac < 4096 }
     ensures { IsWriting (unit_bridged nac status octets.now) into.old into.new result }
 {
-    let mut raw = BitBuf::new();
     let mut found = Item::Cut { place: 0, have: 0 };
-    if !find_item(octets, 0, 0, true, &mut raw, &mut found) {
+    if !find_item(octets, 0, 0, true, &mut found) {
         return NO_UNIT;
     }
-    raw.clear();
-    if !bridge_item(&found, nac, status, &mut raw) {
+    let mut bits = BitBuf::new();
+    if !bridge_item(&found, nac, status, &mut bits) {
         return NO_UNIT;
     }
-    write_bits(&raw, into)
+    write_bits(&bits, into)
 }

@@ -4,14 +4,13 @@ ghost use Rattle.std.specs.Prelude.{◌≡◌, length};
 ghost use Rattle.p25_c.specs.Items.{duid_told, fixes_told, is_inside, item_answer, item_left, item_text_left, items_asked, kind_number, nac_told, parts_of};
 ghost use Rattle.p25_c.specs.Rooms.{text_left};
 ghost use Rattle.p25_text.specs.ItemTexts.{item_text_of};
-ghost use Rattle.p25_units.specs.Items.{IsSoundItem, covered};
+ghost use Rattle.p25_units.specs.Items.{IsSoundItem};
 
-use crate::finding::find_item;
 use crate::room::write_text;
-use p25_bits::BitBuf;
 use p25_line::Line;
+use p25_stream::find_item;
 use p25_text::item_text;
-use p25_units::Item;
+use p25_units::{Body, Frame, Item, Statuses, Unit, VoiceUnit};
 
 // An item is told; none is; the place is not one of these octets.
 const ITEM: i32 = 1;
@@ -63,13 +62,24 @@ pub extern "C" fn p25_next_item(
     if !is_inside(begin, from, octets.len()) {
         return OUTSIDE;
     }
-    let mut raw = BitBuf::new();
-    let mut found = Item::Cut { place: 0, have: 0 };
-    if !find_item(octets, from - begin, from, ended, &mut raw, &mut found) {
+    let mut found = blank();
+    if !find_item(octets, (from - begin) as usize, from, ended, &mut found) {
         return NO_ITEM;
     }
-    tell_item(&found, raw.len() as u32, item, text);
+    tell_item(&found, item, text);
     ITEM
+}
+
+// An item to be written over. Where it is a voice unit and another follows, only what a voice unit has is written.
+#[inline(always)]
+fn blank() -> Item {
+    let unit = Unit::new(0, Body::Voice(VoiceUnit::End));
+    let statuses = Statuses::new();
+    Item::Whole {
+        place: 0,
+        frame: Frame { unit, statuses },
+        fixes: 0,
+    }
 }
 
 // Whether an item may be asked for at a place, where so many octets of the recording stand from bit `begin` on.
@@ -82,29 +92,27 @@ fn is_inside(begin: u64, from: u64, count: usize) -> bool
     (from - begin).div_ceil(8) <= count as u64
 }
 
-// Tells an item that covers so many bits: its numbers, and its text where there is room.
-fn tell_item(found: &Item, bits: u32, item: &mut ItemParts, text: &mut [u8])
-    requires sound { IsSoundItem found.now }
-    requires bits { bits ≡ covered found.now }
+// Tells an item: its numbers, and its text where there is room.
+fn tell_item(found: &Item, item: &mut ItemParts, text: &mut [u8])
+    requires { IsSoundItem found.now }
     ensures item { item.new ≡ parts_of found.now }
     ensures text { text.new ≡ text_left (item_text_of found.now) text.old }
 {
     let mut line = Line::new();
     item_text(found, &mut line);
-    *item = item_parts(found, bits, line.len() as u32);
+    *item = item_parts(found, line.len() as u32);
     write_text(line.octets(), text);
 }
 
-// The numbers of an item that covers so many bits and whose text has so many octets.
-fn item_parts(found: &Item, bits: u32, text_length: u32) -> ItemParts
-    requires bits { bits ≡ covered found.now }
-    requires text { text_length ≡ length (item_text_of found.now) }
+// The numbers of an item whose text has so many octets.
+fn item_parts(found: &Item, text_length: u32) -> ItemParts
+    requires { text_length ≡ length (item_text_of found.now) }
     ensures { result ≡ parts_of found.now }
 {
     let (nac, duid) = identifier(found);
     ItemParts {
         place: found.place(),
-        bits,
+        bits: found.covered() as u32,
         fixes: fixes(found),
         text_length,
         nac,

@@ -17,7 +17,6 @@ mod answers;
 mod blocks;
 mod building;
 mod checks;
-mod finding;
 mod items;
 mod laws;
 mod room;

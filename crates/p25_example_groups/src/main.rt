@@ -31,7 +31,6 @@ impl fmt::Display for Talk {
     }
 }
 
-#[tactic(auto, unfolding(p25_stream::specs::Items::items_by, p25_stream::specs::Items::items_in))]
 fn main(rt: HostRuntime) -> io::Result<()> {
     let mut input = rt.stdin();
     let mut scanner = Scanner::new();

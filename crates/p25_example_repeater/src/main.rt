@@ -22,7 +22,6 @@ const NETWORK: u16 = 0x2A1;
 /// How many bits are written at once, at most.
 const PIECE: usize = 4_096;
 
-#[tactic(auto, unfolding(p25_stream::specs::Items::items_by, p25_stream::specs::Items::items_in))]
 fn main(rt: HostRuntime) -> io::Result<()> {
     let mut input = rt.stdin();
     let mut output = rt.stdout();

@@ -6,5 +6,6 @@ pub mod TerminatorLaws
 pub mod ArrivingLaws
 pub mod BeginningsLaws
 pub mod EarlySteps
+pub mod FindingLaws
 pub mod JudgingSteps
 pub mod ScanLaws

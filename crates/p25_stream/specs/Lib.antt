@@ -3,4 +3,5 @@ pub mod ItemLaws
 pub mod Arrivals
 pub mod Scan
 pub mod Beginnings
+pub mod Finding
 pub mod Repeats

@@ -23,6 +23,7 @@
 
 mod arriving;
 mod beginning;
+mod finding;
 mod judging;
 pub mod laws;
 mod repeats;
@@ -30,6 +31,7 @@ mod scanner;
 #[cfg(test)]
 mod tests;
 
+pub use finding::find_item;
 pub use p25_units::Item;
 pub use repeats::{bridge_item, repair_item, repair_item_in};
 pub use scanner::Scanner;

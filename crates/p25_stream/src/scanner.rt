@@ -37,9 +37,10 @@ impl Model for Scanner {
 }
 
 impl Scanner {
-    /// Answers a scanner at place 0 that holds nothing.
+    /// Answers a scanner at place 0 that holds nothing and has no item to give.
     pub fn new() -> Scanner
-        ensures { result ≡ record { place = 0; held = []; finished = false } }
+        ensures value { result ≡ record { place = 0; held = []; finished = false } }
+        ensures drained { given result ≡ [] }
     {
         let held = BitBuf::new();
         let beginning = beginning_anew(&held);

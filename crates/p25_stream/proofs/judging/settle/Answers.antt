@@ -1,4 +1,4 @@
-use Rattle.std.proofs.Common.{Bool, List, ap, sym, subst, ◌∙◌}
+use Rattle.std.proofs.Common.{ap, sym, subst, ◌∙◌}
 use Rattle.p25_stream.specs.Beginnings.{IsBeginning, is_settled, waits}
 use Rattle.p25_stream.specs.declared.beginning.Beginning.{Beginning}
 use Rattle.p25_stream.proofs.BeginningsLaws.{was-stays}

@@ -1,0 +1,125 @@
+-- Octets that are taken from a place on until the first item is known: the bits held and those left are the bits from there on, and so
+-- the first item of those held is the first of all.
+use Rattle.std.proofs.Common.{◌≡◌, ℕ, ◌+◌, ◌-◌, ◌*◌, ◌/◌, ◌%◌, ◌<◌, ◌≤◌, Bool, true, false, ◌||◌, inl, inr, List, [], ◌∷◌, ◌++◌, length, take, drop, get_or, ap, ap₂, sym, subst, ◌∙◌, arith, append_assoc, append-nil, length-append, length-take, length-drop, add-one}
+use Rattle.std.proofs.Math.Seq.{drop-cons, take-add}
+use Rattle.std.proofs.lemmas.Bool.{cases_Bool}
+use Rattle.std.proofs.lemmas.List.{drop-append-le, drop_all, take-append-drop, take_all}
+use Rattle.p25_bits.specs.Bits.{bits_of, octet_bits}
+use Rattle.p25_bits.proofs.BitsLaws.{length-bits_of, length-octet_bits, octet_bits-append, octet_bits-cons, octet_bits-nil}
+use Rattle.p25_bits.proofs.PartLaws.{drop_behind}
+use Rattle.p25_units.specs.Items.{covered}
+use Rattle.p25_stream.specs.Beginnings.{IsBeginning, is_settled}
+use Rattle.p25_stream.specs.Finding.{IsFilled, IsFirst}
+use Rattle.p25_stream.specs.Items.{first_item, is_decided, items_by}
+use Rattle.p25_stream.specs.declared.beginning.Beginning.{Beginning}
+use Rattle.p25_stream.proofs.BeginningsLaws.{IsBeginning-decided}
+use Rattle.p25_stream.proofs.ItemsLaws.{covered-first_item, decided-some, items_by-decided, items_by-more, items_by-nil, items_by-none}
+
+-- the octets from a place on, as a slice of them is seen
+pub range-is : (octets : List ℕ) (at : ℕ) → take (length octets - at) (drop at octets) ≡ drop at octets
+range-is octets at = let all : length (drop at octets) ≤ length octets - at = omega (arith, length-drop at octets) in take_all (length octets - at) (drop at octets) all
+
+pub put-none : (held : List Bool) (octets : List ℕ) → held ≡ held ++ octet_bits (take 0 octets)
+put-none held octets = sym (append-nil held) ∙ ap (λ (zs : List Bool). held ++ zs) (sym octet_bits-nil)
+
+pub put-more : (before held later : List Bool) (octets : List ℕ) (taken count : ℕ) → held ≡ before ++ octet_bits (take taken octets)
+    → later ≡ held ++ octet_bits (take count (take (length octets - taken) (drop taken octets))) → later ≡ before ++ octet_bits (take (taken + count) octets)
+put-more before held later octets taken count was is =
+    let rest = take count (drop taken octets) in
+    is
+    ∙ ap (λ (zs : List ℕ). held ++ octet_bits (take count zs)) (range-is octets taken)
+    ∙ ap (λ (zs : List Bool). zs ++ octet_bits rest) was
+    ∙ append_assoc before (octet_bits (take taken octets)) (octet_bits rest)
+    ∙ ap (λ (zs : List Bool). before ++ zs) (sym (octet_bits-append (take taken octets) rest) ∙ ap octet_bits (sym (take-add taken count octets)))
+
+-- what is held and what is left are what there is
+pub filled : (before held : List Bool) (octets : List ℕ) (taken : ℕ) (beginning : Beginning) → held ≡ before ++ octet_bits (take taken octets)
+    → IsBeginning beginning held → (is_settled beginning ≡ false → length octets ≤ taken) → IsFilled before (octet_bits octets) held beginning
+filled before held octets taken beginning is known all = record {
+  more = octet_bits (drop taken octets);
+  joined =
+      ap (λ (zs : List ℕ). before ++ octet_bits zs) (sym (take-append-drop taken octets))
+      ∙ ap (λ (zs : List Bool). before ++ zs) (octet_bits-append (take taken octets) (drop taken octets))
+      ∙ sym (append_assoc before (octet_bits (take taken octets)) (octet_bits (drop taken octets)))
+      ∙ ap (λ (zs : List Bool). zs ++ octet_bits (drop taken octets)) (sym is);
+  known = known;
+  all = λ open'. ap octet_bits (drop_all taken octets (all open')) ∙ octet_bits-nil;
+}
+
+-- an item of a place is the first of the items there, where more bits do not matter or do not come
+first-is : (ended : Bool) (place : ℕ) (bits : List Bool) → 0 < length bits → items_by ended place bits ≡ first_item place bits ∷ items_by ended (place + covered (first_item place bits)) (drop (covered (first_item place bits)) bits)
+    → IsFirst ended place bits (first_item place bits)
+first-is ended place bits some is = record { items = is; there = (covered-first_item place bits some).1 }
+
+module _ (ended : Bool) (place : ℕ) (before rest held : List Bool) (beginning : Beginning) (is : IsFilled before rest held beginning) where
+  -- where all bits are held, or the first item is known, it is that of the bits held
+  pub first-ended : 0 < length held → ended ≡ true → is_settled beginning ≡ false → IsFirst ended place (before ++ rest) (first_item place held)
+  first-ended some goes open' =
+      let same : before ++ rest ≡ held = is.joined ∙ ap (λ (zs : List Bool). held ++ zs) (is.all open') ∙ append-nil held in
+      subst (λ (zs : List Bool). IsFirst ended place zs (first_item place held)) (sym same)
+      (first-is ended place held some (items_by-more ended place held some (ap (λ (b : Bool). b || is_decided held) goes)))
+
+  pub first-known : 0 < length held → is_settled beginning ≡ true → IsFirst ended place (before ++ rest) (first_item place held)
+  first-known some known =
+      let item = first_item place held in
+      let decided = IsBeginning-decided beginning held is.known ∙ known in
+      let fits = (covered-first_item place held some).1 in
+      let left = drop-append-le (covered item) held is.more fits in
+      subst (λ (zs : List Bool). IsFirst ended place zs item) (sym is.joined)
+      record {
+        items = items_by-decided ended place held is.more decided ∙ ap (λ (zs : List Bool). item ∷ items_by ended (place + covered item) zs) (sym left);
+        there = omega (arith, fits, length-append held is.more);
+      }
+
+  pub first-found : 0 < length held → (ended || is_settled beginning) ≡ true → IsFirst ended place (before ++ rest) (first_item place held)
+  first-found some goes =
+      elim (cases_Bool (is_settled beginning)) [
+        | inl known ↦ first-known some known
+        | inr open' ↦ elim (cases_Bool ended) [
+          | inl yes' ↦ first-ended some yes' open'
+          | inr no' ↦ let two : false ≡ true = sym (ap₂ ◌||◌ no' open') ∙ goes in absurd (cc)
+        ]
+      ]
+
+  -- and where it is not known and more may come, there is none
+  pub none-found : ended ≡ false → is_settled beginning ≡ false → items_by ended place (before ++ rest) ≡ []
+  none-found goes open' =
+      let same : before ++ rest ≡ held = is.joined ∙ ap (λ (zs : List Bool). held ++ zs) (is.all open') ∙ append-nil held in
+      ap (items_by ended place) same ∙ items_by-none ended place held (ap₂ ◌||◌ goes (IsBeginning-decided beginning held is.known ∙ open'))
+
+-- the bits held are as many as one octet has from the place on, or more
+pub held-some : (before rest held : List Bool) (beginning : Beginning) → IsFilled before rest held beginning → 0 < length before → 0 < length held
+held-some before rest [] beginning is some =
+    elim (cases_Bool (is_settled beginning)) [
+      | inr open' ↦ let none : before ++ rest ≡ [] = is.joined ∙ is.all open' in absurd (omega (arith, ap length none, length-append before rest))
+      | inl known ↦ absurd (omega (arith, decided-some [] (IsBeginning-decided beginning [] is.known ∙ known)))
+    ]
+held-some before rest (bit ∷ held) beginning is some = omega arith
+
+-- the bits from a place on are those of its octet from there on, and those of the octets after it
+pub bits-at : (octets : List ℕ) (at : ℕ) (before : List Bool) → at / 8 < length octets → before ≡ drop (at % 8) (bits_of 8 (get_or octets (at / 8) 0))
+    → drop at (octet_bits octets) ≡ before ++ octet_bits (take (length octets - (at / 8 + 1)) (drop (at / 8 + 1) octets))
+bits-at octets at before inside is =
+    let first = at / 8 in
+    let octet = get_or octets first 0 in
+    let behind = octet_bits (drop (first + 1) octets) in
+    let front = octet_bits (take first octets) in
+    let long : length front ≡ 8 * first = omega (arith, length-octet_bits (take first octets), length-take first octets) in
+    let within : at % 8 ≤ length (bits_of 8 octet) = omega (arith, length-bits_of 8 octet) in
+    let at_is : at ≡ 8 * first + at % 8 = omega arith in
+    let later : drop first octets ≡ octet ∷ drop (first + 1) octets
+    = drop-cons octets first 0 inside ∙ ap (λ (n : ℕ). octet ∷ drop n octets) (sym (add-one first)) in
+    let whole : octet_bits octets ≡ front ++ (bits_of 8 octet ++ behind)
+    = ap octet_bits (sym (take-append-drop first octets))
+    ∙ octet_bits-append (take first octets) (drop first octets)
+    ∙ ap (λ (zs : List Bool). front ++ zs) (ap octet_bits later ∙ octet_bits-cons octet (drop (first + 1) octets)) in
+    ap₂ drop at_is whole
+    ∙ drop_behind (8 * first) (at % 8) front (bits_of 8 octet ++ behind) long
+    ∙ drop-append-le (at % 8) (bits_of 8 octet) behind within
+    ∙ ap₂ (λ (xs : List Bool) (ys : List ℕ). xs ++ octet_bits ys) (sym is) (sym (range-is octets (first + 1)))
+
+-- there are none from their end on
+pub none-at_end : (ended : Bool) (place at : ℕ) (octets : List ℕ) → 8 * length octets ≤ at → items_by ended place (drop at (octet_bits octets)) ≡ []
+none-at_end ended place at octets end =
+    let long : length (octet_bits octets) ≤ at = omega (arith, length-octet_bits octets) in
+    ap (items_by ended place) (drop_all at (octet_bits octets) long) ∙ items_by-nil ended place

@@ -1,0 +1,19 @@
+-- The first item of some bits, found with no scanner.
+use Rattle.std.specs.Prelude.{◌≡◌, ℕ, ◌+◌, ◌≤◌, Bool, false, List, [], ◌∷◌, ◌++◌, length, drop}
+use Rattle.p25_units.specs.Items.{covered}
+use Rattle.p25_units.specs.declared.item.Item.{Item}
+use Rattle.p25_stream.specs.Beginnings.{IsBeginning, is_settled}
+use Rattle.p25_stream.specs.Items.{items_by}
+use Rattle.p25_stream.specs.declared.beginning.Beginning.{Beginning}
+
+-- an item is the first of those of some bits, and the others are those of the bits after it
+pub record IsFirst (ended : Bool) (place : ℕ) (bits : List Bool) (item : Item) : Type 0 where
+  pub items : items_by ended place bits ≡ item ∷ items_by ended (place + covered item) (drop (covered item) bits)
+  pub there : covered item ≤ length bits
+
+-- bits were appended: all that were to come, where the first item is not known
+pub record IsFilled (before bits held : List Bool) (beginning : Beginning) : Type 0 where
+  pub more : List Bool
+  pub joined : before ++ bits ≡ held ++ more
+  pub known : IsBeginning beginning held
+  pub all : is_settled beginning ≡ false → more ≡ []

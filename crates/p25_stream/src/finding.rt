@@ -1,0 +1,85 @@
+//! The first item of the bits of some octets, with no scanner.
+
+ghost use Rattle.std.specs.Prelude.{◌≡◌, ◌+◌, ◌%◌, ◌<◌, ◌≤◌, ◌++◌, [], false, true, length, take, drop};
+ghost use Rattle.p25_bits.specs.Bits.{bits_of, octet_bits};
+ghost use Rattle.p25_stream.specs.Beginnings.{IsBeginning, is_settled};
+ghost use Rattle.p25_stream.specs.Finding.{IsFilled, IsFirst};
+ghost use Rattle.p25_stream.specs.Items.{items_by};
+ghost use Rattle.p25_units.specs.Items.{IsSoundItem};
+
+use crate::arriving::put_some;
+use crate::beginning::Beginning;
+use crate::judging::{beginning_anew, set_item, settle};
+use p25_bits::BitBuf;
+use p25_units::Item;
+
+// How many bits are taken before any is judged: those of the shortest unit, so that it is judged once.
+const SHORTEST: usize = 144;
+
+/// Sets `item` to the first item of the bits of some octets from bit `at` on, and answers true. `place` is where that bit
+/// stands in the stream, and `ended` says that no octets come after these. False comes exactly where there is no item: where
+/// the bits decide none, or where there are none; then `item` stays as it is. It takes no more octets than the item needs.
+pub fn find_item(octets: &[u8], at: usize, place: u64, ended: bool, item: &mut Item) -> bool
+    ensures first { result ≡ true → IsFirst ended place (drop at (octet_bits octets.now)) item.new }
+    ensures none { result ≡ false → (items_by ended place (drop at (octet_bits octets.now)) ≡ []) × (item.new ≡ item.old) }
+    ensures sound { result ≡ true → IsSoundItem item.new }
+{
+    let first = at / 8;
+    if first >= octets.len() {
+        return false;
+    }
+    // Both are made here, side by side, so that each is set once.
+    let mut held = BitBuf::new();
+    let mut room = BitBuf::new();
+    held.put_field(u64::from(octets[first]), 8);
+    held.drop_front(at % 8);
+    let beginning = fill(&octets[first + 1..], &mut held);
+    if !ended && !beginning.is_settled() {
+        return false;
+    }
+    set_item(beginning, &held, place, &mut room, item);
+    true
+}
+
+// Appends the bits of octets until the first item is known, or of all, and answers what is known then.
+fn fill(octets: &[u8], held: &mut BitBuf) -> Beginning
+    requires few { length held.old ≤ 8 }
+    ensures { IsFilled held.old (octet_bits octets.now) held.new result }
+{
+    let mut taken = put_until(octets, SHORTEST, held);
+    let mut beginning = beginning_anew(held);
+    while taken < octets.len() && !beginning.is_settled() {
+        let wanted = wanted(&beginning, held.len());
+        taken += put_until(&octets[taken..], wanted, held);
+        settle(&mut beginning, held);
+    }
+    beginning
+}
+
+// How many bits have to be there before it is worth while to judge again, where so many are.
+fn wanted(beginning: &Beginning, have: usize) -> usize
+    requires { have < 25920 }
+    ensures more { have < result }
+    ensures most { result ≤ 25920 }
+{
+    match beginning {
+        Beginning::Waiting(count, _) => (*count).clamp(have + 1, 25_920),
+        Beginning::Searching(_) | Beginning::Gap(_) | Beginning::Ready(_, _) | Beginning::NoUnit(_) => have + 1,
+    }
+}
+
+// Appends the bits of octets, from the first on, until so many bits are held, or of all, and answers of how many.
+fn put_until(octets: &[u8], wanted: usize, held: &mut BitBuf) -> usize
+    requires few { wanted ≤ 25920 }
+    requires room { length held.old ≤ 25927 }
+    ensures list { held.new ≡ held.old ++ octet_bits (take result octets.now) }
+    ensures most { length held.new ≤ 25927 }
+    ensures there { result ≤ length octets.now }
+    ensures some { 0 < length octets.now → length held.old < wanted → 0 < result }
+{
+    let mut taken = 0;
+    while taken < octets.len() && held.len() < wanted {
+        taken += put_some(&octets[taken..], held);
+    }
+    taken
+}
