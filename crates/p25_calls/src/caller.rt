@@ -31,6 +31,15 @@ impl Model for Caller {
     ghost inverse = { λ parts. record { reached = parts.reached; taken = parts.taken; pending = parts.pending } };
 }
 
+/// The caller that no item was taken by.
+impl Default for Caller {
+    ghost is_default = { λ caller. caller ≡ fresh_caller };
+
+    fn default() -> Caller {
+        Caller::new()
+    }
+}
+
 impl Caller {
     /// Answers a caller that no item was taken by.
     pub fn new() -> Caller

@@ -7,13 +7,18 @@
 //!
 //! ```text
 //! let mut caller = Caller::new();
-//! for item in items {
-//!     if let Some(call) = caller.take(&item) {
-//!         calls.push(call);
-//!     }
-//! }
-//! let last = caller.finish();
+//! let item = Item::Broken {
+//!     place: 0,
+//!     length: 1_728,
+//!     nac: 0x293,
+//!     duid: 5,
+//!     fields: FieldList::new(),
+//! };
+//! let call = caller.take(&item).or(caller.finish());
+//! assert_eq!(rt; call.map(|call| call.bits), Some(1_728));
 //! ```
+//!
+//! Every item is taken, gaps too; `take` answers a call where it ends, and `finish` the one that is still open.
 //!
 //! Contracts see the calls of a list of items as `calls_of`: its units, divided into runs at the breaks between neighbours.
 //! They see a caller as what it holds, what it answers to an item as `answer_to`, and what it holds then as `behind_item`.

@@ -99,6 +99,20 @@ impl Heard {
     }
 }
 
+#[test]
+fn call_of_one_unit(rt: HostRuntime) {
+    let mut caller = Caller::new();
+    let item = Item::Broken {
+        place: 0,
+        length: 1_728,
+        nac: 0x293,
+        duid: 5,
+        fields: FieldList::new(),
+    };
+    let call = caller.take(&item).or(caller.finish());
+    assert_eq!(rt; call.map(|call| call.bits), Some(1_728));
+}
+
 // What is heard of broken units, each after so many bits of a gap.
 fn heard_of(units: &[(u32, u16, u8)]) -> Heard {
     let mut heard = Heard::new();

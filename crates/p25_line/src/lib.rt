@@ -11,13 +11,11 @@
 //! other where that holds of entries and no entry's text has a comma.
 //!
 //! ```text
-//! let words = LineWords::read(b"tdu nac=293")?;
 //! let mut line = Line::new();
-//! line.put(words.first());
-//! line.put(b" nac=");
+//! line.put(b"tdu nac=");
 //! line.put_three_digits(0x293);
-//! line.put_labelled(b" at=", 0);
-//! let second = comma_part(b"3,14", 2);
+//! let words = LineWords::read(line.octets())?;
+//! assert_eq!(rt; words.first(), b"tdu".as_slice());
 //! ```
 #![tactic(auto)]
 
@@ -26,6 +24,7 @@ mod fault;
 pub mod laws;
 mod line;
 mod line_reader;
+mod line_traits;
 mod line_words;
 #[cfg(test)]
 mod tests;

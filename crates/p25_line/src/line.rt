@@ -1,4 +1,4 @@
-ghost use Rattle.std.specs.Prelude.{◌≡◌, ℕ, ◌+◌, ◌*◌, ◌<◌, ◌≤◌, List, [], ◌∷◌, ◌++◌, length, take, decimal};
+ghost use Rattle.std.specs.Prelude.{◌≡◌, ℕ, ◌+◌, ◌*◌, ◌<◌, ◌≤◌, ◌==◌, List, [], ◌∷◌, ◌++◌, length, take, decimal};
 ghost use Rattle.hex.specs.Hex.{encode_lower};
 ghost use Rattle.p25_line.specs.Octets.{octets_text};
 ghost use Rattle.p25_line.specs.Values.{three_digits};
@@ -10,7 +10,7 @@ use std::marker::Model;
 pub const LINE_MOST: usize = 8_192;
 
 /// A text of at most 8,192 octets.
-#[derive(Drop)]
+#[derive(Clone, Drop)]
 pub struct Line {
     text: [u8; 8_192],
     len: usize,
@@ -48,6 +48,13 @@ impl Line {
         ensures most { result ≤ 8192 }
     {
         self.len
+    }
+
+    /// Answers whether the line has no octets.
+    pub fn is_empty(&self) -> bool
+        ensures { result ≡ (length self.now == 0) }
+    {
+        self.len == 0
     }
 
     /// Answers the octets of the line.

@@ -7,7 +7,7 @@ use super::word_list::{WordList, words_of};
 use std::marker::Model;
 
 /// The words of a line: all are counted, and the first 16 can be had. There is one at least.
-#[derive(Drop)]
+#[derive(Clone, Debug, Drop)]
 pub struct LineWords<'a> {
     line: &'a [u8],
     words: WordList,

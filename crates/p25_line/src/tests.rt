@@ -35,6 +35,38 @@ fn line_of_pieces(rt: HostRuntime) {
     );
 }
 
+#[test]
+fn words_of_a_line_that_is_written(rt: HostRuntime) -> Result<(), Fail> {
+    let mut line = Line::new();
+    line.put(b"tdu nac=");
+    line.put_three_digits(0x293);
+    let words = LineWords::read(line.octets())?;
+    assert_eq!(rt; words.first(), b"tdu".as_slice());
+    Ok(())
+}
+
+// A line is shown as its text, or where it is none as its octets; lines are the same where their octets are, whatever stood
+// in them before.
+#[test]
+fn line_as_a_text(rt: HostRuntime) -> Result<(), Fail> {
+    let mut line = Line::default();
+    line.put(b"left over");
+    line.clear();
+    line.put(b"a=\"");
+    assert_eq!(rt;
+        format!(in rt.alloc(); "{line} {line:?}")?.as_str(),
+        "a=\" \"a=\\\"\""
+    );
+    let mut other = Line::new();
+    other.put(b"a=\"");
+    assert!(rt; line == other && line.clone()? == other && !line.is_empty());
+    other.clear();
+    other.put(&[0xFF]);
+    assert!(rt; line != other && other.to_string(rt.alloc()).is_err());
+    assert_eq!(rt; format!(in rt.alloc(); "{other:?}")?.as_str(), "[255]");
+    Ok(())
+}
+
 // A line has so many words, or is refused.
 fn has_words(rt: &impl Abort, line: &[u8], answer: Result<(), LineFault>, count: usize) {
     let mut words = WordList::new();

@@ -10,7 +10,7 @@ use std::marker::Model;
 pub const WORDS_MOST: usize = 16;
 
 /// Where a word stands in its line.
-#[derive(Clone, Copy, Default)]
+#[derive(Clone, Copy, Debug, Default, PartialEq, Eq)]
 pub struct Place {
     /// The place of its first octet.
     pub start: usize,
@@ -19,7 +19,7 @@ pub struct Place {
 }
 
 /// The places of the first 16 words of a line, and the number of all its words. The line itself is not kept.
-#[derive(Drop)]
+#[derive(Clone, Debug, Drop)]
 pub struct WordList {
     places: ArrayVec<Place, 16>,
     count: usize,
@@ -83,6 +83,15 @@ impl WordList {
             });
         }
         self.count += 1;
+    }
+}
+
+/// The list of no words.
+impl Default for WordList {
+    ghost is_default = { λ list. list ≡ record { places = []; count = 0 } };
+
+    fn default() -> WordList {
+        WordList::new()
     }
 }
 

@@ -9,10 +9,17 @@
 //! `read_block` of their hard bits does not, since a level near a border counts for little.
 //!
 //! ```text
-//! let mut octets = [0; 18];
-//! let cost = read_soft::<ThreeQuarter>(&levels, &mut octets);
-//! let replaced = soften(&item, &levels, &mut raw);
+//! let mut levels = [32; 98];
+//! for i in 0..49 {
+//!     levels[2 * i + 1] = -32;
+//! }
+//! levels[6] = -1;
+//! let mut octets = [9; 12];
+//! let cost = read_soft::<Half>(&levels, &mut octets);
+//! assert_eq!(rt; (octets, cost), ([0; 12], 1_089));
 //! ```
+//!
+//! `soften` does so with each block of a broken packet that fails, and replaces its bits.
 //!
 //! Contracts see levels as a list of numbers, the path that is read as `soft_path`, and the bits of an item with its blocks
 //! replaced as `softened`. `soft_laws` says which levels are read as a path that was sent.

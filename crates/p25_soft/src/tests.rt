@@ -153,6 +153,18 @@ fn broken_packets(rt: HostRuntime) {
 }
 
 #[test]
+fn level_near_a_border(rt: HostRuntime) {
+    let mut levels = [32; 98];
+    for i in 0..49 {
+        levels[2 * i + 1] = -32;
+    }
+    levels[6] = -1;
+    let mut octets = [9; 12];
+    let cost = read_soft::<Half>(&levels, &mut octets);
+    assert_eq!(rt; (octets, cost), ([0; 12], 1_089));
+}
+
+#[test]
 fn soft_beats_hard(rt: HostRuntime) {
     // The block of zeros at either rate: 49 times the dibits 00 and 10.
     let mut levels = [32; 98];

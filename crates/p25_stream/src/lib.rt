@@ -6,15 +6,16 @@
 //! ```text
 //! let mut scanner = Scanner::new();
 //! let mut raw = BitBuf::new();
-//! let mut taken = 0;
-//! while taken < octets.len() {
-//!     taken += scanner.push_some(&octets[taken..]);
-//!     while let Some(item) = scanner.next(&mut raw) {
-//!         repair_item(&item, &mut raw);
-//!     }
-//! }
+//! scanner.push(0x55);
+//! while scanner.next(&mut raw).is_some() {}
 //! scanner.finish();
+//! while scanner.next(&mut raw).is_some() {}
+//! assert_eq!(rt; (raw.len(), scanner.held()), (8, 0));
 //! ```
+//!
+//! All items are taken before the next octet goes in. What only the end decides comes when you ask again after `finish`: here a
+//! gap of 8 bits. `push_some` takes several octets at once, `take_next` gives an item without moving it, and `repair_item`
+//! replaces the bits of an item by those that were sent.
 //!
 //! Contracts see a scanner as a `Scan`, the bits that it holds with their place, and the items that it can give as `given`.
 //! `items_by` is the definition of a stream's items, one walk over its bits; `item_laws` says what is true of it, and

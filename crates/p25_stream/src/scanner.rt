@@ -36,6 +36,15 @@ impl Model for Scanner {
     ghost invariant = { λ s. IsBeginning s.beginning s.held × (length s.held ≤ 25927) × (s.place + length s.held < 2 ^ 61) };
 }
 
+/// The scanner at place 0 that holds nothing.
+impl Default for Scanner {
+    ghost is_default = { λ scanner. scanner ≡ record { place = 0; held = []; finished = false } };
+
+    fn default() -> Scanner {
+        Scanner::new()
+    }
+}
+
 impl Scanner {
     /// Answers a scanner at place 0 that holds nothing and has no item to give.
     pub fn new() -> Scanner

@@ -36,6 +36,18 @@ fn one_octet(rt: HostRuntime) {
 }
 
 #[test]
+#[tactic(auto, unfolding(crate::specs::Items::items_by, crate::specs::Items::items_in))]
+fn items_as_they_come(rt: HostRuntime) {
+    let mut scanner = Scanner::new();
+    let mut raw = BitBuf::new();
+    scanner.push(0x55);
+    while scanner.next(&mut raw).is_some() {}
+    scanner.finish();
+    while scanner.next(&mut raw).is_some() {}
+    assert_eq!(rt; (raw.len(), scanner.held()), (8, 0));
+}
+
+#[test]
 fn a_place_within_an_octet(rt: HostRuntime) {
     let mut scanner = Scanner::at(11, 0xA7);
     let mut raw = BitBuf::new();

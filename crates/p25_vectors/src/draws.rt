@@ -6,7 +6,7 @@ ghost use Rattle.p25_vectors.specs.Draws.{draw, octets_drawn, state_after};
 use std::marker::Model;
 
 // Draws, one after the other: contracts see the state before the next one.
-#[derive(Drop)]
+#[derive(Clone, Debug, Drop)]
 pub(crate) struct Draws {
     state: u64,
 }

@@ -8,9 +8,11 @@
 //! ```text
 //! let mut sampler = Sampler::new();
 //! let mut bits = BitBuf::new();
-//! let unit = sampler.next(&mut bits); // the first unit: a terminator, with 8 wrong bits
-//! let report = sample(1_000); // reads the first 1,000 units
+//! let unit = sampler.next(&mut bits);
+//! assert_eq!(rt; (bits.len(), unit.flips), (144, 8));
 //! ```
+//!
+//! The first unit is a terminator, with 8 wrong bits. `sample(1_000)` reads the first 1,000 units and counts.
 //!
 //! Contracts see a `Sampler` as the number of units that it has given. The frame of unit i is `sample_frame i`, its damaged
 //! bits are `sample_bits i`, and `sample_flips i` of them are inverted.

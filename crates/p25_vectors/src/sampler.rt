@@ -41,7 +41,7 @@ pub struct SampleUnit {
 ///   link control and voice with encryption sync; then of each later inner word, modulo 4 in a Golay word and 2 in a Hamming
 ///   word; then of each low speed word, modulo 3; of the header block and each half-rate block of a packet, modulo 3, and of each
 ///   three-quarter-rate block, modulo 2.
-#[derive(Drop)]
+#[derive(Clone, Debug, Drop)]
 pub struct Sampler {
     draws: Draws,
     given: u32,
@@ -88,6 +88,15 @@ impl Sampler {
         let flips = put_damaged(&frame, &mut self.draws, bits);
         self.given += 1;
         SampleUnit { frame, flips }
+    }
+}
+
+/// The sampler before unit 0.
+impl Default for Sampler {
+    ghost is_default = { λ sampler. sampler ≡ 0 };
+
+    fn default() -> Sampler {
+        Sampler::new()
     }
 }
 

@@ -1,7 +1,16 @@
 //! What the first sample units are, against values from outside.
 
-use super::{SampleReport, sample};
+use super::{SampleReport, Sampler, sample};
+use p25_bits::BitBuf;
 use std::process::Abort;
+
+#[test]
+fn first_unit(rt: HostRuntime) {
+    let mut sampler = Sampler::new();
+    let mut bits = BitBuf::new();
+    let unit = sampler.next(&mut bits);
+    assert_eq!(rt; (bits.len(), unit.flips), (144, 8));
+}
 
 // The first unit, and what is counted of the first thousand.
 #[test]
