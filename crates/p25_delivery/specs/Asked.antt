@@ -6,8 +6,7 @@ use Rattle.p25_packet_blocks.specs.FlagOctets.{flags_of_octets}
 use Rattle.p25_packet_blocks.specs.Parts.{PlainParts}
 use Rattle.p25_packet_blocks.specs.declared.head.PacketHead.{PacketHead}
 use Rattle.p25_delivery.specs.SentPackets.{station_llid}
-use Rattle.p25_delivery.specs.declared.asked.Asked.{Asked}
-use Rattle.p25_delivery.specs.declared.asked.Asked.TheVariants.{Nothing, NextMessage, WholeMessage, Blocks}
+use Rattle.p25_delivery.specs.declared.asked.Asked.{Asked, TheVariants.{Nothing, NextMessage, WholeMessage, Blocks}}
 
 -- a response to this station: format 03 hex, with its LLID
 unfoldable pub is_response : PacketHead → Bool

@@ -1,7 +1,6 @@
 -- The blocks of a message among the slots of packets, in whatever order they come, and the message read back of them.
 use Rattle.std.specs.Prelude.{◌≡◌, ℕ, ◌<◌, ◌⊎◌, List, [], ◌∷◌, length, replicate, Option, None, Some}
-use Rattle.p25_packet_blocks.specs.declared.block.Slot.{Slot}
-use Rattle.p25_packet_blocks.specs.declared.block.Slot.TheVariants.{Good, Bad}
+use Rattle.p25_packet_blocks.specs.declared.block.Slot.{Slot, TheVariants.{Good, Bad}}
 use Rattle.p25_delivery.specs.MessageBlocks.{block_count, message_block, unpadded}
 use Rattle.p25_delivery.specs.Places.{put_slots, all_octets}
 

@@ -5,8 +5,7 @@ use Rattle.p25_delivery.specs.MessageBlocks.{block_count, pad_count, message_blo
 use Rattle.p25_delivery.specs.Places.{held_flags}
 use Rattle.p25_delivery.specs.SentPackets.{message_packet, blocks_packet, opening_packet, ack_packet, retry_packet}
 use Rattle.p25_delivery.specs.ReceiverState.{Keeping}
-use Rattle.p25_delivery.specs.declared.sender_state.Outstanding.{Outstanding}
-use Rattle.p25_delivery.specs.declared.sender_state.Outstanding.TheVariants.{Nothing, Message, Opening}
+use Rattle.p25_delivery.specs.declared.sender_state.Outstanding.{Outstanding, TheVariants.{Nothing, Message, Opening}}
 use Rattle.p25_delivery.specs.Delivery.{Delivery, Session, empty_session, present_session, first_number}
 
 -- a packet with a message, or with some of its blocks, as a sender sends it

@@ -1,7 +1,6 @@
 -- What a sender keeps.
 use Rattle.std.specs.Prelude.{ℕ, ◌<◌, ◌≤◌, Bool}
-use Rattle.p25_delivery.specs.declared.sender_state.Outstanding.{Outstanding}
-use Rattle.p25_delivery.specs.declared.sender_state.Outstanding.TheVariants.{Opening}
+use Rattle.p25_delivery.specs.declared.sender_state.Outstanding.{Outstanding, TheVariants.{Opening}}
 
 -- the number of the next message, or of the message that is outstanding; what is outstanding; how often it was sent; and whether the sender is down
 pub record Sending : Type 0 where

@@ -4,10 +4,8 @@ use Rattle.p25_bits.specs.Numbers.{joined_below}
 use Rattle.p25_packet_blocks.specs.Parts.{BlockParts}
 use Rattle.p25_packet_blocks.specs.Heads.{confirmed_head, response_head, opening_head}
 use Rattle.p25_packet_blocks.specs.FlagOctets.{flag_octets}
-use Rattle.p25_packet_blocks.specs.declared.block.Slot.{Slot}
-use Rattle.p25_packet_blocks.specs.declared.block.Slot.TheVariants.{Good}
-use Rattle.p25_packet_blocks.specs.declared.packet.Packet.{Packet}
-use Rattle.p25_packet_blocks.specs.declared.packet.Packet.TheVariants.{Confirmed, Plain}
+use Rattle.p25_packet_blocks.specs.declared.block.Slot.{Slot, TheVariants.{Good}}
+use Rattle.p25_packet_blocks.specs.declared.packet.Packet.{Packet, TheVariants.{Confirmed, Plain}}
 use Rattle.p25_delivery.specs.MessageBlocks.{block_count, pad_count, message_block, message_blocks}
 
 -- the logical link identifier of both stations

@@ -3,8 +3,7 @@ use Rattle.std.specs.Prelude.{◌≡◌, ℕ, ◌+◌, ◌<◌, ◌≤◌, false
 use Rattle.p25_packet_blocks.specs.Sendable.{AreOctets}
 use Rattle.p25_delivery.specs.SenderState.{IsSending}
 use Rattle.p25_delivery.specs.ReceiverState.{Receiving}
-use Rattle.p25_delivery.specs.declared.sender_state.Outstanding.{Outstanding}
-use Rattle.p25_delivery.specs.declared.sender_state.Outstanding.TheVariants.{Nothing, Message, Opening}
+use Rattle.p25_delivery.specs.declared.sender_state.Outstanding.{Outstanding, TheVariants.{Nothing, Message, Opening}}
 use Rattle.p25_delivery.specs.Halves.{Outgoing, Incoming}
 
 -- a message of octets, at most 2,028

@@ -1,3 +1,5 @@
+#![tactic(auto, unfolding(crate::specs::HalfRules::after_offer, crate::specs::HalfRules::after_timeout, crate::specs::HalfRules::after_answer))]
+
 ghost use Rattle.std.specs.Prelude.{◌≡◌, ◌+◌, ◌<◌, ◌≤◌, length, OnOk, OnErr, IfSome};
 ghost use Rattle.p25_packet_blocks.specs.Sendable.{IsSendable};
 
@@ -93,7 +95,6 @@ impl Outbound {
 
     /// Answers what comes of a message that is offered to its sender: where nothing is outstanding it is taken, and its packet is
     /// to be sent. There is room for a call.
-    #[tactic(auto, unfolding(crate::specs::HalfRules::after_offer))]
     pub fn offer(&mut self, message: &Message) -> (StepKind, Option<Packet>)
         requires { 0 < self.old.spare }
         ensures half { self.new.half ≡ (after_offer self.old.half message.now (offered self.old.half.sender message.now)).0 }
@@ -118,7 +119,6 @@ impl Outbound {
 
     /// Answers what comes of a timeout: what is outstanding is to be sent again, or the sender is down once 16 transmissions were
     /// made. It needs no room.
-    #[tactic(auto, unfolding(crate::specs::HalfRules::after_timeout))]
     pub fn time_out(&mut self) -> (StepKind, Option<Packet>)
         ensures half { self.new.half ≡ (after_timeout self.old.half (timed_out self.old.half.sender)).0 }
         ensures answer { result ≡ (after_timeout self.old.half (timed_out self.old.half.sender)).1 }
@@ -167,7 +167,6 @@ impl Outbound {
     }
 
     /// Answers what comes of a packet that its sender hears. It needs no room.
-    #[tactic(auto, unfolding(crate::specs::HalfRules::after_answer))]
     pub fn hear(&mut self, packet: &Packet) -> (StepKind, Option<Packet>)
         ensures half { self.new.half ≡ (after_answer self.old.half (sender_heard self.old.half.sender packet.now)).0 }
         ensures answer { result ≡ (after_answer self.old.half (sender_heard self.old.half.sender packet.now)).1 }

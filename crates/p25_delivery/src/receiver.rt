@@ -1,3 +1,5 @@
+#![tactic(auto, unfolding(crate::specs::ReceiverRules::opening_heard, crate::specs::ReceiverRules::data_heard, crate::specs::ReceiverRules::finished))]
+
 ghost use Rattle.std.specs.Prelude.{◌≡◌, ◌<◌, IfNone};
 
 use crate::kept::Kept;
@@ -97,7 +99,6 @@ impl Receiver {
     }
 
     // Takes a packet with Syn.
-    #[tactic(auto, unfolding(crate::specs::ReceiverRules::opening_heard))]
     fn hear_opening(&mut self, head: PacketHead) -> Heard
         ensures { (self.new, result) ≡ opening_heard self.old head }
     {
@@ -114,7 +115,6 @@ impl Receiver {
     }
 
     // Takes a packet without Syn.
-    #[tactic(auto, unfolding(crate::specs::ReceiverRules::data_heard))]
     fn hear_data(&mut self, packet: &Confirmed) -> Heard
         ensures { (self.new, result) ≡ data_heard self.old packet.now }
     {
@@ -183,7 +183,6 @@ impl Receiver {
     }
 
     // Delivers the message whose blocks are all there, or refuses it.
-    #[tactic(auto, unfolding(crate::specs::ReceiverRules::finished))]
     fn finish(&mut self, number: u8, message: Option<Message>) -> Heard
         requires { number < 8 }
         ensures { (self.new, result) ≡ finished self.old number message }

@@ -1,3 +1,5 @@
+#![tactic(auto, unfolding(crate::specs::SenderState::IsNumbered, crate::specs::SenderRules::resent, crate::specs::SenderRules::retried))]
+
 ghost use Rattle.std.specs.Prelude.{◌≡◌, ◌<◌, if◌then◌else◌};
 
 use crate::asked::{Asked, acknowledges, answers, asked_by};
@@ -105,7 +107,6 @@ impl Sender {
     ghost use Rattle.p25_delivery.specs.SenderRules.{first_sending, sending_after, tried, fallen, may_send, offered_beside, offered, resent, timed_out, repeated, retried, response_heard, sender_heard, reopened, is_opening};
 
     /// Answers a sender before its first message, whose number is 0.
-    #[tactic(auto, unfolding(crate::specs::SenderState::IsNumbered))]
     pub fn new() -> Sender
         ensures { result ≡ first_sending }
     {
@@ -232,7 +233,6 @@ impl Sender {
     }
 
     // Sends a packet again at a timeout.
-    #[tactic(auto, unfolding(crate::specs::SenderRules::resent))]
     fn resend(&mut self, number: u8, packet: Packet) -> Resend
         ensures { (self.new, result) ≡ resent self.old number packet }
     {
@@ -298,7 +298,6 @@ impl Sender {
     }
 
     // Sends some blocks of the message again.
-    #[tactic(auto, unfolding(crate::specs::SenderRules::retried))]
     fn retry(&mut self, wanted: Flags, packet: Packet) -> SenderHeard
         ensures { (self.new, result) ≡ retried self.old wanted packet }
     {
@@ -314,7 +313,6 @@ impl Sender {
     }
 
     // Has nothing outstanding any more.
-    #[tactic(auto, unfolding(crate::specs::SenderState::IsNumbered))]
     fn go_on_after(&mut self, number: u8)
         requires { number < 8 }
         ensures { self.new ≡ sending_after number }

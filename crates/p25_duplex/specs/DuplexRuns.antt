@@ -5,8 +5,7 @@ use Rattle.p25_delivery.specs.SoundHalves.{IsMessage}
 use Rattle.p25_delivery.specs.Runs.{run_by, steps_by, EachIs}
 use Rattle.p25_delivery.specs.Delivery.{Delivery, newest_after}
 use Rattle.p25_duplex.specs.declared.side.Side.{Side}
-use Rattle.p25_duplex.specs.declared.event.DuplexEvent.{DuplexEvent}
-use Rattle.p25_duplex.specs.declared.event.DuplexEvent.TheVariants.{Send}
+use Rattle.p25_duplex.specs.declared.event.DuplexEvent.{DuplexEvent, TheVariants.{Send}}
 use Rattle.p25_duplex.specs.declared.event.DuplexStep.{DuplexStep}
 use Rattle.p25_duplex.specs.Sides.{other_side}
 use Rattle.p25_duplex.specs.DuplexState.{DuplexState, first_duplex, station_at, delivery_at}

@@ -10,8 +10,7 @@ use Rattle.p25_stations.specs.declared.step.Step.{Step}
 use Rattle.p25_stations.specs.Deliveries.{delivery_of}
 use Rattle.p25_stations.specs.Steps.{counted_when}
 use Rattle.p25_duplex.specs.declared.side.Side.{Side}
-use Rattle.p25_duplex.specs.declared.event.DuplexEvent.{DuplexEvent}
-use Rattle.p25_duplex.specs.declared.event.DuplexEvent.TheVariants.{Send, Timeout, Reopen, Deliver}
+use Rattle.p25_duplex.specs.declared.event.DuplexEvent.{DuplexEvent, TheVariants.{Send, Timeout, Reopen, Deliver}}
 use Rattle.p25_duplex.specs.declared.event.DuplexStep.{DuplexStep}
 use Rattle.p25_duplex.specs.Sides.{other_side}
 use Rattle.p25_duplex.specs.DuplexState.{StationState, DuplexState, station_at, with_station, delivery_between}

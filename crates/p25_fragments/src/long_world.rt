@@ -1,3 +1,5 @@
+#![tactic(auto, unfolding(crate::specs::LongSteps::long_step, crate::specs::LongSteps::started, crate::specs::LongSteps::inner_happened))]
+
 ghost use Rattle.std.specs.Prelude.{◌≡◌, ◌+◌, ◌<◌, ◌≤◌, OnOk, OnErr, IfOk};
 ghost use Rattle.p25_fragments.specs.LongSteps.{long_step};
 
@@ -103,7 +105,6 @@ impl LongWorld {
     /// Answers the step that an event is, and has it happen. There is room for it, and it takes no memory. A long message is
     /// Down where the sender of the inner world is down, and else Busy where a part or the opening packet is outstanding; then
     /// nothing changes.
-    #[tactic(auto, unfolding(crate::specs::LongSteps::long_step))]
     pub fn step_ready(&mut self, event: &LongEvent) -> LongStep
         requires { 0 < self.old.spare }
         ensures state { self.new.state ≡ (long_step self.old.state event.now).0 }
@@ -156,7 +157,6 @@ impl LongWorld {
     }
 
     // Takes a long message, whose part 0 was offered in a step.
-    #[tactic(auto, unfolding(crate::specs::LongSteps::started))]
     fn start(&mut self, message: &LongMessage, step: Step) -> LongStep
         requires { 0 < self.old.own_spare }
         ensures step { (self.new.state, result) ≡ started self.old.state message.now (self.old.state.inner, step) }
@@ -176,7 +176,6 @@ impl LongWorld {
     }
 
     // Has an event of the inner world happen.
-    #[tactic(auto, unfolding(crate::specs::LongSteps::inner_happened))]
     fn happen(&mut self, event: &Event) -> LongStep
         requires { 0 < self.old.spare }
         ensures step { (self.new.state, result) ≡ inner_happened self.old.state (world_step self.old.state.inner event.now) }

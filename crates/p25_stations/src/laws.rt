@@ -8,8 +8,7 @@ ghost use Rattle.p25_delivery.specs.declared.sender_state.Outstanding.TheVariant
 ghost use Rattle.p25_delivery.specs.Orderly.{AreOrderly, AreCounted};
 ghost use Rattle.p25_delivery.specs.Delivery.{sessions_of};
 ghost use Rattle.p25_delivery.specs.Facts.{DeliveryFacts};
-ghost use Rattle.p25_stations.specs.declared.step.Event.{Event as event_type};
-ghost use Rattle.p25_stations.specs.declared.step.Event.TheVariants.{Send, Reopen, ToReceiver, ToSender};
+ghost use Rattle.p25_stations.specs.declared.step.Event.{Event as event_type, TheVariants.{Send, Reopen, ToReceiver, ToSender}};
 ghost use Rattle.p25_delivery.specs.declared.step_kind.StepKind.TheVariants.{Taken, Reopened, Delivered, SynHeard, Acknowledged, LinkOpened};
 ghost use Rattle.p25_stations.specs.WorldState.{first_world};
 ghost use Rattle.p25_delivery.specs.SoundHalves.{IsMessage};
