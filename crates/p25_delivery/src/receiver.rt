@@ -57,7 +57,7 @@ pub struct Receiver {
 
 impl Model for Receiver {
     ghost use Rattle.std.specs.Prelude.{◌<◌};
-    ghost use Rattle.p25_delivery.specs.ReceiverState.{Receiving};
+    ghost use Rattle.p25_delivery.specs.Halves.{Receiving};
 
     ghost Value = { Receiving };
 
@@ -67,7 +67,8 @@ impl Model for Receiver {
 }
 
 impl Receiver {
-    ghost use Rattle.p25_delivery.specs.ReceiverRules.{first_receiving, keeping_for, finished, filled, opening_heard, data_heard, receiver_heard};
+    ghost use Rattle.p25_delivery.specs.Halves.{first_receiving};
+    ghost use Rattle.p25_delivery.specs.ReceiverRules.{keeping_for, finished, filled, opening_heard, data_heard, receiver_heard};
 
     /// Answers a receiver before its first message: V(R) is 7.
     pub fn new() -> Receiver

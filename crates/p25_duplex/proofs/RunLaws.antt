@@ -3,7 +3,7 @@ use Rattle.std.proofs.Common.{◌≡◌, Bool, false, List, [], ◌∷◌, Optio
 use Rattle.std.specs.Prelude.{IfSome}
 use Rattle.p25_packet_blocks.specs.declared.packet.Packet.{Packet}
 use Rattle.p25_delivery.specs.Runs.{run_by, steps_by, EachIs}
-use Rattle.p25_delivery.specs.declared.mark.Mark.{Mark}
+use Rattle.p25_delivery.specs.declared.outbound.Mark.{Mark}
 use Rattle.p25_delivery.specs.Delivery.{Delivery, Session, first_delivery, Happening, newest_after, delivery_run, first_mark, session_between, sessions_from, sessions_of}
 use Rattle.p25_delivery.specs.Clean.{IsCleanRun}
 use Rattle.p25_delivery.specs.Orderly.{AreOrderly}

@@ -5,12 +5,18 @@ ghost use Rattle.p25_fragments.specs.LongSteps.{long_step};
 
 use crate::joiner::{Joined, Joiner};
 use crate::long_step::{LongEvent, LongStep, Then};
-use crate::outstanding_part::OutstandingPart;
 use p25_delivery::Mark;
 use p25_messages::{LongList, LongMessage, Message};
 use p25_stations::{Event, Step, StepKind, World};
 use std::alloc::{AllocError, Global};
 use std::marker::Model;
+
+/// A part that is outstanding: its long message, and its number.
+#[derive(Drop)]
+pub(crate) struct OutstandingPart {
+    message: LongMessage,
+    number: u8,
+}
 
 /// Two packet stations, the air between them, and the long messages that they carry in parts.
 #[derive(Drop)]

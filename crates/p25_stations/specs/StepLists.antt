@@ -1,7 +1,6 @@
 -- The messages that steps tell of, and the number of those that they acknowledge.
 use Rattle.std.specs.Prelude.{count_by, ℕ, Bool, true, false, List, [], ◌∷◌, ◌++◌}
-use Rattle.p25_stations.specs.declared.step.Event.{Event, TheVariants.{Send}}
-use Rattle.p25_stations.specs.declared.step.Step.{Step}
+use Rattle.p25_stations.specs.Steps.{Event, Send, Step}
 use Rattle.p25_delivery.specs.declared.step_kind.StepKind.{StepKind, TheVariants.{Taken, Delivered, Acknowledged}}
 
 -- the message of a Delivered step, and none of any other
