@@ -6,10 +6,8 @@ use Rattle.p25_packet_blocks.specs.declared.packet.Packet.{Packet}
 use Rattle.p25_packet_blocks.specs.declared.packet.Packet.TheVariants.{Confirmed, Plain}
 use Rattle.p25_packet_blocks.specs.declared.head.PacketHead.{PacketHead}
 use Rattle.p25_packet_blocks.specs.Heads.{head_format, confirmed_head, response_head, opening_head}
-use Rattle.p25_packet_blocks.specs.Whole.{packet_head}
 use Rattle.p25_delivery.specs.Places.{held_flags}
 use Rattle.p25_delivery.specs.SentPackets.{message_packet, blocks_packet, opening_packet, short_response, ack_packet, retry_packet}
-use Rattle.p25_delivery.specs.Halves.{Receiving}
 use Rattle.p25_delivery.specs.declared.sender.Outstanding.{Outstanding}
 use Rattle.p25_delivery.specs.declared.sender.Outstanding.TheVariants.{Nothing, Message, Opening}
 use Rattle.p25_delivery.specs.Delivery.{Delivery, Session}
