@@ -13,13 +13,12 @@ use Rattle.p25_delivery.specs.MessageBlocks.{block_count, pad_count, message_blo
 use Rattle.p25_delivery.specs.Places.{put_slots, all_octets}
 use Rattle.p25_delivery.specs.Carried.{HoldsSerial, CarriesMessage, unpadded_option, read_back}
 use Rattle.p25_delivery.specs.SentPackets.{good_slot, message_packet, opening_packet, short_response, ack_packet}
-use Rattle.p25_delivery.specs.SenderState.{Sending, IsNumbered, IsSending}
-use Rattle.p25_delivery.specs.ReceiverState.{Keeping, Receiving}
+use Rattle.p25_delivery.specs.Halves.{Sending, IsNumbered, IsSending, Keeping, Receiving}
 use Rattle.p25_delivery.specs.Asked.{is_response, is_ack, asked_of}
 use Rattle.p25_delivery.specs.SenderRules.{sending_after, answered, response_heard, sender_heard, opening_number, reopened}
 use Rattle.p25_delivery.specs.ReceiverRules.{empty_places, keeping_full, keeping_for, finished, completed, filled, data_heard, receiver_heard}
-use Rattle.p25_delivery.specs.declared.sender_state.Outstanding.{Outstanding}
-use Rattle.p25_delivery.specs.declared.sender_state.Outstanding.TheVariants.{Nothing, Message, Opening}
+use Rattle.p25_delivery.specs.declared.sender.Outstanding.{Outstanding}
+use Rattle.p25_delivery.specs.declared.sender.Outstanding.TheVariants.{Nothing, Message, Opening}
 use Rattle.p25_delivery.specs.declared.sender.SenderHeard.TheVariants.{Acknowledged, Opened as SenderOpened}
 use Rattle.p25_delivery.specs.declared.receiver.Heard.TheVariants.{Delivered, Opened}
 use Rattle.p25_delivery.proofs.CarriedLaws.{slots-read_back}

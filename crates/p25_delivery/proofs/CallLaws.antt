@@ -5,11 +5,10 @@ use Rattle.std.proofs.lemmas.Option.{IfSome_then}
 use Rattle.p25_packet_blocks.specs.declared.packet.Packet.{Packet}
 use Rattle.p25_delivery.specs.Places.{held_flags}
 use Rattle.p25_delivery.specs.SentPackets.{message_packet, ack_packet, retry_packet, opening_packet}
-use Rattle.p25_delivery.specs.SenderState.{Sending}
-use Rattle.p25_delivery.specs.ReceiverState.{Keeping, Receiving}
+use Rattle.p25_delivery.specs.Halves.{Sending, Keeping, Receiving}
 use Rattle.p25_delivery.specs.SenderRules.{offered, timed_out, opening_number, reopened, is_opening}
-use Rattle.p25_delivery.specs.declared.sender_state.Outstanding.{Outstanding}
-use Rattle.p25_delivery.specs.declared.sender_state.Outstanding.TheVariants.{Message, Opening}
+use Rattle.p25_delivery.specs.declared.sender.Outstanding.{Outstanding}
+use Rattle.p25_delivery.specs.declared.sender.Outstanding.TheVariants.{Message, Opening}
 use Rattle.p25_delivery.specs.declared.sender.Offer.{Offer}
 use Rattle.p25_delivery.specs.declared.sender.Offer.TheVariants.{Busy, Down as OfferDown}
 use Rattle.p25_delivery.specs.declared.sender.Resend.{Resend}

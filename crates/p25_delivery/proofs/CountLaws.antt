@@ -4,12 +4,11 @@ use Rattle.std.proofs.lemmas.List.Elements.{All-push}
 use Rattle.p25_packet_blocks.specs.declared.packet.Packet.{Packet}
 use Rattle.p25_delivery.specs.MessageBlocks.{block_count}
 use Rattle.p25_delivery.specs.SentPackets.{message_packet, opening_packet}
-use Rattle.p25_delivery.specs.SenderState.{Sending}
-use Rattle.p25_delivery.specs.ReceiverState.{Receiving}
+use Rattle.p25_delivery.specs.Halves.{Sending, Receiving}
 use Rattle.p25_delivery.specs.SenderRules.{offered_beside, offered, timed_out_with, timed_out, sender_heard, opening_number, reopened, is_opening}
 use Rattle.p25_delivery.specs.ReceiverRules.{receiver_heard}
-use Rattle.p25_delivery.specs.declared.sender_state.Outstanding.{Outstanding}
-use Rattle.p25_delivery.specs.declared.sender_state.Outstanding.TheVariants.{Nothing, Message, Opening}
+use Rattle.p25_delivery.specs.declared.sender.Outstanding.{Outstanding}
+use Rattle.p25_delivery.specs.declared.sender.Outstanding.TheVariants.{Nothing, Message, Opening}
 use Rattle.p25_delivery.specs.declared.sender.Offer.{Offer}
 use Rattle.p25_delivery.specs.declared.sender.Offer.TheVariants.{Taken, Down as OfferDown}
 use Rattle.p25_delivery.specs.declared.sender.Resend.{Resend}

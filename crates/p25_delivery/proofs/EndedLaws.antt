@@ -1,7 +1,6 @@
 -- Whatever happens at a delivery, each session that ends was the present one. By the rules, each answer in turn.
 use Rattle.std.proofs.Common.{Bool, true, false, List, ℕ, length}
-use Rattle.p25_delivery.specs.SenderState.{Sending}
-use Rattle.p25_delivery.specs.ReceiverState.{Receiving}
+use Rattle.p25_delivery.specs.Halves.{Sending, Receiving}
 use Rattle.p25_delivery.specs.SenderRules.{offered, timed_out, sender_heard, reopened, is_opening}
 use Rattle.p25_delivery.specs.ReceiverRules.{receiver_heard}
 use Rattle.p25_delivery.specs.declared.sender.Offer.{Offer}

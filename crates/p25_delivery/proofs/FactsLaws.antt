@@ -6,9 +6,9 @@ use Rattle.std.proofs.lemmas.Option.{IfSome_then}
 use Rattle.p25_packet_blocks.specs.declared.packet.Packet.{Packet}
 use Rattle.p25_delivery.specs.Places.{held_flags}
 use Rattle.p25_delivery.specs.SentPackets.{opening_packet, ack_packet, retry_packet}
-use Rattle.p25_delivery.specs.ReceiverState.{Keeping}
-use Rattle.p25_delivery.specs.declared.sender_state.Outstanding.{Outstanding}
-use Rattle.p25_delivery.specs.declared.sender_state.Outstanding.TheVariants.{Nothing, Message}
+use Rattle.p25_delivery.specs.Halves.{Keeping}
+use Rattle.p25_delivery.specs.declared.sender.Outstanding.{Outstanding}
+use Rattle.p25_delivery.specs.declared.sender.Outstanding.TheVariants.{Nothing, Message}
 use Rattle.p25_delivery.specs.Delivery.{Delivery, Session}
 use Rattle.p25_delivery.specs.Facts.{IsDataOf, KeepsOf, SentBy, IsNewestData, SessionFacts, FactsBy}
 use Rattle.p25_delivery.proofs.PhaseLaws.{IsQuietData, IsQuiet, IsWaitingAnswer, IsWaiting, IsArrived, IsBusy, IsDelivering, quiet, busy, opening}

@@ -5,13 +5,12 @@ use Rattle.std.specs.Prelude.{IfSome}
 use Rattle.p25_packet_blocks.specs.declared.packet.Packet.{Packet}
 use Rattle.p25_packet_blocks.specs.Sendable.{IsSendable}
 use Rattle.p25_delivery.specs.SentPackets.{opening_packet}
-use Rattle.p25_delivery.specs.SenderState.{Sending, IsNumbered, IsSending}
-use Rattle.p25_delivery.specs.ReceiverState.{Receiving}
+use Rattle.p25_delivery.specs.Halves.{Sending, IsNumbered, IsSending, Receiving, Outgoing, Incoming, first_outgoing, first_incoming}
 use Rattle.p25_delivery.specs.SenderRules.{sending_after, offered, timed_out, sender_heard, opening_number, reopened, is_opening}
 use Rattle.p25_delivery.specs.ReceiverRules.{receiver_heard}
-use Rattle.p25_delivery.specs.declared.mark.Mark.{Mark}
-use Rattle.p25_delivery.specs.declared.sender_state.Outstanding.{Outstanding}
-use Rattle.p25_delivery.specs.declared.sender_state.Outstanding.TheVariants.{Nothing, Message, Opening}
+use Rattle.p25_delivery.specs.declared.outbound.Mark.{Mark}
+use Rattle.p25_delivery.specs.declared.sender.Outstanding.{Outstanding}
+use Rattle.p25_delivery.specs.declared.sender.Outstanding.TheVariants.{Nothing, Message, Opening}
 use Rattle.p25_delivery.specs.declared.sender.Offer.{Offer}
 use Rattle.p25_delivery.specs.declared.sender.Resend.{Resend}
 use Rattle.p25_delivery.specs.declared.sender.Resend.TheVariants.{Sent, Idle as ResendIdle, Down as DownAtTimeout}
@@ -21,7 +20,6 @@ use Rattle.p25_delivery.specs.declared.sender.Reopen.{Reopen as ReopenAnswer}
 use Rattle.p25_delivery.specs.declared.receiver.Heard.{Heard as HeardAnswer}
 use Rattle.p25_delivery.specs.declared.receiver.Heard.TheVariants.{Delivered as HeardDelivered, Opened as ReceiverOpened, Again as HeardAgain, Kept as HeardKept, RefusedCrc as HeardCrc, RefusedOrder as HeardOrder, Ignored as ReceiverIgnored}
 use Rattle.p25_delivery.specs.declared.step_kind.StepKind.{StepKind}
-use Rattle.p25_delivery.specs.Halves.{Outgoing, Incoming, first_outgoing, first_incoming}
 use Rattle.p25_delivery.specs.SoundHalves.{IsMessage, IsMessageIn, IsCountedWith, IsOutgoing, IsReceiving, IsIncoming}
 use Rattle.p25_delivery.specs.HalfRules.{mark_of, after_offer, after_timeout, after_reopening, after_data, after_answer}
 use Rattle.p25_delivery.specs.Facts.{IsDataOf}

@@ -7,8 +7,8 @@ use Rattle.std.proofs.lemmas.List.Elements.{All-push}
 use Rattle.p25_packet_blocks.specs.declared.packet.Packet.{Packet}
 use Rattle.p25_delivery.specs.Places.{held_flags}
 use Rattle.p25_delivery.specs.SentPackets.{ack_packet, retry_packet, opening_packet}
-use Rattle.p25_delivery.specs.ReceiverState.{Keeping, Receiving}
-use Rattle.p25_delivery.specs.declared.sender_state.Outstanding.TheVariants.{Nothing, Message, Opening}
+use Rattle.p25_delivery.specs.Halves.{Keeping, Receiving}
+use Rattle.p25_delivery.specs.declared.sender.Outstanding.TheVariants.{Nothing, Message, Opening}
 use Rattle.p25_delivery.specs.Delivery.{Delivery, Session, empty_session, sessions_of, present_session, first_number}
 use Rattle.p25_delivery.specs.Orderly.{IsOrderly, AreOrderly}
 use Rattle.p25_delivery.specs.Facts.{IsDataOf, KeepsOf}

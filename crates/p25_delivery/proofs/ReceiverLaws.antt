@@ -15,7 +15,7 @@ use Rattle.p25_delivery.specs.MessageBlocks.{block_count, pad_count, message_oct
 use Rattle.p25_delivery.specs.Places.{put_block, put_slots, all_octets, held_flags}
 use Rattle.p25_delivery.specs.Carried.{AreBlocksOf}
 use Rattle.p25_delivery.specs.SentPackets.{ack_packet, retry_packet}
-use Rattle.p25_delivery.specs.ReceiverState.{Keeping, Receiving}
+use Rattle.p25_delivery.specs.Halves.{Keeping, Receiving}
 use Rattle.p25_delivery.specs.ReceiverRules.{empty_places, keeping_full, keeping_for, finished, completed, filled, opening_heard, data_heard, receiver_heard}
 use Rattle.p25_delivery.specs.declared.receiver.Heard.{Heard}
 use Rattle.p25_delivery.specs.declared.receiver.Heard.TheVariants.{Delivered, Opened, Again, Kept, Ignored}

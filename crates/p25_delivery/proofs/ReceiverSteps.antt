@@ -6,7 +6,7 @@ use Rattle.p25_packet_blocks.specs.ConfirmedParts.{ConfirmedParts}
 use Rattle.p25_packet_blocks.specs.declared.block.Slot.{Slot}
 use Rattle.p25_delivery.specs.MessageBlocks.{unpadded}
 use Rattle.p25_delivery.specs.Places.{put_slots, all_octets}
-use Rattle.p25_delivery.specs.ReceiverState.{Keeping, Receiving}
+use Rattle.p25_delivery.specs.Halves.{Keeping, Receiving}
 use Rattle.p25_delivery.specs.ReceiverRules.{finished, completed, filled}
 use Rattle.p25_delivery.specs.declared.receiver.Heard.{Heard}
 

@@ -14,7 +14,7 @@ use Rattle.p25_packet_blocks.specs.Sendable.{IsSendable}
 use Rattle.p25_delivery.specs.MessageBlocks.{unpadded}
 use Rattle.p25_delivery.specs.Places.{put_slots, all_octets, flag_count, held_flags}
 use Rattle.p25_delivery.specs.SentPackets.{station_llid, ack_packet, order_nack_packet}
-use Rattle.p25_delivery.specs.ReceiverState.{Keeping, Receiving}
+use Rattle.p25_delivery.specs.Halves.{Keeping, Receiving}
 use Rattle.p25_delivery.specs.ReceiverRules.{empty_places, keeping_full, keeping_for, finished, completed, filled, opening_heard, data_heard, receiver_heard}
 use Rattle.p25_delivery.specs.declared.receiver.Heard.{Heard}
 use Rattle.p25_delivery.specs.declared.receiver.Heard.TheVariants.{Delivered, Opened, Again, Kept, RefusedCrc, RefusedOrder, Ignored}

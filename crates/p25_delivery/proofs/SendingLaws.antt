@@ -6,13 +6,13 @@ use Rattle.p25_packet_blocks.specs.declared.packet.Packet.{Packet}
 use Rattle.p25_packet_blocks.specs.declared.packet.Packet.TheVariants.{Confirmed, Plain}
 use Rattle.p25_delivery.specs.MessageBlocks.{block_count}
 use Rattle.p25_delivery.specs.SentPackets.{message_packet, blocks_packet, opening_packet}
-use Rattle.p25_delivery.specs.SenderState.{Sending, IsNumbered, IsSending}
+use Rattle.p25_delivery.specs.Halves.{Sending, IsNumbered, IsSending}
 use Rattle.p25_delivery.specs.Asked.{is_response, is_ack, asked_of}
 use Rattle.p25_delivery.specs.SenderRules.{sending_after, tried, fallen, may_send, resent, timed_out_with, timed_out, repeated, retried, answered, response_heard, sender_heard}
 use Rattle.p25_delivery.specs.declared.asked.Asked.{Asked}
 use Rattle.p25_delivery.specs.declared.asked.Asked.TheVariants.{Nothing as NothingAsked, NextMessage, WholeMessage, Blocks}
-use Rattle.p25_delivery.specs.declared.sender_state.Outstanding.{Outstanding}
-use Rattle.p25_delivery.specs.declared.sender_state.Outstanding.TheVariants.{Nothing, Message, Opening}
+use Rattle.p25_delivery.specs.declared.sender.Outstanding.{Outstanding}
+use Rattle.p25_delivery.specs.declared.sender.Outstanding.TheVariants.{Nothing, Message, Opening}
 use Rattle.p25_delivery.specs.declared.sender.Resend.{Resend}
 use Rattle.p25_delivery.specs.declared.sender.Resend.TheVariants.{Sent, Down as ResendDown}
 use Rattle.p25_delivery.specs.declared.sender.SenderHeard.{SenderHeard}

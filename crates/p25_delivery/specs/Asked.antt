@@ -3,11 +3,8 @@ use Rattle.std.specs.Prelude.{ℕ, ◌-◌, ◌&&◌, Bool, false, eqb, nat_le, 
 use Rattle.std.specs.List.{list_any}
 use Rattle.p25_packet_blocks.specs.Heads.{head_format, head_llid, response_class, response_kind, response_status}
 use Rattle.p25_packet_blocks.specs.FlagOctets.{flags_of_octets}
-use Rattle.p25_packet_blocks.specs.Parts.{PlainParts}
-use Rattle.p25_packet_blocks.specs.declared.head.PacketHead.{PacketHead}
-use Rattle.p25_delivery.specs.SentPackets.{station_llid}
-use Rattle.p25_delivery.specs.declared.asked.Asked.{Asked}
-use Rattle.p25_delivery.specs.declared.asked.Asked.TheVariants.{Nothing, NextMessage, WholeMessage, Blocks}
+use Rattle.p25_delivery.specs.SentPackets.{station_llid, PlainParts, PacketHead}
+pub use Rattle.p25_delivery.specs.declared.asked.Asked.{Asked, TheVariants.{Nothing, NextMessage, WholeMessage, Blocks}}
 
 -- a response to this station: format 03 hex, with its LLID
 unfoldable pub is_response : PacketHead → Bool

@@ -2,14 +2,9 @@
 use Rattle.std.specs.Prelude.{◌≡◌, ℕ, List, length, None}
 use Rattle.p25_packet_blocks.specs.declared.packet.Packet.{Packet}
 use Rattle.p25_delivery.specs.MessageBlocks.{block_count}
-use Rattle.p25_delivery.specs.SenderState.{Sending}
-use Rattle.p25_delivery.specs.ReceiverState.{Receiving}
-use Rattle.p25_delivery.specs.SenderRules.{sending_after, offered, sender_heard, reopened}
-use Rattle.p25_delivery.specs.ReceiverRules.{receiver_heard}
-use Rattle.p25_delivery.specs.declared.sender.Offer.TheVariants.{Taken}
-use Rattle.p25_delivery.specs.declared.sender.SenderHeard.TheVariants.{Acknowledged, Opened as SenderOpened}
-use Rattle.p25_delivery.specs.declared.sender.Reopen.TheVariants.{Sent as ReopenSent}
-use Rattle.p25_delivery.specs.declared.receiver.Heard.TheVariants.{Delivered, Opened}
+use Rattle.p25_delivery.specs.Halves.{Sending, Receiving}
+use Rattle.p25_delivery.specs.SenderRules.{sending_after, offered, sender_heard, reopened, Taken, Acknowledged, Opened as SenderOpened, ReopenSent}
+use Rattle.p25_delivery.specs.ReceiverRules.{receiver_heard, Delivered, Opened}
 
 -- a message is taken, its packet delivers it, and the answer to that acknowledges it
 pub record DeliversAtOnce (sender : Sending) (receiver : Receiving) (message : List ℕ) : Type 0 where

@@ -1,9 +1,7 @@
 -- The blocks of a message among the slots of packets, in whatever order they come, and the message read back of them.
 use Rattle.std.specs.Prelude.{◌≡◌, ℕ, ◌<◌, ◌⊎◌, List, [], ◌∷◌, length, replicate, Option, None, Some}
-use Rattle.p25_packet_blocks.specs.declared.block.Slot.{Slot}
-use Rattle.p25_packet_blocks.specs.declared.block.Slot.TheVariants.{Good, Bad}
 use Rattle.p25_delivery.specs.MessageBlocks.{block_count, message_block, unpadded}
-use Rattle.p25_delivery.specs.Places.{put_slots, all_octets}
+use Rattle.p25_delivery.specs.Places.{put_slots, all_octets, Slot, Good, Bad}
 
 -- each block that slots hold is the block of a message with its serial number
 unfoldable pub AreBlocksOf : List ℕ → List Slot → Type 0

@@ -1,9 +1,7 @@
 -- Runs in which each packet that is heard is true to the one that was sent.
 use Rattle.std.specs.Prelude.{◌≡◌, ◌≤◌, ◌⊎◌, List, [], ◌∷◌, length, Option, Some}
-use Rattle.p25_packet_blocks.specs.declared.block.Slot.{Slot}
-use Rattle.p25_packet_blocks.specs.declared.block.Slot.TheVariants.{Bad}
-use Rattle.p25_packet_blocks.specs.declared.packet.Packet.{Packet}
-use Rattle.p25_packet_blocks.specs.declared.packet.Packet.TheVariants.{Confirmed, Plain}
+use Rattle.p25_packet_blocks.specs.declared.block.Slot.{Slot, TheVariants.{Bad}}
+use Rattle.p25_packet_blocks.specs.declared.packet.Packet.{Packet, TheVariants.{Confirmed, Plain}}
 use Rattle.p25_delivery.specs.Runs.{MeetAt}
 use Rattle.p25_delivery.specs.Delivery.{Delivery, Happening, Offering, Data_heard, Answer_heard, happens}
 

@@ -1,10 +1,44 @@
--- What the two halves of a station keep: that which sends its messages, and that which receives those of the other station.
-use Rattle.std.specs.Prelude.{ℕ, List, []}
-use Rattle.p25_delivery.specs.SenderState.{Sending}
-use Rattle.p25_delivery.specs.ReceiverState.{Receiving}
-use Rattle.p25_delivery.specs.SenderRules.{first_sending}
-use Rattle.p25_delivery.specs.ReceiverRules.{first_receiving}
-use Rattle.p25_delivery.specs.declared.mark.Mark.{Mark}
+-- What a station keeps: a sender, a receiver, and the two halves over them, that which sends its messages and that which receives
+-- those of the other station.
+use Rattle.std.specs.Prelude.{ℕ, ◌<◌, ◌≤◌, Bool, false, List, [], Option, None}
+use Rattle.p25_packet_blocks.specs.Parts.{BlockParts}
+pub use Rattle.p25_delivery.specs.declared.sender.Outstanding.{Outstanding, TheVariants.{Nothing, Message, Opening}}
+pub use Rattle.p25_delivery.specs.declared.outbound.Mark.{Mark}
+
+-- the number of the next message, or of the message that is outstanding; what is outstanding; how often it was sent; and whether the sender is down
+pub record Sending : Type 0 where
+  pub next : ℕ
+  pub outstanding : Outstanding
+  pub tries : ℕ
+  pub down : Bool
+
+-- the number of an opening packet has three bits
+unfoldable pub IsNumbered : Outstanding → Type 0
+IsNumbered (Opening number) = number < 8
+IsNumbered other = Unit {0}
+
+-- what every sender keeps
+pub record IsSending (sender : Sending) : Type 0 where
+  pub next : sender.next < 8
+  pub outstanding : IsNumbered sender.outstanding
+  pub tries : sender.tries ≤ 16
+
+-- the places of a message that has not come whole, each empty or with its block, and the number of its pad octets
+pub record Keeping : Type 0 where
+  pub places : List (Option BlockParts)
+  pub pad : ℕ
+
+-- V(R), the number of the last message that was delivered, and what is kept of the next one
+pub record Receiving : Type 0 where
+  pub last : ℕ
+  pub kept : Option Keeping
+
+-- a sender and a receiver before the first message
+abbrev pub first_sending : Sending
+first_sending = record { next = 0; outstanding = Nothing; tries = 0; down = false }
+
+abbrev pub first_receiving : Receiving
+first_receiving = record { last = 7; kept = None }
 
 -- the sending half: its sender, the messages that it sent, how many of them were acknowledged, and a mark for each session that has ended
 pub record Outgoing : Type 0 where
@@ -18,13 +52,9 @@ pub record Incoming : Type 0 where
   pub receiver : Receiving
   pub received : List (List ℕ)
 
--- what contracts see of a half: what it keeps, and for how many calls it has room
-pub record OutgoingParts : Type 0 where
-  pub half : Outgoing
-  pub spare : ℕ
-
-pub record IncomingParts : Type 0 where
-  pub half : Incoming
+-- what contracts see of a half, of a station or of a world: what it keeps, and for how many calls or steps it has room
+pub record Roomy (State : Type 0) : Type 0 where
+  pub state : State
   pub spare : ℕ
 
 -- the halves before anything is sent

@@ -4,7 +4,7 @@ use Rattle.p25_bits.specs.Bits.{part}
 use Rattle.p25_bits.specs.Numbers.{octets_number, each_below}
 use Rattle.p25_crc.specs.Values.{crc32_of}
 use Rattle.p25_packet_blocks.specs.Image.{checked_octets}
-use Rattle.p25_packet_blocks.specs.Parts.{BlockParts}
+pub use Rattle.p25_packet_blocks.specs.Parts.{BlockParts}
 
 -- how many blocks of 16 octets carry so many octets and the four of the packet CRC
 abbrev pub block_count : ℕ → ℕ

@@ -1,8 +1,7 @@
 -- The blocks of a message that a receiver keeps, each at the place of its serial number.
 use Rattle.std.specs.Prelude.{ℕ, ◌-◌, nat_lt, nat_le, Bool, false, List, [], ◌∷◌, ◌++◌, length, map, replicate, slice_set, Option, Some, None, is_some, if◌then◌else◌}
-use Rattle.p25_packet_blocks.specs.Parts.{BlockParts}
-use Rattle.p25_packet_blocks.specs.declared.block.Slot.{Slot}
-use Rattle.p25_packet_blocks.specs.declared.block.Slot.TheVariants.{Good, Bad}
+pub use Rattle.p25_packet_blocks.specs.Parts.{BlockParts}
+pub use Rattle.p25_packet_blocks.specs.declared.block.Slot.{Slot, TheVariants.{Good, Bad}}
 
 -- places with a block put at the place of its serial number, where there is such a place
 unfoldable pub put_block : List (Option BlockParts) → BlockParts → List (Option BlockParts)

@@ -2,19 +2,11 @@
 use Rattle.std.specs.Prelude.{ℕ, ◌+◌, ◌%◌, ◌&&◌, eqb, List, length, replicate, Option, Some, None, if◌then◌else◌}
 use Rattle.p25_packet_blocks.specs.Heads.{head_is_full, head_blocks, head_pad, head_llid, head_syn, head_number}
 use Rattle.p25_packet_blocks.specs.ConfirmedParts.{ConfirmedParts}
-use Rattle.p25_packet_blocks.specs.declared.head.PacketHead.{PacketHead}
-use Rattle.p25_packet_blocks.specs.declared.packet.Packet.{Packet}
-use Rattle.p25_packet_blocks.specs.declared.packet.Packet.TheVariants.{Confirmed, Plain}
 use Rattle.p25_delivery.specs.MessageBlocks.{unpadded}
 use Rattle.p25_delivery.specs.Places.{put_slots, all_octets, held_flags}
-use Rattle.p25_delivery.specs.SentPackets.{station_llid, ack_packet, crc_nack_packet, order_nack_packet, retry_packet}
-use Rattle.p25_delivery.specs.ReceiverState.{Keeping, Receiving}
-use Rattle.p25_delivery.specs.declared.receiver.Heard.{Heard}
-use Rattle.p25_delivery.specs.declared.receiver.Heard.TheVariants.{Delivered, Opened, Again, Kept, RefusedCrc, RefusedOrder, Ignored}
-
--- a receiver before the first message
-abbrev pub first_receiving : Receiving
-first_receiving = record { last = 7; kept = None }
+use Rattle.p25_delivery.specs.SentPackets.{station_llid, ack_packet, crc_nack_packet, order_nack_packet, retry_packet, PacketHead, Packet, Confirmed, Plain}
+use Rattle.p25_delivery.specs.Halves.{Keeping, Receiving}
+pub use Rattle.p25_delivery.specs.declared.receiver.Heard.{Heard, TheVariants.{Delivered, Opened, Again, Kept, RefusedCrc, RefusedOrder, Ignored}}
 
 -- so many empty places, and a pad
 abbrev pub empty_places : ℕ → ℕ → Keeping

@@ -1,28 +1,13 @@
 -- What a sender does at each call: the state that it has then, and its answer.
 use Rattle.std.specs.Prelude.{ℕ, ◌+◌, ◌%◌, Bool, true, false, nat_lt, List, length, if◌then◌else◌}
-use Rattle.p25_packet_blocks.specs.Parts.{PlainParts}
-use Rattle.p25_packet_blocks.specs.declared.packet.Packet.{Packet}
-use Rattle.p25_packet_blocks.specs.declared.packet.Packet.TheVariants.{Confirmed, Plain}
 use Rattle.p25_delivery.specs.MessageBlocks.{block_count}
-use Rattle.p25_delivery.specs.SentPackets.{message_packet, blocks_packet, opening_packet}
-use Rattle.p25_delivery.specs.SenderState.{Sending}
-use Rattle.p25_delivery.specs.Asked.{is_response, is_ack, asked_of}
-use Rattle.p25_delivery.specs.declared.asked.Asked.{Asked}
-use Rattle.p25_delivery.specs.declared.asked.Asked.TheVariants.{Nothing as NothingAsked, NextMessage, WholeMessage, Blocks}
-use Rattle.p25_delivery.specs.declared.sender_state.Outstanding.{Outstanding}
-use Rattle.p25_delivery.specs.declared.sender_state.Outstanding.TheVariants.{Nothing, Message, Opening}
-use Rattle.p25_delivery.specs.declared.sender.Offer.{Offer}
-use Rattle.p25_delivery.specs.declared.sender.Offer.TheVariants.{Taken, Busy, Down as OfferDown}
-use Rattle.p25_delivery.specs.declared.sender.Resend.{Resend}
-use Rattle.p25_delivery.specs.declared.sender.Resend.TheVariants.{Sent, Idle, Down as ResendDown}
-use Rattle.p25_delivery.specs.declared.sender.SenderHeard.{SenderHeard}
-use Rattle.p25_delivery.specs.declared.sender.SenderHeard.TheVariants.{Acknowledged, Opened, Retry, Repeat, Ignored, Down as HeardDown}
-use Rattle.p25_delivery.specs.declared.sender.Reopen.{Reopen}
-use Rattle.p25_delivery.specs.declared.sender.Reopen.TheVariants.{Sent as ReopenSent, Up}
-
--- a sender before the first message
-abbrev pub first_sending : Sending
-first_sending = record { next = 0; outstanding = Nothing; tries = 0; down = false }
+use Rattle.p25_delivery.specs.SentPackets.{message_packet, blocks_packet, opening_packet, PlainParts, Packet, Confirmed, Plain}
+use Rattle.p25_delivery.specs.Halves.{Sending, Outstanding, Nothing, Message, Opening}
+use Rattle.p25_delivery.specs.Asked.{is_response, is_ack, asked_of, Asked, Nothing as NothingAsked, NextMessage, WholeMessage, Blocks}
+pub use Rattle.p25_delivery.specs.declared.sender.Offer.{Offer, TheVariants.{Taken, Busy, Down as OfferDown}}
+use Rattle.p25_delivery.specs.declared.sender.Resend.{Resend, TheVariants.{Sent, Idle, Down as ResendDown}}
+pub use Rattle.p25_delivery.specs.declared.sender.SenderHeard.{SenderHeard, TheVariants.{Acknowledged, Opened, Retry, Repeat, Ignored, Down as HeardDown}}
+pub use Rattle.p25_delivery.specs.declared.sender.Reopen.{Reopen, TheVariants.{Sent as ReopenSent, Up}}
 
 -- a sender with nothing outstanding, after the number of what was
 abbrev pub sending_after : ℕ → Sending

@@ -1,13 +1,12 @@
 -- The packets that this project's stations send. Those of data go one way, and the responses the other.
 use Rattle.std.specs.Prelude.{ℕ, Bool, true, false, nat_le, List, [], ◌∷◌, length, map, slice_index_or, if◌then◌else◌}
 use Rattle.p25_bits.specs.Numbers.{joined_below}
-use Rattle.p25_packet_blocks.specs.Parts.{BlockParts}
+pub use Rattle.p25_packet_blocks.specs.Parts.{BlockParts, PlainParts}
+pub use Rattle.p25_packet_blocks.specs.declared.head.PacketHead.{PacketHead}
 use Rattle.p25_packet_blocks.specs.Heads.{confirmed_head, response_head, opening_head}
 use Rattle.p25_packet_blocks.specs.FlagOctets.{flag_octets}
-use Rattle.p25_packet_blocks.specs.declared.block.Slot.{Slot}
-use Rattle.p25_packet_blocks.specs.declared.block.Slot.TheVariants.{Good}
-use Rattle.p25_packet_blocks.specs.declared.packet.Packet.{Packet}
-use Rattle.p25_packet_blocks.specs.declared.packet.Packet.TheVariants.{Confirmed, Plain}
+use Rattle.p25_packet_blocks.specs.declared.block.Slot.{Slot, TheVariants.{Good}}
+pub use Rattle.p25_packet_blocks.specs.declared.packet.Packet.{Packet, TheVariants.{Confirmed, Plain}}
 use Rattle.p25_delivery.specs.MessageBlocks.{block_count, pad_count, message_block, message_blocks}
 
 -- the logical link identifier of both stations

@@ -1,11 +1,9 @@
--- What every half of a station keeps, whatever it hears.
-use Rattle.std.specs.Prelude.{◌≡◌, ℕ, ◌+◌, ◌<◌, ◌≤◌, false, List, length, IfSome}
+-- What every half of a station keeps, whatever it hears, and what contracts see of its fields.
+use Rattle.std.specs.Prelude.{◌≡◌, ℕ, ◌+◌, ◌-◌, ◌<◌, ◌≤◌, min, false, List, length, vec_len, vec_capacity, IfSome}
 use Rattle.p25_packet_blocks.specs.Sendable.{AreOctets}
-use Rattle.p25_delivery.specs.SenderState.{IsSending}
-use Rattle.p25_delivery.specs.ReceiverState.{Receiving}
-use Rattle.p25_delivery.specs.declared.sender_state.Outstanding.{Outstanding}
-use Rattle.p25_delivery.specs.declared.sender_state.Outstanding.TheVariants.{Nothing, Message, Opening}
-use Rattle.p25_delivery.specs.Halves.{Outgoing, Incoming}
+use Rattle.p25_delivery.specs.Halves.{Outstanding, Nothing, Message, Opening, IsSending, Receiving, Outgoing, Incoming}
+use Rattle.p25_delivery.specs.declared.outbound.Outbound.TheInside.{Inside as OutboundInside}
+use Rattle.p25_delivery.specs.declared.inbound.Inbound.TheInside.{Inside as InboundInside}
 
 -- a message of octets, at most 2,028
 pub record IsMessage (message : List ℕ) : Type 0 where
@@ -38,3 +36,14 @@ pub record IsReceiving (r : Receiving) : Type 0 where
 
 abbrev pub IsIncoming : Incoming → Type 0
 IsIncoming i = IsReceiving i.receiver
+
+-- what a sending half keeps, and a receiving one
+abbrev pub outgoing_of : OutboundInside → Outgoing
+outgoing_of o = record { sender = o.sender; sent = o.sent.list; acknowledged = o.acknowledged; marks = o.marks.items }
+
+abbrev pub incoming_of : InboundInside → Incoming
+incoming_of i = record { receiver = i.receiver; received = i.received.list }
+
+-- for how many calls a sending half has room: one more message sent, and one more session ended in each
+abbrev pub outgoing_spare : OutboundInside → ℕ
+outgoing_spare o = min o.sent.spare (vec_capacity o.marks - vec_len o.marks)

@@ -1,3 +1,5 @@
+#![tactic(auto, unfolding(crate::specs::Asked::is_response, crate::specs::Asked::is_ack, crate::specs::Asked::asked_by_flags, crate::specs::Asked::wanted_flags))]
+
 ghost use Rattle.std.specs.Prelude.{◌≡◌, ◌<◌, ◌≤◌, ◌&&◌, nat_le, not, Bool, List, length, take};
 ghost use Rattle.std.specs.List.{list_any};
 ghost use Rattle.p25_packet_blocks.specs.FlagOctets.{flags_of_octets};
@@ -20,7 +22,6 @@ pub enum Asked {
 }
 
 // Whether a header is that of a response with the LLID.
-#[tactic(auto, unfolding(crate::specs::Asked::is_response))]
 pub(crate) fn answers(head: PacketHead) -> bool
     ensures { result ≡ is_response head }
 {
@@ -28,7 +29,6 @@ pub(crate) fn answers(head: PacketHead) -> bool
 }
 
 // Whether a response is the ACK of a number.
-#[tactic(auto, unfolding(crate::specs::Asked::is_ack))]
 pub(crate) fn acknowledges(head: PacketHead, number: u8) -> bool
     ensures { result ≡ is_ack head number }
 {
@@ -55,7 +55,6 @@ pub(crate) fn asked_by(response: &Plain, number: u8, blocks: u8) -> Asked
 }
 
 // What the flags of a selective retry ask for.
-#[tactic(auto, unfolding(crate::specs::Asked::asked_by_flags))]
 fn asked_by_octets(response: &Plain, blocks: u8) -> Asked
     requires { blocks ≤ 127 }
     ensures asked { result ≡ asked_by_flags blocks (flags_of_octets response.now.octets) }
@@ -85,7 +84,6 @@ fn misses_a_block(flags: &Flags, blocks: usize) -> bool
 }
 
 // As many flags, true for each of so many blocks whose flag is false.
-#[tactic(auto, unfolding(crate::specs::Asked::wanted_flags))]
 fn wanted(flags: &Flags, blocks: usize) -> Flags
     requires { blocks ≤ length flags.now }
     ensures flags { result ≡ wanted_flags blocks flags.now }

@@ -16,14 +16,13 @@ pub struct Inbound {
 }
 
 impl Model for Inbound {
-    ghost use Rattle.p25_delivery.specs.Halves.{IncomingParts};
+    ghost use Rattle.p25_delivery.specs.Halves.{Roomy, Incoming};
 
-    ghost Value = { IncomingParts };
+    ghost Value = { Roomy Incoming };
 
-    ghost use Rattle.p25_delivery.specs.SoundHalves.{IsIncoming};
-    ghost use Rattle.p25_delivery.specs.HalvesInside.{incoming_of};
+    ghost use Rattle.p25_delivery.specs.SoundHalves.{IsIncoming, incoming_of};
 
-    ghost view = { λ i. record { half = incoming_of i; spare = i.received.spare } };
+    ghost view = { λ i. record { state = incoming_of i; spare = i.received.spare } };
 
     ghost invariant = { λ i. IsIncoming (incoming_of i) };
 }
@@ -35,7 +34,7 @@ impl Inbound {
 
     /// Answers a half before the first message. It takes no memory.
     pub fn new(alloc: Global) -> Inbound
-        ensures { result.half ≡ first_incoming }
+        ensures { result.state ≡ first_incoming }
     {
         Inbound {
             receiver: Receiver::new(),
@@ -45,7 +44,7 @@ impl Inbound {
 
     /// Answers the messages that were delivered to it, in order.
     pub fn received(&self) -> &MessageList
-        ensures { result.now.list ≡ self.now.half.received }
+        ensures { result.now.list ≡ self.now.state.received }
     {
         &self.received
     }
@@ -55,7 +54,7 @@ impl Inbound {
     pub fn reserve(&mut self, calls: u32) -> Result<(), AllocError>
         requires some { 0 < calls }
         requires most { calls ≤ 16 }
-        ensures half { self.new.half ≡ self.old.half }
+        ensures state { self.new.state ≡ self.old.state }
         ensures spare { self.old.spare ≤ self.new.spare }
         ensures ok { OnOk result (calls ≤ self.new.spare) }
         ensures err { OnErr result (self.old.spare < calls) }
@@ -68,8 +67,8 @@ impl Inbound {
     #[tactic(auto, unfolding(crate::specs::HalfRules::after_data))]
     pub fn hear(&mut self, packet: &Packet) -> (StepKind, Option<Packet>)
         requires { 0 < self.old.spare }
-        ensures half { self.new.half ≡ (after_data self.old.half (receiver_heard self.old.half.receiver packet.now)).0 }
-        ensures answer { result ≡ (after_data self.old.half (receiver_heard self.old.half.receiver packet.now)).1 }
+        ensures state { self.new.state ≡ (after_data self.old.state (receiver_heard self.old.state.receiver packet.now)).0 }
+        ensures answer { result ≡ (after_data self.old.state (receiver_heard self.old.state.receiver packet.now)).1 }
         ensures sendable { IfSome result.1 IsSendable }
         ensures spare { self.old.spare ≤ self.new.spare + 1 }
     {

@@ -15,7 +15,7 @@ pub(crate) struct Kept {
 
 impl Model for Kept {
     ghost use Rattle.std.specs.Prelude.{◌<◌, length};
-    ghost use Rattle.p25_delivery.specs.ReceiverState.{Keeping};
+    ghost use Rattle.p25_delivery.specs.Halves.{Keeping};
 
     ghost Value = { Keeping };
 

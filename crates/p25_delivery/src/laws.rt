@@ -8,9 +8,7 @@ ghost use Rattle.p25_delivery.specs.Delivery.{Happening, Opening_again, first_de
 ghost use Rattle.p25_delivery.specs.declared.step_kind.StepKind.TheVariants.{Reopened};
 ghost use Rattle.p25_delivery.specs.Clean.{IsCleanRun};
 ghost use Rattle.p25_delivery.specs.Orderly.{AreCounted, AreOrderly};
-ghost use Rattle.p25_delivery.specs.SenderState.{Sending, IsSending};
-ghost use Rattle.p25_delivery.specs.ReceiverState.{Receiving};
-ghost use Rattle.p25_delivery.specs.declared.sender_state.Outstanding.TheVariants.{Nothing};
+ghost use Rattle.p25_delivery.specs.Halves.{Sending, IsSending, Receiving, Nothing};
 ghost use Rattle.p25_delivery.specs.AtOnce.{DeliversAtOnce, OpensAtOnce};
 ghost use Rattle.p25_delivery.specs.Facts.{DeliveryFacts};
 

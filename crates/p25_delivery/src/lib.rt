@@ -24,21 +24,17 @@ mod asked;
 mod inbound;
 mod kept;
 pub mod laws;
-mod mark;
 mod message_octets;
 mod outbound;
 mod receiver;
 mod sender;
-mod sender_state;
 mod sent;
 mod step_kind;
 
 pub use inbound::Inbound;
-pub use mark::Mark;
-pub use outbound::Outbound;
+pub use outbound::{Mark, Outbound};
 pub use receiver::{Heard, Receiver};
-pub use sender::{Offer, Reopen, Resend, Sender, SenderHeard};
-pub use sender_state::Outstanding;
+pub use sender::{Offer, Outstanding, Reopen, Resend, Sender, SenderHeard};
 pub use step_kind::{StepKind, Way};
 
 /// The network access code that both stations use.

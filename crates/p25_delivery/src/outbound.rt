@@ -1,7 +1,8 @@
+#![tactic(auto, unfolding(crate::specs::HalfRules::after_offer, crate::specs::HalfRules::after_timeout, crate::specs::HalfRules::after_answer))]
+
 ghost use Rattle.std.specs.Prelude.{◌≡◌, ◌+◌, ◌<◌, ◌≤◌, length, OnOk, OnErr, IfSome};
 ghost use Rattle.p25_packet_blocks.specs.Sendable.{IsSendable};
 
-use crate::mark::Mark;
 use crate::sender::{Offer, Reopen, Resend, Sender, SenderHeard};
 use crate::step_kind::{StepKind, Way};
 use p25_bits::laws::octets_fit;
@@ -9,6 +10,17 @@ use p25_messages::{Message, MessageList};
 use p25_packet_blocks::Packet;
 use std::alloc::{AllocError, Global};
 use std::marker::Model;
+
+/// The end of a session: how many messages were sent, delivered and acknowledged up to it.
+#[derive(Clone, Copy, Debug, PartialEq, Eq)]
+pub struct Mark {
+    /// How many messages were sent.
+    pub sent: u64,
+    /// How many messages were delivered.
+    pub delivered: u64,
+    /// How many messages were acknowledged.
+    pub acknowledged: u64,
+}
 
 /// The half of a station that sends: its sender, the messages that it sent, how many of them were acknowledged, and the ends
 /// of their sessions before the present one.
@@ -24,14 +36,13 @@ pub struct Outbound {
 
 impl Model for Outbound {
     ghost use Rattle.std.specs.Prelude.{◌-◌, min, vec_len, vec_capacity};
-    ghost use Rattle.p25_delivery.specs.Halves.{OutgoingParts};
+    ghost use Rattle.p25_delivery.specs.Halves.{Roomy, Outgoing};
 
-    ghost Value = { OutgoingParts };
+    ghost Value = { Roomy Outgoing };
 
-    ghost use Rattle.p25_delivery.specs.SoundHalves.{IsOutgoing};
-    ghost use Rattle.p25_delivery.specs.HalvesInside.{outgoing_of, outgoing_spare};
+    ghost use Rattle.p25_delivery.specs.SoundHalves.{IsOutgoing, outgoing_of, outgoing_spare};
 
-    ghost view = { λ o. record { half = outgoing_of o; spare = outgoing_spare o } };
+    ghost view = { λ o. record { state = outgoing_of o; spare = outgoing_spare o } };
 
     ghost invariant = { λ o. IsOutgoing (outgoing_of o) };
 }
@@ -41,7 +52,7 @@ impl Outbound {
 
     /// Answers a half before its first message. It takes no memory.
     pub fn new(alloc: Global) -> Outbound
-        ensures { result.half ≡ first_outgoing }
+        ensures { result.state ≡ first_outgoing }
     {
         Outbound {
             sender: Sender::new(),
@@ -53,21 +64,21 @@ impl Outbound {
 
     /// Answers the messages that it sent, in order.
     pub fn sent(&self) -> &MessageList
-        ensures { result.now.list ≡ self.now.half.sent }
+        ensures { result.now.list ≡ self.now.state.sent }
     {
         &self.sent
     }
 
     /// Answers how many of its messages were acknowledged.
     pub fn acknowledged(&self) -> u64
-        ensures { result ≡ self.now.half.acknowledged }
+        ensures { result ≡ self.now.state.acknowledged }
     {
         self.acknowledged
     }
 
     /// Answers the number of sessions of its messages: one more than the number of messages that were given up.
     pub fn sessions(&self) -> u64
-        ensures { result ≡ length self.now.half.marks + 1 }
+        ensures { result ≡ length self.now.state.marks + 1 }
     {
         self.marks.len() as u64 + 1
     }
@@ -77,7 +88,7 @@ impl Outbound {
     pub fn reserve(&mut self, calls: u32) -> Result<(), AllocError>
         requires some { 0 < calls }
         requires most { calls ≤ 16 }
-        ensures half { self.new.half ≡ self.old.half }
+        ensures state { self.new.state ≡ self.old.state }
         ensures spare { self.old.spare ≤ self.new.spare }
         ensures ok { OnOk result (calls ≤ self.new.spare) }
         ensures err { OnErr result (self.old.spare < calls) }
@@ -93,11 +104,10 @@ impl Outbound {
 
     /// Answers what comes of a message that is offered to its sender: where nothing is outstanding it is taken, and its packet is
     /// to be sent. There is room for a call.
-    #[tactic(auto, unfolding(crate::specs::HalfRules::after_offer))]
     pub fn offer(&mut self, message: &Message) -> (StepKind, Option<Packet>)
         requires { 0 < self.old.spare }
-        ensures half { self.new.half ≡ (after_offer self.old.half message.now (offered self.old.half.sender message.now)).0 }
-        ensures answer { result ≡ (after_offer self.old.half message.now (offered self.old.half.sender message.now)).1 }
+        ensures state { self.new.state ≡ (after_offer self.old.state message.now (offered self.old.state.sender message.now)).0 }
+        ensures answer { result ≡ (after_offer self.old.state message.now (offered self.old.state.sender message.now)).1 }
         ensures sendable { IfSome result.1 IsSendable }
         ensures spare { self.old.spare ≤ self.new.spare + 1 }
     {
@@ -118,10 +128,9 @@ impl Outbound {
 
     /// Answers what comes of a timeout: what is outstanding is to be sent again, or the sender is down once 16 transmissions were
     /// made. It needs no room.
-    #[tactic(auto, unfolding(crate::specs::HalfRules::after_timeout))]
     pub fn time_out(&mut self) -> (StepKind, Option<Packet>)
-        ensures half { self.new.half ≡ (after_timeout self.old.half (timed_out self.old.half.sender)).0 }
-        ensures answer { result ≡ (after_timeout self.old.half (timed_out self.old.half.sender)).1 }
+        ensures state { self.new.state ≡ (after_timeout self.old.state (timed_out self.old.state.sender)).0 }
+        ensures answer { result ≡ (after_timeout self.old.state (timed_out self.old.state.sender)).1 }
         ensures sendable { IfSome result.1 IsSendable }
         ensures spare { self.new.spare ≡ self.old.spare }
     {
@@ -141,10 +150,10 @@ impl Outbound {
     #[tactic(auto, unfolding(crate::specs::HalfRules::after_reopening))]
     pub fn reopen(&mut self, delivered: u64) -> (StepKind, Option<Packet>)
         requires { 0 < self.old.spare }
-        ensures half { self.new.half ≡
-            (after_reopening self.old.half delivered (is_opening self.old.half.sender.outstanding) (reopened self.old.half.sender)).0 }
+        ensures state { self.new.state ≡
+            (after_reopening self.old.state delivered (is_opening self.old.state.sender.outstanding) (reopened self.old.state.sender)).0 }
         ensures answer { result ≡
-            (after_reopening self.old.half delivered (is_opening self.old.half.sender.outstanding) (reopened self.old.half.sender)).1 }
+            (after_reopening self.old.state delivered (is_opening self.old.state.sender.outstanding) (reopened self.old.state.sender)).1 }
         ensures sendable { IfSome result.1 IsSendable }
         ensures spare { self.old.spare ≤ self.new.spare + 1 }
     {
@@ -167,10 +176,9 @@ impl Outbound {
     }
 
     /// Answers what comes of a packet that its sender hears. It needs no room.
-    #[tactic(auto, unfolding(crate::specs::HalfRules::after_answer))]
     pub fn hear(&mut self, packet: &Packet) -> (StepKind, Option<Packet>)
-        ensures half { self.new.half ≡ (after_answer self.old.half (sender_heard self.old.half.sender packet.now)).0 }
-        ensures answer { result ≡ (after_answer self.old.half (sender_heard self.old.half.sender packet.now)).1 }
+        ensures state { self.new.state ≡ (after_answer self.old.state (sender_heard self.old.state.sender packet.now)).0 }
+        ensures answer { result ≡ (after_answer self.old.state (sender_heard self.old.state.sender packet.now)).1 }
         ensures sendable { IfSome result.1 IsSendable }
         ensures spare { self.new.spare ≡ self.old.spare }
     {

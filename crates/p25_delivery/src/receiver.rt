@@ -1,3 +1,5 @@
+#![tactic(auto, unfolding(crate::specs::ReceiverRules::opening_heard, crate::specs::ReceiverRules::data_heard, crate::specs::ReceiverRules::finished))]
+
 ghost use Rattle.std.specs.Prelude.{◌≡◌, ◌<◌, IfNone};
 
 use crate::kept::Kept;
@@ -55,7 +57,7 @@ pub struct Receiver {
 
 impl Model for Receiver {
     ghost use Rattle.std.specs.Prelude.{◌<◌};
-    ghost use Rattle.p25_delivery.specs.ReceiverState.{Receiving};
+    ghost use Rattle.p25_delivery.specs.Halves.{Receiving};
 
     ghost Value = { Receiving };
 
@@ -65,7 +67,8 @@ impl Model for Receiver {
 }
 
 impl Receiver {
-    ghost use Rattle.p25_delivery.specs.ReceiverRules.{first_receiving, keeping_for, finished, filled, opening_heard, data_heard, receiver_heard};
+    ghost use Rattle.p25_delivery.specs.Halves.{first_receiving};
+    ghost use Rattle.p25_delivery.specs.ReceiverRules.{keeping_for, finished, filled, opening_heard, data_heard, receiver_heard};
 
     /// Answers a receiver before its first message: V(R) is 7.
     pub fn new() -> Receiver
@@ -97,7 +100,6 @@ impl Receiver {
     }
 
     // Takes a packet with Syn.
-    #[tactic(auto, unfolding(crate::specs::ReceiverRules::opening_heard))]
     fn hear_opening(&mut self, head: PacketHead) -> Heard
         ensures { (self.new, result) ≡ opening_heard self.old head }
     {
@@ -114,7 +116,6 @@ impl Receiver {
     }
 
     // Takes a packet without Syn.
-    #[tactic(auto, unfolding(crate::specs::ReceiverRules::data_heard))]
     fn hear_data(&mut self, packet: &Confirmed) -> Heard
         ensures { (self.new, result) ≡ data_heard self.old packet.now }
     {
@@ -183,7 +184,6 @@ impl Receiver {
     }
 
     // Delivers the message whose blocks are all there, or refuses it.
-    #[tactic(auto, unfolding(crate::specs::ReceiverRules::finished))]
     fn finish(&mut self, number: u8, message: Option<Message>) -> Heard
         requires { number < 8 }
         ensures { (self.new, result) ≡ finished self.old number message }

@@ -1,12 +1,24 @@
+#![tactic(auto, unfolding(crate::specs::Halves::IsNumbered, crate::specs::SenderRules::resent, crate::specs::SenderRules::retried))]
+
 ghost use Rattle.std.specs.Prelude.{◌≡◌, ◌<◌, if◌then◌else◌};
 
 use crate::asked::{Asked, acknowledges, answers, asked_by};
 use crate::message_octets::blocks_for;
-use crate::sender_state::Outstanding;
 use crate::sent;
 use p25_messages::Message;
 use p25_packet_blocks::{Flags, Packet, Plain};
 use std::marker::Model;
+
+/// What a sender waits for an answer to.
+#[derive(Drop)]
+pub enum Outstanding {
+    /// Nothing: a message may be offered.
+    Nothing,
+    /// A message.
+    Message(Message),
+    /// The packet that opens the session anew, by its number.
+    Opening(u8),
+}
 
 /// The answer to a message that is offered.
 #[derive(Drop)]
@@ -92,7 +104,7 @@ pub struct Sender {
 }
 
 impl Model for Sender {
-    ghost use Rattle.p25_delivery.specs.SenderState.{Sending, IsSending};
+    ghost use Rattle.p25_delivery.specs.Halves.{Sending, IsSending};
 
     ghost Value = { Sending };
 
@@ -102,10 +114,10 @@ impl Model for Sender {
 }
 
 impl Sender {
-    ghost use Rattle.p25_delivery.specs.SenderRules.{first_sending, sending_after, tried, fallen, may_send, offered_beside, offered, resent, timed_out, repeated, retried, response_heard, sender_heard, reopened, is_opening};
+    ghost use Rattle.p25_delivery.specs.Halves.{first_sending};
+    ghost use Rattle.p25_delivery.specs.SenderRules.{sending_after, tried, fallen, may_send, offered_beside, offered, resent, timed_out, repeated, retried, response_heard, sender_heard, reopened, is_opening};
 
     /// Answers a sender before its first message, whose number is 0.
-    #[tactic(auto, unfolding(crate::specs::SenderState::IsNumbered))]
     pub fn new() -> Sender
         ensures { result ≡ first_sending }
     {
@@ -135,7 +147,7 @@ impl Sender {
 
     /// Answers the packet of what is outstanding, to be sent again whole. Down comes exactly where the sender is down or
     /// 16 transmissions were made, and then it is down; Idle comes exactly where it is not down and nothing is outstanding.
-    #[tactic(auto, unfolding(crate::specs::SenderRules::timed_out, crate::specs::SenderRules::timed_out_with, crate::specs::SenderState::IsNumbered))]
+    #[tactic(auto, unfolding(crate::specs::SenderRules::timed_out, crate::specs::SenderRules::timed_out_with, crate::specs::Halves::IsNumbered))]
     pub fn timeout(&mut self) -> Resend
         ensures state { self.new ≡ (timed_out self.old).0 }
         ensures answer { result ≡ (timed_out self.old).1 }
@@ -174,7 +186,7 @@ impl Sender {
 
     /// Opens the session again, and answers the opening packet: numbered four more than the message that is given up, or the
     /// one that was sent before. Up comes exactly where the sender is not down, and then nothing changes.
-    #[tactic(auto, unfolding(crate::specs::SenderRules::reopened, crate::specs::SenderRules::opening_number, crate::specs::SenderState::IsNumbered))]
+    #[tactic(auto, unfolding(crate::specs::SenderRules::reopened, crate::specs::SenderRules::opening_number, crate::specs::Halves::IsNumbered))]
     pub fn reopen(&mut self) -> Reopen
         ensures state { self.new ≡ (reopened self.old).0 }
         ensures answer { result ≡ (reopened self.old).1 }
@@ -203,7 +215,7 @@ impl Sender {
     }
 
     // Makes a message outstanding.
-    #[tactic(auto, unfolding(crate::specs::SenderRules::offered_beside, crate::specs::SenderState::IsNumbered))]
+    #[tactic(auto, unfolding(crate::specs::SenderRules::offered_beside, crate::specs::Halves::IsNumbered))]
     fn take(&mut self, message: &Message) -> Offer
         ensures { (self.new, result) ≡ offered_beside Outstanding.Nothing self.old message.now }
     {
@@ -232,7 +244,6 @@ impl Sender {
     }
 
     // Sends a packet again at a timeout.
-    #[tactic(auto, unfolding(crate::specs::SenderRules::resent))]
     fn resend(&mut self, number: u8, packet: Packet) -> Resend
         ensures { (self.new, result) ≡ resent self.old number packet }
     {
@@ -247,7 +258,7 @@ impl Sender {
     }
 
     // Takes a response.
-    #[tactic(auto, unfolding(crate::specs::SenderRules::response_heard, crate::specs::SenderRules::answered, crate::specs::SenderState::IsNumbered))]
+    #[tactic(auto, unfolding(crate::specs::SenderRules::response_heard, crate::specs::SenderRules::answered, crate::specs::Halves::IsNumbered))]
     fn hear_response(&mut self, response: &Plain) -> SenderHeard
         ensures { (self.new, result) ≡ response_heard self.old.outstanding self.old response.now }
     {
@@ -298,7 +309,6 @@ impl Sender {
     }
 
     // Sends some blocks of the message again.
-    #[tactic(auto, unfolding(crate::specs::SenderRules::retried))]
     fn retry(&mut self, wanted: Flags, packet: Packet) -> SenderHeard
         ensures { (self.new, result) ≡ retried self.old wanted packet }
     {
@@ -314,7 +324,6 @@ impl Sender {
     }
 
     // Has nothing outstanding any more.
-    #[tactic(auto, unfolding(crate::specs::SenderState::IsNumbered))]
     fn go_on_after(&mut self, number: u8)
         requires { number < 8 }
         ensures { self.new ≡ sending_after number }

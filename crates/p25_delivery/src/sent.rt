@@ -1,4 +1,5 @@
 //! The packets that stations send.
+#![tactic(auto, unfolding(crate::specs::SentPackets::opening_packet, crate::specs::SentPackets::short_response, crate::specs::SentPackets::retry_packet))]
 
 ghost use Rattle.std.specs.Prelude.{◌≡◌, ◌<◌, ◌≤◌, ◌⊎◌, length};
 ghost use Rattle.p25_delivery.specs.MessageBlocks.{block_count};
@@ -54,7 +55,6 @@ pub(crate) fn blocks(number: u8, message: &Message, wanted: &Flags) -> Packet
 }
 
 // The packet that opens the session anew.
-#[tactic(auto, unfolding(crate::specs::SentPackets::opening_packet))]
 pub(crate) fn opening(number: u8) -> Packet
     requires { number < 8 }
     ensures { result ≡ opening_packet number }
@@ -63,7 +63,6 @@ pub(crate) fn opening(number: u8) -> Packet
 }
 
 // A response of no blocks.
-#[tactic(auto, unfolding(crate::specs::SentPackets::short_response))]
 fn short(class: u8, kind: u8, status: u8) -> Packet
     requires class { class < 4 }
     requires kind { kind < 8 }
@@ -99,7 +98,6 @@ pub(crate) fn order_nack(status: u8) -> Packet
 }
 
 // Selective retry, with the flags of the blocks that have come.
-#[tactic(auto, unfolding(crate::specs::SentPackets::retry_packet))]
 pub(crate) fn retry(status: u8, flags: &Flags) -> Packet
     requires { status < 8 }
     ensures { result ≡ retry_packet status flags.now }

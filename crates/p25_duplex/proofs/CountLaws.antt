@@ -1,6 +1,5 @@
 -- None is counted exactly where a run is clean, since each step of the duplex world counts its own false pass.
 use Rattle.std.proofs.Common.{◌≡◌, ℕ, Bool, List, refl}
-use Rattle.p25_stations.specs.Steps.{counted_when}
 use Rattle.p25_stations.proofs.CountedLaws.{Counts, none-counted, none-from}
 use Rattle.p25_duplex.specs.declared.event.DuplexEvent.{DuplexEvent}
 use Rattle.p25_duplex.specs.declared.event.DuplexStep.{DuplexStep}

@@ -6,12 +6,10 @@ use Rattle.p25_packet_blocks.specs.declared.packet.Packet.{Packet}
 use Rattle.p25_packet_blocks.specs.declared.packet.Packet.TheVariants.{Confirmed, Plain}
 use Rattle.p25_packet_blocks.specs.declared.head.PacketHead.{PacketHead}
 use Rattle.p25_packet_blocks.specs.Heads.{head_format, confirmed_head, response_head, opening_head}
-use Rattle.p25_packet_blocks.specs.Whole.{packet_head}
 use Rattle.p25_delivery.specs.Places.{held_flags}
 use Rattle.p25_delivery.specs.SentPackets.{message_packet, blocks_packet, opening_packet, short_response, ack_packet, retry_packet}
-use Rattle.p25_delivery.specs.ReceiverState.{Receiving}
-use Rattle.p25_delivery.specs.declared.sender_state.Outstanding.{Outstanding}
-use Rattle.p25_delivery.specs.declared.sender_state.Outstanding.TheVariants.{Nothing, Message, Opening}
+use Rattle.p25_delivery.specs.declared.sender.Outstanding.{Outstanding}
+use Rattle.p25_delivery.specs.declared.sender.Outstanding.TheVariants.{Nothing, Message, Opening}
 use Rattle.p25_delivery.specs.Delivery.{Delivery, Session}
 use Rattle.p25_delivery.specs.Clean.{IsTrueTo}
 use Rattle.p25_delivery.specs.Facts.{IsDataOf, IsNewestData, SessionFacts, FactsBy, DeliveryFacts}

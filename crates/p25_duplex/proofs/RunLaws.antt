@@ -1,9 +1,9 @@
 -- The deliveries of both sides' messages in a run without a false pass: one event after the other. So they keep what a clean delivery keeps.
-use Rattle.std.proofs.Common.{◌≡◌, Bool, false, List, [], ◌∷◌, Option, Some, None, refl, ap, sym, subst}
+use Rattle.std.proofs.Common.{◌≡◌, false, List, [], ◌∷◌, Option, Some, None, refl, ap, sym, subst}
 use Rattle.std.specs.Prelude.{IfSome}
 use Rattle.p25_packet_blocks.specs.declared.packet.Packet.{Packet}
 use Rattle.p25_delivery.specs.Runs.{run_by, steps_by, EachIs}
-use Rattle.p25_delivery.specs.declared.mark.Mark.{Mark}
+use Rattle.p25_delivery.specs.declared.outbound.Mark.{Mark}
 use Rattle.p25_delivery.specs.Delivery.{Delivery, Session, first_delivery, Happening, newest_after, delivery_run, first_mark, session_between, sessions_from, sessions_of}
 use Rattle.p25_delivery.specs.Clean.{IsCleanRun}
 use Rattle.p25_delivery.specs.Orderly.{AreOrderly}
@@ -17,7 +17,7 @@ use Rattle.p25_duplex.specs.Sides.{other_side}
 use Rattle.p25_duplex.specs.DuplexState.{DuplexState, first_station, first_duplex, station_at, delivery_at}
 use Rattle.p25_duplex.specs.DuplexSteps.{side_of, station_step, after_step, duplex_step}
 use Rattle.p25_duplex.specs.DuplexRuns.{IsDuplexEvent, AreDuplexEvents, duplex_run, duplex_steps, IsCleanDuplex, data_in, answer_in, newest_in, delivery_after}
-use Rattle.p25_duplex.proofs.TwoDeliveriesLaws.{IsRunDelivery, first-run, Newest, delivering, IsDeliveryOf, AreDeliveries, followed, AreFollowed, steps}
+use Rattle.p25_duplex.proofs.TwoDeliveriesLaws.{IsRunDelivery, first-run, Newest, IsDeliveryOf, AreDeliveries, followed, AreFollowed, steps}
 
 -- the deliveries of both sides' messages
 abbrev AreDeliveriesIn : DuplexState → Newest → Newest → Type 0

@@ -1,16 +1,10 @@
 -- Runs of the duplex world: its state and its steps after a list of events, and the delivery of the messages of a side.
 use Rattle.std.specs.Prelude.{◌≡◌, false, List, [], ◌∷◌, Option, Some, None, if◌then◌else◌}
-use Rattle.p25_packet_blocks.specs.declared.packet.Packet.{Packet}
 use Rattle.p25_delivery.specs.SoundHalves.{IsMessage}
 use Rattle.p25_delivery.specs.Runs.{run_by, steps_by, EachIs}
 use Rattle.p25_delivery.specs.Delivery.{Delivery, newest_after}
-use Rattle.p25_duplex.specs.declared.side.Side.{Side}
-use Rattle.p25_duplex.specs.declared.event.DuplexEvent.{DuplexEvent}
-use Rattle.p25_duplex.specs.declared.event.DuplexEvent.TheVariants.{Send}
-use Rattle.p25_duplex.specs.declared.event.DuplexStep.{DuplexStep}
-use Rattle.p25_duplex.specs.Sides.{other_side}
-use Rattle.p25_duplex.specs.DuplexState.{DuplexState, first_duplex, station_at, delivery_at}
-use Rattle.p25_duplex.specs.DuplexSteps.{is_answer, duplex_step}
+pub use Rattle.p25_duplex.specs.DuplexState.{DuplexState, first_duplex, station_at, delivery_at, Packet, Side, other_side}
+pub use Rattle.p25_duplex.specs.DuplexSteps.{is_answer, duplex_step, DuplexEvent, Send, DuplexStep}
 
 -- what every event keeps: what is sent is a message of at most 2,028 octets
 unfoldable pub IsDuplexEvent : DuplexEvent → Type 0

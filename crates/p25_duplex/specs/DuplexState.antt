@@ -1,11 +1,9 @@
 -- What the duplex world keeps: two stations, each with a half that sends and a half that receives.
 use Rattle.std.specs.Prelude.{ℕ, Option, None}
-use Rattle.p25_packet_blocks.specs.declared.packet.Packet.{Packet}
+pub use Rattle.p25_packet_blocks.specs.declared.packet.Packet.{Packet}
 use Rattle.p25_delivery.specs.Halves.{Outgoing, Incoming, first_outgoing, first_incoming}
 use Rattle.p25_delivery.specs.Delivery.{Delivery}
-use Rattle.p25_duplex.specs.declared.side.Side.{Side}
-use Rattle.p25_duplex.specs.declared.side.Side.TheVariants.{A, B}
-use Rattle.p25_duplex.specs.Sides.{other_side}
+pub use Rattle.p25_duplex.specs.Sides.{other_side, Side, A, B}
 
 -- a station: both halves, and the newest transmission of its direction, which is data or an answer
 pub record StationState : Type 0 where

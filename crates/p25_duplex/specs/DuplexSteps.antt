@@ -1,20 +1,13 @@
 -- What each event makes of the duplex world, and the step that it is.
 use Rattle.std.specs.Prelude.{Bool, true, false, eqb, Result, Ok, Err}
-use Rattle.p25_packet_blocks.specs.declared.packet.Packet.{Packet}
 use Rattle.p25_packet_blocks.specs.Whole.{packet_head}
 use Rattle.p25_packet_blocks.specs.Heads.{head_format}
-use Rattle.p25_delivery.specs.declared.step_kind.Way.TheVariants.{Packets}
-use Rattle.p25_delivery.specs.declared.step_kind.StepKind.{StepKind}
 use Rattle.p25_delivery.specs.Delivery.{Delivery, Offering, Time_up, Opening_again, Data_heard, Answer_heard, happens}
 use Rattle.p25_stations.specs.declared.step.Step.{Step}
-use Rattle.p25_stations.specs.Deliveries.{delivery_of}
-use Rattle.p25_stations.specs.Steps.{counted_when}
-use Rattle.p25_duplex.specs.declared.side.Side.{Side}
-use Rattle.p25_duplex.specs.declared.event.DuplexEvent.{DuplexEvent}
-use Rattle.p25_duplex.specs.declared.event.DuplexEvent.TheVariants.{Send, Timeout, Reopen, Deliver}
-use Rattle.p25_duplex.specs.declared.event.DuplexStep.{DuplexStep}
-use Rattle.p25_duplex.specs.Sides.{other_side}
-use Rattle.p25_duplex.specs.DuplexState.{StationState, DuplexState, station_at, with_station, delivery_between}
+use Rattle.p25_stations.specs.Steps.{counted_when, Packet, Packets, StepKind, delivery_of}
+pub use Rattle.p25_duplex.specs.declared.event.DuplexEvent.{DuplexEvent, TheVariants.{Send, Timeout, Reopen, Deliver}}
+pub use Rattle.p25_duplex.specs.declared.event.DuplexStep.{DuplexStep}
+use Rattle.p25_duplex.specs.DuplexState.{StationState, DuplexState, station_at, with_station, delivery_between, Side, other_side}
 
 -- a station after a call of its half that sends, which happens at the delivery of its own messages: the half after it, and the
 -- newest transmission of the station's direction

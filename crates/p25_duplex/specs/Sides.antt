@@ -1,7 +1,6 @@
 -- The two stations of a duplex world.
 use Rattle.std.specs.Prelude.{ℕ, List, codes}
-use Rattle.p25_duplex.specs.declared.side.Side.{Side}
-use Rattle.p25_duplex.specs.declared.side.Side.TheVariants.{A, B}
+pub use Rattle.p25_duplex.specs.declared.side.Side.{Side, TheVariants.{A, B}}
 
 -- the other station
 abbrev pub other_side : Side → Side

@@ -6,10 +6,7 @@ ghost use Rattle.p25_delivery.specs.Delivery.{Happening, first_delivery, deliver
 ghost use Rattle.p25_delivery.specs.Clean.{IsCleanRun};
 ghost use Rattle.p25_delivery.specs.Orderly.{AreOrderly};
 ghost use Rattle.p25_delivery.specs.Facts.{DeliveryFacts};
-ghost use Rattle.p25_duplex.specs.declared.side.Side.{Side as side_type};
-ghost use Rattle.p25_duplex.specs.declared.event.DuplexEvent.{DuplexEvent as event_type};
-ghost use Rattle.p25_duplex.specs.DuplexState.{first_duplex, station_at, delivery_at};
-ghost use Rattle.p25_duplex.specs.DuplexRuns.{AreDuplexEvents, IsCleanDuplex, duplex_run, data_in, answer_in, delivery_after};
+ghost use Rattle.p25_duplex.specs.DuplexRuns.{AreDuplexEvents, IsCleanDuplex, duplex_run, data_in, answer_in, delivery_after, Side as side_type, first_duplex, station_at, delivery_at, DuplexEvent as event_type};
 
 /// **Theorem.** Its clause says that after every list of events without a false pass each session of each side's messages is
 /// orderly: what was delivered is the beginning of what was sent, each message once, every message that was acknowledged was

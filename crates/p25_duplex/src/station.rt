@@ -17,13 +17,13 @@ pub(crate) struct Station {
 
 impl Model for Station {
     ghost use Rattle.std.specs.Prelude.{min};
-    ghost use Rattle.p25_stations.specs.WorldState.{Roomy};
+    ghost use Rattle.p25_delivery.specs.Halves.{Roomy};
     ghost use Rattle.p25_duplex.specs.DuplexState.{StationState};
 
     ghost Value = { Roomy StationState };
 
     ghost view = { λ t. record {
-      state = record { outbound = t.outbound.half; inbound = t.inbound.half; newest = t.newest };
+      state = record { outbound = t.outbound.state; inbound = t.inbound.state; newest = t.newest };
       spare = min t.outbound.spare t.inbound.spare;
     } };
 }
@@ -44,14 +44,14 @@ impl Station {
 
     // Answers its half that sends.
     pub(crate) fn outbound(&self) -> &Outbound
-        ensures { result.now.half ≡ self.now.state.outbound }
+        ensures { result.now.state ≡ self.now.state.outbound }
     {
         &self.outbound
     }
 
     // Answers its half that receives.
     pub(crate) fn inbound(&self) -> &Inbound
-        ensures { result.now.half ≡ self.now.state.inbound }
+        ensures { result.now.state ≡ self.now.state.inbound }
     {
         &self.inbound
     }

@@ -20,7 +20,7 @@ pub struct DuplexWorld {
 
 impl Model for DuplexWorld {
     ghost use Rattle.std.specs.Prelude.{min};
-    ghost use Rattle.p25_stations.specs.WorldState.{Roomy};
+    ghost use Rattle.p25_delivery.specs.Halves.{Roomy};
     ghost use Rattle.p25_duplex.specs.DuplexState.{DuplexState};
 
     ghost Value = { Roomy DuplexState };

@@ -6,8 +6,8 @@ use Rattle.p25_packet_blocks.specs.declared.packet.Packet.TheVariants.{Confirmed
 use Rattle.p25_packet_blocks.specs.ConfirmedParts.{ConfirmedParts}
 use Rattle.p25_packet_blocks.specs.Heads.{head_syn}
 use Rattle.p25_delivery.specs.SenderRules.{opening_number, is_opening}
-use Rattle.p25_delivery.specs.declared.sender_state.Outstanding.{Outstanding}
-use Rattle.p25_delivery.specs.declared.sender_state.Outstanding.TheVariants.{Nothing, Message, Opening}
+use Rattle.p25_delivery.specs.declared.sender.Outstanding.{Outstanding}
+use Rattle.p25_delivery.specs.declared.sender.Outstanding.TheVariants.{Nothing, Message, Opening}
 use Rattle.p25_delivery.specs.Delivery.{Session, Delivery, present_session, first_number}
 use Rattle.p25_delivery.specs.Clean.{IsHeardOf}
 use Rattle.p25_delivery.specs.Facts.{IsDataOf, OpeningFacts, SentBy, SessionFacts, FactsBy}

@@ -4,9 +4,9 @@ use Rattle.std.proofs.Common.{◌≡◌, ◌≢◌, ℕ, ◌+◌, true, false, [
 use Rattle.std.specs.Prelude.{nat_lt}
 use Rattle.std.proofs.lemmas.Bool.{cond-true, cond-false}
 use Rattle.std.proofs.lemmas.Bool.Decides.{nat_tests}
-use Rattle.p25_delivery.specs.declared.mark.Mark.{Mark}
-use Rattle.p25_delivery.specs.declared.sender_state.Outstanding.{Outstanding}
-use Rattle.p25_delivery.specs.declared.sender_state.Outstanding.TheVariants.{Nothing, Message, Opening}
+use Rattle.p25_delivery.specs.declared.outbound.Mark.{Mark}
+use Rattle.p25_delivery.specs.declared.sender.Outstanding.{Outstanding}
+use Rattle.p25_delivery.specs.declared.sender.Outstanding.TheVariants.{Nothing, Message, Opening}
 use Rattle.p25_delivery.specs.declared.step_kind.StepKind.{StepKind}
 use Rattle.p25_delivery.specs.declared.step_kind.StepKind.TheVariants.{Acknowledged, Delivered, SynHeard}
 use Rattle.p25_delivery.specs.Delivery.{Delivery, Session, present_mark, present_session}
@@ -15,7 +15,7 @@ use Rattle.p25_delivery.proofs.SessionLaws.{marked, IsDivided, divided-marked, p
 use Rattle.p25_delivery.proofs.PhaseLaws.{IsKept, orderly-divided}
 use Rattle.p25_stations.specs.declared.step.Step.{Step}
 use Rattle.p25_stations.specs.WorldState.{WorldState}
-use Rattle.p25_fragments.specs.declared.outstanding_part.OutstandingPart.{OutstandingPart}
+use Rattle.p25_fragments.specs.declared.long_world.OutstandingPart.{OutstandingPart}
 use Rattle.p25_fragments.specs.declared.long_step.Then.{Then}
 use Rattle.p25_fragments.specs.declared.long_step.Then.TheVariants.{Plain, Refused}
 use Rattle.p25_fragments.specs.declared.long_step.LongStep.{LongStep}

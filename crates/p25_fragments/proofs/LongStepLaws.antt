@@ -6,7 +6,7 @@ use Rattle.std.proofs.lemmas.Bool.{cond-true, cond-false}
 use Rattle.std.proofs.lemmas.Bool.Decides.{nat_tests}
 use Rattle.std.proofs.lemmas.List.{length-take}
 use Rattle.p25_messages.specs.LongMessages.{part_count, part_of}
-use Rattle.p25_delivery.specs.declared.sender_state.Outstanding.TheVariants.{Nothing, Message}
+use Rattle.p25_delivery.specs.declared.sender.Outstanding.TheVariants.{Nothing, Message}
 use Rattle.p25_delivery.specs.declared.step_kind.StepKind.{StepKind}
 use Rattle.p25_delivery.specs.declared.step_kind.StepKind.TheVariants.{Acknowledged, Delivered}
 use Rattle.p25_delivery.specs.Delivery.{Delivery, Session, present_session, first_number, Happening, Offering}
@@ -19,7 +19,7 @@ use Rattle.p25_stations.specs.declared.step.Event.TheVariants.{Send}
 use Rattle.p25_stations.specs.declared.step.Step.{Step}
 use Rattle.p25_stations.specs.WorldState.{WorldState}
 use Rattle.p25_stations.specs.Steps.{world_step}
-use Rattle.p25_fragments.specs.declared.outstanding_part.OutstandingPart.{OutstandingPart}
+use Rattle.p25_fragments.specs.declared.long_world.OutstandingPart.{OutstandingPart}
 use Rattle.p25_fragments.specs.declared.joiner.Joined.{Joined}
 use Rattle.p25_fragments.specs.declared.joiner.Joined.TheVariants.{Whole as JoinedWhole, Part as JoinedPart}
 use Rattle.p25_fragments.specs.declared.long_step.Then.{Then}

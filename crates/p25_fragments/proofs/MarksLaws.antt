@@ -4,9 +4,9 @@ use Rattle.std.proofs.Common.{◌≡◌, ℕ, ◌+◌, ◌⊎◌, inl, inr, Bool
 use Rattle.std.specs.Prelude.{nat_lt}
 use Rattle.p25_messages.specs.LongMessages.{part_count, part_of}
 use Rattle.p25_delivery.proofs.RunLaws.{run-keeps_all}
-use Rattle.p25_delivery.specs.SenderState.{Sending}
+use Rattle.p25_delivery.specs.Halves.{Sending}
 use Rattle.p25_delivery.specs.SenderRules.{offered}
-use Rattle.p25_delivery.specs.declared.mark.Mark.{Mark}
+use Rattle.p25_delivery.specs.declared.outbound.Mark.{Mark}
 use Rattle.p25_delivery.specs.declared.sender.Offer.{Offer}
 use Rattle.p25_delivery.specs.declared.sender.Offer.TheVariants.{Taken, Busy as OfferBusy, Down as DownAtOffer}
 use Rattle.p25_delivery.specs.declared.step_kind.StepKind.{StepKind}
@@ -19,7 +19,7 @@ use Rattle.p25_stations.specs.declared.step.Step.{Step}
 use Rattle.p25_stations.specs.WorldState.{WorldState}
 use Rattle.p25_stations.specs.Steps.{world_step}
 use Rattle.p25_stations.proofs.StepLaws.{Does, rests, does, step-does}
-use Rattle.p25_fragments.specs.declared.outstanding_part.OutstandingPart.{OutstandingPart}
+use Rattle.p25_fragments.specs.declared.long_world.OutstandingPart.{OutstandingPart}
 use Rattle.p25_fragments.specs.declared.joiner.Joined.{Joined}
 use Rattle.p25_fragments.specs.declared.joiner.Joined.TheVariants.{Whole as JoinedWhole, Part as JoinedPart, Refused as JoinedRefused}
 use Rattle.p25_fragments.specs.declared.long_step.LongEvent.{LongEvent}

@@ -1,11 +1,11 @@
 -- How the long messages of the present session match its delivery: by what is outstanding, and by whether it has arrived.
 use Rattle.std.proofs.Common.{◌≡◌, ℕ, ◌+◌, ◌<◌, ◌≤◌, List, [], ◌∷◌, ◌++◌, length, Option, Some, None, ap, sym, subst, ◌∙◌, arith, length-append, append-nil}
 use Rattle.p25_messages.specs.LongMessages.{part_count, part_of}
-use Rattle.p25_delivery.specs.declared.sender_state.Outstanding.{Outstanding}
-use Rattle.p25_delivery.specs.declared.sender_state.Outstanding.TheVariants.{Nothing, Message, Opening}
+use Rattle.p25_delivery.specs.declared.sender.Outstanding.{Outstanding}
+use Rattle.p25_delivery.specs.declared.sender.Outstanding.TheVariants.{Nothing, Message, Opening}
 use Rattle.p25_delivery.specs.Delivery.{Delivery, Session, empty_session, present_session}
 use Rattle.p25_delivery.specs.Orderly.{IsOrderly}
-use Rattle.p25_fragments.specs.declared.outstanding_part.OutstandingPart.{OutstandingPart}
+use Rattle.p25_fragments.specs.declared.long_world.OutstandingPart.{OutstandingPart}
 use Rattle.p25_fragments.specs.Joining.{Joining, first_joining}
 use Rattle.p25_fragments.proofs.JoinLaws.{joined_at}
 

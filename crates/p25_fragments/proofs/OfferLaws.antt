@@ -4,10 +4,10 @@ use Rattle.std.proofs.lemmas.Bool.{cond-true, cond-false}
 use Rattle.p25_messages.specs.LongMessages.{part_of}
 use Rattle.p25_delivery.specs.MessageBlocks.{block_count}
 use Rattle.p25_delivery.specs.SentPackets.{message_packet}
-use Rattle.p25_delivery.specs.SenderState.{Sending}
+use Rattle.p25_delivery.specs.Halves.{Sending}
 use Rattle.p25_delivery.specs.SenderRules.{offered_beside, offered}
-use Rattle.p25_delivery.specs.declared.sender_state.Outstanding.{Outstanding}
-use Rattle.p25_delivery.specs.declared.sender_state.Outstanding.TheVariants.{Nothing, Message, Opening}
+use Rattle.p25_delivery.specs.declared.sender.Outstanding.{Outstanding}
+use Rattle.p25_delivery.specs.declared.sender.Outstanding.TheVariants.{Nothing, Message, Opening}
 use Rattle.p25_delivery.specs.declared.sender.Offer.{Offer}
 use Rattle.p25_delivery.specs.declared.sender.Offer.TheVariants.{Down as DownAtOffer}
 use Rattle.p25_delivery.specs.declared.step_kind.StepKind.TheVariants.{Taken, Busy as BusyAtOffer, OfferDown}

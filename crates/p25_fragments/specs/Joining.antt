@@ -1,7 +1,6 @@
 -- What a joiner keeps, and what it makes of the messages that it is handed.
 use Rattle.std.specs.Prelude.{◌≡◌, ℕ, ◌+◌, ◌*◌, ◌%◌, ◌<◌, Bool, true, false, not, ◌&&◌, ◌||◌, nat_eq, nat_lt, nat_le, List, [], ◌∷◌, ◌++◌, length, if◌then◌else◌}
-use Rattle.p25_fragments.specs.declared.joiner.Joined.{Joined}
-use Rattle.p25_fragments.specs.declared.joiner.Joined.TheVariants.{Whole, Part, Refused}
+pub use Rattle.p25_fragments.specs.declared.joiner.Joined.{Joined, TheVariants.{Whole, Part, Refused}}
 
 -- the number of the part that is expected, and the octets of the parts before it, joined
 pub record Joining : Type 0 where

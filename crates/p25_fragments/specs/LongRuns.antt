@@ -2,18 +2,12 @@
 use Rattle.std.specs.Prelude.{◌≡◌, ◌≢◌, ◌≤◌, List, [], ◌∷◌, ◌++◌, length, Option, Some, None}
 use Rattle.p25_delivery.specs.Runs.{run_by, steps_by, EachIs}
 use Rattle.p25_delivery.specs.Delivery.{Session, sessions_of}
-use Rattle.p25_stations.specs.declared.step.Event.{Event}
-use Rattle.p25_stations.specs.declared.step.Event.TheVariants.{Send}
+use Rattle.p25_stations.specs.declared.step.Event.{Event, TheVariants.{Send}}
 use Rattle.p25_stations.specs.declared.step.Step.{Step}
-use Rattle.p25_stations.specs.WorldState.{WorldState}
+pub use Rattle.p25_stations.specs.Steps.{WorldState, first_world}
 use Rattle.p25_stations.specs.Runs.{world_run, steps_of, AreClean}
-use Rattle.p25_fragments.specs.declared.long_step.LongEvent.{LongEvent}
-use Rattle.p25_fragments.specs.declared.long_step.LongEvent.TheVariants.{Long, Inner}
-use Rattle.p25_fragments.specs.declared.long_step.Then.{Then}
-use Rattle.p25_fragments.specs.declared.long_step.Then.TheVariants.{Refused, Next}
-use Rattle.p25_fragments.specs.declared.long_step.LongStep.{LongStep}
-use Rattle.p25_fragments.specs.LongState.{LongState, first_long, long_delivery}
-use Rattle.p25_fragments.specs.LongSteps.{long_step}
+pub use Rattle.p25_fragments.specs.LongState.{LongState, first_long, long_delivery}
+pub use Rattle.p25_fragments.specs.LongSteps.{long_step, LongEvent, Long, Inner, Then, Refused, Next, LongStep}
 
 -- an event of the inner world that offers no message
 unfoldable pub IsNoOffer : Event → Type 0

@@ -1,11 +1,11 @@
 -- What the world of long messages keeps.
 use Rattle.std.specs.Prelude.{◌≡◌, ℕ, ◌+◌, ◌/◌, ◌<◌, ◌≤◌, min, List, [], length, Option, Some, None, IfSome}
 use Rattle.p25_messages.specs.LongMessages.{part_count}
-use Rattle.p25_delivery.specs.declared.mark.Mark.{Mark}
+use Rattle.p25_delivery.specs.declared.outbound.Mark.{Mark}
 use Rattle.p25_delivery.specs.Halves.{first_outgoing, first_incoming}
 use Rattle.p25_delivery.specs.Delivery.{Delivery, first_delivery}
 use Rattle.p25_stations.specs.WorldState.{WorldState, first_world}
-use Rattle.p25_fragments.specs.declared.outstanding_part.OutstandingPart.{OutstandingPart}
+pub use Rattle.p25_fragments.specs.declared.long_world.OutstandingPart.{OutstandingPart}
 use Rattle.p25_fragments.specs.Joining.{Joining, first_joining}
 
 -- the world of the two stations; the long message of which a part is outstanding, and the number of that part; what the joiner

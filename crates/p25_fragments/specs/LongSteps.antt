@@ -1,25 +1,17 @@
 -- What each event makes of the world of long messages, and the step that it is.
 use Rattle.std.specs.Prelude.{ℕ, ◌+◌, nat_lt, List, [], ◌∷◌, ◌++◌, length, Option, Some, None, if◌then◌else◌}
 use Rattle.p25_messages.specs.LongMessages.{part_count, part_of}
-use Rattle.p25_delivery.specs.declared.sender_state.Outstanding.{Outstanding}
-use Rattle.p25_delivery.specs.declared.sender_state.Outstanding.TheVariants.{Nothing, Message, Opening}
-use Rattle.p25_delivery.specs.declared.step_kind.StepKind.{StepKind}
-use Rattle.p25_delivery.specs.declared.step_kind.StepKind.TheVariants.{Acknowledged, Delivered, SynHeard}
+use Rattle.p25_delivery.specs.declared.sender.Outstanding.{Outstanding, TheVariants.{Nothing}}
+use Rattle.p25_delivery.specs.declared.step_kind.StepKind.{StepKind, TheVariants.{Acknowledged, Delivered, SynHeard}}
 use Rattle.p25_delivery.specs.Delivery.{present_mark}
 use Rattle.p25_stations.specs.declared.step.Event.TheVariants.{Send}
 use Rattle.p25_stations.specs.declared.step.Step.{Step}
-use Rattle.p25_stations.specs.WorldState.{WorldState}
-use Rattle.p25_stations.specs.Steps.{world_step}
-use Rattle.p25_fragments.specs.declared.joiner.Joined.{Joined}
-use Rattle.p25_fragments.specs.declared.joiner.Joined.TheVariants.{Whole as JoinedWhole, Part as JoinedPart, Refused as JoinedRefused}
-use Rattle.p25_fragments.specs.declared.outstanding_part.OutstandingPart.{OutstandingPart}
-use Rattle.p25_fragments.specs.declared.long_step.LongEvent.{LongEvent}
-use Rattle.p25_fragments.specs.declared.long_step.LongEvent.TheVariants.{Long, Inner}
-use Rattle.p25_fragments.specs.declared.long_step.Then.{Then}
-use Rattle.p25_fragments.specs.declared.long_step.Then.TheVariants.{Plain, Started, Busy, Down, Part, Whole, Refused, Next, Finished}
-use Rattle.p25_fragments.specs.declared.long_step.LongStep.{LongStep}
-use Rattle.p25_fragments.specs.Joining.{Joining, first_joining, message_taken}
-use Rattle.p25_fragments.specs.LongState.{LongState, long_delivery}
+use Rattle.p25_stations.specs.Steps.{world_step, WorldState}
+pub use Rattle.p25_fragments.specs.declared.long_step.LongEvent.{LongEvent, TheVariants.{Long, Inner}}
+pub use Rattle.p25_fragments.specs.declared.long_step.Then.{Then, TheVariants.{Plain, Started, Busy, Down, Part, Whole, Refused, Next, Finished}}
+pub use Rattle.p25_fragments.specs.declared.long_step.LongStep.{LongStep}
+use Rattle.p25_fragments.specs.Joining.{Joining, first_joining, message_taken, Joined, Whole as JoinedWhole, Part as JoinedPart, Refused as JoinedRefused}
+use Rattle.p25_fragments.specs.LongState.{LongState, long_delivery, OutstandingPart}
 
 -- a step in which nothing changes
 abbrev pub unmoved : LongState → Then → LongState × LongStep

@@ -20,7 +20,6 @@ mod joiner;
 pub mod laws;
 mod long_step;
 mod long_world;
-mod outstanding_part;
 
 pub use joiner::{Joined, Joiner};
 pub use long_step::{LongEvent, LongStep, Then};

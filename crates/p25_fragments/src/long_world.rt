@@ -1,14 +1,22 @@
+#![tactic(auto, unfolding(crate::specs::LongSteps::long_step, crate::specs::LongSteps::started, crate::specs::LongSteps::inner_happened))]
+
 ghost use Rattle.std.specs.Prelude.{◌≡◌, ◌+◌, ◌<◌, ◌≤◌, OnOk, OnErr, IfOk};
 ghost use Rattle.p25_fragments.specs.LongSteps.{long_step};
 
 use crate::joiner::{Joined, Joiner};
 use crate::long_step::{LongEvent, LongStep, Then};
-use crate::outstanding_part::OutstandingPart;
 use p25_delivery::Mark;
 use p25_messages::{LongList, LongMessage, Message};
 use p25_stations::{Event, Step, StepKind, World};
 use std::alloc::{AllocError, Global};
 use std::marker::Model;
+
+/// A part that is outstanding: its long message, and its number.
+#[derive(Drop)]
+pub(crate) struct OutstandingPart {
+    message: LongMessage,
+    number: u8,
+}
 
 /// Two packet stations, the air between them, and the long messages that they carry in parts.
 #[derive(Drop)]
@@ -103,7 +111,6 @@ impl LongWorld {
     /// Answers the step that an event is, and has it happen. There is room for it, and it takes no memory. A long message is
     /// Down where the sender of the inner world is down, and else Busy where a part or the opening packet is outstanding; then
     /// nothing changes.
-    #[tactic(auto, unfolding(crate::specs::LongSteps::long_step))]
     pub fn step_ready(&mut self, event: &LongEvent) -> LongStep
         requires { 0 < self.old.spare }
         ensures state { self.new.state ≡ (long_step self.old.state event.now).0 }
@@ -156,7 +163,6 @@ impl LongWorld {
     }
 
     // Takes a long message, whose part 0 was offered in a step.
-    #[tactic(auto, unfolding(crate::specs::LongSteps::started))]
     fn start(&mut self, message: &LongMessage, step: Step) -> LongStep
         requires { 0 < self.old.own_spare }
         ensures step { (self.new.state, result) ≡ started self.old.state message.now (self.old.state.inner, step) }
@@ -176,7 +182,6 @@ impl LongWorld {
     }
 
     // Has an event of the inner world happen.
-    #[tactic(auto, unfolding(crate::specs::LongSteps::inner_happened))]
     fn happen(&mut self, event: &Event) -> LongStep
         requires { 0 < self.old.spare }
         ensures step { (self.new.state, result) ≡ inner_happened self.old.state (world_step self.old.state.inner event.now) }

@@ -8,11 +8,10 @@ use Rattle.p25_packet_blocks.specs.Sendable.{IsSendable}
 use Rattle.p25_delivery.specs.Runs.{steps_by, MeetAt}
 use Rattle.p25_delivery.specs.MessageBlocks.{block_count}
 use Rattle.p25_delivery.specs.SentPackets.{opening_packet}
-use Rattle.p25_delivery.specs.SenderState.{Sending}
-use Rattle.p25_delivery.specs.ReceiverState.{Receiving}
+use Rattle.p25_delivery.specs.Halves.{Sending, Receiving}
 use Rattle.p25_delivery.specs.SenderRules.{sending_after, sender_heard, opening_number, reopened, is_opening}
 use Rattle.p25_delivery.specs.ReceiverRules.{receiver_heard}
-use Rattle.p25_delivery.specs.declared.sender_state.Outstanding.TheVariants.{Nothing, Opening}
+use Rattle.p25_delivery.specs.declared.sender.Outstanding.TheVariants.{Nothing, Opening}
 use Rattle.p25_delivery.specs.declared.sender.Offer.{Offer}
 use Rattle.p25_delivery.specs.declared.sender.Offer.TheVariants.{Taken as OfferTaken}
 use Rattle.p25_delivery.specs.declared.sender.SenderHeard.{SenderHeard}

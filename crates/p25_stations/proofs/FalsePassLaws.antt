@@ -1,5 +1,5 @@
 -- Which deliveries are false passes, and how they are counted. By what is carried.
-use Rattle.std.proofs.Common.{◌≡◌, ℕ, ◌≤◌, inl, inr, Bool, true, false, List, [], ◌∷◌, Option, Some, None, refl, ap, sym, ◌∙◌, arith}
+use Rattle.std.proofs.Common.{◌≡◌, ℕ, ◌≤◌, inl, inr, Bool, true, false, List, Option, Some, None, refl, ap, sym, ◌∙◌, arith}
 use Rattle.std.specs.Prelude.{IfSome}
 use Rattle.std.proofs.lemmas.Bool.{cases_lt, false≢true}
 use Rattle.p25_packet_blocks.specs.declared.packet.Packet.{Packet}
@@ -14,7 +14,7 @@ use Rattle.p25_stations.specs.Air.{places_within, ArrivesWithin}
 use Rattle.p25_stations.specs.WorldState.{WorldState, first_world}
 use Rattle.p25_stations.specs.Deliveries.{heard_of, delivery_of}
 use Rattle.p25_stations.specs.Steps.{counted_when, newest_by, delivered, world_step}
-use Rattle.p25_stations.specs.Runs.{world_run, steps_of, AreClean, IsCleanRun}
+use Rattle.p25_stations.specs.Runs.{world_run, IsCleanRun}
 use Rattle.p25_stations.specs.RunLaws.{IsWithin, IsTwiceDamaged}
 use Rattle.p25_stations.proofs.AirLaws.{ReadsWithin, air-within}
 use Rattle.p25_stations.proofs.CountedLaws.{none-counted, none-from}

@@ -6,17 +6,14 @@ use Rattle.p25_bits.specs.Bits.{flipped}
 use Rattle.p25_status.specs.declared.symbols.Status.{Status}
 use Rattle.p25_status.specs.declared.fields.Field.{Field}
 use Rattle.p25_status.specs.Status.{status_at_number}
-use Rattle.p25_packet_blocks.specs.declared.block.Slot.{Slot}
-use Rattle.p25_packet_blocks.specs.declared.block.Slot.TheVariants.{Good, Bad}
-use Rattle.p25_packet_blocks.specs.declared.packet.Packet.{Packet}
-use Rattle.p25_packet_blocks.specs.declared.packet.Packet.TheVariants.{Confirmed, Plain}
+use Rattle.p25_packet_blocks.specs.declared.block.Slot.{Slot, TheVariants.{Good, Bad}}
+use Rattle.p25_packet_blocks.specs.declared.packet.Packet.{Packet, TheVariants.{Confirmed, Plain}}
 use Rattle.p25_packet_blocks.specs.Heads.{head_blocks}
 use Rattle.p25_packet_blocks.specs.Whole.{packet_head}
 use Rattle.p25_packet_blocks.specs.Lengths.{packet_parts}
 use Rattle.p25_packet_blocks.specs.UnitReading.{packet_unit_of}
 use Rattle.p25_packet_blocks.specs.Within.{IsPacketWithin, sent_unit}
-use Rattle.p25_stations.specs.declared.air.Carried.{Carried}
-use Rattle.p25_stations.specs.declared.air.Carried.TheVariants.{Lost, Foreign, Heard}
+use Rattle.p25_stations.specs.declared.air.Carried.{Carried, TheVariants.{Lost, Foreign, Heard}}
 
 -- the network access code of both stations
 abbrev pub station_nac : ℕ

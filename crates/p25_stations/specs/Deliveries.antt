@@ -1,11 +1,9 @@
 -- What comes of a delivery, whatever world the stations are in.
 use Rattle.std.specs.Prelude.{ℕ, Bool, List, Option, Some, None, Result, Ok, Err}
-use Rattle.p25_packet_blocks.specs.declared.packet.Packet.{Packet}
-use Rattle.p25_delivery.specs.declared.step_kind.Way.{Way}
-use Rattle.p25_delivery.specs.declared.step_kind.StepKind.{StepKind}
-use Rattle.p25_delivery.specs.declared.step_kind.StepKind.TheVariants.{Nothing, Lost, Ignored}
-use Rattle.p25_stations.specs.declared.air.Carried.{Carried}
-use Rattle.p25_stations.specs.declared.air.Carried.TheVariants.{Lost as CarriedLost, Foreign, Heard}
+pub use Rattle.p25_packet_blocks.specs.declared.packet.Packet.{Packet}
+pub use Rattle.p25_delivery.specs.declared.step_kind.Way.{Way, TheVariants.{Packets, Answers}}
+pub use Rattle.p25_delivery.specs.declared.step_kind.StepKind.{StepKind, TheVariants.{Nothing, Lost, Ignored}}
+use Rattle.p25_stations.specs.declared.air.Carried.{Carried, TheVariants.{Lost as CarriedLost, Foreign, Heard}}
 use Rattle.p25_stations.specs.Air.{carried_of}
 
 -- what is carried that way is heard, and is a false pass or not; or this is the step, in which nothing is heard

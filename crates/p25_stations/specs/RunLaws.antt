@@ -1,15 +1,9 @@
 -- What the laws say of runs.
 use Rattle.std.specs.Prelude.{◌≡◌, ℕ, ◌+◌, ◌≤◌, false, List, [], ◌∷◌, IfSome, Some}
-use Rattle.p25_packet_blocks.specs.declared.packet.Packet.{Packet}
-use Rattle.p25_stations.specs.declared.step.Event.{Event}
-use Rattle.p25_stations.specs.declared.step.Event.TheVariants.{ToReceiver, ToSender}
 use Rattle.p25_delivery.specs.Runs.{MeetAt}
-use Rattle.p25_delivery.specs.declared.step_kind.StepKind.{StepKind}
-use Rattle.p25_delivery.specs.declared.step_kind.StepKind.TheVariants.{Taken, Resent, Reopened, Acknowledged, LinkOpened, Retry, Repeat}
-use Rattle.p25_stations.specs.declared.step.Step.{Step}
+use Rattle.p25_delivery.specs.declared.step_kind.StepKind.{StepKind, TheVariants.{Taken, Resent, Reopened, Acknowledged, LinkOpened, Retry, Repeat}}
 use Rattle.p25_stations.specs.Air.{ArrivesWithin, places_within}
-use Rattle.p25_stations.specs.WorldState.{WorldState}
-use Rattle.p25_stations.specs.Steps.{world_step}
+use Rattle.p25_stations.specs.Steps.{world_step, Packet, Event, ToReceiver, ToSender, Step, WorldState}
 
 -- a delivery whose bits arrive within radius of what was sent, or any other event
 unfoldable pub IsWithin : WorldState → Event → Type 0

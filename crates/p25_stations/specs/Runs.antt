@@ -2,11 +2,7 @@
 use Rattle.std.specs.Prelude.{◌≡◌, false, List}
 use Rattle.p25_delivery.specs.SoundHalves.{IsMessage}
 use Rattle.p25_delivery.specs.Runs.{run_by, steps_by, EachIs}
-use Rattle.p25_stations.specs.declared.step.Event.{Event}
-use Rattle.p25_stations.specs.declared.step.Event.TheVariants.{Send}
-use Rattle.p25_stations.specs.declared.step.Step.{Step}
-use Rattle.p25_stations.specs.WorldState.{WorldState, first_world}
-use Rattle.p25_stations.specs.Steps.{world_step}
+use Rattle.p25_stations.specs.Steps.{world_step, Event, Send, Step, WorldState, first_world}
 
 -- what every event keeps: what is sent is a message of at most 2,028 octets
 unfoldable pub IsEvent : Event → Type 0

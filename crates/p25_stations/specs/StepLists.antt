@@ -1,10 +1,7 @@
 -- The messages that steps tell of, and the number of those that they acknowledge.
 use Rattle.std.specs.Prelude.{count_by, ℕ, Bool, true, false, List, [], ◌∷◌, ◌++◌}
-use Rattle.p25_stations.specs.declared.step.Event.{Event}
-use Rattle.p25_stations.specs.declared.step.Event.TheVariants.{Send}
-use Rattle.p25_stations.specs.declared.step.Step.{Step}
-use Rattle.p25_delivery.specs.declared.step_kind.StepKind.{StepKind}
-use Rattle.p25_delivery.specs.declared.step_kind.StepKind.TheVariants.{Taken, Delivered, Acknowledged}
+use Rattle.p25_stations.specs.Steps.{Event, Send, Step}
+use Rattle.p25_delivery.specs.declared.step_kind.StepKind.{StepKind, TheVariants.{Taken, Delivered, Acknowledged}}
 
 -- the message of a Delivered step, and none of any other
 abbrev pub delivered_by : StepKind → List (List ℕ)

@@ -1,15 +1,10 @@
 -- What each event makes of the world, and the step that it is.
 use Rattle.std.specs.Prelude.{ℕ, ◌+◌, ◌-◌, ◌^◌, Bool, true, false, min, List, Option, Result, Ok, Err}
-use Rattle.p25_packet_blocks.specs.declared.packet.Packet.{Packet}
-use Rattle.p25_delivery.specs.declared.step_kind.Way.{Way}
-use Rattle.p25_delivery.specs.declared.step_kind.Way.TheVariants.{Packets, Answers}
-use Rattle.p25_delivery.specs.declared.step_kind.StepKind.{StepKind}
 use Rattle.p25_delivery.specs.Delivery.{Delivery, Happening, Offering, Time_up, Opening_again, Data_heard, Answer_heard, happens}
-use Rattle.p25_stations.specs.declared.step.Event.{Event}
-use Rattle.p25_stations.specs.declared.step.Event.TheVariants.{Send, Timeout, Reopen, ToReceiver, ToSender}
-use Rattle.p25_stations.specs.declared.step.Step.{Step}
-use Rattle.p25_stations.specs.Deliveries.{delivery_of}
-use Rattle.p25_stations.specs.WorldState.{WorldState}
+pub use Rattle.p25_stations.specs.declared.step.Event.{Event, TheVariants.{Send, Timeout, Reopen, ToReceiver, ToSender}}
+pub use Rattle.p25_stations.specs.declared.step.Step.{Step}
+pub use Rattle.p25_stations.specs.Deliveries.{delivery_of, Packet, Way, Packets, Answers, StepKind}
+pub use Rattle.p25_stations.specs.WorldState.{WorldState, first_world}
 
 -- so many false passes and one more, where it is one; their number stays at 2^64 - 1 once it stands there
 unfoldable pub counted_when : Bool → ℕ → ℕ

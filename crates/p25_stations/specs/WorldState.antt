@@ -7,11 +7,6 @@ pub record WorldState : Type 0 where
   pub delivery : Delivery
   pub false_passes : ℕ
 
--- what contracts see of a world, or of a station: its state, and for how many steps it has room
-pub record Roomy (State : Type 0) : Type 0 where
-  pub state : State
-  pub spare : ℕ
-
 -- a world before the first step
 abbrev pub first_world : WorldState
 first_world = record { delivery = first_delivery; false_passes = 0 }

@@ -1,3 +1,5 @@
+#![tactic(auto, unfolding(crate::specs::Air::is_true_slot, crate::specs::Air::are_true_slots, crate::specs::Air::is_true_to))]
+
 ghost use Rattle.std.specs.Prelude.{◌≡◌, ◌&&◌};
 ghost use Rattle.std.specs.Str.{bytes_eq};
 ghost use Rattle.p25_stations.specs.Air.{is_true_slot, are_true_slots, is_true_to};
@@ -5,7 +7,6 @@ ghost use Rattle.p25_stations.specs.Air.{is_true_slot, are_true_slots, is_true_t
 use p25_packet_blocks::{Packet, PacketHead, Slot, Slots};
 
 // Whether a slot is Bad, or holds the same block as the one that was sent.
-#[tactic(auto, unfolding(crate::specs::Air::is_true_slot))]
 fn is_true_slot(sent: Slot, heard: Slot) -> bool
     ensures { result ≡ is_true_slot sent heard }
 {
@@ -19,7 +20,6 @@ fn is_true_slot(sent: Slot, heard: Slot) -> bool
 }
 
 // Whether each slot is.
-#[tactic(auto, unfolding(crate::specs::Air::are_true_slots))]
 fn are_true_slots(sent: &Slots, heard: &Slots) -> bool
     ensures { result ≡ are_true_slots sent.now heard.now }
 {
@@ -43,7 +43,6 @@ fn are_same(sent: PacketHead, heard: PacketHead) -> bool
 
 // Whether a packet that was read has the header of the one that was sent, and slot by slot is Bad or holds the same block,
 // or has the same octets.
-#[tactic(auto, unfolding(crate::specs::Air::is_true_to))]
 pub(crate) fn is_true_to(sent: &Packet, heard: &Packet) -> bool
     ensures { result ≡ is_true_to sent.now heard.now }
 {

@@ -21,13 +21,14 @@ pub struct World {
 
 impl Model for World {
     ghost use Rattle.std.specs.Prelude.{min};
-    ghost use Rattle.p25_stations.specs.WorldState.{WorldState, Roomy};
+    ghost use Rattle.p25_stations.specs.WorldState.{WorldState};
+    ghost use Rattle.p25_delivery.specs.Halves.{Roomy};
 
     ghost Value = { Roomy WorldState };
 
     ghost view = { λ w. record {
       state = record {
-        delivery = record { outbound = w.outbound.half; inbound = w.inbound.half; packet_sent = w.packet_sent; answer = w.answer };
+        delivery = record { outbound = w.outbound.state; inbound = w.inbound.state; packet_sent = w.packet_sent; answer = w.answer };
         false_passes = w.false_passes;
       };
       spare = min w.outbound.spare w.inbound.spare;

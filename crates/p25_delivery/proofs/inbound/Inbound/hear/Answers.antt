@@ -6,8 +6,7 @@ use Rattle.p25_delivery.specs.declared.receiver.Heard.{Heard}
 use Rattle.p25_delivery.specs.declared.receiver.Heard.TheVariants.{Delivered, Opened, Again, Kept, RefusedCrc, RefusedOrder}
 use Rattle.p25_delivery.specs.declared.step_kind.StepKind.{StepKind}
 use Rattle.p25_delivery.specs.Halves.{Incoming}
-use Rattle.p25_delivery.specs.HalvesInside.{incoming_of}
-use Rattle.p25_delivery.specs.SoundHalves.{IsIncoming}
+use Rattle.p25_delivery.specs.SoundHalves.{incoming_of, IsIncoming}
 use Rattle.p25_delivery.proofs.ReceivingLaws.{AnswersSendable, receiver-soundly, hears-soundly}
 use Rattle.p25_delivery.proofs.inbound.Inbound.hear.Goals as goal
 use Rattle.p25_delivery.proofs.inbound.Inbound.hear.Goals.{in-Delivered, in-Opened, in-Again, in-Kept, in-RefusedCrc, in-RefusedOrder}

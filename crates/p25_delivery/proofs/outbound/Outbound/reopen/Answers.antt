@@ -1,14 +1,12 @@
 use Rattle.std.proofs.Common.{◌≡◌, ℕ, List, [], ◌∷◌, ◌++◌, Bool, true, false, ap, sym, subst, refl, ◌∙◌}
 use Rattle.p25_packet_blocks.specs.declared.packet.Packet.{Packet}
 use Rattle.p25_packet_blocks.specs.Sendable.{IsSendable}
-use Rattle.p25_delivery.specs.SenderState.{Sending}
+use Rattle.p25_delivery.specs.Halves.{Sending, Outgoing}
 use Rattle.p25_delivery.specs.SenderRules.{reopened, is_opening}
 use Rattle.p25_delivery.specs.declared.sender.Reopen.{Reopen}
 use Rattle.p25_delivery.specs.declared.sender.Reopen.TheVariants.{Sent, Up}
-use Rattle.p25_delivery.specs.declared.mark.Mark.{Mark}
-use Rattle.p25_delivery.specs.Halves.{Outgoing}
-use Rattle.p25_delivery.specs.HalvesInside.{outgoing_of}
-use Rattle.p25_delivery.specs.SoundHalves.{IsOutgoing}
+use Rattle.p25_delivery.specs.declared.outbound.Mark.{Mark}
+use Rattle.p25_delivery.specs.SoundHalves.{outgoing_of, IsOutgoing}
 use Rattle.p25_delivery.specs.HalfRules.{after_reopening}
 use Rattle.p25_delivery.proofs.HalfLaws.{KeepsOutgoing, call-apart, reopen-keeps}
 use Rattle.p25_delivery.proofs.outbound.Outbound.reopen.Goals as goal

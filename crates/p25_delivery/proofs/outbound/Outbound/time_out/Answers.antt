@@ -2,14 +2,12 @@ use Rattle.std.proofs.Common.{Option, sym, subst}
 use Rattle.std.specs.Prelude.{IfSome}
 use Rattle.p25_packet_blocks.specs.declared.packet.Packet.{Packet}
 use Rattle.p25_packet_blocks.specs.Sendable.{IsSendable}
-use Rattle.p25_delivery.specs.SenderState.{Sending}
+use Rattle.p25_delivery.specs.Halves.{Sending, Outgoing}
 use Rattle.p25_delivery.specs.SenderRules.{timed_out}
 use Rattle.p25_delivery.specs.declared.sender.Resend.{Resend}
 use Rattle.p25_delivery.specs.declared.sender.Resend.TheVariants.{Sent, Idle, Down}
 use Rattle.p25_delivery.specs.declared.step_kind.StepKind.{StepKind}
-use Rattle.p25_delivery.specs.Halves.{Outgoing}
-use Rattle.p25_delivery.specs.HalvesInside.{outgoing_of}
-use Rattle.p25_delivery.specs.SoundHalves.{IsOutgoing}
+use Rattle.p25_delivery.specs.SoundHalves.{outgoing_of, IsOutgoing}
 use Rattle.p25_delivery.specs.HalfRules.{after_timeout}
 use Rattle.p25_delivery.proofs.HalfLaws.{KeepsOutgoing, call-apart, timeout-keeps}
 use Rattle.p25_delivery.proofs.outbound.Outbound.time_out.Goals as goal
