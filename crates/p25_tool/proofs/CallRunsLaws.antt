@@ -23,8 +23,8 @@ use Rattle.p25_tool.specs.declared.command.Command.TheVariants.{Duplex, Fragment
 use Rattle.p25_tool.specs.declared.outcome.Outcome.{Outcome}
 use Rattle.p25_tool.specs.declared.outcome.Outcome.TheVariants.{Done as DoneOutcome, Memory, ReadFault, Usage, WriteFault}
 use Rattle.p25_tool.specs.Outcomes.{ending_outcome, filter_outcome}
-use Rattle.p25_tool.specs.Outputs.{CanWantMemory}
-use Rattle.p25_tool.specs.Runs.{Ran, answer_of, command_future}
+use Rattle.p25_tool.specs.Outputs.{CanWantMemory, command_future}
+use Rattle.p25_tool.specs.Runs.{Ran, answer_of}
 use Rattle.p25_tool.specs.Recorded.{IsRecording}
 use Rattle.p25_tool.specs.RecordedRuns.{HasWrittenUnits, IsUnitCommand}
 use Rattle.p25_tool.specs.Words.{command_of}

@@ -20,8 +20,8 @@ use Rattle.p25_tool.specs.declared.command.Command.TheVariants.{Show, Check, Rep
 use Rattle.p25_tool.specs.declared.outcome.Outcome.{Outcome}
 use Rattle.p25_tool.specs.declared.outcome.Outcome.TheVariants.{TooLong, Memory}
 use Rattle.p25_tool.specs.Outcomes.{ending_outcome, filter_outcome}
-use Rattle.p25_tool.specs.Outputs.{CanWantMemory, ending_by}
-use Rattle.p25_tool.specs.Runs.{answer_of, command_future, ending_or}
+use Rattle.p25_tool.specs.Outputs.{CanWantMemory, command_future, ending_by}
+use Rattle.p25_tool.specs.Runs.{answer_of, ending_or}
 use Rattle.p25_tool.proofs.CommandsLaws.{AreAlike}
 
 -- the work of a future is that of one that is alike
