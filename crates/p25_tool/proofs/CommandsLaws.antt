@@ -6,10 +6,10 @@ use Rattle.p25_status.specs.declared.symbols.Status.{Status}
 use Rattle.p25_stream.specs.Items.{items_by}
 use Rattle.p25_text.specs.Grammar.{read_line_of}
 use Rattle.p25_units.specs.UnitParts.{UnitParts}
-use Rattle.p25_filter.specs.Futures.{Future}
 use Rattle.p25_filter.specs.Lines.{closing_by, lines_in, read_of, refusal_in}
 use Rattle.p25_filter.specs.LineRules.{texts_of}
 use Rattle.p25_filter.specs.LineFilters.{first_line, line_future}
+use Rattle.p25_filter.proofs.SameLaws.{AreAlike}
 use Rattle.p25_filter.proofs.RulesLaws.{first_line-ends, first_line-pauses, first_line-writes}
 use Rattle.p25_tool.specs.declared.build.Build.{Build}
 use Rattle.p25_tool.specs.declared.command.Command.TheVariants.{Show as ShowIt, Check as CheckIt, Repair as RepairIt, Bridge as BridgeIt, Build as BuildIt, Stations as StationsIt, Calls as CallsIt, Fragments as FragmentsIt, Soft as SoftIt}
@@ -35,12 +35,6 @@ use Rattle.p25_recording_filters.specs.Recordings.{fresh, recording_future}
 use Rattle.p25_tool.proofs.ScriptRunsLaws.{script-pauses, script-writes}
 use Rattle.p25_recording_filters.proofs.CallReportsLaws.{reported-calls}
 use Rattle.p25_recording_filters.proofs.ReportsLaws.{behind-check, reported-changed, reported-check, reported-show}
-
--- two futures write and end alike, and memory may be wanting after the same texts
-pub record AreAlike (f g : Future) : Type 0 where
-  pub writes : (is : Bool) (octets : List ℕ) → f.writes is octets ≡ g.writes is octets
-  pub ends : (is : Bool) (octets : List ℕ) → f.ends is octets ≡ g.ends is octets
-  pub pauses : (is : Bool) (octets : List ℕ) → f.pauses is octets ≡ g.pauses is octets
 
 pub show-alike : (report : Show) → AreAlike (recording_future show_reporting (fresh report)) (command_future ShowIt)
 unfolding recording_future

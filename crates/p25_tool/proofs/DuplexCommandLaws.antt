@@ -8,7 +8,7 @@ use Rattle.p25_tool.specs.declared.command.Command.TheVariants.{Duplex}
 use Rattle.p25_duplex_script.specs.DuplexLines.{duplex_event_of}
 use Rattle.p25_tool.specs.DuplexRules.{duplex_rules, told_duplex}
 use Rattle.p25_tool.specs.Outputs.{command_future, duplex_closing_lines, duplex_step_line}
-use Rattle.p25_tool.proofs.CommandsLaws.{AreAlike}
+use Rattle.p25_filter.proofs.SameLaws.{AreAlike}
 use Rattle.p25_tool.proofs.ScriptRunsLaws.{script-pauses, script-writes}
 
 pub duplex-alike : AreAlike (line_future duplex_rules (first_line first_duplex)) (command_future Duplex)
