@@ -7,7 +7,7 @@ use Rattle.p25_stream.specs.Items.{items_by}
 use Rattle.p25_text.specs.Grammar.{read_line_of}
 use Rattle.p25_units.specs.UnitParts.{UnitParts}
 use Rattle.p25_filter.specs.Lines.{closing_by, lines_in, read_of, refusal_in}
-use Rattle.p25_filter.specs.LineRules.{texts_of}
+use Rattle.p25_filter.specs.LineRules.{texts_of, told_by}
 use Rattle.p25_filter.specs.LineFilters.{first_line, line_future}
 use Rattle.p25_filter.proofs.SameLaws.{AreAlike}
 use Rattle.p25_filter.proofs.RulesLaws.{first_line-ends, first_line-pauses, first_line-writes}
@@ -20,7 +20,7 @@ use Rattle.p25_tool.specs.Buildings.{build_rules}
 use Rattle.p25_stations.specs.Steps.{world_step}
 use Rattle.p25_stations.specs.WorldState.{first_world}
 use Rattle.p25_script.specs.Script.{event_of}
-use Rattle.p25_tool.specs.StationRules.{station_rules, told_step}
+use Rattle.p25_tool.specs.StationRules.{station_rules}
 use Rattle.p25_recording_filters.specs.Commands.{changed_reporting, check_reporting, show_reporting, CallsParts, calls_reporting}
 use Rattle.p25_tool.specs.Outputs.{closing_line, command_future, ending_by, image_octets, long_closing_line, step_line}
 use Rattle.p25_recording_filters.specs.ItemOutputs.{check_ending, check_line, faults_in, faulty, units_in, soft_output}
@@ -29,7 +29,7 @@ use Rattle.p25_fragments.specs.LongState.{first_long}
 use Rattle.p25_fragments.specs.LongSteps.{long_step}
 use Rattle.p25_fragment_script.specs.LongScript.{long_event_of}
 use Rattle.p25_fragment_script.specs.LongTexts.{long_step_text_of}
-use Rattle.p25_tool.specs.FragmentRules.{fragment_rules, told_long}
+use Rattle.p25_tool.specs.FragmentRules.{fragment_rules}
 use Rattle.p25_recording_filters.specs.Softs.{fresh_soft, soft_future}
 use Rattle.p25_recording_filters.specs.Recordings.{fresh, recording_future}
 use Rattle.p25_tool.proofs.ScriptRunsLaws.{script-pauses, script-writes}
@@ -101,7 +101,7 @@ build-alike status = record {
 pub stations-alike : AreAlike (line_future station_rules (first_line first_world)) (command_future StationsIt)
 stations-alike = record {
   writes = script-writes event_of world_step step_line closing_line first_world;
-  ends = λ is octets. first_line-ends event_of told_step closing_line true first_world is octets;
+  ends = λ is octets. first_line-ends event_of (told_by world_step step_line) closing_line true first_world is octets;
   pauses = script-pauses event_of world_step step_line closing_line first_world;
 }
 
@@ -116,7 +116,7 @@ calls-alike report empty = record {
 pub fragments-alike : AreAlike (line_future fragment_rules (first_line first_long)) (command_future FragmentsIt)
 fragments-alike = record {
   writes = script-writes long_event_of long_step long_step_text_of long_closing_line first_long;
-  ends = λ is octets. first_line-ends long_event_of told_long long_closing_line true first_long is octets;
+  ends = λ is octets. first_line-ends long_event_of (told_by long_step long_step_text_of) long_closing_line true first_long is octets;
   pauses = script-pauses long_event_of long_step long_step_text_of long_closing_line first_long;
 }
 
