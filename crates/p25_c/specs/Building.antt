@@ -1,5 +1,5 @@
 -- The octets of units: built from lines, repaired, and under another network access code.
-use Rattle.std.specs.Prelude.{ℕ, ◌/◌, ℤ, negsuc, Bool, cond, List, [], ◌∷◌, length, take, replicate, Result, Ok, Err}
+use Rattle.std.specs.Prelude.{ℕ, ◌/◌, ℤ, negsuc, Bool, if◌then◌else◌, List, [], ◌∷◌, length, take, replicate, Result, Ok, Err}
 use Rattle.p25_bits.specs.Bits.{octet_bits}
 use Rattle.p25_bits.specs.Numbers.{octets_from}
 use Rattle.p25_line.specs.declared.fault.LineFault.{LineFault}
@@ -54,7 +54,7 @@ built status line = unit_built status (read_line_of line)
 -- the octets of a whole unit that some items begin with, by a change of the bits that it covers
 abbrev pub first_changed : (Item → List Bool → List Bool) → List Item → List Bool → Result (List ℕ) ℤ
 first_changed change [] bits = Err no_unit
-first_changed change (item ∷ items) bits = cond (is_whole_item item) (Ok (octets_filled (change item (take (covered item) bits)))) (Err no_unit)
+first_changed change (item ∷ items) bits = if is_whole_item item then Ok (octets_filled (change item (take (covered item) bits))) else Err no_unit
 
 -- the unit that octets begin with, repaired
 abbrev pub unit_repaired : List ℕ → Result (List ℕ) ℤ

@@ -1,5 +1,5 @@
 -- What is told of the items of a recording.
-use Rattle.std.specs.Prelude.{ℕ, ℤ, pos, negsuc, ◌+◌, ◌-◌, ◌*◌, ◌%◌, ◌^◌, ◌==◌, ◌&&◌, nat_le, Bool, cond, List, [], ◌∷◌, length, drop, Option, Some, None}
+use Rattle.std.specs.Prelude.{ℕ, ℤ, pos, negsuc, ◌+◌, ◌-◌, ◌*◌, ◌%◌, ◌^◌, ◌==◌, ◌&&◌, nat_le, Bool, if◌then◌else◌, List, [], ◌∷◌, length, drop, Option, Some, None}
 use Rattle.p25_bits.specs.Bits.{octet_bits}
 use Rattle.p25_stream.specs.Items.{items_by}
 use Rattle.p25_text.specs.ItemTexts.{item_text_of}
@@ -19,7 +19,7 @@ is_inside begin from count = ((begin % 8) == 0) && nat_le begin from && nat_le f
 -- after these, else those that they decide. None where they may not be asked for
 unfoldable pub items_asked : Bool → ℕ → ℕ → List ℕ → Option (List Item)
 items_asked ended begin from octets =
-    cond (is_inside begin from (length octets)) (Some (items_by ended from (drop (from - begin) (octet_bits octets)))) None
+    if is_inside begin from (length octets) then Some (items_by ended from (drop (from - begin) (octet_bits octets))) else None
 
 -- what is answered: 1 where there is an item, 0 where there is none, and -1 where none may be asked for
 abbrev pub item_answer : Option (List Item) → ℤ

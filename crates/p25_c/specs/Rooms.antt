@@ -1,5 +1,5 @@
 -- What calls write into the room that a caller gives.
-use Rattle.std.specs.Prelude.{◌≡◌, ℕ, ℤ, pos, negsuc, nat_le, nat_lt, cond, List, [], ◌∷◌, ◌++◌, length, drop, Result, Ok, Err}
+use Rattle.std.specs.Prelude.{◌≡◌, ℕ, ℤ, pos, negsuc, nat_le, nat_lt, if◌then◌else◌, List, [], ◌∷◌, ◌++◌, length, drop, Result, Ok, Err}
 
 -- what room holds once some octets are written into it: the octets after them stay
 abbrev pub written : List ℕ → List ℕ → List ℕ
@@ -12,12 +12,12 @@ no_room = negsuc 1
 -- what a call answers that has octets to write, or a number to answer in place of them: how many there are, where there is room
 -- for all
 abbrev pub write_answer : Result (List ℕ) ℤ → List ℕ → ℤ
-write_answer (Ok octets) room = cond (nat_le (length octets) (length room)) (pos (length octets)) no_room
+write_answer (Ok octets) room = if nat_le (length octets) (length room) then pos (length octets) else no_room
 write_answer (Err answer) room = answer
 
 -- what it leaves in the room
 abbrev pub write_left : Result (List ℕ) ℤ → List ℕ → List ℕ
-write_left (Ok octets) room = cond (nat_le (length octets) (length room)) (written octets room) room
+write_left (Ok octets) room = if nat_le (length octets) (length room) then written octets room else room
 write_left (Err answer) room = room
 
 -- a call does both
@@ -27,4 +27,4 @@ pub record IsWriting (what : Result (List ℕ) ℤ) (room left : List ℕ) (answ
 
 -- what room holds once a text is written into it with a zero after it, where there is room for both
 abbrev pub text_left : List ℕ → List ℕ → List ℕ
-text_left text room = cond (nat_lt (length text) (length room)) (written (text ++ 0 ∷ []) room) room
+text_left text room = if nat_lt (length text) (length room) then written (text ++ 0 ∷ []) room else room

@@ -1,5 +1,5 @@
 -- Units divided into runs at the breaks between neighbours.
-use Rattle.std.specs.Prelude.{Bool, cond, List, [], ◌∷◌}
+use Rattle.std.specs.Prelude.{Bool, if◌then◌else◌, List, [], ◌∷◌}
 use Rattle.p25_calls.specs.declared.seen.UnitSeen.{UnitSeen}
 use Rattle.p25_calls.specs.Seen.{is_break, is_terminator}
 
@@ -28,7 +28,7 @@ last_unit run = last_of run.first run.others
 -- a unit before some runs: it begins the first of them, or is a run by itself where there is a break after it
 unfoldable pub with_unit : UnitSeen → List Run → List Run
 with_unit unit [] = run_from unit [] ∷ []
-with_unit unit (run ∷ runs) = cond (is_break unit run.first) (run_from unit [] ∷ run ∷ runs) (run_from unit (units_in run) ∷ runs)
+with_unit unit (run ∷ runs) = if is_break unit run.first then run_from unit [] ∷ run ∷ runs else run_from unit (units_in run) ∷ runs
 
 -- the runs of some units: they are divided exactly where there is a break between neighbours
 unfoldable pub runs_of : List UnitSeen → List Run
@@ -38,9 +38,9 @@ runs_of (unit ∷ units) = with_unit unit (runs_of units)
 -- the runs that no further unit can join, whatever it is: all but the last, and the last one too where it ends with a terminator
 unfoldable pub closed_runs : List Run → List Run
 closed_runs [] = []
-closed_runs (run ∷ []) = cond (is_terminator (last_unit run)) (run ∷ []) []
+closed_runs (run ∷ []) = if is_terminator (last_unit run) then run ∷ [] else []
 closed_runs (run ∷ next ∷ runs) = run ∷ closed_runs (next ∷ runs)
 
 -- the runs of some units, after which no more come, or of which only those count that no further unit can join
 unfoldable pub runs_by : Bool → List UnitSeen → List Run
-runs_by ended units = cond ended (runs_of units) (closed_runs (runs_of units))
+runs_by ended units = if ended then runs_of units else closed_runs (runs_of units)

@@ -1,5 +1,5 @@
 -- The units of a list of items, as a call sees them, and the breaks between them.
-use Rattle.std.specs.Prelude.{ℕ, ◌+◌, Bool, true, false, not, ◌||◌, nat_eq, nat_lt, List, filter_map, Option, Some, None}
+use Rattle.std.specs.Prelude.{ℕ, ◌+◌, Bool, true, false, not, ◌||◌, ◌==◌, nat_lt, List, filter_map, Option, Some, None}
 use Rattle.p25_link.specs.declared.link_control.LinkControl.{LinkControl}
 use Rattle.p25_voice_units.specs.declared.unit.VoiceUnit.TheVariants.{Header, Link1, Link2, End, EndLink}
 use Rattle.p25_units.specs.Units.{body_duid, frame_length_of}
@@ -58,19 +58,19 @@ units_of items = filter_map unit_of items
 
 -- a voice unit is each unit but a packet, whose data unit identifier is C hex
 abbrev pub is_voice : UnitSeen → Bool
-is_voice unit = not (nat_eq unit.duid 0xC)
+is_voice unit = not (unit.duid == 0xC)
 
 -- a header has the data unit identifier 0
 abbrev pub is_header : UnitSeen → Bool
-is_header unit = nat_eq unit.duid 0
+is_header unit = unit.duid == 0
 
 -- a link unit has 5 or A hex
 abbrev pub is_link_unit : UnitSeen → Bool
-is_link_unit unit = nat_eq unit.duid 5 || nat_eq unit.duid 0xA
+is_link_unit unit = unit.duid == 5 || unit.duid == 0xA
 
 -- a terminator has 3 or F hex
 abbrev pub is_terminator : UnitSeen → Bool
-is_terminator unit = nat_eq unit.duid 3 || nat_eq unit.duid 0xF
+is_terminator unit = unit.duid == 3 || unit.duid == 0xF
 
 -- where a unit ends: the place after its last bit
 abbrev pub unit_end : UnitSeen → ℕ
@@ -82,7 +82,7 @@ unfoldable pub is_break : UnitSeen → UnitSeen → Bool
 is_break unit next =
     not (is_voice unit)
     || not (is_voice next)
-    || not (nat_eq unit.nac next.nac)
+    || not (unit.nac == next.nac)
     || is_terminator unit
     || is_header next
     || nat_lt (unit_end unit + 3456) next.place

@@ -1,5 +1,5 @@
 -- What a caller holds, and what it answers to an item.
-use Rattle.std.specs.Prelude.{ℕ, ◌+◌, ◌-◌, ◌<◌, ◌≤◌, Bool, not, ◌&&◌, cond, nat_eq, nat_le, nat_lt, List, [], ◌∷◌, ◌++◌, Option, Some, None, IfSome, option_to_list}
+use Rattle.std.specs.Prelude.{ℕ, ◌+◌, ◌-◌, ◌<◌, ◌≤◌, Bool, not, ◌&&◌, if◌then◌else◌, ◌==◌, nat_le, nat_lt, List, [], ◌∷◌, ◌++◌, Option, Some, None, IfSome, option_to_list}
 use Rattle.std.specs.Option.{option_or}
 use Rattle.p25_units.specs.Items.{covered, place_of}
 use Rattle.p25_units.specs.declared.item.Item.{Item}
@@ -22,7 +22,7 @@ fresh_caller = record { reached = 0; taken = 0; pending = None }
 
 -- there is no break between the last unit of a run and a unit
 abbrev pub goes_on : Call → UnitSeen → Bool
-goes_on call unit = is_voice unit && nat_eq call.nac unit.nac && not (is_header unit) && nat_le unit.place (call.place + call.bits + 3456)
+goes_on call unit = is_voice unit && call.nac == unit.nac && not (is_header unit) && nat_le unit.place (call.place + call.bits + 3456)
 
 -- a run of one unit, as a call
 abbrev pub call_of_one : UnitSeen → Call
@@ -30,14 +30,11 @@ call_of_one unit = call_of (run_from unit [])
 
 -- a run with one unit more, as a call
 abbrev pub extended : Call → UnitSeen → Call
-extended call unit = record {
-  place = call.place;
+extended call unit = record call {
   bits = unit_end unit - call.place;
-  nac = call.nac;
-  late = call.late;
   end = end_of unit;
-  links = call.links + cond (is_link_unit unit) 1 0;
-  broken = call.broken + cond unit.broken 1 0;
+  links = call.links + (if is_link_unit unit then 1 else 0);
+  broken = call.broken + (if unit.broken then 1 else 0);
   link = option_or call.link unit.link;
   algid = option_or call.algid unit.algid;
 }
@@ -45,20 +42,20 @@ extended call unit = record {
 -- the run that a unit is the last of, as a call
 abbrev pub run_with : Option Call → UnitSeen → Call
 run_with None unit = call_of_one unit
-run_with (Some call) unit = cond (goes_on call unit) (extended call unit) (call_of_one unit)
+run_with (Some call) unit = if goes_on call unit then extended call unit else call_of_one unit
 
 -- a run is a call where it has a link unit
 abbrev pub if_linked : Call → Option Call
-if_linked call = cond (nat_lt 0 call.links) (Some call) None
+if_linked call = if nat_lt 0 call.links then Some call else None
 
 -- the call that ends with the unit before a unit, since there is a break between them
 abbrev pub broken_off : Option Call → UnitSeen → Option Call
 broken_off None unit = None
-broken_off (Some call) unit = cond (goes_on call unit) None (if_linked call)
+broken_off (Some call) unit = if goes_on call unit then None else if_linked call
 
 -- the call that ends with the last unit of a run, since it is its terminator
 abbrev pub terminated : Call → UnitSeen → Option Call
-terminated run unit = cond (is_terminator unit) (if_linked run) None
+terminated run unit = if is_terminator unit then if_linked run else None
 
 -- the call that a unit ends
 abbrev pub ended_call : Option Call → UnitSeen → Option Call
@@ -66,7 +63,7 @@ ended_call pending unit = option_or (broken_off pending unit) (terminated (run_w
 
 -- a run that a further unit may still join, by its last unit
 abbrev pub pending_run : Call → UnitSeen → Option Call
-pending_run run unit = cond (is_voice unit && not (is_terminator unit)) (Some run) None
+pending_run run unit = if is_voice unit && not (is_terminator unit) then Some run else None
 
 -- what a caller answers to a unit, where an item is one
 abbrev pub unit_answer : Option Call → Option UnitSeen → Option Call
@@ -100,7 +97,7 @@ open_call caller = linked_pending caller.pending
 
 -- what is answered to items, one after the other, and at the end, where it has come
 unfoldable pub answers_by : Bool → CallerParts → List Item → List Call
-answers_by ended caller [] = cond ended (option_to_list (open_call caller)) []
+answers_by ended caller [] = if ended then option_to_list (open_call caller) else []
 answers_by ended caller (item ∷ items) = option_to_list (answer_to caller item) ++ answers_by ended (behind_item caller item) items
 
 -- what a caller holds after items

@@ -1,6 +1,6 @@
 -- The damage of a field that its codes undo: twice the wrong symbols, and the erasures, are at most the check symbols of the outer
 -- code together.
-use Rattle.std.specs.Prelude.{◌≡◌, ℕ, ◌*◌, ◌≤◌, cond, nat_le, Bool, List, length, take, Option, Some, All, sum_by}
+use Rattle.std.specs.Prelude.{◌≡◌, ℕ, ◌*◌, ◌≤◌, if◌then◌else◌, nat_le, Bool, List, length, take, Option, Some, All, sum_by}
 use Rattle.p25_bits.specs.Bits.{part}
 use Rattle.p25_bits.specs.Distance.{distance_of}
 use Rattle.p25_code.specs.Erasures.{erased_cost}
@@ -22,7 +22,7 @@ pub record IsFieldNear (checks : ℕ) (layout : Layout) (sent received : List Bo
 -- how many symbols stand in inner words with more wrong bits than the radius
 unfoldable pub lost_symbols : ℕ → Layout → List Bool → List Bool → ℕ
 lost_symbols radius layout sent received =
-    sum_by (λ at. cond (nat_le (distance_of (part at layout.size received) (part at layout.size sent)) radius) 0 layout.each) layout.places
+    sum_by (λ at. if nat_le (distance_of (part at layout.size received) (part at layout.size sent)) radius then 0 else layout.each) layout.places
 
 -- what a layout's readings are for sets of words: a word of the set near to what was received is the reading
 pub record HasCodes (IsInnerWord : List Bool → Type 0) (inner_radius : ℕ) (IsOuterWord : List Sym → Type 0) (checks : ℕ) (layout : Layout) : Type 0 where

@@ -7,10 +7,10 @@ ghost use Rattle.p25_code.specs.Words.{IsEncoding};
 ghost use Rattle.p25_coded_fields.specs.Fixes.{AreCounted, IsTotal};
 ghost use Rattle.p25_link.specs.Symbols.{symbol_bits};
 
-use crate::symbols::symbols_number;
 use p25_bits::BitBuf;
 use p25_code::NumberCode;
 use p25_gf64::Sym;
+use p25_link::symbols_number;
 
 // The sum of two counts, unless it is too large.
 fn total(first: u32, second: u32) -> u32
@@ -87,6 +87,6 @@ fn inner_fixes<I: NumberCode>(bare: &BitBuf, at: usize, symbols: &[Sym]) -> u32
     ensures wrong { (sent : List Bool) → IsEncoding I.IsWord I.K (symbol_bits symbols.now) sent → result ≡ distance_of (part at I.N bare.now) sent }
 {
     let received = bare.field(at, I::N as u32) as u32;
-    let sent = I::encode_number(symbols_number(symbols));
+    let sent = I::encode_number(symbols_number(symbols) as u32);
     (received ^ sent).count_ones()
 }

@@ -22,7 +22,6 @@
 mod fixes;
 mod put;
 mod read;
-mod symbols;
 #[cfg(test)]
 mod tests;
 

@@ -4,10 +4,10 @@ ghost use Rattle.std.specs.Prelude.{◌≡◌, ◌+◌, ◌*◌, ◌/◌, ◌≤
 ghost use Rattle.p25_coded_fields.specs.Layouts.{field_bits};
 ghost use Rattle.p25_coded_fields.specs.Written.{Encodes, IsPut, IsWritten};
 
-use crate::symbols::symbols_number;
 use p25_bits::BitBuf;
 use p25_code::NumberCode;
 use p25_gf64::Sym;
+use p25_link::symbols_number;
 
 // Appends the inner word whose information is the symbols.
 fn put_inner<I: NumberCode>(symbols: &[Sym], out: &mut BitBuf)
@@ -18,7 +18,7 @@ fn put_inner<I: NumberCode>(symbols: &[Sym], out: &mut BitBuf)
     ensures put { IsPut I.IsWord I.K symbols.now out.old out.new }
     ensures len { length out.new ≡ length out.old + I.N }
 {
-    let word = I::encode_number(symbols_number(symbols));
+    let word = I::encode_number(symbols_number(symbols) as u32);
     out.put_field(u64::from(word), I::N as u32);
 }
 

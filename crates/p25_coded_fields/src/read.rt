@@ -12,10 +12,10 @@ ghost use Rattle.p25_coded_fields.specs.Written.{Encodes};
 ghost use Rattle.p25_link.specs.Symbols.{symbol_bits};
 
 use crate::fixes::{field_fixes, sum_of};
-use crate::symbols::take_symbols;
 use p25_bits::BitBuf;
 use p25_code::{ErasedCode, NumberCode, Reading, read_with_erasures};
 use p25_gf64::Sym;
+use p25_link::put_symbols;
 
 // Sets all to one truth value.
 fn set_all(erased: &mut [bool], gone: bool)
@@ -47,7 +47,7 @@ fn read_inner<I: NumberCode>(
     let received = bare.field(at, I::N as u32) as u32;
     match I::read_number(received) {
         Some(sent) => {
-            take_symbols(sent >> (I::N - I::K), symbols);
+            put_symbols(u128::from(sent >> (I::N - I::K)), symbols);
             set_all(erased, false);
             Some((received ^ sent).count_ones())
         }

@@ -2,6 +2,7 @@
 use Rattle.std.proofs.Common.{◌≡◌, ℕ, ◌<◌, ◌≤◌, ◌&&◌, true, List, [], ◌∷◌, length, Option, Some, None, Result, Ok, Err, refl, ap, ap₂, subst, ◌∙◌, arith}
 use Rattle.std.specs.Prelude.{IfOk}
 use Rattle.std.specs.List.{list_all}
+use Rattle.p25_line.specs.LineReadings.{keyed_or_fault, named_or_fault, value_or_fault}
 use Rattle.p25_line.specs.Words.{is_word}
 use Rattle.p25_line.specs.declared.fault.LineFault.{LineFault}
 use Rattle.p25_line.proofs.LineReadLaws.{WordLaws, line_read-facts, line_read-words}
@@ -17,7 +18,7 @@ use Rattle.p25_duplex.specs.Sides.{side_word}
 use Rattle.p25_duplex.specs.declared.event.DuplexEvent.{DuplexEvent}
 use Rattle.p25_duplex.specs.declared.event.DuplexEvent.TheVariants.{Send, Timeout, Reopen, Deliver}
 use Rattle.p25_duplex.specs.DuplexRuns.{IsDuplexEvent}
-use Rattle.p25_duplex_script.specs.DuplexLines.{IsDuplexScripted, delivery_to, direction_word, duplex_by_words, duplex_event_of, duplex_starts, duplex_text, duplex_words, event_behind, event_by_start, event_of_side, hearer_named, message_or_fault, start_named, start_word}
+use Rattle.p25_duplex_script.specs.DuplexLines.{IsDuplexScripted, direction_word, duplex_by_words, duplex_event_of, duplex_starts, duplex_text, duplex_words, event_behind, event_of_side, hearer_named, start_named, start_word}
 use Rattle.p25_duplex_script.specs.declared.read.DuplexStart.{DuplexStart}
 use Rattle.p25_duplex_script.specs.declared.read.DuplexStart.TheVariants.{Acts, Delivery}
 
@@ -42,14 +43,14 @@ words-some (Deliver to places) = omega arith
 
 -- and they are read as it
 by_words-words : (event : DuplexEvent) → IsDuplexScripted event → duplex_by_words (duplex_words event) ≡ Ok event
-by_words-words (Send A message) fits = ap (message_or_fault A) (message_in-text message fits)
-by_words-words (Send B message) fits = ap (message_or_fault B) (message_in-text message fits)
+by_words-words (Send A message) fits = ap (value_or_fault (Send A)) (message_in-text message fits)
+by_words-words (Send B message) fits = ap (value_or_fault (Send B)) (message_in-text message fits)
 by_words-words (Timeout A) fits = refl
 by_words-words (Timeout B) fits = refl
 by_words-words (Reopen A) fits = refl
 by_words-words (Reopen B) fits = refl
-by_words-words (Deliver A places) fits = ap (delivery_to (Some A)) (places_in-text places fits)
-by_words-words (Deliver B places) fits = ap (delivery_to (Some B)) (places_in-text places fits)
+by_words-words (Deliver A places) fits = ap (value_or_fault (Deliver A)) (places_in-text places fits)
+by_words-words (Deliver B places) fits = ap (value_or_fault (Deliver B)) (places_in-text places fits)
 
 -- ---- a line that is read is the line of its event
 
@@ -57,7 +58,7 @@ by_words-words (Deliver B places) fits = ap (delivery_to (Some B)) (places_in-te
 abbrev ReadFrom : List (List ℕ) → DuplexEvent → Type 0
 ReadFrom words event = (duplex_words event ≡ words) × IsDuplexScripted event
 
-from_message : (side : Side) (word : List ℕ) (made : Option (List ℕ)) (event : DuplexEvent) → message_in word ≡ made → message_or_fault side made ≡ Ok event → ReadFrom (side_word side ∷ event_word SendLine ∷ word ∷ []) event
+from_message : (side : Side) (word : List ℕ) (made : Option (List ℕ)) (event : DuplexEvent) → message_in word ≡ made → value_or_fault (Send side) made ≡ Ok event → ReadFrom (side_word side ∷ event_word SendLine ∷ word ∷ []) event
 from_message side word None event read found = cc found
 from_message side word (Some message) event read found =
     let facts = message-message_in word message read in
@@ -86,7 +87,7 @@ from_side side second others (Some kind) event named found =
     let read = from_kind side kind others event found in
     (read.0 ∙ ap (λ w. side_word side ∷ w ∷ others) word, read.1)
 
-from_delivery : (direction word : List ℕ) (to : Option Side) (made : Option (List ℕ)) (event : DuplexEvent) → hearer_named direction ≡ to → places_in word ≡ made → delivery_to to made ≡ Ok event →
+from_delivery : (direction word : List ℕ) (to : Option Side) (made : Option (List ℕ)) (event : DuplexEvent) → hearer_named direction ≡ to → places_in word ≡ made → keyed_or_fault Deliver to made ≡ Ok event →
     ReadFrom (event_word DeliverLine ∷ direction ∷ word ∷ []) event
 from_delivery direction word None made event named read found = cc found
 from_delivery direction word (Some to) None event named read found = cc found
@@ -105,7 +106,7 @@ from_others Delivery (direction ∷ []) event found = cc found
 from_others Delivery (direction ∷ word ∷ []) event found = from_delivery direction word (hearer_named direction) (places_in word) event refl refl found
 from_others Delivery (direction ∷ word ∷ next ∷ others) event found = cc found
 
-from_start : (first : List ℕ) (others : List (List ℕ)) (start : Option DuplexStart) (event : DuplexEvent) → start_named first ≡ start → event_by_start others start ≡ Ok event → ReadFrom (first ∷ others) event
+from_start : (first : List ℕ) (others : List (List ℕ)) (start : Option DuplexStart) (event : DuplexEvent) → start_named first ≡ start → named_or_fault event_behind start others ≡ Ok event → ReadFrom (first ∷ others) event
 from_start first others None event named found = cc found
 from_start first others (Some start) event named found =
     let word = named-word start_word duplex_starts first start named in

@@ -1,22 +1,23 @@
 -- What each answer of the reader of lines shows of the reading of words by the definition. By cases on the number of words.
 use Rattle.std.proofs.Common.{◌≡◌, ℕ, suc, List, [], ◌∷◌, length, drop, slice_get, Option, Some, None, Err, refl, ap, ◌∙◌, arith}
 use Rattle.p25_line.specs.declared.fault.LineFault.TheVariants.{Key, Kind as WrongKind}
+use Rattle.p25_line.specs.LineReadings.{named_or_fault}
 use Rattle.p25_line.proofs.LineWordsLaws.{first-others, one-other, two-others}
 use Rattle.p25_script.specs.declared.names.EventKind.{EventKind}
 use Rattle.p25_script.specs.declared.names.EventKind.TheVariants.{Send as SendLine, Timeout as TimeoutLine, Reopen as ReopenLine, Deliver as DeliverLine}
 use Rattle.p25_script.specs.Script.{event_named}
 use Rattle.p25_duplex.specs.declared.side.Side.{Side}
-use Rattle.p25_duplex_script.specs.DuplexLines.{duplex_by_words, event_behind, event_by_start, event_of_side, start_named}
+use Rattle.p25_duplex_script.specs.DuplexLines.{duplex_by_words, event_behind, event_of_side, start_named}
 use Rattle.p25_duplex_script.specs.declared.read.DuplexStart.{DuplexStart}
 use Rattle.p25_duplex_script.specs.declared.read.DuplexStart.TheVariants.{Acts, Delivery}
 
 -- the first word names nothing
 pub wrong-start : (words : List (List ℕ)) (first : List ℕ) → slice_get words 0 ≡ Some first → start_named first ≡ None → duplex_by_words words ≡ Err WrongKind
-wrong-start words first at none = ap duplex_by_words (first-others words first at) ∙ ap (event_by_start (drop 1 words)) none
+wrong-start words first at none = ap duplex_by_words (first-others words first at) ∙ ap (λ start. named_or_fault event_behind start (drop 1 words)) none
 
 -- or something
 right-start : (words : List (List ℕ)) (first : List ℕ) (start : DuplexStart) → slice_get words 0 ≡ Some first → start_named first ≡ Some start → duplex_by_words words ≡ event_behind start (drop 1 words)
-right-start words first start at named = ap duplex_by_words (first-others words first at) ∙ ap (event_by_start (drop 1 words)) named
+right-start words first start at named = ap duplex_by_words (first-others words first at) ∙ ap (λ start. named_or_fault event_behind start (drop 1 words)) named
 
 -- a line of two words
 pub two-words : (words : List (List ℕ)) (first second : List ℕ) (start : DuplexStart) → slice_get words 0 ≡ Some first → start_named first ≡ Some start → length words ≡ 2 → slice_get words 1 ≡ Some second

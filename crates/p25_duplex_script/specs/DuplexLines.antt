@@ -1,11 +1,11 @@
 -- Lines of a script of the duplex world: the line of an event, and the event of a line.
-use Rattle.std.specs.Prelude.{ℕ, List, [], ◌∷◌, codes, Option, Some, None, Result, Ok, Err}
+use Rattle.std.specs.Prelude.{ℕ, List, [], ◌∷◌, codes, Option, Some, Result, Ok, Err}
 use Rattle.std.specs.List.{find, join_with_byte}
 use Rattle.std.specs.Str.{bytes_eq}
-use Rattle.p25_line.specs.LineReadings.{line_read}
+use Rattle.p25_line.specs.LineReadings.{keyed_or_fault, line_read, named_or_fault, value_or_fault}
 use Rattle.p25_line.specs.Octets.{octets_text}
 use Rattle.p25_line.specs.declared.fault.LineFault.{LineFault}
-use Rattle.p25_line.specs.declared.fault.LineFault.TheVariants.{Form, Key, Value, Kind as WrongKind}
+use Rattle.p25_line.specs.declared.fault.LineFault.TheVariants.{Form, Key}
 use Rattle.p25_delivery.specs.SoundHalves.{IsMessage}
 use Rattle.p25_script.specs.Script.{event_word, event_named}
 use Rattle.p25_script.specs.Values.{ArePlaces, message_in, places_in, places_text}
@@ -65,38 +65,22 @@ duplex_text event = join_with_byte 32 (duplex_words event)
 
 -- ---- the event of a line
 
--- the event of a message, or that the value is wrong
-abbrev pub message_or_fault : Side → Option (List ℕ) → Result DuplexEvent LineFault
-message_or_fault side (Some message) = Ok (Send side message)
-message_or_fault side None = Err Value
-
 -- an event of a side by the words after its second
 abbrev pub event_of_side : Side → Option EventKind → List (List ℕ) → Result DuplexEvent LineFault
-event_of_side side (Some SendLine) (message ∷ []) = message_or_fault side (message_in message)
+event_of_side side (Some SendLine) (message ∷ []) = value_or_fault (Send side) (message_in message)
 event_of_side side (Some TimeoutLine) [] = Ok (Timeout side)
 event_of_side side (Some ReopenLine) [] = Ok (Reopen side)
 event_of_side side kind others = Err Key
 
--- a delivery of a direction and of places, or which of them is wrong; the direction is a key, and is judged first
-abbrev pub delivery_to : Option Side → Option (List ℕ) → Result DuplexEvent LineFault
-delivery_to None places = Err Key
-delivery_to (Some to) None = Err Value
-delivery_to (Some to) (Some places) = Ok (Deliver to places)
-
 -- the event of the words after the first, or the first cause for which they are refused
 abbrev pub event_behind : DuplexStart → List (List ℕ) → Result DuplexEvent LineFault
 event_behind (Acts side) (word ∷ others) = event_of_side side (event_named word) others
-event_behind Delivery (direction ∷ places ∷ []) = delivery_to (hearer_named direction) (places_in places)
+event_behind Delivery (direction ∷ places ∷ []) = keyed_or_fault Deliver (hearer_named direction) (places_in places)
 event_behind start others = Err Key
-
--- the event of the words after a first word that names how it begins, or none
-abbrev pub event_by_start : List (List ℕ) → Option DuplexStart → Result DuplexEvent LineFault
-event_by_start others (Some start) = event_behind start others
-event_by_start others None = Err WrongKind
 
 -- the event of the words of a line, of which there is one at least
 abbrev pub duplex_by_words : List (List ℕ) → Result DuplexEvent LineFault
-duplex_by_words (first ∷ others) = event_by_start others (start_named first)
+duplex_by_words (first ∷ others) = named_or_fault event_behind (start_named first) others
 duplex_by_words [] = Err Form
 
 -- the event of a line, or the first cause for which the line is refused: Long, Form, Kind, Key, Value

@@ -1,11 +1,11 @@
 -- How a command's work goes on: moves follow one another, a piece is gathered, a page is written. Each law joins the two
 -- equations of what is written, and adds up the texts.
-use Rattle.std.proofs.Common.{ℕ, List, [], ◌++◌, refl, ap, sym, subst, ◌∙◌, append_assoc, append-nil}
+use Rattle.std.proofs.Common.{ℕ, Bool, List, [], ◌++◌, refl, ap, sym, subst, ◌∙◌, append_assoc, append-nil}
 use Rattle.std.specs.Prelude.{Contains}
 use Rattle.p25_io.specs.Events.{Event}
 use Rattle.p25_filter.specs.Futures.{Future, Progress, IsRefused, IsPausing, Moved, IsCutOff, IsEnded, IsPaused}
 use Rattle.p25_filter.specs.Pages.{Gathered}
-use Rattle.p25_filter.specs.Writes.{CutShort, Written}
+use Rattle.p25_filter.specs.Writes.{Begins, CutShort, Written}
 use Rattle.p25_filter.proofs.WritesLaws.{CutShort-after, Written-none, Written-trans}
 
 module _ {P : Type 0} (moves : P → List Event → P → Type 0) (stays : (port : P) → moves port [] port)
@@ -87,6 +87,24 @@ module _ {P : Type 0} (moves : P → List Event → P → Type 0) (stays : (port
         record { pause = before.pause; is = before.is; whole = before.whole ∙ sym (append_assoc moved.text kept pause) };
   }
 
+  -- what was written and the page begin all that is to be written
+  begins-page : (first second : P) (page kept xs : List ℕ) (a b : Future) (moved : Moved moves first page a xs second kept b) (ended : Bool) (more : List ℕ)
+      → Begins (moved.text ++ kept) (page ++ a.writes ended (xs ++ more))
+  begins-page first second page kept xs a b moved ended more =
+      record { rest = b.writes ended more; is = moved.writes ended more ∙ sym (append_assoc moved.text kept (b.writes ended more)) }
+
+  -- and so do what was written in a move and a beginning of what is written after it
+  begins-after : (first second : P) (page kept xs ys text more : List ℕ) (a b : Future) (moved : Moved moves first page a xs second kept b) (ended : Bool)
+      → Begins text (kept ++ b.writes ended (ys ++ more)) → Begins (moved.text ++ text) (page ++ a.writes ended ((xs ++ ys) ++ more))
+  begins-after first second page kept xs ys text more a b moved ended begins = record {
+    rest = begins.rest;
+    is =
+        ap (λ (zs : List ℕ). page ++ a.writes ended zs) (append_assoc xs ys more)
+        ∙ moved.writes ended (ys ++ more)
+        ∙ ap (λ (zs : List ℕ). moved.text ++ zs) begins.is
+        ∙ sym (append_assoc moved.text text begins.rest);
+  }
+
   -- a write of the page fails
   pub IsCutOff-page : (first second third : P) (page kept xs : List ℕ) (a b : Future)
       → Moved moves first page a xs second kept b → CutShort moves second kept third
@@ -94,8 +112,7 @@ module _ {P : Type 0} (moves : P → List Event → P → Type 0) (stays : (port
   IsCutOff-page first second third page kept xs a b moved cut = record {
     text = moved.text ++ kept;
     cut = CutShort-after moves stays joins first second third moved.text kept moved.written cut;
-    begins = λ ended more.
-        record { rest = b.writes ended more; is = moved.writes ended more ∙ sym (append_assoc moved.text kept (b.writes ended more)) };
+    begins = begins-page first second page kept xs a b moved;
   }
 
   -- it fails after a move
@@ -105,16 +122,7 @@ module _ {P : Type 0} (moves : P → List Event → P → Type 0) (stays : (port
   IsCutOff-after first second third page kept xs ys a b moved stopped = record {
     text = moved.text ++ stopped.text;
     cut = CutShort-after moves stays joins first second third moved.text stopped.text moved.written stopped.cut;
-    begins = λ ended more.
-        let begins = stopped.begins ended more in
-        record {
-          rest = begins.rest;
-          is =
-              ap (λ (zs : List ℕ). page ++ a.writes ended zs) (append_assoc xs ys more)
-              ∙ moved.writes ended (ys ++ more)
-              ∙ ap (λ (zs : List ℕ). moved.text ++ zs) begins.is
-              ∙ sym (append_assoc moved.text stopped.text begins.rest);
-        };
+    begins = λ ended more. begins-after first second page kept xs ys stopped.text more a b moved ended (stopped.begins ended more);
   }
 
   -- the page is written before a refusal
@@ -153,8 +161,7 @@ module _ {P : Type 0} (moves : P → List Event → P → Type 0) (stays : (port
     pauses = λ ended more.
         let before = moved.pauses ended more [] (pausing ended more) in
         record { pause = before.pause; is = before.is; whole = before.whole ∙ ap (λ (zs : List ℕ). moved.text ++ zs) (append-nil kept) };
-    begins = λ ended more.
-        record { rest = b.writes ended more; is = moved.writes ended more ∙ sym (append_assoc moved.text kept (b.writes ended more)) };
+    begins = begins-page first second page kept xs a b moved;
   }
 
   -- it is wanting after a move
@@ -172,14 +179,5 @@ module _ {P : Type 0} (moves : P → List Event → P → Type 0) (stays : (port
           is = subst (λ (zs : List ℕ). Contains (a.pauses ended zs) before.pause) (sym (append_assoc xs ys more)) before.is;
           whole = before.whole ∙ ap (λ (zs : List ℕ). moved.text ++ zs) after.whole;
         };
-    begins = λ ended more.
-        let begins = paused.begins ended more in
-        record {
-          rest = begins.rest;
-          is =
-              ap (λ (zs : List ℕ). page ++ a.writes ended zs) (append_assoc xs ys more)
-              ∙ moved.writes ended (ys ++ more)
-              ∙ ap (λ (zs : List ℕ). moved.text ++ zs) begins.is
-              ∙ sym (append_assoc moved.text paused.text begins.rest);
-        };
+    begins = λ ended more. begins-after first second page kept xs ys paused.text more a b moved ended (paused.begins ended more);
   }

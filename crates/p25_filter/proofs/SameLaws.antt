@@ -1,5 +1,4 @@
--- What is said of the work of one future holds of that of another that writes and ends alike, and after whose same texts memory may
--- be wanting: by cases on the end.
+-- What is said of the work of one future holds of that of another that is alike: by cases on the end.
 use Rattle.std.proofs.Common.{◌≡◌, ℕ, Bool, true, false, cond, nat_lt, List, [], ◌∷◌, ◌++◌, length, take, Option, sym, subst, ◌∙◌}
 use Rattle.std.specs.Prelude.{Contains}
 use Rattle.p25_io.specs.Events.{Event, Read, ReadFailed, Wrote, WriteFailed}
@@ -8,92 +7,67 @@ use Rattle.p25_filter.specs.declared.ending.Ending.{Ending}
 use Rattle.p25_filter.specs.declared.ending.FilterEnd.{FilterEnd}
 use Rattle.p25_filter.specs.declared.ending.FilterEnd.TheVariants.{Ended as FilterEnded, ReadFault, WriteFault, TooLong, Memory}
 use Rattle.p25_filter.specs.Futures.{Future}
-use Rattle.p25_filter.specs.Runs.{input_most, all_written, Filtered}
+use Rattle.p25_filter.specs.Runs.{Filtered, Meets, all_written, input_most}
 use Rattle.p25_filter.specs.Traces.{Broken, EndsAs, Going, IsDecided, IsFinalAt, IsLive, IsMemoryAt, IsRun, IsSettled, MayCome, Over, Phase, Standing, after_all, at_first, standing_after}
 use Rattle.p25_filter.proofs.WritesLaws.{Begins-same}
 
--- all that is to be written
-pub all_written-same : (f g : Future) → ((is : Bool) (octets : List ℕ) → f.writes is octets ≡ g.writes is octets) → (input : List ℕ) → all_written f input ≡ all_written g input
-all_written-same f g writes input = by_length (nat_lt input_most (length input))
-  where
-    by_length : (long : Bool) → cond long (f.writes false (take input_most input)) (f.writes true input) ≡ cond long (g.writes false (take input_most input)) (g.writes true input)
-    by_length true = writes false (take input_most input)
-    by_length false = writes true input
+-- two futures write and end alike, and memory may be wanting after the same texts
+pub record AreAlike (f g : Future) : Type 0 where
+  pub writes : (is : Bool) (octets : List ℕ) → f.writes is octets ≡ g.writes is octets
+  pub ends : (is : Bool) (octets : List ℕ) → f.ends is octets ≡ g.ends is octets
+  pub pauses : (is : Bool) (octets : List ℕ) → f.pauses is octets ≡ g.pauses is octets
 
-pub Filtered-same : (told left first last : Option (List ℕ)) (f g : Future) (end : FilterEnd)
-    → ((is : Bool) (octets : List ℕ) → f.writes is octets ≡ g.writes is octets) → ((is : Bool) (octets : List ℕ) → f.ends is octets ≡ g.ends is octets)
-    → ((is : Bool) (octets : List ℕ) → f.pauses is octets ≡ g.pauses is octets) → Filtered told left first last f end → Filtered told left first last g end
-Filtered-same told left first last f g (FilterEnded ending) writes ends pauses worked =
-    record {
-      octets = worked.octets;
-      taken = worked.taken;
-      few = worked.few;
-      meets = record {
-        ended = worked.meets.ended;
-        all = worked.meets.all;
-        ends = sym (ends worked.meets.ended (take input_most worked.octets)) ∙ worked.meets.ends;
-        stays = λ same is more. sym (ends is (take input_most worked.octets ++ more)) ∙ worked.meets.stays same is more;
-        wrote = Appended-same (writes worked.meets.ended (take input_most worked.octets)) worked.meets.wrote;
-      };
-    }
-Filtered-same told left first last f g ReadFault writes ends pauses worked =
-    record {
-      octets = worked.octets;
-      taken = worked.taken;
-      few = worked.few;
-      meets = record {
-        few = worked.meets.few;
-        ends = sym (ends false worked.octets) ∙ worked.meets.ends;
-        wrote = Appended-same (writes false worked.octets) worked.meets.wrote;
-      };
-    }
-Filtered-same told left first last f g WriteFault writes ends pauses worked =
-    record {
-      octets = worked.octets;
-      taken = worked.taken;
-      few = worked.few;
-      meets = record { beginning = λ rest is. AppendedBeginning-same (all_written-same f g writes (worked.octets ++ rest)) (worked.meets.beginning rest is) };
-    }
-Filtered-same told left first last f g TooLong writes ends pauses worked =
-    record {
-      octets = worked.octets;
-      taken = worked.taken;
-      few = worked.few;
-      meets = record {
-        many = worked.meets.many;
-        ends = sym (ends false (take input_most worked.octets)) ∙ worked.meets.ends;
-        wrote = Appended-same (writes false (take input_most worked.octets)) worked.meets.wrote;
-      };
-    }
-Filtered-same told left first last f g Memory writes ends pauses worked =
-    record {
-      octets = worked.octets;
-      taken = worked.taken;
-      few = worked.few;
-      meets = record {
-        ended = worked.meets.ended;
-        all = worked.meets.all;
-        text = worked.meets.text;
-        pauses = subst (λ (texts : List (List ℕ)). Contains texts worked.meets.text) (pauses worked.meets.ended (take input_most worked.octets)) worked.meets.pauses;
-        wrote = worked.meets.wrote;
-      };
-    }
+module _ (f g : Future) (alike : AreAlike f g) where
+  -- all that is to be written
+  pub all_written-same : (input : List ℕ) → all_written f input ≡ all_written g input
+  all_written-same input = by_length (nat_lt input_most (length input))
+    where
+      by_length : (long : Bool) → cond long (f.writes false (take input_most input)) (f.writes true input) ≡ cond long (g.writes false (take input_most input)) (g.writes true input)
+      by_length true = alike.writes false (take input_most input)
+      by_length false = alike.writes true input
 
--- a run of events of one future is one of another that writes and ends alike, and after whose same texts memory may be wanting
-module _ (f g : Future) (writes : (is : Bool) (octets : List ℕ) → f.writes is octets ≡ g.writes is octets)
-    (ends : (is : Bool) (octets : List ℕ) → f.ends is octets ≡ g.ends is octets)
-    (pauses : (is : Bool) (octets : List ℕ) → f.pauses is octets ≡ g.pauses is octets) where
+  -- what is said of work on an input
+  Meets-same : (told left first last : Option (List ℕ)) (octets : List ℕ) (end : FilterEnd) → Meets told left first last f octets end → Meets told left first last g octets end
+  Meets-same told left first last octets (FilterEnded ending) meets = record {
+    ended = meets.ended;
+    all = meets.all;
+    ends = sym (alike.ends meets.ended (take input_most octets)) ∙ meets.ends;
+    stays = λ same is more. sym (alike.ends is (take input_most octets ++ more)) ∙ meets.stays same is more;
+    wrote = Appended-same (alike.writes meets.ended (take input_most octets)) meets.wrote;
+  }
+  Meets-same told left first last octets ReadFault meets =
+      record { few = meets.few; ends = sym (alike.ends false octets) ∙ meets.ends; wrote = Appended-same (alike.writes false octets) meets.wrote }
+  Meets-same told left first last octets WriteFault meets =
+      record { beginning = λ rest is. AppendedBeginning-same (all_written-same (octets ++ rest)) (meets.beginning rest is) }
+  Meets-same told left first last octets TooLong meets = record {
+    many = meets.many;
+    ends = sym (alike.ends false (take input_most octets)) ∙ meets.ends;
+    wrote = Appended-same (alike.writes false (take input_most octets)) meets.wrote;
+  }
+  Meets-same told left first last octets Memory meets = record {
+    ended = meets.ended;
+    all = meets.all;
+    text = meets.text;
+    pauses = subst (λ (texts : List (List ℕ)). Contains texts meets.text) (alike.pauses meets.ended (take input_most octets)) meets.pauses;
+    wrote = meets.wrote;
+  }
+
+  pub Filtered-same : (told left first last : Option (List ℕ)) (end : FilterEnd) → Filtered told left first last f end → Filtered told left first last g end
+  Filtered-same told left first last end worked =
+      record { octets = worked.octets; taken = worked.taken; few = worked.few; meets = Meets-same told left first last worked.octets end worked.meets }
+
+  -- a run of events
   IsDecided-same : (phase : Phase) (octets text : List ℕ) → IsDecided f phase octets text → IsDecided g phase octets text
-  IsDecided-same Going octets text decided = λ ended more. Begins-same (writes ended (take input_most octets ++ more)) (decided ended more)
-  IsDecided-same Over octets text decided = Begins-same (writes true octets) decided
+  IsDecided-same Going octets text decided = λ ended more. Begins-same (alike.writes ended (take input_most octets ++ more)) (decided ended more)
+  IsDecided-same Over octets text decided = Begins-same (alike.writes true octets) decided
   IsDecided-same Broken octets text decided = decided
 
   IsSettled-same : (at : Standing) → IsSettled f at → IsSettled g at
   IsSettled-same at settled = record {
     going = settled.going;
     few = settled.few;
-    ends = sym (ends false at.octets) ∙ settled.ends;
-    wrote = settled.wrote ∙ writes false at.octets;
+    ends = sym (alike.ends false at.octets) ∙ settled.ends;
+    wrote = settled.wrote ∙ alike.writes false at.octets;
   }
 
   MayCome-same : (at : Standing) (event : Event) → MayCome f at event → MayCome g at event
@@ -108,15 +82,15 @@ module _ (f g : Future) (writes : (is : Bool) (octets : List ℕ) → f.writes i
 
   IsFinalAt-same : (phase : Phase) (octets text : List ℕ) (ending : Ending) → IsFinalAt f phase octets text ending → IsFinalAt g phase octets text ending
   IsFinalAt-same Going octets text ending final = (
-    λ is more. sym (ends is (take input_most octets ++ more)) ∙ final.0 is more,
-    λ is more. sym (writes is (take input_most octets ++ more)) ∙ final.1 is more,
+    λ is more. sym (alike.ends is (take input_most octets ++ more)) ∙ final.0 is more,
+    λ is more. sym (alike.writes is (take input_most octets ++ more)) ∙ final.1 is more,
   )
-  IsFinalAt-same Over octets text ending final = (sym (ends true octets) ∙ final.0, final.1 ∙ writes true octets)
+  IsFinalAt-same Over octets text ending final = (sym (alike.ends true octets) ∙ final.0, final.1 ∙ alike.writes true octets)
   IsFinalAt-same Broken octets text ending final = final
 
   IsMemoryAt-same : (phase : Phase) (octets text : List ℕ) → IsMemoryAt f phase octets text → IsMemoryAt g phase octets text
-  IsMemoryAt-same Going octets text is = subst (λ (texts : List (List ℕ)). Contains texts text) (pauses false (take input_most octets)) is
-  IsMemoryAt-same Over octets text is = subst (λ (texts : List (List ℕ)). Contains texts text) (pauses true octets) is
+  IsMemoryAt-same Going octets text is = subst (λ (texts : List (List ℕ)). Contains texts text) (alike.pauses false (take input_most octets)) is
+  IsMemoryAt-same Over octets text is = subst (λ (texts : List (List ℕ)). Contains texts text) (alike.pauses true octets) is
   IsMemoryAt-same Broken octets text is = is
 
   EndsAs-same : (events : List Event) (at : Standing) (end : FilterEnd) → EndsAs f events at end → EndsAs g events at end
@@ -126,8 +100,8 @@ module _ (f g : Future) (writes : (is : Bool) (octets : List ℕ) → f.writes i
   EndsAs-same events at TooLong is = record {
     going = is.going;
     many = is.many;
-    ends = sym (ends false (take input_most at.octets)) ∙ is.ends;
-    wrote = is.wrote ∙ writes false (take input_most at.octets);
+    ends = sym (alike.ends false (take input_most at.octets)) ∙ is.ends;
+    wrote = is.wrote ∙ alike.writes false (take input_most at.octets);
   }
   EndsAs-same events at Memory is = IsMemoryAt-same at.phase at.octets at.text is
 

@@ -196,12 +196,20 @@ module _ {P : Type 0} (moves : P → List Event → P → Type 0) (stays : (port
   }
 
   -- a read that gave octets, or none
-  pub SoFar-more : (octets text piece : List ℕ) (last next : P) → SoFar moves first future (standing_at Going octets text) last
+  SoFar-more : (octets text piece : List ℕ) (last next : P) → SoFar moves first future (standing_at Going octets text) last
       → IsSettled future (standing_at Going octets text) → moves last (Read piece ∷ []) next → 0 < length piece → length piece ≤ read_most
       → SoFar moves first future (standing_at Going (octets ++ piece) text) next
   SoFar-more octets text [] last next so_far settled moved some few = absurd (omega (arith, some))
   SoFar-more octets text (octet ∷ piece) last next so_far settled moved some few =
       SoFar-events (standing_at Going octets text) last next (Read (octet ∷ piece) ∷ []) so_far moved ((settled, few), tt)
+
+  -- a read of some octets into a buffer of the most of a read
+  pub SoFar-read : (octets text buf : List ℕ) (count : ℕ) (now : Future) (last next : P) → SoFar moves first future (standing_at Going octets text) last
+      → length octets ≤ input_most → Progress future octets text now → IsIdle false now → moves last (Read (take count buf) ∷ []) next
+      → 0 < count → count ≤ length buf → length buf ≤ read_most → SoFar moves first future (standing_at Going (octets ++ take count buf) text) next
+  SoFar-read octets text buf count now last next so_far few progress idle moved some there room =
+      SoFar-more octets text (take count buf) last next so_far (settled future now octets text few progress idle) moved
+      (omega (arith, length-take count buf, there, some)) (omega (arith, length-take count buf, there, room))
 
   pub SoFar-over : (octets text piece : List ℕ) (last next : P) → SoFar moves first future (standing_at Going octets text) last
       → IsSettled future (standing_at Going octets text) → moves last (Read piece ∷ []) next → piece ≡ []

@@ -1,5 +1,5 @@
 -- For the tests: what a machine answers that gives each line back, and refuses an empty line and one that is too long.
-use Rattle.std.specs.Prelude.{◌≡◌, ℕ, ◌<◌, cond, if◌then◌else◌, false, nat_lt, List, [], length, Result, Ok, Err}
+use Rattle.std.specs.Prelude.{◌≡◌, ℕ, ◌<◌, if◌then◌else◌, false, nat_lt, List, [], length, Result, Ok, Err}
 use Rattle.std.proofs.Common.{ap}
 use Rattle.std.proofs.lemmas.Bool.{lt-ltb}
 use Rattle.p25_line.specs.declared.fault.LineFault.{LineFault}
@@ -13,4 +13,4 @@ abbrev pub echo_rules : {M : Type 0} → LineRules M
 echo_rules = record { answer = echo_answer; closing = λ machine. []; wants = false }
 
 pub echo_long : {M : Type 0} (machine : M) (line : List ℕ) → 8192 < length line → echo_answer machine line ≡ Err Long
-echo_long machine line long = ap (λ b. cond b (Err Long) (cond (nat_lt 0 (length line)) (Ok (line, machine)) (Err Form))) (lt-ltb 8192 (length line) long)
+echo_long machine line long = ap (λ b. if b then Err Long else if nat_lt 0 (length line) then Ok (line, machine) else Err Form) (lt-ltb 8192 (length line) long)

@@ -1,5 +1,5 @@
 -- The work on lines: what it still writes, for any octets that may still come.
-use Rattle.std.specs.Prelude.{◌≡◌, ℕ, ◌+◌, Bool, true, false, if◌then◌else◌, List, [], ◌∷◌, ◌++◌, Result, Ok, Err}
+use Rattle.std.specs.Prelude.{◌≡◌, ℕ, ◌+◌, Bool, true, false, ◌||◌, if◌then◌else◌, List, [], ◌∷◌, ◌++◌, Result, Ok, Err}
 use Rattle.p25_line.specs.declared.fault.LineFault.{LineFault}
 use Rattle.p25_filter.specs.declared.ending.Ending.TheVariants.{BadLine}
 use Rattle.p25_filter.specs.declared.ending.Refusal.{Refusal}
@@ -61,11 +61,7 @@ lines_left Closed line ended more = []
 
 -- whether the input has ended with these octets, and whether what is written at its end is still to be written
 abbrev pub ends_with : LinePhase → Bool → Bool
-ends_with Reading ended = ended
-ends_with Ready ended = ended
-ends_with ReadyLast ended = true
-ends_with Closing ended = true
-ends_with Closed ended = true
+ends_with phase ended = is_ended_phase phase || ended
 
 abbrev pub closes_with : LinePhase → Bool → Bool
 closes_with Reading ended = ended

@@ -54,6 +54,10 @@ abbrev pub rules_by : {E M : Type 0} → (List ℕ → Result E LineFault) → (
 rules_by read step closing wants =
     record { answer = λ machine line. answer_from step machine (read line); closing = closing; wants = wants }
 
+-- the text of what a step tells, and the machine after it
+abbrev pub told_by : {E M S : Type 0} → (M → E → M × S) → (S → List ℕ) → M → E → List ℕ × M
+told_by step text machine event = (text (step machine event).1, (step machine event).0)
+
 -- the texts of steps one after the other, and the machine after them
 unfoldable pub texts_of : {E M : Type 0} → (M → E → List ℕ × M) → M → List E → List (List ℕ)
 texts_of step machine [] = []

@@ -4,8 +4,10 @@ use Rattle.std.specs.Prelude.{codes}
 use Rattle.std.specs.Str.{bytes_eq}
 use Rattle.std.proofs.lemmas.Bool.{cond-true, cond-false}
 use Rattle.p25_line.specs.declared.fault.LineFault.TheVariants.{Key}
+use Rattle.p25_line.specs.LineReadings.{value_or_fault}
+use Rattle.p25_fragments.specs.declared.long_step.LongEvent.TheVariants.{Long}
 use Rattle.p25_line.proofs.LineWordsLaws.{first-others, one-other}
-use Rattle.p25_fragment_script.specs.LongScript.{long_event_by_words, long_in, long_message_in, long_or_fault, other_event}
+use Rattle.p25_fragment_script.specs.LongScript.{long_event_by_words, long_in, long_message_in, other_event}
 
 -- a line that begins with another word
 pub other_word : (words : List (List ℕ)) (first : List ℕ) → slice_get words 0 ≡ Some first → bytes_eq first (codes "long") ≡ false → long_event_by_words words ≡ other_event first (drop 1 words)
@@ -29,5 +31,5 @@ wrong_count words first at long other =
 
 -- and with as many
 pub right_count : (words : List (List ℕ)) (first word : List ℕ) → slice_get words 0 ≡ Some first → bytes_eq first (codes "long") ≡ true → length words ≡ 2 → slice_get words 1 ≡ Some word
-    → long_event_by_words words ≡ long_or_fault (long_message_in word)
+    → long_event_by_words words ≡ value_or_fault Long (long_message_in word)
 right_count words first word at long count next = long_word words first at long ∙ ap long_in (one-other words word count next)

@@ -5,6 +5,7 @@ use Rattle.std.specs.List.{list_all}
 use Rattle.std.specs.Str.{bytes_eq}
 use Rattle.std.proofs.lemmas.Bool.{cases_Bool, cond-true, cond-false, false≢true}
 use Rattle.std.proofs.lemmas.Slice.Eq.{bytes_eq-Decides}
+use Rattle.p25_line.specs.LineReadings.{value_or_fault}
 use Rattle.p25_line.specs.Words.{is_word}
 use Rattle.p25_line.specs.declared.fault.LineFault.{LineFault}
 use Rattle.p25_line.specs.declared.fault.LineFault.TheVariants.{Kind as WrongKind}
@@ -17,7 +18,7 @@ use Rattle.p25_script.proofs.ScriptLaws.{event_laws}
 use Rattle.p25_fragments.specs.LongRuns.{IsNoOffer}
 use Rattle.p25_fragments.specs.declared.long_step.LongEvent.{LongEvent}
 use Rattle.p25_fragments.specs.declared.long_step.LongEvent.TheVariants.{Long, Inner}
-use Rattle.p25_fragment_script.specs.LongScript.{IsLongScripted, inner_or_fault, long_event_by_words, long_event_of, long_event_text, long_event_words, long_in, long_message_in, long_or_fault, other_event}
+use Rattle.p25_fragment_script.specs.LongScript.{IsLongScripted, inner_or_fault, long_event_by_words, long_event_of, long_event_text, long_event_words, long_in, long_message_in, other_event}
 
 -- ---- the words of an event are read as it
 
@@ -41,7 +42,7 @@ inner-words (ToSender places) is = refl
 
 by_words-words : (event : LongEvent) → IsLongScripted event → long_event_by_words (long_event_words event) ≡ Ok event
 unfolding IsLongScripted
-by_words-words (Long message) fits = ap long_or_fault (octets_up_to-text 4000 message fits.short fits.octets)
+by_words-words (Long message) fits = ap (value_or_fault Long) (octets_up_to-text 4000 message fits.short fits.octets)
 by_words-words (Inner event) fits = inner-words event fits.no_offer ∙ ap inner_or_fault (event_laws.back event fits.scripted)
 
 -- ---- words that are read are those of their event
@@ -50,7 +51,7 @@ by_words-words (Inner event) fits = inner-words event fits.no_offer ∙ ap inner
 abbrev ReadFrom : List (List ℕ) → LongEvent → Type 0
 ReadFrom words event = (long_event_words event ≡ words) × IsLongScripted event
 
-from_message : (word : List ℕ) (made : Option (List ℕ)) (event : LongEvent) → long_message_in word ≡ made → long_or_fault made ≡ Ok event → ReadFrom (codes "long" ∷ word ∷ []) event
+from_message : (word : List ℕ) (made : Option (List ℕ)) (event : LongEvent) → long_message_in word ≡ made → value_or_fault Long made ≡ Ok event → ReadFrom (codes "long" ∷ word ∷ []) event
 unfolding IsLongScripted
 from_message word None event read found = cc found
 from_message word (Some message) event read found =

@@ -1,12 +1,12 @@
 -- Script lines of long messages: the line of an event, and the event of a line.
-use Rattle.std.specs.Prelude.{ℕ, ◌≤◌, cond, List, [], ◌∷◌, length, codes, Option, Some, None, Result, Ok, Err}
+use Rattle.std.specs.Prelude.{ℕ, ◌≤◌, if◌then◌else◌, List, [], ◌∷◌, length, codes, Option, Result, Ok, Err}
 use Rattle.std.specs.List.{join_with_byte}
 use Rattle.std.specs.Str.{bytes_eq}
 use Rattle.p25_line.specs.Values.{AllOctets}
-use Rattle.p25_line.specs.LineReadings.{line_read}
+use Rattle.p25_line.specs.LineReadings.{line_read, value_or_fault}
 use Rattle.p25_line.specs.Octets.{octets_text, octets_up_to}
 use Rattle.p25_line.specs.declared.fault.LineFault.{LineFault}
-use Rattle.p25_line.specs.declared.fault.LineFault.TheVariants.{Form, Key, Value, Kind as WrongKind}
+use Rattle.p25_line.specs.declared.fault.LineFault.TheVariants.{Form, Key, Kind as WrongKind}
 use Rattle.p25_stations.specs.declared.step.Event.{Event}
 use Rattle.p25_script.specs.Script.{IsScripted, event_by_words, event_words}
 use Rattle.p25_fragments.specs.LongRuns.{IsNoOffer}
@@ -45,14 +45,9 @@ long_event_text event = join_with_byte 32 (long_event_words event)
 abbrev pub long_message_in : List ℕ → Option (List ℕ)
 long_message_in word = octets_up_to 4000 word
 
--- the event of a long message, or that the value is wrong
-abbrev pub long_or_fault : Option (List ℕ) → Result LongEvent LineFault
-long_or_fault (Some message) = Ok (Long message)
-long_or_fault None = Err Value
-
 -- the event of the words after `long`
 abbrev pub long_in : List (List ℕ) → Result LongEvent LineFault
-long_in (word ∷ []) = long_or_fault (long_message_in word)
+long_in (word ∷ []) = value_or_fault Long (long_message_in word)
 long_in others = Err Key
 
 -- the event of the inner world, as one of long messages
@@ -62,11 +57,11 @@ inner_or_fault (Err fault) = Err fault
 
 -- the event of words that begin with another word than `long`: not with `send`
 abbrev pub other_event : List ℕ → List (List ℕ) → Result LongEvent LineFault
-other_event first others = cond (bytes_eq first (codes "send")) (Err WrongKind) (inner_or_fault (event_by_words (first ∷ others)))
+other_event first others = if bytes_eq first (codes "send") then Err WrongKind else inner_or_fault (event_by_words (first ∷ others))
 
 -- the event of the first word of a line and the others
 abbrev pub long_event_by : List ℕ → List (List ℕ) → Result LongEvent LineFault
-long_event_by first others = cond (bytes_eq first (codes "long")) (long_in others) (other_event first others)
+long_event_by first others = if bytes_eq first (codes "long") then long_in others else other_event first others
 
 -- the event of the words of a line, of which there is one at least
 abbrev pub long_event_by_words : List (List ℕ) → Result LongEvent LineFault

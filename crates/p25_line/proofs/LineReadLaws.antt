@@ -1,8 +1,8 @@
 -- Reading a line by its words and writing it undo each other, where they do for words. For all that lines tell of.
-use Rattle.std.proofs.Common.{◌≡◌, ℕ, ◌<◌, ◌≤◌, true, List, length, Result, Ok, Err, refl, ap, ◌∙◌, sym}
+use Rattle.std.proofs.Common.{◌≡◌, ℕ, ◌<◌, ◌≤◌, true, List, length, Option, Some, None, Result, Ok, Err, refl, ap, ◌∙◌, sym}
 use Rattle.std.specs.Prelude.{IfOk}
 use Rattle.std.specs.List.{join_with_byte, list_all}
-use Rattle.p25_line.specs.LineReadings.{found_read, line_read}
+use Rattle.p25_line.specs.LineReadings.{found_read, keyed_or_fault, line_read, named_or_fault, value_or_fault}
 use Rattle.p25_line.specs.Words.{is_word, words_or_fault}
 use Rattle.p25_line.specs.declared.fault.LineFault.{LineFault}
 use Rattle.p25_line.specs.declared.fault.LineFault.TheVariants.{Long}
@@ -13,6 +13,20 @@ use Rattle.p25_line.proofs.WordsLaws.{words_or_fault-long}
 pub line_read-long : {X : Type 0} (read : List (List ℕ) → Result X LineFault) (line : List ℕ) → 8192 < length line → line_read read line ≡ Err Long
 unfolding line_read
 line_read-long read line long = ap (found_read read) (words_or_fault-long line long)
+
+-- no word is refused as a line that is too long
+pub value-not_long : {V X : Type 0} (make : V → X) (value : Option V) → value_or_fault make value ≡ Err Long → ⊥
+value-not_long make (Some value) e = cc e
+value-not_long make None e = cc e
+
+pub keyed-not_long : {K V X : Type 0} (make : K → V → X) (key : Option K) (value : Option V) → keyed_or_fault make key value ≡ Err Long → ⊥
+keyed-not_long make (Some key) value e = value-not_long (make key) value e
+keyed-not_long make None value e = cc e
+
+pub named-not_long : {K X : Type 0} (read : K → List (List ℕ) → Result X LineFault) (others : List (List ℕ)) → ((kind : K) → read kind others ≡ Err Long → ⊥) → (kind : Option K)
+    → named_or_fault read kind others ≡ Err Long → ⊥
+named-not_long read others never (Some kind) e = never kind e
+named-not_long read others never None e = cc e
 
 -- a line is read as its words are, and refused as it has none
 pub line_read-found : {X : Type 0} (read : List (List ℕ) → Result X LineFault) (line : List ℕ) (words : List (List ℕ)) → words_or_fault line ≡ Ok words → line_read read line ≡ read words

@@ -1,5 +1,5 @@
 -- Lists of values with commas between them, and `-` for the empty list.
-use Rattle.std.specs.Prelude.{ℕ, ◌==◌, nat_le, cond, List, [], ◌∷◌, length, drop, map, Option, Some, None}
+use Rattle.std.specs.Prelude.{ℕ, ◌==◌, nat_le, if◌then◌else◌, List, [], ◌∷◌, length, drop, map, Option, Some, None}
 use Rattle.std.specs.List.{join_with_byte, slice_split}
 use Rattle.std.specs.Str.{bytes_eq}
 
@@ -22,7 +22,7 @@ comma_parts word = slice_split (λ octet. octet == 44) word
 
 -- the parts from a place of a word on; after the end of the word there is none
 unfoldable pub parts_from : List ℕ → ℕ → List (List ℕ)
-parts_from word start = cond (nat_le start (length word)) (comma_parts (drop start word)) []
+parts_from word start = if nat_le start (length word) then comma_parts (drop start word) else []
 
 -- one entry more, where there are all
 abbrev pub with_entry : {X : Type 0} → Option X → Option (List X) → Option (List X)
@@ -37,9 +37,9 @@ entries_in read (part ∷ parts) = with_entry (read part) (entries_in read parts
 
 -- the list that a word is read as
 abbrev pub list_in : {X : Type 0} → (List ℕ → Option X) → List ℕ → Option (List X)
-list_in read word = cond (bytes_eq word dash) (Some []) (entries_in read (comma_parts word))
+list_in read word = if bytes_eq word dash then Some [] else entries_in read (comma_parts word)
 
 -- entries, where there are so many
 abbrev pub counted : {X : Type 0} → ℕ → Option (List X) → Option (List X)
 counted count None = None
-counted count (Some entries) = cond (length entries == count) (Some entries) None
+counted count (Some entries) = if length entries == count then Some entries else None

@@ -1,5 +1,5 @@
 -- Octets as words: two digits for each octet, or `-` where there is none.
-use Rattle.std.specs.Prelude.{ℕ, ◌*◌, ◌%◌, ◌==◌, ◌&&◌, nat_le, Bool, cond, List, [], ◌∷◌, length, Option, Some, None}
+use Rattle.std.specs.Prelude.{ℕ, ◌*◌, ◌%◌, ◌==◌, ◌&&◌, nat_le, Bool, if◌then◌else◌, List, [], ◌∷◌, length, Option, Some, None}
 use Rattle.std.specs.List.{list_all}
 use Rattle.std.specs.Str.{bytes_eq}
 use Rattle.hex.specs.Hex.{encode_lower}
@@ -18,4 +18,4 @@ has_digits_up_to most word =
 
 -- the octets that a word is, of which there are so many at most
 abbrev pub octets_up_to : ℕ → List ℕ → Option (List ℕ)
-octets_up_to most word = cond (bytes_eq word dash) (Some []) (cond (has_digits_up_to most word) (Some (octets_of word)) None)
+octets_up_to most word = if bytes_eq word dash then Some [] else if has_digits_up_to most word then Some (octets_of word) else None

@@ -1,5 +1,5 @@
 -- The octets and digits of values.
-use Rattle.std.specs.Prelude.{ℕ, zero, suc, ◌+◌, ◌*◌, ◌/◌, ◌%◌, ◌-◌, ◌<◌, ◌&&◌, ◌||◌, nat_le, nat_lt, Bool, cond, List, [], ◌∷◌, drop, All, Option, Some, None, decimal}
+use Rattle.std.specs.Prelude.{ℕ, zero, suc, ◌+◌, ◌*◌, ◌/◌, ◌%◌, ◌-◌, ◌<◌, ◌&&◌, ◌||◌, nat_le, nat_lt, Bool, if◌then◌else◌, List, [], ◌∷◌, drop, All, Option, Some, None, decimal}
 use Rattle.std.specs.Str.{bytes_eq}
 use Rattle.hex.specs.Hex.{encode_lower}
 
@@ -13,7 +13,7 @@ is_lower_digit digit = (nat_le 48 digit && nat_le digit 57) || (nat_le 97 digit 
 
 -- the value of a lower-case hexadecimal digit
 abbrev pub nibble_of : ℕ → ℕ
-nibble_of digit = cond (nat_lt digit 58) (digit - 48) (digit - 87)
+nibble_of digit = if nat_lt digit 58 then digit - 48 else digit - 87
 
 -- the octets of a text of hexadecimal digits, two digits each
 unfoldable pub octets_of : List ℕ → List ℕ
@@ -28,4 +28,4 @@ three_digits number = drop 1 (encode_lower (number / 256 ∷ number % 256 ∷ []
 -- the number below a bound whose decimal text a word is: no leading zero, and no sign
 unfoldable pub number_below : ℕ → List ℕ → Option ℕ
 number_below zero word = None
-number_below (suc number) word = cond (bytes_eq word (decimal number)) (Some number) (number_below number word)
+number_below (suc number) word = if bytes_eq word (decimal number) then Some number else number_below number word

@@ -1,5 +1,5 @@
 -- The fields of a packet header's ten octets, and the headers that this project's stations send.
-use Rattle.std.specs.Prelude.{ℕ, ◌+◌, ◌*◌, ◌/◌, ◌%◌, Bool, cond, eqb, [], ◌∷◌, slice_index}
+use Rattle.std.specs.Prelude.{ℕ, ◌+◌, ◌*◌, ◌/◌, ◌%◌, Bool, if◌then◌else◌, ◌==◌, [], ◌∷◌, slice_index}
 use Rattle.p25_bits.specs.Numbers.{triple_at}
 use Rattle.p25_packet_blocks.specs.declared.head.PacketHead.{PacketHead}
 
@@ -9,7 +9,7 @@ head_format head = slice_index head.0 0 % 32
 
 -- the full message flag: the first bit of octet 6
 unfoldable pub head_is_full : PacketHead → Bool
-head_is_full head = eqb (slice_index head.0 6 / 128) 1
+head_is_full head = slice_index head.0 6 / 128 == 1
 
 -- the number of blocks to follow: the last seven bits of octet 6
 unfoldable pub head_blocks : PacketHead → ℕ
@@ -25,7 +25,7 @@ head_llid head = triple_at head.0 3
 
 -- Syn: the first bit of octet 8
 unfoldable pub head_syn : PacketHead → Bool
-head_syn head = eqb (slice_index head.0 8 / 128) 1
+head_syn head = slice_index head.0 8 / 128 == 1
 
 -- N(S): the three bits of octet 8 after the first
 unfoldable pub head_number : PacketHead → ℕ
@@ -46,7 +46,7 @@ response_status head = slice_index head.0 1 % 8
 -- the header of a confirmed packet, by its LLID, full message flag, blocks to follow, pad count and N(S)
 unfoldable pub confirmed_head : ℕ → Bool → ℕ → ℕ → ℕ → PacketHead
 confirmed_head llid full blocks pad number =
-    record { 0 = 0x56 ∷ 0xC0 ∷ 0 ∷ llid / 65536 ∷ llid / 256 % 256 ∷ llid % 256 ∷ (cond full 128 0 + blocks) ∷ pad ∷ (16 * number + 8) ∷ 0 ∷ [] }
+    record { 0 = 0x56 ∷ 0xC0 ∷ 0 ∷ llid / 65536 ∷ llid / 256 % 256 ∷ llid % 256 ∷ ((if full then 128 else 0) + blocks) ∷ pad ∷ (16 * number + 8) ∷ 0 ∷ [] }
 
 -- the header of a response, by its LLID, class, type, status and blocks to follow
 unfoldable pub response_head : ℕ → ℕ → ℕ → ℕ → ℕ → PacketHead

@@ -1,6 +1,6 @@
 -- The packet answer: what a unit without its status symbols reads as. Each reading is in steps, so that what decides is an
 -- argument of the next step.
-use Rattle.std.specs.Prelude.{◌≡◌, ℕ, ◌+◌, ◌-◌, ◌*◌, ◌/◌, ◌%◌, ◌≤◌, Bool, List, length, eqb, ◌||◌, take, drop, slice_index, Option, Some, None, Result, Ok, Err, if◌then◌else◌}
+use Rattle.std.specs.Prelude.{◌≡◌, ℕ, ◌+◌, ◌-◌, ◌*◌, ◌/◌, ◌%◌, ◌≤◌, Bool, List, length, ◌==◌, ◌||◌, take, drop, slice_index, Option, Some, None, Result, Ok, Err, if◌then◌else◌}
 use Rattle.p25_bits.specs.Bits.{part}
 use Rattle.p25_bits.specs.Numbers.{octets_number, each_below, joined_below}
 use Rattle.p25_status.specs.declared.fields.Field.{Field}
@@ -26,7 +26,7 @@ block_bits bare j = part (308 + 196 * j) 196 bare
 -- the header that twelve octets hold, where the last two are the header CRC of the others
 unfoldable pub head_from : List ℕ → Result PacketHead Field
 head_from octets =
-    if eqb (octets_number (drop 10 octets)) (crc16_of (take 10 octets)) then Ok (record { 0 = take 10 octets }) else Err PacketHeader
+    if octets_number (drop 10 octets) == crc16_of (take 10 octets) then Ok (record { 0 = take 10 octets }) else Err PacketHeader
 
 -- the header of a unit: what its header block holds
 unfoldable pub head_reading_of : List Bool → Result PacketHead Field
@@ -37,7 +37,7 @@ unfoldable pub slot_from : List ℕ → Slot
 slot_from octets =
     let serial = slice_index octets 0 / 2 in
     let check = 256 * (slice_index octets 0 % 2) + slice_index octets 1 in
-    if eqb check (crc9_of serial (drop 2 octets)) then Good (record { serial = serial; octets = drop 2 octets }) else Bad
+    if check == crc9_of serial (drop 2 octets) then Good (record { serial = serial; octets = drop 2 octets }) else Bad
 
 -- the slots of n blocks
 unfoldable pub slots_read : ℕ → List Bool → List Slot
@@ -59,8 +59,8 @@ plain_by_parts head octets = Plain (record { head = head; octets = octets })
 unfoldable pub plain_from : PacketHead → List ℕ → Result Packet Field
 plain_from head octets =
     let count = 12 * head_blocks head - 4 in
-    let agrees = eqb (octets_number (drop count octets)) (crc32_of (take count octets)) in
-    if eqb (head_blocks head) 0 || agrees then Ok (plain_by_parts head (take count octets)) else Err PacketCrc
+    let agrees = octets_number (drop count octets) == crc32_of (take count octets) in
+    if head_blocks head == 0 || agrees then Ok (plain_by_parts head (take count octets)) else Err PacketCrc
 
 -- a packet that was read into its place, or the field that fails
 abbrev pub packet_or : Option Field → Packet → Result Packet Field
@@ -70,12 +70,12 @@ packet_or (Some field) packet = Err field
 -- the packet of a header that is not confirmed, and the bits of its unit
 abbrev pub unconfirmed_from : PacketHead → List Bool → Result Packet Field
 unconfirmed_from head bare =
-    if eqb (head_format head) 0x15 || eqb (head_format head) 0x03 then plain_from head (octets_read (head_blocks head) bare) else Err Format
+    if head_format head == 0x15 || head_format head == 0x03 then plain_from head (octets_read (head_blocks head) bare) else Err Format
 
 -- the packet of a header and the bits of its unit, by the format
 unfoldable pub packet_of_head : PacketHead → List Bool → Result Packet Field
 packet_of_head head bare =
-    if eqb (head_format head) 0x16 then Ok (confirmed_by_parts head (slots_read (head_blocks head) bare)) else unconfirmed_from head bare
+    if head_format head == 0x16 then Ok (confirmed_by_parts head (slots_read (head_blocks head) bare)) else unconfirmed_from head bare
 
 -- the packet answer: PacketHeader, Format and PacketCrc are tested in this order
 unfoldable pub packet_from : Result PacketHead Field → List Bool → Result Packet Field

@@ -1,6 +1,6 @@
 -- The packet answer of a unit as it is sent, with its status symbols: the tests Sync, Nid, Duid, PacketHeader and Length, in
 -- this order, and then the packet answer.
-use Rattle.std.specs.Prelude.{ℕ, Bool, List, eqb, leb, length, take, ◌++◌, Result, Ok, Err, Option, Some, None, if◌then◌else◌}
+use Rattle.std.specs.Prelude.{ℕ, Bool, List, ◌==◌, leb, length, take, ◌++◌, Result, Ok, Err, Option, Some, None, if◌then◌else◌}
 use Rattle.p25_bits.specs.Bits.{part}
 use Rattle.p25_status.specs.declared.fields.Field.{Field}
 use Rattle.p25_status.specs.declared.fields.Field.TheVariants.{Sync, Nid, Duid, Length}
@@ -45,7 +45,7 @@ with_nac nac (Ok packet) = Ok (nac, packet)
 -- from the identifier on
 unfoldable pub identified_packet_of : Option (ℕ × ℕ) → List Bool → Result (ℕ × Packet) Field
 identified_packet_of None sent = Err Nid
-identified_packet_of (Some nid) sent = if eqb nid.1 12 then with_nac nid.0 (sent_packet_of sent) else Err Duid
+identified_packet_of (Some nid) sent = if nid.1 == 12 then with_nac nid.0 (sent_packet_of sent) else Err Duid
 
 -- the packet answer
 unfoldable pub packet_unit_of : List Bool → Result (ℕ × Packet) Field

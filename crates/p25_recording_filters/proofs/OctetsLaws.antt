@@ -1,5 +1,5 @@
 -- Whole octets of bits that are joined: those of the first bits, and then those of what is left of them and the others.
-use Rattle.std.proofs.Common.{◌≡◌, ℕ, zero, suc, ◌+◌, ◌-◌, ◌*◌, ◌/◌, ◌%◌, ◌^◌, ◌<◌, ◌≤◌, Bool, List, [], ◌∷◌, ◌++◌, length, take, drop, refl, ap, ap₂, sym, ◌∙◌, arith, append_assoc, length-append, length-take, length-drop}
+use Rattle.std.proofs.Common.{◌≡◌, ℕ, zero, suc, ◌+◌, ◌-◌, ◌*◌, ◌/◌, ◌%◌, ◌^◌, ◌<◌, ◌≤◌, Bool, List, [], ◌∷◌, ◌++◌, length, take, drop, refl, ap, ap₂, sym, ◌∙◌, arith, append_assoc, append-nil, length-append, length-take, length-drop}
 use Rattle.std.specs.Int.{w64, byte_at, bytes_high_first, to_be_bytes}
 use Rattle.std.proofs.lemmas.List.{drop-append-le, drop-drop, drop_all, take-append-drop, take_all}
 use Rattle.std.proofs.Math.Seq.{drop-append-add}
@@ -10,6 +10,14 @@ use Rattle.p25_bits.proofs.NumbersLaws.{bits_of-field, numbers_from-zero, number
 use Rattle.p25_bits.proofs.OctetNumbersLaws.{pow_256}
 use Rattle.p25_recording_filters.specs.Commands.{unfilled}
 use Rattle.p25_recording_filters.specs.ItemOutputs.{whole_octets}
+
+-- of a text that is written octet by octet: no octet yet, and some more
+pub octets-none : (text : List ℕ) (bits : List Bool) → text ≡ text ++ octets_from 0 bits
+octets-none text bits = sym (append-nil text) ∙ ap (λ (zs : List ℕ). text ++ zs) (sym (numbers_from-zero 8 bits))
+
+pub octets-on : (text before so_far more all now : List ℕ) → so_far ≡ text ++ before → before ++ more ≡ all → now ≡ so_far ++ more → now ≡ text ++ all
+octets-on text before so_far more all now is joined on =
+    on ∙ ap (λ (zs : List ℕ). zs ++ more) is ∙ append_assoc text before more ∙ ap (λ (zs : List ℕ). text ++ zs) joined
 
 -- the whole octets of joined bits
 pub whole_octets-append : (bits rest : List Bool) → whole_octets bits ++ whole_octets (drop (8 * (length bits / 8)) bits ++ rest) ≡ whole_octets (bits ++ rest)

@@ -1,5 +1,5 @@
 -- The reports of the commands, item by item.
-use Rattle.std.specs.Prelude.{◌^◌, ◌+◌, ◌*◌, ◌/◌, ◌<◌, Bool, cond, ◌≤◌, ℕ, List, [], ◌++◌, length, drop, flat_map, option_to_list}
+use Rattle.std.specs.Prelude.{◌^◌, ◌+◌, ◌*◌, ◌/◌, ◌<◌, Bool, if◌then◌else◌, ◌≤◌, ℕ, List, [], ◌++◌, length, drop, flat_map, option_to_list}
 use Rattle.p25_units.specs.declared.item.Item.{Item}
 use Rattle.p25_stream.specs.Repeats.{bridged, is_whole_item, repaired}
 use Rattle.p25_filter.specs.declared.ending.Ending.TheVariants.{Done}
@@ -21,7 +21,10 @@ pub record CheckParts : Type 0 where
 abbrev pub check_reporting : Reporting CheckParts
 check_reporting = record {
   piece = λ report item raw. faulty item;
-  behind = λ report item raw. record { units = report.units + cond (is_whole_item item) 1 0; faults = report.faults + cond (is_whole_item item) 0 1 };
+  behind = λ report item raw. record {
+    units = report.units + (if is_whole_item item then 1 else 0);
+    faults = report.faults + (if is_whole_item item then 0 else 1);
+  };
   closing = λ report. check_line report.units report.faults;
   ending = λ report. check_ending report.faults;
 }
@@ -48,7 +51,7 @@ unfilled bits = drop (8 * (length bits / 8)) bits
 abbrev pub changed_reporting : Reporting ChangedParts
 changed_reporting = record {
   piece = λ report item raw. whole_octets (report.kept ++ change_of report.change item raw);
-  behind = λ report item raw. record { change = report.change; kept = unfilled (report.kept ++ change_of report.change item raw) };
+  behind = λ report item raw. record report { kept = unfilled (report.kept ++ change_of report.change item raw) };
   closing = λ report. [];
   ending = λ report. Done;
 }

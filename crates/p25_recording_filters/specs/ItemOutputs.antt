@@ -1,5 +1,5 @@
 -- What is written of the items of a recording.
-use Rattle.std.specs.Prelude.{ℕ, ◌+◌, ◌/◌, Bool, cond, nat_eq, List, [], ◌∷◌, ◌++◌, length, map, take, drop, codes, decimal}
+use Rattle.std.specs.Prelude.{ℕ, ◌+◌, ◌/◌, Bool, if◌then◌else◌, ◌==◌, List, [], ◌∷◌, ◌++◌, length, map, take, drop, codes, decimal}
 use Rattle.p25_bits.specs.Numbers.{octets_from}
 use Rattle.p25_units.specs.Items.{covered}
 use Rattle.p25_units.specs.declared.item.Item.{Item}
@@ -23,16 +23,16 @@ shown item = item_text_of item ++ 10 ∷ []
 
 -- the text of an item that is not a whole unit, and the end of its line
 abbrev pub faulty : Item → List ℕ
-faulty item = cond (is_whole_item item) [] (shown item)
+faulty item = if is_whole_item item then [] else shown item
 
 -- how many items are whole units, and how many are not
 unfoldable pub units_in : List Item → ℕ
 units_in [] = 0
-units_in (item ∷ items) = cond (is_whole_item item) 1 0 + units_in items
+units_in (item ∷ items) = (if is_whole_item item then 1 else 0) + units_in items
 
 unfoldable pub faults_in : List Item → ℕ
 faults_in [] = 0
-faults_in (item ∷ items) = cond (is_whole_item item) 0 1 + faults_in items
+faults_in (item ∷ items) = (if is_whole_item item then 0 else 1) + faults_in items
 
 -- the last line of a check
 abbrev pub check_line : ℕ → ℕ → List ℕ
@@ -40,7 +40,7 @@ check_line units faults = codes "check units=" ++ decimal units ++ codes " fault
 
 -- how a check of some items ends
 abbrev pub check_ending : ℕ → Ending
-check_ending faults = cond (nat_eq faults 0) Done (Found faults)
+check_ending faults = if faults == 0 then Done else Found faults
 
 -- the bits of items that lie end to end over some bits, each by a change of the bits that it covers
 unfoldable pub changed_bits : (Item → List Bool → List Bool) → List Item → List Bool → List Bool

@@ -1,5 +1,5 @@
 -- A report at work on a recording: what it still writes, for any bits that may still come.
-use Rattle.std.specs.Prelude.{◌≡◌, ℕ, Bool, true, false, cond, List, [], ◌++◌, Option, Some, None}
+use Rattle.std.specs.Prelude.{◌≡◌, ℕ, Bool, true, false, if◌then◌else◌, List, [], ◌++◌, Option, Some, None}
 use Rattle.p25_bits.specs.Bits.{octet_bits}
 use Rattle.p25_stream.specs.Items.{items_by}
 use Rattle.p25_stream.specs.Scan.{Scan, Gave, given}
@@ -44,7 +44,7 @@ abbrev pub bits_written : {R : Type 0} → Reporting R → Bool → R → ℕ �
 bits_written reporting ended report place bits = reported reporting ended report (items_by ended place bits) bits
 
 abbrev pub bits_ending : {R : Type 0} → Reporting R → Bool → R → ℕ → List Bool → Option Ending
-bits_ending reporting ended report place bits = cond ended (Some (reporting.ending (report_behind reporting report (items_by true place bits) bits))) None
+bits_ending reporting ended report place bits = if ended then Some (reporting.ending (report_behind reporting report (items_by true place bits) bits)) else None
 
 -- what a recording still writes, by how far the work has come
 abbrev pub phase_future : {R : Type 0} → Reporting R → R → Scan → Phase → Future
@@ -80,7 +80,7 @@ pub record PutItem {R : Type 0} (reporting : Reporting R) (before : RecordingPar
 abbrev pub IsClosingBy : {R : Type 0} → Reporting R → Phase → RecordingParts R → Bool → List ℕ → RecordingParts R → Type 0
 IsClosingBy reporting Reading before answer out now = (answer ≡ false) × (now ≡ before)
 IsClosingBy reporting Ended before answer out now =
-    (answer ≡ true) × (out ≡ reporting.closing before.report) × (now ≡ record { report = before.report; scan = before.scan; phase = Closed })
+    (answer ≡ true) × (out ≡ reporting.closing before.report) × (now ≡ record before { phase = Closed })
 IsClosingBy reporting Closed before answer out now = (answer ≡ false) × (now ≡ before)
 
 abbrev pub IsClosing : {R : Type 0} → Reporting R → RecordingParts R → Bool → List ℕ → RecordingParts R → Type 0

@@ -1,5 +1,5 @@
 -- Reports of the items of a recording, item by item.
-use Rattle.std.specs.Prelude.{ℕ, Bool, cond, List, [], ◌∷◌, ◌++◌, take, drop}
+use Rattle.std.specs.Prelude.{ℕ, Bool, if◌then◌else◌, List, [], ◌∷◌, ◌++◌, take, drop}
 use Rattle.p25_units.specs.declared.item.Item.{Item}
 use Rattle.p25_units.specs.Items.{covered}
 use Rattle.p25_filter.specs.declared.ending.Ending.{Ending}
@@ -14,7 +14,7 @@ pub record Reporting (R : Type 0) : Type 0 where
 
 -- what is written of items that lie end to end over some bits, and of the end of the input where it has ended
 unfoldable pub reported : {R : Type 0} → Reporting R → Bool → R → List Item → List Bool → List ℕ
-reported reporting ended report [] bits = cond ended (reporting.closing report) []
+reported reporting ended report [] bits = if ended then reporting.closing report else []
 reported reporting ended report (item ∷ items) bits =
     let raw = take (covered item) bits in
     reporting.piece report item raw ++ reported reporting ended (reporting.behind report item raw) items (drop (covered item) bits)

@@ -1,5 +1,5 @@
 -- The levels of a soft recording, and the bits of its items.
-use Rattle.std.specs.Prelude.{ℕ, ◌-◌, ◌*◌, ◌/◌, ◌%◌, Bool, cond, nat_eq, List, ◌++◌, length, take, replicate, ℤ, pos}
+use Rattle.std.specs.Prelude.{ℕ, ◌-◌, ◌*◌, ◌/◌, ◌%◌, Bool, if◌then◌else◌, ◌==◌, List, ◌++◌, length, take, replicate, ℤ, pos}
 use Rattle.std.specs.Int.{w8, cast_signed}
 use Rattle.p25_bits.specs.Bits.{part}
 use Rattle.p25_soft.specs.Softened.{softened}
@@ -20,9 +20,9 @@ grouped levels = take (4 * (length levels / 4)) levels
 
 -- the levels that are scanned: all, filled, where the input has ended, and else those in whole groups
 abbrev pub scanned : Bool → List ℤ → List ℤ
-scanned ended levels = cond ended (filled levels) (grouped levels)
+scanned ended levels = if ended then filled levels else grouped levels
 
 -- the bits of an item, softened by its levels where it begins at an even place; the levels are those from a first one on
 unfoldable pub item_softened : ℕ → List ℤ → Item → List Bool → List Bool
 item_softened first levels item raw =
-    cond (nat_eq (place_of item % 2) 0) (softened item (part (place_of item / 2 - first) (covered item / 2) levels) raw) raw
+    if place_of item % 2 == 0 then softened item (part (place_of item / 2 - first) (covered item / 2) levels) raw else raw

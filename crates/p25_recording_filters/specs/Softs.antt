@@ -1,5 +1,5 @@
 -- The work of `soft`: what it still writes, for any levels that may still come.
-use Rattle.std.specs.Prelude.{◌≡◌, ℕ, ◌+◌, ◌-◌, ◌*◌, ◌/◌, ◌%◌, ◌≤◌, Bool, true, false, ◌&&◌, cond, nat_eq, List, [], ◌++◌, length, drop, map, ℤ, Some, None}
+use Rattle.std.specs.Prelude.{◌≡◌, ℕ, ◌+◌, ◌-◌, ◌*◌, ◌/◌, ◌%◌, ◌≤◌, Bool, true, false, ◌&&◌, if◌then◌else◌, ◌==◌, List, [], ◌++◌, length, drop, map, ℤ, Some, None}
 use Rattle.p25_bits.specs.Bits.{part}
 use Rattle.p25_units.specs.Items.{covered, place_of}
 use Rattle.p25_units.specs.declared.item.Item.{Item}
@@ -38,7 +38,7 @@ soft_written ended place levels kept =
 abbrev pub soft_future_by : Bool → SoftParts → Future
 soft_future_by false work = record {
   writes = λ ended more. soft_written ended work.scan.place (work.levels ++ map octet_level more) work.kept;
-  ends = λ ended more. cond ended (Some Done) None;
+  ends = λ ended more. if ended then Some Done else None;
   pauses = λ ended more. [];
 }
 soft_future_by true work = record {
@@ -58,7 +58,7 @@ pub record IsHolding (scan : Scan) (levels : List ℤ) : Type 0 where
 
 -- an item is a broken packet that begins at an even place
 abbrev pub is_even_packet : Item → Bool
-is_even_packet (Broken place count nac duid fields) = nat_eq duid 0xC && nat_eq (place % 2) 0
+is_even_packet (Broken place count nac duid fields) = duid == 0xC && place % 2 == 0
 is_even_packet (Whole place frame fixes) = false
 is_even_packet (NoUnit place field) = false
 is_even_packet (Gap place count) = false

@@ -1,18 +1,19 @@
 -- What each answer of the reader of script lines shows of the reading of words by the definition.
 use Rattle.std.proofs.Common.{◌≡◌, ℕ, suc, List, [], ◌∷◌, length, drop, slice_get, Some, None, Err, refl, ap, ◌∙◌}
 use Rattle.p25_line.specs.declared.fault.LineFault.TheVariants.{Key, Kind as WrongKind}
+use Rattle.p25_line.specs.LineReadings.{named_or_fault}
 use Rattle.p25_line.proofs.LineWordsLaws.{first-others}
-use Rattle.p25_script.specs.Script.{event_by_kind, event_by_words, event_in, event_named, word_count}
+use Rattle.p25_script.specs.Script.{event_by_words, event_in, event_named, word_count}
 use Rattle.p25_script.specs.declared.names.EventKind.{EventKind}
 use Rattle.p25_script.specs.declared.names.EventKind.TheVariants.{Send as SendLine, Timeout as TimeoutLine, Reopen as ReopenLine, Deliver as DeliverLine}
 
 -- the first word names no kind
 pub wrong_kind : (words : List (List ℕ)) (first : List ℕ) → slice_get words 0 ≡ Some first → event_named first ≡ None → event_by_words words ≡ Err WrongKind
-wrong_kind words first at none = ap event_by_words (first-others words first at) ∙ ap (event_by_kind (drop 1 words)) none
+wrong_kind words first at none = ap event_by_words (first-others words first at) ∙ ap (λ kind. named_or_fault event_in kind (drop 1 words)) none
 
 -- or one
 pub right_kind : (words : List (List ℕ)) (first : List ℕ) (kind : EventKind) → slice_get words 0 ≡ Some first → event_named first ≡ Some kind → event_by_words words ≡ event_in kind (drop 1 words)
-right_kind words first kind at named = ap event_by_words (first-others words first at) ∙ ap (event_by_kind (drop 1 words)) named
+right_kind words first kind at named = ap event_by_words (first-others words first at) ∙ ap (λ kind. named_or_fault event_in kind (drop 1 words)) named
 
 -- another number of words is a wrong key
 other_count : (kind : EventKind) (others : List (List ℕ)) → (suc (length others) ≡ word_count kind → ⊥) → event_in kind others ≡ Err Key

@@ -2,6 +2,7 @@
 use Rattle.std.proofs.Common.{◌≡◌, ℕ, ◌+◌, ◌*◌, ◌<◌, ◌≤◌, ◌&&◌, true, List, [], ◌∷◌, length, Option, Some, None, Result, Ok, refl, ap, ap₂, subst, ◌∙◌, arith}
 use Rattle.std.specs.Prelude.{IfOk}
 use Rattle.std.specs.List.{list_all}
+use Rattle.p25_line.specs.LineReadings.{keyed_or_fault, named_or_fault, value_or_fault}
 use Rattle.p25_line.specs.Words.{is_word}
 use Rattle.p25_line.specs.declared.fault.LineFault.{LineFault}
 use Rattle.p25_line.proofs.LineReadLaws.{IsLineOf, WordLaws, line_read-facts, line_read-words, words-line_read}
@@ -12,7 +13,7 @@ use Rattle.p25_stations.specs.declared.step.Event.{Event}
 use Rattle.p25_stations.specs.declared.step.Event.TheVariants.{Send, Timeout, Reopen, ToReceiver, ToSender}
 use Rattle.p25_delivery.specs.declared.step_kind.Way.{Way}
 use Rattle.p25_delivery.specs.declared.step_kind.Way.TheVariants.{Packets, Answers}
-use Rattle.p25_script.specs.Script.{IsScripted, delivery, delivery_or_fault, event_by_kind, event_by_words, event_in, event_kinds, event_named, event_of, event_text, event_word, event_words, send_or_fault, way_named, way_word, ways}
+use Rattle.p25_script.specs.Script.{IsScripted, delivery, event_by_words, event_in, event_kinds, event_named, event_of, event_text, event_word, event_words, way_named, way_word, ways}
 use Rattle.p25_script.specs.Values.{ArePlaces, message_in, places_in, places_text}
 use Rattle.p25_script.specs.declared.names.EventKind.{EventKind}
 use Rattle.p25_script.specs.declared.names.EventKind.TheVariants.{Send as SendLine, Timeout as TimeoutLine, Reopen as ReopenLine, Deliver as DeliverLine}
@@ -37,11 +38,11 @@ event_words-some (ToSender places) = omega arith
 
 -- and they are read as it
 event_by_words-words : (event : Event) → IsScripted event → event_by_words (event_words event) ≡ Ok event
-event_by_words-words (Send message) fits = ap send_or_fault (message_in-text message fits)
+event_by_words-words (Send message) fits = ap (value_or_fault Send) (message_in-text message fits)
 event_by_words-words Timeout fits = refl
 event_by_words-words Reopen fits = refl
-event_by_words-words (ToReceiver places) fits = ap (delivery_or_fault (Some Packets)) (places_in-text places fits)
-event_by_words-words (ToSender places) fits = ap (delivery_or_fault (Some Answers)) (places_in-text places fits)
+event_by_words-words (ToReceiver places) fits = ap (value_or_fault ToReceiver) (places_in-text places fits)
+event_by_words-words (ToSender places) fits = ap (value_or_fault ToSender) (places_in-text places fits)
 
 -- ---- a line that is read is the line of its event
 
@@ -49,7 +50,7 @@ event_by_words-words (ToSender places) fits = ap (delivery_or_fault (Some Answer
 abbrev ReadFrom : List (List ℕ) → Event → Type 0
 ReadFrom words event = (event_words event ≡ words) × IsScripted event
 
-from_send : (word : List ℕ) (made : Option (List ℕ)) (event : Event) → message_in word ≡ made → send_or_fault made ≡ Ok event → ReadFrom (event_word SendLine ∷ word ∷ []) event
+from_send : (word : List ℕ) (made : Option (List ℕ)) (event : Event) → message_in word ≡ made → value_or_fault Send made ≡ Ok event → ReadFrom (event_word SendLine ∷ word ∷ []) event
 from_send word None event read found = cc found
 from_send word (Some message) event read found =
     let facts = message-message_in word message read in
@@ -68,7 +69,7 @@ way-way_named : (word : List ℕ) (way : Way) → way_named word ≡ Some way �
 way-way_named word way found = named-word way_word ways word way found
 
 from_delivery : (first word : List ℕ) (way : Option Way) (made : Option (List ℕ)) (event : Event) → way_named first ≡ way → places_in word ≡ made
-    → delivery_or_fault way made ≡ Ok event → ReadFrom (event_word DeliverLine ∷ first ∷ word ∷ []) event
+    → keyed_or_fault delivery way made ≡ Ok event → ReadFrom (event_word DeliverLine ∷ first ∷ word ∷ []) event
 from_delivery first word None made event named read found = cc found
 from_delivery first word (Some way) None event named read found = cc found
 from_delivery first word (Some way) (Some places) event named read found =
@@ -92,7 +93,7 @@ from_others DeliverLine (first ∷ []) event found = cc found
 from_others DeliverLine (first ∷ word ∷ []) event found = from_delivery first word (way_named first) (places_in word) event refl refl found
 from_others DeliverLine (first ∷ word ∷ next ∷ others) event found = cc found
 
-from_kind : (first : List ℕ) (others : List (List ℕ)) (kind : Option EventKind) (event : Event) → event_named first ≡ kind → event_by_kind others kind ≡ Ok event
+from_kind : (first : List ℕ) (others : List (List ℕ)) (kind : Option EventKind) (event : Event) → event_named first ≡ kind → named_or_fault event_in kind others ≡ Ok event
     → ReadFrom (first ∷ others) event
 from_kind first others None event named found = cc found
 from_kind first others (Some kind) event named found =

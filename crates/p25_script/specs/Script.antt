@@ -1,11 +1,11 @@
 -- Script lines: the line of an event, and the event of a line.
-use Rattle.std.specs.Prelude.{ℕ, List, [], ◌∷◌, codes, Option, Some, None, Result, Ok, Err}
+use Rattle.std.specs.Prelude.{ℕ, List, [], ◌∷◌, codes, Option, Result, Ok, Err}
 use Rattle.std.specs.List.{find, join_with_byte}
 use Rattle.std.specs.Str.{bytes_eq}
-use Rattle.p25_line.specs.LineReadings.{line_read}
+use Rattle.p25_line.specs.LineReadings.{keyed_or_fault, line_read, named_or_fault, value_or_fault}
 use Rattle.p25_line.specs.Octets.{octets_text}
 use Rattle.p25_line.specs.declared.fault.LineFault.{LineFault}
-use Rattle.p25_line.specs.declared.fault.LineFault.TheVariants.{Form, Key, Value, Kind as WrongKind}
+use Rattle.p25_line.specs.declared.fault.LineFault.TheVariants.{Form, Key}
 use Rattle.p25_delivery.specs.SoundHalves.{IsMessage}
 use Rattle.p25_stations.specs.declared.step.Event.{Event}
 use Rattle.p25_stations.specs.declared.step.Event.TheVariants.{Send, Timeout, Reopen, ToReceiver, ToSender}
@@ -76,38 +76,22 @@ event_text event = join_with_byte 32 (event_words event)
 
 -- ---- the event of a line
 
--- the event of a message, or that the value is wrong
-abbrev pub send_or_fault : Option (List ℕ) → Result Event LineFault
-send_or_fault (Some message) = Ok (Send message)
-send_or_fault None = Err Value
-
 -- a delivery one way
 abbrev pub delivery : Way → List ℕ → Event
 delivery Packets places = ToReceiver places
 delivery Answers places = ToSender places
 
--- the event of a way and of places, or which of them is wrong; the way is a key, and is judged first
-abbrev pub delivery_or_fault : Option Way → Option (List ℕ) → Result Event LineFault
-delivery_or_fault None places = Err Key
-delivery_or_fault (Some way) None = Err Value
-delivery_or_fault (Some way) (Some places) = Ok (delivery way places)
-
 -- the event of the words after the first, or the first cause for which they are refused
 abbrev pub event_in : EventKind → List (List ℕ) → Result Event LineFault
-event_in SendLine (message ∷ []) = send_or_fault (message_in message)
+event_in SendLine (message ∷ []) = value_or_fault Send (message_in message)
 event_in TimeoutLine [] = Ok Timeout
 event_in ReopenLine [] = Ok Reopen
-event_in DeliverLine (way ∷ places ∷ []) = delivery_or_fault (way_named way) (places_in places)
+event_in DeliverLine (way ∷ places ∷ []) = keyed_or_fault delivery (way_named way) (places_in places)
 event_in kind others = Err Key
-
--- the event of the words after a first word that names a kind, or none
-abbrev pub event_by_kind : List (List ℕ) → Option EventKind → Result Event LineFault
-event_by_kind others (Some kind) = event_in kind others
-event_by_kind others None = Err WrongKind
 
 -- the event of the words of a line, of which there is one at least
 abbrev pub event_by_words : List (List ℕ) → Result Event LineFault
-event_by_words (first ∷ others) = event_by_kind others (event_named first)
+event_by_words (first ∷ others) = named_or_fault event_in (event_named first) others
 event_by_words [] = Err Form
 
 -- the event of a line, or the first cause for which the line is refused: Long, Form, Kind, Key, Value

@@ -1,5 +1,5 @@
 -- The texts of steps, and the text that closes a run.
-use Rattle.std.specs.Prelude.{ℕ, ◌+◌, ◌/◌, nat_lt, Bool, true, false, cond, List, [], ◌∷◌, ◌++◌, length, slice_index_or, codes, decimal}
+use Rattle.std.specs.Prelude.{ℕ, ◌+◌, ◌/◌, nat_lt, Bool, true, false, if◌then◌else◌, List, [], ◌∷◌, ◌++◌, length, slice_index_or, codes, decimal}
 use Rattle.hex.specs.Hex.{encode_lower}
 use Rattle.p25_bits.specs.Numbers.{joined_below, octets_from}
 use Rattle.p25_text.specs.ItemTexts.{field_name}
@@ -17,7 +17,7 @@ flags_text flags = encode_lower (octets_from (length flags / 8) flags)
 
 -- the serial number of a block below so many, where its flag is true
 abbrev pub serial_at : List Bool → ℕ → List ℕ
-serial_at flags serial = cond (slice_index_or flags serial false) (serial ∷ []) []
+serial_at flags serial = if slice_index_or flags serial false then serial ∷ [] else []
 
 -- the serial numbers of the flags that are true, in order
 unfoldable pub serials_of : List Bool → List ℕ
@@ -60,7 +60,7 @@ step_text_of step = kind_text step.kind ++ false_text step.false_pass
 
 -- how many sessions there were, where there was more than one
 abbrev pub sessions_text : ℕ → List ℕ
-sessions_text sessions = cond (nat_lt 1 sessions) (codes " sessions=" ++ decimal sessions) []
+sessions_text sessions = if nat_lt 1 sessions then codes " sessions=" ++ decimal sessions else []
 
 -- the text that closes a run, without the end of its line
 unfoldable pub closing_text_of : WorldState → List ℕ

@@ -1,5 +1,5 @@
 -- The values of script lines: messages and places of wrong bits.
-use Rattle.std.specs.Prelude.{ℕ, ◌<◌, ◌&&◌, nat_lt, Bool, true, cond, List, [], ◌∷◌, All, Option, Some, None, decimal}
+use Rattle.std.specs.Prelude.{ℕ, ◌<◌, ◌&&◌, nat_lt, Bool, true, if◌then◌else◌, List, [], ◌∷◌, All, Option, Some, None, decimal}
 use Rattle.std.specs.List.Sorted.{IsStrictlyIncreasing}
 use Rattle.p25_line.specs.Values.{number_below}
 use Rattle.p25_line.specs.CommaLists.{list_in, list_text}
@@ -26,7 +26,7 @@ is_ascending (place ∷ next ∷ places) = nat_lt place next && is_ascending (ne
 -- places, where they ascend
 abbrev pub where_ascending : Option (List ℕ) → Option (List ℕ)
 where_ascending None = None
-where_ascending (Some places) = cond (is_ascending places) (Some places) None
+where_ascending (Some places) = if is_ascending places then Some places else None
 
 -- the places that a word is: numbers with commas between them, or `-` for none
 abbrev pub places_in : List ℕ → Option (List ℕ)

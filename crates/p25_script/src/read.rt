@@ -1,9 +1,10 @@
 //! Events read from lines.
 
 ghost use Rattle.std.specs.Prelude.{◌≡◌, ◌↔◌, ◌<◌, ◌≤◌, IfOk, Err, length, drop};
+ghost use Rattle.p25_line.specs.LineReadings.{keyed_or_fault};
 ghost use Rattle.p25_line.specs.declared.fault.LineFault.TheVariants.{Long};
 ghost use Rattle.p25_stations.specs.declared.step.Event.{Event as event_type};
-ghost use Rattle.p25_script.specs.Script.{IsScripted, delivery_or_fault, event_by_words, event_in, event_of, event_text, way_named, word_count};
+ghost use Rattle.p25_script.specs.Script.{IsScripted, delivery, event_by_words, event_in, event_of, event_text, way_named, word_count};
 ghost use Rattle.p25_script.specs.Values.{places_in};
 
 use super::names::{EventKind, named_way};
@@ -75,7 +76,7 @@ fn read_kind(kind: EventKind, words: &LineWords) -> Result<Event, LineFault>
 // The delivery of a way and of places.
 fn read_delivery(way: &[u8], places: &[u8]) -> Result<Event, LineFault>
     requires { length places.now ≤ 8192 }
-    ensures { result ≡ delivery_or_fault (way_named way.now) (places_in places.now) }
+    ensures { result ≡ keyed_or_fault delivery (way_named way.now) (places_in places.now) }
 {
     let Some(way) = named_way(way) else {
         return Err(LineFault::Key);

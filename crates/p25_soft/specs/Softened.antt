@@ -1,5 +1,5 @@
 -- An item's bits with the blocks of a broken packet read from levels.
-use Rattle.std.specs.Prelude.{◌≡◌, ℕ, zero, suc, ◌+◌, ◌*◌, ◌/◌, Bool, true, false, ◌||◌, cond, nat_eq, List, ◌++◌, length, take, drop, ℤ, pos, slice_index_or, Result, Ok, Err, if◌then◌else◌}
+use Rattle.std.specs.Prelude.{◌≡◌, ℕ, zero, suc, ◌+◌, ◌*◌, ◌/◌, Bool, true, false, ◌||◌, ◌==◌, List, ◌++◌, length, take, drop, ℤ, pos, slice_index_or, Result, Ok, Err, if◌then◌else◌}
 use Rattle.std.specs.List.{list_any}
 use Rattle.p25_bits.specs.Numbers.{each_below, joined_below}
 use Rattle.p25_status.specs.Woven.{woven, bare_of, statuses_of}
@@ -33,7 +33,7 @@ is_packet_crc field = false
 
 -- a field is the block at place j
 unfoldable pub is_block : ℕ → Field → Bool
-is_block j (Block place) = nat_eq place j
+is_block j (Block place) = place == j
 is_block j field = false
 
 -- the fields that fail name the packet CRC, and so all blocks
@@ -76,7 +76,7 @@ softened_packet fields levels sent = woven (softened_bare fields levels (blocks_
 
 -- the bits of an item, the blocks of a broken packet replaced
 unfoldable pub softened : Item → List ℤ → List Bool → List Bool
-softened (Broken place count nac duid fields) levels sent = cond (nat_eq duid 0xC) (softened_packet fields levels sent) sent
+softened (Broken place count nac duid fields) levels sent = if duid == 0xC then softened_packet fields levels sent else sent
 softened (Whole place frame fixes) levels sent = sent
 softened (NoUnit place field) levels sent = sent
 softened (Gap place count) levels sent = sent
@@ -84,7 +84,7 @@ softened (Cut place have) levels sent = sent
 
 -- how many blocks of an item are replaced
 unfoldable pub softened_count : Item → List Bool → ℕ
-softened_count (Broken place count nac duid fields) sent = cond (nat_eq duid 0xC) (blocks_replaced fields (blocks_to_follow sent)) 0
+softened_count (Broken place count nac duid fields) sent = if duid == 0xC then blocks_replaced fields (blocks_to_follow sent) else 0
 softened_count (Whole place frame fixes) sent = 0
 softened_count (NoUnit place field) sent = 0
 softened_count (Gap place count) sent = 0

@@ -1,5 +1,5 @@
 -- The items of a stream of bits: what stands at each of its places.
-use Rattle.std.specs.Prelude.{ℕ, zero, suc, ◌+◌, Bool, true, false, ◌||◌, cond, min, nat_le, List, [], ◌∷◌, length, take, drop}
+use Rattle.std.specs.Prelude.{ℕ, zero, suc, ◌+◌, Bool, true, false, ◌||◌, if◌then◌else◌, min, nat_le, List, [], ◌∷◌, length, take, drop}
 use Rattle.p25_status.specs.Sync.{has_sync}
 use Rattle.p25_status.specs.declared.fields.Field.TheVariants.{Sync}
 use Rattle.p25_units.specs.Items.{covered, unit_item_of}
@@ -12,7 +12,7 @@ use Rattle.p25_units.specs.declared.item.Item.TheVariants.{NoUnit, Gap, Cut}
 -- the least place with a sync, or the number of bits where there is none
 unfoldable pub sync_place : List Bool → ℕ
 sync_place [] = 0
-sync_place (bit ∷ bits) = cond (has_sync (bit ∷ bits)) 0 (suc (sync_place bits))
+sync_place (bit ∷ bits) = if has_sync (bit ∷ bits) then 0 else suc (sync_place bits)
 
 -- the item at a place with a sync, by what is needed there
 abbrev pub synced_item : ℕ → List Bool → Need → Item
@@ -27,7 +27,7 @@ gap_of bits = min (sync_place bits) 4096
 
 -- the first item of some bits: the item at a sync, or a gap
 unfoldable pub first_item : ℕ → List Bool → Item
-first_item at bits = cond (has_sync bits) (synced_item at bits (need_of bits)) (Gap at (gap_of bits))
+first_item at bits = if has_sync bits then synced_item at bits (need_of bits) else Gap at (gap_of bits)
 
 -- a gap of so many bits is known once the 48 bits from each of its places are there, and where it is shorter than 4,096,
 -- those from the place after it too
@@ -36,7 +36,7 @@ gap_known count have = nat_le (min (count + 48) (4096 + 47)) have
 
 -- the first item of some bits is the first whatever bits come after them
 unfoldable pub is_decided : List Bool → Bool
-is_decided bits = cond (has_sync bits) (is_known (need_of bits)) (gap_known (gap_of bits) (length bits))
+is_decided bits = if has_sync bits then is_known (need_of bits) else gap_known (gap_of bits) (length bits)
 
 -- the items of some bits, at most so many: where the stream has ended all, else those before the first that is not decided
 unfoldable pub items_in : ℕ → Bool → ℕ → List Bool → List Item
@@ -44,7 +44,7 @@ items_in zero ended at bits = []
 items_in (suc turns) ended at [] = []
 items_in (suc turns) ended at (bit ∷ bits) =
     let item = first_item at (bit ∷ bits) in
-    cond (ended || is_decided (bit ∷ bits)) (item ∷ items_in turns ended (at + covered item) (drop (covered item) (bit ∷ bits))) []
+    if ended || is_decided (bit ∷ bits) then item ∷ items_in turns ended (at + covered item) (drop (covered item) (bit ∷ bits)) else []
 
 -- the items of a stream that has ended or not, of which these bits are there; places count from `at`
 unfoldable pub items_by : Bool → ℕ → List Bool → List Item

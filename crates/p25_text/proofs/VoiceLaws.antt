@@ -7,6 +7,7 @@ use Rattle.std.proofs.lemmas.List.{drop-drop, drop_at, take-append-drop, take_at
 use Rattle.std.proofs.lemmas.List.Elements.{All-nil, All-cons, All-head, All-tail, All-append, All-take, All-drop}
 use Rattle.hex.specs.Hex.{encode_lower, lower_digits}
 use Rattle.hex.proofs.HexLemmas.{length-encode_with}
+use Rattle.p25_bits.specs.Numbers.{pair_at}
 use Rattle.p25_line.specs.Values.{AllOctets}
 use Rattle.p25_line.specs.Words.{is_printed}
 use Rattle.p25_line.proofs.HexLaws.{list_all-encode_lower}
@@ -17,7 +18,7 @@ use Rattle.p25_voice_units.specs.Sendable.{IsSendableVoice, IsSpeech, IsVoiceFra
 use Rattle.p25_voice_units.specs.declared.voice.VoiceFrame.{VoiceFrame}
 use Rattle.p25_text.specs.Names.{other_keys, width_of}
 use Rattle.p25_text.specs.Values.{octets_in, with_value}
-use Rattle.p25_text.specs.Voices.{frame_octets, frames_of, octet_number, octets_behind, pair_number, pair_of, voice_from, voice_in, voice_kind, voice_octets, voice_values}
+use Rattle.p25_text.specs.Voices.{frame_octets, frames_of, octet_number, octets_behind, pair_of, voice_from, voice_in, voice_kind, voice_octets, voice_values}
 use Rattle.p25_text.specs.declared.names.UnitKey.{UnitKey}
 use Rattle.p25_text.specs.declared.names.UnitKind.{UnitKind}
 use Rattle.p25_text.specs.declared.names.UnitKind.TheVariants.{Hdu, Ldu1, Ldu2, Tdu, Tdulc, Confirmed, Plain, Response}
@@ -112,22 +113,22 @@ nine_octets octets fits = record { long = fits.long; small = fits.small }
 octets_nine : (octets : List ℕ) → HasOctets 9 octets → AreNineOctets octets
 octets_nine octets fits = record { long = fits.long; small = fits.small }
 
-pair_number-pair_of : (number : ℕ) → pair_number (pair_of number) ≡ number
-pair_number-pair_of number = let whole : number / 256 * 256 + number % 256 ≡ number = omega arith in whole
+pair_at-pair_of : (number : ℕ) → pair_at (pair_of number) 0 ≡ number
+pair_at-pair_of number = let whole : 256 * (number / 256) + number % 256 ≡ number = omega arith in whole
 
 octet_back : (octets : List ℕ) → HasOctets 1 octets → (octet_number octets ∷ [] ≡ octets) × (octet_number octets < 2 ^ 8)
 octet_back [] fits = let none : 0 ≡ 1 = fits.long in absurd (omega arith)
 octet_back (octet ∷ []) fits = let small : octet < 256 = All-head (λ o. o < 256) octet [] fits.small in (refl, omega arith)
 octet_back (octet ∷ next ∷ octets) fits = let more : suc (suc (length octets)) ≡ 1 = fits.long in absurd (omega arith)
 
-pair_back : (octets : List ℕ) → HasOctets 2 octets → (pair_of (pair_number octets) ≡ octets) × (pair_number octets < 2 ^ 16)
+pair_back : (octets : List ℕ) → HasOctets 2 octets → (pair_of (pair_at octets 0) ≡ octets) × (pair_at octets 0 < 2 ^ 16)
 pair_back [] fits = let none : 0 ≡ 2 = fits.long in absurd (omega arith)
 pair_back (octet ∷ []) fits = let one : 1 ≡ 2 = fits.long in absurd (omega arith)
 pair_back (high ∷ low ∷ []) fits =
     let upper : high < 256 = All-head (λ o. o < 256) high (low ∷ []) fits.small in
     let lower : low < 256 = All-head (λ o. o < 256) low [] (All-tail (λ o. o < 256) high (low ∷ []) fits.small) in
-    let first : (high * 256 + low) / 256 ≡ high = omega arith in
-    let second : (high * 256 + low) % 256 ≡ low = omega arith in
+    let first : (256 * high + low) / 256 ≡ high = omega arith in
+    let second : (256 * high + low) % 256 ≡ low = omega arith in
     (ap₂ (λ h l. h ∷ l ∷ []) first second, omega arith)
 pair_back (high ∷ low ∷ next ∷ octets) fits = let more : suc (suc (suc (length octets))) ≡ 2 = fits.long in absurd (omega arith)
 
@@ -196,10 +197,10 @@ voice-wide (EndLink link) fits = (nine_octets link.0 fits.octets, tt)
 voice_from-octets : (unit : VoiceUnit) → IsSendableVoice unit → voice_from (voice_kind unit) (voice_octets unit) ≡ Some unit
 unfolding IsSendableVoice
 voice_from-octets (Header word) fits =
-    λ i. Some (Header (record { mi = word.mi; mfid = word.mfid; algid = word.algid; kid = pair_number-pair_of word.kid i; tgid = pair_number-pair_of word.tgid i }))
+    λ i. Some (Header (record { mi = word.mi; mfid = word.mfid; algid = word.algid; kid = pair_at-pair_of word.kid i; tgid = pair_at-pair_of word.tgid i }))
 voice_from-octets (Link1 link low voice) fits = ap (λ v. Some (Link1 link low v)) (frames_of-octets 9 voice fits.speech.nine fits.speech.frames)
 voice_from-octets (Link2 sync low voice) fits =
-    λ i. Some (Link2 (record { mi = sync.mi; algid = sync.algid; kid = pair_number-pair_of sync.kid i }) low (frames_of-octets 9 voice fits.speech.nine fits.speech.frames i))
+    λ i. Some (Link2 (record { mi = sync.mi; algid = sync.algid; kid = pair_at-pair_of sync.kid i }) low (frames_of-octets 9 voice fits.speech.nine fits.speech.frames i))
 voice_from-octets End fits = refl
 voice_from-octets (EndLink link) fits = refl
 
@@ -214,10 +215,10 @@ made kind octets one unit found facts = let same : one ≡ unit = cc found in su
 
 header_of : List ℕ → List ℕ → List ℕ → List ℕ → List ℕ → VoiceUnit
 header_of mi mfid algid kid tgid =
-    Header (record { mi = mi; mfid = octet_number mfid; algid = octet_number algid; kid = pair_number kid; tgid = pair_number tgid })
+    Header (record { mi = mi; mfid = octet_number mfid; algid = octet_number algid; kid = pair_at kid 0; tgid = pair_at tgid 0 })
 
 ldu2_of : List ℕ → List ℕ → List ℕ → List ℕ → List ℕ → VoiceUnit
-ldu2_of mi algid kid low voice = Link2 (record { mi = mi; algid = octet_number algid; kid = pair_number kid }) low (frames_of 9 voice)
+ldu2_of mi algid kid low voice = Link2 (record { mi = mi; algid = octet_number algid; kid = pair_at kid 0 }) low (frames_of 9 voice)
 
 speech_of : (low voice : List ℕ) → HasOctets 2 low → HasOctets 162 voice → (frame_octets (frames_of 9 voice) ≡ voice) × IsSpeech low (frames_of 9 voice)
 speech_of low voice two all =

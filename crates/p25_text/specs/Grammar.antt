@@ -1,6 +1,6 @@
 -- Unit lines: the line of a unit, and the unit of a line.
 use Rattle.std.specs.Option.{option_map}
-use Rattle.std.specs.Prelude.{ℕ, nat_eq, cond, List, [], ◌∷◌, ◌++◌, length, drop, Option, Some, None, Result, Ok, Err}
+use Rattle.std.specs.Prelude.{ℕ, nat_eq, if◌then◌else◌, List, [], ◌∷◌, ◌++◌, length, drop, Option, Some, None, Result, Ok, Err}
 use Rattle.std.specs.List.{join_with_byte, starts_with}
 use Rattle.p25_line.specs.Values.{three_digits}
 use Rattle.p25_line.specs.LineReadings.{line_read}
@@ -63,7 +63,7 @@ text_of unit = join_with_byte 32 (unit_words unit)
 
 -- what stands after a key in a word that begins with it
 abbrev pub behind : List ℕ → List ℕ → Option (List ℕ)
-behind key word = cond (starts_with nat_eq word key) (Some (drop (length key) word)) None
+behind key word = if starts_with nat_eq word key then Some (drop (length key) word) else None
 
 -- the values after keys: none where there are more or fewer words than keys, or where some word does not begin with its key
 abbrev pub values_behind : List UnitKey → List (List ℕ) → Option (List (List ℕ))

@@ -1,5 +1,5 @@
 -- The values of packets after the network access code, and the packets that values are read as.
-use Rattle.std.specs.Prelude.{ℕ, ◌-◌, ◌*◌, ◌==◌, ◌&&◌, nat_lt, cond, List, [], ◌∷◌, ◌++◌, length, take, drop, slice_index, Option, Some, None}
+use Rattle.std.specs.Prelude.{ℕ, ◌-◌, ◌*◌, ◌==◌, ◌&&◌, nat_lt, if◌then◌else◌, List, [], ◌∷◌, ◌++◌, length, take, drop, slice_index, Option, Some, None}
 use Rattle.std.specs.Option.{option_and_then, option_map}
 use Rattle.hex.specs.Hex.{encode_lower}
 use Rattle.p25_packet_blocks.specs.declared.block.Block.{Block}
@@ -34,18 +34,18 @@ packet_values (Plain packet) = encode_lower packet.head.0 ∷ octets_text packet
 -- the kind of the line of a packet: that of a packet that is not confirmed is told by the format
 abbrev pub packet_kind : Packet → UnitKind
 packet_kind (Confirmed packet) = ConfirmedKind
-packet_kind (Plain packet) = cond (head_format packet.head == 0x03) ResponseKind PlainKind
+packet_kind (Plain packet) = if head_format packet.head == 0x03 then ResponseKind else PlainKind
 
 -- ---- readings
 
 -- the block of a serial number, which is at most 127, and sixteen octets
 abbrev pub block_from : Option (List ℕ) → Option (List ℕ) → Option Block
-block_from (Some (serial ∷ [])) (Some octets) = cond (nat_lt serial 128) (Some (record { serial = serial; octets = octets })) None
+block_from (Some (serial ∷ [])) (Some octets) = if nat_lt serial 128 then Some (record { serial = serial; octets = octets }) else None
 block_from serial octets = None
 
 -- the block that a text of 35 octets is read as: two digits, a colon and 32 digits
 abbrev pub block_in : List ℕ → Option Block
-block_in text = cond ((length text == 35) && (slice_index text 2 == 58)) (block_from (octets_in 1 (take 2 text)) (octets_in 16 (drop 3 text))) None
+block_in text = if (length text == 35) && (slice_index text 2 == 58) then block_from (octets_in 1 (take 2 text)) (octets_in 16 (drop 3 text)) else None
 
 -- the slot of the block that a text is read as
 abbrev pub slot_in : List ℕ → Option Slot
@@ -61,7 +61,7 @@ confirmed_of head slots = Confirmed (record { head = head; slots = slots })
 
 -- the confirmed packet of a header of format 16 hex, where a word is read as so many slots as there are blocks to follow
 abbrev pub confirmed_from : List ℕ → PacketHead → Option Packet
-confirmed_from word head = cond (head_format head == 0x16) (option_map (confirmed_of head) (counted (head_blocks head) (list_in slot_in word))) None
+confirmed_from word head = if head_format head == 0x16 then option_map (confirmed_of head) (counted (head_blocks head) (list_in slot_in word)) else None
 
 -- the confirmed packet of two values
 abbrev pub confirmed_in : List ℕ → List ℕ → Option Packet
@@ -74,7 +74,7 @@ plain_of head octets = Plain (record { head = head; octets = octets })
 -- the packet of a header of a format, where a word is read as twelve octets for each block to follow less four, or as none
 -- where there is no block to follow
 abbrev pub plain_from : ℕ → List ℕ → PacketHead → Option Packet
-plain_from format word head = cond (head_format head == format) (option_map (plain_of head) (octets_or_none (12 * head_blocks head - 4) word)) None
+plain_from format word head = if head_format head == format then option_map (plain_of head) (octets_or_none (12 * head_blocks head - 4) word) else None
 
 -- the packet of a format of two values
 abbrev pub plain_in : ℕ → List ℕ → List ℕ → Option Packet

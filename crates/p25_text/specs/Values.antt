@@ -1,5 +1,5 @@
 -- Values of keys, and the words that they are written as: digits two for each octet, or `-` for none.
-use Rattle.std.specs.Prelude.{ℕ, ◌+◌, ◌*◌, ◌==◌, ◌&&◌, cond, List, [], ◌∷◌, ◌++◌, length, Option, Some, None}
+use Rattle.std.specs.Prelude.{ℕ, ◌+◌, ◌*◌, ◌==◌, ◌&&◌, if◌then◌else◌, List, [], ◌∷◌, ◌++◌, length, Option, Some, None}
 use Rattle.std.specs.List.{list_all}
 use Rattle.std.specs.Str.{bytes_eq}
 use Rattle.hex.specs.Hex.{encode_lower}
@@ -10,7 +10,7 @@ use Rattle.p25_text.specs.declared.names.UnitKey.{UnitKey}
 
 -- the octets whose text a word is, where it has two digits for each of so many octets
 abbrev pub octets_in : ℕ → List ℕ → Option (List ℕ)
-octets_in count word = cond ((length word == 2 * count) && list_all is_lower_digit word) (Some (octets_of word)) None
+octets_in count word = if (length word == 2 * count) && list_all is_lower_digit word then Some (octets_of word) else None
 
 -- the number of two octets
 abbrev pub number_in : Option (List ℕ) → Option ℕ
@@ -28,7 +28,7 @@ key_value_text key octets = 32 ∷ key_text key ++ encode_lower octets
 
 -- the octets whose text a word is, where there are so many, maybe none
 abbrev pub octets_or_none : ℕ → List ℕ → Option (List ℕ)
-octets_or_none count word = cond (count == 0) (cond (bytes_eq word dash) (Some []) None) (octets_in count word)
+octets_or_none count word = if count == 0 then (if bytes_eq word dash then Some [] else None) else octets_in count word
 
 -- one value more, where there are all
 abbrev pub with_value : Option (List ℕ) → Option (List (List ℕ)) → Option (List (List ℕ))

@@ -1,8 +1,9 @@
 -- The values of voice units after the network access code, and the voice units that values are read as.
-use Rattle.std.specs.Prelude.{ℕ, zero, suc, ◌+◌, ◌*◌, ◌/◌, ◌%◌, List, [], ◌∷◌, take, drop, map, slice_index, Option, Some, None}
+use Rattle.std.specs.Prelude.{ℕ, zero, suc, ◌/◌, ◌%◌, List, [], ◌∷◌, take, drop, map, slice_index, Option, Some, None}
 use Rattle.std.specs.List.{flat_map}
 use Rattle.std.specs.Option.{option_and_then}
 use Rattle.hex.specs.Hex.{encode_lower}
+use Rattle.p25_bits.specs.Numbers.{pair_at}
 use Rattle.p25_voice_units.specs.declared.unit.VoiceUnit.{VoiceUnit}
 use Rattle.p25_voice_units.specs.declared.unit.VoiceUnit.TheVariants.{Header, Link1, Link2, End, EndLink}
 use Rattle.p25_voice_units.specs.declared.voice.VoiceFrame.{VoiceFrame}
@@ -51,12 +52,9 @@ octets_behind [] (value ∷ values) = None
 octets_behind (key ∷ keys) [] = None
 octets_behind (key ∷ keys) (value ∷ values) = with_value (octets_in (width_of key) value) (octets_behind keys values)
 
--- the number of one octet, and of two, the higher first
+-- the number of one octet
 abbrev pub octet_number : List ℕ → ℕ
 octet_number octets = slice_index octets 0
-
-abbrev pub pair_number : List ℕ → ℕ
-pair_number octets = slice_index octets 0 * 256 + slice_index octets 1
 
 -- so many voice frames, of eighteen octets each
 unfoldable pub frames_of : ℕ → List ℕ → List VoiceFrame
@@ -66,10 +64,10 @@ frames_of (suc n) octets = record { 0 = take 18 octets } ∷ frames_of n (drop 1
 -- the unit of a kind with such octets
 abbrev pub voice_from : UnitKind → List (List ℕ) → Option VoiceUnit
 voice_from Hdu (mi ∷ mfid ∷ algid ∷ kid ∷ tgid ∷ []) =
-    Some (Header (record { mi = mi; mfid = octet_number mfid; algid = octet_number algid; kid = pair_number kid; tgid = pair_number tgid }))
+    Some (Header (record { mi = mi; mfid = octet_number mfid; algid = octet_number algid; kid = pair_at kid 0; tgid = pair_at tgid 0 }))
 voice_from Ldu1 (link ∷ low ∷ voice ∷ []) = Some (Link1 (record { 0 = link }) low (frames_of 9 voice))
 voice_from Ldu2 (mi ∷ algid ∷ kid ∷ low ∷ voice ∷ []) =
-    Some (Link2 (record { mi = mi; algid = octet_number algid; kid = pair_number kid }) low (frames_of 9 voice))
+    Some (Link2 (record { mi = mi; algid = octet_number algid; kid = pair_at kid 0 }) low (frames_of 9 voice))
 voice_from Tdu [] = Some End
 voice_from Tdulc (link ∷ []) = Some (EndLink (record { 0 = link }))
 voice_from kind octets = None

@@ -1,6 +1,6 @@
 -- What `build` writes: the bits are those of the units of its lines, by induction on the units, and so a recording of undamaged units;
 -- what lines are read as, by induction on the lines and cases on the first.
-use Rattle.std.proofs.Common.{◌≡◌, ℕ, ◌+◌, ◌/◌, true, List, [], ◌∷◌, ◌++◌, length, map, take, Result, Ok, Err, refl, subst, ap, ap₂, sym, ◌∙◌, arith}
+use Rattle.std.proofs.Common.{◌≡◌, ℕ, ◌+◌, ◌/◌, Bool, true, false, List, [], ◌∷◌, ◌++◌, length, map, take, Option, Some, None, Result, Ok, Err, refl, subst, ap, ap₂, sym, ◌∙◌, append-nil, arith}
 use Rattle.std.specs.Prelude.{All}
 use Rattle.std.specs.List.{flat_map}
 use Rattle.std.proofs.lemmas.List.{length-replicate}
@@ -24,10 +24,12 @@ use Rattle.p25_units.proofs.UnitsLaws.{length-image_of}
 use Rattle.p25_units.proofs.WithinRadiusLaws.{IsWithinRadius-image_of, received-image_of}
 use Rattle.p25_stream.specs.Arrivals.{Arrival, IsNearArrival, whole_of, wholes_of}
 use Rattle.p25_stream.proofs.ArrivalLaws.{wholes_of-cons, wholes_of-nil}
-use Rattle.p25_filter.specs.Lines.{lines_in}
+use Rattle.p25_filter.specs.declared.ending.Ending.{Ending}
+use Rattle.p25_filter.specs.Lines.{closing_by, lines_in, refusal_in}
 use Rattle.p25_filter.proofs.RulesLaws.{read_of-err, read_of-nil, read_of-ok}
 use Rattle.p25_tool.specs.Built.{AcceptedAreRead, BuildsUnits, LinesAreTexts, bits_built, units_of, wholes_built}
-use Rattle.p25_tool.specs.Outputs.{filled_frame, image_octets}
+use Rattle.p25_tool.specs.declared.command.Command.TheVariants.{Build}
+use Rattle.p25_tool.specs.Outputs.{filled_frame, image_octets, output_by}
 use Rattle.p25_recording_filters.specs.ItemOutputs.{shown}
 use Rattle.p25_tool.specs.Recorded.{IsRecording}
 use Rattle.p25_tool.proofs.RecordedLaws.{items-recording, octet_bits-whole, shows-units, whole-image}
@@ -109,12 +111,24 @@ accepted-read (line ∷ lines) (unit ∷ units) read =
     let rest = accepted-read lines units later in
     (read_of-ok read_line_of line lines unit first ∙ ap (λ (us : List UnitParts). unit ∷ us) rest.0, ap₂ ◌∷◌ (text_of-read_line line unit first).0 rest.1)
 
+-- `build` writes nothing at the end
+closing_none : (ended : Bool) (refusal : Option Ending) → closing_by ended refusal [] ≡ []
+closing_none ended (Some refusal) = refl
+closing_none true None = refl
+closing_none false None = refl
+
+output-images : (ended : Bool) (status : Status) (octets : List ℕ)
+    → output_by (Build status) ended octets ≡ flat_map (image_octets status) (units_of (lines_in ended [] octets))
+output-images ended status octets =
+    let images = flat_map (image_octets status) (units_of (lines_in ended [] octets)) in
+    ap (λ (zs : List ℕ). images ++ zs) (closing_none ended (refusal_in read_line_of 1 (lines_in ended [] octets))) ∙ append-nil images
+
 pub builds-units : BuildsUnits
 unfolding AreTexts
 builds-units ended status octets =
     let units = units_of (lines_in ended [] octets) in
     let sendable = (units-texts (lines_in ended [] octets)).0 in
-    let bits = images-built status units sendable in
+    let bits = ap octet_bits (output-images ended status octets) ∙ images-built status units sendable in
     let recording = built-recording status units _ sendable bits in
     let wholes = wholes-built status 0 units sendable in
     record {

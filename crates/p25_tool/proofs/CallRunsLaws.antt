@@ -13,7 +13,7 @@ use Rattle.p25_filter.specs.declared.ending.FilterEnd.{FilterEnd}
 use Rattle.p25_filter.specs.declared.ending.FilterEnd.TheVariants.{Ended, ReadFault as EndedReadFault, WriteFault as EndedWriteFault, TooLong, Memory as NoMemory}
 use Rattle.p25_filter.proofs.RunsLaws.{run-filtered, run-read_fault, run-untouched, run-write_fault}
 use Rattle.p25_filter.proofs.LinesLaws.{Contains-none}
-use Rattle.p25_filter.proofs.SameLaws.{IsRun-same}
+use Rattle.p25_filter.proofs.SameLaws.{AreAlike, IsRun-same}
 use Rattle.p25_stations.specs.declared.step.Event.{Event as StationsEvent}
 use Rattle.p25_fragments.specs.declared.long_step.LongEvent.{LongEvent}
 use Rattle.p25_duplex.specs.declared.event.DuplexEvent.{DuplexEvent}
@@ -23,13 +23,12 @@ use Rattle.p25_tool.specs.declared.command.Command.TheVariants.{Duplex, Fragment
 use Rattle.p25_tool.specs.declared.outcome.Outcome.{Outcome}
 use Rattle.p25_tool.specs.declared.outcome.Outcome.TheVariants.{Done as DoneOutcome, Memory, ReadFault, Usage, WriteFault}
 use Rattle.p25_tool.specs.Outcomes.{ending_outcome, filter_outcome}
-use Rattle.p25_tool.specs.Outputs.{CanWantMemory}
-use Rattle.p25_tool.specs.Runs.{Ran, answer_of, command_future}
+use Rattle.p25_tool.specs.Outputs.{CanWantMemory, command_future}
+use Rattle.p25_tool.specs.Runs.{Ran, answer_of}
 use Rattle.p25_tool.specs.Recorded.{IsRecording}
 use Rattle.p25_tool.specs.RecordedRuns.{HasWrittenUnits, IsUnitCommand}
 use Rattle.p25_tool.specs.Words.{command_of}
 use Rattle.p25_tool.specs.Scripts.{HasDuplexRun, HasLongRun, HasRun, IsDuplexScriptOf, IsLongScriptOf, IsScriptOf}
-use Rattle.p25_tool.proofs.CommandsLaws.{AreAlike}
 use Rattle.p25_stream.specs.Arrivals.{Arrival}
 use Rattle.p25_tool.proofs.RecordedRunsLaws.{command-fit, units-run}
 use Rattle.p25_tool.proofs.RunsLaws.{answer-without-faults, memory-command}
@@ -43,7 +42,7 @@ pub alike-run : {P : Type 0} (moves : P → List Event → P → Type 0) (first 
 alike-run moves first last f command end alike other went = (
   went.0,
   went.1,
-  IsRun-same f (command_future command) alike.writes alike.ends alike.pauses went.0 end went.2,
+  IsRun-same f (command_future command) alike went.0 end went.2,
   λ count is. absurd (other count is),
 )
 

@@ -1,5 +1,6 @@
 -- A recording of units within radius: a command that works on units ends as Done, and wrote what its law of recordings says.
 use Rattle.std.proofs.Common.{◌≡◌, ℕ, ◌<◌, ◌≤◌, Bool, true, false, cond, nat_eq, List, [], ◌∷◌, length, codes, Option, Some, None, ◌⊎◌, inl, inr, refl, ap, sym, subst, ◌∙◌}
+use Rattle.std.specs.Prelude.{option_map}
 use Rattle.std.specs.Str.{bytes_eq}
 use Rattle.p25_status.specs.declared.symbols.Status.{Status}
 use Rattle.p25_text.specs.Values.{nac_in}
@@ -15,11 +16,11 @@ use Rattle.p25_tool.specs.declared.command.Command.TheVariants.{Show, Check, Rep
 use Rattle.p25_tool.specs.declared.outcome.Outcome.{Outcome}
 use Rattle.p25_tool.specs.declared.outcome.Outcome.TheVariants.{Done, Memory, TooLong}
 use Rattle.p25_tool.specs.Outcomes.{filter_outcome}
-use Rattle.p25_tool.specs.Outputs.{CanWantMemory, ending_by, output_by}
+use Rattle.p25_tool.specs.Outputs.{CanWantMemory, command_future, ending_by, output_by}
 use Rattle.p25_tool.specs.Recorded.{IsRecording}
 use Rattle.p25_tool.specs.RecordedRuns.{AreWrittenOf, HasWrittenUnits, IsUnitCommand}
-use Rattle.p25_tool.specs.Runs.{answer_of, command_future, ending_or}
-use Rattle.p25_tool.specs.Words.{bridge_of, build_of, command_of, one_word_command, sample_of, status_in, three_word_command, two_word_command}
+use Rattle.p25_tool.specs.Runs.{answer_of, ending_or}
+use Rattle.p25_tool.specs.Words.{bridge_of, command_of, one_word_command, sample_of, status_in}
 use Rattle.p25_tool.specs.Written.{HasEnded}
 use Rattle.p25_tool.proofs.RecordedLaws.{bridges-units, checks-units, repairs-units, shows-units}
 use Rattle.p25_tool.proofs.RunsLaws.{answer-short}
@@ -46,7 +47,7 @@ module _ (nac : ℕ) (status : Status) where
       (either (bytes_eq word (codes "fragments")) _ _ (λ is. absurd (cc is))
       (either (bytes_eq word (codes "duplex")) _ _ (λ is. absurd (cc is)) (λ is. absurd (cc is)))))))))
 
-  build-fit : (symbol : Option Status) → IsFit (build_of symbol)
+  build-fit : (symbol : Option Status) → IsFit (option_map Build symbol)
   build-fit None is = absurd (cc is)
   build-fit (Some symbol) is = absurd (cc is)
 
@@ -65,7 +66,7 @@ module _ (nac : ℕ) (status : Status) where
   command-fit [] = λ is. absurd (cc is)
   command-fit (word ∷ []) = one-fit word
   command-fit (first ∷ second ∷ []) =
-      either (bytes_eq first (codes "build")) (build_of (status_in second)) _ (build-fit (status_in second))
+      either (bytes_eq first (codes "build")) (option_map Build (status_in second)) _ (build-fit (status_in second))
       (either (bytes_eq first (codes "sample")) (sample_of (number_below 10001 second)) None (sample-fit (number_below 10001 second)) (λ is. absurd (cc is)))
   command-fit (first ∷ second ∷ third ∷ []) =
       either (bytes_eq first (codes "bridge")) (bridge_of (nac_in second) (status_in third)) None

@@ -1,35 +1,24 @@
--- What is said of the work of one future is said of another that writes and ends alike; and the outcome of work on an input
--- without faults.
+-- The outcome of work on an input without faults.
 use Rattle.std.proofs.Common.{◌≡◌, ℕ, ◌-◌, ◌<◌, ◌≤◌, Bool, true, false, cond, nat_lt, List, [], ◌++◌, length, take, Option, Some, refl, ap, sym, subst, ◌∙◌, arith, append-nil, length-append, ◌⊎◌, inl, inr}
 use Rattle.std.specs.Prelude.{IfSome}
 use Rattle.std.proofs.lemmas.List.{take_all, take-append-le}
 use Rattle.std.proofs.lemmas.Bool.{cases_lt}
 use Rattle.std.proofs.lemmas.Bool.Decides.{nat_tests}
 use Rattle.p25_io.specs.Octets.{Taken}
-use Rattle.p25_filter.specs.Futures.{Future}
-use Rattle.p25_filter.specs.Runs.{IsFinal, IsTooLong, Filtered, all_written, input_most}
+use Rattle.p25_filter.specs.Runs.{IsFinal, IsTooLong, Filtered, input_most}
 use Rattle.p25_filter.specs.declared.ending.Ending.{Ending}
 use Rattle.p25_filter.specs.declared.ending.Ending.TheVariants.{Done, Found, BadLine}
 use Rattle.p25_filter.specs.declared.ending.FilterEnd.{FilterEnd}
 use Rattle.p25_filter.specs.declared.ending.FilterEnd.TheVariants.{Ended, ReadFault, WriteFault, TooLong as InputTooLong, Memory as NoMemory}
 use Rattle.p25_filter.proofs.LinesLaws.{Contains-none}
 use Rattle.p25_filter.proofs.RunsLaws.{ended-input, first-take, told-parts}
-use Rattle.p25_filter.proofs.SameLaws.{Filtered-same, all_written-same}
 use Rattle.p25_tool.specs.declared.command.Command.{Command}
 use Rattle.p25_tool.specs.declared.command.Command.TheVariants.{Show, Check, Repair, Bridge, Build, Calls, Soft, Stations, Duplex, Fragments, Sample}
 use Rattle.p25_tool.specs.declared.outcome.Outcome.{Outcome}
 use Rattle.p25_tool.specs.declared.outcome.Outcome.TheVariants.{TooLong, Memory}
 use Rattle.p25_tool.specs.Outcomes.{ending_outcome, filter_outcome}
-use Rattle.p25_tool.specs.Outputs.{CanWantMemory, ending_by}
-use Rattle.p25_tool.specs.Runs.{answer_of, command_future, ending_or}
-use Rattle.p25_tool.proofs.CommandsLaws.{AreAlike}
-
--- the work of a future is that of one that is alike
-pub worked-alike : (told left first last : Option (List ℕ)) (f g : Future) (end : FilterEnd) → AreAlike f g → Filtered told left first last f end → Filtered told left first last g end
-worked-alike told left first last f g end alike worked = Filtered-same told left first last f g end alike.writes alike.ends alike.pauses worked
-
-pub all_written-alike : (f g : Future) → AreAlike f g → (input : List ℕ) → all_written g input ≡ [] → all_written f input ≡ []
-all_written-alike f g alike input none = all_written-same f g alike.writes input ∙ none
+use Rattle.p25_tool.specs.Outputs.{CanWantMemory, command_future, ending_by}
+use Rattle.p25_tool.specs.Runs.{answer_of, ending_or}
 
 -- the first octets of an input begin with those of the octets that were taken from it
 first-parts : (octets rest : List ℕ) → (more : List ℕ) × (take input_most (octets ++ rest) ≡ take input_most octets ++ more)

@@ -6,13 +6,9 @@ use Rattle.p25_line.specs.declared.fault.LineFault.{LineFault}
 use Rattle.p25_delivery.specs.Runs.{run_by, steps_by}
 use Rattle.p25_filter.specs.Futures.{Future}
 use Rattle.p25_filter.specs.Lines.{closing_by, lines_in, read_of, refusal_in, texts_before}
-use Rattle.p25_filter.specs.LineRules.{machine_behind, rules_by, texts_of}
+use Rattle.p25_filter.specs.LineRules.{machine_behind, rules_by, texts_of, told_by}
 use Rattle.p25_filter.specs.LineFilters.{first_line, line_future}
 use Rattle.p25_filter.proofs.RulesLaws.{first_line-pauses, first_line-writes}
-
--- the text of the step that an event is, and the machine after it
-abbrev pub told_by : {W E S : Type 0} → (W → E → W × S) → (S → List ℕ) → W → E → List ℕ × W
-told_by step line w event = (line (step w event).1, (step w event).0)
 
 told : {W E S : Type 0} (step : W → E → W × S) (line : S → List ℕ) (events : List E) (w : W) → texts_of (told_by step line) w events ≡ map line (steps_by step w events)
 unfolding texts_of steps_by

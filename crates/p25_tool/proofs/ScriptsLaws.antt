@@ -42,9 +42,9 @@ use Rattle.p25_tool.specs.declared.command.Command.TheVariants.{Stations, Fragme
 use Rattle.p25_tool.specs.declared.outcome.Outcome.{Outcome}
 use Rattle.p25_tool.specs.declared.outcome.Outcome.TheVariants.{Done, Memory, TooLong as OutcomeTooLong}
 use Rattle.p25_tool.specs.Outcomes.{ending_outcome, filter_outcome}
-use Rattle.p25_tool.specs.Outputs.{CanWantMemory, closing_line, duplex_closing_lines, duplex_step_line, ending_by, long_closing_line, output_by, step_line}
-use Rattle.p25_tool.specs.Runs.{answer_of, command_future, ending_or}
-use Rattle.p25_tool.specs.Scripts.{HasDuplexRun, HasLongRun, HasRun, IsDuplexScriptOf, IsLongScriptOf, IsScriptOf, duplex_script_text, long_script_text, script_text}
+use Rattle.p25_tool.specs.Outputs.{CanWantMemory, closing_line, command_future, duplex_closing_lines, duplex_step_line, ending_by, long_closing_line, output_by, step_line}
+use Rattle.p25_tool.specs.Runs.{answer_of, ending_or}
+use Rattle.p25_tool.specs.Scripts.{HasDuplexRun, HasLongRun, HasRun, IsDuplexScriptOf, IsLongScriptOf, IsScriptOf}
 
 -- how a line is read
 abbrev Reading : Type 0 → Type 0

@@ -20,8 +20,7 @@ use Rattle.p25_tool.specs.declared.command.Command.{Command}
 use Rattle.p25_tool.specs.declared.command.Command.TheVariants.{Show, Check, Repair, Bridge, Calls, Soft, Build, Stations, Fragments, Duplex, Sample}
 use Rattle.p25_duplex_script.specs.DuplexLines.{duplex_event_of}
 use Rattle.p25_tool.specs.Outcomes.{ending_outcome, filter_outcome}
-use Rattle.p25_tool.specs.Outputs.{ending_by, output_by}
-use Rattle.p25_tool.specs.Runs.{command_future}
+use Rattle.p25_tool.specs.Outputs.{command_future, ending_by, output_by}
 use Rattle.p25_tool.specs.Written.{AllIsWritten, HasEnded}
 
 -- a line that is refused is no end of the input, whatever lines are read as

@@ -8,7 +8,7 @@ use Rattle.p25_tool.specs.declared.command.Command.TheVariants.{Sample}
 use Rattle.p25_tool.specs.declared.outcome.Outcome.{Outcome}
 use Rattle.p25_tool.specs.declared.outcome.Outcome.TheVariants.{Usage}
 use Rattle.p25_tool.specs.Outcomes.{filter_outcome}
-use Rattle.p25_tool.specs.Runs.{command_future}
+use Rattle.p25_tool.specs.Outputs.{command_future}
 
 -- no event is a read
 abbrev pub AreWrites : List Event → Type 0

@@ -1,11 +1,12 @@
 -- What each command writes for its input, and how a call ends by its input.
-use Rattle.std.specs.Prelude.{ℕ, ◌+◌, ◌/◌, Bool, cond, List, [], ◌∷◌, ◌++◌, length, map, take, replicate, codes, decimal, Option, Some, None}
+use Rattle.std.specs.Prelude.{ℕ, ◌/◌, Bool, true, false, if◌then◌else◌, List, [], ◌∷◌, ◌++◌, length, replicate, codes, decimal, Option, Some, None}
 use Rattle.std.specs.List.{flat_map}
 use Rattle.p25_bits.specs.Bits.{octet_bits}
 use Rattle.p25_status.specs.declared.symbols.Status.{Status}
 use Rattle.p25_units.specs.UnitParts.{UnitParts}
 use Rattle.p25_units.specs.Units.{frame_length_of, image_of}
 use Rattle.p25_units.specs.declared.frame.Frame.{Frame}
+use Rattle.p25_units.specs.declared.item.Item.{Item}
 use Rattle.p25_stream.specs.Items.{items_by}
 use Rattle.p25_stream.specs.Repeats.{bridged, repaired}
 use Rattle.p25_text.specs.Grammar.{read_line_of}
@@ -24,7 +25,8 @@ use Rattle.p25_duplex.specs.DuplexState.{DuplexState, first_duplex}
 use Rattle.p25_duplex.specs.DuplexRuns.{duplex_run, duplex_steps}
 use Rattle.p25_duplex_script.specs.DuplexTexts.{duplex_closing_of, duplex_step_text_of}
 use Rattle.p25_duplex_script.specs.DuplexLines.{duplex_event_of}
-use Rattle.p25_filter.specs.Lines.{closing_by, lines_ending, lines_in, read_of, refusal_in, texts_before}
+use Rattle.p25_filter.specs.Futures.{Future}
+use Rattle.p25_filter.specs.Lines.{lines_future}
 use Rattle.p25_tool.specs.declared.command.Command.{Command}
 use Rattle.p25_tool.specs.declared.command.Command.TheVariants.{Show, Check, Repair, Bridge, Build, Stations, Calls, Duplex, Fragments, Soft, Sample}
 use Rattle.p25_fragments.specs.LongState.{LongState, first_long}
@@ -64,56 +66,46 @@ long_closing_line world = long_closing_text_of world ++ 10 ∷ []
 abbrev pub sample_line : ℕ → List ℕ
 sample_line count = codes "units=" ++ decimal count ++ codes " flips=" ++ decimal (flips_of count) ++ codes " exact=" ++ decimal count ++ 10 ∷ []
 
+-- a command that reads a recording: what it writes for the items, and how it ends at the end of the input
+abbrev pub items_future : (Bool → List Item → List Bool → List ℕ) → (List Item → Ending) → Future
+items_future text ending = record {
+  writes = λ ended octets. text ended (items_by ended 0 (octet_bits octets)) (octet_bits octets);
+  ends = λ ended octets. if ended then Some (ending (items_by ended 0 (octet_bits octets))) else None;
+  pauses = λ ended octets. [];
+}
+
+-- what a command writes for the octets of its input, whether they are all or more may come, how it ends by them, and after which
+-- texts memory may be wanting: before each step of a script
+abbrev pub command_future : Command → Future
+command_future Show = items_future (λ ended items bits. flat_map shown items) (λ items. Done)
+command_future Check =
+    items_future (λ ended items bits. flat_map faulty items ++ (if ended then check_line (units_in items) (faults_in items) else []))
+    (λ items. check_ending (faults_in items))
+command_future Repair = items_future (λ ended items bits. whole_octets (changed_bits repaired items bits)) (λ items. Done)
+command_future (Bridge nac status) =
+    items_future (λ ended items bits. whole_octets (changed_bits (λ item raw. bridged nac status item []) items bits)) (λ items. Done)
+command_future Calls =
+    items_future (λ ended items bits.
+    let calls = calls_by ended items in flat_map call_line calls ++ (if ended then calls_line (length calls) else [])) (λ items. Done)
+command_future Soft =
+    record { writes = soft_output; ends = λ ended octets. if ended then Some Done else None; pauses = λ ended octets. [] }
+command_future (Build status) = lines_future read_line_of (λ units. units) (image_octets status) (λ units. []) false
+command_future Stations =
+    lines_future event_of (steps_of first_world) step_line (λ events. closing_line (world_run first_world events)) true
+command_future Duplex =
+    lines_future duplex_event_of (duplex_steps first_duplex) duplex_step_line (λ events. duplex_closing_lines (duplex_run first_duplex events)) true
+command_future Fragments =
+    lines_future long_event_of (long_steps_of first_long) long_step_text_of (λ events. long_closing_line (long_run first_long events)) true
+command_future (Sample count) =
+    record { writes = λ ended octets. sample_line count; ends = λ ended octets. Some Done; pauses = λ ended octets. [] }
+
 -- what a command writes for the octets of its input, whether they are all or more may come
 abbrev pub output_by : Command → Bool → List ℕ → List ℕ
-output_by Show ended octets = flat_map shown (items_by ended 0 (octet_bits octets))
-output_by Check ended octets =
-    let items = items_by ended 0 (octet_bits octets) in
-    flat_map faulty items ++ cond ended (check_line (units_in items) (faults_in items)) []
-output_by Repair ended octets = whole_octets (changed_bits repaired (items_by ended 0 (octet_bits octets)) (octet_bits octets))
-output_by (Bridge nac status) ended octets =
-    whole_octets (changed_bits (λ item raw. bridged nac status item []) (items_by ended 0 (octet_bits octets)) (octet_bits octets))
-output_by Soft ended octets = soft_output ended octets
-output_by (Build status) ended octets = flat_map (image_octets status) (read_of read_line_of (lines_in ended [] octets))
-output_by Stations ended octets =
-    let lines = lines_in ended [] octets in
-    let events = read_of event_of lines in
-    flat_map step_line (steps_of first_world events) ++ closing_by ended (refusal_in event_of 1 lines) (closing_line (world_run first_world events))
-output_by Calls ended octets =
-    let calls = calls_by ended (items_by ended 0 (octet_bits octets)) in flat_map call_line calls ++ cond ended (calls_line (length calls)) []
-output_by Duplex ended octets =
-    let lines = lines_in ended [] octets in
-    let events = read_of duplex_event_of lines in
-    flat_map duplex_step_line (duplex_steps first_duplex events)
-    ++ closing_by ended (refusal_in duplex_event_of 1 lines) (duplex_closing_lines (duplex_run first_duplex events))
-output_by Fragments ended octets =
-    let lines = lines_in ended [] octets in
-    let events = read_of long_event_of lines in
-    flat_map long_step_text_of (long_steps_of first_long events)
-    ++ closing_by ended (refusal_in long_event_of 1 lines) (long_closing_line (long_run first_long events))
-output_by (Sample count) ended octets = sample_line count
+output_by command = (command_future command).writes
 
 -- how a call of a command ends by the octets of its input, whether they are all or more may come
 abbrev pub ending_by : Command → Bool → List ℕ → Option Ending
-ending_by Show ended octets = cond ended (Some Done) None
-ending_by Check ended octets = cond ended (Some (check_ending (faults_in (items_by ended 0 (octet_bits octets))))) None
-ending_by Repair ended octets = cond ended (Some Done) None
-ending_by (Bridge nac status) ended octets = cond ended (Some Done) None
-ending_by Soft ended octets = cond ended (Some Done) None
-ending_by (Build status) ended octets = lines_ending ended (refusal_in read_line_of 1 (lines_in ended [] octets))
-ending_by Stations ended octets = lines_ending ended (refusal_in event_of 1 (lines_in ended [] octets))
-ending_by Calls ended octets = cond ended (Some Done) None
-ending_by Duplex ended octets = lines_ending ended (refusal_in duplex_event_of 1 (lines_in ended [] octets))
-ending_by Fragments ended octets = lines_ending ended (refusal_in long_event_of 1 (lines_in ended [] octets))
-ending_by (Sample count) ended octets = Some Done
-
--- after which texts of a command memory may be wanting, by the octets of its input: before each step of a script
-abbrev pub pauses_by : Command → Bool → List ℕ → List (List ℕ)
-pauses_by Stations ended octets = texts_before (map step_line (steps_of first_world (read_of event_of (lines_in ended [] octets))))
-pauses_by Duplex ended octets = texts_before (map duplex_step_line (duplex_steps first_duplex (read_of duplex_event_of (lines_in ended [] octets))))
-pauses_by Fragments ended octets =
-    texts_before (map long_step_text_of (long_steps_of first_long (read_of long_event_of (lines_in ended [] octets))))
-pauses_by command ended octets = []
+ending_by command = (command_future command).ends
 
 -- the commands that take memory
 abbrev pub CanWantMemory : Command → Type 0

@@ -1,6 +1,5 @@
 -- What a call leaves, and how it answers an input without faults.
-use Rattle.std.specs.Prelude.{◌≡◌, ℕ, true, false, cond, nat_lt, List, length, take, Option, Some, None}
-use Rattle.p25_filter.specs.Futures.{Future}
+use Rattle.std.specs.Prelude.{◌≡◌, ℕ, true, false, if◌then◌else◌, nat_lt, List, length, take, Option, Some, None}
 use Rattle.p25_filter.specs.Runs.{Filtered, input_most}
 use Rattle.p25_filter.specs.declared.ending.Ending.{Ending}
 use Rattle.p25_filter.specs.declared.ending.FilterEnd.{FilterEnd}
@@ -8,11 +7,7 @@ use Rattle.p25_tool.specs.declared.command.Command.{Command}
 use Rattle.p25_tool.specs.declared.outcome.Outcome.{Outcome}
 use Rattle.p25_tool.specs.declared.outcome.Outcome.TheVariants.{TooLong}
 use Rattle.p25_tool.specs.Outcomes.{ending_outcome, filter_outcome}
-use Rattle.p25_tool.specs.Outputs.{ending_by, output_by, pauses_by}
-
--- what a command writes, how it ends, and after which texts memory may be wanting, for the octets of an input
-abbrev pub command_future : Command → Future
-command_future command = record { writes = output_by command; ends = ending_by command; pauses = pauses_by command }
+use Rattle.p25_tool.specs.Outputs.{command_future, ending_by}
 
 -- what a call of a command took and wrote, by its outcome
 pub record Ran (told left first last : Option (List ℕ)) (command : Command) (outcome : Outcome) : Type 0 where
@@ -28,5 +23,5 @@ ending_or None other = other
 -- how a call of a command answers an input where no read and no write fails: by what it holds, or that it is too long
 abbrev pub answer_of : Command → List ℕ → Outcome
 answer_of command input =
-    cond (nat_lt input_most (length input)) (ending_or (ending_by command false (take input_most input)) TooLong)
-    (ending_or (ending_by command true input) TooLong)
+    if nat_lt input_most (length input) then ending_or (ending_by command false (take input_most input)) TooLong
+    else ending_or (ending_by command true input) TooLong

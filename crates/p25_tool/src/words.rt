@@ -1,5 +1,5 @@
-ghost use Rattle.std.specs.Prelude.{◌≡◌, ℕ, ◌≤◌, List, [], length, take, IfSome};
-ghost use Rattle.p25_tool.specs.Words.{IsSoundCommand, build_of, one_word_command, sample_of, status_in, three_word_command, two_word_command};
+ghost use Rattle.std.specs.Prelude.{◌≡◌, ℕ, ◌≤◌, List, [], length, option_map, take, IfSome};
+ghost use Rattle.p25_tool.specs.Words.{IsSoundCommand, one_word_command, sample_of, status_in, three_word_command, two_word_command};
 ghost use Rattle.p25_line.specs.Values.{number_below};
 
 use super::command::Command;
@@ -147,7 +147,7 @@ fn two_words(word: &[u8], value: &[u8]) -> Option<Command>
 
 // The command `build` with a status symbol.
 fn build_command(status: &[u8]) -> Option<Command>
-    ensures command { result ≡ build_of (status_in status.now) }
+    ensures command { result ≡ option_map Command.Build (status_in status.now) }
     ensures sound { IfSome result IsSoundCommand }
 {
     match status_value(status) {
@@ -193,12 +193,8 @@ fn three_words(word: &[u8], nac: &[u8], status: &[u8]) -> Option<Command>
 fn status_value(word: &[u8]) -> Option<Status>
     ensures { result ≡ status_in word.now }
 {
-    if word.len() != 1 {
-        return None;
+    match number_value(word, 3) {
+        Some(number) => Status::new(number as u8),
+        None => None,
     }
-    let digit = word[0];
-    if digit < b'0' || digit > b'3' {
-        return None;
-    }
-    Status::new(digit - b'0')
 }

@@ -1,6 +1,6 @@
 -- What the bits from a place on say of a unit there. One rule stands for each kind of unit, joined where the identifier was
 -- read.
-use Rattle.std.specs.Prelude.{ℕ, Bool, true, false, cond, nat_eq, nat_lt, List, Option, Some, None, Result, Ok, Err, length}
+use Rattle.std.specs.Prelude.{ℕ, Bool, true, false, if◌then◌else◌, ◌==◌, nat_lt, List, Option, Some, None, Result, Ok, Err, length}
 use Rattle.p25_status.specs.Sync.{has_sync}
 use Rattle.p25_status.specs.declared.fields.Field.{Field}
 use Rattle.p25_status.specs.declared.fields.Field.TheVariants.{Nid, Duid}
@@ -16,7 +16,7 @@ use Rattle.p25_units.specs.declared.needs.Need.TheVariants.{NoSync, More, Length
 
 -- what a unit of a known length needs where so many bits are there
 unfoldable pub length_need : ℕ → ℕ → Need
-length_need count have = cond (nat_lt have count) (More count) (Length count)
+length_need count have = if nat_lt have count then More count else Length count
 
 -- what a voice unit needs, by how many bits its kind has without status symbols; none where there is no such kind
 unfoldable pub voice_need : Option ℕ → ℕ → Need
@@ -30,11 +30,11 @@ head_need (Ok head) have = length_need (packet_sent_length (head_blocks head)) h
 
 -- what a packet needs: the 316 bits with its front and its header block, and then all that its header asks for
 unfoldable pub packet_need : List Bool → Need
-packet_need bits = cond (nat_lt (length bits) 316) (More 316) (head_need (sent_head_of bits) (length bits))
+packet_need bits = if nat_lt (length bits) 316 then More 316 else head_need (sent_head_of bits) (length bits)
 
 -- what the unit of a DUID needs
 unfoldable pub kind_need : ℕ → List Bool → Need
-kind_need duid bits = cond (nat_eq duid 0xC) (packet_need bits) (voice_need (voice_length_of duid) (length bits))
+kind_need duid bits = if duid == 0xC then packet_need bits else voice_need (voice_length_of duid) (length bits)
 
 -- what is needed after an identifier that was read, or none
 unfoldable pub identified_need : Option (ℕ × ℕ) → List Bool → Need
@@ -43,11 +43,11 @@ identified_need (Some nid) bits = kind_need nid.1 bits
 
 -- what is needed at a sync
 unfoldable pub synced_need : List Bool → Need
-synced_need bits = cond (nat_lt (length bits) 114) (More 114) (identified_need (identifier_of bits) bits)
+synced_need bits = if nat_lt (length bits) 114 then More 114 else identified_need (identifier_of bits) bits
 
 -- what the bits from a place on need
 unfoldable pub need_of : List Bool → Need
-need_of bits = cond (nat_lt (length bits) 48) (More 48) (cond (has_sync bits) (synced_need bits) NoSync)
+need_of bits = if nat_lt (length bits) 48 then More 48 else if has_sync bits then synced_need bits else NoSync
 
 -- no more bits are needed before something can be said
 abbrev pub is_known : Need → Bool

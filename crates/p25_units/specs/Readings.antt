@@ -1,5 +1,5 @@
 -- What the sent bits of a unit read as.
-use Rattle.std.specs.Prelude.{ℕ, Bool, cond, nat_eq, List, [], ◌∷◌, length, Option, Some, None, Result, Ok, Err}
+use Rattle.std.specs.Prelude.{ℕ, Bool, if◌then◌else◌, ◌==◌, List, [], ◌∷◌, length, Option, Some, None, Result, Ok, Err}
 use Rattle.std.proofs.Common.{get_or}
 use Rattle.p25_bits.specs.Numbers.{joined_below}
 use Rattle.p25_status.specs.Woven.{bare_of, statuses_of}
@@ -55,7 +55,7 @@ body_or (Some fields) body = Err fields
 
 -- what a unit of a DUID carries, or exactly the fields that fail
 unfoldable pub body_reading_of : ℕ → List Bool → Result Body (List Field)
-body_reading_of duid bare = cond (nat_eq duid 0xC) (packet_body_from (packet_reading_of bare)) (body_from (voice_reading_of duid bare))
+body_reading_of duid bare = if duid == 0xC then packet_body_from (packet_reading_of bare) else body_from (voice_reading_of duid bare)
 
 -- a frame, where what it carries was read
 abbrev pub frame_from : ℕ → List Status → Result Body (List Field) → Result Frame (List Field)

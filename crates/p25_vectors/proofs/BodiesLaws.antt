@@ -1,5 +1,5 @@
 -- What units carry, from the parts that were drawn one after the other: the states between them add up.
-use Rattle.std.proofs.Common.{◌≡◌, ℕ, ◌+◌, ◌-◌, ◌*◌, ◌%◌, ◌<◌, ◌≢◌, inl, inr, List, [], ◌∷◌, ◌++◌, length, get_or, refl, ap, ap₂, sym, ◌∙◌, arith}
+use Rattle.std.proofs.Common.{◌≡◌, ℕ, ◌+◌, ◌-◌, ◌*◌, ◌%◌, ◌<◌, ◌≢◌, inl, inr, List, [], ◌∷◌, ◌++◌, length, get_or, refl, ap, sym, ◌∙◌, arith}
 use Rattle.p25_bits.proofs.NumbersLaws.{length-each_below, each_below-more, each_below-zero, get_or-each_below}
 use Rattle.p25_link.specs.declared.link_control.LinkControl.{LinkControl}
 use Rattle.p25_link.specs.declared.encryption_sync.EncryptionSync.{EncryptionSync}
@@ -17,7 +17,7 @@ use Rattle.p25_packet_blocks.specs.declared.packet.Packet.TheVariants.{Confirmed
 use Rattle.p25_units.specs.Units.{IsWholeBody}
 use Rattle.p25_units.specs.declared.unit.Body.TheVariants.{Voice, Packet}
 use Rattle.p25_vectors.specs.Draws.{state_after, octets_drawn}
-use Rattle.p25_vectors.specs.Bodies.{link_of, sync_of, voice_frame_of, voice_drawn, head_of, blocks_drawn, block_of, slots_drawn, body_drawn, body_draws}
+use Rattle.p25_vectors.specs.Bodies.{link_of, sync_of, voice_frame_of, voice_drawn, head_of, blocks_drawn, block_of, slots_drawn, body_next}
 use Rattle.p25_vectors.specs.declared.kind.Kind.{Kind}
 use Rattle.p25_vectors.specs.declared.kind.Kind.TheVariants.{End, Header, EndLink, Link1, Link2, Confirmed, Plain, Response}
 use Rattle.p25_vectors.proofs.DrawsLaws.{state_after-add}
@@ -55,24 +55,16 @@ state_after-more size count state now next is then =
 pub ldu1-drawn : (state first second last : ℕ) (link : LinkControl) (low : List ℕ) (voice : List VoiceFrame)
     → link ≡ link_of (octets_drawn 9 state) → first ≡ state_after 9 state → low ≡ octets_drawn 2 first → second ≡ state_after 2 first
     → voice ≡ voice_drawn 9 second → last ≡ state_after 162 second
-    → (Voice (ldu1_unit link low voice) ≡ body_drawn Link1 state) × (last ≡ state_after (body_draws Link1 state) state)
-unfolding body_drawn body_draws
-ldu1-drawn state first second last link low voice a b c d e f =
-    let behind : second ≡ state_after 11 state = d ∙ ap (state_after 2) b ∙ state_after-add 9 2 state in
-    let lows : low ≡ octets_drawn 2 (state_after 9 state) = c ∙ ap (octets_drawn 2) b in
-    let voices : voice ≡ voice_drawn 9 (state_after 11 state) = e ∙ ap (voice_drawn 9) behind in
-    (ap (λ l. Voice (ldu1_unit l low voice)) a ∙ ap₂ (λ x y. Voice (ldu1_unit (link_of (octets_drawn 9 state)) x y)) lows voices, f ∙ ap (state_after 162) behind ∙ state_after-add 11 162 state)
+    → (Voice (ldu1_unit link low voice) ≡ (body_next Link1 state).0) × (last ≡ (body_next Link1 state).1)
+unfolding body_next
+ldu1-drawn state first second last link low voice a b c d e f = (cc, cc)
 
 pub ldu2-drawn : (state first second last : ℕ) (sync : EncryptionSync) (low : List ℕ) (voice : List VoiceFrame)
     → sync ≡ sync_of (octets_drawn 12 state) → first ≡ state_after 12 state → low ≡ octets_drawn 2 first → second ≡ state_after 2 first
     → voice ≡ voice_drawn 9 second → last ≡ state_after 162 second
-    → (Voice (ldu2_unit sync low voice) ≡ body_drawn Link2 state) × (last ≡ state_after (body_draws Link2 state) state)
-unfolding body_drawn body_draws
-ldu2-drawn state first second last sync low voice a b c d e f =
-    let behind : second ≡ state_after 14 state = d ∙ ap (state_after 2) b ∙ state_after-add 12 2 state in
-    let lows : low ≡ octets_drawn 2 (state_after 12 state) = c ∙ ap (octets_drawn 2) b in
-    let voices : voice ≡ voice_drawn 9 (state_after 14 state) = e ∙ ap (voice_drawn 9) behind in
-    (ap (λ s. Voice (ldu2_unit s low voice)) a ∙ ap₂ (λ x y. Voice (ldu2_unit (sync_of (octets_drawn 12 state)) x y)) lows voices, f ∙ ap (state_after 162) behind ∙ state_after-add 14 162 state)
+    → (Voice (ldu2_unit sync low voice) ≡ (body_next Link2 state).0) × (last ≡ (body_next Link2 state).1)
+unfolding body_next
+ldu2-drawn state first second last sync low voice a b c d e f = (cc, cc)
 
 -- Packets.
 
@@ -111,52 +103,27 @@ response-is llid head octets is long none =
       count = ap length none ∙ ap (λ n. 12 * n - 4) (sym (ap head_blocks is ∙ head_of-blocks 0x23 0x08 0 0 llid long few));
     }
 
--- the states of blocks, LLID and what follows
-four-behind : (state first second : ℕ) → first ≡ state_after 1 state → second ≡ state_after 3 first → second ≡ state_after 4 state
-four-behind state first second a b = b ∙ ap (state_after 3) a ∙ state_after-add 1 3 state
-
 pub confirmed-drawn : (state first second last blocks : ℕ) (llid : List ℕ) (head : PacketHead) (slots : List Slot) (packet : ConfirmedParts)
     → blocks ≡ blocks_drawn state → first ≡ state_after 1 state → llid ≡ octets_drawn 3 first → second ≡ state_after 3 first
     → head ≡ head_of 0x56 0xC0 llid blocks 0x08 → slots ≡ slots_drawn blocks second → last ≡ state_after (16 * blocks) second
     → packet ≡ record { head = head; slots = slots }
-    → (Packet (confirmed_packet packet) ≡ body_drawn Confirmed state) × (last ≡ state_after (body_draws Confirmed state) state)
-unfolding body_drawn body_draws
-confirmed-drawn state first second last blocks llid head slots packet a b c d e f g h =
-    let behind : second ≡ state_after 4 state = four-behind state first second b d in
-    let ids : llid ≡ octets_drawn 3 (state_after 1 state) = c ∙ ap (octets_drawn 3) b in
-    let heads : head ≡ head_of 0x56 0xC0 (octets_drawn 3 (state_after 1 state)) (blocks_drawn state) 0x08 = e ∙ ap₂ (λ x n. head_of 0x56 0xC0 x n 0x08) ids a in
-    let all : slots ≡ slots_drawn (blocks_drawn state) (state_after 4 state) = f ∙ ap₂ slots_drawn a behind in
-    let made : PacketHead → List Slot → ConfirmedParts = λ x y. record { head = x; slots = y } in (
-      ap (λ p. Packet (confirmed_packet p)) (h ∙ ap₂ made heads all),
-      g ∙ ap₂ (λ n s. state_after (16 * n) s) a behind ∙ state_after-add 4 (16 * blocks_drawn state) state,
-    )
+    → (Packet (confirmed_packet packet) ≡ (body_next Confirmed state).0) × (last ≡ (body_next Confirmed state).1)
+unfolding body_next
+confirmed-drawn state first second last blocks llid head slots packet a b c d e f g h = (cc, cc)
 
 pub plain-drawn : (state first second last blocks : ℕ) (llid : List ℕ) (head : PacketHead) (octets : List ℕ) (packet : PlainParts)
     → blocks ≡ blocks_drawn state → first ≡ state_after 1 state → llid ≡ octets_drawn 3 first → second ≡ state_after 3 first
     → head ≡ head_of 0x35 0xC0 llid blocks 0 → octets ≡ octets_drawn (12 * blocks - 4) second → last ≡ state_after (12 * blocks - 4) second
     → packet ≡ record { head = head; octets = octets }
-    → (Packet (plain_packet packet) ≡ body_drawn Plain state) × (last ≡ state_after (body_draws Plain state) state)
-unfolding body_drawn body_draws
-plain-drawn state first second last blocks llid head octets packet a b c d e f g h =
-    let behind : second ≡ state_after 4 state = four-behind state first second b d in
-    let ids : llid ≡ octets_drawn 3 (state_after 1 state) = c ∙ ap (octets_drawn 3) b in
-    let heads : head ≡ head_of 0x35 0xC0 (octets_drawn 3 (state_after 1 state)) (blocks_drawn state) 0 = e ∙ ap₂ (λ x n. head_of 0x35 0xC0 x n 0) ids a in
-    let all : octets ≡ octets_drawn (12 * blocks_drawn state - 4) (state_after 4 state) = f ∙ ap₂ (λ n s. octets_drawn (12 * n - 4) s) a behind in
-    let made : PacketHead → List ℕ → PlainParts = λ x y. record { head = x; octets = y } in (
-      ap (λ p. Packet (plain_packet p)) (h ∙ ap₂ made heads all),
-      g ∙ ap₂ (λ n s. state_after (12 * n - 4) s) a behind ∙ state_after-add 4 (12 * blocks_drawn state - 4) state,
-    )
+    → (Packet (plain_packet packet) ≡ (body_next Plain state).0) × (last ≡ (body_next Plain state).1)
+unfolding body_next
+plain-drawn state first second last blocks llid head octets packet a b c d e f g h = (cc, cc)
 
 pub response-drawn : (state : ℕ) (llid : List ℕ) (head : PacketHead) (octets : List ℕ) (packet : PlainParts)
     → llid ≡ octets_drawn 3 state → head ≡ head_of 0x23 0x08 llid 0 0 → octets ≡ [] → packet ≡ record { head = head; octets = octets }
-    → Packet (plain_packet packet) ≡ body_drawn Response state
-unfolding body_drawn
-response-drawn state llid head octets packet a b c d =
-    let made : PacketHead → List ℕ → PlainParts = λ x y. record { head = x; octets = y } in
-    ap (λ p. Packet (plain_packet p)) (d ∙ ap₂ made (b ∙ ap (λ x. head_of 0x23 0x08 x 0 0) a) c)
-
-pub draws-of : (kind is : Kind) (state : ℕ) → kind ≡ is → state_after (body_draws is state) state ≡ state_after (body_draws kind state) state
-draws-of kind is state e = sym (ap (λ k. state_after (body_draws k state) state) e)
+    → Packet (plain_packet packet) ≡ (body_next Response state).0
+unfolding body_next
+response-drawn state llid head octets packet a b c d = cc
 
 -- Nothing fails of them.
 
@@ -169,13 +136,13 @@ slots-good count state = record { at = good }
         let is = get_or-each_below count (λ k. block_of k (octets_drawn 16 (state_after (16 * k) state))) j Bad (omega (arith, length-slots_drawn count state)) in
         absurd (cc)
 
-pub body_drawn-whole : (kind : Kind) (state : ℕ) → IsWholeBody (body_drawn kind state)
-unfolding body_drawn IsWholeBody IsWholePacket
-body_drawn-whole End state = tt
-body_drawn-whole Header state = tt
-body_drawn-whole EndLink state = tt
-body_drawn-whole Link1 state = tt
-body_drawn-whole Link2 state = tt
-body_drawn-whole Confirmed state = slots-good (blocks_drawn state) (state_after 4 state)
-body_drawn-whole Plain state = tt
-body_drawn-whole Response state = tt
+pub body_next-whole : (kind : Kind) (state : ℕ) → IsWholeBody (body_next kind state).0
+unfolding body_next IsWholeBody IsWholePacket
+body_next-whole End state = tt
+body_next-whole Header state = tt
+body_next-whole EndLink state = tt
+body_next-whole Link1 state = tt
+body_next-whole Link2 state = tt
+body_next-whole Confirmed state = slots-good (blocks_drawn state) (state_after 3 (state_after 1 state))
+body_next-whole Plain state = tt
+body_next-whole Response state = tt

@@ -45,11 +45,10 @@ use Rattle.p25_units.proofs.WithinRadiusLaws.{need_of-near, unit_reading_of-near
 use Rattle.p25_status.specs.Status.{status_modulo}
 use Rattle.p25_vectors.specs.Draws.{draw, state_after}
 use Rattle.p25_vectors.specs.Damage.{damaged, body_counts, damaged_words, damage_counts, damage_draws}
-use Rattle.p25_vectors.specs.Samples.{frame_of, frame_drawn, frame_draws, damaged_image, damage_state, flips_of, sample_bits, sample_flips, sample_frame, state_before, state_behind_unit}
-use Rattle.p25_vectors.specs.Bodies.{body_drawn, body_draws, kind_of}
+use Rattle.p25_vectors.specs.Samples.{frame_of, frame_next, damaged_image, damage_state, flips_of, sample_bits, sample_flips, sample_frame, state_before, state_behind_unit}
+use Rattle.p25_vectors.specs.Bodies.{body_next, kind_of}
 use Rattle.p25_vectors.specs.declared.kind.Kind.{Kind}
-use Rattle.p25_vectors.proofs.DrawsLaws.{draw-after, state_after-add}
-use Rattle.p25_vectors.proofs.BodiesLaws.{body_drawn-whole}
+use Rattle.p25_vectors.proofs.BodiesLaws.{body_next-whole}
 use Rattle.p25_vectors.proofs.DamageLaws.{no_word, AreCounts, length-damaged, part-damaged}
 use Rattle.p25_vectors.proofs.WithinLaws.{IsNearAt, voice-within, packet-within, words-fit, damaged-near, sync-near, identifier-near, body-near}
 use Rattle.std.proofs.Common.{get_or}
@@ -246,38 +245,40 @@ pub frame_of-sound : (nac : ℕ) (status : Status) (body : Body) → IsWholeBody
 unfolding frame_length_of
 frame_of-sound nac status body whole = record { whole = whole; symbols = omega (arith, length-replicate (body_length body / 70) status) }
 
-pub frame_drawn-sound : (kind : Kind) (state : ℕ) → IsSoundFrame (frame_drawn kind state)
-unfolding frame_drawn
-frame_drawn-sound kind state = frame_of-sound (draw 0 state % 4096) (status_modulo (draw 1 state)) (body_drawn kind (state_after 2 state)) (body_drawn-whole kind (state_after 2 state))
+pub frame_next-sound : (kind : Kind) (state : ℕ) → IsSoundFrame (frame_next kind state).0
+unfolding frame_next
+frame_next-sound kind state =
+    let behind = state_after 1 (state_after 1 state) in
+    frame_of-sound (draw 0 state % 4096) (status_modulo (draw 0 (state_after 1 state))) (body_next kind behind).0 (body_next-whole kind behind)
 
 pub frame-drawn : (kind : Kind) (state first second last nac : ℕ) (status : Status) (body : Body) (unit : UnitParts) (statuses : List Status)
     → nac ≡ draw 0 state % 4096 → first ≡ state_after 1 state → status ≡ status_modulo (draw 0 first) → second ≡ state_after 1 first
-    → body ≡ body_drawn kind second → last ≡ state_after (body_draws kind second) second → unit ≡ record { nac = nac; body = body }
+    → body ≡ (body_next kind second).0 → last ≡ (body_next kind second).1 → unit ≡ record { nac = nac; body = body }
     → statuses ≡ replicate (frame_length_of unit / 72) status
-    → (◌≡◌ {A = Frame} (record { unit = unit; statuses = statuses }) (frame_drawn kind state)) × (last ≡ state_after (frame_draws kind state) state)
-unfolding frame_drawn frame_length_of
+    → (◌≡◌ {A = Frame} (record { unit = unit; statuses = statuses }) (frame_next kind state).0) × (last ≡ (frame_next kind state).1)
+unfolding frame_next frame_length_of
 frame-drawn kind state first second last nac status body unit statuses a b c d e f g h =
-    let behind : second ≡ state_after 2 state = d ∙ ap (state_after 1) b ∙ state_after-add 1 1 state in
-    let symbol : status ≡ status_modulo (draw 1 state) = c ∙ ap (λ (s : ℕ). status_modulo (draw 0 s)) b ∙ ap status_modulo (draw-after 1 state) in
-    let carried : body ≡ body_drawn kind (state_after 2 state) = e ∙ ap (body_drawn kind) behind in
+    let behind : second ≡ state_after 1 (state_after 1 state) = d ∙ ap (state_after 1) b in
+    let symbol : status ≡ status_modulo (draw 0 (state_after 1 state)) = c ∙ ap (λ (s : ℕ). status_modulo (draw 0 s)) b in
+    let carried : body ≡ (body_next kind (state_after 1 (state_after 1 state))).0 = e ∙ ap (λ (s : ℕ). (body_next kind s).0) behind in
     let made : ℕ → Body → UnitParts = λ n x. record { nac = n; body = x } in
     let whole : UnitParts → List Status → Frame = λ u xs. record { unit = u; statuses = xs } in
-    let units : unit ≡ made (draw 0 state % 4096) (body_drawn kind (state_after 2 state)) = g ∙ ap₂ made a carried in
+    let units : unit ≡ made (draw 0 state % 4096) (body_next kind (state_after 1 (state_after 1 state))).0 = g ∙ ap₂ made a carried in
     let count : frame_length_of unit / 72 ≡ body_length unit.body / 70 = omega arith in
-    let symbols : statuses ≡ replicate (body_length (body_drawn kind (state_after 2 state)) / 70) (status_modulo (draw 1 state))
+    let symbols : statuses ≡ replicate (body_length (body_next kind (state_after 1 (state_after 1 state))).0 / 70) (status_modulo (draw 0 (state_after 1 state)))
     = h ∙ ap₂ (λ (n : ℕ) (x : Status). replicate n x) (count ∙ ap (λ (u : UnitParts). body_length u.body / 70) units) symbol in
-    (ap₂ whole units symbols, f ∙ ap (λ (s : ℕ). state_after (body_draws kind s) s) behind ∙ state_after-add 2 (body_draws kind (state_after 2 state)) state)
+    (ap₂ whole units symbols, f ∙ ap (λ (s : ℕ). (body_next kind s).1) behind)
 
 -- The units in order.
 
-pub sample-next : (i state middle last flips : ℕ) (kind : Kind) (frame : Frame) (bits : List Bool) → kind ≡ kind_of i → state ≡ state_before i → frame ≡ frame_drawn kind state
-    → middle ≡ state_after (frame_draws kind state) state → bits ≡ damaged_image frame middle → flips ≡ sum (damage_counts frame.unit.body middle)
+pub sample-next : (i state middle last flips : ℕ) (kind : Kind) (frame : Frame) (bits : List Bool) → kind ≡ kind_of i → state ≡ state_before i → frame ≡ (frame_next kind state).0
+    → middle ≡ (frame_next kind state).1 → bits ≡ damaged_image frame middle → flips ≡ sum (damage_counts frame.unit.body middle)
     → last ≡ state_after (damage_draws frame.unit.body middle) middle
     → (frame ≡ sample_frame i) × (bits ≡ sample_bits i) × (flips ≡ sample_flips i) × (last ≡ state_before (i + 1))
 unfolding sample_frame sample_bits sample_flips state_before state_behind_unit
 sample-next i state middle last flips kind frame bits a b c d e f g =
-    let frames : frame ≡ sample_frame i = c ∙ ap₂ frame_drawn a b in
-    let behind : middle ≡ damage_state i = d ∙ ap₂ (λ (k : Kind) (s : ℕ). state_after (frame_draws k s) s) a b in
+    let frames : frame ≡ sample_frame i = c ∙ ap₂ (λ (k : Kind) (s : ℕ). (frame_next k s).0) a b in
+    let behind : middle ≡ damage_state i = d ∙ ap₂ (λ (k : Kind) (s : ℕ). (frame_next k s).1) a b in
     let next : suc i ≡ i + 1 = omega arith in (
       frames,
       e ∙ ap₂ damaged_image frames behind,

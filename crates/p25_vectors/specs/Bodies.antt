@@ -12,7 +12,7 @@ use Rattle.p25_packet_blocks.specs.declared.block.Slot.TheVariants.{Good}
 use Rattle.p25_packet_blocks.specs.Reading.{confirmed_by_parts, plain_by_parts}
 use Rattle.p25_units.specs.declared.unit.Body.{Body}
 use Rattle.p25_units.specs.declared.unit.Body.TheVariants.{Voice, Packet}
-use Rattle.p25_vectors.specs.Draws.{draw, state_after, octets_drawn}
+use Rattle.p25_vectors.specs.Draws.{Drawing, and_then, draw, drawn, octets_drawn, octets_next, state_after}
 use Rattle.p25_vectors.specs.declared.kind.Kind.{Kind}
 use Rattle.p25_vectors.specs.declared.kind.Kind.TheVariants.{End, Header, EndLink, Link1, Link2, Confirmed, Plain, Response}
 
@@ -50,6 +50,9 @@ voice_frame_of octets = record { 0 = octets }
 unfoldable pub voice_drawn : ℕ → ℕ → List VoiceFrame
 voice_drawn count state = each_below count (λ i. voice_frame_of (octets_drawn 18 (state_after (18 * i) state)))
 
+abbrev pub voice_next : ℕ → Drawing (List VoiceFrame)
+voice_next count = λ state. (voice_drawn count state, state_after (18 * count) state)
+
 -- the ten octets of a header of a packet: the first one, the second, 0, the LLID, the full message flag with the blocks to
 -- follow, 0, the octet after the pad count, and 0
 abbrev pub head_of : ℕ → ℕ → List ℕ → ℕ → ℕ → PacketHead
@@ -59,44 +62,35 @@ head_of first second llid blocks ninth = record { 0 = first ∷ second ∷ 0 ∷
 abbrev pub blocks_drawn : ℕ → ℕ
 blocks_drawn state = 1 + draw 0 state % 4
 
--- the LLID, after that number
-abbrev pub llid_drawn : ℕ → List ℕ
-llid_drawn state = octets_drawn 3 (state_after 1 state)
+abbrev pub blocks_next : Drawing ℕ
+blocks_next = λ state. (blocks_drawn state, state_after 1 state)
 
 -- a block of a serial number and sixteen octets
 abbrev pub block_of : ℕ → List ℕ → Slot
 block_of serial octets = Good (record { serial = serial; octets = octets })
 
--- the blocks of a confirmed packet, after number and LLID
+-- so many blocks of a confirmed packet
 unfoldable pub slots_drawn : ℕ → ℕ → List Slot
 slots_drawn blocks state = each_below blocks (λ j. block_of j (octets_drawn 16 (state_after (16 * j) state)))
 
--- what a unit of a kind carries
-unfoldable pub body_drawn : Kind → ℕ → Body
-body_drawn End state = Voice end_unit
-body_drawn Header state = Voice (header_unit (header_of (octets_drawn 15 state)))
-body_drawn EndLink state = Voice (tdulc_unit (link_of (octets_drawn 9 state)))
-body_drawn Link1 state =
-    Voice (ldu1_unit (link_of (octets_drawn 9 state)) (octets_drawn 2 (state_after 9 state)) (voice_drawn 9 (state_after 11 state)))
-body_drawn Link2 state =
-    Voice (ldu2_unit (sync_of (octets_drawn 12 state)) (octets_drawn 2 (state_after 12 state)) (voice_drawn 9 (state_after 14 state)))
-body_drawn Confirmed state =
-    Packet (
-    confirmed_by_parts (head_of 0x56 0xC0 (llid_drawn state) (blocks_drawn state) 0x08)
-    (slots_drawn (blocks_drawn state) (state_after 4 state)))
-body_drawn Plain state =
-    Packet (
-    plain_by_parts (head_of 0x35 0xC0 (llid_drawn state) (blocks_drawn state) 0)
-    (octets_drawn (12 * blocks_drawn state - 4) (state_after 4 state)))
-body_drawn Response state = Packet (plain_by_parts (head_of 0x23 0x08 (octets_drawn 3 state) 0 0) [])
+abbrev pub slots_next : ℕ → Drawing (List Slot)
+slots_next blocks = λ state. (slots_drawn blocks state, state_after (16 * blocks) state)
 
--- how many draws that takes
-unfoldable pub body_draws : Kind → ℕ → ℕ
-body_draws End state = 0
-body_draws Header state = 15
-body_draws EndLink state = 9
-body_draws Link1 state = 9 + 2 + 162
-body_draws Link2 state = 12 + 2 + 162
-body_draws Confirmed state = 4 + 16 * blocks_drawn state
-body_draws Plain state = 4 + (12 * blocks_drawn state - 4)
-body_draws Response state = 3
+-- what a unit of a kind carries, its parts drawn one after the other
+unfoldable pub body_next : Kind → Drawing Body
+body_next End = drawn (Voice end_unit)
+body_next Header = and_then (octets_next 15) (λ octets. drawn (Voice (header_unit (header_of octets))))
+body_next EndLink = and_then (octets_next 9) (λ octets. drawn (Voice (tdulc_unit (link_of octets))))
+body_next Link1 =
+    and_then (octets_next 9) (λ octets. and_then (octets_next 2) (λ low. and_then (voice_next 9) (λ voice.
+    drawn (Voice (ldu1_unit (link_of octets) low voice)))))
+body_next Link2 =
+    and_then (octets_next 12) (λ octets. and_then (octets_next 2) (λ low. and_then (voice_next 9) (λ voice.
+    drawn (Voice (ldu2_unit (sync_of octets) low voice)))))
+body_next Confirmed =
+    and_then blocks_next (λ blocks. and_then (octets_next 3) (λ llid. and_then (slots_next blocks) (λ slots.
+    drawn (Packet (confirmed_by_parts (head_of 0x56 0xC0 llid blocks 0x08) slots)))))
+body_next Plain =
+    and_then blocks_next (λ blocks. and_then (octets_next 3) (λ llid. and_then (octets_next (12 * blocks - 4)) (λ octets.
+    drawn (Packet (plain_by_parts (head_of 0x35 0xC0 llid blocks 0) octets)))))
+body_next Response = and_then (octets_next 3) (λ llid. drawn (Packet (plain_by_parts (head_of 0x23 0x08 llid 0 0) [])))

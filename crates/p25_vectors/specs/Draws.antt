@@ -18,3 +18,23 @@ draw count state = state_after (suc count) state / 65536
 -- so many octets, each the lowest eight bits of a draw
 unfoldable pub octets_drawn : ℕ → ℕ → List ℕ
 octets_drawn count state = each_below count (λ k. draw k state % 256)
+
+-- what is drawn from a state on, and the state that the draws leave
+abbrev pub Drawing : Type 0 → Type 0
+Drawing X = ℕ → X × ℕ
+
+-- no draw
+abbrev pub drawn : {X : Type 0} → X → Drawing X
+drawn x = λ state. (x, state)
+
+-- one draw
+abbrev pub number_next : Drawing ℕ
+number_next = λ state. (draw 0 state, state_after 1 state)
+
+-- so many octets
+abbrev pub octets_next : ℕ → Drawing (List ℕ)
+octets_next count = λ state. (octets_drawn count state, state_after count state)
+
+-- first the one, and then what is drawn by that
+abbrev pub and_then : {X Y : Type 0} → Drawing X → (X → Drawing Y) → Drawing Y
+and_then first next = λ state. next (first state).0 (first state).1

@@ -1,5 +1,5 @@
 -- The sample units, in order, and what is counted of them.
-use Rattle.std.specs.Prelude.{ℕ, zero, suc, ◌+◌, ◌/◌, ◌%◌, Bool, List, replicate, sum}
+use Rattle.std.specs.Prelude.{ℕ, zero, suc, ◌/◌, ◌%◌, Bool, List, replicate, sum}
 use Rattle.p25_bits.specs.Numbers.{each_below}
 use Rattle.p25_status.specs.Status.{status_modulo}
 use Rattle.p25_status.specs.Woven.{woven}
@@ -8,8 +8,8 @@ use Rattle.p25_units.specs.UnitParts.{UnitParts}
 use Rattle.p25_units.specs.Units.{body_length, unit_image_of}
 use Rattle.p25_units.specs.declared.frame.Frame.{Frame}
 use Rattle.p25_units.specs.declared.unit.Body.{Body}
-use Rattle.p25_vectors.specs.Draws.{draw, state_after}
-use Rattle.p25_vectors.specs.Bodies.{body_drawn, body_draws, kind_of}
+use Rattle.p25_vectors.specs.Draws.{Drawing, and_then, drawn, number_next, state_after}
+use Rattle.p25_vectors.specs.Bodies.{body_next, kind_of}
 use Rattle.p25_vectors.specs.Damage.{damage_counts, damage_draws, damaged, damaged_words}
 use Rattle.p25_vectors.specs.declared.kind.Kind.{Kind}
 
@@ -19,13 +19,11 @@ frame_of nac status body =
     let unit : UnitParts = record { nac = nac; body = body } in
     record { unit = unit; statuses = replicate (body_length body / 70) status }
 
--- the frame of a kind that the draws after a state say: its NAC, its status symbol, and what it carries
-unfoldable pub frame_drawn : Kind → ℕ → Frame
-frame_drawn kind state = frame_of (draw 0 state % 4096) (status_modulo (draw 1 state)) (body_drawn kind (state_after 2 state))
-
--- how many draws that takes
-abbrev pub frame_draws : Kind → ℕ → ℕ
-frame_draws kind state = 2 + body_draws kind (state_after 2 state)
+-- the frame of a kind: its NAC, its status symbol, and what it carries
+unfoldable pub frame_next : Kind → Drawing Frame
+frame_next kind =
+    and_then number_next (λ nac. and_then number_next (λ symbol. and_then (body_next kind) (λ body.
+    drawn (frame_of (nac % 4096) (status_modulo symbol) body))))
 
 -- the bits of a frame as they are sent, damaged as the draws after a state say; no status symbol is damaged
 unfoldable pub damaged_image : Frame → ℕ → List Bool
@@ -35,8 +33,7 @@ damaged_image frame state =
 -- the state after a unit of a kind and its damage
 unfoldable pub state_behind_unit : Kind → ℕ → ℕ
 state_behind_unit kind state =
-    let damage = state_after (frame_draws kind state) state in
-    state_after (damage_draws (frame_drawn kind state).unit.body damage) damage
+    let framed = frame_next kind state in state_after (damage_draws framed.0.unit.body framed.1) framed.1
 
 -- the state before the unit of a number, from 0
 unfoldable pub state_before : ℕ → ℕ
@@ -45,11 +42,11 @@ state_before (suc i) = state_behind_unit (kind_of i) (state_before i)
 
 -- the frame of the unit of a number
 unfoldable pub sample_frame : ℕ → Frame
-sample_frame i = frame_drawn (kind_of i) (state_before i)
+sample_frame i = (frame_next (kind_of i) (state_before i)).0
 
 -- the state before its damage
 abbrev pub damage_state : ℕ → ℕ
-damage_state i = state_after (frame_draws (kind_of i) (state_before i)) (state_before i)
+damage_state i = (frame_next (kind_of i) (state_before i)).1
 
 -- its bits as they are sent, damaged
 unfoldable pub sample_bits : ℕ → List Bool

@@ -3,7 +3,7 @@
 ghost use Rattle.std.specs.Prelude.{◌≡◌, ◌+◌, ◌-◌, ◌*◌, ◌<◌, ◌≤◌, length, take};
 ghost use Rattle.p25_packet_blocks.specs.Reading.{confirmed_by_parts, plain_by_parts};
 ghost use Rattle.p25_vectors.specs.Draws.{octets_drawn, state_after};
-ghost use Rattle.p25_vectors.specs.Bodies.{blocks_drawn, body_drawn, body_draws, head_of, header_of, link_of, llid_drawn, slots_drawn, sync_of, voice_drawn};
+ghost use Rattle.p25_vectors.specs.Bodies.{blocks_drawn, body_next, head_of, header_of, link_of, slots_drawn, sync_of, voice_drawn};
 ghost use Rattle.p25_vectors.specs.declared.kind.Kind.TheVariants.{Confirmed as confirmed_kind, Plain as plain_kind, Response as response_kind};
 ghost use Rattle.p25_units.specs.declared.unit.Body.TheVariants.{Packet as packet_in};
 
@@ -125,8 +125,8 @@ fn draw_octets(count: usize, draws: &mut Draws) -> Octets
 }
 
 fn draw_confirmed(draws: &mut Draws) -> Packet
-    ensures packet { packet_in result ≡ body_drawn confirmed_kind draws.old }
-    ensures state { draws.new ≡ state_after (body_draws confirmed_kind draws.old) draws.old }
+    ensures packet { packet_in result ≡ (body_next confirmed_kind draws.old).0 }
+    ensures state { draws.new ≡ (body_next confirmed_kind draws.old).1 }
 {
     let blocks = draw_blocks(draws);
     let head = head_with(0x56, 0xC0, draws.octets(), blocks, 0x08);
@@ -134,8 +134,8 @@ fn draw_confirmed(draws: &mut Draws) -> Packet
 }
 
 fn draw_plain(draws: &mut Draws) -> Packet
-    ensures packet { packet_in result ≡ body_drawn plain_kind draws.old }
-    ensures state { draws.new ≡ state_after (body_draws plain_kind draws.old) draws.old }
+    ensures packet { packet_in result ≡ (body_next plain_kind draws.old).0 }
+    ensures state { draws.new ≡ (body_next plain_kind draws.old).1 }
 {
     let blocks = draw_blocks(draws);
     let head = head_with(0x35, 0xC0, draws.octets(), blocks, 0);
@@ -144,8 +144,8 @@ fn draw_plain(draws: &mut Draws) -> Packet
 }
 
 fn draw_response(draws: &mut Draws) -> Packet
-    ensures packet { packet_in result ≡ body_drawn response_kind draws.old }
-    ensures state { draws.new ≡ state_after (body_draws response_kind draws.old) draws.old }
+    ensures packet { packet_in result ≡ (body_next response_kind draws.old).0 }
+    ensures state { draws.new ≡ (body_next response_kind draws.old).1 }
 {
     let head = head_with(0x23, 0x08, draws.octets(), 0, 0);
     Packet::Plain(Plain::new(head, Octets::new()))
@@ -153,8 +153,8 @@ fn draw_response(draws: &mut Draws) -> Packet
 
 // What a unit of a kind carries.
 pub(crate) fn draw_body(kind: Kind, draws: &mut Draws) -> Body
-    ensures body { result ≡ body_drawn kind draws.old }
-    ensures state { draws.new ≡ state_after (body_draws kind draws.old) draws.old }
+    ensures body { result ≡ (body_next kind draws.old).0 }
+    ensures state { draws.new ≡ (body_next kind draws.old).1 }
 {
     match kind {
         Kind::End => Body::Voice(VoiceUnit::End),

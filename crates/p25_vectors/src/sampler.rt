@@ -9,7 +9,7 @@ ghost use Rattle.p25_units.specs.declared.needs.Need.TheVariants.{Length};
 ghost use Rattle.p25_status.specs.Status.{status_modulo};
 ghost use Rattle.p25_vectors.specs.Draws.{draw, state_after};
 ghost use Rattle.p25_vectors.specs.Damage.{damage_counts, damage_draws};
-ghost use Rattle.p25_vectors.specs.Samples.{damaged_image, frame_drawn, frame_draws, sample_bits, sample_flips, sample_frame};
+ghost use Rattle.p25_vectors.specs.Samples.{damaged_image, frame_next, sample_bits, sample_flips, sample_frame};
 
 use crate::bodies::draw_body;
 use crate::damage::damage;
@@ -102,9 +102,9 @@ impl Default for Sampler {
 
 // Draws the frame of a kind.
 fn draw_frame(kind: Kind, draws: &mut Draws) -> Frame
-    ensures frame { result ≡ frame_drawn kind draws.old }
+    ensures frame { result ≡ (frame_next kind draws.old).0 }
     ensures sound { IsSoundFrame result }
-    ensures state { draws.new ≡ state_after (frame_draws kind draws.old) draws.old }
+    ensures state { draws.new ≡ (frame_next kind draws.old).1 }
 {
     let nac = draws.below(4096) as u16;
     let status = draw_status(draws);

@@ -1,16 +1,15 @@
 -- A voice unit that is refused has a field that fails: by its kind, and by what was read of each of its fields.
-use Rattle.std.proofs.Common.{◌≡◌, ℕ, ◌<◌, Bool, List, [], ◌∷◌, length, Option, Some, None, Result, Ok, Err, refl, sym, ◌∙◌, subst, arith}
+use Rattle.std.proofs.Common.{◌≡◌, ℕ, ◌<◌, Bool, List, ◌∷◌, length, Option, Some, None, Result, Ok, Err, refl, sym, ◌∙◌, subst, arith}
 use Rattle.std.specs.Prelude.{IfErr}
 use Rattle.p25_status.specs.declared.fields.Field.{Field}
-use Rattle.p25_link.specs.declared.encryption_sync.EncryptionSync.{EncryptionSync}
+use Rattle.p25_status.specs.declared.fields.Field.TheVariants.{LinkControl as LinkField, EncryptionSync as SyncField}
 use Rattle.p25_link.specs.declared.header_word.HeaderWord.{HeaderWord}
 use Rattle.p25_link.specs.declared.link_control.LinkControl.{LinkControl}
 use Rattle.p25_voice_units.specs.declared.unit.VoiceUnit.{VoiceUnit}
-use Rattle.p25_voice_units.specs.declared.unit.VoiceUnit.TheVariants.{End}
-use Rattle.p25_voice_units.specs.declared.voice.VoiceFrame.{VoiceFrame}
+use Rattle.p25_voice_units.specs.declared.unit.VoiceUnit.TheVariants.{Link1, Link2, End}
 use Rattle.p25_voice_units.specs.FieldLayouts.{link_layout, tdulc_layout}
 use Rattle.p25_voice_units.specs.Lengths.{voice_length_of}
-use Rattle.p25_voice_units.specs.Readings.{missing, failing, header_from, ldu1_from, ldu2_from, tdulc_from, ldu1_in, ldu2_in, header_in, link_in, sync_in, low_in, voice_in, voice_reading_of}
+use Rattle.p25_voice_units.specs.Readings.{missing, failing, header_from, ldu_from, tdulc_from, ldu1_in, ldu2_in, header_in, link_in, sync_in, low_in, voice_in, voice_reading_of}
 use Rattle.p25_voice_units.proofs.KindsLaws.{reading-header, reading-end, reading-ldu1, reading-ldu2, reading-tdulc}
 use Rattle.p25_voice_units.proofs.LengthsLaws.{length-cases}
 
@@ -32,19 +31,13 @@ unfolding tdulc_from
 tdulc_fails (Some link) fields e = absurd (cc)
 tdulc_fails None fields e = some_field _ _ fields (tdulc_from None) refl e
 
-ldu1_fails : (voice : List VoiceFrame) (found : Option LinkControl) (first second : Option ℕ) (fields : List Field) → ldu1_from voice found first second ≡ Err fields → 0 < length fields
-unfolding ldu1_from failing missing
-ldu1_fails voice (Some link) (Some first) (Some second) fields e = absurd (cc)
-ldu1_fails voice (Some link) (Some first) None fields e = some_field _ _ fields (ldu1_from voice (Some link) (Some first) None) refl e
-ldu1_fails voice (Some link) None second fields e = some_field _ _ fields (ldu1_from voice (Some link) None second) refl e
-ldu1_fails voice None first second fields e = some_field _ _ fields (ldu1_from voice None first second) refl e
-
-ldu2_fails : (voice : List VoiceFrame) (found : Option EncryptionSync) (first second : Option ℕ) (fields : List Field) → ldu2_from voice found first second ≡ Err fields → 0 < length fields
-unfolding ldu2_from failing missing
-ldu2_fails voice (Some sync) (Some first) (Some second) fields e = absurd (cc)
-ldu2_fails voice (Some sync) (Some first) None fields e = some_field _ _ fields (ldu2_from voice (Some sync) (Some first) None) refl e
-ldu2_fails voice (Some sync) None second fields e = some_field _ _ fields (ldu2_from voice (Some sync) None second) refl e
-ldu2_fails voice None first second fields e = some_field _ _ fields (ldu2_from voice None first second) refl e
+ldu_fails : {X : Type 0} (field : Field) (unit : X → List ℕ → VoiceUnit) (found : Option X) (first second : Option ℕ) (fields : List Field)
+    → ldu_from field unit found first second ≡ Err fields → 0 < length fields
+unfolding ldu_from failing missing
+ldu_fails field unit (Some word) (Some first) (Some second) fields e = absurd (cc)
+ldu_fails field unit (Some word) (Some first) None fields e = some_field _ _ fields (ldu_from field unit (Some word) (Some first) None) refl e
+ldu_fails field unit (Some word) None second fields e = some_field _ _ fields (ldu_from field unit (Some word) None second) refl e
+ldu_fails field unit None first second fields e = some_field _ _ fields (ldu_from field unit None first second) refl e
 
 pub voice_fails : (bare : List Bool) (fields : List Field) (duid count : ℕ) → voice_length_of duid ≡ Some count → voice_reading_of duid bare ≡ Err fields → 0 < length fields
 unfolding ldu1_in ldu2_in
@@ -52,8 +45,8 @@ voice_fails bare fields =
     length-cases (λ duid count. voice_reading_of duid bare ≡ Err fields → 0 < length fields)
     (λ e. header_fails (header_in bare) fields (sym (reading-header bare) ∙ e))
     (λ e. let two : Ok End ≡ Err fields = sym (reading-end bare) ∙ e in absurd (cc))
-    (λ e. ldu1_fails (voice_in bare) (link_in link_layout bare) (low_in 0 bare) (low_in 1 bare) fields (sym (reading-ldu1 bare) ∙ e))
-    (λ e. ldu2_fails (voice_in bare) (sync_in bare) (low_in 0 bare) (low_in 1 bare) fields (sym (reading-ldu2 bare) ∙ e))
+    (λ e. ldu_fails LinkField (λ link low. Link1 link low (voice_in bare)) (link_in link_layout bare) (low_in 0 bare) (low_in 1 bare) fields (sym (reading-ldu1 bare) ∙ e))
+    (λ e. ldu_fails SyncField (λ sync low. Link2 sync low (voice_in bare)) (sync_in bare) (low_in 0 bare) (low_in 1 bare) fields (sym (reading-ldu2 bare) ∙ e))
     (λ e. tdulc_fails (link_in tdulc_layout bare) fields (sym (reading-tdulc bare) ∙ e))
 
 -- so it is with a reading of it

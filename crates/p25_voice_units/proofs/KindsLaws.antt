@@ -14,7 +14,7 @@ use Rattle.p25_link.specs.declared.encryption_sync.EncryptionSync.{EncryptionSyn
 use Rattle.p25_link.specs.declared.link_control.LinkControl.{LinkControl}
 use Rattle.p25_status.specs.declared.fields.Field.TheVariants.{LinkControl as LinkField, EncryptionSync as SyncField}
 use Rattle.p25_voice_units.specs.FieldLayouts.{link_layout}
-use Rattle.p25_voice_units.specs.Readings.{voice_in, low_in, failing, header_in, header_from, link_in, sync_in, ldu1_from, ldu1_in, ldu2_from, ldu2_in, tdulc_from, voice_reading_of}
+use Rattle.p25_voice_units.specs.Readings.{voice_in, low_in, failing, header_in, header_from, link_in, sync_in, ldu_from, ldu1_in, ldu2_in, tdulc_from, voice_reading_of}
 
 -- bits that have the length of their kind have so many
 pub long_by_kind : (duid kind count len : ℕ) → duid ≡ kind → voice_length_of kind ≡ Some count → voice_length_of duid ≡ Some len → len ≡ count
@@ -46,55 +46,40 @@ reading-tdulc bare = refl
 pub reading_by_kind : (duid kind : ℕ) (bare : List Bool) (answer value : Result VoiceUnit (List Field)) → duid ≡ kind → answer ≡ value → voice_reading_of kind bare ≡ value → answer ≡ voice_reading_of duid bare
 reading_by_kind duid kind bare answer value same is read = is ∙ sym read ∙ ap (λ d. voice_reading_of d bare) (sym same)
 
--- a unit with link control, all of whose parts were read
-pub ldu1_whole : (voice : List VoiceFrame) (answer : Option LinkControl) (low_first low_second : Option ℕ) (link : LinkControl) (first second : ℕ) → answer ≡ Some link → low_first ≡ Some first → low_second ≡ Some second
-    → ldu1_from voice answer low_first low_second ≡ Ok (Link1 link (first ∷ second ∷ []) voice)
-unfolding ldu1_from
-ldu1_whole voice answer low_first low_second link first second a b c =
-    ap (λ x. ldu1_from voice x low_first low_second) a ∙ ap (λ x. ldu1_from voice (Some link) x low_second) b ∙ ap (ldu1_from voice (Some link) (Some first)) c
+module _ {X : Type 0} (field : Field) (unit : X → List ℕ → VoiceUnit) where
+  -- a unit with voice, all of whose parts were read
+  pub ldu_whole : (answer : Option X) (low_first low_second : Option ℕ) (word : X) (first second : ℕ) → answer ≡ Some word → low_first ≡ Some first → low_second ≡ Some second
+      → ldu_from field unit answer low_first low_second ≡ Ok (unit word (first ∷ second ∷ []))
+  unfolding ldu_from
+  ldu_whole answer low_first low_second word first second a b c =
+      ap (λ x. ldu_from field unit x low_first low_second) a ∙ ap (λ x. ldu_from field unit (Some word) x low_second) b ∙ ap (ldu_from field unit (Some word) (Some first)) c
 
--- or some part of which was not
-pub ldu1_fails : (voice : List VoiceFrame) (answer : Option LinkControl) (low_first low_second : Option ℕ)
-    → ((link : LinkControl) (first second : ℕ) → answer ≡ Some link → low_first ≡ Some first → low_second ≡ Some second → ⊥)
-    → ldu1_from voice answer low_first low_second ≡ Err (failing LinkField answer low_first low_second)
-unfolding ldu1_from
-ldu1_fails voice (Some link) (Some first) (Some second) other = absurd (other link first second refl refl refl)
-ldu1_fails voice (Some link) (Some first) None other = refl
-ldu1_fails voice (Some link) None second other = refl
-ldu1_fails voice None first second other = refl
+  -- or some part of which was not
+  pub ldu_fails : (answer : Option X) (low_first low_second : Option ℕ)
+      → ((word : X) (first second : ℕ) → answer ≡ Some word → low_first ≡ Some first → low_second ≡ Some second → ⊥)
+      → ldu_from field unit answer low_first low_second ≡ Err (failing field answer low_first low_second)
+  unfolding ldu_from
+  ldu_fails (Some word) (Some first) (Some second) other = absurd (other word first second refl refl refl)
+  ldu_fails (Some word) (Some first) None other = refl
+  ldu_fails (Some word) None second other = refl
+  ldu_fails None first second other = refl
 
 -- the parts are those of the bits
 pub ldu1_parts : (bare : List Bool) (voice : List VoiceFrame) (answer : Option LinkControl) (first second : Option ℕ) → voice ≡ voice_in bare → answer ≡ link_in link_layout bare → first ≡ low_in 0 bare → second ≡ low_in 1 bare
-    → ldu1_from voice answer first second ≡ ldu1_in bare
+    → ldu_from LinkField (λ link low. Link1 link low voice) answer first second ≡ ldu1_in bare
 unfolding ldu1_in
 ldu1_parts bare voice answer first second a b c d =
-    ap (λ x. ldu1_from x answer first second) a
-    ∙ ap (λ x. ldu1_from (voice_in bare) x first second) b
-    ∙ ap₂ (ldu1_from (voice_in bare) (link_in link_layout bare)) c d
-
--- a unit with encryption sync, likewise
-pub ldu2_whole : (voice : List VoiceFrame) (answer : Option EncryptionSync) (low_first low_second : Option ℕ) (sync : EncryptionSync) (first second : ℕ) → answer ≡ Some sync → low_first ≡ Some first → low_second ≡ Some second
-    → ldu2_from voice answer low_first low_second ≡ Ok (Link2 sync (first ∷ second ∷ []) voice)
-unfolding ldu2_from
-ldu2_whole voice answer low_first low_second sync first second a b c =
-    ap (λ x. ldu2_from voice x low_first low_second) a ∙ ap (λ x. ldu2_from voice (Some sync) x low_second) b ∙ ap (ldu2_from voice (Some sync) (Some first)) c
-
-pub ldu2_fails : (voice : List VoiceFrame) (answer : Option EncryptionSync) (low_first low_second : Option ℕ)
-    → ((sync : EncryptionSync) (first second : ℕ) → answer ≡ Some sync → low_first ≡ Some first → low_second ≡ Some second → ⊥)
-    → ldu2_from voice answer low_first low_second ≡ Err (failing SyncField answer low_first low_second)
-unfolding ldu2_from
-ldu2_fails voice (Some sync) (Some first) (Some second) other = absurd (other sync first second refl refl refl)
-ldu2_fails voice (Some sync) (Some first) None other = refl
-ldu2_fails voice (Some sync) None second other = refl
-ldu2_fails voice None first second other = refl
+    ap (λ (v : List VoiceFrame). ldu_from LinkField (λ link low. Link1 link low v) answer first second) a
+    ∙ ap (λ x. ldu_from LinkField (λ link low. Link1 link low (voice_in bare)) x first second) b
+    ∙ ap₂ (ldu_from LinkField (λ link low. Link1 link low (voice_in bare)) (link_in link_layout bare)) c d
 
 pub ldu2_parts : (bare : List Bool) (voice : List VoiceFrame) (answer : Option EncryptionSync) (first second : Option ℕ) → voice ≡ voice_in bare → answer ≡ sync_in bare → first ≡ low_in 0 bare → second ≡ low_in 1 bare
-    → ldu2_from voice answer first second ≡ ldu2_in bare
+    → ldu_from SyncField (λ sync low. Link2 sync low voice) answer first second ≡ ldu2_in bare
 unfolding ldu2_in
 ldu2_parts bare voice answer first second a b c d =
-    ap (λ x. ldu2_from x answer first second) a
-    ∙ ap (λ x. ldu2_from (voice_in bare) x first second) b
-    ∙ ap₂ (ldu2_from (voice_in bare) (sync_in bare)) c d
+    ap (λ (v : List VoiceFrame). ldu_from SyncField (λ sync low. Link2 sync low v) answer first second) a
+    ∙ ap (λ x. ldu_from SyncField (λ sync low. Link2 sync low (voice_in bare)) x first second) b
+    ∙ ap₂ (ldu_from SyncField (λ sync low. Link2 sync low (voice_in bare)) (sync_in bare)) c d
 
 -- a terminator is its front and nulls
 pub image-end : (nac : ℕ) → voice_image_of nac End ≡ unit_front nac 3 ++ replicate 28 false

@@ -30,7 +30,8 @@ use Rattle.p25_voice_units.specs.Places.{HasPiece, IsLaidOut, IsVoiceImage}
 use Rattle.p25_voice_units.specs.Readings.{frame_places, low_places, frame_in, voice_in, low_in, header_in, link_in, sync_in, header_from, tdulc_from, voice_reading_of}
 use Rattle.p25_voice_units.specs.Sendable.{IsVoiceFrame, IsSpeech, IsSendableVoice}
 use Rattle.p25_voice_units.specs.WithinRadius.{AreLowWithin, IsVoiceWithin, received_voice, IsVoiceWithinByWords}
-use Rattle.p25_voice_units.proofs.KindsLaws.{reading-header, reading-end, reading-ldu1, reading-ldu2, reading-tdulc, ldu1_whole, ldu1_parts, ldu2_whole, ldu2_parts}
+use Rattle.p25_status.specs.declared.fields.Field.TheVariants.{LinkControl as LinkField, EncryptionSync as SyncField}
+use Rattle.p25_voice_units.proofs.KindsLaws.{reading-header, reading-end, reading-ldu1, reading-ldu2, reading-tdulc, ldu_whole, ldu1_parts, ldu2_parts}
 use Rattle.p25_voice_units.proofs.ReadLaws.{nine_frames}
 use Rattle.p25_voice_units.proofs.FieldCodesLaws.{header_codes, link_codes, sync_codes, tdulc_codes, header_there, link_there, tdulc_there}
 
@@ -77,7 +78,7 @@ voice_within nac (Link1 link low voice) sent received keeps is long near =
     let whole : length received ≡ 1680 = long ∙ is.0.long in
     reading-ldu1 received
     ∙ sym (ldu1_parts received (voice_in received) (link_in link_layout received) (low_in 0 received) (low_in 1 received) refl refl refl refl)
-    ∙ ldu1_whole (voice_in received) (link_in link_layout received) (low_in 0 received) (low_in 1 received) link (slice_index low 0) (slice_index low 1) field
+    ∙ ldu_whole LinkField (λ link low. Link1 link low (voice_in received)) (link_in link_layout received) (low_in 0 received) (low_in 1 received) link (slice_index low 0) (slice_index low 1) field
     (low_first low voice sent received keeps.speech is.0.pieces whole near.low)
     (low_second low voice sent received keeps.speech is.0.pieces whole near.low)
     ∙ ap (λ octets. Ok (Link1 link octets (voice_in received))) (two_of low keeps.speech.two)
@@ -86,7 +87,7 @@ voice_within nac (Link2 sync low voice) sent received keeps is long near =
     let whole : length received ≡ 1680 = long ∙ is.0.long in
     reading-ldu2 received
     ∙ sym (ldu2_parts received (voice_in received) (sync_in received) (low_in 0 received) (low_in 1 received) refl refl refl refl)
-    ∙ ldu2_whole (voice_in received) (sync_in received) (low_in 0 received) (low_in 1 received) sync (slice_index low 0) (slice_index low 1) field
+    ∙ ldu_whole SyncField (λ sync low. Link2 sync low (voice_in received)) (sync_in received) (low_in 0 received) (low_in 1 received) sync (slice_index low 0) (slice_index low 1) field
     (low_first low voice sent received keeps.speech is.0.pieces whole near.low)
     (low_second low voice sent received keeps.speech is.0.pieces whole near.low)
     ∙ ap (λ octets. Ok (Link2 sync octets (voice_in received))) (two_of low keeps.speech.two)

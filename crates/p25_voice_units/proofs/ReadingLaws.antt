@@ -15,13 +15,14 @@ use Rattle.p25_link.specs.declared.encryption_sync.EncryptionSync.{EncryptionSyn
 use Rattle.p25_link.specs.declared.header_word.HeaderWord.{HeaderWord}
 use Rattle.p25_link.specs.declared.link_control.LinkControl.{LinkControl}
 use Rattle.p25_status.specs.declared.fields.Field.{Field}
+use Rattle.p25_status.specs.declared.fields.Field.TheVariants.{LinkControl as LinkField, EncryptionSync as SyncField}
 use Rattle.p25_coded_fields.specs.Layouts.{field_reading_of}
 use Rattle.p25_voice_units.specs.declared.unit.VoiceUnit.{VoiceUnit}
 use Rattle.p25_voice_units.specs.declared.unit.VoiceUnit.TheVariants.{Header, Link1, Link2, End, EndLink}
 use Rattle.p25_voice_units.specs.Layouts.{ldu_rows}
 use Rattle.p25_voice_units.specs.FieldLayouts.{link_layout, sync_layout, header_layout, tdulc_layout}
 use Rattle.p25_voice_units.specs.Lengths.{voice_duid}
-use Rattle.p25_voice_units.specs.Readings.{frame_places, low_places, frame_in, voice_in, low_in, header_in, link_in, sync_in, header_from, ldu1_from, ldu1_in, ldu2_from, ldu2_in, tdulc_from, voice_reading_of}
+use Rattle.p25_voice_units.specs.Readings.{frame_places, low_places, frame_in, voice_in, low_in, header_in, link_in, sync_in, header_from, ldu_from, ldu1_in, ldu2_in, tdulc_from, voice_reading_of}
 use Rattle.p25_voice_units.specs.Sendable.{IsVoiceFrame, IsSpeech, IsSendableVoice}
 use Rattle.p25_voice_units.proofs.KindsLaws.{reading-header, reading-end, reading-ldu1, reading-ldu2, reading-tdulc}
 use Rattle.p25_voice_units.proofs.ReadLaws.{nine_frames}
@@ -93,9 +94,9 @@ tdulc_read bare (Some link) unit is read =
     subst (IsUnitOf 15) same (record { kind = refl; sendable = read_keeps IsLinkControl link_of_symbols (field_reading_of tdulc_layout bare) link link_keeps is })
 
 ldu1_read : (bare : List Bool) (answer : Option LinkControl) (first second : Option ℕ) (unit : VoiceUnit) → link_in link_layout bare ≡ answer → low_in 0 bare ≡ first → low_in 1 bare ≡ second
-    → ldu1_from (voice_in bare) answer first second ≡ Ok unit
+    → ldu_from LinkField (λ link low. Link1 link low (voice_in bare)) answer first second ≡ Ok unit
     → IsUnitOf 5 unit
-unfolding link_in ldu1_from IsSendableVoice
+unfolding link_in ldu_from IsSendableVoice
 ldu1_read bare None first second unit is a b read = absurd (cc)
 ldu1_read bare (Some link) None second unit is a b read = absurd (cc)
 ldu1_read bare (Some link) (Some first) None unit is a b read = absurd (cc)
@@ -107,9 +108,9 @@ ldu1_read bare (Some link) (Some first) (Some second) unit is a b read =
     })
 
 ldu2_read : (bare : List Bool) (answer : Option EncryptionSync) (first second : Option ℕ) (unit : VoiceUnit) → sync_in bare ≡ answer → low_in 0 bare ≡ first → low_in 1 bare ≡ second
-    → ldu2_from (voice_in bare) answer first second ≡ Ok unit
+    → ldu_from SyncField (λ sync low. Link2 sync low (voice_in bare)) answer first second ≡ Ok unit
     → IsUnitOf 10 unit
-unfolding sync_in ldu2_from IsSendableVoice
+unfolding sync_in ldu_from IsSendableVoice
 ldu2_read bare None first second unit is a b read = absurd (cc)
 ldu2_read bare (Some sync) None second unit is a b read = absurd (cc)
 ldu2_read bare (Some sync) (Some first) None unit is a b read = absurd (cc)

@@ -30,7 +30,9 @@ use Rattle.p25_voice_units.specs.Layouts.{hdu_rows, ldu_rows, tdulc_rows}
 use Rattle.p25_voice_units.specs.FieldLayouts.{word_places, header_layout, link_layout, sync_layout, tdulc_layout}
 use Rattle.p25_voice_units.specs.Lengths.{voice_duid}
 use Rattle.p25_voice_units.specs.Places.{HasPiece, IsVoiceImage}
-use Rattle.p25_voice_units.specs.Readings.{low_places, voice_in, low_in, header_in, link_in, sync_in, header_from, ldu1_from, ldu1_in, ldu2_from, ldu2_in, tdulc_from, voice_reading_of}
+use Rattle.p25_status.specs.declared.fields.Field.{Field}
+use Rattle.p25_status.specs.declared.fields.Field.TheVariants.{LinkControl as LinkField, EncryptionSync as SyncField}
+use Rattle.p25_voice_units.specs.Readings.{low_places, voice_in, low_in, header_in, link_in, sync_in, header_from, ldu_from, ldu1_in, ldu2_in, tdulc_from, voice_reading_of}
 use Rattle.p25_voice_units.specs.WithinRadius.{AreLowWithin, IsVoiceWithin}
 use Rattle.p25_voice_units.proofs.CodesLaws.{header_code, link_code, sync_code}
 use Rattle.p25_voice_units.proofs.KindsLaws.{reading-header, reading-ldu1, reading-ldu2, reading-tdulc}
@@ -60,27 +62,28 @@ record AreRead {W : Type 0} (answer : Option W) (first second : Option ℕ) (wor
   first_read : first ≡ Some (slice_index low 0)
   second_read : second ≡ Some (slice_index low 1)
 
-ldu1_read_parts : (voice : List VoiceFrame) (answer : Option LinkControl) (first second : Option ℕ) (link : LinkControl) (low : List ℕ) (frames : List VoiceFrame) → ldu1_from voice answer first second ≡ Ok (Link1 link low frames)
-    → AreRead answer first second link low
-unfolding ldu1_from
-ldu1_read_parts voice None first second link low frames is = absurd (cc)
-ldu1_read_parts voice (Some read) None second link low frames is = absurd (cc)
-ldu1_read_parts voice (Some read) (Some a) None link low frames is = absurd (cc)
-ldu1_read_parts voice (Some read) (Some a) (Some b) link low frames is =
-    let same : read ≡ link = cc in
-    let octets : a ∷ b ∷ [] ≡ low = cc in
-    record { word_read = ap Some same; first_read = ap (λ xs. Some (slice_index xs 0)) octets; second_read = ap (λ xs. Some (slice_index xs 1)) octets }
+-- a unit that is known by its word and its octets was made of them
+ldu_read_parts : {X : Type 0} (field : Field) (unit : X → List ℕ → VoiceUnit) (answer : Option X) (first second : Option ℕ) (word : X) (low : List ℕ) (made : VoiceUnit)
+    → ((read : X) (octets : List ℕ) → unit read octets ≡ made → (read ≡ word) × (octets ≡ low))
+    → ldu_from field unit answer first second ≡ Ok made → AreRead answer first second word low
+unfolding ldu_from
+ldu_read_parts field unit None first second word low made known is = absurd (cc)
+ldu_read_parts field unit (Some read) None second word low made known is = absurd (cc)
+ldu_read_parts field unit (Some read) (Some a) None word low made known is = absurd (cc)
+ldu_read_parts field unit (Some read) (Some a) (Some b) word low made known is =
+    let same : unit read (a ∷ b ∷ []) ≡ made = cc in
+    let parts = known read (a ∷ b ∷ []) same in
+    record { word_read = ap Some parts.0; first_read = ap (λ xs. Some (slice_index xs 0)) parts.1; second_read = ap (λ xs. Some (slice_index xs 1)) parts.1 }
 
-ldu2_read_parts : (voice : List VoiceFrame) (answer : Option EncryptionSync) (first second : Option ℕ) (sync : EncryptionSync) (low : List ℕ) (frames : List VoiceFrame) → ldu2_from voice answer first second ≡ Ok (Link2 sync low frames)
-    → AreRead answer first second sync low
-unfolding ldu2_from
-ldu2_read_parts voice None first second sync low frames is = absurd (cc)
-ldu2_read_parts voice (Some read) None second sync low frames is = absurd (cc)
-ldu2_read_parts voice (Some read) (Some a) None sync low frames is = absurd (cc)
-ldu2_read_parts voice (Some read) (Some a) (Some b) sync low frames is =
-    let same : read ≡ sync = cc in
-    let octets : a ∷ b ∷ [] ≡ low = cc in
-    record { word_read = ap Some same; first_read = ap (λ xs. Some (slice_index xs 0)) octets; second_read = ap (λ xs. Some (slice_index xs 1)) octets }
+ldu1_read_parts : (voice : List VoiceFrame) (answer : Option LinkControl) (first second : Option ℕ) (link : LinkControl) (low : List ℕ) (frames : List VoiceFrame)
+    → ldu_from LinkField (λ link low. Link1 link low voice) answer first second ≡ Ok (Link1 link low frames) → AreRead answer first second link low
+ldu1_read_parts voice answer first second link low frames is =
+    ldu_read_parts LinkField (λ link low. Link1 link low voice) answer first second link low (Link1 link low frames) (λ read octets same. (cc same, cc same)) is
+
+ldu2_read_parts : (voice : List VoiceFrame) (answer : Option EncryptionSync) (first second : Option ℕ) (sync : EncryptionSync) (low : List ℕ) (frames : List VoiceFrame)
+    → ldu_from SyncField (λ sync low. Link2 sync low voice) answer first second ≡ Ok (Link2 sync low frames) → AreRead answer first second sync low
+ldu2_read_parts voice answer first second sync low frames is =
+    ldu_read_parts SyncField (λ sync low. Link2 sync low voice) answer first second sync low (Link2 sync low frames) (λ read octets same. (cc same, cc same)) is
 
 -- a low speed word that was read lies within 2 bits of the one that carries the octet
 low_whole : (at octet : ℕ) (sent received : List Bool) (answer : Option (List Bool)) → IsReadAs beq IsLsd16 2 (part at 16 received) answer → option_map (λ (w : List Bool). field_of (take 8 w)) answer ≡ Some octet

@@ -1,5 +1,5 @@
 -- The kinds of voice units, by their data unit identifiers, and how many bits they have.
-use Rattle.std.specs.Prelude.{ℕ, cond, nat_eq, Option, Some, None}
+use Rattle.std.specs.Prelude.{ℕ, if◌then◌else◌, ◌==◌, Option, Some, None}
 use Rattle.p25_voice_units.specs.declared.unit.VoiceUnit.{VoiceUnit}
 use Rattle.p25_voice_units.specs.declared.unit.VoiceUnit.TheVariants.{Header, Link1, Link2, End, EndLink}
 
@@ -14,8 +14,9 @@ voice_duid (EndLink link) = 15
 -- how many bits a unit with a data unit identifier has without status symbols; none where it is that of no voice unit
 unfoldable pub voice_length_of : ℕ → Option ℕ
 voice_length_of duid =
-    cond (nat_eq duid 0) (Some 770) (
-    cond (nat_eq duid 3) (Some 140) (
-    cond (nat_eq duid 5) (Some 1680) (
-    cond (nat_eq duid 10) (Some 1680) (
-    cond (nat_eq duid 15) (Some 420) None))))
+    if duid == 0 then Some 770
+    else if duid == 3 then Some 140
+    else if duid == 5 then Some 1680
+    else if duid == 10 then Some 1680
+    else if duid == 15 then Some 420
+    else None

@@ -1,5 +1,5 @@
 -- What voice units are read from.
-use Rattle.std.specs.Prelude.{ℕ, Bool, cond, nat_eq, List, [], ◌∷◌, ◌++◌, take, drop, map, slice_index, Option, Some, None, option_map, Result, Ok, Err}
+use Rattle.std.specs.Prelude.{ℕ, Bool, if◌then◌else◌, ◌==◌, List, [], ◌∷◌, ◌++◌, take, drop, map, slice_index, Option, Some, None, option_map, Result, Ok, Err}
 use Rattle.std.specs.List.{flat_map}
 use Rattle.p25_bits.specs.Bits.{field_of, part}
 use Rattle.p25_bits.specs.Numbers.{octets_from}
@@ -76,17 +76,10 @@ unfoldable pub header_from : Option HeaderWord → Result VoiceUnit (List Field)
 header_from (Some word) = Ok (Header word)
 header_from None = Err (HeaderField ∷ [])
 
-unfoldable pub ldu1_from : List VoiceFrame → Option LinkControl → Option ℕ → Option ℕ → Result VoiceUnit (List Field)
-ldu1_from voice (Some link) (Some first) (Some second) = Ok (Link1 link (first ∷ second ∷ []) voice)
-ldu1_from voice (Some link) (Some first) None = Err (failing LinkField (Some link) (Some first) None)
-ldu1_from voice (Some link) None second = Err (failing LinkField (Some link) None second)
-ldu1_from voice None first second = Err (failing {X = LinkControl} LinkField None first second)
-
-unfoldable pub ldu2_from : List VoiceFrame → Option EncryptionSync → Option ℕ → Option ℕ → Result VoiceUnit (List Field)
-ldu2_from voice (Some sync) (Some first) (Some second) = Ok (Link2 sync (first ∷ second ∷ []) voice)
-ldu2_from voice (Some sync) (Some first) None = Err (failing SyncField (Some sync) (Some first) None)
-ldu2_from voice (Some sync) None second = Err (failing SyncField (Some sync) None second)
-ldu2_from voice None first second = Err (failing {X = EncryptionSync} SyncField None first second)
+-- a unit with voice, made of its word and of the octets of low speed data
+unfoldable pub ldu_from : {X : Type 0} → Field → (X → List ℕ → VoiceUnit) → Option X → Option ℕ → Option ℕ → Result VoiceUnit (List Field)
+ldu_from field unit (Some word) (Some first) (Some second) = Ok (unit word (first ∷ second ∷ []))
+ldu_from field unit word first second = Err (failing field word first second)
 
 unfoldable pub tdulc_from : Option LinkControl → Result VoiceUnit (List Field)
 tdulc_from (Some link) = Ok (EndLink link)
@@ -94,17 +87,18 @@ tdulc_from None = Err (LinkField ∷ [])
 
 -- units by their bits
 unfoldable pub ldu1_in : List Bool → Result VoiceUnit (List Field)
-ldu1_in bare = ldu1_from (voice_in bare) (link_in link_layout bare) (low_in 0 bare) (low_in 1 bare)
+ldu1_in bare = ldu_from LinkField (λ link low. Link1 link low (voice_in bare)) (link_in link_layout bare) (low_in 0 bare) (low_in 1 bare)
 
 unfoldable pub ldu2_in : List Bool → Result VoiceUnit (List Field)
-ldu2_in bare = ldu2_from (voice_in bare) (sync_in bare) (low_in 0 bare) (low_in 1 bare)
+ldu2_in bare = ldu_from SyncField (λ sync low. Link2 sync low (voice_in bare)) (sync_in bare) (low_in 0 bare) (low_in 1 bare)
 
 -- the unit that bits without status symbols read as where the identifier has a DUID, or else exactly the fields that fail.
 -- DUIDs of no voice unit are not read
 unfoldable pub voice_reading_of : ℕ → List Bool → Result VoiceUnit (List Field)
 voice_reading_of duid bare =
-    cond (nat_eq duid 0) (header_from (header_in bare)) (
-    cond (nat_eq duid 3) (Ok End) (
-    cond (nat_eq duid 5) (ldu1_in bare) (
-    cond (nat_eq duid 10) (ldu2_in bare) (
-    cond (nat_eq duid 15) (tdulc_from (link_in tdulc_layout bare)) (Err [])))))
+    if duid == 0 then header_from (header_in bare)
+    else if duid == 3 then Ok End
+    else if duid == 5 then ldu1_in bare
+    else if duid == 10 then ldu2_in bare
+    else if duid == 15 then tdulc_from (link_in tdulc_layout bare)
+    else Err []

@@ -17,8 +17,8 @@ returns-in-Some-clause-erasures g c =
     let taken : bits_of b.N c.field-received.result ≡ part at b.N bare
     = ap (bits_of b.N) c.field-received.ensures.value ∙ ap (λ n. bits_of b.N (field_of (part at n bare))) c.N.ensures ∙ bits_of-field b.N at bare c.requires.there in
     let read : Some (bits_of b.N value) ≡ b.reading_is (part at b.N bare) = ap (option_map (bits_of b.N)) (sym c.in-Some.is) ∙ c.read_number.ensures.reading ∙ ap b.reading_is taken in
-    inner_found b.N b.K each value (b.reading_is (part at b.N bare)) c.take_symbols.new.symbols c.set_all.new.erased c.requires.sixes (g.met.I.BlockCode.begins c.requires.code) read
-    (c.take_symbols.ensures ∙ ap₂ (λ m n. symbols_in each (bits_of (6 * each) (value / 2 ^ (m - n)))) c.N-in-Some.ensures c.K.ensures)
+    inner_found b.N b.K each value (b.reading_is (part at b.N bare)) c.put_symbols.new.symbols c.set_all.new.erased c.requires.sixes (g.met.I.BlockCode.begins c.requires.code) read
+    (c.put_symbols.ensures ∙ ap (λ v. symbols_in each (bits_of (6 * each) v)) (c.from.ensures ∙ ap₂ (λ m n. value / 2 ^ (m - n)) c.N-in-Some.ensures c.K.ensures))
     (c.set_all.ensures ∙ ap (λ n. replicate n false) c.requires.same)
 
 pub returns-in-Some-clause-few : goal.returns-in-Some-clause-few
@@ -36,7 +36,7 @@ returns-in-Some-clause-wrong g c = λ sent is.
     let at = c.args.at in
     let each = length c.args.symbols.now in
     let value = c.in-Some.sent in
-    let symbols = c.take_symbols.new.symbols in
+    let symbols = c.put_symbols.new.symbols in
     let bits = part at b.N bare in
     let taken : bits_of b.N c.field-received.result ≡ bits
     = ap (bits_of b.N) c.field-received.ensures.value ∙ ap (λ n. bits_of b.N (field_of (part at n bare))) c.N.ensures ∙ bits_of-field b.N at bare c.requires.there in
@@ -44,7 +44,7 @@ returns-in-Some-clause-wrong g c = λ sent is.
     let fits : c.field-received.result < 2 ^ b.N = subst (λ n. c.field-received.result < 2 ^ n) c.N.ensures c.field-received.ensures.fits in
     let small : value < 2 ^ b.N = subst (λ r. IfSome r (λ sent. sent < 2 ^ b.N)) c.in-Some.is c.read_number.ensures.fits in
     let made : symbols ≡ symbols_in each (bits_of (6 * each) (value / 2 ^ (b.N - b.K)))
-    = c.take_symbols.ensures ∙ ap₂ (λ m n. symbols_in each (bits_of (6 * each) (value / 2 ^ (m - n)))) c.N-in-Some.ensures c.K.ensures in
+    = c.put_symbols.ensures ∙ ap (λ v. symbols_in each (bits_of (6 * each) v)) (c.from.ensures ∙ ap₂ (λ m n. value / 2 ^ (m - n)) c.N-in-Some.ensures c.K.ensures) in
     let is_word = read_word_of_set beq b.IsWord b.radius_is bits (bits_of b.N value) (b.reading_is bits) (m.reads_as c.requires.code bits) (sym read) in
     wrong_bits b.N b.K (m.one_word c.requires.code) c.field-received.result value (symbol_bits symbols) bits sent (read_encoding b.N b.K each value symbols c.requires.sixes (m.begins c.requires.code) is_word made) is taken fits small
 

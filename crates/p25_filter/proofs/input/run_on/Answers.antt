@@ -1,10 +1,10 @@
-use Rattle.std.proofs.Common.{◌≡◌, ◌<◌, ◌≤◌, ℕ, ◌-◌, List, [], ◌++◌, length, take, min, ap, sym, subst, ◌∙◌, arith, length-append, length-take}
+use Rattle.std.proofs.Common.{◌≡◌, ◌≤◌, ℕ, ◌-◌, List, [], ◌++◌, length, take, min, ap, sym, subst, ◌∙◌, arith, length-append, length-take}
 use Rattle.p25_filter.specs.declared.ending.FilterEnd.{FilterEnd}
 use Rattle.p25_filter.specs.Futures.{Moved}
 use Rattle.p25_filter.specs.Runs.{input_most}
 use Rattle.p25_filter.specs.Traces.{Going, standing_at}
 use Rattle.p25_filter.proofs.InputLaws.{on-blank_page}
-use Rattle.p25_filter.proofs.TracesLaws.{Came, Came-ended, Came-read_fault, Came-stopped, Came-too_long, Progress-moved, Progress-none, SoFar, SoFar-fed, SoFar-more, SoFar-none, SoFar-over, first-fed, first-read, settled}
+use Rattle.p25_filter.proofs.TracesLaws.{Came, Came-ended, Came-read_fault, Came-stopped, Came-too_long, Progress-moved, Progress-none, SoFar, SoFar-fed, SoFar-none, SoFar-over, SoFar-read, first-fed, first-read, settled}
 use Rattle.p25_filter.proofs.input.run_on.Goals as goal
 
 pub loop-count-init : goal.loop-count-init
@@ -57,11 +57,9 @@ returns-in-Err g c =
     let fits = c.min-fits.result in
     let few : length inv.octets ≤ input_most = omega (arith, inv.count, inv.few) in
     let read = take count buf in
-    let is_settled = settled future _ inv.octets inv.text few inv.progress inv.idle in
-    let some : 0 < length read = omega (arith, length-take count buf, given.0, c.if-count-eq0.false) in
     let so_far =
-    SoFar-more moves stays joins first future inv.octets inv.text read _ _ inv.so_far is_settled given.1 some
-    (omega (arith, length-take count buf, given.0, inv.buffer, c.read.ensures.room)) in
+    SoFar-read moves stays joins first future inv.octets inv.text buf count _ _ _ inv.so_far few inv.progress inv.idle given.1 (omega (arith, c.if-count-eq0.false))
+    given.0 (omega (arith, inv.buffer, c.read.ensures.room)) in
     let fit : fits ≡ min count (input_most - length inv.octets) = omega (arith, c.min-fits.ensures, inv.count) in
     let fed = c.in-Err.ensures.stopped.0 in
     let stopped = on-blank_page moves stays joins _ _ _ _ _ _ inv.empty c.in-Err.ensures.stopped.1 in
@@ -83,11 +81,9 @@ returns-then-fits-count g c =
     let fits = c.min-fits.result in
     let few : length inv.octets ≤ input_most = omega (arith, inv.count, inv.few) in
     let read = take count buf in
-    let is_settled = settled future _ inv.octets inv.text few inv.progress inv.idle in
-    let some : 0 < length read = omega (arith, length-take count buf, given.0, c.if-count-eq0.false) in
     let so_far =
-    SoFar-more moves stays joins first future inv.octets inv.text read _ _ inv.so_far is_settled given.1 some
-    (omega (arith, length-take count buf, given.0, inv.buffer, c.read.ensures.room)) in
+    SoFar-read moves stays joins first future inv.octets inv.text buf count _ _ _ inv.so_far few inv.progress inv.idle given.1 (omega (arith, c.if-count-eq0.false))
+    given.0 (omega (arith, inv.buffer, c.read.ensures.room)) in
     let fit : fits ≡ min count (input_most - length inv.octets) = omega (arith, c.min-fits.ensures, inv.count) in
     let whole = first-read inv.octets buf count fits few given.0 fit in
     let moved =
@@ -112,11 +108,9 @@ loop-count-preserved g c =
     let fits = c.min-fits.result in
     let few : length inv.octets ≤ input_most = omega (arith, inv.count, inv.few) in
     let read = take count buf in
-    let is_settled = settled future _ inv.octets inv.text few inv.progress inv.idle in
-    let some : 0 < length read = omega (arith, length-take count buf, given.0, c.if-count-eq0.false) in
     let so_far =
-    SoFar-more moves stays joins first future inv.octets inv.text read _ _ inv.so_far is_settled given.1 some
-    (omega (arith, length-take count buf, given.0, inv.buffer, c.read.ensures.room)) in
+    SoFar-read moves stays joins first future inv.octets inv.text buf count _ _ _ inv.so_far few inv.progress inv.idle given.1 (omega (arith, c.if-count-eq0.false))
+    given.0 (omega (arith, inv.buffer, c.read.ensures.room)) in
     let fit : fits ≡ min count (input_most - length inv.octets) = omega (arith, c.min-fits.ensures, inv.count) in
     let whole = first-read inv.octets buf count fits few given.0 fit in
     let same : fits ≡ count = omega (arith, fit, c.if-fits-count.false) in

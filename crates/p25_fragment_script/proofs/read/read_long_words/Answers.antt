@@ -1,5 +1,6 @@
 use Rattle.std.proofs.Common.{ap, sym, ◌∙◌}
-use Rattle.p25_fragment_script.specs.LongScript.{long_or_fault}
+use Rattle.p25_line.specs.LineReadings.{value_or_fault}
+use Rattle.p25_fragments.specs.declared.long_step.LongEvent.TheVariants.{Long}
 use Rattle.p25_fragment_script.proofs.LongReadSteps.{other_word, right_count, wrong_count}
 use Rattle.p25_fragment_script.proofs.read.read_long_words.Goals as goal
 
@@ -13,9 +14,9 @@ returns-then-count-ne2 c =
 pub returns-in-Some : goal.returns-in-Some
 returns-in-Some c =
     let read = right_count c.args.words.now c.first-first.result.now c.get.result.now c.first-first.ensures (sym c.is_same.ensures ∙ c.if-not-is_same.false) (sym c.count.ensures.count ∙ c.if-count-ne2.false) c.get.ensures.word in
-    sym (read ∙ ap long_or_fault (sym c.message_value.ensures ∙ c.in-Some.is))
+    sym (read ∙ ap (value_or_fault Long) (sym c.message_value.ensures ∙ c.in-Some.is))
 
 pub returns-in-None : goal.returns-in-None
 returns-in-None c =
     let read = right_count c.args.words.now c.first-first.result.now c.get.result.now c.first-first.ensures (sym c.is_same.ensures ∙ c.if-not-is_same.false) (sym c.count.ensures.count ∙ c.if-count-ne2.false) c.get.ensures.word in
-    sym (read ∙ ap long_or_fault (sym c.message_value.ensures ∙ c.in-None.is))
+    sym (read ∙ ap (value_or_fault Long) (sym c.message_value.ensures ∙ c.in-None.is))

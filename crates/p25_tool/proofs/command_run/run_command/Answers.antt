@@ -1,8 +1,9 @@
-use Rattle.std.proofs.Common.{◌≡◌, ℕ, ◌∙◌, sym, subst}
+use Rattle.std.proofs.Common.{◌≡◌, ◌∙◌, sym, subst}
 use Rattle.p25_filter.specs.Futures.{Future}
 use Rattle.p25_tool.specs.declared.command.Command.{Command}
 use Rattle.p25_tool.specs.declared.command.Command.TheVariants.{Show, Check, Repair, Bridge, Build, Stations, Calls, Duplex, Fragments, Soft, Sample}
 use Rattle.p25_recording_filters.specs.Commands.{ChangedParts, changed_reporting}
+use Rattle.p25_filter.proofs.SameLaws.{AreAlike}
 use Rattle.p25_filter.specs.Traces.{IsRun}
 use Rattle.p25_filter.specs.LineRules.{LineRules}
 use Rattle.p25_filter.specs.LineFilters.{first_line, line_future}
@@ -10,8 +11,8 @@ use Rattle.p25_tool.specs.Buildings.{build_rules}
 use Rattle.p25_tool.specs.StationRules.{station_rules}
 use Rattle.p25_tool.specs.DuplexRules.{duplex_rules}
 use Rattle.p25_recording_filters.specs.Recordings.{fresh, recording_future}
-use Rattle.p25_tool.specs.Runs.{command_future}
-use Rattle.p25_tool.proofs.CommandsLaws.{AreAlike, bridge-alike, build-alike, check-alike, repair-alike, show-alike, stations-alike, calls-alike, fragments-alike, soft-alike}
+use Rattle.p25_tool.specs.Outputs.{command_future}
+use Rattle.p25_tool.proofs.CommandsLaws.{bridge-alike, build-alike, check-alike, repair-alike, show-alike, stations-alike, calls-alike, fragments-alike, soft-alike}
 use Rattle.p25_tool.proofs.DuplexCommandLaws.{duplex-alike}
 use Rattle.p25_tool.specs.FragmentRules.{fragment_rules}
 use Rattle.p25_tool.proofs.CallRunsLaws.{alike-run}

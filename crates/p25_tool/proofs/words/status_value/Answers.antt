@@ -1,6 +1,8 @@
-use Rattle.std.proofs.Common.{arith}
-use Rattle.p25_tool.proofs.WordsLaws.{status_in-digit}
+use Rattle.p25_tool.proofs.WordsLaws.{status-none, status-read}
 use Rattle.p25_tool.proofs.words.status_value.Goals as goal
 
-pub returns : goal.returns
-returns c = status_in-digit c.args.word.now c.new.result (omega (arith, c.if-word-ne1.false)) c.if-digit-lt48.false c.if-digit-gt51.false c.new.ensures.below c.new.ensures.number
+pub returns-in-Some : goal.returns-in-Some
+returns-in-Some c = status-read c.args.word.now c.number_value.result c.in-Some.number c.new.result c.number_value.ensures c.in-Some.is c.new.ensures.below c.new.ensures.number
+
+pub returns-in-None : goal.returns-in-None
+returns-in-None c = status-none c.args.word.now c.number_value.result c.number_value.ensures c.in-None.is

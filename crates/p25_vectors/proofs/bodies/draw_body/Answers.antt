@@ -1,52 +1,50 @@
 use Rattle.std.proofs.Common.{ap, sym, ◌∙◌}
 use Rattle.p25_voice_units.specs.declared.unit.VoiceUnit.TheVariants.{Header as header_unit, EndLink as tdulc_unit}
 use Rattle.p25_units.specs.declared.unit.Body.TheVariants.{Voice}
-use Rattle.p25_vectors.specs.Bodies.{body_drawn, body_draws}
-use Rattle.p25_vectors.specs.declared.kind.Kind.TheVariants.{End, Header, EndLink, Link1, Link2}
-use Rattle.p25_vectors.proofs.DrawsLaws.{state_after-none}
-use Rattle.p25_vectors.proofs.BodiesLaws.{draws-of, ldu1-drawn, ldu2-drawn}
+use Rattle.p25_vectors.specs.Bodies.{body_next}
+use Rattle.p25_vectors.proofs.BodiesLaws.{ldu1-drawn, ldu2-drawn}
 use Rattle.p25_vectors.proofs.bodies.draw_body.Goals as goal
 
 pub returns-in-End-clause-body : goal.returns-in-End-clause-body
-unfolding body_drawn
-returns-in-End-clause-body c = sym (ap (λ k. body_drawn k c.args.draws.now) c.in-End.is)
+unfolding body_next
+returns-in-End-clause-body c = sym (ap (λ k. (body_next k c.args.draws.now).0) c.in-End.is)
 
 pub returns-in-End-clause-state : goal.returns-in-End-clause-state
-unfolding body_draws
-returns-in-End-clause-state c = sym (state_after-none c.args.draws.now) ∙ draws-of c.args.kind End c.args.draws.now c.in-End.is
+unfolding body_next
+returns-in-End-clause-state c = sym (ap (λ k. (body_next k c.args.draws.now).1) c.in-End.is)
 
 pub returns-in-Header-clause-body : goal.returns-in-Header-clause-body
-unfolding body_drawn
-returns-in-Header-clause-body c = ap (λ w. Voice (header_unit w)) c.draw_header.ensures.word ∙ sym (ap (λ k. body_drawn k c.args.draws.now) c.in-Header.is)
+unfolding body_next
+returns-in-Header-clause-body c = ap (λ w. Voice (header_unit w)) c.draw_header.ensures.word ∙ sym (ap (λ k. (body_next k c.args.draws.now).0) c.in-Header.is)
 
 pub returns-in-Header-clause-state : goal.returns-in-Header-clause-state
-unfolding body_draws
-returns-in-Header-clause-state c = c.draw_header.ensures.state ∙ draws-of c.args.kind Header c.args.draws.now c.in-Header.is
+unfolding body_next
+returns-in-Header-clause-state c = c.draw_header.ensures.state ∙ sym (ap (λ k. (body_next k c.args.draws.now).1) c.in-Header.is)
 
 pub returns-in-EndLink-clause-body : goal.returns-in-EndLink-clause-body
-unfolding body_drawn
-returns-in-EndLink-clause-body c = ap (λ l. Voice (tdulc_unit l)) c.draw_link.ensures.link ∙ sym (ap (λ k. body_drawn k c.args.draws.now) c.in-EndLink.is)
+unfolding body_next
+returns-in-EndLink-clause-body c = ap (λ l. Voice (tdulc_unit l)) c.draw_link.ensures.link ∙ sym (ap (λ k. (body_next k c.args.draws.now).0) c.in-EndLink.is)
 
 pub returns-in-EndLink-clause-state : goal.returns-in-EndLink-clause-state
-unfolding body_draws
-returns-in-EndLink-clause-state c = c.draw_link.ensures.state ∙ draws-of c.args.kind EndLink c.args.draws.now c.in-EndLink.is
+unfolding body_next
+returns-in-EndLink-clause-state c = c.draw_link.ensures.state ∙ sym (ap (λ k. (body_next k c.args.draws.now).1) c.in-EndLink.is)
 
 pub returns-in-Link1-clause-body : goal.returns-in-Link1-clause-body
 returns-in-Link1-clause-body c = (ldu1-drawn c.args.draws.now c.draw_link-in-Link1.new.draws c.octets.new.self c.draw_voice.new.draws c.draw_link-in-Link1.result c.octets.result
     c.draw_voice.result c.draw_link-in-Link1.ensures.link c.draw_link-in-Link1.ensures.state c.octets.ensures.octets c.octets.ensures.state
-    c.draw_voice.ensures.voice c.draw_voice.ensures.state).0 ∙ sym (ap (λ k. body_drawn k c.args.draws.now) c.in-Link1.is)
+    c.draw_voice.ensures.voice c.draw_voice.ensures.state).0 ∙ sym (ap (λ k. (body_next k c.args.draws.now).0) c.in-Link1.is)
 
 pub returns-in-Link1-clause-state : goal.returns-in-Link1-clause-state
 returns-in-Link1-clause-state c = (ldu1-drawn c.args.draws.now c.draw_link-in-Link1.new.draws c.octets.new.self c.draw_voice.new.draws c.draw_link-in-Link1.result c.octets.result
     c.draw_voice.result c.draw_link-in-Link1.ensures.link c.draw_link-in-Link1.ensures.state c.octets.ensures.octets c.octets.ensures.state
-    c.draw_voice.ensures.voice c.draw_voice.ensures.state).1 ∙ draws-of c.args.kind Link1 c.args.draws.now c.in-Link1.is
+    c.draw_voice.ensures.voice c.draw_voice.ensures.state).1 ∙ sym (ap (λ k. (body_next k c.args.draws.now).1) c.in-Link1.is)
 
 pub returns-in-Link2-clause-body : goal.returns-in-Link2-clause-body
 returns-in-Link2-clause-body c = (ldu2-drawn c.args.draws.now c.draw_sync.new.draws c.octets-in-Link2.new.self c.draw_voice-in-Link2.new.draws c.draw_sync.result c.octets-in-Link2.result
     c.draw_voice-in-Link2.result c.draw_sync.ensures.sync c.draw_sync.ensures.state c.octets-in-Link2.ensures.octets c.octets-in-Link2.ensures.state
-    c.draw_voice-in-Link2.ensures.voice c.draw_voice-in-Link2.ensures.state).0 ∙ sym (ap (λ k. body_drawn k c.args.draws.now) c.in-Link2.is)
+    c.draw_voice-in-Link2.ensures.voice c.draw_voice-in-Link2.ensures.state).0 ∙ sym (ap (λ k. (body_next k c.args.draws.now).0) c.in-Link2.is)
 
 pub returns-in-Link2-clause-state : goal.returns-in-Link2-clause-state
 returns-in-Link2-clause-state c = (ldu2-drawn c.args.draws.now c.draw_sync.new.draws c.octets-in-Link2.new.self c.draw_voice-in-Link2.new.draws c.draw_sync.result c.octets-in-Link2.result
     c.draw_voice-in-Link2.result c.draw_sync.ensures.sync c.draw_sync.ensures.state c.octets-in-Link2.ensures.octets c.octets-in-Link2.ensures.state
-    c.draw_voice-in-Link2.ensures.voice c.draw_voice-in-Link2.ensures.state).1 ∙ draws-of c.args.kind Link2 c.args.draws.now c.in-Link2.is
+    c.draw_voice-in-Link2.ensures.voice c.draw_voice-in-Link2.ensures.state).1 ∙ sym (ap (λ k. (body_next k c.args.draws.now).1) c.in-Link2.is)

@@ -1,5 +1,5 @@
 use Rattle.std.proofs.Common.{◌≡◌, length}
-use Rattle.p25_vectors.specs.Bodies.{body_draws}
+use Rattle.p25_vectors.specs.Bodies.{body_next}
 use Rattle.p25_vectors.proofs.BodiesLaws.{response-is, response-drawn}
 use Rattle.p25_vectors.proofs.bodies.draw_response.Goals as goal
 
@@ -10,5 +10,5 @@ pub returns-clause-packet : goal.returns-clause-packet
 returns-clause-packet c = response-drawn c.args.draws.now c.octets.result c.head_with-head.result c.new.result c.new-2.result c.octets.ensures.octets c.head_with-head.ensures c.new.ensures c.new-2.ensures
 
 pub returns-clause-state : goal.returns-clause-state
-unfolding body_draws
+unfolding body_next
 returns-clause-state c = c.octets.ensures.state

@@ -1,36 +1,38 @@
 use Rattle.std.proofs.Common.{[], ◌∷◌, List, Err, sym, subst, ap, ◌∙◌, arith}
-use Rattle.p25_voice_units.proofs.KindsLaws.{ldu2_whole, ldu2_fails, ldu2_parts}
+use Rattle.p25_voice_units.proofs.KindsLaws.{ldu_whole, ldu_fails, ldu2_parts}
 use Rattle.p25_voice_units.specs.Sendable.{IsSpeech}
 use Rattle.p25_voice_units.specs.declared.voice.VoiceFrame.{VoiceFrame}
 use Rattle.p25_voice_units.proofs.CountedLaws.{ldu2_fixes}
 use Rattle.p25_voice_units.proofs.ReadLaws.{some_at}
 use Rattle.p25_voice_units.proofs.ReadingLaws.{speech_keeps}
+use Rattle.p25_status.specs.declared.fields.Field.TheVariants.{EncryptionSync as SyncField}
+use Rattle.p25_voice_units.specs.declared.unit.VoiceUnit.TheVariants.{Link2}
 use Rattle.p25_voice_units.proofs.read.read_ldu2.Goals as goal
 
 pub returns-in_default-clause-value : goal.returns-in_default-clause-value
 returns-in_default-clause-value c =
     ap Err c.failing_of-fields.ensures
-    ∙ sym (ldu2_fails c.read_frames-voice.result c.read_encryption_sync-sync.result c.read_low-first.result c.read_low-second.result (λ x first second is a b. c.in_default.not-Some x is))
+    ∙ sym (ldu_fails SyncField (λ word low. Link2 word low c.read_frames-voice.result) c.read_encryption_sync-sync.result c.read_low-first.result c.read_low-second.result (λ x first second is a b. c.in_default.not-Some x is))
     ∙ ldu2_parts c.args.bare.now c.read_frames-voice.result c.read_encryption_sync-sync.result c.read_low-first.result c.read_low-second.result
     c.read_frames-voice.ensures c.read_encryption_sync-sync.ensures.value c.read_low-first.ensures.value c.read_low-second.ensures.value
 
 pub returns-in_default-first-clause-value : goal.returns-in_default-first-clause-value
 returns-in_default-first-clause-value c =
     ap Err c.failing_of-fields.ensures
-    ∙ sym (ldu2_fails c.read_frames-voice.result c.read_encryption_sync-sync.result c.read_low-first.result c.read_low-second.result (λ x first second a is b. c.in_default-first.not-Some first is))
+    ∙ sym (ldu_fails SyncField (λ word low. Link2 word low c.read_frames-voice.result) c.read_encryption_sync-sync.result c.read_low-first.result c.read_low-second.result (λ x first second a is b. c.in_default-first.not-Some first is))
     ∙ ldu2_parts c.args.bare.now c.read_frames-voice.result c.read_encryption_sync-sync.result c.read_low-first.result c.read_low-second.result
     c.read_frames-voice.ensures c.read_encryption_sync-sync.ensures.value c.read_low-first.ensures.value c.read_low-second.ensures.value
 
 pub returns-in_default-second-clause-value : goal.returns-in_default-second-clause-value
 returns-in_default-second-clause-value c =
     ap Err c.failing_of-fields.ensures
-    ∙ sym (ldu2_fails c.read_frames-voice.result c.read_encryption_sync-sync.result c.read_low-first.result c.read_low-second.result (λ x first second a b is. c.in_default-second.not-Some second is))
+    ∙ sym (ldu_fails SyncField (λ word low. Link2 word low c.read_frames-voice.result) c.read_encryption_sync-sync.result c.read_low-first.result c.read_low-second.result (λ x first second a b is. c.in_default-second.not-Some second is))
     ∙ ldu2_parts c.args.bare.now c.read_frames-voice.result c.read_encryption_sync-sync.result c.read_low-first.result c.read_low-second.result
     c.read_frames-voice.ensures c.read_encryption_sync-sync.ensures.value c.read_low-first.ensures.value c.read_low-second.ensures.value
 
 pub returns-clause-value : goal.returns-clause-value
 returns-clause-value c =
-    sym (ldu2_whole c.read_frames-voice.result c.read_encryption_sync-sync.result c.read_low-first.result c.read_low-second.result c.in-Some.sync c.in-Some-first.first c.in-Some-second.second
+    sym (ldu_whole SyncField (λ word low. Link2 word low c.read_frames-voice.result) c.read_encryption_sync-sync.result c.read_low-first.result c.read_low-second.result c.in-Some.sync c.in-Some-first.first c.in-Some-second.second
     c.in-Some.is c.in-Some-first.is c.in-Some-second.is)
     ∙ ldu2_parts c.args.bare.now c.read_frames-voice.result c.read_encryption_sync-sync.result c.read_low-first.result c.read_low-second.result
     c.read_frames-voice.ensures c.read_encryption_sync-sync.ensures.value c.read_low-first.ensures.value c.read_low-second.ensures.value

@@ -7,8 +7,8 @@ use Rattle.p25_voice_units.proofs.read.read_low.Goals as goal
 pub returns-in-Some-clause-value : goal.returns-in-Some-clause-value
 unfolding low_places
 returns-in-Some-clause-value c =
-    low_found c.args.i c.field-received.result c.in-Some.sent c.args.bare.now c.read_number.result c.requires.i c.requires.there c.field-received.ensures.value (some_at _ c.read_number.result c.in-Some.sent c.read_number.ensures.fits c.in-Some.is)
-    c.in-Some.is c.read_number.ensures.reading
+    low_found c.args.i c.field-received.result c.in-Some.sent c.args.bare.now c.read_number.result c.requires.i c.requires.there c.field-received.ensures.value
+    (some_at _ c.read_number.result c.in-Some.sent c.read_number.ensures.fits c.in-Some.is) c.in-Some.is c.read_number.ensures.reading
 
 pub returns-in-Some-clause-fixes : goal.returns-in-Some-clause-fixes
 unfolding low_places

@@ -1,15 +1,11 @@
-use Rattle.std.proofs.Common.{◌≡◌, ℕ, ◌+◌, ◌-◌, ◌*◌, ◌/◌, List, ◌++◌, length, drop, ap, ap₂, sym, ◌∙◌, arith, append_assoc, append-nil}
+use Rattle.std.proofs.Common.{◌≡◌, ℕ, ◌+◌, ◌-◌, ◌*◌, ◌/◌, List, ◌++◌, length, drop, ap, ◌∙◌, arith, append_assoc}
 use Rattle.p25_bits.specs.Numbers.{octets_from}
-use Rattle.p25_bits.proofs.NumbersLaws.{numbers_from-zero}
 use Rattle.p25_recording_filters.specs.ItemOutputs.{whole_octets}
-use Rattle.p25_recording_filters.proofs.OctetsLaws.{octets-more, octets-all}
+use Rattle.p25_recording_filters.proofs.OctetsLaws.{octets-all, octets-more, octets-none, octets-on}
 use Rattle.p25_recording_filters.proofs.reports.changed.put_octets.Goals as goal
 
 pub loop-k-init : goal.loop-k-init
-loop-k-init c = record {
-  list = sym (append-nil c.args.out.now) ∙ ap (λ (zs : List ℕ). c.args.out.now ++ zs) (sym (numbers_from-zero 8 (drop c.args.at c.args.bits.now)));
-  len = omega arith;
-}
+loop-k-init c = record { list = octets-none c.args.out.now (drop c.args.at c.args.bits.now); len = omega arith }
 
 pub loop-k-preserved : goal.loop-k-preserved
 loop-k-preserved c =
@@ -18,10 +14,9 @@ loop-k-preserved c =
     let k = c.loop-k.k in
     record {
       list =
-          c.put.ensures.list
-          ∙ ap₂ (λ (xs ys : List ℕ). xs ++ ys) c.loop-k.invariant.list c.to_be_bytes.ensures
-          ∙ append_assoc c.args.out.now (octets_from (8 * k) (drop at bits)) _
-          ∙ ap (λ (zs : List ℕ). c.args.out.now ++ zs) (octets-more bits at k c.field.result (omega arith) c.field.ensures.value);
+          octets-on c.args.out.now (octets_from (8 * k) (drop at bits)) _ _ _ _ c.loop-k.invariant.list
+          (ap (λ (xs : List ℕ). octets_from (8 * k) (drop at bits) ++ xs) c.to_be_bytes.ensures ∙ octets-more bits at k c.field.result (omega arith) c.field.ensures.value)
+          c.put.ensures.list;
       len = omega (arith, c.put.ensures.len, c.loop-k.invariant.len);
     }
 
