@@ -17,6 +17,7 @@ const RADIUS: usize = 11;
 /// that is the same as being divisible by the generator polynomial CD930BDD3B2B hex (octal 6331141367235453). The first 16
 /// bits are the information. Any two words differ in at least 23 bits; eleven wrong bits are corrected. TIA-102.BAAA,
 /// Network Identifier.
+#[derive(Clone, Copy, Debug, PartialEq, Eq)]
 pub struct Bch63;
 
 impl BlockCode for Bch63 {

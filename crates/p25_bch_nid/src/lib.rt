@@ -5,11 +5,11 @@
 //! and its first 16 bits are the NAC and the DUID. `nid_bits` makes them, `read_nid` reads them where at most 11 of the 63
 //! are wrong, and `nid_distance` tells how many were:
 //!
-//! ```text
-//! let nid = Nid::new(0x293, 0x3).ok_or("no identifier")?;
+//! ```
+//! let nid = Nid::from(0x2933); // NAC 293 hex, DUID 3
 //! let received = nid_bits(&nid) ^ 0x7FF0;
-//! assert_eq!(read_nid(received), Some(nid));
-//! assert_eq!(nid_distance(received, &nid), 11);
+//! let fixes = nid_distance(received, &nid);
+//! assert!(rt; read_nid(received) == Some(nid) && fixes == 11);
 //! ```
 //!
 //! `Bch63` is the code itself, as a `BlockCode` with bits for letters. Contracts see its words as `IsBch63`, the lists of 63

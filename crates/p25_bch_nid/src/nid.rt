@@ -1,4 +1,4 @@
-ghost use Rattle.std.specs.Prelude.{◌≡◌, ◌≤◌, ◌<◌, ◌↔◌, IsSome, IfSome};
+ghost use Rattle.std.specs.Prelude.{◌≡◌, ◌≤◌, ◌<◌, ◌↔◌, ◌+◌, ◌*◌, ◌/◌, ◌%◌, IsSome, IfSome};
 
 /// A network identifier: whose traffic it is, and which kind of unit follows.
 #[derive(Clone, Copy, Debug, PartialEq, Eq)]
@@ -23,5 +23,26 @@ impl Nid {
         } else {
             None
         }
+    }
+}
+
+/// The identifier whose NAC and DUID a number writes, twelve bits and four, the highest first. Each number writes one.
+impl From<u16> for Nid {
+    ghost from_gives = { λ number nid. (nid.nac ≡ number / 16) × (nid.duid ≡ number % 16) };
+
+    fn from(number: u16) -> Nid {
+        Nid {
+            nac: number / 16,
+            duid: (number % 16) as u8,
+        }
+    }
+}
+
+/// The number that writes the NAC and the DUID, twelve bits and four, the highest first: the information of the code word.
+impl From<Nid> for u16 {
+    ghost from_gives = { λ nid number. number ≡ 16 * nid.nac + nid.duid };
+
+    fn from(nid: Nid) -> u16 {
+        16 * nid.nac + u16::from(nid.duid)
     }
 }

@@ -15,6 +15,14 @@ const SENT: [(u16, u8, u64); 6] = [
 ];
 
 #[test]
+fn the_example_of_the_head(rt: HostRuntime) {
+    let nid = Nid::from(0x2933); // NAC 293 hex, DUID 3
+    let received = nid_bits(&nid) ^ 0x7FF0;
+    let fixes = nid_distance(received, &nid);
+    assert!(rt; read_nid(received) == Some(nid) && fixes == 11);
+}
+
+#[test]
 fn sent_bits(rt: HostRuntime) {
     for (nac, duid, bits) in SENT {
         let nid = Nid::new(nac, duid);

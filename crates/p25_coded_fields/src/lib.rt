@@ -6,13 +6,13 @@
 //! `read_field` reads the inner words at places of a unit and then the outer word. Where an inner word is not read, each of
 //! its symbols is an erasure, and the outer code reads the symbols that are left:
 //!
-//! ```text
-//! let places = [112, 130, 148, …];
-//! let mut word = [Sym::ZERO; 36];
-//! match read_field::<Golay18, Rs<36, 20>>(&bare, &places, &mut word) {
-//!     Reading::Found { .. } => …, // word[..20] is the header word
-//!     Reading::Beyond => …,       // more damage than the outer code undoes
-//! }
+//! ```
+//! let mut bare = BitBuf::new();
+//! put_coded::<Golay24>(&[Sym::ZERO; 4], 2, &mut bare);
+//! bare.flip(5);
+//! let mut word = [Sym::ONE; 4];
+//! let reading = read_field::<Golay24, Rs<4, 2>>(&bare, &[0, 24], &mut word);
+//! assert!(rt; word == [Sym::ZERO; 4] && reading == Reading::Found { fixes: 1 });
 //! ```
 //!
 //! Contracts see a field as a `Layout`, its places and the readings of its codes, and what is read as `outer_word_of` the

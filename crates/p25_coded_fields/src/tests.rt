@@ -9,6 +9,16 @@ use p25_gf64::Sym;
 use p25_golay::Golay24;
 use p25_reed_solomon::Rs;
 
+#[test]
+fn the_example_of_the_head(rt: HostRuntime) {
+    let mut bare = BitBuf::new();
+    put_coded::<Golay24>(&[Sym::ZERO; 4], 2, &mut bare);
+    bare.flip(5);
+    let mut word = [Sym::ONE; 4];
+    let reading = read_field::<Golay24, Rs<4, 2>>(&bare, &[0, 24], &mut word);
+    assert!(rt; word == [Sym::ZERO; 4] && reading == Reading::Found { fixes: 1 });
+}
+
 // The outer code: two symbols of information and two check symbols.
 type Outer = Rs<4, 2>;
 

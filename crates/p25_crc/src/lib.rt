@@ -5,9 +5,10 @@
 //! bits inverted: the register starts at 0, nothing is reflected, and a check is a number whose highest bit is sent
 //! first. There is exactly one check of each message. A check is made of four octets at a time, by tables of remainders.
 //!
-//! ```text
-//! let header = crc16(&octets[..10]);
-//! let agrees = octets[10..] == header.to_be_bytes();
+//! ```
+//! let octets = b"123456789";
+//! let check = crc16(octets);
+//! assert_eq!(rt; check.to_be_bytes(), [0xCE, 0x3C]);
 //! ```
 //!
 //! | call | width, divisor without its highest term | in the catalogues of checksums | of the text 123456789 |

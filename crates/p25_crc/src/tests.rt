@@ -3,6 +3,13 @@
 use super::{crc9, crc16, crc32};
 
 #[test]
+fn the_example_of_the_head(rt: HostRuntime) {
+    let octets = b"123456789";
+    let check = crc16(octets);
+    assert_eq!(rt; check.to_be_bytes(), [0xCE, 0x3C]);
+}
+
+#[test]
 fn check_values(rt: HostRuntime) {
     let rows: [(&[u8], u16, u32); 4] = [
         (b"123456789", 0xCE3C, 0x765E_7680),

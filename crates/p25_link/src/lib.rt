@@ -4,11 +4,15 @@
 //! The bits of a word are those of its fields in order, each field's most significant bit first. Six bits are a symbol, the
 //! first of them the highest of the symbol's number.
 //!
-//! ```text
+//! ```
 //! let link = LinkControl([0x00, 0x00, 0x80, 0x00, 0x12, 0x34, 0x56, 0x78, 0x9A]);
-//! let symbols = link.symbols();
-//! assert_eq!(LinkControl::from_symbols(&symbols), link);
-//! // link.kind() is a call with emergency to group 1234 hex from source 56789A hex
+//! let called = LinkKind::Group {
+//!     mfid: 0,
+//!     emergency: true,
+//!     group: 0x1234,
+//!     source: 0x0056_789A,
+//! };
+//! assert_eq!(rt; LinkControl::from_symbols(&link.symbols()).kind(), called);
 //! ```
 //!
 //! `symbols_number` and `put_symbols` turn symbols into the number that their bits write, and back.

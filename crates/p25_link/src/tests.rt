@@ -5,6 +5,18 @@ use p25_gf64::Sym;
 use std::process::Abort;
 use std::test::Fail;
 
+#[test]
+fn the_example_of_the_head(rt: HostRuntime) {
+    let link = LinkControl([0x00, 0x00, 0x80, 0x00, 0x12, 0x34, 0x56, 0x78, 0x9A]);
+    let called = LinkKind::Group {
+        mfid: 0,
+        emergency: true,
+        group: 0x1234,
+        source: 0x0056_789A,
+    };
+    assert_eq!(rt; LinkControl::from_symbols(&link.symbols()).kind(), called);
+}
+
 // Asserts that symbols have these numbers.
 fn assert_numbers(rt: &impl Abort, symbols: &[Sym], numbers: &[u8]) {
     assert_eq!(rt; symbols.len(), numbers.len());

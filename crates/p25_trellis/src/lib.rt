@@ -17,7 +17,8 @@
 //! encode_block::<Half>(&[7; 12], &mut bits);
 //! bits.flip(3);
 //! let mut octets = [0; 12];
-//! let distance = read_block::<Half>(&bits, 0, &mut octets); // 1, and the octets are 7 again
+//! let distance = read_block::<Half>(&bits, 0, &mut octets);
+//! assert!(rt; distance == 1 && octets == [7; 12]);
 //! ```
 #![tactic(auto)]
 

@@ -116,9 +116,11 @@ pub(crate) const THREE_QUARTER_POINTS: [u8; 64] = [
 ];
 
 /// Half rate: 12 octets as 48 symbols of two bits.
+#[derive(Clone, Copy, Debug, PartialEq, Eq)]
 pub struct Half;
 
 /// Three-quarter rate: 18 octets as 48 symbols of three bits.
+#[derive(Clone, Copy, Debug, PartialEq, Eq)]
 pub struct ThreeQuarter;
 
 impl Rate for Half {

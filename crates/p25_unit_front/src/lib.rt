@@ -5,11 +5,11 @@
 //! identifier bits 48 to 111. A status symbol stands within the identifier, so in a unit as it is sent the identifier has
 //! the places 48 to 69 and 72 to 113.
 //!
-//! ```text
+//! ```
+//! let nid = Nid::from(0x2933); // NAC 293 hex, DUID 3
 //! let mut bare = BitBuf::new();
 //! put_front(&nid, &mut bare);
-//! let read = read_identifier(&sent, 0);
-//! let fixes = front_fixes(&sent, 0, &nid);
+//! assert!(rt; bare.len() == 112 && bare.field(48, 16) == 0x2933);
 //! ```
 //!
 //! Contracts see the front as `unit_front`, and what `IsFront` says of it by places as a law, `one_front`.

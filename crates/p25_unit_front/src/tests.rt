@@ -7,6 +7,14 @@ use p25_bch_nid::Nid;
 use p25_bits::BitBuf;
 use std::test::Fail;
 
+#[test]
+fn the_example_of_the_head(rt: HostRuntime) {
+    let nid = Nid::from(0x2933); // NAC 293 hex, DUID 3
+    let mut bare = BitBuf::new();
+    put_front(&nid, &mut bare);
+    assert!(rt; bare.len() == 112 && bare.field(48, 16) == 0x2933);
+}
+
 // The front of a terminator of NAC 0 as it is sent, with the status symbol 0 within its identifier.
 fn sent_front(wrong_sync: u64, wrong_identifier: u64) -> BitBuf
     ensures { length result ≡ 114 }

@@ -14,7 +14,7 @@ use p25_unit_front::read_identifier;
 
 /// What was read of the unit at a place with a sync, so that nothing is read twice while its bits come: its identifier and,
 /// of a packet, its header, or nothing yet. Contracts see by `IsBegun` that it is true of the bits from that place on.
-#[derive(Clone, Copy)]
+#[derive(Clone, Copy, Debug, PartialEq, Eq)]
 pub struct Begun {
     nid: Option<Nid>,
     head: Option<PacketHead>,

@@ -8,7 +8,7 @@ use p25_status::{BARE_BLOCK_LENGTH, SENT_BLOCK_LENGTH, Statuses};
 
 /// A unit and its status symbols. It is sound where a packet in it is whole and there is one symbol for each 72 of
 /// its sent bits.
-#[derive(Drop)]
+#[derive(Clone, Debug, Drop, PartialEq, Eq)]
 pub struct Frame {
     /// The unit.
     pub unit: Unit,

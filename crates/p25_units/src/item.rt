@@ -21,7 +21,7 @@ use p25_unit_front::front_fixes;
 use p25_voice_units::{VoiceUnit, read_voice_counted};
 
 /// A stretch of a stream. Places count bits from the beginning of the stream.
-#[derive(Drop)]
+#[derive(Clone, Debug, Drop, PartialEq, Eq)]
 pub enum Item {
     /// A unit none of whose fields fails, and its fixes.
     Whole {

@@ -3,13 +3,13 @@
 //! The first bit of a list is the first that is sent. A sent unit has a status symbol of two bits after every 70 of its
 //! bits; all places and lengths here count it in.
 //!
-//! ```text
+//! ```
+//! let unit = Unit::new(0x293, Body::Voice(VoiceUnit::End));
+//! let statuses = Statuses::filled(Status::default(), 2);
+//! let frame = Frame { unit, statuses };
 //! let mut sent = BitBuf::new();
 //! image(&frame, &mut sent);
-//! if let Need::Length(length) = need(&sent, 0) {
-//!     let again = read_unit(&sent, 0, length)?;
-//!     let fixes = fixes(&sent, 0, &again);
-//! }
+//! assert_eq!(rt; need(&sent, 0), Need::Length(144));
 //! ```
 //!
 //! Contracts see what the bits from a place on need as `need_of`, what a unit's bits read as as `unit_reading_of`, its bits

@@ -8,12 +8,23 @@ mod rows;
 
 use self::rows::{LARGEST, NEEDS, READINGS};
 use super::{
-    Begun, Field, FieldList, Frame, Item, Need, Status, Statuses, fixes, frame_length, image,
-    image_as, need, need_begun, read_unit, unit_item,
+    Begun, Body, Field, Frame, Item, Need, Status, Statuses, Unit, VoiceUnit, fixes, frame_length,
+    image, image_as, need, need_begun, read_unit, unit_item,
 };
 use p25_bits::BitBuf;
 use p25_status::weave;
 use std::process::Abort;
+
+#[tactic(auto, unfolding(crate::specs::Units::IsWholeBody, crate::specs::Units::frame_length_of, p25_voice_units::specs::Lengths::voice_length_of))]
+#[test]
+fn the_example_of_the_head(rt: HostRuntime) {
+    let unit = Unit::new(0x293, Body::Voice(VoiceUnit::End));
+    let statuses = Statuses::filled(Status::default(), 2);
+    let frame = Frame { unit, statuses };
+    let mut sent = BitBuf::new();
+    image(&frame, &mut sent);
+    assert_eq!(rt; need(&sent, 0), Need::Length(144));
+}
 
 // The first bits of some words, of which the last goes on, with the status symbol 0 throughout.
 fn sent(words: &[u64], len: usize) -> BitBuf {
@@ -60,15 +71,6 @@ fn damaged(words: &[u64], len: usize, places: &[usize]) -> BitBuf {
     bits
 }
 
-// Asserts that exactly these fields fail.
-fn assert_failing(rt: &impl Abort, failing: &FieldList, fields: &[Field]) {
-    assert_eq!(rt; failing.len(), fields.len());
-    for (i, field) in fields.iter().enumerate() {
-        assert!(rt; i < failing.len());
-        assert_eq!(rt; failing.get(i), *field);
-    }
-}
-
 // Asserts that an item is whole with so many fixes, or that exactly these fields fail.
 fn assert_item(rt: &impl Abort, item: &Item, wrong: u32, fields: &[Field]) {
     match item {
@@ -76,7 +78,7 @@ fn assert_item(rt: &impl Abort, item: &Item, wrong: u32, fields: &[Field]) {
         Item::Broken {
             fields: failing,
             ..
-        } => assert_failing(rt, failing, fields),
+        } => assert_eq!(rt; failing.as_slice(), fields),
         _ => assert!(rt; false),
     }
 }

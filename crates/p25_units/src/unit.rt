@@ -17,7 +17,7 @@ use p25_voice_units::VoiceUnit;
 use std::marker::Model;
 
 /// What a unit carries, by its kind.
-#[derive(Drop)]
+#[derive(Clone, Debug, Drop, PartialEq, Eq)]
 pub enum Body {
     /// A voice unit.
     Voice(VoiceUnit),
@@ -87,7 +87,7 @@ impl Body {
 }
 
 /// A unit: its network access code, which is below 4,096, and what it carries.
-#[derive(Drop)]
+#[derive(Clone, Debug, Drop, PartialEq, Eq)]
 pub struct Unit {
     nac: u16,
     body: Body,
@@ -102,6 +102,8 @@ impl Model for Unit {
     ghost view = { λ unit. record { nac = unit.nac; body = unit.body } };
 
     ghost invariant = { λ unit. unit.nac ≤ 4095 };
+
+    ghost inverse = { λ parts. record { nac = parts.nac; body = parts.body } };
 }
 
 impl Unit {

@@ -15,6 +15,16 @@ fn sent_block(numbers: &[u64; 4]) -> BitBuf
     bits
 }
 
+#[test]
+fn the_example_of_the_head(rt: HostRuntime) {
+    let mut bits = BitBuf::new();
+    encode_block::<Half>(&[7; 12], &mut bits);
+    bits.flip(3);
+    let mut octets = [0; 12];
+    let distance = read_block::<Half>(&bits, 0, &mut octets);
+    assert!(rt; distance == 1 && octets == [7; 12]);
+}
+
 // The block of zeros, at either rate: 49 nibbles 2.
 const ZEROS: [u64; 4] = [
     0x2222_2222_2222_2222,
