@@ -1,12 +1,12 @@
 -- The table of remainders is right at each place: an entry is made from its four bits by doubling, a remainder at each step, and
 -- the checker computes all of them. A word's remainder is the sum of those of its four-bit parts.
-use Rattle.std.proofs.Common.{◌≡◌, ℕ, zero, suc, ◌+◌, ◌*◌, ◌/◌, ◌%◌, ◌^◌, ◌<◌, ◌≤◌, ◌==◌, inl, inr, Bool, true, false, cond, nat_lt, slice_index_or, bit_xor, refl, ap, ap₂, sym, ◌∙◌, subst, arith, mod-eq_of_lt}
-use Rattle.std.specs.Int.Bits.{xor_assoc}
+use Rattle.std.proofs.Common.{◌≡◌, ℕ, zero, suc, ◌+◌, ◌*◌, ◌/◌, ◌%◌, ◌^◌, ◌<◌, ◌==◌, inl, inr, Bool, true, cond, nat_lt, slice_index_or, bit_xor, refl, ap, ap₂, sym, ◌∙◌, subst, arith}
+use Rattle.std.specs.Int.Bits.{xor_assoc, xor_zero_r}
 use Rattle.std.proofs.Math.Nat.{mul_assoc, mul_comm, pow-suc}
 use Rattle.std.proofs.lemmas.Bool.{cases_Bool, eqb-true, ltb-true, ltb-false}
 use Rattle.std.proofs.lemmas.Nat.{xor_comm, xor_lt}
 use Rattle.p25_bits.specs.Divisible.{IsDivisible, IsRemainder}
-use Rattle.p25_bits.proofs.DivisibleLaws.{IsDivisible-sum, IsRemainder-lower, remainder_kept, remainder_reduced, remainder_from_divisible, xor_apart}
+use Rattle.p25_bits.proofs.DivisibleLaws.{IsDivisible-sum, IsRemainder-lower, IsRemainder-unique, remainder_kept, remainder_reduced, remainder_from_divisible, xor_apart}
 use Rattle.p25_gf64.specs.ProductLaws.{all_below, all_below_at}
 use Rattle.p25_bch_nid.specs.Bch63FormLaws.{generator_degree}
 use Rattle.p25_bch_nid.specs.Nid.{generator}
@@ -100,3 +100,13 @@ clean-is word checks small is same =
     let joined : bit_xor (word / 2 ^ 47 * 2 ^ 47) checks ≡ word
     = xor_apart (word / 2 ^ 47) 47 checks is.lower ∙ ap (λ n. word / 2 ^ 47 * 2 ^ 47 + n) same ∙ whole in
     remainder_from_divisible generator 47 word (subst (IsDivisible generator) joined is.divisible)
+
+-- and a word with the remainder 0 has them
+pub checks-are : (word checks : ℕ) → word < 2 ^ 63 → IsRemainder generator 47 (word / 2 ^ 47 * 2 ^ 47) checks → IsRemainder generator 47 word 0 → checks ≡ word % 2 ^ 47
+checks-are word checks small is clean =
+    let low = word % 2 ^ 47 in
+    let fits : low < 2 ^ 47 = omega arith in
+    let none : bit_xor word 0 ≡ word = xor_zero_r word in
+    let whole : word / 2 ^ 47 * 2 ^ 47 + low ≡ word = omega arith in
+    let joined : bit_xor (word / 2 ^ 47 * 2 ^ 47) low ≡ bit_xor word 0 = xor_apart (word / 2 ^ 47) 47 low fits ∙ whole ∙ sym none in
+    IsRemainder-unique generator 47 (word / 2 ^ 47 * 2 ^ 47) checks low generator_degree is (record { lower = fits; divisible = subst (IsDivisible generator) (sym joined) clean.divisible })

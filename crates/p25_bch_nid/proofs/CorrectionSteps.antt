@@ -1,14 +1,22 @@
 -- Inverting the bits of the places that are wrong makes the word that was sent: the symbols of two bits add to zero exactly where the
 -- bits are the same.
-use Rattle.std.proofs.Common.{◌≡◌, ◌≢◌, ◌↔◌, ℕ, zero, suc, ◌+◌, ◌-◌, ◌%◌, ◌^◌, ◌<◌, ◌⊎◌, inl, inr, eqb, bit_xor, ◌≤◌, Bool, true, false, cond, not, IsTrue, List, [], ◌∷◌, length, get_or, refl, ap, ap₂, sym, ◌∙◌, subst, arith, lit<}
+use Rattle.std.proofs.Common.{◌≡◌, ◌≢◌, ◌↔◌, ℕ, zero, suc, ◌+◌, ◌-◌, ◌%◌, ◌^◌, ◌<◌, ◌⊎◌, inl, inr, eqb, bit_xor, ◌≤◌, Bool, true, false, cond, not, IsTrue, List, [], ◌∷◌, Option, length, get_or, refl, ap, ap₂, sym, ◌∙◌, subst, arith, lit<}
+use Rattle.std.specs.Bool.{beq}
 use Rattle.std.specs.Int.{bit_at}
+use Rattle.std.specs.Int.RustNames.{count_ones}
+use Rattle.std.proofs.Math.Nat.{mod-eq_of_lt}
+use Rattle.p25_code.specs.Readings.{IsReadAs}
+use Rattle.p25_code.proofs.ReadingLaws.{one_reading}
+use Rattle.p25_bch_nid.specs.Bch63Laws.{bch63_is_code}
+use Rattle.p25_bch_nid.specs.Bch63Readings.{bch63_reading_of, bch63_reads_as}
 use Rattle.std.specs.Int.Bits.{xor_zero_r}
 use Rattle.std.proofs.lemmas.Nat.Bits.{bit_at_xor, bit_at-lt}
 use Rattle.std.proofs.lemmas.Bool.{false≢true, cases_lt}
 use Rattle.std.proofs.lemmas.List.{ext_get_or, length-map}
 use Rattle.p25_bits.specs.Bits.{bits_of, field_of}
 use Rattle.p25_bits.specs.Distance.{distance_of}
-use Rattle.p25_bits.proofs.BitsLaws.{bits_of-field_of, field_of-lt, get_or-bits_of, length-bits_of}
+use Rattle.p25_bits.proofs.BitsLaws.{bits_of-field_of, field_of-lt, get_or-bits_of, length-bits_of, field_of-bits_of}
+use Rattle.p25_bits.proofs.DistanceLaws.{ones-xor}
 use Rattle.p25_gf64.specs.Field.{power}
 use Rattle.p25_gf64.specs.Symbol.{alpha}
 use Rattle.p25_bits.specs.Divisible.{IsDivisible, IsRemainder}
@@ -29,10 +37,10 @@ use Rattle.p25_bch_nid.specs.Bch63SymbolLaws.{distance_of_symbols, IsCode-63_41,
 use Rattle.p25_bch_nid.specs.Bch63FormLaws.{value_of-symbols, to_divisible, from_divisible}
 
 -- the generator divides a word's number exactly where the remainder is zero
-pub word_from_remainder : (word : List Bool) → length word ≡ 63 → IsRemainder generator 47 (field_of word) 0 → IsBch63 word
+word_from_remainder : (word : List Bool) → length word ≡ 63 → IsRemainder generator 47 (field_of word) 0 → IsBch63 word
 word_from_remainder word long is = from_divisible word long (divisible_from_remainder generator 47 (field_of word) is)
 
-pub remainder_from_word : (word : List Bool) → IsBch63 word → IsRemainder generator 47 (field_of word) 0
+remainder_from_word : (word : List Bool) → IsBch63 word → IsRemainder generator 47 (field_of word) 0
 remainder_from_word word is = record { lower = lit< tt; divisible = subst (IsDivisible generator) (sym (xor_zero_r (field_of word))) (to_divisible word is) }
 
 -- the symbols of bits, place by place
@@ -118,3 +126,29 @@ corrected_number received sent made number wrong long is is_made of_code exactly
   where
     same : bits_of 63 number ≡ received
     same = ap (bits_of 63) is ∙ ap (λ n. bits_of n (field_of received)) (sym long) ∙ bits_of-field_of received
+
+-- ---- words as numbers
+
+-- the number of the bits of a number
+pub number_back : (n : ℕ) → n < 2 ^ 63 → field_of (bits_of 63 n) ≡ n
+number_back n fits = field_of-bits_of 63 n ∙ mod-eq_of_lt fits
+
+-- bits whose number has the remainder 0 are a word
+pub word_of_number : (n : ℕ) → n < 2 ^ 63 → IsRemainder generator 47 n 0 → IsBch63 (bits_of 63 n)
+word_of_number n fits is = word_from_remainder (bits_of 63 n) (length-bits_of 63 n) (subst (λ m. IsRemainder generator 47 m 0) (sym (number_back n fits)) is)
+
+-- and the number of a word has it
+pub number_of_word : (n : ℕ) (word : List Bool) → n < 2 ^ 63 → bits_of 63 n ≡ word → IsBch63 word → IsRemainder generator 47 n 0
+number_of_word n word fits same is =
+    subst (λ m. IsRemainder generator 47 m 0) (ap field_of (sym same) ∙ number_back n fits) (remainder_from_word word is)
+
+-- in how many bits two numbers differ
+pub numbers_apart : (m n : ℕ) → m < 2 ^ 63 → n < 2 ^ 63 → count_ones (bit_xor m n) ≡ distance_of (bits_of 63 m) (bits_of 63 n)
+numbers_apart m n m_fits n_fits =
+    ap₂ (λ a b. count_ones (bit_xor a b)) (sym (number_back m m_fits)) (sym (number_back n n_fits))
+    ∙ ones-xor (bits_of 63 m) (bits_of 63 n) (length-bits_of 63 m ∙ sym (length-bits_of 63 n))
+
+-- an answer that meets the law of the reading is the reading
+pub read_as : (received : ℕ) (answer : Option (List Bool)) → IsReadAs beq IsBch63 11 (bits_of 63 received) answer → answer ≡ bch63_reading_of (bits_of 63 received)
+read_as received answer is =
+    one_reading bch63_is_code (bits_of 63 received) answer (bch63_reading_of (bits_of 63 received)) (length-bits_of 63 received) is (bch63_reads_as (bits_of 63 received))

@@ -1,19 +1,14 @@
--- What each way through the reader of identifiers answers: the number of a word has its NAC and DUID in its highest bits, a word
--- whose remainder is 0 is read as it is, and every other word as the code reads it.
+-- What each way through the reader of identifiers answers: the number of a word has its NAC and DUID in its highest bits, and a word
+-- is read as the code reads it.
 use Rattle.std.proofs.Common.{◌≡◌, ℕ, ◌/◌, ◌%◌, ◌^◌, ◌<◌, ◌≤◌, Bool, List, length, take, drop, Option, Some, None, option_map, ap, ap₂, sym, ◌∙◌, subst, arith, mod-eq_of_lt}
 use Rattle.std.specs.Prelude.{IsSome, IfSome}
 use Rattle.std.proofs.lemmas.Bool.{false≢true}
 use Rattle.std.proofs.lemmas.List.{take_at, drop_at, drop-take}
 use Rattle.p25_bits.specs.Bits.{bits_of, field_of, part}
 use Rattle.p25_bits.specs.Distance.{distance_of}
-use Rattle.p25_bits.specs.Divisible.{IsDivisible, IsRemainder}
 use Rattle.p25_bits.proofs.BitsLaws.{bits_of-add, length-bits_of, field_of-bits_of}
-use Rattle.p25_bits.proofs.DistanceLaws.{distance_of-same}
-use Rattle.p25_bits.proofs.DivisibleLaws.{divisible_from_remainder}
 use Rattle.p25_bch_nid.specs.declared.nid.Nid.{Nid}
-use Rattle.p25_bch_nid.specs.Nid.{generator}
 use Rattle.p25_bch_nid.specs.Bch63.{IsBch63}
-use Rattle.p25_bch_nid.specs.Bch63FormLaws.{from_divisible}
 use Rattle.p25_bch_nid.specs.Bch63Readings.{bch63_reading_of}
 use Rattle.p25_bch_nid.specs.NidReading.{identifier_of_word, nid_reading_of, IsNidReading}
 use Rattle.p25_bch_nid.proofs.NidReadingLaws.{IsNidReading-nid_reading_of, nid_reading_of-word}
@@ -48,19 +43,7 @@ identifier_made word nac duid None below nac_is duid_is some value = absurd (fal
 identifier_made word nac duid (Some n) below nac_is duid_is some value =
     ap Some (ap₂ (λ a b. (a, b)) (value.0 ∙ nac_is ∙ sym (nac_in word below)) (value.1 ∙ duid_is ∙ sym (duid_in word)))
 
--- a word without wrong bits is read as it is
-pub clean_reading : (bits : ℕ) → bits < 2 ^ 64 → IsRemainder generator 47 (bits / 2 ^ 1) 0 → nid_reading_of (bits_of 64 bits) ≡ Some (identifier_of_word (bits_of 63 (bits / 2 ^ 1)))
-clean_reading bits below is =
-    let half = bits / 2 ^ 1 in
-    let word = bits_of 63 half in
-    let fits : half < 2 ^ 63 = omega arith in
-    let number : field_of word ≡ half = field_of-bits_of 63 half ∙ mod-eq_of_lt fits in
-    let isw = from_divisible word (length-bits_of 63 half) (subst (IsDivisible generator) (sym number) (divisible_from_remainder generator 47 half is)) in
-    let long : 63 ≤ length (bits_of 64 bits) = omega (arith, length-bits_of 64 bits) in
-    let near : distance_of (take 63 (bits_of 64 bits)) word ≤ 11 = omega (arith, ap (λ w. distance_of w word) (first_bits bits), distance_of-same word) in
-    nid_reading_of-word (bits_of 64 bits) word long isw near
-
--- every other word is read as the code reads it
+-- a word is read as the code reads it
 pub code_reading : (bits : ℕ) (answer : Option (List Bool)) → answer ≡ bch63_reading_of (bits_of 63 (bits / 2 ^ 1)) → nid_reading_of (bits_of 64 bits) ≡ option_map identifier_of_word answer
 unfolding nid_reading_of
 code_reading bits answer is = ap (λ received. option_map identifier_of_word (bch63_reading_of received)) (first_bits bits) ∙ ap (option_map identifier_of_word) (sym is)

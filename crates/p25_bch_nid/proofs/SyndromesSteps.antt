@@ -1,6 +1,6 @@
 -- The table of values is right at each place: the checker computes each entry. A word's values are the sums of those of its
 -- four-bit parts, octet by octet.
-use Rattle.std.proofs.Common.{◌≡◌, ℕ, zero, suc, ◌+◌, ◌-◌, ◌*◌, ◌/◌, ◌%◌, ◌^◌, ◌<◌, ◌≤◌, ◌==◌, [], length, true, bit_xor, get_or, refl, ap, ap₂, sym, ◌∙◌, subst, arith}
+use Rattle.std.proofs.Common.{◌≡◌, ℕ, zero, suc, ◌+◌, ◌-◌, ◌*◌, ◌/◌, ◌%◌, ◌^◌, ◌<◌, ◌≤◌, ◌==◌, [], length, true, bit_xor, get_or, refl, ap, ap₂, sym, ◌∙◌, arith}
 use Rattle.std.proofs.lemmas.Bool.{eqb-true}
 use Rattle.std.proofs.lemmas.Nat.{xor_shr, xor_mod, xor_comm, pow_pos, mod-pow-add}
 use Rattle.std.proofs.Math.Nat.{pow-suc, mod-lt}
@@ -13,8 +13,7 @@ use Rattle.p25_gf64.specs.ProductLaws.{all_below, all_below_at}
 use Rattle.p25_gf64.specs.Symbol.{number, alpha}
 use Rattle.p25_gf64.specs.Gf64.{gf64}
 use Rattle.p25_gf64.specs.declared.symbol.Sym.{Sym}
-use Rattle.p25_gf64.proofs.FieldLaws.{add_zero, zero_add, zero_mul, mul_comm}
-use Rattle.p25_gf64.proofs.PowerLaws.{power-mul}
+use Rattle.p25_gf64.proofs.FieldLaws.{add_zero, zero_add, zero_mul}
 use Rattle.p25_gf64.proofs.SymbolLaws.{number_zero, number_alpha, number-add, number-mul, number-power}
 use Rattle.p25_bch_nid.specs.BitValueLaws.{bit_value, bit_value-append}
 use Rattle.p25_bch_nid.specs.RemainderValueLaws.{number_value, number_value-suc, number_value-zero, number_value-xor}

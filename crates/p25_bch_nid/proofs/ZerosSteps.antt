@@ -1,6 +1,6 @@
 -- The table of planes is right at each place: the checker computes each bit. The value of a polynomial at a point is the sum over
 -- its coefficients, bit by bit, and each coefficient is the sum of its high and its low three bits.
-use Rattle.std.proofs.Common.{◌≡◌, ℕ, zero, suc, ◌+◌, ◌-◌, ◌*◌, ◌/◌, ◌%◌, ◌^◌, ◌<◌, ◌≤◌, ◌==◌, ◌↔◌, Bool, IsTrue, eqb, List, [], ◌∷◌, true, bit_xor, w64, get_or, refl, ap, ap₂, sym, ◌∙◌, subst, arith}
+use Rattle.std.proofs.Common.{◌≡◌, ℕ, suc, ◌+◌, ◌-◌, ◌*◌, ◌/◌, ◌%◌, ◌^◌, ◌<◌, ◌==◌, ◌↔◌, Bool, IsTrue, eqb, List, [], ◌∷◌, true, bit_xor, w64, get_or, refl, ap, ap₂, sym, ◌∙◌, subst, arith}
 use Rattle.std.specs.Int.{bit_at, bit_not}
 use Rattle.std.specs.Int.Bits.{bit_or}
 use Rattle.std.proofs.lemmas.Bool.{eqb-true, eq-eqb}

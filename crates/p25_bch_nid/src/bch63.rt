@@ -4,7 +4,7 @@ ghost use Rattle.p25_bch_nid.specs.Bch63.{IsBch63};
 ghost use Rattle.p25_bch_nid.specs.Bch63Laws.{bch63_is_code};
 ghost use Rattle.p25_bch_nid.specs.Bch63Readings.{bch63_reading_of, bch63_reads_as};
 
-use crate::correction::{corrected, distance, is_word};
+use crate::correction::nearest;
 use p25_bits::{number_of, number_remainder, put_number};
 use p25_code::{BlockCode, Reading};
 
@@ -66,21 +66,16 @@ impl BlockCode for Bch63 {
         put_number(remainder, checks);
     }
 
-    // A word without wrong bits is answered from its remainder by the generator. Of any other the wrong bits are inverted, and
-    // the word that this makes is tested again.
     fn read(word: &mut [bool]) -> Reading {
-        if is_word(word) {
-            return Reading::Found { fixes: 0 };
+        let received = number_of(word);
+        match nearest(received) {
+            Some(sent) => {
+                put_number(sent, word);
+                Reading::Found {
+                    fixes: (received ^ sent).count_ones(),
+                }
+            }
+            None => Reading::Beyond,
         }
-        let sent = corrected(word);
-        let fixes = distance(word, &sent);
-        if fixes > 11 {
-            return Reading::Beyond;
-        }
-        if !is_word(&sent) {
-            return Reading::Beyond;
-        }
-        word.copy_from_slice(&sent);
-        Reading::Found { fixes }
     }
 }

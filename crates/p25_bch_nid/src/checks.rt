@@ -1,6 +1,6 @@
 //! The check bits of an identifier, by a table.
 
-ghost use Rattle.std.specs.Prelude.{◌≡◌, ◌+◌, ◌*◌, ◌^◌, ◌<◌, true};
+ghost use Rattle.std.specs.Prelude.{◌≡◌, ◌+◌, ◌*◌, ◌^◌, ◌<◌, ◌↔◌, IsTrue};
 ghost use Rattle.p25_bits.specs.Divisible.{IsRemainder};
 ghost use Rattle.p25_bch_nid.specs.Nid.{generator};
 
@@ -94,7 +94,7 @@ fn remainder_at(place: usize, bits: u64) -> u64
 // Answers whether a word of 63 bits has the check bits of its first 16.
 pub(crate) fn is_clean(word: u64) -> bool
     requires { word < 2 ^ 63 }
-    ensures { result ≡ true → IsRemainder generator 47 word 0 }
+    ensures { IsTrue result ↔ IsRemainder generator 47 word 0 }
 {
     check_bits(word >> 47) == word % (1 << 47)
 }

@@ -1,41 +1,43 @@
-//! Words of bits corrected. The errors of bits are bits, so they are known once the wrong places are.
+//! Words of bits corrected, as numbers. The errors of bits are bits, so they are known once the wrong places are.
 
-ghost use Rattle.std.specs.Prelude.{◌≡◌, ◌↔◌, ◌≤◌, Bool, List, IsTrue, length};
+ghost use Rattle.std.specs.Prelude.{◌≡◌, ◌≤◌, ◌<◌, ◌^◌, Bool, List, IfSome, option_map};
+ghost use Rattle.p25_bits.specs.Bits.{bits_of};
 ghost use Rattle.p25_bits.specs.Distance.{distance_of};
 ghost use Rattle.p25_bch_nid.specs.Bch63.{IsBch63};
+ghost use Rattle.p25_bch_nid.specs.Bch63Readings.{bch63_reading_of};
 
-use crate::bch63::GENERATOR;
+use crate::checks::is_clean;
 use crate::syndromes::syndromes_of;
 use crate::zeros::zeros_of;
-use p25_bits::{number_of, number_remainder, put_number};
 use p25_reed_solomon::wrong_locator;
 
-// Answers whether 63 bits are a word of the code: whether the generator divides them.
-pub(crate) fn is_word(word: &[bool]) -> bool
-    requires { length word.now ≡ 63 }
-    ensures { IsTrue result ↔ IsBch63 word.now }
+// Answers the word of the code within 11 bits of a received one of 63 bits, and None exactly where there is none. A word without wrong
+// bits is answered from its check bits. Of any other the wrong bits are inverted, and the word that this makes is tested again.
+pub(crate) fn nearest(received: u64) -> Option<u64>
+    requires { received < 2 ^ 63 }
+    ensures reading { option_map (bits_of 63) result ≡ bch63_reading_of (bits_of 63 received) }
+    ensures fits { IfSome result (λ sent. sent < 2 ^ 63) }
 {
-    number_remainder(number_of(word), GENERATOR, 47) == 0
-}
-
-// Answers in how many places two lists of 63 bits differ.
-pub(crate) fn distance(a: &[bool], b: &[bool]) -> u32
-    requires a { length a.now ≡ 63 }
-    requires b { length b.now ≡ 63 }
-    ensures { result ≡ distance_of a.now b.now }
-{
-    (number_of(a) ^ number_of(b)).count_ones()
+    if is_clean(received) {
+        return Some(received);
+    }
+    let sent = corrected(received);
+    let fixes = (received ^ sent).count_ones();
+    if fixes > 11 {
+        return None;
+    }
+    if !is_clean(sent) {
+        return None;
+    }
+    Some(sent)
 }
 
 // Answers a word with its wrong bits inverted: wherever at most 11 bits differ from a word of the code, that word.
-pub(crate) fn corrected(word: &[bool]) -> [bool; 63]
-    requires { length word.now ≡ 63 }
-    ensures sent { (sent : List Bool) → IsBch63 sent → distance_of word.now sent ≤ 11 → result ≡ sent }
-    ensures full { length result ≡ 63 }
+fn corrected(received: u64) -> u64
+    requires { received < 2 ^ 63 }
+    ensures sent { (sent : List Bool) → IsBch63 sent → distance_of (bits_of 63 received) sent ≤ 11 → bits_of 63 result ≡ sent }
+    ensures fits { result < 2 ^ 63 }
 {
-    let number = number_of(word);
-    let locator = wrong_locator(&syndromes_of(number), 22, 63);
-    let mut sent = [false; 63];
-    put_number(number ^ zeros_of(&locator), &mut sent);
-    sent
+    let locator = wrong_locator(&syndromes_of(received), 22, 63);
+    received ^ zeros_of(&locator)
 }

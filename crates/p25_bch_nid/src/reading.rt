@@ -6,11 +6,8 @@ ghost use Rattle.p25_bits.specs.Distance.{distance_of};
 ghost use Rattle.p25_bch_nid.specs.Bch63.{IsBch63};
 ghost use Rattle.p25_bch_nid.specs.NidReading.{IsNidReading, identifier_of_word, nid_reading_of};
 
-use crate::bch63::Bch63;
-use crate::checks::is_clean;
+use crate::correction::nearest;
 use crate::nid::Nid;
-use p25_bits::{number_of, put_number};
-use p25_code::{Reading, read_received};
 
 /// Answers the identifier of 64 received bits, the first bit highest: the NAC and the DUID with which the word of the BCH
 /// code (63,16) begins that lies within 11 bits of the first 63. `None` comes exactly where no word of the code lies so
@@ -23,15 +20,9 @@ pub fn read_nid(bits: u64) -> Option<Nid>
     ensures sent { (word : List Bool) → IsBch63 word → distance_of (take 63 (bits_of 64 bits)) word ≤ 11
         → option_map (λ nid. (nid.nac, nid.duid)) result ≡ Some (identifier_of_word word) }
 {
-    let received = bits >> 1;
-    if is_clean(received) {
-        return identifier_in(received);
-    }
-    let mut word = [false; 63];
-    put_number(received, &mut word);
-    match read_received::<Bch63>(&mut word) {
-        Reading::Found { .. } => identifier_in(number_of(&word)),
-        Reading::Beyond => None,
+    match nearest(bits >> 1) {
+        Some(sent) => identifier_in(sent),
+        None => None,
     }
 }
 

@@ -53,6 +53,15 @@ module _ (n : ℕ) (erased : List Bool) where
   unfolding times_erasures
   times_erasures-kept j f none = cond-false (is_erased erased j) (times_linear gf64 (element_of n j) (times_erasures n erased j f)) (times_erasures n erased j f) none
 
+  -- where no place is erased, nothing changes
+  pub times_erasures-without : (m : ℕ) (f : ℕ → Sym) → erased_below erased m ≡ 0 → times_erasures n erased m f ≡ f
+  times_erasures-without zero f none = times_erasures-none f
+  times_erasures-without (suc m) f none =
+      elim (cases_Bool (is_erased erased m)) [
+        | inl here ↦ absurd (omega (arith, erased_below-gone erased m here, none))
+        | inr kept ↦ times_erasures-kept m f kept ∙ times_erasures-without m f (sym (erased_below-kept erased m kept) ∙ none)
+      ]
+
   -- ---- as a polynomial
 
   pub short_times_erasures : (m j : ℕ) (f : ℕ → Sym) → IsShort gf64 m f → IsShort gf64 (m + erased_below erased j) (times_erasures n erased j f)

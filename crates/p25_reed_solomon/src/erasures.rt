@@ -30,6 +30,9 @@ pub(crate) fn multiply_by_erasures(polynomial: &mut [Sym], erased: &[bool])
     ensures { (k : ℕ) → k < 32 → coefficient gf64 polynomial.new k
         ≡ times_erasures (length erased.now) erased.now (length erased.now) (coefficient gf64 polynomial.old) k }
 {
+    if count_erasures(erased) == 0 {
+        return;
+    }
     for j in 0..erased.len() {
         if erased[j] {
             multiply_by_linear(polynomial, Sym::pow_alpha((erased.len() - 1 - j) as u32));

@@ -3,9 +3,13 @@ use Rattle.p25_gf64.specs.declared.symbol.Sym.{Sym}
 use Rattle.p25_gf64.specs.Gf64.{gf64}
 use Rattle.p25_algebra.specs.Series.{coefficient, times_linear}
 use Rattle.p25_reed_solomon.specs.Locator.{times_erasures}
-use Rattle.p25_reed_solomon.proofs.ErasuresLaws.{times_erasures-none, times_erasures-gone, times_erasures-kept, times_linear_agree}
+use Rattle.p25_reed_solomon.proofs.ErasuresLaws.{times_erasures-without, times_erasures-none, times_erasures-gone, times_erasures-kept, times_linear_agree}
 use Rattle.p25_reed_solomon.proofs.erasures.multiply_by_erasures.Goals as goal
 use Rattle.p25_reed_solomon.proofs.erasures.multiply_by_erasures.Goals.{then-erased-j, else-erased-j}
+
+pub returns-then-count_erasures-eq0 : goal.returns-then-count_erasures-eq0
+returns-then-count_erasures-eq0 c = λ k low.
+    sym (ap (λ (g : ℕ → Sym). g k) (times_erasures-without (length c.args.erased.now) c.args.erased.now (length c.args.erased.now) (coefficient gf64 c.args.polynomial.now) (omega (arith, c.count_erasures.ensures.count, c.if-count_erasures-eq0.true))))
 
 pub loop-j-init : goal.loop-j-init
 loop-j-init c = λ k low. sym (ap (λ (g : ℕ → Sym). g k) (times_erasures-none (length c.args.erased.now) c.args.erased.now (coefficient gf64 c.args.polynomial.now)))
