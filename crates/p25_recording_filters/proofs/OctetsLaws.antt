@@ -9,7 +9,7 @@ use Rattle.p25_bits.proofs.BitsLaws.{field_of-bits_of, take-bits_of, drop-bits_o
 use Rattle.p25_bits.proofs.NumbersLaws.{bits_of-field, numbers_from-zero, numbers_from-suc, numbers_from-add, numbers_from-append, numbers_from-take}
 use Rattle.p25_bits.proofs.OctetNumbersLaws.{pow_256}
 use Rattle.p25_recording_filters.specs.Commands.{unfilled}
-use Rattle.p25_recording_filters.specs.ItemOutputs.{whole_octets}
+use Rattle.p25_units.specs.Units.{whole_octets}
 
 -- the whole octets of joined bits
 pub whole_octets-append : (bits rest : List Bool) → whole_octets bits ++ whole_octets (drop (8 * (length bits / 8)) bits ++ rest) ≡ whole_octets (bits ++ rest)

@@ -25,7 +25,8 @@ use Rattle.p25_stations.specs.declared.step.Step.{Step}
 use Rattle.p25_script.specs.Script.{event_of}
 use Rattle.p25_tool.specs.StationRules.{station_rules, told_step}
 use Rattle.p25_recording_filters.specs.Commands.{changed_reporting, check_reporting, show_reporting, CallsParts, calls_reporting}
-use Rattle.p25_tool.specs.Outputs.{closing_line, ending_by, image_octets, step_line, long_closing_line}
+use Rattle.p25_units.specs.Units.{image_octets}
+use Rattle.p25_tool.specs.Outputs.{closing_line, ending_by, step_line, long_closing_line}
 use Rattle.p25_recording_filters.specs.ItemOutputs.{check_ending, check_line, faults_in, faulty, units_in, soft_output}
 use Rattle.p25_calls.specs.Taking.{fresh_caller}
 use Rattle.p25_fragments.specs.LongState.{LongState, first_long}

@@ -12,7 +12,7 @@ use Rattle.p25_tool.specs.declared.build.Build.{Build}
 use Rattle.p25_tool.specs.Buildings.{build_rules}
 use Rattle.p25_duplex_script.specs.DuplexLines.{duplex_by_words, duplex_event_of}
 use Rattle.p25_tool.specs.DuplexRules.{duplex_rules, told_duplex}
-use Rattle.p25_tool.specs.Outputs.{image_octets}
+use Rattle.p25_units.specs.Units.{image_octets}
 use Rattle.p25_tool.specs.StationRules.{station_rules, told_step}
 use Rattle.p25_fragments.specs.LongState.{LongState}
 use Rattle.p25_fragment_script.specs.LongScript.{long_event_by_words, long_event_of}

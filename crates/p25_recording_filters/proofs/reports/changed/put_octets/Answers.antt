@@ -1,7 +1,7 @@
 use Rattle.std.proofs.Common.{◌≡◌, ℕ, ◌+◌, ◌-◌, ◌*◌, ◌/◌, List, ◌++◌, length, drop, ap, ap₂, sym, ◌∙◌, arith, append_assoc, append-nil}
 use Rattle.p25_bits.specs.Numbers.{octets_from}
 use Rattle.p25_bits.proofs.NumbersLaws.{numbers_from-zero}
-use Rattle.p25_recording_filters.specs.ItemOutputs.{whole_octets}
+use Rattle.p25_units.specs.Units.{whole_octets}
 use Rattle.p25_recording_filters.proofs.OctetsLaws.{octets-more, octets-all}
 use Rattle.p25_recording_filters.proofs.reports.changed.put_octets.Goals as goal
 
