@@ -1,7 +1,6 @@
 -- The octets of units: built from lines, repaired, and under another network access code.
-use Rattle.std.specs.Prelude.{ℕ, ◌/◌, ℤ, negsuc, Bool, if◌then◌else◌, List, [], ◌∷◌, length, take, replicate, Result, Ok, Err}
+use Rattle.std.specs.Prelude.{ℕ, ℤ, negsuc, Bool, if◌then◌else◌, List, [], ◌∷◌, take, Result, Ok, Err}
 use Rattle.p25_bits.specs.Bits.{octet_bits}
-use Rattle.p25_bits.specs.Numbers.{octets_from}
 use Rattle.p25_line.specs.declared.fault.LineFault.{LineFault}
 use Rattle.p25_line.specs.declared.fault.LineFault.TheVariants.{Long, Form, Kind, Key, Value}
 use Rattle.p25_status.specs.declared.symbols.Status.{Status}
@@ -10,8 +9,7 @@ use Rattle.p25_stream.specs.Repeats.{bridged, is_whole_item, repaired}
 use Rattle.p25_text.specs.Grammar.{read_line_of}
 use Rattle.p25_units.specs.Items.{covered}
 use Rattle.p25_units.specs.UnitParts.{UnitParts}
-use Rattle.p25_units.specs.Units.{frame_length_of, image_of}
-use Rattle.p25_units.specs.declared.frame.Frame.{Frame}
+use Rattle.p25_units.specs.Units.{image_octets, whole_octets}
 use Rattle.p25_units.specs.declared.item.Item.{Item}
 
 -- -3: no whole unit begins there; -4: a network access code has 12 bits; -5: a status symbol is 0 to 3
@@ -32,20 +30,9 @@ fault_answer Kind = negsuc 12
 fault_answer Key = negsuc 13
 fault_answer Value = negsuc 14
 
--- the octets that bits fill, most significant bit first
-abbrev pub octets_filled : List Bool → List ℕ
-octets_filled bits = octets_from (length bits / 8) bits
-
--- the frame of a unit with one status symbol everywhere, and the octets of its image
-abbrev pub unit_frame : Status → UnitParts → Frame
-unit_frame status unit = record { unit = unit; statuses = replicate (frame_length_of unit / 72) status }
-
-abbrev pub unit_octets : Status → UnitParts → List ℕ
-unit_octets status unit = octets_filled (image_of (unit_frame status unit))
-
 -- the octets of the unit that a line is read as, with one status symbol everywhere, or why the line is refused
 abbrev pub unit_built : Status → Result UnitParts LineFault → Result (List ℕ) ℤ
-unit_built status (Ok unit) = Ok (unit_octets status unit)
+unit_built status (Ok unit) = Ok (image_octets status unit)
 unit_built status (Err fault) = Err (fault_answer fault)
 
 abbrev pub built : Status → List ℕ → Result (List ℕ) ℤ
@@ -54,7 +41,7 @@ built status line = unit_built status (read_line_of line)
 -- the octets of a whole unit that some items begin with, by a change of the bits that it covers
 abbrev pub first_changed : (Item → List Bool → List Bool) → List Item → List Bool → Result (List ℕ) ℤ
 first_changed change [] bits = Err no_unit
-first_changed change (item ∷ items) bits = if is_whole_item item then Ok (octets_filled (change item (take (covered item) bits))) else Err no_unit
+first_changed change (item ∷ items) bits = if is_whole_item item then Ok (whole_octets (change item (take (covered item) bits))) else Err no_unit
 
 -- the unit that octets begin with, repaired
 abbrev pub unit_repaired : List ℕ → Result (List ℕ) ℤ

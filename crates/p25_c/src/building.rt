@@ -2,20 +2,20 @@
 
 ghost use Rattle.std.specs.Prelude.{◌≡◌, ◌*◌, ◌<◌, ◌≤◌, ◌++◌, pos, Ok, Err, length, drop};
 ghost use Rattle.p25_bits.specs.Numbers.{octets_from};
-ghost use Rattle.p25_c.specs.Building.{built, fault_answer, octets_filled, unit_bridged, unit_octets, unit_repaired, wrong_nac, wrong_status};
+ghost use Rattle.p25_c.specs.Building.{built, fault_answer, unit_bridged, unit_repaired, wrong_nac, wrong_status};
 ghost use Rattle.p25_c.specs.Rooms.{IsWriting};
 ghost use Rattle.p25_status.specs.Status.{status_number};
 ghost use Rattle.p25_status.specs.declared.symbols.Status.{Status as Symbol};
 ghost use Rattle.p25_stream.specs.Repeats.{is_whole_item};
-ghost use Rattle.p25_units.specs.Units.{IsSendableBody};
+ghost use Rattle.p25_units.specs.Units.{IsSendableBody, image_octets, whole_octets};
 
 use crate::room::NO_ROOM;
 use p25_bits::BitBuf;
 use p25_line::LineFault;
-use p25_status::{SENT_BLOCK_LENGTH, Status, Statuses};
+use p25_status::Status;
 use p25_stream::{bridge_item, find_item, repair_item};
 use p25_text::read_line;
-use p25_units::{Frame, Item, Unit, frame_length, image};
+use p25_units::{Frame, Item, Unit, image};
 
 // No whole unit begins there; a network access code has 12 bits; a status symbol is 0 to 3.
 const NO_UNIT: i32 = -3;
@@ -66,17 +66,16 @@ fn fault_answer(fault: LineFault) -> i32
 // Writes the octets of a unit's image with one status symbol everywhere. No slot of a packet is Bad.
 fn write_unit(unit: Unit, status: Status, octets: &mut [u8]) -> i32
     requires { IsSendableBody unit.body }
-    ensures { IsWriting (Ok (unit_octets status unit)) octets.old octets.new result }
+    ensures { IsWriting (Ok (image_octets status unit)) octets.old octets.new result }
 {
-    let statuses = Statuses::filled(status, frame_length(&unit) / SENT_BLOCK_LENGTH);
     let mut bits = BitBuf::new();
-    image(&Frame { unit, statuses }, &mut bits);
+    image(&Frame::filled(unit, status), &mut bits);
     write_bits(&bits, octets)
 }
 
 // Writes the octets that bits fill where there is room for them, and answers how many.
 fn write_bits(bits: &BitBuf, room: &mut [u8]) -> i32
-    ensures { IsWriting (Ok (octets_filled bits.now)) room.old room.new result }
+    ensures { IsWriting (Ok (whole_octets bits.now)) room.old room.new result }
 {
     let count = bits.len() / 8;
     if count > room.len() {

@@ -155,3 +155,6 @@ fn kind(found: &Item) -> u8
         Item::Cut { .. } => 5,
     }
 }
+
+#[cfg(test)]
+mod tests;

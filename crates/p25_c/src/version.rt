@@ -3,7 +3,7 @@
 ghost use Rattle.std.specs.Prelude.{◌≡◌};
 ghost use Rattle.p25_c.specs.Version.{release_number};
 
-// The numbers of the release: 1.0 is 1, 0 and 0.
+// The numbers of the release: 1.0 is 1, 0 and 0. The file RELEASE says it too, and bindings/test compares the two.
 const MAJOR: u32 = 1;
 
 const MINOR: u32 = 0;

@@ -9,7 +9,7 @@ use Rattle.p25_bits.proofs.BitsLaws.{field_of-bits_of, take-bits_of, drop-bits_o
 use Rattle.p25_bits.proofs.NumbersLaws.{bits_of-field, numbers_from-zero, numbers_from-suc, numbers_from-add, numbers_from-append, numbers_from-take}
 use Rattle.p25_bits.proofs.OctetNumbersLaws.{pow_256}
 use Rattle.p25_recording_filters.specs.Commands.{unfilled}
-use Rattle.p25_recording_filters.specs.ItemOutputs.{whole_octets}
+use Rattle.p25_units.specs.Units.{whole_octets}
 
 -- of a text that is written octet by octet: no octet yet, and some more
 pub octets-none : (text : List ℕ) (bits : List Bool) → text ≡ text ++ octets_from 0 bits

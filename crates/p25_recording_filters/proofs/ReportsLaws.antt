@@ -6,7 +6,8 @@ use Rattle.p25_units.specs.Items.{covered}
 use Rattle.p25_stream.specs.Repeats.{is_whole_item}
 use Rattle.p25_recording_filters.specs.declared.reports.show.Show.{Show}
 use Rattle.p25_recording_filters.specs.declared.reports.check.Check.{Check}
-use Rattle.p25_recording_filters.specs.ItemOutputs.{changed_bits, check_line, faults_in, faulty, shown, units_in, whole_octets}
+use Rattle.p25_units.specs.Units.{whole_octets}
+use Rattle.p25_recording_filters.specs.ItemOutputs.{changed_bits, check_line, faults_in, faulty, shown, units_in}
 use Rattle.p25_recording_filters.specs.Commands.{ChangedParts, change_of, changed_reporting, check_reporting, show_reporting, unfilled}
 use Rattle.p25_recording_filters.specs.Reports.{Reporting, report_behind, reported}
 use Rattle.p25_recording_filters.proofs.OctetsLaws.{whole_octets-append, whole_octets-few}

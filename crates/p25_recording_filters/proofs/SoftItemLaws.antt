@@ -27,7 +27,8 @@ use Rattle.p25_filter.specs.declared.ending.Ending.TheVariants.{Done}
 use Rattle.p25_filter.specs.Futures.{IsClosed, IsIdle, NextPiece, Progress}
 use Rattle.p25_filter.proofs.LinesLaws.{Contains-none}
 use Rattle.p25_recording_filters.specs.Commands.{unfilled}
-use Rattle.p25_recording_filters.specs.ItemOutputs.{changed_bits, whole_octets}
+use Rattle.p25_units.specs.Units.{whole_octets}
+use Rattle.p25_recording_filters.specs.ItemOutputs.{changed_bits}
 use Rattle.p25_recording_filters.specs.SoftLevels.{filled, grouped, item_softened, octet_level, scanned}
 use Rattle.p25_recording_filters.specs.Softs.{IsHeardAmong, IsHolding, PutSoftItem, SoftParts, first_level, is_even_packet, item_levels, soft_future, soft_future_by, soft_written}
 use Rattle.p25_recording_filters.proofs.OctetsLaws.{whole_octets-append, whole_octets-few}

@@ -7,7 +7,8 @@ use Rattle.p25_recording_filters.specs.declared.reports.show.Show.{Show}
 use Rattle.p25_recording_filters.specs.declared.reports.changed.Change.{Change}
 use Rattle.p25_recording_filters.specs.declared.reports.changed.Change.TheVariants.{Repaired, Bridged}
 use Rattle.p25_calls.specs.Taking.{CallerParts, HasSoundPending, answer_to, behind_item, open_call}
-use Rattle.p25_recording_filters.specs.ItemOutputs.{whole_octets, shown, faulty, call_line, calls_line, check_line, check_ending}
+use Rattle.p25_units.specs.Units.{whole_octets}
+use Rattle.p25_recording_filters.specs.ItemOutputs.{shown, faulty, call_line, calls_line, check_line, check_ending}
 use Rattle.p25_recording_filters.specs.Reports.{Reporting}
 
 abbrev pub show_reporting : Reporting Show

@@ -1,7 +1,7 @@
 -- What is written of the items of a recording.
-use Rattle.std.specs.Prelude.{ℕ, ◌+◌, ◌/◌, Bool, if◌then◌else◌, ◌==◌, List, [], ◌∷◌, ◌++◌, length, map, take, drop, codes, decimal}
-use Rattle.p25_bits.specs.Numbers.{octets_from}
+use Rattle.std.specs.Prelude.{ℕ, ◌+◌, Bool, if◌then◌else◌, ◌==◌, List, [], ◌∷◌, ◌++◌, map, take, drop, codes, decimal}
 use Rattle.p25_units.specs.Items.{covered}
+use Rattle.p25_units.specs.Units.{whole_octets}
 use Rattle.p25_units.specs.declared.item.Item.{Item}
 use Rattle.p25_stream.specs.Items.{items_by}
 use Rattle.p25_soft.specs.Levels.{hard_bits}
@@ -12,10 +12,6 @@ use Rattle.p25_calls.specs.declared.call.Call.{Call}
 use Rattle.p25_filter.specs.declared.ending.Ending.{Ending}
 use Rattle.p25_filter.specs.declared.ending.Ending.TheVariants.{Done, Found}
 use Rattle.p25_recording_filters.specs.SoftLevels.{item_softened, octet_level, scanned}
-
--- the octets that bits fill, most significant bit first
-abbrev pub whole_octets : List Bool → List ℕ
-whole_octets bits = octets_from (length bits / 8) bits
 
 -- the text of an item and the end of its line
 abbrev pub shown : Item → List ℕ

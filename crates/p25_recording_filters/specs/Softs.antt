@@ -11,7 +11,8 @@ use Rattle.p25_soft.specs.Softened.{IsHeard}
 use Rattle.p25_filter.specs.Futures.{Future}
 use Rattle.p25_filter.specs.declared.ending.Ending.TheVariants.{Done}
 use Rattle.p25_recording_filters.specs.Commands.{unfilled}
-use Rattle.p25_recording_filters.specs.ItemOutputs.{changed_bits, whole_octets}
+use Rattle.p25_units.specs.Units.{whole_octets}
+use Rattle.p25_recording_filters.specs.ItemOutputs.{changed_bits}
 use Rattle.p25_recording_filters.specs.SoftLevels.{grouped, item_softened, octet_level, scanned}
 
 -- the bits that a scanner holds, the levels from that of a whole group before them on, and the bits that are kept back

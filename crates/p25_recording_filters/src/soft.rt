@@ -6,7 +6,7 @@ ghost use Rattle.p25_stream.specs.Scan.{given};
 ghost use Rattle.p25_units.specs.Items.{covered, place_of};
 ghost use Rattle.p25_soft.specs.Levels.{hard_bits};
 ghost use Rattle.p25_recording_filters.specs.Commands.{unfilled};
-ghost use Rattle.p25_recording_filters.specs.ItemOutputs.{whole_octets};
+ghost use Rattle.p25_units.specs.Units.{whole_octets};
 ghost use Rattle.p25_recording_filters.specs.SoftLevels.{filled, item_softened};
 ghost use Rattle.p25_recording_filters.specs.Softs.{IsHeardAmong, IsHolding, PutSoftItem, first_level, fresh_soft, is_even_packet};
 

@@ -11,7 +11,7 @@ ghost use Rattle.p25_stream.specs.Items.{first_item, sync_place};
 use crate::beginning::{BEHIND, Beginning};
 use p25_bits::BitBuf;
 use p25_status::is_sync_window;
-use p25_units::{Begun, Field, Item, Need, need_begun, set_unit_item};
+use p25_units::{Begun, Field, Item, Need, need_synced, set_unit_item};
 
 // The most bits of a gap.
 const GAP_MOST: usize = 4_096;
@@ -115,7 +115,7 @@ fn beginning_at_sync(held: &BitBuf, begun: Begun) -> Beginning
     ensures { IsBeginning result held.now }
 {
     let mut begun = begun;
-    match need_begun(held, 0, &mut begun) {
+    match need_synced(held, 0, &mut begun) {
         Need::NoSync => Beginning::NoUnit(Field::Sync),
         Need::More(count) => Beginning::Waiting(count, begun),
         Need::Length(count) => Beginning::Ready(count, begun),

@@ -14,7 +14,7 @@ use Rattle.p25_text.specs.Grammar.{read_line_of, text_of}
 use Rattle.p25_text.proofs.GrammarLaws.{text_of-read_line}
 use Rattle.p25_units.specs.Fixes.{fixes_of}
 use Rattle.p25_units.specs.UnitParts.{UnitParts}
-use Rattle.p25_units.specs.Units.{IsSendableUnit, IsSoundFrame, frame_length_of, image_of}
+use Rattle.p25_units.specs.Units.{IsSendableUnit, IsSoundFrame, filled_frame, frame_length_of, image_octets, image_of}
 use Rattle.p25_units.specs.declared.frame.Frame.{Frame}
 use Rattle.p25_units.specs.declared.item.Item.{Item}
 use Rattle.p25_units.specs.declared.item.Item.TheVariants.{Whole}
@@ -29,7 +29,7 @@ use Rattle.p25_filter.specs.Lines.{closing_by, lines_in, refusal_in}
 use Rattle.p25_filter.proofs.RulesLaws.{read_of-err, read_of-nil, read_of-ok}
 use Rattle.p25_tool.specs.Built.{AcceptedAreRead, BuildsUnits, LinesAreTexts, bits_built, units_of, wholes_built}
 use Rattle.p25_tool.specs.declared.command.Command.TheVariants.{Build}
-use Rattle.p25_tool.specs.Outputs.{filled_frame, image_octets, output_by}
+use Rattle.p25_tool.specs.Outputs.{output_by}
 use Rattle.p25_recording_filters.specs.ItemOutputs.{shown}
 use Rattle.p25_tool.specs.Recorded.{IsRecording}
 use Rattle.p25_tool.proofs.RecordedLaws.{items-recording, octet_bits-whole, shows-units, whole-image}

@@ -22,7 +22,8 @@ use Rattle.p25_stations.specs.WorldState.{first_world}
 use Rattle.p25_script.specs.Script.{event_of}
 use Rattle.p25_tool.specs.StationRules.{station_rules}
 use Rattle.p25_recording_filters.specs.Commands.{changed_reporting, check_reporting, show_reporting, CallsParts, calls_reporting}
-use Rattle.p25_tool.specs.Outputs.{closing_line, command_future, ending_by, image_octets, long_closing_line, step_line}
+use Rattle.p25_units.specs.Units.{image_octets}
+use Rattle.p25_tool.specs.Outputs.{closing_line, command_future, ending_by, long_closing_line, step_line}
 use Rattle.p25_recording_filters.specs.ItemOutputs.{check_ending, check_line, faults_in, faulty, units_in, soft_output}
 use Rattle.p25_calls.specs.Taking.{fresh_caller}
 use Rattle.p25_fragments.specs.LongState.{first_long}

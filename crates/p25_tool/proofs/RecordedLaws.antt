@@ -10,7 +10,7 @@ use Rattle.p25_bits.specs.Bits.{octet_bits}
 use Rattle.p25_bits.proofs.NumbersLaws.{number_bits-numbers_from, number_bits-octets}
 use Rattle.p25_status.specs.declared.symbols.Status.{Status}
 use Rattle.p25_units.specs.Items.{covered}
-use Rattle.p25_units.specs.Units.{IsSendableUnit, IsSoundFrame, image_of}
+use Rattle.p25_units.specs.Units.{IsSendableUnit, IsSoundFrame, image_of, whole_octets}
 use Rattle.p25_units.specs.declared.frame.Frame.{Frame}
 use Rattle.p25_units.specs.declared.item.Item.{Item}
 use Rattle.p25_units.specs.declared.item.Item.TheVariants.{Whole}
@@ -21,7 +21,7 @@ use Rattle.p25_stream.specs.Items.{items_by}
 use Rattle.p25_stream.specs.Repeats.{bridged, bridged_frame, repaired}
 use Rattle.p25_stream.proofs.ArrivalLaws.{covered-whole_of, frame_arrived-sound, units-whole, wholes_of-cons, wholes_of-nil}
 use Rattle.p25_stream.proofs.ItemsLaws.{items_by-nil}
-use Rattle.p25_recording_filters.specs.ItemOutputs.{changed_bits, check_ending, check_line, faults_in, faulty, shown, units_in, whole_octets}
+use Rattle.p25_recording_filters.specs.ItemOutputs.{changed_bits, check_ending, check_line, faults_in, faulty, shown, units_in}
 use Rattle.p25_tool.specs.Recorded.{AreOctetsOf, BridgesUnits, ChecksUnits, IsRecording, RepairedIsRecorded, RepairsUnits, ShowsUnits, UnitsAreRecorded, undamaged}
 
 -- bits that fill whole octets are those of the octets

@@ -14,7 +14,8 @@ use Rattle.p25_tool.specs.declared.build.Build.{Build}
 use Rattle.p25_tool.specs.Buildings.{build_rules}
 use Rattle.p25_duplex_script.specs.DuplexLines.{duplex_by_words, duplex_event_of}
 use Rattle.p25_tool.specs.DuplexRules.{duplex_rules}
-use Rattle.p25_tool.specs.Outputs.{duplex_step_line, image_octets, step_line}
+use Rattle.p25_units.specs.Units.{image_octets}
+use Rattle.p25_tool.specs.Outputs.{duplex_step_line, step_line}
 use Rattle.p25_tool.specs.StationRules.{station_rules}
 use Rattle.p25_fragments.specs.LongState.{LongState}
 use Rattle.p25_fragments.specs.LongSteps.{long_step}

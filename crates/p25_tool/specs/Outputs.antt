@@ -1,11 +1,9 @@
 -- What each command writes for its input, and how a call ends by its input.
-use Rattle.std.specs.Prelude.{ℕ, ◌/◌, Bool, true, false, if◌then◌else◌, List, [], ◌∷◌, ◌++◌, length, replicate, codes, decimal, Option, Some, None}
+use Rattle.std.specs.Prelude.{ℕ, Bool, true, false, if◌then◌else◌, List, [], ◌∷◌, ◌++◌, codes, decimal, Option, Some, None}
 use Rattle.std.specs.List.{flat_map}
 use Rattle.p25_bits.specs.Bits.{octet_bits}
 use Rattle.p25_status.specs.declared.symbols.Status.{Status}
-use Rattle.p25_units.specs.UnitParts.{UnitParts}
-use Rattle.p25_units.specs.Units.{frame_length_of, image_of}
-use Rattle.p25_units.specs.declared.frame.Frame.{Frame}
+use Rattle.p25_units.specs.Units.{image_octets, whole_octets}
 use Rattle.p25_units.specs.declared.item.Item.{Item}
 use Rattle.p25_stream.specs.Items.{items_by}
 use Rattle.p25_stream.specs.Repeats.{bridged, repaired}
@@ -33,15 +31,7 @@ use Rattle.p25_fragments.specs.LongState.{LongState, first_long}
 use Rattle.p25_fragments.specs.LongRuns.{long_run, long_steps_of}
 use Rattle.p25_fragment_script.specs.LongScript.{long_event_of}
 use Rattle.p25_fragment_script.specs.LongTexts.{long_closing_text_of, long_step_text_of}
-use Rattle.p25_recording_filters.specs.ItemOutputs.{whole_octets, shown, faulty, units_in, faults_in, check_line, check_ending, changed_bits, call_line, calls_line, soft_output}
-
--- the frame of a unit with one status symbol everywhere
-abbrev pub filled_frame : Status → UnitParts → Frame
-filled_frame status unit = record { unit = unit; statuses = replicate (frame_length_of unit / 72) status }
-
--- the octets of a unit's image with one status symbol everywhere
-abbrev pub image_octets : Status → UnitParts → List ℕ
-image_octets status unit = whole_octets (image_of (filled_frame status unit))
+use Rattle.p25_recording_filters.specs.ItemOutputs.{shown, faulty, units_in, faults_in, check_line, check_ending, changed_bits, call_line, calls_line, soft_output}
 
 -- the text of a step, and the text that closes a run, each with the end of its line
 abbrev pub step_line : Step → List ℕ

@@ -1,16 +1,15 @@
 //! The work of `build`: each line of the input as the unit that it describes.
 
 ghost use Rattle.std.specs.Prelude.{◌≡◌};
-ghost use Rattle.p25_units.specs.Units.{IsSendableBody};
-ghost use Rattle.p25_tool.specs.Outputs.{image_octets};
+ghost use Rattle.p25_units.specs.Units.{IsSendableBody, image_octets};
 
 use p25_bits::BitBuf;
 use p25_filter::{LineMachine, LineRefusal};
 use p25_line::Line;
 use p25_recording_filters::put_octets;
-use p25_status::{SENT_BLOCK_LENGTH, Status, Statuses};
+use p25_status::Status;
 use p25_text::read_line;
-use p25_units::{Frame, Unit, frame_length, image};
+use p25_units::{Frame, Unit, image};
 
 // The units that the lines of an input describe, with one status symbol everywhere.
 #[derive(Drop)]
@@ -57,9 +56,8 @@ fn put_image(unit: Unit, status: Status, out: &mut Line)
     requires { IsSendableBody unit.body }
     ensures { out.new ≡ image_octets status unit }
 {
-    let statuses = Statuses::filled(status, frame_length(&unit) / SENT_BLOCK_LENGTH);
     let mut bits = BitBuf::new();
-    image(&Frame { unit, statuses }, &mut bits);
+    image(&Frame::filled(unit, status), &mut bits);
     out.clear();
     put_octets(&bits, 0, out);
 }

@@ -1,6 +1,7 @@
 -- The bits of units, with and without status symbols.
-use Rattle.std.specs.Prelude.{◌≡◌, ◌≤◌, ℕ, ◌*◌, ◌/◌, Bool, List, length}
+use Rattle.std.specs.Prelude.{◌≡◌, ◌≤◌, ℕ, ◌*◌, ◌/◌, Bool, List, length, replicate}
 use Rattle.std.specs.Option.{unwrap_or}
+use Rattle.p25_bits.specs.Numbers.{octets_from}
 use Rattle.p25_status.specs.Woven.{woven}
 use Rattle.p25_status.specs.declared.symbols.Status.{Status}
 use Rattle.p25_voice_units.specs.Images.{voice_image_of}
@@ -52,6 +53,18 @@ abbrev pub frame_as : ℕ → List Status → Frame → Frame
 frame_as nac statuses frame =
     let unit : UnitParts = record { nac = nac; body = frame.unit.body } in
     record { unit = unit; statuses = statuses }
+
+-- the frame of a unit with one status symbol everywhere
+abbrev pub filled_frame : Status → UnitParts → Frame
+filled_frame status unit = record { unit = unit; statuses = replicate (frame_length_of unit / 72) status }
+
+-- the octets that bits fill, most significant bit first
+abbrev pub whole_octets : List Bool → List ℕ
+whole_octets bits = octets_from (length bits / 8) bits
+
+-- the octets of a unit's image with one status symbol everywhere
+abbrev pub image_octets : Status → UnitParts → List ℕ
+image_octets status unit = whole_octets (image_of (filled_frame status unit))
 
 -- nothing fails of what a unit carries: no slot of a packet is Bad
 unfoldable pub IsWholeBody : Body → Type 0

@@ -1,10 +1,10 @@
 //! A unit with the status symbols that are sent among its bits.
 
 ghost use Rattle.std.specs.Prelude.{◌≡◌, ◌≤◌, ◌<◌, ◌*◌};
-ghost use Rattle.p25_units.specs.Units.{frame_length_of};
+ghost use Rattle.p25_units.specs.Units.{IsSendableBody, IsSoundFrame, IsWholeBody, filled_frame, frame_length_of};
 
 use crate::unit::Unit;
-use p25_status::{BARE_BLOCK_LENGTH, SENT_BLOCK_LENGTH, Statuses};
+use p25_status::{BARE_BLOCK_LENGTH, SENT_BLOCK_LENGTH, Status, Statuses};
 
 /// A unit and its status symbols. It is sound where a packet in it is whole and there is one symbol for each 72 of
 /// its sent bits.
@@ -14,6 +14,19 @@ pub struct Frame {
     pub unit: Unit,
     /// Its status symbols, first to last.
     pub statuses: Statuses,
+}
+
+impl Frame {
+    /// Answers the frame of a unit whose status symbols are all the same one, as many as its length asks for: one for each 72 of its
+    /// sent bits. It is sound where no slot of a packet is Bad. TIA-102.BAAA, Status Symbols.
+    pub fn filled(unit: Unit, status: Status) -> Frame
+        ensures value { result ≡ filled_frame status unit }
+        ensures sound { IsWholeBody unit.body → IsSoundFrame result }
+        ensures sendable { IsSendableBody unit.body → IsSoundFrame result }
+    {
+        let statuses = Statuses::filled(status, frame_length(&unit) / SENT_BLOCK_LENGTH);
+        Frame { unit, statuses }
+    }
 }
 
 /// Answers how many bits a unit has as it is sent, with its status symbols: 144 to 1,728 for a voice unit, and 360

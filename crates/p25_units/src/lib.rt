@@ -41,6 +41,6 @@ pub use p25_packet_blocks::Packet;
 pub use p25_status::{Field, FieldList, Status, Statuses};
 pub use p25_voice_units::VoiceUnit;
 pub use read::read_unit;
-pub use scan::{need, need_begun};
+pub use scan::{need, need_begun, need_synced};
 pub use sending::{image, image_as, unit_image};
 pub use unit::{Body, Unit};

@@ -48,6 +48,17 @@ pub fn need_begun(bits: &BitBuf, at: usize, begun: &mut Begun) -> Need
     need_at_sync(bits, at, begun)
 }
 
+/// Answers what `need_begun` answers, where a sync was found at place `at` before.
+pub fn need_synced(bits: &BitBuf, at: usize, begun: &mut Begun) -> Need
+    requires there { at ≤ length bits.now }
+    requires synced { has_sync (drop at bits.now) ≡ true }
+    requires begun { IsBegun begun.old (drop at bits.now) }
+    ensures need { result ≡ need_of (drop at bits.now) }
+    ensures begun { IsBegun begun.new (drop at bits.now) }
+{
+    need_at_sync(bits, at, begun)
+}
+
 // What is needed at a sync.
 fn need_at_sync(bits: &BitBuf, at: usize, begun: &mut Begun) -> Need
     requires there { at ≤ length bits.now }

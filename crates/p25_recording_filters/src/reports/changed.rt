@@ -1,7 +1,7 @@
 ghost use Rattle.std.specs.Prelude.{◌≡◌, ◌<◌, ◌≤◌, ◌++◌, [], length, drop};
 ghost use Rattle.p25_units.specs.Items.{IsSoundItem};
 ghost use Rattle.p25_recording_filters.specs.Commands.{IsSoundChange, change_of, unfilled};
-ghost use Rattle.p25_recording_filters.specs.ItemOutputs.{whole_octets};
+ghost use Rattle.p25_units.specs.Units.{whole_octets};
 
 use crate::report::Report;
 use p25_bits::BitBuf;

@@ -8,11 +8,11 @@ returns-in-NoSync c = absurd (need_of-seen c.args.held.now c.requires.synced (sy
 
 pub returns-in-More : goal.returns-in-More
 returns-in-More c =
-    beginning-waiting c.args.held.now c.in-More.count c.need_begun.new.begun (record { synced = c.requires.synced; needs = sym c.in-More.ensures.need; read = c.in-More.ensures.begun })
+    beginning-waiting c.args.held.now c.in-More.count c.need_synced.new.begun (record { synced = c.requires.synced; needs = sym c.in-More.ensures.need; read = c.in-More.ensures.begun })
 
 pub returns-in-Length : goal.returns-in-Length
 returns-in-Length c =
-    beginning-ready c.args.held.now c.in-Length.count c.need_begun.new.begun (record { synced = c.requires.synced; needs = sym c.in-Length.ensures.need; read = c.in-Length.ensures.begun })
+    beginning-ready c.args.held.now c.in-Length.count c.need_synced.new.begun (record { synced = c.requires.synced; needs = sym c.in-Length.ensures.need; read = c.in-Length.ensures.begun })
 
 pub returns-in-NoLength : goal.returns-in-NoLength
 returns-in-NoLength c = beginning-no_unit c.args.held.now c.in-NoLength.field c.requires.synced (sym c.in-NoLength.ensures.need)

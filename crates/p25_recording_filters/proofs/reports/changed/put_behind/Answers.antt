@@ -1,5 +1,5 @@
 use Rattle.std.proofs.Common.{ℕ, ◌-◌, ◌%◌, List, [], ◌∷◌, ◌++◌, drop, ap, ap₂, sym, ◌∙◌, arith, length-append}
-use Rattle.p25_recording_filters.specs.ItemOutputs.{whole_octets}
+use Rattle.p25_units.specs.Units.{whole_octets}
 use Rattle.p25_recording_filters.proofs.OctetsLaws.{kept-behind, octets-behind, whole_octets-few}
 use Rattle.p25_recording_filters.proofs.reports.changed.put_behind.Goals as goal
 

@@ -1,6 +1,6 @@
 use Rattle.std.proofs.Common.{◌≡◌, ℕ, ◌+◌, ◌-◌, ◌*◌, ◌/◌, List, ◌++◌, length, drop, ap, ◌∙◌, arith, append_assoc}
 use Rattle.p25_bits.specs.Numbers.{octets_from}
-use Rattle.p25_recording_filters.specs.ItemOutputs.{whole_octets}
+use Rattle.p25_units.specs.Units.{whole_octets}
 use Rattle.p25_recording_filters.proofs.OctetsLaws.{octets-all, octets-more, octets-none, octets-on}
 use Rattle.p25_recording_filters.proofs.reports.changed.put_octets.Goals as goal
 

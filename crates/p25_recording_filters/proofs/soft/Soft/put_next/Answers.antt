@@ -4,7 +4,7 @@ use Rattle.p25_units.specs.declared.item.Item.{Item}
 use Rattle.p25_units.specs.Items.{covered, place_of}
 use Rattle.p25_stream.specs.Scan.{Scan, Gave, given}
 use Rattle.p25_recording_filters.specs.Commands.{unfilled}
-use Rattle.p25_recording_filters.specs.ItemOutputs.{whole_octets}
+use Rattle.p25_units.specs.Units.{whole_octets}
 use Rattle.p25_recording_filters.specs.SoftLevels.{item_softened}
 use Rattle.p25_recording_filters.specs.Softs.{IsHolding, PutSoftItem, SoftParts, first_level}
 use Rattle.p25_recording_filters.proofs.SoftLevelsLaws.{length-grouped}

@@ -1,0 +1,180 @@
+//! The items of a short recording: what is told of each, and when nothing is.
+
+use super::*;
+
+// A gap of 24 bits, a terminator with one wrong bit, a terminator whose link control fails, and the first ten octets of another.
+const RECORDING: [u8; 85] = [
+    0x00, 0x00, 0x00, 0xD5, 0x75, 0xF5, 0xFF, 0x77, 0xFF, 0x29, 0x33, 0x38, 0x5D, 0xDC, 0xA3, 0x3B,
+    0x5B, 0x80, 0x00, 0x00, 0x01, 0x55, 0x75, 0xF5, 0xFF, 0x77, 0xFF, 0x29, 0x3F, 0xE2, 0x11, 0xF3,
+    0xD7, 0xD7, 0xF7, 0x80, 0x00, 0x00, 0x02, 0x00, 0x00, 0xA5, 0x5A, 0xA5, 0xA5, 0x3E, 0xB9, 0x97,
+    0x5A, 0xC6, 0x09, 0x5A, 0xC6, 0x0A, 0xA3, 0x60, 0xDF, 0xEA, 0xF3, 0x70, 0xCE, 0x7C, 0x47, 0x68,
+    0xD0, 0xF7, 0x90, 0x5C, 0x78, 0xAF, 0xCC, 0xFF, 0x00, 0x00, 0x02, 0xD5, 0x75, 0xF5, 0xFF, 0x77,
+    0xFF, 0x29, 0x33, 0x38, 0x5D,
+];
+
+// The items of the recording: place, bits, fixes, access code, identifier, kind and text.
+const ITEMS: [(u64, u32, u32, u16, u8, u8, &'static [u8]); 4] = [
+    (0, 24, 0, 0, 0, 4, b"gap at=0 bits=24"),
+    (
+        24,
+        144,
+        1,
+        0x293,
+        3,
+        1,
+        b"unit at=24 bits=144 fix=1 status=01 tdu nac=293",
+    ),
+    (
+        168,
+        432,
+        0,
+        0x293,
+        15,
+        2,
+        b"broken at=168 bits=432 nac=293 duid=f fields=link_control",
+    ),
+    (600, 80, 0, 0, 0, 5, b"cut at=600 bits=80"),
+];
+
+// What stands in an item and in a text before a call.
+const BEFORE: ItemParts = ItemParts {
+    place: 7,
+    bits: 7,
+    fixes: 7,
+    text_length: 7,
+    nac: 7,
+    duid: 7,
+    kind: 7,
+};
+
+// Whether an item has these parts.
+fn is_item(
+    item: &ItemParts,
+    place: u64,
+    counts: (u32, u32, u32),
+    nac: u16,
+    duid: u8,
+    kind: u8,
+) -> bool {
+    item.place == place
+        && item.bits == counts.0
+        && item.fixes == counts.1
+        && item.text_length == counts.2
+        && item.nac == nac
+        && item.duid == duid
+        && item.kind == kind
+}
+
+// Whether an item stands as it was.
+fn is_left(item: &ItemParts) -> bool {
+    is_item(item, 7, (7, 7, 7), 7, 7, 7)
+}
+
+// Whether room begins with a text and a zero.
+fn has_text(room: &[u8], text: &[u8]) -> bool {
+    text.len() < room.len() && &room[..text.len()] == text && room[text.len()] == 0
+}
+
+#[test]
+fn each_item_in_turn(rt: HostRuntime) {
+    let mut from = 0;
+    for (place, bits, fixes, nac, duid, kind, text) in ITEMS {
+        let mut item = BEFORE;
+        let mut room = [9; 64];
+        assert_eq!(rt;
+            p25_next_item(&RECORDING, 0, from, true, &mut item, &mut room),
+            1
+        );
+        assert!(rt;
+            is_item(
+                &item,
+                place,
+                (bits, fixes, text.len() as u32),
+                nac,
+                duid,
+                kind
+            ),
+            "{place}"
+        );
+        assert!(rt; has_text(&room, text), "{place}");
+        from = place + u64::from(bits);
+    }
+    let mut item = BEFORE;
+    assert_eq!(rt;
+        p25_next_item(&RECORDING, 0, from, true, &mut item, &mut []),
+        0
+    );
+    assert!(rt; is_left(&item));
+}
+
+#[test]
+fn pieces_that_begin_later(rt: HostRuntime) {
+    // Rows: the octets that are left out before and after, the place, whether the recording ends, the answer, and the kind.
+    let rows: [(usize, usize, u64, bool, i32, u8); 7] = [
+        (3, 0, 24, true, 1, 1),
+        (3, 64, 24, false, 1, 1),
+        (3, 65, 24, false, 0, 7),
+        (3, 65, 24, true, 1, 5),
+        (21, 10, 168, false, 1, 2),
+        (75, 0, 600, false, 0, 7),
+        (75, 0, 600, true, 1, 5),
+    ];
+    for (before, after, from, ended, answer, kind) in rows {
+        assert!(rt; before + after <= 85);
+        let mut item = BEFORE;
+        let octets = &RECORDING[before..85 - after];
+        assert_eq!(rt;
+            p25_next_item(octets, 8 * before as u64, from, ended, &mut item, &mut []),
+            answer
+        );
+        assert_eq!(rt; item.kind, kind, "{before} {after} {ended}");
+        assert_eq!(rt; item.place, if answer == 1 { from } else { 7 });
+    }
+}
+
+#[test]
+fn room_for_a_text(rt: HostRuntime) {
+    // The text has 16 octets: it wants 17.
+    for (count, written) in [(0usize, false), (16, false), (17, true), (64, true)] {
+        let mut item = BEFORE;
+        let mut room = [9; 64];
+        assert_eq!(rt;
+            p25_next_item(&RECORDING, 0, 0, true, &mut item, &mut room[..count]),
+            1
+        );
+        assert_eq!(rt; item.text_length, 16);
+        assert_eq!(rt; has_text(&room, b"gap at=0 bits=24"), written, "{count}");
+        assert_eq!(rt; room[0], if written { b'g' } else { 9 });
+        assert_eq!(rt; room[17], 9);
+    }
+}
+
+#[test]
+fn places_outside(rt: HostRuntime) {
+    // Rows: the bit at which the octets begin, and the place that is asked for.
+    for (begin, from) in [
+        (4, 24),
+        (32, 24),
+        (0, 681),
+        (8, 689),
+        (1 << 59, (1 << 59) + 1),
+    ] {
+        let mut item = BEFORE;
+        let mut room = [9; 64];
+        assert_eq!(rt;
+            p25_next_item(&RECORDING, begin, from, true, &mut item, &mut room),
+            -1,
+            "{begin} {from}"
+        );
+        assert!(rt; is_left(&item) && room[0] == 9);
+    }
+    let mut item = BEFORE;
+    assert_eq!(rt;
+        p25_next_item(&RECORDING, 0, 680, true, &mut item, &mut []),
+        0
+    );
+    assert_eq!(rt;
+        p25_next_item(&RECORDING, 1 << 59, 1 << 59, true, &mut item, &mut []),
+        1
+    );
+}
