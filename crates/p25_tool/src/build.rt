@@ -7,7 +7,7 @@ ghost use Rattle.p25_tool.specs.Outputs.{image_octets};
 use p25_bits::BitBuf;
 use p25_filter::{LineMachine, LineRefusal};
 use p25_line::Line;
-use p25_recording_filters::put_octets;
+use p25_recording_filters::parts::put_octets;
 use p25_status::{SENT_BLOCK_LENGTH, Status, Statuses};
 use p25_text::read_line;
 use p25_units::{Frame, Unit, frame_length, image};
