@@ -5,16 +5,21 @@
 //! other. The text of a step is `duplex_step_text_of step`, and `duplex_closing_of` tells of each side at the end of a run.
 //!
 //! ```text
+//! let mut world = DuplexWorld::new(rt.alloc());
 //! let event = read_duplex_event(b"a send 6162")?;
 //! let step = world.step(&event)?;
 //! let mut line = Line::new();
 //! duplex_step_text(&step, &mut line);
-//! duplex_closing(&world, Side::A, &mut line);
+//! assert_eq!(rt; line.octets(), b"a send taken ns=0 blocks=1".as_slice());
 //! ```
+//!
+//! `DuplexStepText` is a step whose `{}` writes its text, and `DuplexEventLine` an event that `parse` reads as `read_duplex_event` does.
 #![tactic(auto)]
 
 mod read;
+mod shown;
 mod texts;
 
 pub use read::read_duplex_event;
+pub use shown::{DuplexEventLine, DuplexStepText};
 pub use texts::{duplex_closing, duplex_step_text};

@@ -8,7 +8,7 @@ ghost use Rattle.p25_duplex_script.specs.DuplexLines.{IsDuplexScripted, directio
 
 use p25_duplex::{DuplexEvent, Side};
 use p25_line::{LineFault, LineReader, LineWords, read_whole};
-use p25_script::{EventKind, message_value, places_value};
+use p25_script::parts::{EventKind, message_value, places_value};
 
 /// What the first word of a line tells.
 #[derive(Clone, Copy)]

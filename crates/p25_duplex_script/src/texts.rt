@@ -5,7 +5,8 @@ ghost use Rattle.p25_duplex_script.specs.DuplexTexts.{duplex_closing_of, duplex_
 
 use p25_duplex::{DuplexStep, DuplexWorld, Side};
 use p25_line::Line;
-use p25_script::{put_sessions, step_text};
+use p25_script::parts::put_sessions;
+use p25_script::step_text;
 
 /// Sets `out` to the text of a step, without the end of its line: the letter of the side that acts or hears, a space, and the
 /// text of what the step was. It has at most 4,208 octets.

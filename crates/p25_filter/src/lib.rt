@@ -1,6 +1,17 @@
 //! The work on an input: octets are read in pieces from a source, handed in their order to a command, and what the
 //! command gives for them is written to a sink in few pieces.
 //!
+//! ```text
+//! let mut source = SteadySource::new(b"ab\ncd\n", 4);
+//! let mut room = [0; 64];
+//! let mut sink = SliceSink::new(&mut room, &[]);
+//! let mut lines = LineFilter::new(Echo);
+//! let end = run_filter(&mut lines, &mut source, &mut sink);
+//! assert_eq!(rt; end, FilterEnd::Ended(Ending::Done));
+//! ```
+//!
+//! `Echo` is a machine over lines that gives each line back, without its end: so `abcd` is written.
+//!
 //! A command is a `Filter`. Contracts see it by its `Future`: what it still writes, how the call ends, and after which texts
 //! memory may be wanting, for each list of octets that may still come.
 //!

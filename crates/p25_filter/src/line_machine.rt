@@ -5,13 +5,16 @@ ghost use Rattle.p25_line.specs.declared.fault.LineFault.TheVariants.{Long};
 ghost use Rattle.p25_filter.specs.LineRules.{LineRules, IsLineRefused};
 
 use p25_line::{Line, LineFault};
+use thiserror::Error;
 
-/// Why a line was not taken.
-#[derive(Clone, Copy, Debug, PartialEq, Eq)]
+/// Why a line was not taken. It is shown as the word of the fault, or as the program tells of memory; no clause says so.
+#[derive(Clone, Copy, Debug, PartialEq, Eq, Error)]
 pub enum LineRefusal {
     /// The line is refused, for this cause.
+    #[error("{0}")]
     Fault(LineFault),
     /// The line is accepted, and there is not enough memory for it.
+    #[error("out of memory")]
     Memory,
 }
 

@@ -8,7 +8,7 @@ ghost use Rattle.p25_fragment_script.specs.LongScript.{IsLongScripted, long_even
 
 use p25_fragments::LongEvent;
 use p25_line::{LineFault, LineReader, LineWords, read_whole};
-use p25_script::{message_value, read_event_words};
+use p25_script::parts::{message_value, read_event_words};
 
 /// Answers the event whose line this is. Each line that is accepted is the line of its event, and the line of each event,
 /// where it is not too long, is accepted. The first of these causes that applies is answered: Long, above 8,192 octets; Form,

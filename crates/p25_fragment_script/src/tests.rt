@@ -1,10 +1,40 @@
 //! Lines that are refused, and scripts with what comes of them.
 
-use super::{long_closing_text, long_step_text, read_long_event};
+use super::{LongEventLine, LongStepText, long_closing_text, long_step_text, read_long_event};
 use p25_fragments::{LongEvent, LongStep, LongWorld, Then};
 use p25_line::{Line, LineFault};
 use std::process::Abort;
 use std::test::Fail;
+
+#[test]
+fn step_of_a_long_event(rt: HostRuntime) -> Result<(), Fail> {
+    let mut world = LongWorld::new(rt.alloc());
+    let event = read_long_event(b"long 6162")?;
+    let step = world.step(&event)?;
+    let mut out = Line::new();
+    let mut behind = Line::new();
+    long_step_text(&step, &mut out, &mut behind);
+    assert_eq!(rt; out.octets(), b"long taken parts=1\n".as_slice());
+    Ok(())
+}
+
+// An event is parsed from its line, and a step is shown with both pieces of its text.
+#[test]
+fn event_is_parsed_and_step_shown(rt: HostRuntime) -> Result<(), Fail> {
+    let mut world = LongWorld::new(rt.alloc());
+    let event = "long 6162".parse::<LongEventLine>()?;
+    let step = world.step(&event.0)?;
+    let text = LongStepText(&step).to_string(rt.alloc())?;
+    assert_eq!(rt;
+        text.as_str(),
+        "long taken parts=1\nsend taken ns=0 blocks=1\n"
+    );
+    assert_eq!(rt;
+        "long 616".parse::<LongEventLine>().err(),
+        Some(LineFault::Value)
+    );
+    Ok(())
+}
 
 #[test]
 fn refused_lines(rt: HostRuntime) {

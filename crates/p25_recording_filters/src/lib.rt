@@ -6,18 +6,27 @@
 //! `Soft` that of a recording of levels. What they still write, whatever comes, is `recording_future` and `soft_future`.
 //!
 //! ```text
-//! let mut recording = Recording::new(Check::new());
-//! let end = run_filter(&mut recording, &mut source, &mut sink);
+//! let mut check = Check::new();
+//! let mut raw = BitBuf::new();
+//! let mut out = Line::new();
+//! check.put(&Item::Cut { place: 0, have: 8 }, &mut raw, &mut out);
+//! check.close(&mut out);
+//! assert_eq!(rt; out.octets(), b"check units=0 faults=1\n".as_slice());
 //! ```
+//!
+//! `Recording::new(Check::new())` is the filter that takes octets, and `run_filter` of p25_filter the work of it.
 #![tactic(auto)]
 
 mod held_levels;
+pub mod parts;
 mod recording;
 mod report;
 mod reports;
 mod soft;
+#[cfg(test)]
+mod tests;
 
 pub use recording::Recording;
 pub use report::Report;
-pub use reports::{Calls, Change, Changed, Check, Show, put_octets};
+pub use reports::{Calls, Change, Changed, Check, Show};
 pub use soft::Soft;

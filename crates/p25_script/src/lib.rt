@@ -7,25 +7,29 @@
 //! of its octets, first to last.
 //!
 //! ```text
-//! let event = read_event(b"deliver data 366,367")?;
+//! let mut world = World::new(rt.alloc());
+//! let event = read_event(b"send 6162")?;
 //! let step = world.step(&event)?;
 //! let mut line = Line::new();
 //! step_text(&step, &mut line);
-//! closing_text(&world, &mut line);
+//! assert_eq!(rt; line.octets(), b"send taken ns=0 blocks=1".as_slice());
 //! ```
+//!
+//! `StepText` is a step whose `{}` writes its text, and `EventLine` an event that `parse` reads as `read_event` does.
 #![tactic(auto)]
 
 mod closing;
 pub mod laws;
 mod names;
+pub mod parts;
 mod read;
+mod shown;
 mod steps;
 mod values;
 
-pub use closing::{closing_text, put_sessions};
-pub use names::EventKind;
+pub use closing::closing_text;
 pub use p25_line::{Line, LineFault};
 pub use p25_stations::{Event, Step, StepKind, Way, World};
-pub use read::{read_event, read_event_words};
+pub use read::read_event;
+pub use shown::{EventLine, StepText};
 pub use steps::step_text;
-pub use values::{message_value, places_value};

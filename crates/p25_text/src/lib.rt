@@ -20,11 +20,15 @@
 //! `Line` is seen as the list of its octets, first to last.
 //!
 //! ```text
-//! let unit = read_line(b"tdulc nac=293 lc=000000000001000001")?;
-//! let mut line = Line::new();
-//! unit_text(&unit, &mut line);
-//! item_text(&Item::Gap { place: 0, length: 8 }, &mut line);
+//! let line = "tdulc nac=293 lc=000000000001000001";
+//! let unit = read_line(line.as_bytes())?;
+//! let mut out = Line::new();
+//! unit_text(&unit, &mut out);
+//! assert_eq!(rt; out.to_string(rt.alloc())?.as_str(), line);
 //! ```
+//!
+//! `UnitText`, `ItemText` and `CallText` are a unit, an item and a call whose `{}` writes these texts, and `UnitLine` is a unit that
+//! `parse` reads as `read_line` does.
 #![tactic(auto)]
 
 mod calls;
@@ -32,16 +36,17 @@ mod items;
 mod names;
 mod packet_texts;
 mod packets;
+pub mod parts;
 mod read;
+mod shown;
 mod values;
 mod voice_texts;
 mod voices;
 mod write;
 
 pub use calls::call_text;
-pub use items::{item_text, put_field_name};
-pub use names::{UnitKey, UnitKind};
+pub use items::item_text;
 pub use p25_line::{Line, LineFault};
 pub use read::read_line;
-pub use values::nac_value;
+pub use shown::{CallText, ItemText, UnitLine, UnitText};
 pub use write::unit_text;

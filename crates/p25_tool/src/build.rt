@@ -6,7 +6,7 @@ ghost use Rattle.p25_units.specs.Units.{IsSendableBody, image_octets};
 use p25_bits::BitBuf;
 use p25_filter::{LineMachine, LineRefusal};
 use p25_line::Line;
-use p25_recording_filters::put_octets;
+use p25_recording_filters::parts::put_octets;
 use p25_status::Status;
 use p25_text::read_line;
 use p25_units::{Frame, Unit, image};

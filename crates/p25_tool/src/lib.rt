@@ -2,10 +2,12 @@
 //!
 //! ```text
 //! let mut words = Words::new();
-//! words.add(b"show");
-//! let mut source = SteadySource::new(&recording, 4096);
+//! words.add(b"stations");
+//! let mut source = SteadySource::new(b"send 6162\n", 4);
+//! let mut room = [0; 128];
 //! let mut sink = SliceSink::new(&mut room, &[]);
-//! let outcome = run(alloc, &words, &mut source, &mut sink);
+//! let outcome = run(rt.alloc(), &words, &mut source, &mut sink);
+//! assert_eq!(rt; outcome, Outcome::Done);
 //! ```
 //!
 //! A recording is a list of bits, each octet's most significant bit first. It falls into items that lie end to end and

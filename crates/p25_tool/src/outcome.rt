@@ -1,8 +1,9 @@
-ghost use Rattle.std.specs.Prelude.{◌≡◌, ◌+◌, ◌≤◌, ◌++◌, length, codes, decimal};
+ghost use Rattle.std.specs.Prelude.{◌≡◌, ◌+◌, ◌≤◌, ◌++◌, length, codes, decimal, Some};
 ghost use Rattle.p25_tool.specs.Outcomes.{ending_outcome, fault_word, line_of, status_of, filter_outcome};
 
 use p25_filter::{Ending, FilterEnd};
 use p25_line::{Line, LineFault};
+use std::fmt;
 
 /// How a call ended.
 #[derive(Clone, Copy, Debug, PartialEq, Eq)]
@@ -23,6 +24,17 @@ pub enum Outcome {
     TooLong,
     /// `check` read and wrote all, and found so many items that are not whole units.
     Found { faults: u64 },
+}
+
+/// Writes the line that stands on standard error after a call, as `outcome_text` has it.
+impl fmt::Display for Outcome {
+    ghost output = { λ outcome. Some (line_of outcome) };
+
+    fn fmt<W: fmt::Write>(&self, f: &mut fmt::Formatter<W>) -> fmt::Result {
+        let mut line = Line::new();
+        outcome_text(self, &mut line);
+        fmt::Display::fmt(&line, f)
+    }
 }
 
 /// Sets `out` to the line that stands on standard error after a call, without its end; it is empty for `Done`.

@@ -5,14 +5,14 @@ ghost use Rattle.p25_line.specs.Values.{number_below};
 use super::command::Command;
 use p25_line::number_value;
 use p25_status::Status;
-use p25_text::nac_value;
+use p25_text::parts::nac_value;
 use std::marker::Model;
 
 // The most sample units of a call.
 const SAMPLE_MOST: u64 = 10_000;
 
 // A word of at most 16 octets.
-#[derive(Drop)]
+#[derive(Clone, Debug, Drop)]
 struct Word {
     text: [u8; 16],
     len: usize,
@@ -46,7 +46,7 @@ impl Word {
 
 /// The words of a call: at most four, each of at most 16 octets. No command has four words or a word of 16 octets, so
 /// nothing is lost.
-#[derive(Drop)]
+#[derive(Clone, Debug, Drop)]
 pub struct Words {
     words: [Word; 4],
     count: usize,
@@ -103,6 +103,15 @@ impl Words {
             ),
             _ => None,
         }
+    }
+}
+
+/// No words.
+impl Default for Words {
+    ghost is_default = { λ words. words ≡ [] };
+
+    fn default() -> Words {
+        Words::new()
     }
 }
 

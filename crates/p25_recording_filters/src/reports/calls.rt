@@ -12,7 +12,7 @@ use p25_units::Item;
 use std::marker::Model;
 
 /// The text of each call, and at the end how many there were.
-#[derive(Drop)]
+#[derive(Clone, Debug, Drop)]
 pub struct Calls {
     caller: Caller,
     count: u64,
@@ -37,6 +37,15 @@ impl Calls {
             caller: Caller::new(),
             count: 0,
         }
+    }
+}
+
+/// The report before the first item.
+impl Default for Calls {
+    ghost is_default = { λ report. report ≡ record { caller = fresh_caller; count = 0 } };
+
+    fn default() -> Calls {
+        Calls::new()
     }
 }
 

@@ -10,7 +10,7 @@ use p25_units::Item;
 use std::marker::Model;
 
 /// The text of each item that is not a whole unit, and at the end how many units and others there were.
-#[derive(Drop)]
+#[derive(Clone, Debug, Drop)]
 pub struct Check {
     units: u64,
     faults: u64,
@@ -33,6 +33,15 @@ impl Check {
             units: 0,
             faults: 0,
         }
+    }
+}
+
+/// The report before the first item.
+impl Default for Check {
+    ghost is_default = { λ report. report ≡ record { units = 0; faults = 0 } };
+
+    fn default() -> Check {
+        Check::new()
     }
 }
 

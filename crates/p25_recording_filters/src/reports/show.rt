@@ -10,7 +10,7 @@ use p25_text::item_text;
 use p25_units::Item;
 
 /// The text of each item, one a line.
-#[derive(Drop)]
+#[derive(Clone, Copy, Debug, Default, PartialEq, Eq)]
 pub struct Show;
 
 impl Report for Show {
