@@ -10,8 +10,7 @@ use Rattle.p25_packet_blocks.specs.ConfirmedParts.{ConfirmedParts}
 use Rattle.p25_packet_blocks.specs.declared.block.Slot.{Slot}
 use Rattle.p25_packet_blocks.specs.declared.block.Slot.TheVariants.{Good, Bad}
 use Rattle.p25_delivery.specs.MessageBlocks.{block_count, pad_count, message_block, message_blocks}
-use Rattle.p25_delivery.specs.Places.{put_slots, all_octets}
-use Rattle.p25_delivery.specs.Carried.{HoldsSerial, CarriesMessage, unpadded_option, read_back}
+use Rattle.p25_delivery.specs.Places.{put_slots, all_octets, HoldsSerial, CarriesMessage, unpadded_option, read_back}
 use Rattle.p25_delivery.specs.SentPackets.{good_slot, message_packet, opening_packet, short_response, ack_packet}
 use Rattle.p25_delivery.specs.Halves.{Sending, IsNumbered, IsSending, Keeping, Receiving}
 use Rattle.p25_delivery.specs.Asked.{is_response, is_ack, asked_of}

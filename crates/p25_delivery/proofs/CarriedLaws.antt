@@ -15,8 +15,7 @@ use Rattle.p25_packet_blocks.specs.Parts.{BlockParts}
 use Rattle.p25_packet_blocks.specs.declared.block.Slot.{Slot}
 use Rattle.p25_packet_blocks.specs.declared.block.Slot.TheVariants.{Good, Bad}
 use Rattle.p25_delivery.specs.MessageBlocks.{block_count, pad_count, message_octets, message_block, unpadded}
-use Rattle.p25_delivery.specs.Places.{put_block, put_slots, before_octets, all_octets}
-use Rattle.p25_delivery.specs.Carried.{AreBlocksOf, HoldsSerial, CarriesMessage, unpadded_option, read_back}
+use Rattle.p25_delivery.specs.Places.{put_block, put_slots, before_octets, all_octets, AreBlocksOf, HoldsSerial, CarriesMessage, unpadded_option, read_back}
 use Rattle.p25_delivery.proofs.PlacesLaws.{length-put_block, length-put_slots, both_octets, all_octets-append}
 use Rattle.p25_delivery.proofs.MessageBlocksLaws.{octets_number-four, length-message_octets}
 

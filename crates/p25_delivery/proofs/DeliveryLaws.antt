@@ -20,8 +20,7 @@ use Rattle.p25_delivery.specs.declared.step_kind.StepKind.TheVariants.{Reopened}
 use Rattle.p25_delivery.specs.HalfRules.{after_reopening, after_data, after_answer}
 use Rattle.p25_delivery.specs.Delivery.{Session, Delivery, first_delivery, last_mark, sessions_of, present_session, first_number, newest_after, with_outbound, with_inbound, Happening, Offering, Time_up, Opening_again, Data_heard, Answer_heard, happens, delivery_run}
 use Rattle.p25_delivery.specs.Facts.{IsDataOf, KeepsOf, DeliveryFacts}
-use Rattle.p25_delivery.specs.Clean.{IsTrueTo, IsHeardOf, IsClean, IsCleanRun}
-use Rattle.p25_delivery.specs.Orderly.{IsOrderly, AreOrderly}
+use Rattle.p25_delivery.specs.Orderly.{IsTrueTo, IsHeardOf, IsClean, IsCleanRun, IsOrderly, AreOrderly}
 use Rattle.p25_delivery.specs.AtOnce.{DeliversAtOnce}
 use Rattle.p25_delivery.proofs.SentLaws.{data-heard, opening-packet_heard, ack-heard, retry-heard}
 use Rattle.p25_delivery.proofs.ReceiverLaws.{HearsNext, ignores, keeps, delivers, next-heard, last-heard, opening-is_heard}

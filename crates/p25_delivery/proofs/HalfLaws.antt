@@ -36,10 +36,15 @@ abbrev pub KeepsIncoming : Incoming × (StepKind × Option Packet) → Type 0
 KeepsIncoming x = IsIncoming x.0 × IfSome x.1.1 IsSendable
 
 -- a call of a sender or a receiver gives a state and an answer, which the code takes apart
-pub call-apart : {S A B : Type 0} (P : B → Type 0) (after : S × A → B) (x : S × A) (s : S) (a b : A) → s ≡ x.0 → a ≡ x.1 → a ≡ b → P (after x) → P (after (s, b))
-call-apart {S = S} {A = A} P after x s a b e f g h =
-    let same : x ≡ (s, b) = ap₂ (λ (t : S) (c : A). (t, c)) (sym e) (sym f ∙ g) in
-    subst (λ (y : S × A). P (after y)) same h
+pub call-apart : {S A B : Type 0} (P : B → Type 0) (after : S × A → B) (x : S × A) (s : S) (a b : A) → (s, a) ≡ x → a ≡ b → P (after x) → P (after (s, b))
+call-apart {S = S} {A = A} P after x s a b e g h = subst (λ (y : S × A). P (after y)) (sym e ∙ ap (λ (c : A). (s, c)) g) h
+
+-- the state after it, and its answer
+pub call-state : {S A : Type 0} {s : S} {a : A} (x : S × A) → (s, a) ≡ x → s ≡ x.0
+call-state {S = S} {A = A} x e = ap (λ (p : S × A). p.0) e
+
+pub call-answer : {S A : Type 0} {s : S} {a : A} (x : S × A) → (s, a) ≡ x → a ≡ x.1
+call-answer {S = S} {A = A} x e = ap (λ (p : S × A). p.1) e
 
 -- What a sending half says, by what is outstanding.
 

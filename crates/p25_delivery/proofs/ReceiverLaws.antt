@@ -12,8 +12,7 @@ use Rattle.p25_packet_blocks.specs.declared.block.Slot.{Slot}
 use Rattle.p25_packet_blocks.specs.declared.block.Slot.TheVariants.{Good, Bad}
 use Rattle.p25_packet_blocks.specs.declared.packet.Packet.TheVariants.{Confirmed}
 use Rattle.p25_delivery.specs.MessageBlocks.{block_count, pad_count, message_octets, message_block, unpadded}
-use Rattle.p25_delivery.specs.Places.{put_block, put_slots, all_octets, held_flags}
-use Rattle.p25_delivery.specs.Carried.{AreBlocksOf}
+use Rattle.p25_delivery.specs.Places.{put_block, put_slots, all_octets, held_flags, AreBlocksOf}
 use Rattle.p25_delivery.specs.SentPackets.{ack_packet, retry_packet}
 use Rattle.p25_delivery.specs.Halves.{Keeping, Receiving}
 use Rattle.p25_delivery.specs.ReceiverRules.{empty_places, keeping_full, keeping_for, finished, completed, filled, opening_heard, data_heard, receiver_heard}

@@ -14,10 +14,10 @@ use Rattle.p25_packet_blocks.specs.declared.block.Slot.TheVariants.{Good, Bad}
 use Rattle.p25_packet_blocks.specs.declared.packet.Packet.{Packet}
 use Rattle.p25_packet_blocks.specs.declared.packet.Packet.TheVariants.{Confirmed, Plain}
 use Rattle.p25_delivery.specs.MessageBlocks.{block_count, pad_count, message_block, message_blocks}
-use Rattle.p25_delivery.specs.Carried.{AreBlocksOf}
+use Rattle.p25_delivery.specs.Places.{AreBlocksOf}
 use Rattle.p25_delivery.specs.SentPackets.{good_slot, message_packet, wanted_slots, blocks_packet, opening_packet, short_response, ack_packet, retry_packet}
 use Rattle.p25_delivery.specs.Facts.{IsDataOf}
-use Rattle.p25_delivery.specs.Clean.{AreTrueSlots, IsTrueTo}
+use Rattle.p25_delivery.specs.Orderly.{AreTrueSlots, IsTrueTo}
 use Rattle.p25_delivery.proofs.HeadLaws.{confirmed_head-llid, confirmed_head-syn, confirmed_head-number, confirmed_head-pad, confirmed_head-blocks, confirmed_head-full}
 
 -- what such a packet has, and what is left of it where slots turn Bad

@@ -1,6 +1,5 @@
 pub mod MessageBlocks
 pub mod Places
-pub mod Carried
 pub mod Halves
 pub mod SentPackets
 pub mod Asked
@@ -10,7 +9,6 @@ pub mod Runs
 pub mod HalfRules
 pub mod SoundHalves
 pub mod Delivery
-pub mod Clean
 pub mod Orderly
 pub mod Facts
 pub mod AtOnce

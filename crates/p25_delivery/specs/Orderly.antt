@@ -1,7 +1,37 @@
--- What is promised of each session.
-use Rattle.std.specs.Prelude.{◌≡◌, ℕ, ◌+◌, ◌≤◌, List, ◌++◌, length}
-use Rattle.p25_delivery.specs.Runs.{EachIs}
-use Rattle.p25_delivery.specs.Delivery.{Session}
+-- Runs in which each packet that is heard is true to the one that was sent, and what is promised of each session.
+use Rattle.std.specs.Prelude.{◌≡◌, ◌≤◌, ◌⊎◌, List, [], ◌∷◌, length, Option, Some, ℕ, ◌+◌, ◌++◌}
+use Rattle.p25_packet_blocks.specs.declared.block.Slot.{Slot, TheVariants.{Bad}}
+use Rattle.p25_packet_blocks.specs.declared.packet.Packet.{Packet, TheVariants.{Confirmed, Plain}}
+use Rattle.p25_delivery.specs.Runs.{MeetAt, EachIs}
+use Rattle.p25_delivery.specs.Delivery.{Delivery, Happening, Offering, Data_heard, Answer_heard, happens, Session}
+
+-- slot by slot Bad, or the one that was sent
+unfoldable pub AreTrueSlots : List Slot → List Slot → Type 0
+AreTrueSlots [] [] = Unit {0}
+AreTrueSlots (was ∷ sent) (slot ∷ slots) = ((slot ≡ Bad) ⊎ (slot ≡ was)) × AreTrueSlots sent slots
+AreTrueSlots sent slots = ⊥
+
+-- a packet that is heard is true to the one that was sent: the same header, and the same octets or slots, but those that are Bad
+unfoldable pub IsTrueTo : Packet → Packet → Type 0
+IsTrueTo (Confirmed sent) (Confirmed heard) = (heard.head ≡ sent.head) × AreTrueSlots sent.slots heard.slots
+IsTrueTo (Plain sent) (Plain heard) = heard ≡ sent
+IsTrueTo sent heard = ⊥
+
+-- a packet that is heard is true to the newest transmission
+pub record IsHeardOf (newest : Option Packet) (packet : Packet) : Type 0 where
+  pub sent : Packet
+  pub newest_is : newest ≡ Some sent
+  pub true_to : IsTrueTo sent packet
+
+-- a message that is offered has at most 2,028 octets, and what is heard is true to what was sent
+unfoldable pub IsClean : Delivery → Happening → Type 0
+IsClean w (Offering message) = length message ≤ 2028
+IsClean w (Data_heard packet) = IsHeardOf w.packet_sent packet
+IsClean w (Answer_heard packet) = IsHeardOf w.answer packet
+IsClean w other = Unit {0}
+
+abbrev pub IsCleanRun : Delivery → List Happening → Type 0
+IsCleanRun w events = MeetAt happens IsClean w events
 
 -- what is delivered is the beginning of what was sent, in order and each message once; what is acknowledged was delivered;
 -- and one message at most is delivered that is not acknowledged

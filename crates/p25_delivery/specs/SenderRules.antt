@@ -48,10 +48,6 @@ timed_out_with (Opening number) s = resent s number (opening_packet number)
 unfoldable pub timed_out : Sending → Sending × Resend
 timed_out s = if s.down then (s, ResendDown) else timed_out_with s.outstanding s
 
--- the message that is outstanding has come
-abbrev pub acknowledged : Sending → Sending × SenderHeard
-acknowledged s = (sending_after s.next, Acknowledged s.next)
-
 -- the whole message is sent again, or some of its blocks, unless 16 transmissions were made
 unfoldable pub repeated : Sending → Packet → Sending × SenderHeard
 repeated s packet = if may_send s then (tried s, Repeat s.next (s.tries + 1) packet) else (fallen s, HeardDown)
@@ -62,7 +58,7 @@ retried s wanted packet = if may_send s then (tried s, Retry s.next wanted (s.tr
 -- a response asks for something while a message is outstanding
 unfoldable pub answered : Asked → Sending → List ℕ → Sending × SenderHeard
 answered NothingAsked s message = (s, Ignored)
-answered NextMessage s message = acknowledged s
+answered NextMessage s message = (sending_after s.next, Acknowledged s.next)
 answered WholeMessage s message = repeated s (message_packet s.next message)
 answered (Blocks wanted) s message = retried s wanted (blocks_packet s.next message wanted)
 

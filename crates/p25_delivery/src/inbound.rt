@@ -1,5 +1,8 @@
 ghost use Rattle.std.specs.Prelude.{◌≡◌, ◌+◌, ◌<◌, ◌≤◌, OnOk, OnErr, IfSome};
 ghost use Rattle.p25_packet_blocks.specs.Sendable.{IsSendable};
+ghost use Rattle.p25_delivery.specs.Halves.{first_incoming};
+ghost use Rattle.p25_delivery.specs.ReceiverRules.{receiver_heard};
+ghost use Rattle.p25_delivery.specs.HalfRules.{after_data};
 
 use crate::receiver::{Heard, Receiver};
 use crate::step_kind::{StepKind, Way};
@@ -28,10 +31,6 @@ impl Model for Inbound {
 }
 
 impl Inbound {
-    ghost use Rattle.p25_delivery.specs.Halves.{first_incoming};
-    ghost use Rattle.p25_delivery.specs.ReceiverRules.{receiver_heard};
-    ghost use Rattle.p25_delivery.specs.HalfRules.{after_data};
-
     /// Answers a half before the first message. It takes no memory.
     pub fn new(alloc: Global) -> Inbound
         ensures { result.state ≡ first_incoming }
@@ -67,8 +66,7 @@ impl Inbound {
     #[tactic(auto, unfolding(crate::specs::HalfRules::after_data))]
     pub fn hear(&mut self, packet: &Packet) -> (StepKind, Option<Packet>)
         requires { 0 < self.old.spare }
-        ensures state { self.new.state ≡ (after_data self.old.state (receiver_heard self.old.state.receiver packet.now)).0 }
-        ensures answer { result ≡ (after_data self.old.state (receiver_heard self.old.state.receiver packet.now)).1 }
+        ensures step { (self.new.state, result) ≡ after_data self.old.state (receiver_heard self.old.state.receiver packet.now) }
         ensures sendable { IfSome result.1 IsSendable }
         ensures spare { self.old.spare ≤ self.new.spare + 1 }
     {

@@ -1,5 +1,7 @@
 ghost use Rattle.std.specs.Prelude.{◌≡◌, ◌<◌, ◌≤◌, ◌&&◌, eqb, length, IfSome};
 ghost use Rattle.p25_delivery.specs.Places.{put_slots, put_block, all_octets, held_flags};
+ghost use Rattle.p25_delivery.specs.Halves.{Keeping};
+ghost use Rattle.p25_delivery.specs.ReceiverRules.{empty_places};
 
 use crate::message_octets::MessageOctets;
 use arrayvec::ArrayVec;
@@ -14,9 +16,6 @@ pub(crate) struct Kept {
 }
 
 impl Model for Kept {
-    ghost use Rattle.std.specs.Prelude.{◌<◌, length};
-    ghost use Rattle.p25_delivery.specs.Halves.{Keeping};
-
     ghost Value = { Keeping };
 
     ghost view = { λ kept. record { places = kept.places.items; pad = kept.pad } };
@@ -25,8 +24,6 @@ impl Model for Kept {
 }
 
 impl Kept {
-    ghost use Rattle.p25_delivery.specs.ReceiverRules.{empty_places};
-
     // So many empty places, and a pad.
     pub(crate) fn new(blocks: u8, pad: u8) -> Kept
         requires some { 0 < blocks }

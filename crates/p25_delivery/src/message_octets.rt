@@ -3,6 +3,7 @@ ghost use Rattle.p25_bits.specs.Bits.{part};
 ghost use Rattle.p25_bits.specs.Numbers.{octets_number};
 ghost use Rattle.p25_delivery.specs.MessageBlocks.{block_count, pad_count, padded_octets, message_octets, unpadded};
 ghost use Rattle.p25_delivery.specs.Places.{all_octets};
+ghost use Rattle.p25_packet_blocks.specs.Parts.{BlockParts};
 
 use arrayvec::ArrayVec;
 use p25_crc::crc32;
@@ -36,16 +37,12 @@ pub(crate) struct MessageOctets {
 }
 
 impl Model for MessageOctets {
-    ghost use Rattle.std.specs.Prelude.{ℕ, List};
-
     ghost Value = { List ℕ };
 
     ghost view = { λ s. s.items.items };
 }
 
 impl MessageOctets {
-    ghost use Rattle.p25_packet_blocks.specs.Parts.{BlockParts};
-
     // The octets for a message.
     #[tactic(auto, unfolding(crate::specs::MessageBlocks::message_octets, p25_packet_blocks::specs::Image::checked_octets))]
     pub(crate) fn of(message: &Message) -> MessageOctets

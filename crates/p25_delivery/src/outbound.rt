@@ -2,6 +2,9 @@
 
 ghost use Rattle.std.specs.Prelude.{◌≡◌, ◌+◌, ◌<◌, ◌≤◌, length, OnOk, OnErr, IfSome};
 ghost use Rattle.p25_packet_blocks.specs.Sendable.{IsSendable};
+ghost use Rattle.p25_delivery.specs.Halves.{first_outgoing};
+ghost use Rattle.p25_delivery.specs.SenderRules.{offered, timed_out, sender_heard, reopened, is_opening};
+ghost use Rattle.p25_delivery.specs.HalfRules.{after_offer, after_timeout, after_reopening, after_answer};
 
 use crate::sender::{Offer, Reopen, Resend, Sender, SenderHeard};
 use crate::step_kind::{StepKind, Way};
@@ -35,7 +38,6 @@ pub struct Outbound {
 }
 
 impl Model for Outbound {
-    ghost use Rattle.std.specs.Prelude.{◌-◌, min, vec_len, vec_capacity};
     ghost use Rattle.p25_delivery.specs.Halves.{Roomy, Outgoing};
 
     ghost Value = { Roomy Outgoing };
@@ -48,8 +50,6 @@ impl Model for Outbound {
 }
 
 impl Outbound {
-    ghost use Rattle.p25_delivery.specs.Halves.{first_outgoing};
-
     /// Answers a half before its first message. It takes no memory.
     pub fn new(alloc: Global) -> Outbound
         ensures { result.state ≡ first_outgoing }
@@ -96,18 +96,12 @@ impl Outbound {
         self.sent.reserve(calls)?;
         self.marks.reserve(calls as usize)
     }
-}
-
-impl Outbound {
-    ghost use Rattle.p25_delivery.specs.SenderRules.{offered, timed_out, sender_heard, reopened, is_opening};
-    ghost use Rattle.p25_delivery.specs.HalfRules.{after_offer, after_timeout, after_reopening, after_answer};
 
     /// Answers what comes of a message that is offered to its sender: where nothing is outstanding it is taken, and its packet is
     /// to be sent. There is room for a call.
     pub fn offer(&mut self, message: &Message) -> (StepKind, Option<Packet>)
         requires { 0 < self.old.spare }
-        ensures state { self.new.state ≡ (after_offer self.old.state message.now (offered self.old.state.sender message.now)).0 }
-        ensures answer { result ≡ (after_offer self.old.state message.now (offered self.old.state.sender message.now)).1 }
+        ensures step { (self.new.state, result) ≡ after_offer self.old.state message.now (offered self.old.state.sender message.now) }
         ensures sendable { IfSome result.1 IsSendable }
         ensures spare { self.old.spare ≤ self.new.spare + 1 }
     {
@@ -129,8 +123,7 @@ impl Outbound {
     /// Answers what comes of a timeout: what is outstanding is to be sent again, or the sender is down once 16 transmissions were
     /// made. It needs no room.
     pub fn time_out(&mut self) -> (StepKind, Option<Packet>)
-        ensures state { self.new.state ≡ (after_timeout self.old.state (timed_out self.old.state.sender)).0 }
-        ensures answer { result ≡ (after_timeout self.old.state (timed_out self.old.state.sender)).1 }
+        ensures step { (self.new.state, result) ≡ after_timeout self.old.state (timed_out self.old.state.sender) }
         ensures sendable { IfSome result.1 IsSendable }
         ensures spare { self.new.spare ≡ self.old.spare }
     {
@@ -150,10 +143,8 @@ impl Outbound {
     #[tactic(auto, unfolding(crate::specs::HalfRules::after_reopening))]
     pub fn reopen(&mut self, delivered: u64) -> (StepKind, Option<Packet>)
         requires { 0 < self.old.spare }
-        ensures state { self.new.state ≡
-            (after_reopening self.old.state delivered (is_opening self.old.state.sender.outstanding) (reopened self.old.state.sender)).0 }
-        ensures answer { result ≡
-            (after_reopening self.old.state delivered (is_opening self.old.state.sender.outstanding) (reopened self.old.state.sender)).1 }
+        ensures step { (self.new.state, result) ≡
+            after_reopening self.old.state delivered (is_opening self.old.state.sender.outstanding) (reopened self.old.state.sender) }
         ensures sendable { IfSome result.1 IsSendable }
         ensures spare { self.old.spare ≤ self.new.spare + 1 }
     {
@@ -177,8 +168,7 @@ impl Outbound {
 
     /// Answers what comes of a packet that its sender hears. It needs no room.
     pub fn hear(&mut self, packet: &Packet) -> (StepKind, Option<Packet>)
-        ensures state { self.new.state ≡ (after_answer self.old.state (sender_heard self.old.state.sender packet.now)).0 }
-        ensures answer { result ≡ (after_answer self.old.state (sender_heard self.old.state.sender packet.now)).1 }
+        ensures step { (self.new.state, result) ≡ after_answer self.old.state (sender_heard self.old.state.sender packet.now) }
         ensures sendable { IfSome result.1 IsSendable }
         ensures spare { self.new.spare ≡ self.old.spare }
     {

@@ -1,6 +1,8 @@
 #![tactic(auto, unfolding(crate::specs::ReceiverRules::opening_heard, crate::specs::ReceiverRules::data_heard, crate::specs::ReceiverRules::finished))]
 
 ghost use Rattle.std.specs.Prelude.{◌≡◌, ◌<◌, IfNone};
+ghost use Rattle.p25_delivery.specs.Halves.{Receiving, first_receiving};
+ghost use Rattle.p25_delivery.specs.ReceiverRules.{keeping_for, finished, filled, opening_heard, data_heard, receiver_heard};
 
 use crate::kept::Kept;
 use crate::{LLID, sent};
@@ -56,9 +58,6 @@ pub struct Receiver {
 }
 
 impl Model for Receiver {
-    ghost use Rattle.std.specs.Prelude.{◌<◌};
-    ghost use Rattle.p25_delivery.specs.Halves.{Receiving};
-
     ghost Value = { Receiving };
 
     ghost view = { λ s. record { last = s.last; kept = s.kept } };
@@ -67,9 +66,6 @@ impl Model for Receiver {
 }
 
 impl Receiver {
-    ghost use Rattle.p25_delivery.specs.Halves.{first_receiving};
-    ghost use Rattle.p25_delivery.specs.ReceiverRules.{keeping_for, finished, filled, opening_heard, data_heard, receiver_heard};
-
     /// Answers a receiver before its first message: V(R) is 7.
     pub fn new() -> Receiver
         ensures { result ≡ first_receiving }
@@ -84,8 +80,7 @@ impl Receiver {
     /// where the rule on Syn or one of the rules on numbers, places and the packet CRC says so.
     #[tactic(auto, unfolding(crate::specs::ReceiverRules::receiver_heard))]
     pub fn hear(&mut self, packet: &Packet) -> Heard
-        ensures state { self.new ≡ (receiver_heard self.old packet.now).0 }
-        ensures answer { result ≡ (receiver_heard self.old packet.now).1 }
+        ensures { (self.new, result) ≡ receiver_heard self.old packet.now }
     {
         match packet {
             Packet::Confirmed(packet) if packet.head().llid() == LLID => {
@@ -111,7 +106,7 @@ impl Receiver {
         self.kept = None;
         Heard::Opened {
             number,
-            answer: sent::ack(number),
+            answer: sent::short(sent::ACK, number),
         }
     }
 
@@ -124,14 +119,14 @@ impl Receiver {
         if number == last {
             Heard::Again {
                 number: last,
-                answer: sent::ack(last),
+                answer: sent::short(sent::ACK, last),
             }
         } else if number == (last + 1) % 8 {
             self.fill(packet)
         } else {
             Heard::RefusedOrder {
                 last,
-                answer: sent::order_nack(last),
+                answer: sent::short(sent::ORDER_NACK, last),
             }
         }
     }
@@ -195,12 +190,12 @@ impl Receiver {
                 Heard::Delivered {
                     number,
                     message,
-                    answer: sent::ack(number),
+                    answer: sent::short(sent::ACK, number),
                 }
             }
             None => Heard::RefusedCrc {
                 number,
-                answer: sent::crc_nack(number),
+                answer: sent::short(sent::CRC_NACK, number),
             },
         }
     }

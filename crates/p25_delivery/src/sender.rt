@@ -1,6 +1,8 @@
 #![tactic(auto, unfolding(crate::specs::Halves::IsNumbered, crate::specs::SenderRules::resent, crate::specs::SenderRules::retried))]
 
 ghost use Rattle.std.specs.Prelude.{◌≡◌, ◌<◌, if◌then◌else◌};
+ghost use Rattle.p25_delivery.specs.Halves.{Sending, IsSending, first_sending};
+ghost use Rattle.p25_delivery.specs.SenderRules.{sending_after, tried, fallen, may_send, offered_beside, offered, resent, timed_out, repeated, retried, response_heard, sender_heard, reopened, is_opening};
 
 use crate::asked::{Asked, acknowledges, answers, asked_by};
 use crate::message_octets::blocks_for;
@@ -104,8 +106,6 @@ pub struct Sender {
 }
 
 impl Model for Sender {
-    ghost use Rattle.p25_delivery.specs.Halves.{Sending, IsSending};
-
     ghost Value = { Sending };
 
     ghost view = { λ s. record { next = s.next; outstanding = s.outstanding; tries = s.tries; down = s.down } };
@@ -114,9 +114,6 @@ impl Model for Sender {
 }
 
 impl Sender {
-    ghost use Rattle.p25_delivery.specs.Halves.{first_sending};
-    ghost use Rattle.p25_delivery.specs.SenderRules.{sending_after, tried, fallen, may_send, offered_beside, offered, resent, timed_out, repeated, retried, response_heard, sender_heard, reopened, is_opening};
-
     /// Answers a sender before its first message, whose number is 0.
     pub fn new() -> Sender
         ensures { result ≡ first_sending }
@@ -133,8 +130,7 @@ impl Sender {
     /// it is not, but a message or the opening packet is outstanding; then nothing changes.
     #[tactic(auto, unfolding(crate::specs::SenderRules::offered, crate::specs::SenderRules::offered_beside))]
     pub fn offer(&mut self, message: &Message) -> Offer
-        ensures state { self.new ≡ (offered self.old message.now).0 }
-        ensures answer { result ≡ (offered self.old message.now).1 }
+        ensures { (self.new, result) ≡ offered self.old message.now }
     {
         if self.down {
             return Offer::Down;
@@ -149,8 +145,7 @@ impl Sender {
     /// 16 transmissions were made, and then it is down; Idle comes exactly where it is not down and nothing is outstanding.
     #[tactic(auto, unfolding(crate::specs::SenderRules::timed_out, crate::specs::SenderRules::timed_out_with, crate::specs::Halves::IsNumbered))]
     pub fn timeout(&mut self) -> Resend
-        ensures state { self.new ≡ (timed_out self.old).0 }
-        ensures answer { result ≡ (timed_out self.old).1 }
+        ensures { (self.new, result) ≡ timed_out self.old }
     {
         if self.down {
             return Resend::Down;
@@ -173,8 +168,7 @@ impl Sender {
     /// or nothing is outstanding, or the response asks for nothing of what is outstanding.
     #[tactic(auto, unfolding(crate::specs::SenderRules::sender_heard))]
     pub fn hear(&mut self, packet: &Packet) -> SenderHeard
-        ensures state { self.new ≡ (sender_heard self.old packet.now).0 }
-        ensures answer { result ≡ (sender_heard self.old packet.now).1 }
+        ensures { (self.new, result) ≡ sender_heard self.old packet.now }
     {
         match packet {
             Packet::Plain(packet) if !self.down && answers(packet.head()) => {
@@ -188,8 +182,7 @@ impl Sender {
     /// one that was sent before. Up comes exactly where the sender is not down, and then nothing changes.
     #[tactic(auto, unfolding(crate::specs::SenderRules::reopened, crate::specs::SenderRules::opening_number, crate::specs::Halves::IsNumbered))]
     pub fn reopen(&mut self) -> Reopen
-        ensures state { self.new ≡ (reopened self.old).0 }
-        ensures answer { result ≡ (reopened self.old).1 }
+        ensures { (self.new, result) ≡ reopened self.old }
     {
         if !self.down {
             return Reopen::Up;

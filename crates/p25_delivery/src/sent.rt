@@ -3,7 +3,7 @@
 
 ghost use Rattle.std.specs.Prelude.{◌≡◌, ◌<◌, ◌≤◌, ◌⊎◌, length};
 ghost use Rattle.p25_delivery.specs.MessageBlocks.{block_count};
-ghost use Rattle.p25_delivery.specs.SentPackets.{message_packet, blocks_packet, wanted_slots, opening_packet, short_response, ack_packet, crc_nack_packet, order_nack_packet, retry_packet};
+ghost use Rattle.p25_delivery.specs.SentPackets.{message_packet, blocks_packet, wanted_slots, opening_packet, short_response, retry_packet};
 
 use crate::LLID;
 use crate::message_octets::{MessageOctets, blocks_for, pad_for};
@@ -62,39 +62,22 @@ pub(crate) fn opening(number: u8) -> Packet
     Packet::Confirmed(Confirmed::new(PacketHead::opening(LLID, number), Slots::new()))
 }
 
-// A response of no blocks.
-fn short(class: u8, kind: u8, status: u8) -> Packet
-    requires class { class < 4 }
-    requires kind { kind < 8 }
+// The class and the type of ACK; of NACK, as the packet CRC does not agree; and of NACK, out of sequence.
+pub(crate) const ACK: (u8, u8) = (0, 1);
+
+pub(crate) const CRC_NACK: (u8, u8) = (1, 1);
+
+pub(crate) const ORDER_NACK: (u8, u8) = (1, 5);
+
+// A response of no blocks, by its class and its type.
+pub(crate) fn short(kind: (u8, u8), status: u8) -> Packet
+    requires class { kind.0 < 4 }
+    requires kind { kind.1 < 8 }
     requires status { status < 8 }
-    ensures { result ≡ short_response class kind status }
+    ensures { result ≡ short_response kind.0 kind.1 status }
 {
-    let head = PacketHead::response(LLID, class, kind, status, 0);
+    let head = PacketHead::response(LLID, kind.0, kind.1, status, 0);
     Packet::Plain(Plain::new(head, Octets::new()))
-}
-
-// ACK.
-pub(crate) fn ack(status: u8) -> Packet
-    requires { status < 8 }
-    ensures { result ≡ ack_packet status }
-{
-    short(0, 1, status)
-}
-
-// NACK, as the packet CRC does not agree.
-pub(crate) fn crc_nack(status: u8) -> Packet
-    requires { status < 8 }
-    ensures { result ≡ crc_nack_packet status }
-{
-    short(1, 1, status)
-}
-
-// NACK, out of sequence.
-pub(crate) fn order_nack(status: u8) -> Packet
-    requires { status < 8 }
-    ensures { result ≡ order_nack_packet status }
-{
-    short(1, 5, status)
 }
 
 // Selective retry, with the flags of the blocks that have come.

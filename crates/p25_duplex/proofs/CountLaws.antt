@@ -3,8 +3,7 @@ use Rattle.std.proofs.Common.{◌≡◌, ℕ, Bool, List, refl}
 use Rattle.p25_stations.proofs.CountedLaws.{Counts, none-counted, none-from}
 use Rattle.p25_duplex.specs.declared.event.DuplexEvent.{DuplexEvent}
 use Rattle.p25_duplex.specs.declared.event.DuplexStep.{DuplexStep}
-use Rattle.p25_duplex.specs.DuplexState.{DuplexState, first_duplex}
-use Rattle.p25_duplex.specs.DuplexSteps.{duplex_step}
+use Rattle.p25_duplex.specs.DuplexSteps.{DuplexState, first_duplex, duplex_step}
 use Rattle.p25_duplex.specs.DuplexRuns.{duplex_run, IsCleanDuplex}
 
 abbrev passes-in : DuplexState → ℕ

@@ -11,7 +11,7 @@ use Rattle.p25_delivery.specs.SentPackets.{message_packet, blocks_packet, openin
 use Rattle.p25_delivery.specs.declared.sender.Outstanding.{Outstanding}
 use Rattle.p25_delivery.specs.declared.sender.Outstanding.TheVariants.{Nothing, Message, Opening}
 use Rattle.p25_delivery.specs.Delivery.{Delivery, Session}
-use Rattle.p25_delivery.specs.Clean.{IsTrueTo}
+use Rattle.p25_delivery.specs.Orderly.{IsTrueTo}
 use Rattle.p25_delivery.specs.Facts.{IsDataOf, IsNewestData, SessionFacts, FactsBy, DeliveryFacts}
 use Rattle.p25_duplex.specs.DuplexSteps.{is_answer}
 

@@ -3,8 +3,7 @@ use Rattle.std.specs.Prelude.{◌≡◌, false, List, [], ◌∷◌, Option, Som
 use Rattle.p25_delivery.specs.SoundHalves.{IsMessage}
 use Rattle.p25_delivery.specs.Runs.{run_by, steps_by, EachIs}
 use Rattle.p25_delivery.specs.Delivery.{Delivery, newest_after}
-pub use Rattle.p25_duplex.specs.DuplexState.{DuplexState, first_duplex, station_at, delivery_at, Packet, Side, other_side}
-pub use Rattle.p25_duplex.specs.DuplexSteps.{is_answer, duplex_step, DuplexEvent, Send, DuplexStep}
+pub use Rattle.p25_duplex.specs.DuplexSteps.{DuplexState, first_duplex, station_at, delivery_at, Packet, Side, other_side, is_answer, duplex_step, DuplexEvent, Send, DuplexStep}
 
 -- what every event keeps: what is sent is a message of at most 2,028 octets
 unfoldable pub IsDuplexEvent : DuplexEvent → Type 0

@@ -1,4 +1,2 @@
-pub mod Sides
-pub mod DuplexState
 pub mod DuplexSteps
 pub mod DuplexRuns

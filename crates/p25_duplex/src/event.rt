@@ -1,4 +1,5 @@
 ghost use Rattle.std.specs.Prelude.{◌≡◌};
+ghost use Rattle.p25_duplex.specs.DuplexSteps.{side_of};
 
 use crate::side::Side;
 use p25_messages::{Flips, Message};
@@ -23,8 +24,6 @@ pub enum DuplexEvent {
 }
 
 impl DuplexEvent {
-    ghost use Rattle.p25_duplex.specs.DuplexSteps.{side_of};
-
     /// Answers the station at which it happens: that which acts or hears.
     pub fn side(&self) -> Side
         ensures { result ≡ side_of self.now }

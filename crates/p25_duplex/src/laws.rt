@@ -3,8 +3,7 @@
 
 ghost use Rattle.std.specs.Prelude.{◌≡◌, List, Some, IfSome};
 ghost use Rattle.p25_delivery.specs.Delivery.{Happening, first_delivery, delivery_run, sessions_of};
-ghost use Rattle.p25_delivery.specs.Clean.{IsCleanRun};
-ghost use Rattle.p25_delivery.specs.Orderly.{AreOrderly};
+ghost use Rattle.p25_delivery.specs.Orderly.{IsCleanRun, AreOrderly};
 ghost use Rattle.p25_delivery.specs.Facts.{DeliveryFacts};
 ghost use Rattle.p25_duplex.specs.DuplexRuns.{AreDuplexEvents, IsCleanDuplex, duplex_run, data_in, answer_in, delivery_after, Side as side_type, first_duplex, station_at, delivery_at, DuplexEvent as event_type};
 

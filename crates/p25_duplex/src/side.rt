@@ -1,5 +1,5 @@
 ghost use Rattle.std.specs.Prelude.{◌≡◌, ◌∷◌, [], length};
-ghost use Rattle.p25_duplex.specs.Sides.{other_side, side_word};
+ghost use Rattle.p25_duplex.specs.DuplexSteps.{other_side, side_word};
 
 /// One of the two stations of a duplex world.
 #[derive(Clone, Copy, Debug, PartialEq, Eq)]

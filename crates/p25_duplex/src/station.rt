@@ -1,4 +1,5 @@
 ghost use Rattle.std.specs.Prelude.{◌≡◌, ◌<◌, ◌≤◌, OnOk, OnErr};
+ghost use Rattle.p25_duplex.specs.DuplexSteps.{first_station, StationState, is_answer, heard_as, station_step};
 
 use crate::event::DuplexEvent;
 use p25_delivery::{Inbound, Outbound, StepKind, Way};
@@ -18,7 +19,7 @@ pub(crate) struct Station {
 impl Model for Station {
     ghost use Rattle.std.specs.Prelude.{min};
     ghost use Rattle.p25_delivery.specs.Halves.{Roomy};
-    ghost use Rattle.p25_duplex.specs.DuplexState.{StationState};
+    ghost use Rattle.p25_duplex.specs.DuplexSteps.{StationState};
 
     ghost Value = { Roomy StationState };
 
@@ -29,8 +30,6 @@ impl Model for Station {
 }
 
 impl Station {
-    ghost use Rattle.p25_duplex.specs.DuplexState.{first_station};
-
     // Answers a station before its first step. It takes no memory.
     pub(crate) fn new(alloc: Global) -> Station
         ensures { result.state ≡ first_station }
@@ -67,11 +66,6 @@ impl Station {
         self.outbound.reserve(1)?;
         self.inbound.reserve(1)
     }
-}
-
-impl Station {
-    ghost use Rattle.p25_duplex.specs.DuplexState.{StationState};
-    ghost use Rattle.p25_duplex.specs.DuplexSteps.{is_answer, heard_as, station_step};
 
     // Answers the step that an event of this station is, beside the other station, and has it happen. There is room for it.
     #[tactic(auto, unfolding(p25_delivery::specs::Delivery::happens, p25_delivery::specs::Delivery::with_outbound))]

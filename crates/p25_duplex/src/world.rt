@@ -1,6 +1,5 @@
 ghost use Rattle.std.specs.Prelude.{◌≡◌, ◌+◌, ◌<◌, ◌≤◌, length, OnOk, OnErr, IfOk};
-ghost use Rattle.p25_duplex.specs.Sides.{other_side};
-ghost use Rattle.p25_duplex.specs.DuplexSteps.{station_step, duplex_step};
+ghost use Rattle.p25_duplex.specs.DuplexSteps.{other_side, station_step, duplex_step, first_duplex, station_at, with_station, delivery_at};
 
 use crate::event::{DuplexEvent, DuplexStep};
 use crate::side::Side;
@@ -21,7 +20,7 @@ pub struct DuplexWorld {
 impl Model for DuplexWorld {
     ghost use Rattle.std.specs.Prelude.{min};
     ghost use Rattle.p25_delivery.specs.Halves.{Roomy};
-    ghost use Rattle.p25_duplex.specs.DuplexState.{DuplexState};
+    ghost use Rattle.p25_duplex.specs.DuplexSteps.{DuplexState};
 
     ghost Value = { Roomy DuplexState };
 
@@ -32,8 +31,6 @@ impl Model for DuplexWorld {
 }
 
 impl DuplexWorld {
-    ghost use Rattle.p25_duplex.specs.DuplexState.{first_duplex, station_at, with_station, delivery_at};
-
     /// Answers a world before its first step: nothing was sent, and both receivers wait for the first message. It takes no
     /// memory.
     pub fn new(alloc: Global) -> DuplexWorld

@@ -14,7 +14,7 @@ use Rattle.p25_script.specs.Values.{message_in, places_in}
 use Rattle.p25_script.proofs.ValueLaws.{message-message_in, message-word, message_in-text, places-places_in, places-word, places_in-text}
 use Rattle.p25_duplex.specs.declared.side.Side.{Side}
 use Rattle.p25_duplex.specs.declared.side.Side.TheVariants.{A, B}
-use Rattle.p25_duplex.specs.Sides.{side_word}
+use Rattle.p25_duplex.specs.DuplexSteps.{side_word}
 use Rattle.p25_duplex.specs.declared.event.DuplexEvent.{DuplexEvent}
 use Rattle.p25_duplex.specs.declared.event.DuplexEvent.TheVariants.{Send, Timeout, Reopen, Deliver}
 use Rattle.p25_duplex.specs.DuplexRuns.{IsDuplexEvent}

@@ -13,7 +13,7 @@ use Rattle.p25_script.specs.declared.names.EventKind.{EventKind}
 use Rattle.p25_script.specs.declared.names.EventKind.TheVariants.{Send as SendLine, Timeout as TimeoutLine, Reopen as ReopenLine, Deliver as DeliverLine}
 use Rattle.p25_duplex.specs.declared.side.Side.{Side}
 use Rattle.p25_duplex.specs.declared.side.Side.TheVariants.{A, B}
-use Rattle.p25_duplex.specs.Sides.{side_word}
+use Rattle.p25_duplex.specs.DuplexSteps.{side_word}
 use Rattle.p25_duplex.specs.declared.event.DuplexEvent.{DuplexEvent}
 use Rattle.p25_duplex.specs.declared.event.DuplexEvent.TheVariants.{Send, Timeout, Reopen, Deliver}
 use Rattle.p25_duplex_script.specs.declared.read.DuplexStart.{DuplexStart}

@@ -3,8 +3,7 @@ use Rattle.std.specs.Prelude.{ℕ, ◌+◌, List, ◌++◌, length, codes, decim
 use Rattle.p25_script.specs.StepTexts.{sessions_text, step_text_of}
 use Rattle.p25_duplex.specs.declared.side.Side.{Side}
 use Rattle.p25_duplex.specs.declared.event.DuplexStep.{DuplexStep}
-use Rattle.p25_duplex.specs.Sides.{side_word}
-use Rattle.p25_duplex.specs.DuplexState.{DuplexState, delivery_at}
+use Rattle.p25_duplex.specs.DuplexSteps.{side_word, DuplexState, delivery_at}
 
 -- the text of a step, without the end of its line: the letter of the side that acts or hears, and what the step was
 unfoldable pub duplex_step_text_of : DuplexStep → List ℕ

@@ -9,7 +9,7 @@ use Rattle.p25_delivery.specs.SenderRules.{opening_number, is_opening}
 use Rattle.p25_delivery.specs.declared.sender.Outstanding.{Outstanding}
 use Rattle.p25_delivery.specs.declared.sender.Outstanding.TheVariants.{Nothing, Message, Opening}
 use Rattle.p25_delivery.specs.Delivery.{Session, Delivery, present_session, first_number}
-use Rattle.p25_delivery.specs.Clean.{IsHeardOf}
+use Rattle.p25_delivery.specs.Orderly.{IsHeardOf}
 use Rattle.p25_delivery.specs.Facts.{IsDataOf, OpeningFacts, SentBy, SessionFacts, FactsBy}
 use Rattle.p25_delivery.proofs.SentLaws.{data-heard}
 use Rattle.p25_delivery.proofs.CallLaws.{newest}

@@ -5,8 +5,7 @@ use Rattle.p25_delivery.specs.Runs.{run_by, steps_by, EachIs}
 use Rattle.p25_delivery.specs.declared.sender.Outstanding.TheVariants.{Nothing, Message}
 use Rattle.p25_delivery.specs.declared.step_kind.StepKind.{StepKind}
 use Rattle.p25_delivery.specs.Delivery.{Delivery, Session, last_mark, Happening, Time_up}
-use Rattle.p25_delivery.specs.Clean.{IsClean}
-use Rattle.p25_delivery.specs.Orderly.{IsOrderly, AreOrderly}
+use Rattle.p25_delivery.specs.Orderly.{IsClean, IsOrderly, AreOrderly}
 use Rattle.p25_delivery.proofs.DeliveryLaws.{happens-kept, first-kept}
 use Rattle.p25_delivery.proofs.SessionLaws.{divided-sent, present-sent}
 use Rattle.p25_stations.specs.declared.step.Event.{Event}

@@ -10,8 +10,7 @@ use Rattle.p25_delivery.specs.declared.sender.Outstanding.TheVariants.{Nothing, 
 use Rattle.p25_delivery.specs.declared.step_kind.StepKind.{StepKind}
 use Rattle.p25_delivery.specs.declared.step_kind.StepKind.TheVariants.{Acknowledged, Delivered}
 use Rattle.p25_delivery.specs.Delivery.{Delivery, Session, present_session, first_number, Happening, Offering}
-use Rattle.p25_delivery.specs.Clean.{IsClean}
-use Rattle.p25_delivery.specs.Orderly.{IsOrderly}
+use Rattle.p25_delivery.specs.Orderly.{IsClean, IsOrderly}
 use Rattle.p25_delivery.proofs.DeliveryLaws.{happens-kept}
 use Rattle.p25_delivery.proofs.SessionLaws.{divided-delivered, divided-acknowledged, present-sent, present-delivered, present-acknowledged}
 use Rattle.p25_delivery.proofs.PhaseLaws.{IsKept}

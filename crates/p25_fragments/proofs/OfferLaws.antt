@@ -16,7 +16,7 @@ use Rattle.p25_delivery.specs.Delivery.{Delivery, newest_after, with_outbound, h
 use Rattle.p25_delivery.proofs.SenderLaws.{offer-quiet}
 use Rattle.p25_stations.specs.declared.step.Event.TheVariants.{Send}
 use Rattle.p25_stations.specs.declared.step.Step.{Step}
-use Rattle.p25_stations.specs.RunLaws.{true_step}
+use Rattle.p25_stations.specs.Runs.{true_step}
 use Rattle.p25_stations.specs.WorldState.{WorldState}
 use Rattle.p25_stations.specs.Steps.{quiet_step, world_step}
 use Rattle.p25_fragments.specs.declared.long_step.LongStep.{LongStep}

@@ -76,8 +76,7 @@ impl Joiner {
     /// number is above 0. After a part the next number is expected, and else 0, with nothing held.
     #[tactic(auto, unfolding(crate::specs::Joining::message_taken))]
     pub fn take(&mut self, message: &Message) -> Joined
-        ensures state { self.new ≡ (message_taken self.old message.now).0 }
-        ensures answer { result ≡ (message_taken self.old message.now).1 }
+        ensures { (self.new, result) ≡ message_taken self.old message.now }
     {
         match message.octets().split_first() {
             Some((mark, octets)) => self.take_part(*mark >= LAST_PART, *mark % LAST_PART, octets),
@@ -91,8 +90,7 @@ impl Joiner {
     // Takes a part with a number.
     #[tactic(auto, unfolding(crate::specs::Joining::part_taken, crate::specs::Joining::taken_as))]
     fn take_part(&mut self, is_last: bool, number: u8, octets: &[u8]) -> Joined
-        ensures state { self.new ≡ (part_taken is_last self.old number octets.now).0 }
-        ensures answer { result ≡ (part_taken is_last self.old number octets.now).1 }
+        ensures { (self.new, result) ≡ part_taken is_last self.old number octets.now }
     {
         if is_refused(self.next, is_last, number, octets.len()) {
             self.reset();

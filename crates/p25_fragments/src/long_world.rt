@@ -1,7 +1,10 @@
 #![tactic(auto, unfolding(crate::specs::LongSteps::long_step, crate::specs::LongSteps::started, crate::specs::LongSteps::inner_happened))]
 
 ghost use Rattle.std.specs.Prelude.{◌≡◌, ◌+◌, ◌<◌, ◌≤◌, OnOk, OnErr, IfOk};
-ghost use Rattle.p25_fragments.specs.LongSteps.{long_step};
+ghost use Rattle.p25_fragments.specs.LongSteps.{long_step, started, long_offered, after_acknowledged, after_delivered, after_kind, session_ended, inner_happened};
+ghost use Rattle.p25_fragments.specs.LongState.{first_long, TakesRoom};
+ghost use Rattle.p25_stations.specs.Steps.{world_step};
+ghost use Rattle.p25_fragments.specs.Joining.{message_taken};
 
 use crate::joiner::{Joined, Joiner};
 use crate::long_step::{LongEvent, LongStep, Then};
@@ -32,6 +35,13 @@ pub struct LongWorld {
     marks: Vec<Mark>,
 }
 
+// A step in which nothing changes.
+fn unmoved(then: Then) -> LongStep
+    ensures { result ≡ record { first = None; then = then } }
+{
+    LongStep { first: None, then }
+}
+
 impl Model for LongWorld {
     ghost use Rattle.p25_fragments.specs.LongState.{LongParts};
 
@@ -46,8 +56,6 @@ impl Model for LongWorld {
 }
 
 impl LongWorld {
-    ghost use Rattle.p25_fragments.specs.LongState.{first_long};
-
     /// Answers a world before its first step: no long message was taken. It takes no memory.
     pub fn new(alloc: Global) -> LongWorld
         ensures { result.state ≡ first_long }
@@ -113,8 +121,7 @@ impl LongWorld {
     /// nothing changes.
     pub fn step_ready(&mut self, event: &LongEvent) -> LongStep
         requires { 0 < self.old.spare }
-        ensures state { self.new.state ≡ (long_step self.old.state event.now).0 }
-        ensures step { result ≡ (long_step self.old.state event.now).1 }
+        ensures step { (self.new.state, result) ≡ long_step self.old.state event.now }
         ensures spare { self.old.spare ≤ self.new.spare + 1 }
     {
         match event {
@@ -133,20 +140,6 @@ impl LongWorld {
         self.reserve(1)?;
         Ok(self.step_ready(event))
     }
-}
-
-// A step in which nothing changes.
-fn unmoved(then: Then) -> LongStep
-    ensures { result ≡ record { first = None; then = then } }
-{
-    LongStep { first: None, then }
-}
-
-impl LongWorld {
-    ghost use Rattle.p25_stations.specs.Steps.{world_step};
-    ghost use Rattle.p25_fragments.specs.Joining.{message_taken};
-    ghost use Rattle.p25_fragments.specs.LongState.{TakesRoom};
-    ghost use Rattle.p25_fragments.specs.LongSteps.{started, long_offered, after_acknowledged, after_delivered, after_kind, session_ended, inner_happened};
 
     // Offers a long message.
     fn offer(&mut self, message: &LongMessage) -> LongStep

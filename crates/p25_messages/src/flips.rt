@@ -1,4 +1,4 @@
-ghost use Rattle.std.specs.Prelude.{◌≡◌, ◌+◌, ◌<◌, ◌≤◌, Some, List, [], ◌∷◌, ◌++◌, length, slice_get, All};
+ghost use Rattle.std.specs.Prelude.{◌≡◌, ℕ, ◌+◌, ◌<◌, ◌≤◌, Some, List, [], ◌∷◌, ◌++◌, length, slice_get, All};
 ghost use Rattle.std.specs.List.Sorted.{IsStrictlyIncreasing};
 
 use arrayvec::ArrayVec;
@@ -12,9 +12,6 @@ pub struct Flips {
 }
 
 impl Model for Flips {
-    ghost use Rattle.std.specs.Prelude.{ℕ, ◌<◌, List, All};
-    ghost use Rattle.std.specs.List.Sorted.{IsStrictlyIncreasing};
-
     ghost Value = { List ℕ };
 
     ghost view = { λ s. s.items.items };

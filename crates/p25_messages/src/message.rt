@@ -1,4 +1,4 @@
-ghost use Rattle.std.specs.Prelude.{◌≡◌, ◌≤◌, ◌↔◌, List, length, IsSome, IfSome};
+ghost use Rattle.std.specs.Prelude.{◌≡◌, ℕ, ⊤, ◌≤◌, ◌↔◌, List, length, IsSome, IfSome};
 
 use arrayvec::ArrayVec;
 use std::alloc::AllocError;
@@ -14,8 +14,6 @@ pub struct MessageOf<const MOST: usize> {
 }
 
 impl<const MOST: usize> Model for MessageOf<MOST> {
-    ghost use Rattle.std.specs.Prelude.{ℕ, List};
-
     ghost Value = { List ℕ };
 
     ghost view = { λ s. s.items.items };
@@ -44,8 +42,6 @@ impl<const MOST: usize> MessageOf<MOST> {
 }
 
 impl<const MOST: usize> Clone for MessageOf<MOST> {
-    ghost use Rattle.std.specs.Prelude.{⊤, ◌≡◌};
-
     ghost is_clone = { λ message copy. copy ≡ message };
 
     ghost is_infallible = { λ _. ⊤ };

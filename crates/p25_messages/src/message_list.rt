@@ -1,5 +1,5 @@
-ghost use Rattle.std.specs.Prelude.{◌≡◌, ◌+◌, ◌^◌, ◌<◌, ◌≤◌, Some, List, [], ◌∷◌, ◌++◌, length, slice_get, OnOk, OnErr};
-ghost use Rattle.p25_messages.specs.MessageList.{start_before};
+ghost use Rattle.std.specs.Prelude.{◌≡◌, ◌+◌, ◌^◌, ◌<◌, ◌≤◌, Some, List, [], ◌∷◌, ◌++◌, length, slice_get, vec_len, OnOk, OnErr};
+ghost use Rattle.p25_messages.specs.MessageList.{ListParts, pieces_between, start_before, room_for, IsKept};
 
 use crate::message::MessageOf;
 use std::alloc::{AllocError, Global};
@@ -19,9 +19,6 @@ pub struct MessageListOf<const MOST: usize> {
 }
 
 impl<const MOST: usize> Model for MessageListOf<MOST> {
-    ghost use Rattle.std.specs.Prelude.{vec_len};
-    ghost use Rattle.p25_messages.specs.MessageList.{ListParts, pieces_between, room_for, IsKept};
-
     ghost Value = { ListParts };
 
     ghost view = { λ s. record { list = pieces_between 0 s.ends.items s.octets.items; spare = room_for MOST s.octets s.ends } };

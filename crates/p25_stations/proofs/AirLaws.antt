@@ -22,7 +22,7 @@ use Rattle.p25_packet_blocks.specs.Parts.{BlockParts, PlainParts}
 use Rattle.p25_packet_blocks.specs.Sendable.{IsSendable}
 use Rattle.p25_packet_blocks.specs.UnitReading.{packet_unit_of}
 use Rattle.p25_packet_blocks.specs.Within.{IsPacketWithin, IsSending, sent_unit}
-use Rattle.p25_delivery.specs.Clean.{AreTrueSlots, IsTrueTo}
+use Rattle.p25_delivery.specs.Orderly.{AreTrueSlots, IsTrueTo}
 use Rattle.p25_stations.specs.declared.air.Carried.TheVariants.{Lost, Foreign, Heard}
 use Rattle.p25_stations.specs.Air.{station_nac, station_status, transmission_of, received_bits, is_true_slot, are_true_slots, is_true_to, carried_from, carried_of, ArrivesWithin}
 

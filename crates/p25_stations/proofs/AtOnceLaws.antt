@@ -24,7 +24,7 @@ use Rattle.p25_delivery.specs.declared.step_kind.Way.{Way}
 use Rattle.p25_delivery.specs.declared.step_kind.Way.TheVariants.{Packets, Answers}
 use Rattle.p25_delivery.specs.HalfRules.{after_offer, after_reopening, after_data, after_answer}
 use Rattle.p25_delivery.specs.Delivery.{Delivery, first_delivery, Happening, newest_after, with_outbound, with_inbound, happens, delivery_run}
-use Rattle.p25_delivery.specs.Clean.{IsCleanRun as IsCleanDelivery}
+use Rattle.p25_delivery.specs.Orderly.{IsCleanRun as IsCleanDelivery}
 use Rattle.p25_delivery.specs.AtOnce.{DeliversAtOnce, OpensAtOnce}
 use Rattle.p25_delivery.proofs.DeliveryLaws.{run-delivers}
 use Rattle.p25_delivery.proofs.AtOnceLaws.{opens-down}
@@ -36,10 +36,8 @@ use Rattle.p25_stations.specs.declared.air.Carried.{Carried}
 use Rattle.p25_stations.specs.Air.{ArrivesWithin}
 use Rattle.p25_stations.specs.WorldState.{WorldState, first_world}
 use Rattle.p25_delivery.specs.SoundHalves.{IsMessage}
-use Rattle.p25_stations.specs.Deliveries.{heard_of, delivery_of}
-use Rattle.p25_stations.specs.Steps.{quiet_step, counted_when, heard_by, newest_by, delivered, world_step}
-use Rattle.p25_stations.specs.Runs.{IsEvent, AreEvents, world_run, steps_of}
-use Rattle.p25_stations.specs.RunLaws.{IsWithin, AreWithin, true_step}
+use Rattle.p25_stations.specs.Steps.{heard_of, delivery_of, quiet_step, counted_when, heard_by, newest_by, delivered, world_step}
+use Rattle.p25_stations.specs.Runs.{IsEvent, AreEvents, world_run, steps_of, IsWithin, AreWithin, true_step}
 use Rattle.p25_stations.proofs.AirLaws.{ReadsWithin, air-within}
 use Rattle.p25_stations.proofs.SoundLaws.{IsSoundDelivery, step-sound, run-sound, first-sound}
 use Rattle.p25_stations.proofs.CleanLaws.{from-deliveries}

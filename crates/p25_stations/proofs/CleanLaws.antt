@@ -4,8 +4,7 @@ use Rattle.std.proofs.Common.{◌≡◌, Bool, false, List, [], ◌∷◌, ℕ, 
 use Rattle.p25_packet_blocks.specs.declared.packet.Packet.{Packet}
 use Rattle.p25_delivery.specs.Runs.{run_by, steps_by, MeetAt, EachIs}
 use Rattle.p25_delivery.specs.Delivery.{Delivery, first_delivery, Happening, delivery_run, sessions_of}
-use Rattle.p25_delivery.specs.Clean.{IsHeardOf, IsClean, IsCleanRun as IsCleanDelivery}
-use Rattle.p25_delivery.specs.Orderly.{AreOrderly, AreCounted}
+use Rattle.p25_delivery.specs.Orderly.{IsHeardOf, IsClean, IsCleanRun as IsCleanDelivery, AreOrderly, AreCounted}
 use Rattle.p25_delivery.specs.Facts.{DeliveryFacts}
 use Rattle.p25_delivery.proofs.DeliveryLaws.{sessions-orderly, facts-kept}
 use Rattle.p25_delivery.proofs.CountLaws.{sessions-counted}

@@ -12,10 +12,8 @@ use Rattle.p25_stations.specs.declared.step.Event.TheVariants.{Send, Timeout, Re
 use Rattle.p25_stations.specs.declared.step.Step.{Step}
 use Rattle.p25_stations.specs.Air.{places_within, ArrivesWithin}
 use Rattle.p25_stations.specs.WorldState.{WorldState, first_world}
-use Rattle.p25_stations.specs.Deliveries.{heard_of, delivery_of}
-use Rattle.p25_stations.specs.Steps.{counted_when, newest_by, delivered, world_step}
-use Rattle.p25_stations.specs.Runs.{world_run, IsCleanRun}
-use Rattle.p25_stations.specs.RunLaws.{IsWithin, IsTwiceDamaged}
+use Rattle.p25_stations.specs.Steps.{heard_of, delivery_of, counted_when, newest_by, delivered, world_step}
+use Rattle.p25_stations.specs.Runs.{world_run, IsCleanRun, IsWithin, IsTwiceDamaged}
 use Rattle.p25_stations.proofs.AirLaws.{ReadsWithin, air-within}
 use Rattle.p25_stations.proofs.CountedLaws.{none-counted, none-from}
 use Rattle.p25_stations.proofs.FewFlipsLaws.{few-arrive}

@@ -14,8 +14,7 @@ use Rattle.p25_stations.specs.declared.step.Event.TheVariants.{Send, Timeout, Re
 use Rattle.p25_stations.specs.declared.step.Step.{Step}
 use Rattle.p25_stations.specs.Air.{carried_of}
 use Rattle.p25_stations.specs.WorldState.{WorldState}
-use Rattle.p25_stations.specs.Deliveries.{heard_of, delivery_of}
-use Rattle.p25_stations.specs.Steps.{counted_when, quiet_step, heard_step, heard_by, newest_by, delivered, world_step}
+use Rattle.p25_stations.specs.Steps.{heard_of, delivery_of, counted_when, quiet_step, heard_step, heard_by, newest_by, delivered, world_step}
 
 -- what an event has happen at a delivery, and whether it is a false pass
 pub data HasHappen (delivery : Delivery) : Event → Bool → Happening → Type 0 where

@@ -24,8 +24,7 @@ use Rattle.p25_stations.specs.declared.step.Event.TheVariants.{Send, Timeout, Re
 use Rattle.p25_stations.specs.declared.step.Step.{Step}
 use Rattle.p25_stations.specs.WorldState.{WorldState}
 use Rattle.p25_stations.specs.Steps.{world_step}
-use Rattle.p25_stations.specs.Runs.{steps_of, world_run}
-use Rattle.p25_stations.specs.StepLists.{delivered_by, delivered_in, sent_by, sent_in, is_acknowledged, acknowledged_in}
+use Rattle.p25_stations.specs.Runs.{steps_of, world_run, delivered_by, delivered_in, sent_by, sent_in, is_acknowledged, acknowledged_in}
 use Rattle.p25_stations.proofs.StepLaws.{HasHappen, offers, is_late, opens, brings_data, brings_answer, IsQuiet, nothing, lost, ignored, Does, rests, does, step-does}
 
 -- what an event of a kind adds to the lists of a delivery

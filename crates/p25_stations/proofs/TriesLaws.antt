@@ -34,8 +34,7 @@ use Rattle.p25_stations.specs.declared.step.Event.{Event}
 use Rattle.p25_stations.specs.declared.step.Step.{Step}
 use Rattle.p25_stations.specs.WorldState.{WorldState, first_world}
 use Rattle.p25_stations.specs.Steps.{world_step}
-use Rattle.p25_stations.specs.Runs.{AreEvents, world_run, steps_of}
-use Rattle.p25_stations.specs.RunLaws.{tries_after, tries_in}
+use Rattle.p25_stations.specs.Runs.{AreEvents, world_run, steps_of, tries_after, tries_in}
 use Rattle.p25_stations.proofs.StepLaws.{IsQuiet, nothing, lost, ignored, Does, rests, does, step-does}
 use Rattle.p25_stations.proofs.SoundLaws.{IsSoundDelivery, step-sound, run-sound, first-sound}
 

@@ -1,8 +1,11 @@
--- Runs of the world: its state and its steps after a list of events, and what makes a run clean.
-use Rattle.std.specs.Prelude.{◌≡◌, false, List}
+-- Runs of the world: its state and its steps after a list of events, what makes a run clean, and what the laws say of events, of
+-- the messages that steps tell of, and of the number of those that they acknowledge.
+use Rattle.std.specs.Prelude.{◌≡◌, false, List, ℕ, ◌+◌, ◌≤◌, [], ◌∷◌, IfSome, Some, count_by, Bool, true, ◌++◌}
 use Rattle.p25_delivery.specs.SoundHalves.{IsMessage}
-use Rattle.p25_delivery.specs.Runs.{run_by, steps_by, EachIs}
-use Rattle.p25_stations.specs.Steps.{world_step, Event, Send, Step, WorldState, first_world}
+use Rattle.p25_delivery.specs.Runs.{run_by, steps_by, EachIs, MeetAt}
+use Rattle.p25_stations.specs.Steps.{world_step, Event, Send, Step, WorldState, first_world, Packet, ToReceiver, ToSender}
+use Rattle.p25_delivery.specs.declared.step_kind.StepKind.{StepKind, TheVariants.{Taken, Resent, Reopened, Acknowledged, LinkOpened, Retry, Repeat, Delivered}}
+use Rattle.p25_stations.specs.Air.{ArrivesWithin, places_within}
 
 -- what every event keeps: what is sent is a message of at most 2,028 octets
 unfoldable pub IsEvent : Event → Type 0
@@ -25,3 +28,71 @@ AreClean steps = EachIs (λ step. step.false_pass ≡ false) steps
 
 abbrev pub IsCleanRun : List Event → Type 0
 IsCleanRun events = AreClean (steps_of first_world events)
+
+-- a delivery whose bits arrive within radius of what was sent, or any other event
+unfoldable pub IsWithin : WorldState → Event → Type 0
+IsWithin w (ToReceiver flips) = IfSome w.delivery.packet_sent (λ packet. ArrivesWithin packet flips)
+IsWithin w (ToSender flips) = IfSome w.delivery.answer (λ packet. ArrivesWithin packet flips)
+IsWithin w other = Unit {0}
+
+-- each event of a list, at its moment
+abbrev pub AreWithin : WorldState → List Event → Type 0
+AreWithin w events = MeetAt world_step IsWithin w events
+
+-- a delivery of which at least two bits come inverted
+unfoldable pub IsTwiceDamaged : WorldState → Event → Type 0
+IsTwiceDamaged w (ToReceiver flips) = (packet : Packet) × (w.delivery.packet_sent ≡ Some packet) × (2 ≤ places_within packet flips)
+IsTwiceDamaged w (ToSender flips) = (packet : Packet) × (w.delivery.answer ≡ Some packet) × (2 ≤ places_within packet flips)
+IsTwiceDamaged w other = ⊥
+
+-- a step that is no false pass
+abbrev pub true_step : StepKind → Step
+true_step kind = record { kind = kind; false_pass = false }
+
+-- how often the present message or opening packet was sent, after a step before which it was sent so often: a taken message
+-- and an opening begin a count, an acknowledgement and an opened session end it, and what is sent again counts on
+abbrev pub tries_after : ℕ → StepKind → ℕ
+tries_after tries (Taken number blocks) = tries + 1
+tries_after tries (Resent number again) = tries + 1
+tries_after tries (Reopened number) = 1
+tries_after tries (Acknowledged number) = 0
+tries_after tries (LinkOpened number) = 0
+tries_after tries (Retry number wanted again) = tries + 1
+tries_after tries (Repeat number again) = tries + 1
+tries_after tries kind = tries
+
+-- the number of transmissions since the last step that ended or began a count: of all steps that send one, those after the
+-- last Acknowledged or LinkOpened, or from the last Reopened on
+unfoldable pub tries_in : ℕ → List Step → ℕ
+tries_in tries [] = tries
+tries_in tries (step ∷ steps) = tries_in (tries_after tries step.kind) steps
+
+-- the message of a Delivered step, and none of any other
+abbrev pub delivered_by : StepKind → List (List ℕ)
+delivered_by (Delivered number message) = message ∷ []
+delivered_by kind = []
+
+-- the message of an event whose step is Taken, and none of any other
+abbrev pub sent_by : Event → StepKind → List (List ℕ)
+sent_by (Send message) (Taken number blocks) = message ∷ []
+sent_by event kind = []
+
+-- the messages of the Delivered steps, in order
+unfoldable pub delivered_in : List Step → List (List ℕ)
+delivered_in [] = []
+delivered_in (step ∷ steps) = delivered_by step.kind ++ delivered_in steps
+
+-- the messages of the events whose steps are Taken, in order
+unfoldable pub sent_in : List Event → List Step → List (List ℕ)
+sent_in [] steps = []
+sent_in events [] = []
+sent_in (event ∷ events) (step ∷ steps) = sent_by event step.kind ++ sent_in events steps
+
+-- whether a step is Acknowledged
+abbrev pub is_acknowledged : StepKind → Bool
+is_acknowledged (Acknowledged number) = true
+is_acknowledged kind = false
+
+-- the number of the Acknowledged steps
+abbrev pub acknowledged_in : List Step → ℕ
+acknowledged_in steps = count_by (λ (step : Step). is_acknowledged step.kind) steps

@@ -1,7 +1,7 @@
-ghost use Rattle.std.specs.Prelude.{◌≡◌, None, IfSome};
+ghost use Rattle.std.specs.Prelude.{◌≡◌, Option, None, IfSome};
 ghost use Rattle.p25_packet_blocks.specs.Sendable.{IsSendable};
 ghost use Rattle.p25_delivery.specs.Delivery.{newest_after};
-ghost use Rattle.p25_stations.specs.Deliveries.{delivery_of};
+ghost use Rattle.p25_stations.specs.Steps.{delivery_of, Packet};
 
 use crate::air::{Carried, carry};
 use p25_delivery::{StepKind, Way};
@@ -16,10 +16,6 @@ pub struct Newest {
 }
 
 impl Model for Newest {
-    ghost use Rattle.std.specs.Prelude.{Option, IfSome};
-    ghost use Rattle.p25_packet_blocks.specs.declared.packet.Packet.{Packet};
-    ghost use Rattle.p25_packet_blocks.specs.Sendable.{IsSendable};
-
     ghost Value = { Option Packet };
 
     ghost view = { λ n. n.packet };
@@ -51,7 +47,7 @@ impl Newest {
 
     /// Answers what comes of it that way: the packet that is heard, and whether it is a false pass, as `carry` says; or the
     /// step in which nothing is heard, which is Lost or Ignored, or Nothing where there is no transmission.
-    #[tactic(auto, unfolding(crate::specs::Deliveries::delivery_of, crate::specs::Deliveries::heard_of))]
+    #[tactic(auto, unfolding(crate::specs::Steps::delivery_of, crate::specs::Steps::heard_of))]
     pub fn deliver(&self, way: Way, flips: &Flips) -> Result<(Packet, bool), StepKind>
         ensures { result ≡ delivery_of way self.now flips.now }
     {

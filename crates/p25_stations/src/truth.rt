@@ -1,10 +1,9 @@
 #![tactic(auto, unfolding(crate::specs::Air::is_true_slot, crate::specs::Air::are_true_slots, crate::specs::Air::is_true_to))]
 
 ghost use Rattle.std.specs.Prelude.{◌≡◌, ◌&&◌};
-ghost use Rattle.std.specs.Str.{bytes_eq};
 ghost use Rattle.p25_stations.specs.Air.{is_true_slot, are_true_slots, is_true_to};
 
-use p25_packet_blocks::{Packet, PacketHead, Slot, Slots};
+use p25_packet_blocks::{Packet, Slot, Slots};
 
 // Whether a slot is Bad, or holds the same block as the one that was sent.
 fn is_true_slot(sent: Slot, heard: Slot) -> bool
@@ -34,13 +33,6 @@ fn are_true_slots(sent: &Slots, heard: &Slots) -> bool
     true
 }
 
-// Whether two headers are the same.
-fn are_same(sent: PacketHead, heard: PacketHead) -> bool
-    ensures { result ≡ bytes_eq sent.0 heard.0 }
-{
-    sent.0 == heard.0
-}
-
 // Whether a packet that was read has the header of the one that was sent, and slot by slot is Bad or holds the same block,
 // or has the same octets.
 pub(crate) fn is_true_to(sent: &Packet, heard: &Packet) -> bool
@@ -48,10 +40,10 @@ pub(crate) fn is_true_to(sent: &Packet, heard: &Packet) -> bool
 {
     match (sent, heard) {
         (Packet::Confirmed(sent), Packet::Confirmed(heard)) => {
-            are_same(sent.head(), heard.head()) && are_true_slots(sent.slots(), heard.slots())
+            sent.head() == heard.head() && are_true_slots(sent.slots(), heard.slots())
         }
         (Packet::Plain(sent), Packet::Plain(heard)) => {
-            are_same(sent.head(), heard.head()) && sent.octets().octets() == heard.octets().octets()
+            sent.head() == heard.head() && sent.octets().octets() == heard.octets().octets()
         }
         _ => false,
     }

@@ -1,5 +1,7 @@
 ghost use Rattle.std.specs.Prelude.{◌≡◌, ◌+◌, ◌<◌, ◌≤◌, length, OnOk, OnErr, IfOk};
-ghost use Rattle.p25_stations.specs.Steps.{world_step};
+ghost use Rattle.p25_stations.specs.Steps.{world_step, heard_by, delivery_step};
+ghost use Rattle.p25_stations.specs.WorldState.{first_world};
+ghost use Rattle.p25_delivery.specs.Delivery.{happens};
 
 use crate::newest::Newest;
 use crate::step::{Event, Step};
@@ -36,8 +38,6 @@ impl Model for World {
 }
 
 impl World {
-    ghost use Rattle.p25_stations.specs.WorldState.{first_world};
-
     /// Answers a world before its first step: nothing was sent, and the receiver waits for the first message. It takes no
     /// memory.
     pub fn new(alloc: Global) -> World
@@ -105,8 +105,7 @@ impl World {
     #[tactic(auto, unfolding(crate::specs::Steps::world_step, p25_delivery::specs::Delivery::happens, p25_delivery::specs::Delivery::with_outbound))]
     pub fn step_ready(&mut self, event: &Event) -> Step
         requires { 0 < self.old.spare }
-        ensures state { self.new.state ≡ (world_step self.old.state event.now).0 }
-        ensures step { result ≡ (world_step self.old.state event.now).1 }
+        ensures step { (self.new.state, result) ≡ world_step self.old.state event.now }
         ensures spare { self.old.spare ≤ self.new.spare + 1 }
     {
         match event {
@@ -133,19 +132,13 @@ impl World {
         self.reserve(1)?;
         Ok(self.step_ready(event))
     }
-}
-
-impl World {
-    ghost use Rattle.p25_delivery.specs.Delivery.{happens};
-    ghost use Rattle.p25_stations.specs.Steps.{heard_by, newest_by, delivery_step};
 
     // Has a station hear a packet that came that way.
     #[tactic(auto, unfolding(crate::specs::Steps::heard_by, p25_delivery::specs::Delivery::happens, p25_delivery::specs::Delivery::with_outbound, p25_delivery::specs::Delivery::with_inbound))]
     fn hear(&mut self, way: Way, packet: &Packet) -> StepKind
         requires { 0 < self.old.spare }
-        ensures delivery { self.new.state.delivery ≡ (happens self.old.state.delivery (heard_by way packet.now)).0 }
+        ensures step { (self.new.state.delivery, result) ≡ happens self.old.state.delivery (heard_by way packet.now) }
         ensures passes { self.new.state.false_passes ≡ self.old.state.false_passes }
-        ensures kind { result ≡ (happens self.old.state.delivery (heard_by way packet.now)).1 }
         ensures spare { self.old.spare ≤ self.new.spare + 1 }
     {
         match way {
@@ -154,26 +147,18 @@ impl World {
         }
     }
 
-    // The newest transmission of a way.
-    #[tactic(auto, unfolding(crate::specs::Steps::newest_by))]
-    fn newest(&self, way: Way) -> &Newest
-        ensures { result.now ≡ newest_by way self.now.state.delivery }
-    {
-        match way {
-            Way::Packets => &self.packet_sent,
-            Way::Answers => &self.answer,
-        }
-    }
-
     // Delivers the newest transmission of a way.
-    #[tactic(auto, unfolding(crate::specs::Steps::delivered))]
+    #[tactic(auto, unfolding(crate::specs::Steps::delivered, crate::specs::Steps::newest_by))]
     fn deliver(&mut self, way: Way, flips: &Flips) -> Step
         requires { 0 < self.old.spare }
-        ensures state { self.new.state ≡ (delivery_step self.old.state way flips.now).0 }
-        ensures step { result ≡ (delivery_step self.old.state way flips.now).1 }
+        ensures step { (self.new.state, result) ≡ delivery_step self.old.state way flips.now }
         ensures spare { self.old.spare ≤ self.new.spare + 1 }
     {
-        match self.newest(way).deliver(way, flips) {
+        let heard = match way {
+            Way::Packets => self.packet_sent.deliver(way, flips),
+            Way::Answers => self.answer.deliver(way, flips),
+        };
+        match heard {
             Err(kind) => Step::quiet(kind),
             Ok((packet, false_pass)) => {
                 let kind = self.hear(way, &packet);

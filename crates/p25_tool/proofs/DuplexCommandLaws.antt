@@ -1,7 +1,6 @@
 -- What the work of `duplex` writes from the first octet on is what the command is defined to write.
 use Rattle.std.proofs.Common.{true}
-use Rattle.p25_duplex.specs.DuplexState.{first_duplex}
-use Rattle.p25_duplex.specs.DuplexSteps.{duplex_step}
+use Rattle.p25_duplex.specs.DuplexSteps.{first_duplex, duplex_step}
 use Rattle.p25_filter.specs.LineFilters.{first_line, line_future}
 use Rattle.p25_filter.specs.LineRules.{told_by}
 use Rattle.p25_filter.proofs.RulesLaws.{first_line-ends}

@@ -24,7 +24,7 @@ use Rattle.p25_fragment_script.specs.LongScript.{IsLongScripted, long_event_of}
 use Rattle.p25_fragment_script.specs.LongTexts.{long_step_text_of}
 use Rattle.p25_fragment_script.proofs.LongScriptLaws.{IsLineOf-long_event_of}
 use Rattle.p25_duplex.specs.declared.event.DuplexEvent.{DuplexEvent}
-use Rattle.p25_duplex.specs.DuplexState.{first_duplex}
+use Rattle.p25_duplex.specs.DuplexSteps.{first_duplex}
 use Rattle.p25_duplex.specs.DuplexRuns.{AreDuplexEvents, IsDuplexEvent, duplex_run, duplex_steps}
 use Rattle.p25_duplex.proofs.RunLaws.{run-orderly as duplex-orderly}
 use Rattle.p25_duplex_script.specs.DuplexLines.{duplex_event_of}

@@ -1,7 +1,6 @@
 -- The rules of `duplex`: the step of the event that a line tells of.
 use Rattle.std.specs.Prelude.{true}
-use Rattle.p25_duplex.specs.DuplexState.{DuplexState}
-use Rattle.p25_duplex.specs.DuplexSteps.{duplex_step}
+use Rattle.p25_duplex.specs.DuplexSteps.{DuplexState, duplex_step}
 use Rattle.p25_filter.specs.LineRules.{LineRules, rules_by, told_by}
 use Rattle.p25_duplex_script.specs.DuplexLines.{duplex_event_of}
 use Rattle.p25_tool.specs.Outputs.{duplex_closing_lines, duplex_step_line}

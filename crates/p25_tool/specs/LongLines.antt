@@ -7,8 +7,7 @@ use Rattle.p25_text.specs.Grammar.{read_line_of, read_words}
 use Rattle.p25_stations.specs.Steps.{world_step}
 use Rattle.p25_stations.specs.WorldState.{WorldState}
 use Rattle.p25_script.specs.Script.{event_by_words, event_of}
-use Rattle.p25_duplex.specs.DuplexState.{DuplexState}
-use Rattle.p25_duplex.specs.DuplexSteps.{duplex_step}
+use Rattle.p25_duplex.specs.DuplexSteps.{DuplexState, duplex_step}
 use Rattle.p25_filter.specs.LineRules.{answer_from, told_by}
 use Rattle.p25_tool.specs.declared.build.Build.{Build}
 use Rattle.p25_tool.specs.Buildings.{build_rules}

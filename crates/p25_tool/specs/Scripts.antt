@@ -15,7 +15,7 @@ use Rattle.p25_fragment_script.specs.LongScript.{long_event_of}
 use Rattle.p25_fragment_script.specs.LongTexts.{long_step_text_of}
 use Rattle.p25_duplex.specs.declared.side.Side.{Side}
 use Rattle.p25_duplex.specs.declared.event.DuplexEvent.{DuplexEvent}
-use Rattle.p25_duplex.specs.DuplexState.{first_duplex, delivery_at}
+use Rattle.p25_duplex.specs.DuplexSteps.{first_duplex, delivery_at}
 use Rattle.p25_duplex.specs.DuplexRuns.{IsCleanDuplex, duplex_run, duplex_steps}
 use Rattle.p25_duplex_script.specs.DuplexLines.{duplex_event_of}
 use Rattle.p25_filter.specs.Lines.{lines_in}

@@ -1,7 +1,7 @@
 //! The work of `duplex`: each line of the input as the event of both stations that it tells of.
 
 ghost use Rattle.std.specs.Prelude.{◌≡◌, ◌≤◌, length};
-ghost use Rattle.p25_duplex.specs.DuplexState.{first_duplex};
+ghost use Rattle.p25_duplex.specs.DuplexSteps.{first_duplex};
 ghost use Rattle.p25_tool.specs.Outputs.{duplex_closing_lines, duplex_step_line};
 
 use p25_duplex::{DuplexStep, DuplexWorld, Side};
@@ -18,7 +18,7 @@ pub(crate) struct Duplex {
 }
 
 impl Model for Duplex {
-    ghost use Rattle.p25_duplex.specs.DuplexState.{DuplexState};
+    ghost use Rattle.p25_duplex.specs.DuplexSteps.{DuplexState};
 
     ghost Value = { DuplexState };
 

@@ -7,6 +7,7 @@ use Rattle.p25_delivery.specs.declared.receiver.Heard.TheVariants.{Delivered, Op
 use Rattle.p25_delivery.specs.declared.step_kind.StepKind.{StepKind}
 use Rattle.p25_delivery.specs.Halves.{Incoming}
 use Rattle.p25_delivery.specs.SoundHalves.{incoming_of, IsIncoming}
+use Rattle.p25_delivery.proofs.HalfLaws.{call-state, call-answer}
 use Rattle.p25_delivery.proofs.ReceivingLaws.{AnswersSendable, receiver-soundly, hears-soundly}
 use Rattle.p25_delivery.proofs.inbound.Inbound.hear.Goals as goal
 use Rattle.p25_delivery.proofs.inbound.Inbound.hear.Goals.{in-Delivered, in-Opened, in-Again, in-Kept, in-RefusedCrc, in-RefusedOrder}
@@ -17,31 +18,31 @@ sendable i packet given answer is same sound =
     subst AnswersSendable same (subst AnswersSendable (sym is) (receiver-soundly i.receiver packet sound).1)
 
 pub invariant_of-self : goal.invariant_of-self
-invariant_of-self c = hears-soundly c.self.inside.receiver c.hear.new.self c.args.packet.now c.hear.ensures.state c.self.invariant
+invariant_of-self c = hears-soundly c.self.inside.receiver c.hear.new.self c.args.packet.now (call-state _ c.hear.ensures) c.self.invariant
 
 pub invariant_of-self-in-Opened : goal.invariant_of-self-in-Opened
-invariant_of-self-in-Opened c = hears-soundly c.self.inside.receiver c.hear.new.self c.args.packet.now c.hear.ensures.state c.self.invariant
+invariant_of-self-in-Opened c = hears-soundly c.self.inside.receiver c.hear.new.self c.args.packet.now (call-state _ c.hear.ensures) c.self.invariant
 
 pub invariant_of-self-in-Again : goal.invariant_of-self-in-Again
-invariant_of-self-in-Again c = hears-soundly c.self.inside.receiver c.hear.new.self c.args.packet.now c.hear.ensures.state c.self.invariant
+invariant_of-self-in-Again c = hears-soundly c.self.inside.receiver c.hear.new.self c.args.packet.now (call-state _ c.hear.ensures) c.self.invariant
 
 pub invariant_of-self-in-Kept : goal.invariant_of-self-in-Kept
-invariant_of-self-in-Kept c = hears-soundly c.self.inside.receiver c.hear.new.self c.args.packet.now c.hear.ensures.state c.self.invariant
+invariant_of-self-in-Kept c = hears-soundly c.self.inside.receiver c.hear.new.self c.args.packet.now (call-state _ c.hear.ensures) c.self.invariant
 
 pub invariant_of-self-in-RefusedCrc : goal.invariant_of-self-in-RefusedCrc
-invariant_of-self-in-RefusedCrc c = hears-soundly c.self.inside.receiver c.hear.new.self c.args.packet.now c.hear.ensures.state c.self.invariant
+invariant_of-self-in-RefusedCrc c = hears-soundly c.self.inside.receiver c.hear.new.self c.args.packet.now (call-state _ c.hear.ensures) c.self.invariant
 
 pub invariant_of-self-in-RefusedOrder : goal.invariant_of-self-in-RefusedOrder
-invariant_of-self-in-RefusedOrder c = hears-soundly c.self.inside.receiver c.hear.new.self c.args.packet.now c.hear.ensures.state c.self.invariant
+invariant_of-self-in-RefusedOrder c = hears-soundly c.self.inside.receiver c.hear.new.self c.args.packet.now (call-state _ c.hear.ensures) c.self.invariant
 
 pub invariant_of-self-in-Ignored : goal.invariant_of-self-in-Ignored
-invariant_of-self-in-Ignored c = hears-soundly c.self.inside.receiver c.hear.new.self c.args.packet.now c.hear.ensures.state c.self.invariant
+invariant_of-self-in-Ignored c = hears-soundly c.self.inside.receiver c.hear.new.self c.args.packet.now (call-state _ c.hear.ensures) c.self.invariant
 
 pub returns-clause-sendable : goal.returns-clause-sendable
 returns-clause-sendable c =
     let can : StepKind × Packet → Type 0 = λ (x : StepKind × Packet). IsSendable x.1 in
     let sent : (answer : Heard) → c.hear.result ≡ answer → AnswersSendable answer
-    = λ (answer : Heard) (same : c.hear.result ≡ answer). sendable (incoming_of c.self.inside) c.args.packet.now c.hear.result answer c.hear.ensures.answer same c.self.invariant in
+    = λ (answer : Heard) (same : c.hear.result ≡ answer). sendable (incoming_of c.self.inside) c.args.packet.now c.hear.result answer (call-answer _ c.hear.ensures) same c.self.invariant in
     elim c.match-hear.branch [
       | in-Delivered h ↦ subst can (sym h.kind-is) (sent (Delivered h.in-Delivered.number h.in-Delivered.message h.in-Delivered.answer) h.in-Delivered.is)
       | in-Opened h ↦ subst can (sym h.kind-is) (sent (Opened h.in-Opened.number h.in-Opened.answer) h.in-Opened.is)

@@ -14,9 +14,9 @@ fits-as : (octets message : List ℕ) → octets ≡ message → length octets �
 fits-as octets message e short are = record { short = rw (← e) short; octets = subst AreOctets e are }
 
 -- the half after an answer of the sender
-keeps : (o : Outgoing) (message : List ℕ) (s : Sending) (given answer : Offer) → s ≡ (offered o.sender message).0 → given ≡ (offered o.sender message).1 → given ≡ answer → IsMessage message → IsOutgoing o →
+keeps : (o : Outgoing) (message : List ℕ) (s : Sending) (given answer : Offer) → (s, given) ≡ offered o.sender message → given ≡ answer → IsMessage message → IsOutgoing o →
     KeepsOutgoing (after_offer o message (s, answer))
-keeps o message s given answer state is same fits sound = call-apart KeepsOutgoing (after_offer o message) (offered o.sender message) s given answer state is same (offer-keeps o message fits sound)
+keeps o message s given answer is same fits sound = call-apart KeepsOutgoing (after_offer o message) (offered o.sender message) s given answer is same (offer-keeps o message fits sound)
 
 pub invariant_of-self : goal.invariant_of-self
 unfolding after_offer
@@ -24,21 +24,21 @@ invariant_of-self c =
     let o = outgoing_of c.self.inside in
     let message = c.args.message.now in
     let answer = Taken c.in-Taken.number c.in-Taken.blocks c.in-Taken.packet in
-    let kept = keeps o message c.offer.new.self c.offer.result answer c.offer.ensures.state c.offer.ensures.answer c.in-Taken.is (fits-as c.octets.result.now c.args.message.now c.octets.ensures.octets c.octets.ensures.most c.octets_fit.ensures) c.self.invariant in
+    let kept = keeps o message c.offer.new.self c.offer.result answer c.offer.ensures c.in-Taken.is (fits-as c.octets.result.now c.args.message.now c.octets.ensures.octets c.octets.ensures.most c.octets_fit.ensures) c.self.invariant in
     subst (λ (sent : List (List ℕ)). IsOutgoing (record (after_offer o message (c.offer.new.self, answer)).0 { sent = sent })) (sym c.push.ensures.list) kept.0
 
 pub invariant_of-self-in-Busy : goal.invariant_of-self-in-Busy
 unfolding after_offer
 invariant_of-self-in-Busy c =
-    (keeps (outgoing_of c.self.inside) c.args.message.now c.offer.new.self c.offer.result Busy c.offer.ensures.state c.offer.ensures.answer c.in-Busy.is (fits-as c.octets.result.now c.args.message.now c.octets.ensures.octets c.octets.ensures.most c.octets_fit.ensures) c.self.invariant).0
+    (keeps (outgoing_of c.self.inside) c.args.message.now c.offer.new.self c.offer.result Busy c.offer.ensures c.in-Busy.is (fits-as c.octets.result.now c.args.message.now c.octets.ensures.octets c.octets.ensures.most c.octets_fit.ensures) c.self.invariant).0
 
 pub invariant_of-self-in-Down : goal.invariant_of-self-in-Down
 unfolding after_offer
 invariant_of-self-in-Down c =
-    (keeps (outgoing_of c.self.inside) c.args.message.now c.offer.new.self c.offer.result Down c.offer.ensures.state c.offer.ensures.answer c.in-Down.is (fits-as c.octets.result.now c.args.message.now c.octets.ensures.octets c.octets.ensures.most c.octets_fit.ensures) c.self.invariant).0
+    (keeps (outgoing_of c.self.inside) c.args.message.now c.offer.new.self c.offer.result Down c.offer.ensures c.in-Down.is (fits-as c.octets.result.now c.args.message.now c.octets.ensures.octets c.octets.ensures.most c.octets_fit.ensures) c.self.invariant).0
 
 pub returns-in-Taken-clause-sendable : goal.returns-in-Taken-clause-sendable
 unfolding after_offer
 returns-in-Taken-clause-sendable c =
     let answer = Taken c.in-Taken.number c.in-Taken.blocks c.in-Taken.packet in
-    (keeps (outgoing_of c.self.inside) c.args.message.now c.offer.new.self c.offer.result answer c.offer.ensures.state c.offer.ensures.answer c.in-Taken.is (fits-as c.octets.result.now c.args.message.now c.octets.ensures.octets c.octets.ensures.most c.octets_fit.ensures) c.self.invariant).1
+    (keeps (outgoing_of c.self.inside) c.args.message.now c.offer.new.self c.offer.result answer c.offer.ensures c.in-Taken.is (fits-as c.octets.result.now c.args.message.now c.octets.ensures.octets c.octets.ensures.most c.octets_fit.ensures) c.self.invariant).1

@@ -9,7 +9,7 @@ use Rattle.p25_delivery.specs.declared.sender.Resend.TheVariants.{Sent, Idle, Do
 use Rattle.p25_delivery.specs.declared.step_kind.StepKind.{StepKind}
 use Rattle.p25_delivery.specs.SoundHalves.{outgoing_of, IsOutgoing}
 use Rattle.p25_delivery.specs.HalfRules.{after_timeout}
-use Rattle.p25_delivery.proofs.HalfLaws.{KeepsOutgoing, call-apart, timeout-keeps}
+use Rattle.p25_delivery.proofs.HalfLaws.{call-state, KeepsOutgoing, call-apart, timeout-keeps}
 use Rattle.p25_delivery.proofs.outbound.Outbound.time_out.Goals as goal
 use Rattle.p25_delivery.proofs.outbound.Outbound.time_out.Goals.{in-Sent, in-Idle, in-Down}
 
@@ -23,7 +23,7 @@ keeps o (s, Down) kept = kept.0
 pub invariant_of-self : goal.invariant_of-self
 invariant_of-self c =
     let o = outgoing_of c.self.inside in
-    subst (λ (s : Sending). IsOutgoing (record o { sender = s })) (sym c.timeout.ensures.state) (keeps o (timed_out o.sender) (timeout-keeps o c.self.invariant))
+    subst (λ (s : Sending). IsOutgoing (record o { sender = s })) (sym (call-state _ c.timeout.ensures)) (keeps o (timed_out o.sender) (timeout-keeps o c.self.invariant))
 
 pub returns-clause-sendable : goal.returns-clause-sendable
 unfolding after_timeout
@@ -33,7 +33,7 @@ returns-clause-sendable c =
     elim c.match-timeout.branch [
       | in-Sent w ↦
           (let answer = Sent w.in-Sent.number w.in-Sent.tries w.in-Sent.packet in
-          let kept = call-apart KeepsOutgoing (after_timeout o) (timed_out o.sender) c.timeout.new.self c.timeout.result answer c.timeout.ensures.state c.timeout.ensures.answer w.in-Sent.is (timeout-keeps o c.self.invariant) in
+          let kept = call-apart KeepsOutgoing (after_timeout o) (timed_out o.sender) c.timeout.new.self c.timeout.result answer c.timeout.ensures w.in-Sent.is (timeout-keeps o c.self.invariant) in
           subst can (sym w.result-is) kept.1)
       | in-Idle w ↦ subst can (sym w.result-is) tt
       | in-Down w ↦ subst can (sym w.result-is) tt

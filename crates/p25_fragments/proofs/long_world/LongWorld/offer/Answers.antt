@@ -1,4 +1,5 @@
 use Rattle.std.proofs.Common.{ap, ◌∙◌, arith}
+use Rattle.p25_delivery.proofs.HalfLaws.{call-state, call-answer}
 use Rattle.p25_fragments.specs.declared.long_step.LongStep.{LongStep}
 use Rattle.p25_fragments.specs.Inside.{state_of}
 use Rattle.p25_fragments.specs.LongState.{LongParts}
@@ -10,13 +11,13 @@ pub returns-in-OfferDown-clause-step : goal.returns-in-OfferDown-clause-step
 returns-in-OfferDown-clause-step c =
     let began = ap (λ (p : LongParts). p.state) c.self.view_is in
     let told = c.step_ready-step.ensures in
-    ap (λ (t : LongStep). (record (state_of c.self.inside) { inner = c.step_ready-step.new.self.state }, t)) c.unmoved.ensures ∙ down-offer _ _ _ _ _ _ began c.part.ensures told.state told.step c.in-OfferDown.is
+    ap (λ (t : LongStep). (record (state_of c.self.inside) { inner = c.step_ready-step.new.self.state }, t)) c.unmoved.ensures ∙ down-offer _ _ _ _ _ _ began c.part.ensures (call-state _ told.step) (call-answer _ told.step) c.in-OfferDown.is
 
 pub returns-in-Busy-clause-step : goal.returns-in-Busy-clause-step
 returns-in-Busy-clause-step c =
     let began = ap (λ (p : LongParts). p.state) c.self.view_is in
     let told = c.step_ready-step.ensures in
-    ap (λ (t : LongStep). (record (state_of c.self.inside) { inner = c.step_ready-step.new.self.state }, t)) c.unmoved-in-Busy.ensures ∙ busy-offer _ _ _ _ _ _ began c.part.ensures told.state told.step c.in-Busy.is
+    ap (λ (t : LongStep). (record (state_of c.self.inside) { inner = c.step_ready-step.new.self.state }, t)) c.unmoved-in-Busy.ensures ∙ busy-offer _ _ _ _ _ _ began c.part.ensures (call-state _ told.step) (call-answer _ told.step) c.in-Busy.is
 
 pub returns-in_default : goal.returns-in_default
 unfolding started
@@ -25,6 +26,6 @@ returns-in_default c =
     let told = c.step_ready-step.ensures in
     let room = c.start.ensures.room in
     record {
-      step = c.start.ensures.step ∙ taken-offer _ (state_of c.self.inside) _ _ _ _ began c.part.ensures told.state told.step c.in_default.not-OfferDown c.in_default.not-Busy;
+      step = c.start.ensures.step ∙ taken-offer _ (state_of c.self.inside) _ _ _ _ began c.part.ensures (call-state _ told.step) (call-answer _ told.step) c.in_default.not-OfferDown c.in_default.not-Busy;
       spare = omega (arith, ap (λ (p : LongParts). p.spare) c.self.view_is, told.spare, room.inner, room.own, room.spare);
     }
