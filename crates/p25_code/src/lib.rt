@@ -4,11 +4,11 @@
 //! are the information. `encode` makes the word of some information, and `read` brings a received word back to the word
 //! of the code that lies within the radius:
 //!
-//! ```text
+//! ```
 //! let mut word = [false; 10];
 //! Hamming10::encode(&[true, false, false, false, false, false], &mut word);
 //! word[3] = !word[3];
-//! assert_eq!(Hamming10::read(&mut word), Reading::Found { fixes: 1 });
+//! assert_eq!(rt; Hamming10::read(&mut word), Reading::Found { fixes: 1 });
 //! ```
 //!
 //! `read` corrects as many wrong letters as the radius says, always, and never more: what lies further from every word

@@ -11,6 +11,7 @@ use p25_code::{BlockCode, NumberCode, Reading, put_reading};
 /// The shortened Golay code (18,6): the words of the Golay code (24,12) that begin with six zeros, without those six. Any
 /// two words differ in at least 8 bits; three wrong bits are corrected. A list that is near to a word of the longer code
 /// alone, one whose six bits in front are not all 0, is Beyond. TIA-102.BAAA, Header Data Unit.
+#[derive(Clone, Copy, Debug, PartialEq, Eq)]
 pub struct Golay18;
 
 impl BlockCode for Golay18 {

@@ -37,6 +37,7 @@ pub(crate) const RADIUS: u32 = 3;
 /// polynomial with the first bit highest, are divisible by x^11 + x^10 + x^6 + x^5 + x^4 + x^2 + 1 (C75 hex), and one bit
 /// that makes the weight even. Any two words differ in at least 8 bits; three wrong bits are corrected. TIA-102.BAAA,
 /// Terminator with Link Control.
+#[derive(Clone, Copy, Debug, PartialEq, Eq)]
 pub struct Golay24;
 
 impl BlockCode for Golay24 {

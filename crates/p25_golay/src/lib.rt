@@ -4,15 +4,14 @@
 //! then the check bits. `Golay24` has 12 bits of information and 12 checks; `Golay18` is its part of words that begin
 //! with six zeros, without those, and has 6 bits of information and 12 checks. Both correct three wrong bits.
 //!
-//! ```text
+//! ```
 //! use p25_code::{BlockCode, Reading};
-//! use p25_golay::Golay18;
 //!
 //! let mut word = [false; 18];
 //! Golay18::encode(&[false, false, false, false, false, true], &mut word); // 018EB hex
 //! word[0] = true;
 //! word[17] = false;
-//! assert_eq!(Golay18::read(&mut word), Reading::Found { fixes: 2 });
+//! assert_eq!(rt; Golay18::read(&mut word), Reading::Found { fixes: 2 });
 //! ```
 //!
 //! Both are a `NumberCode`, so their words are numbers of 24 and 18 bits too. No call takes memory or fails. A word takes two

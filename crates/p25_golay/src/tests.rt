@@ -5,6 +5,17 @@ use p25_bits::put_number;
 use p25_code::{BlockCode, Reading, encode_then_read, read_received};
 
 #[test]
+fn the_example_of_the_head(rt: HostRuntime) {
+    use p25_code::{BlockCode, Reading};
+
+    let mut word = [false; 18];
+    Golay18::encode(&[false, false, false, false, false, true], &mut word); // 018EB hex
+    word[0] = true;
+    word[17] = false;
+    assert_eq!(rt; Golay18::read(&mut word), Reading::Found { fixes: 2 });
+}
+
+#[test]
 fn golay24_encodes(rt: HostRuntime) {
     for (info, sent) in [(0x800, 0x800C75), (0x001, 0x0018EB), (0, 0)] {
         let (mut information, mut word, mut wanted) = ([false; 12], [false; 24], [false; 24]);

@@ -22,6 +22,7 @@ const RADIUS: u32 = 1;
 /// The shortened Hamming code (10,6): ten bits, of which the first six are the information and the last four the sum over
 /// GF(2) of the check rows of those that are 1. Any two words differ in at least 3 bits; one wrong bit is corrected.
 /// TIA-102.BAAA, Link Control and Encryption Sync words of the logical link units.
+#[derive(Clone, Copy, Debug, PartialEq, Eq)]
 pub struct Hamming10;
 
 impl BlockCode for Hamming10 {

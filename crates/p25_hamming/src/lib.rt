@@ -4,14 +4,14 @@
 //! then the check bits. `Hamming10` has 6 bits of information and 4 checks, and corrects one wrong bit. `Lsd16` has 8 and
 //! 8, and corrects two.
 //!
-//! ```text
+//! ```
 //! use p25_code::{BlockCode, Reading};
-//! use p25_hamming::Hamming10;
 //!
-//! let mut word = [false; 10];
-//! Hamming10::encode(&[true, false, false, false, false, false], &mut word); // 1000001110
-//! word[9] = true;
-//! assert_eq!(Hamming10::read(&mut word), Reading::Found { fixes: 1 });
+//! let mut word = [false; 16];
+//! Lsd16::encode(&[false; 8], &mut word);
+//! word[1] = true;
+//! word[14] = true;
+//! assert_eq!(rt; Lsd16::read(&mut word), Reading::Found { fixes: 2 });
 //! ```
 //!
 //! Both are a `NumberCode`, so their words are numbers of 10 and 16 bits too. No call takes memory or fails. A word takes one

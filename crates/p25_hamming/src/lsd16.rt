@@ -32,6 +32,7 @@ const RADIUS: u32 = 2;
 /// The shortened cyclic code (16,8) of the low speed data: eight bits of information and their eight remainder bits, so
 /// that the word, as a polynomial with the first bit highest, is divisible by x^8 + x^5 + x^4 + x^3 + 1 (139 hex). Any two
 /// words differ in at least 5 bits; two wrong bits are corrected. TIA-102.BAAA, Low Speed Data.
+#[derive(Clone, Copy, Debug, PartialEq, Eq)]
 pub struct Lsd16;
 
 impl BlockCode for Lsd16 {

@@ -5,6 +5,25 @@ use p25_bits::put_number;
 use p25_code::{BlockCode, Reading, encode_then_read, read_received};
 
 #[test]
+fn the_example_of_the_head(rt: HostRuntime) {
+    use p25_code::{BlockCode, Reading};
+
+    let mut word = [false; 16];
+    Lsd16::encode(&[false; 8], &mut word);
+    word[1] = true;
+    word[14] = true;
+    assert_eq!(rt; Lsd16::read(&mut word), Reading::Found { fixes: 2 });
+}
+
+#[test]
+fn the_example_of_block_codes(rt: HostRuntime) {
+    let mut word = [false; 10];
+    Hamming10::encode(&[true, false, false, false, false, false], &mut word);
+    word[3] = !word[3];
+    assert_eq!(rt; Hamming10::read(&mut word), Reading::Found { fixes: 1 });
+}
+
+#[test]
 fn hamming10_encodes(rt: HostRuntime) {
     for (info, sent) in [
         (0b100000, 0b1000001110),

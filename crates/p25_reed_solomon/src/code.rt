@@ -14,6 +14,7 @@ use p25_gf64::Sym;
 ///
 /// N is at most 63, K from 1 to below N, and N - K even and at most 22: the calls of `BlockCode` require this of the
 /// parameters. The radius is (N - K) / 2, and two different words differ in at least N - K + 1 symbols.
+#[derive(Clone, Copy, Debug, PartialEq, Eq)]
 pub struct Rs<const N: usize, const K: usize>;
 
 impl<const N: usize, const K: usize> BlockCode for Rs<N, K> {
