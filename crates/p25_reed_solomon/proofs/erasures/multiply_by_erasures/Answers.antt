@@ -8,8 +8,11 @@ use Rattle.p25_reed_solomon.proofs.erasures.multiply_by_erasures.Goals as goal
 use Rattle.p25_reed_solomon.proofs.erasures.multiply_by_erasures.Goals.{then-erased-j, else-erased-j}
 
 pub returns-then-count_erasures-eq0 : goal.returns-then-count_erasures-eq0
-returns-then-count_erasures-eq0 c = λ k low.
-    sym (ap (λ (g : ℕ → Sym). g k) (times_erasures-without (length c.args.erased.now) c.args.erased.now (length c.args.erased.now) (coefficient gf64 c.args.polynomial.now) (omega (arith, c.count_erasures.ensures.count, c.if-count_erasures-eq0.true))))
+returns-then-count_erasures-eq0 c =
+    let n = length c.args.erased.now in
+    let old = coefficient gf64 c.args.polynomial.now in
+    let without = times_erasures-without n c.args.erased.now n old (omega (arith, c.count_erasures.ensures.count, c.if-count_erasures-eq0.true)) in
+    λ k low. sym (ap (λ (g : ℕ → Sym). g k) without)
 
 pub loop-j-init : goal.loop-j-init
 loop-j-init c = λ k low. sym (ap (λ (g : ℕ → Sym). g k) (times_erasures-none (length c.args.erased.now) c.args.erased.now (coefficient gf64 c.args.polynomial.now)))
