@@ -2,8 +2,9 @@
 //! fault of each kind.
 
 use super::*;
-use p25_io::{Call, MemorySource, SliceSink, Tape};
+use p25_io::{Call, MemorySource, SliceSink, SteadySource, Tape};
 use p25_line::{Line, LineFault};
+use std::test::Fail;
 
 // Gives each line back, and refuses an empty one.
 #[derive(Drop)]
@@ -32,6 +33,48 @@ impl LineMachine for Echo {
     }
 
     ghost long = { echo_long };
+}
+
+#[test]
+fn lines_given_back(rt: HostRuntime) {
+    let mut source = SteadySource::new(b"ab\ncd\n", 4);
+    let mut room = [0; 64];
+    let mut sink = SliceSink::new(&mut room, &[]);
+    let mut lines = LineFilter::new(Echo);
+    let end = run_filter(&mut lines, &mut source, &mut sink);
+    assert_eq!(rt; end, FilterEnd::Ended(Ending::Done));
+}
+
+#[test]
+fn refusals_in_words(rt: HostRuntime) -> Result<(), Fail> {
+    let fault = LineFault::Value;
+    let rows: [(Refusal, &str); 4] = [
+        (Refusal::Ended(Ending::Done), "done"),
+        (Refusal::Ended(Ending::Found { faults: 3 }), "found 3"),
+        (
+            Refusal::Ended(Ending::BadLine { line: 2, fault }),
+            "line 2: value",
+        ),
+        (Refusal::Memory, "out of memory"),
+    ];
+    for (refusal, text) in rows {
+        assert_eq!(rt; refusal.to_string(rt.alloc())?.as_str(), text);
+    }
+    let end = FilterEnd::Ended(Ending::Found { faults: 3 });
+    assert_eq!(rt; end.to_string(rt.alloc())?.as_str(), "found 3");
+    assert_eq!(rt;
+        FilterEnd::TooLong.to_string(rt.alloc())?.as_str(),
+        "input too long"
+    );
+    assert_eq!(rt;
+        LineRefusal::Fault(fault).to_string(rt.alloc())?.as_str(),
+        "value"
+    );
+    assert_eq!(rt;
+        LineRefusal::Memory.to_string(rt.alloc())?.as_str(),
+        "out of memory"
+    );
+    Ok(())
 }
 
 // A call by a letter and how many octets it read or was to write; a fault has a capital letter.

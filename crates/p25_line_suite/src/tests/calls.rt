@@ -2,7 +2,8 @@
 
 use p25_calls::{Call, CallEnd, LinkControl};
 use p25_line::Line;
-use p25_text::call_text;
+use p25_text::{CallText, call_text};
+use std::test::Fail;
 
 // A call of each end, and its text.
 const TEXTS: [(Call, &[u8]); 3] = [
@@ -51,11 +52,16 @@ const TEXTS: [(Call, &[u8]); 3] = [
 ];
 
 #[test]
-fn texts_of_calls(rt: HostRuntime) {
+fn texts_of_calls(rt: HostRuntime) -> Result<(), Fail> {
     let mut line = Line::new();
     for (call, text) in TEXTS {
         assert!(rt; call.nac < 4_096);
         call_text(&call, &mut line);
         assert_eq!(rt; line.octets(), text);
+        assert_eq!(rt;
+            CallText::new(&call).to_string(rt.alloc())?.as_bytes(),
+            text
+        );
     }
+    Ok(())
 }

@@ -6,7 +6,7 @@ ghost use Rattle.p25_units.specs.Units.{IsWholeBody};
 
 use p25_line::Line;
 use p25_packet_blocks::is_whole;
-use p25_text::{item_text, read_line};
+use p25_text::{ItemText, item_text, read_line};
 use p25_units::{Body, Field, FieldList, Frame, Item, Status, Statuses, Unit, frame_length};
 use std::test::Fail;
 
@@ -17,6 +17,17 @@ fn has_text(item: &Item, text: &[u8]) -> bool
     let mut line = Line::new();
     item_text(item, &mut line);
     line.octets() == text
+}
+
+#[test]
+fn item_is_shown(rt: HostRuntime) -> Result<(), Fail> {
+    let gap = Item::Gap {
+        place: 144,
+        length: 7,
+    };
+    let text = ItemText::new(&gap).to_string(rt.alloc())?;
+    assert_eq!(rt; text.as_str(), "gap at=144 bits=7");
+    Ok(())
 }
 
 // Whether no slot of a packet is Bad.

@@ -1,8 +1,8 @@
 //! Lines of units that are read, and written again as they were.
 
 use super::repeated;
-use p25_line::Line;
-use p25_text::{read_line, unit_text};
+use p25_line::{Line, LineFault};
+use p25_text::{UnitLine, UnitText, read_line, unit_text};
 use std::process::Abort;
 use std::test::Fail;
 
@@ -12,6 +12,28 @@ fn same_again(rt: &impl Abort, line: &[u8]) -> Result<(), Fail> {
     let mut text = Line::new();
     unit_text(&unit, &mut text);
     assert_eq!(rt; text.octets(), line);
+    Ok(())
+}
+
+#[test]
+fn unit_of_a_line(rt: HostRuntime) -> Result<(), Fail> {
+    let line = "tdulc nac=293 lc=000000000001000001";
+    let unit = read_line(line.as_bytes())?;
+    let mut out = Line::new();
+    unit_text(&unit, &mut out);
+    assert_eq!(rt; out.to_string(rt.alloc())?.as_str(), line);
+    Ok(())
+}
+
+// A unit is parsed from its line and shown as it, and so is its fault.
+#[test]
+fn unit_is_parsed_and_shown(rt: HostRuntime) -> Result<(), Fail> {
+    let line = "plain nac=293 head=35c00000000181000000 octets=0123456789abcdef";
+    let unit = line.parse::<UnitLine>()?;
+    assert_eq!(rt; unit.to_string(rt.alloc())?.as_str(), line);
+    assert_eq!(rt; UnitText(&unit.0).to_string(rt.alloc())?.as_str(), line);
+    let fault = "tdu nac=29A".parse::<UnitLine>().err();
+    assert_eq!(rt; fault, Some(LineFault::Value));
     Ok(())
 }
 

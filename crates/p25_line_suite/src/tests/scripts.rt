@@ -1,9 +1,38 @@
 //! Scripts, with what comes of them.
 
 use super::is_text_of;
-use p25_line::Line;
-use p25_script::{Event, World, closing_text, read_event};
+use p25_line::{Line, LineFault};
+use p25_script::{Event, EventLine, StepText, World, closing_text, read_event, step_text};
 use std::process::Abort;
+use std::test::Fail;
+
+#[test]
+fn step_of_an_event(rt: HostRuntime) -> Result<(), Fail> {
+    let mut world = World::new(rt.alloc());
+    let event = read_event(b"send 6162")?;
+    let step = world.step(&event)?;
+    let mut line = Line::new();
+    step_text(&step, &mut line);
+    assert_eq!(rt; line.octets(), b"send taken ns=0 blocks=1".as_slice());
+    Ok(())
+}
+
+// An event is parsed from its line, and a step is shown.
+#[test]
+fn event_is_parsed_and_step_shown(rt: HostRuntime) -> Result<(), Fail> {
+    let mut world = World::new(rt.alloc());
+    let event = "deliver answer -".parse::<EventLine>()?;
+    let step = world.step(&event.0)?;
+    assert_eq!(rt;
+        StepText(&step).to_string(rt.alloc())?.as_str(),
+        "answer none"
+    );
+    assert_eq!(rt;
+        "deliver data".parse::<EventLine>().err(),
+        Some(LineFault::Key)
+    );
+    Ok(())
+}
 
 // Has the event of a line happen, and answers whether the step has this text.
 fn steps_to(world: &mut World, line: &[u8], text: &[u8]) -> bool {
