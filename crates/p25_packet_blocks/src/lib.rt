@@ -42,9 +42,9 @@ pub use image::{packet_image, packet_length};
 pub use octets::Octets;
 pub use packet::{Confirmed, Packet, Plain};
 pub use read::{
-    BLOCK_LENGTH, BLOCKS_AT, HEADER_AT, read_head, read_packet, read_packet_and_fixes,
-    read_packet_of_head, set_packet,
+    BLOCK_LENGTH, BLOCKS_AT, HEADER_AT, read_head, read_packet, read_packet_counted,
+    read_packet_with, set_packet,
 };
 pub use slots::Slots;
-pub use unit::{read_packet_unit, read_sent_head, read_sent_head_counted};
+pub use unit::{read_head_at, read_head_at_counted, read_packet_unit};
 pub use whole::is_whole;

@@ -155,7 +155,7 @@ fn read_plain(
 
 /// Answers the packet of a header that was read and of its unit without status symbols, which has at least as many bits as
 /// the blocks to follow ask for. Format and PacketCrc come as in `read_packet`.
-pub fn read_packet_of_head(head: PacketHead, bare: &BitBuf) -> Result<Packet, Field>
+pub fn read_packet_with(head: PacketHead, bare: &BitBuf) -> Result<Packet, Field>
     requires { 308 + 196 * head_blocks head ≤ length bare.now }
     ensures { result ≡ packet_of_head head bare.now }
 {
@@ -212,10 +212,10 @@ pub fn set_packet(
     read_blocks(head, bare, packet, fixes)
 }
 
-/// Answers the packet of the header that a unit without status symbols holds, as `read_packet_of_head` does. Sets `fixes`, where a
+/// Answers the packet of the header that a unit without status symbols holds, as `read_packet_with` does. Sets `fixes`, where a
 /// packet is answered and none of its slots is Bad, to the number of bits in which the header block and the blocks to follow were
 /// received otherwise than they are sent for it.
-pub fn read_packet_and_fixes(
+pub fn read_packet_counted(
     head: PacketHead,
     bare: &BitBuf,
     fixes: &mut u32,
@@ -245,5 +245,5 @@ pub fn read_packet(bare: &BitBuf) -> Result<Packet, Field>
     ensures { result ≡ packet_reading_of bare.now }
 {
     let head = read_head(bare)?;
-    read_packet_of_head(head, bare)
+    read_packet_with(head, bare)
 }

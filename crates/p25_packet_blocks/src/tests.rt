@@ -5,8 +5,8 @@ mod rows;
 use self::rows::{DAMAGED, UNITS};
 use super::{
     Block, Confirmed, Flags, Octets, Packet, PacketHead, Plain, Slot, Slots, flags_make,
-    flags_read, is_whole, packet_image, packet_length, read_head, read_packet, read_packet_unit,
-    read_sent_head,
+    flags_read, is_whole, packet_image, packet_length, read_head, read_head_at, read_packet,
+    read_packet_unit,
 };
 use p25_bits::BitBuf;
 use p25_status::{Field, Status, Statuses, weave};
@@ -77,7 +77,7 @@ fn assert_written(rt: &impl Abort, nac: u16, packet: &Packet, bare: &BitBuf) {
 // Asserts the network access code and the header that a unit is read with as it is sent.
 fn assert_unit(rt: &impl Abort, nac: u16, head: PacketHead, bits: &BitBuf) {
     assert!(rt; bits.len() >= 360);
-    match read_sent_head(bits, 0) {
+    match read_head_at(bits, 0) {
         Ok(sent_head) => assert!(rt; sent_head == head),
         Err(_) => assert!(rt; false),
     }

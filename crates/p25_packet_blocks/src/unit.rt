@@ -6,7 +6,7 @@ ghost use Rattle.p25_packet_blocks.specs.UnitReading.{sent_header_bits, sent_hea
 use crate::head::PacketHead;
 use crate::image::packet_length;
 use crate::packet::Packet;
-use crate::read::{head_in, read_packet_of_head};
+use crate::read::{head_in, read_packet_with};
 use p25_bch_nid::PDU;
 use p25_bits::BitBuf;
 use p25_status::{BARE_BLOCK_LENGTH, Field, SENT_BLOCK_LENGTH, Statuses, is_sync, unweave};
@@ -31,16 +31,16 @@ fn take_header(bits: &BitBuf, at: usize, header: &mut BitBuf)
 /// Answers the header of the packet whose unit as it is sent begins at place `at`. The 316 bits with its front and its header
 /// block are there. PacketHeader comes exactly where the last two octets of the block are not the header CRC of the others.
 /// TIA-102.BAAA, Packet Data, Header Block.
-pub fn read_sent_head(bits: &BitBuf, at: usize) -> Result<PacketHead, Field>
+pub fn read_head_at(bits: &BitBuf, at: usize) -> Result<PacketHead, Field>
     requires { at + 316 ≤ length bits.now }
     ensures { result ≡ sent_head_of (drop at bits.now) }
 {
-    read_sent_head_counted(bits, at, &mut 0)
+    read_head_at_counted(bits, at, &mut 0)
 }
 
-/// Answers the header as `read_sent_head` does. Sets `distance` to the number of bits in which the header block was received
+/// Answers the header as `read_head_at` does. Sets `distance` to the number of bits in which the header block was received
 /// otherwise than the nearest block is sent, also where its CRC does not agree.
-pub fn read_sent_head_counted(
+pub fn read_head_at_counted(
     bits: &BitBuf,
     at: usize,
     distance: &mut u32,
@@ -61,14 +61,14 @@ fn read_sent_packet(bits: &BitBuf) -> Result<Packet, Field>
     requires { 316 ≤ length bits.now }
     ensures { result ≡ sent_packet_of bits.now }
 {
-    let head = read_sent_head(bits, 0)?;
+    let head = read_head_at(bits, 0)?;
     let len = packet_length(&head);
     if bits.len() < len {
         return Err(Field::Length);
     }
     let mut bare = BitBuf::new();
     unweave(bits, 0, len, &mut bare, &mut Statuses::new());
-    read_packet_of_head(head, &bare)
+    read_packet_with(head, &bare)
 }
 
 /// Answers the network access code and the packet of the unit that begins at place 0, as it is sent, with its status symbols.

@@ -71,7 +71,7 @@ impl<R: Report> Recording<R> {
         requires { given self.old.scan ≢ [] }
         ensures { PutItem R.reporting self.old out.new self.new }
     {
-        if self.scanner.take_next(&mut self.raw, &mut self.item) {
+        if self.scanner.next_in(&mut self.raw, &mut self.item) {
             self.report.put(&self.item, &mut self.raw, out);
         } else {
             unreachable!();

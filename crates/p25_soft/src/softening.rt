@@ -9,7 +9,7 @@ ghost use Rattle.p25_soft.specs.Softened.{IsHeard, block_levels, blocks_replaced
 use crate::reading::{BLOCK_LEVELS, read_soft};
 use p25_bch_nid::PDU;
 use p25_bits::BitBuf;
-use p25_packet_blocks::{BLOCK_LENGTH, BLOCKS_AT, read_sent_head};
+use p25_packet_blocks::{BLOCK_LENGTH, BLOCKS_AT, read_head_at};
 use p25_status::{Field, FieldList, Statuses, unweave, weave};
 use p25_trellis::{Half, Rate, ThreeQuarter, encode_block};
 use p25_units::Item;
@@ -23,7 +23,7 @@ fn told_blocks(sent: &BitBuf) -> usize
     ensures value { result ≡ blocks_to_follow sent.now }
     ensures most { result ≤ 127 }
 {
-    match read_sent_head(sent, 0) {
+    match read_head_at(sent, 0) {
         Ok(head) => usize::from(head.blocks()),
         Err(_) => 0,
     }

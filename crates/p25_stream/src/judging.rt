@@ -11,7 +11,7 @@ ghost use Rattle.p25_stream.specs.Items.{first_item, sync_place};
 use crate::beginning::{BEHIND, Beginning};
 use p25_bits::BitBuf;
 use p25_status::is_sync_window;
-use p25_units::{Begun, Field, Item, Need, need_synced, set_unit_item};
+use p25_units::{Begun, Field, Item, Need, need_synced, unit_item_in};
 
 // The most bits of a gap.
 const GAP_MOST: usize = 4_096;
@@ -246,7 +246,7 @@ pub(crate) fn set_item(
             };
         }
         Beginning::Ready(count, begun) => {
-            set_unit_item(held, 0, count, begun, place, room, item);
+            unit_item_in(held, 0, count, begun, place, room, item);
         }
         Beginning::NoUnit(field) => *item = Item::NoUnit { place, field },
     }

@@ -14,7 +14,7 @@
 //! ```
 //!
 //! All items are taken before the next octet goes in. What only the end decides comes when you ask again after `finish`: here a
-//! gap of 8 bits. `push_some` takes several octets at once, `take_next` gives an item without moving it, and `repair_item`
+//! gap of 8 bits. `push_some` takes several octets at once, `next_in` gives an item without moving it, and `repair_item`
 //! replaces the bits of an item by those that were sent.
 //!
 //! Contracts see a scanner as a `Scan`, the bits that it holds with their place, and the items that it can give as `given`.

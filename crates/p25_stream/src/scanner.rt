@@ -146,7 +146,7 @@ impl Scanner {
         ensures sound { IfSome result IsSoundItem }
     {
         let mut item = Item::Cut { place: 0, have: 0 };
-        if self.take_next(raw, &mut item) {
+        if self.next_in(raw, &mut item) {
             Some(item)
         } else {
             None
@@ -155,7 +155,7 @@ impl Scanner {
 
     /// Sets `item` to the next item and `raw` to the bits that it covers, which are held no longer, and answers true. False
     /// comes exactly where `next` would answer `None`; then all stays as it is. An item is large: so it is not moved.
-    pub fn take_next(&mut self, raw: &mut BitBuf, item: &mut Item) -> bool
+    pub fn next_in(&mut self, raw: &mut BitBuf, item: &mut Item) -> bool
         ensures given { result ≡ true → Gave self.old item.new raw.new self.new }
         ensures none { result ≡ false → (given self.old ≡ []) × (self.new ≡ self.old) × (raw.new ≡ raw.old) × (item.new ≡ item.old) }
         ensures sound { result ≡ true → IsSoundItem item.new }

@@ -8,7 +8,7 @@ ghost use Rattle.p25_units.specs.Begins.{IsBegun};
 
 use p25_bch_nid::Nid;
 use p25_bits::BitBuf;
-use p25_packet_blocks::{PacketHead, read_sent_head_counted};
+use p25_packet_blocks::{PacketHead, read_head_at_counted};
 use p25_status::Field;
 use p25_unit_front::read_identifier;
 
@@ -69,7 +69,7 @@ impl Begun {
             Some(head) => Ok(head),
             None => {
                 let mut distance = 0;
-                let head = read_sent_head_counted(bits, at, &mut distance)?;
+                let head = read_head_at_counted(bits, at, &mut distance)?;
                 self.head = Some(head);
                 self.distance = distance;
                 Ok(head)

@@ -124,14 +124,14 @@ pub fn unit_item(bits: &BitBuf, at: usize, count: usize, begun: Begun, place: u6
     ensures sound { IsSoundItem result }
 {
     let mut item = Item::Cut { place, have: 0 };
-    set_unit_item(bits, at, count, begun, place, &mut BitBuf::new(), &mut item);
+    unit_item_in(bits, at, count, begun, place, &mut BitBuf::new(), &mut item);
     item
 }
 
 /// Sets `item` to the item that `unit_item` answers. An item is large: set in place it is not moved, and where a voice unit
 /// follows a voice unit, only that is written. `room` takes the unit's bits without status symbols; what it holds before and
 /// after the call means nothing.
-pub fn set_unit_item(
+pub fn unit_item_in(
     bits: &BitBuf,
     at: usize,
     count: usize,

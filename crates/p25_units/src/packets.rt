@@ -11,7 +11,7 @@ ghost use Rattle.p25_units.specs.Readings.{body_or, failing_blocks_of, failing_s
 
 use crate::unit::Body;
 use p25_bits::BitBuf;
-use p25_packet_blocks::{Packet, PacketHead, Slot, Slots, read_packet_and_fixes, set_packet};
+use p25_packet_blocks::{Packet, PacketHead, Slot, Slots, read_packet_counted, set_packet};
 use p25_status::{Field, FieldList};
 
 // The packet of a unit without status symbols, by its header that was read or fails. Sets `fixes`, where a packet is answered, to
@@ -28,7 +28,7 @@ pub(crate) fn read_packet_body(
 {
     match head {
         Err(field) => Err(FieldList::one(field)),
-        Ok(head) => packet_body(read_packet_and_fixes(head, bare, fixes)),
+        Ok(head) => packet_body(read_packet_counted(head, bare, fixes)),
     }
 }
 

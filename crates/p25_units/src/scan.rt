@@ -28,12 +28,12 @@ pub fn need(bits: &BitBuf, at: usize) -> Need
     requires { at ≤ length bits.now }
     ensures { result ≡ need_of (drop at bits.now) }
 {
-    need_begun(bits, at, &mut Begun::new())
+    need_with(bits, at, &mut Begun::new())
 }
 
 /// Answers what the bits from place `at` on need, where `begun` holds what was read at this place before. Replaces it by what has
 /// been read now.
-pub fn need_begun(bits: &BitBuf, at: usize, begun: &mut Begun) -> Need
+pub fn need_with(bits: &BitBuf, at: usize, begun: &mut Begun) -> Need
     requires there { at ≤ length bits.now }
     requires begun { IsBegun begun.old (drop at bits.now) }
     ensures need { result ≡ need_of (drop at bits.now) }
@@ -48,7 +48,7 @@ pub fn need_begun(bits: &BitBuf, at: usize, begun: &mut Begun) -> Need
     need_at_sync(bits, at, begun)
 }
 
-/// Answers what `need_begun` answers, where a sync was found at place `at` before.
+/// Answers what `need_with` answers, where a sync was found at place `at` before.
 pub fn need_synced(bits: &BitBuf, at: usize, begun: &mut Begun) -> Need
     requires there { at ≤ length bits.now }
     requires synced { has_sync (drop at bits.now) ≡ true }

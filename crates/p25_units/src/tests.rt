@@ -9,7 +9,7 @@ mod rows;
 use self::rows::{LARGEST, NEEDS, READINGS};
 use super::{
     Begun, Body, Field, Frame, Item, Need, Status, Statuses, Unit, VoiceUnit, fixes, frame_length,
-    image, image_as, need, need_begun, read_unit, unit_item,
+    image, image_as, need, need_with, read_unit, unit_item,
 };
 use p25_bits::BitBuf;
 use p25_status::weave;
@@ -88,7 +88,7 @@ fn item_of(bits: &BitBuf) -> Item
     ensures { IsSoundItem result }
 {
     let mut begun = Begun::new();
-    match need_begun(bits, 0, &mut begun) {
+    match need_with(bits, 0, &mut begun) {
         Need::Length(count) => unit_item(bits, 0, count, begun, 9),
         _ => Item::Cut { place: 0, have: 0 },
     }

@@ -21,6 +21,6 @@ pub returns : goal.returns
 returns c =
     let head = c.in_ok-head.head in
     let fits : packet_sent_length (head_blocks head) ≤ length c.args.bits.now = omega (arith, c.len.ensures.value, c.packet_length-len.ensures.value, c.if-len.false) in
-    c.read_packet_of_head.ensures
+    c.read_packet_with.ensures
     ∙ ap (packet_of_head head) (c.unweave.ensures.bare ∙ ap (λ count. bare_of (take count c.args.bits.now)) c.packet_length-len.ensures.value)
     ∙ sym (sent_packet_of-whole c.args.bits.now head (sym c.in_ok-head.ensures) fits)

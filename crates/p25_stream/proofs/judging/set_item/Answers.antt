@@ -11,11 +11,11 @@ overflow_cast-item-in-Gap c =
     let is = was-gap c.args.beginning c.args.held.now c.in-Gap.count c.requires c.in-Gap.is in
     omega (arith, is.is)
 
-pub set_unit_item-requires-clause-needed : goal.set_unit_item-requires-clause-needed
-set_unit_item-requires-clause-needed c = (was-ready c.args.beginning c.args.held.now c.in-Ready.count c.in-Ready.begun c.requires c.in-Ready.is).needs
+pub unit_item_in-requires-clause-needed : goal.unit_item_in-requires-clause-needed
+unit_item_in-requires-clause-needed c = (was-ready c.args.beginning c.args.held.now c.in-Ready.count c.in-Ready.begun c.requires c.in-Ready.is).needs
 
-pub set_unit_item-requires-clause-begun : goal.set_unit_item-requires-clause-begun
-set_unit_item-requires-clause-begun c = (was-ready c.args.beginning c.args.held.now c.in-Ready.count c.in-Ready.begun c.requires c.in-Ready.is).read
+pub unit_item_in-requires-clause-begun : goal.unit_item_in-requires-clause-begun
+unit_item_in-requires-clause-begun c = (was-ready c.args.beginning c.args.held.now c.in-Ready.count c.in-Ready.begun c.requires c.in-Ready.is).read
 
 pub returns-in-Searching-clause-item : goal.returns-in-Searching-clause-item
 returns-in-Searching-clause-item c =
@@ -40,7 +40,7 @@ pub returns-in-Ready-clause-item : goal.returns-in-Ready-clause-item
 returns-in-Ready-clause-item c =
     let bits = c.args.held.now in
     let is = was-ready c.args.beginning bits c.in-Ready.count c.in-Ready.begun c.requires c.in-Ready.is in
-    c.set_unit_item.ensures.item ∙ sym (first_item-synced c.args.place bits (Length c.in-Ready.count) is.synced is.needs)
+    c.unit_item_in.ensures.item ∙ sym (first_item-synced c.args.place bits (Length c.in-Ready.count) is.synced is.needs)
 
 pub returns-in-NoUnit-clause-item : goal.returns-in-NoUnit-clause-item
 returns-in-NoUnit-clause-item c =

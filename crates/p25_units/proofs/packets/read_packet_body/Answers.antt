@@ -5,11 +5,11 @@ use Rattle.p25_units.proofs.PacketItemLaws.{packet_body-fixes}
 use Rattle.p25_units.proofs.ReadingsLaws.{packet_body_from-bad}
 use Rattle.p25_units.proofs.packets.read_packet_body.Goals as goal
 
-pub read_packet_and_fixes-requires-clause-head : goal.read_packet_and_fixes-requires-clause-head
-read_packet_and_fixes-requires-clause-head c = sym c.requires.head ∙ c.in-Ok.is
+pub read_packet_counted-requires-clause-head : goal.read_packet_counted-requires-clause-head
+read_packet_counted-requires-clause-head c = sym c.requires.head ∙ c.in-Ok.is
 
-pub read_packet_and_fixes-requires-clause-there : goal.read_packet_and_fixes-requires-clause-there
-read_packet_and_fixes-requires-clause-there c = omega (arith, HasItsLength-head c.args.bare.now c.in-Ok.head c.requires.there (sym c.requires.head ∙ c.in-Ok.is))
+pub read_packet_counted-requires-clause-there : goal.read_packet_counted-requires-clause-there
+read_packet_counted-requires-clause-there c = omega (arith, HasItsLength-head c.args.bare.now c.in-Ok.head c.requires.there (sym c.requires.head ∙ c.in-Ok.is))
 
 pub returns-in-Err-clause-body : goal.returns-in-Err-clause-body
 returns-in-Err-clause-body c =
@@ -23,12 +23,12 @@ returns-in-Err-clause-fixes c = λ nac body made. absurd (cc)
 pub returns-in-Ok-clause-body : goal.returns-in-Ok-clause-body
 returns-in-Ok-clause-body c =
     c.packet_body.ensures
-    ∙ ap packet_body_from (c.read_packet_and_fixes.ensures.packet ∙ sym (packet_reading_of-good c.args.bare.now c.in-Ok.head (sym c.requires.head ∙ c.in-Ok.is)))
+    ∙ ap packet_body_from (c.read_packet_counted.ensures.packet ∙ sym (packet_reading_of-good c.args.bare.now c.in-Ok.head (sym c.requires.head ∙ c.in-Ok.is)))
 
 pub returns-in-Ok-clause-fixes : goal.returns-in-Ok-clause-fixes
 returns-in-Ok-clause-fixes c = λ nac body made.
-    packet_body-fixes c.args.bare.now c.read_packet_and_fixes.result body c.read_packet_and_fixes.new.fixes
-    (c.read_packet_and_fixes.ensures.packet ∙ sym (packet_reading_of-good c.args.bare.now c.in-Ok.head (sym c.requires.head ∙ c.in-Ok.is)))
+    packet_body-fixes c.args.bare.now c.read_packet_counted.result body c.read_packet_counted.new.fixes
+    (c.read_packet_counted.ensures.packet ∙ sym (packet_reading_of-good c.args.bare.now c.in-Ok.head (sym c.requires.head ∙ c.in-Ok.is)))
     (sym c.packet_body.ensures ∙ made)
-    c.read_packet_and_fixes.ensures.fixes
+    c.read_packet_counted.ensures.fixes
     nac

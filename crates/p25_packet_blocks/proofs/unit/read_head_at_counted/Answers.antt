@@ -5,7 +5,7 @@ use Rattle.p25_trellis.specs.Tables.{half_point}
 use Rattle.p25_packet_blocks.specs.Reading.{head_from}
 use Rattle.p25_packet_blocks.specs.UnitReading.{sent_head_distance}
 use Rattle.p25_packet_blocks.proofs.UnitLaws.{sent_head_of-is}
-use Rattle.p25_packet_blocks.proofs.unit.read_sent_head_counted.Goals as goal
+use Rattle.p25_packet_blocks.proofs.unit.read_head_at_counted.Goals as goal
 
 pub returns-clause-head : goal.returns-clause-head
 returns-clause-head c =

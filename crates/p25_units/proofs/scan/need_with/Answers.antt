@@ -1,7 +1,7 @@
 use Rattle.std.proofs.Common.{◌∙◌, arith}
 use Rattle.std.proofs.lemmas.Bool.{iff_false}
 use Rattle.p25_units.proofs.UnitPlaceLaws.{need-short, need-unsynced, need-synced}
-use Rattle.p25_units.proofs.scan.need_begun.Goals as goal
+use Rattle.p25_units.proofs.scan.need_with.Goals as goal
 
 pub returns-then-len-at-lt48-clause-need : goal.returns-then-len-at-lt48-clause-need
 returns-then-len-at-lt48-clause-need c = need-short c.args.bits.now c.args.at (omega arith)

@@ -3,7 +3,7 @@ use Rattle.std.proofs.lemmas.Bool.{iff_false}
 use Rattle.p25_bits.specs.Bits.{part}
 use Rattle.p25_stream.specs.Scan.{Scan, Gave, given}
 use Rattle.p25_stream.proofs.ScanLaws.{gave-first, next-fits}
-use Rattle.p25_stream.proofs.scanner.Scanner.take_next.Goals as goal
+use Rattle.p25_stream.proofs.scanner.Scanner.next_in.Goals as goal
 
 pub append-requires-clause-there : goal.append-requires-clause-there
 append-requires-clause-there c =

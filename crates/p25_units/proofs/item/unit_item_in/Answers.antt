@@ -3,7 +3,7 @@ use Rattle.p25_units.specs.Items.{IsSoundItem}
 use Rattle.p25_units.specs.declared.item.Item.{Item}
 use Rattle.p25_units.proofs.ItemsLaws.{IsSoundItem-unit_item_of}
 use Rattle.p25_units.proofs.UnitPlaceLaws.{IsUnitAt-from, item-is, kind-is, some_nid}
-use Rattle.p25_units.proofs.item.set_unit_item.Goals as goal
+use Rattle.p25_units.proofs.item.unit_item_in.Goals as goal
 
 pub identify-requires-clause-there : goal.identify-requires-clause-there
 identify-requires-clause-there c =
