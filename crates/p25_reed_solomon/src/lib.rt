@@ -14,30 +14,26 @@
 //! Distances count symbols: two words of a code differ in at least N - K + 1 of them, and (N - K) / 2 wrong ones are
 //! corrected, whatever stands in them.
 //!
-//! ```text
+//! ```
 //! use p25_code::{BlockCode, Reading};
-//! use p25_gf64::Sym;
-//! use p25_reed_solomon::Rs;
 //!
-//! type LinkControl = Rs<24, 12>;
-//!
-//! let sent = [Sym::default(); 24]; // the word of the information 0
-//! let mut word = sent;
+//! let mut word = [Sym::ZERO; 24]; // the word of the information 0
 //! word[..6].fill(Sym::ONE);
-//! assert_eq!(LinkControl::read(&mut word), Reading::Found { fixes: 6 });
-//! assert_eq!(word, sent);
+//! assert_eq!(rt; Rs::<24, 12>::read(&mut word), Reading::Found { fixes: 6 });
 //! ```
 //!
 //! With `read_erased` some symbols are erased. A word is then read where twice the wrong symbols without an erasure, and
 //! the erasures, are at most N - K together:
 //!
-//! ```text
-//! use p25_code::ErasedCode;
+//! ```
+//! use p25_code::{ErasedCode, Reading};
 //!
+//! let mut word = [Sym::ZERO; 24];
+//! word[..12].fill(Sym::ONE);
 //! let mut erased = [false; 24];
 //! erased[..12].fill(true);
-//! word[..12].fill(Sym::ONE);
-//! assert_eq!(LinkControl::read_erased(&mut word, &erased), Reading::Found { fixes: 12 });
+//! let reading = Rs::<24, 12>::read_erased(&mut word, &erased);
+//! assert_eq!(rt; reading, Reading::Found { fixes: 12 });
 //! ```
 //!
 //! The encoder divides by the generator polynomial. The reader is one for both calls. It makes the syndromes of what was received, and

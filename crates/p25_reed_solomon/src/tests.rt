@@ -12,6 +12,27 @@ use p25_code::{BlockCode, Reading, encode_then_read, read_received, read_with_er
 use p25_gf64::Sym;
 use std::process::Abort;
 
+#[test]
+fn the_example_of_the_head(rt: HostRuntime) {
+    use p25_code::{BlockCode, Reading};
+
+    let mut word = [Sym::ZERO; 24]; // the word of the information 0
+    word[..6].fill(Sym::ONE);
+    assert_eq!(rt; Rs::<24, 12>::read(&mut word), Reading::Found { fixes: 6 });
+}
+
+#[test]
+fn the_example_with_erasures(rt: HostRuntime) {
+    use p25_code::{ErasedCode, Reading};
+
+    let mut word = [Sym::ZERO; 24];
+    word[..12].fill(Sym::ONE);
+    let mut erased = [false; 24];
+    erased[..12].fill(true);
+    let reading = Rs::<24, 12>::read_erased(&mut word, &erased);
+    assert_eq!(rt; reading, Reading::Found { fixes: 12 });
+}
+
 // The symbols of a text.
 fn symbols_of<const N: usize>(text: &str) -> [Sym; N] {
     let mut symbols = [Sym::default(); N];
