@@ -6,14 +6,14 @@
 //! places until all are there and the packet CRC agrees. All octets stand in the order in which they are sent.
 //! TIA-102.BAAA, Packet Data, Confirmed Delivery; the rules that the standard leaves open are this project's.
 //!
-//! ```text
+//! ```
 //! let mut sender = Sender::new();
 //! let mut receiver = Receiver::new();
-//! if let Offer::Taken { packet, .. } = sender.offer(&message) {
-//!     if let Heard::Delivered { message, answer, .. } = receiver.hear(&packet) {
-//!         sender.hear(&answer);
-//!     }
-//! }
+//! let heard = match sender.offer(&Message::new(b"ab").ok_or("two octets")?) {
+//!     Offer::Taken { packet, .. } => Some(receiver.hear(&packet)),
+//!     Offer::Busy | Offer::Down => None,
+//! };
+//! assert!(rt; matches!(heard, Some(Heard::Delivered { .. })));
 //! ```
 //!
 //! Contracts see a sender, a receiver and the halves as what they keep, and each call as a function of `SenderRules`,

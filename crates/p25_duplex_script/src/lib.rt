@@ -4,7 +4,7 @@
 //! come inverted. `duplex_event_of line` is what a line is read as, `duplex_text event` the line of an event, and each undoes the
 //! other. The text of a step is `duplex_step_text_of step`, and `duplex_closing_of` tells of each side at the end of a run.
 //!
-//! ```text
+//! ```
 //! let mut world = DuplexWorld::new(rt.alloc());
 //! let event = read_duplex_event(b"a send 6162")?;
 //! let step = world.step(&event)?;

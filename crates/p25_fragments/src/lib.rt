@@ -4,12 +4,12 @@
 //! the last, and then at most 500 octets, in the order in which they are sent. The packet head stays as it is; the first
 //! octet of a part is this project's own.
 //!
-//! ```text
-//! let mut world = LongWorld::new(alloc);
-//! if let Some(message) = LongMessage::new(&octets) {
-//!     world.step(&LongEvent::Long(message))?;
-//! }
-//! let step = world.step(&LongEvent::Inner(Event::ToReceiver(flips)))?;
+//! ```
+//! let mut world = LongWorld::new(rt.alloc());
+//! let message = LongMessage::new(b"ab").ok_or("two octets")?;
+//! let _ = world.step(&LongEvent::Long(message))?;
+//! let _ = world.step(&LongEvent::Inner(Event::ToReceiver(Flips::new())))?;
+//! assert_eq!(rt; world.whole().len(), 1);
 //! ```
 //!
 //! Contracts see a `Joiner` as the number that it expects and the octets that it holds, and each step of a `LongWorld` as the

@@ -4,13 +4,11 @@
 //! carry beside the packet CRC. A long message is a list of at most 4,000, which is sent in parts, each a message. Both are
 //! a `MessageOf` so many octets, which contracts see as the octets, and their lists a `MessageListOf` so many.
 //!
-//! ```text
-//! let mut sent = MessageList::new(alloc);
-//! if let Some(message) = Message::new(b"ab") {
-//!     sent.reserve(1)?;
-//!     sent.push(&message);
-//! }
-//! let first = sent.get(0);
+//! ```
+//! let mut sent = MessageList::new(rt.alloc());
+//! sent.reserve(1)?;
+//! sent.push(&Message::new(b"ab").ok_or("two octets")?);
+//! assert_eq!(rt; sent.get(0), b"ab".as_slice());
 //! ```
 #![tactic(auto)]
 

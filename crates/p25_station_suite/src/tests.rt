@@ -3,6 +3,7 @@
 mod duplex;
 mod faults;
 mod fragments;
+mod heads;
 mod messages;
 mod parts;
 mod rules;

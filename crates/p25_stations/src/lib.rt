@@ -4,10 +4,12 @@
 //! status symbol 00 throughout. Places of bits that come inverted are counted from that first bit. Each event of a world is
 //! one step. The rules of the stations and of the air are this project's, over those of TIA-102.BAAA, Packet Data.
 //!
-//! ```text
-//! let mut world = World::new(alloc);
-//! world.step(&Event::Send(message))?;
-//! let step = world.step(&Event::ToReceiver(flips))?;
+//! ```
+//! let mut world = World::new(rt.alloc());
+//! let message = Message::new(b"ab").ok_or("two octets")?;
+//! let _ = world.step(&Event::Send(message))?;
+//! let _ = world.step(&Event::ToReceiver(Flips::new()))?;
+//! assert_eq!(rt; world.delivered().len(), 1);
 //! ```
 //!
 //! Contracts see what comes of a packet as the function `carried_of`, a world as its state and the number of steps for which

@@ -1,9 +1,9 @@
 //! Words that name a command, and the lines and statuses of outcomes.
 
 use super::{build, words_of, writes};
-use p25_io::{MemorySource, SliceSink};
+use p25_io::{MemorySource, SliceSink, SteadySource};
 use p25_line::{Line, LineFault};
-use p25_tool::{Outcome, outcome_status, outcome_text, run};
+use p25_tool::{Outcome, Words, outcome_status, outcome_text, run};
 use std::alloc::Global;
 
 // The words of a call on an empty input, and how it ends where the sink takes nothing.
@@ -30,6 +30,17 @@ fn words_name_a_command(rt: HostRuntime) {
     for (words, outcome) in CALLS {
         assert_eq!(rt; ended(rt.alloc(), words), outcome, "{words:?}");
     }
+}
+
+#[test]
+fn a_script_is_run(rt: HostRuntime) {
+    let mut words = Words::new();
+    words.add(b"stations");
+    let mut source = SteadySource::new(b"send 6162\n", 4);
+    let mut room = [0; 128];
+    let mut sink = SliceSink::new(&mut room, &[]);
+    let outcome = run(rt.alloc(), &words, &mut source, &mut sink);
+    assert_eq!(rt; outcome, Outcome::Done);
 }
 
 // The access code and the status symbol of a bridge are those of its words.
