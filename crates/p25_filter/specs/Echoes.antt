@@ -6,9 +6,11 @@ use Rattle.p25_line.specs.declared.fault.LineFault.{LineFault}
 use Rattle.p25_line.specs.declared.fault.LineFault.TheVariants.{Form, Long}
 use Rattle.p25_filter.specs.LineRules.{LineRules}
 
+-- the line itself; an empty line has the fault form, and one of more than 8,192 octets the fault long
 abbrev pub echo_answer : {M : Type 0} → M → List ℕ → Result (List ℕ × M) LineFault
 echo_answer machine line = if nat_lt 8192 (length line) then Err Long else (if nat_lt 0 (length line) then Ok (line, machine) else Err Form)
 
+-- each line is given back, nothing closes them, and no memory is wanted
 abbrev pub echo_rules : {M : Type 0} → LineRules M
 echo_rules = record { answer = echo_answer; closing = λ machine. []; wants = false }
 
