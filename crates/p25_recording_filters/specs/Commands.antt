@@ -11,6 +11,7 @@ use Rattle.p25_units.specs.Units.{whole_octets}
 use Rattle.p25_recording_filters.specs.ItemOutputs.{shown, faulty, call_line, calls_line, check_line, check_ending}
 use Rattle.p25_recording_filters.specs.Reports.{Reporting}
 
+-- what `show` reports: the line of each item
 abbrev pub show_reporting : Reporting Show
 show_reporting = record { piece = λ report item raw. shown item; behind = λ report item raw. report; closing = λ report. []; ending = λ report. Done }
 
@@ -19,6 +20,7 @@ pub record CheckParts : Type 0 where
   pub units : ℕ
   pub faults : ℕ
 
+-- what `check` reports: the line of each item that is not a whole unit, and at the end how many were and were not
 abbrev pub check_reporting : Reporting CheckParts
 check_reporting = record {
   piece = λ report item raw. faulty item;
