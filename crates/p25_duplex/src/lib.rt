@@ -7,10 +7,8 @@
 //! ```
 //! let mut world = DuplexWorld::new(rt.alloc());
 //! let message = Message::new(b"ab").ok_or("two octets")?;
-//! let flips = Flips::new();
 //! let _ = world.step(&DuplexEvent::Send(Side::A, message))?;
-//! let _ = world.step(&DuplexEvent::Deliver { to: Side::B, flips })?;
-//! assert_eq!(rt; world.delivered(Side::A).len(), 1);
+//! assert_eq!(rt; world.sent(Side::A).len(), 1);
 //! ```
 //!
 //! Contracts see each step as the function `duplex_step`, and the messages of a side as the delivery `delivery_at`: the half of that

@@ -8,8 +8,7 @@
 //! let mut world = LongWorld::new(rt.alloc());
 //! let message = LongMessage::new(b"ab").ok_or("two octets")?;
 //! let _ = world.step(&LongEvent::Long(message))?;
-//! let _ = world.step(&LongEvent::Inner(Event::ToReceiver(Flips::new())))?;
-//! assert_eq!(rt; world.whole().len(), 1);
+//! assert_eq!(rt; world.taken().len(), 1);
 //! ```
 //!
 //! Contracts see a `Joiner` as the number that it expects and the octets that it holds, and each step of a `LongWorld` as the

@@ -41,23 +41,20 @@ fn a_world_delivers_a_message(rt: HostRuntime) -> Result<(), Fail> {
 }
 
 #[test]
-fn a_long_world_delivers_a_message(rt: HostRuntime) -> Result<(), Fail> {
+fn a_long_world_takes_a_message(rt: HostRuntime) -> Result<(), Fail> {
     let mut world = LongWorld::new(rt.alloc());
     let message = LongMessage::new(b"ab").ok_or("two octets")?;
     let _ = world.step(&LongEvent::Long(message))?;
-    let _ = world.step(&LongEvent::Inner(Event::ToReceiver(Flips::new())))?;
-    assert_eq!(rt; world.whole().len(), 1);
+    assert_eq!(rt; world.taken().len(), 1);
     Ok(())
 }
 
 #[test]
-fn a_side_sends_to_the_other(rt: HostRuntime) -> Result<(), Fail> {
+fn a_side_takes_a_message(rt: HostRuntime) -> Result<(), Fail> {
     let mut world = DuplexWorld::new(rt.alloc());
     let message = Message::new(b"ab").ok_or("two octets")?;
-    let flips = Flips::new();
     let _ = world.step(&DuplexEvent::Send(Side::A, message))?;
-    let _ = world.step(&DuplexEvent::Deliver { to: Side::B, flips })?;
-    assert_eq!(rt; world.delivered(Side::A).len(), 1);
+    assert_eq!(rt; world.sent(Side::A).len(), 1);
     Ok(())
 }
 
