@@ -17,8 +17,9 @@
    A call checks all else itself, and answers by one of the numbers named below. It takes no memory, keeps nothing, and calls
    nothing but memcpy and memset, so calls from several threads on different octets do not meet.
 
-   Stack, as stack.c measured it on x86-64 over recordings of all kinds of units: p25_next_item, p25_repair and p25_bridge take up to
-   112,000 octets, p25_build 41,000, and the other calls 17,000. It is measured, and not proved: give a thread 160 KiB or more. */
+   Stack, as stack.c measured it on x86-64 over recordings of all kinds of units: p25_build takes up to 46,000 octets,
+   p25_next_item, p25_repair and p25_bridge 38,000, and the other calls 13,000. It is measured, and not proved: give a thread 160 KiB or
+   more. */
 #ifndef P25_H
 #define P25_H
 
