@@ -123,7 +123,8 @@ module _ {F : Type 0} (K : Field F) (x : F) where
     unfolding syndrome_of remainders
     word_value [] = number_value-zero degree ∙ sym (bit_value-nil K x)
     word_value (bit ∷ word) =
-        number_value-xor degree (if bit then power_remainder generator degree (length word) else 0) (syndrome_of (remainders generator degree (length word)) word)
+        number_value-xor degree (if bit then power_remainder generator degree (length word) else 0)
+        (syndrome_of (remainders generator degree (length word)) word)
         ∙ ap₂ ◌⊕◌ (chosen bit) (word_value word)
         ∙ sym (bit_value-cons K x bit word)
       where

@@ -19,7 +19,8 @@ identifier_read : (read : Option Nid) (bits : List Bool) → 114 ≤ length bits
 identifier_read None bits long is = tt
 identifier_read (Some nid) bits long is = (long, sym is)
 
-pub IsBegun-read : (before begun : Begun) (bits : List Bool) → IsBegun before bits → begun.head ≡ before.head → begun.distance ≡ before.distance → 114 ≤ length bits → option_map (λ nid. (nid.nac, nid.duid)) begun.nid ≡ identifier_of bits → IsBegun begun bits
+pub IsBegun-read : (before begun : Begun) (bits : List Bool) → IsBegun before bits → begun.head ≡ before.head → begun.distance ≡ before.distance → 114 ≤ length bits
+    → option_map (λ nid. (nid.nac, nid.duid)) begun.nid ≡ identifier_of bits → IsBegun begun bits
 unfolding IsBegun
 IsBegun-read before begun bits was same counted long is =
     (identifier_read begun.nid bits long is, subst (λ (head : Option PacketHead). IsHeader head begun.distance bits) (sym same) (subst (λ (n : ℕ). IsHeader before.head n bits) (sym counted) was.1))
