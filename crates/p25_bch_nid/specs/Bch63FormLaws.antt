@@ -1,6 +1,6 @@
 -- The two forms of the set: zero at α^1 to α^22, and divisible by the generator.
-use Rattle.std.specs.Prelude.{◌≡◌, ℕ, zero, suc, ◌+◌, ◌-◌, ◌*◌, ◌%◌, ◌^◌, ◌<◌, ◌≤◌, ◌==◌, ◌||◌, ◌&&◌, not, Bool, true, false, List, [], ◌∷◌, length, bit_xor, refl}
-use Rattle.std.proofs.Common.{ap, ap₂, sym, subst, ◌∙◌, inl, inr, leb, ltb, get_or, arith, lit≤, lit<}
+use Rattle.std.specs.Prelude.{◌≡◌, ℕ, zero, suc, ◌+◌, ◌-◌, ◌*◌, ◌%◌, ◌^◌, ◌<◌, ◌≤◌, ◌==◌, ◌||◌, ◌&&◌, nat_le, nat_lt, not, Bool, true, false, List, [], ◌∷◌, length, slice_index, bit_xor, refl}
+use Rattle.std.proofs.Common.{ap, ap₂, sym, subst, ◌∙◌, inl, inr, arith, lit≤, lit<}
 use Rattle.std.proofs.Math.Nat.{mod-eq_of_lt}
 use Rattle.std.proofs.lemmas.Bool.{and_parts, or_cases, eqb-true, eq-eqb, leb-true, ltb-true, not-true, both_ways}
 use Rattle.p25_bits.specs.Bits.{digit_of, bits_of, field_of}
@@ -120,11 +120,11 @@ exponents =
     ∷ []
 
 exponent : ℕ → ℕ
-exponent j = get_or exponents j 0
+exponent j = slice_index exponents j
 
 -- a number from 1 to 22, or double another, modulo 63
 unfoldable is_next : ℕ → ℕ → Bool
-is_next before e = (leb 1 e && leb e 22) || e == 2 * before % 63
+is_next before e = (nat_le 1 e && nat_le e 22) || e == 2 * before % 63
 
 next_computed : all_below 46 (λ j. is_next (exponent j) (exponent (suc j))) ≡ true
 unfolding all_below is_next exponent exponents
@@ -134,7 +134,7 @@ apart_computed : all_pairs_below 47 (λ i j. not (exponent i == exponent j) || i
 unfolding all_pairs_below all_below exponent exponents
 apart_computed = refl
 
-below_computed : all_below 47 (λ j. ltb (exponent j) 63) ≡ true
+below_computed : all_below 47 (λ j. nat_lt (exponent j) 63) ≡ true
 unfolding all_below exponent exponents
 below_computed = refl
 
@@ -142,7 +142,7 @@ zeros_apart : AreApart 47 (λ j. power gf64 alpha (exponent j))
 zeros_apart = record { apart = apart }
   where
     low : (i : ℕ) → i < 47 → exponent i < 63
-    low i h = ltb-true _ _ (all_below_at 47 (λ j. ltb (exponent j) 63) below_computed i h)
+    low i h = ltb-true _ _ (all_below_at 47 (λ j. nat_lt (exponent j) 63) below_computed i h)
 
     apart : (i j : ℕ) → i < 47 → j < 47 → power gf64 alpha (exponent i) ≡ power gf64 alpha (exponent j) → i ≡ j
     apart i j hi hj e =
@@ -172,9 +172,9 @@ module _ (bits : List Bool) (zeros : (i : ℕ) → 1 ≤ i → i ≤ 22 → bit_
   each_zero zero h = zeros 1 (omega arith) (omega arith)
   each_zero (suc j) h =
       let test = all_below_at 46 (λ j. is_next (exponent j) (exponent (suc j))) next_computed j (omega arith) in
-      elim (or_cases (leb 1 (exponent (suc j)) && leb (exponent (suc j)) 22) (exponent (suc j) == 2 * exponent j % 63) test) [
+      elim (or_cases (nat_le 1 (exponent (suc j)) && nat_le (exponent (suc j)) 22) (exponent (suc j) == 2 * exponent j % 63) test) [
         | inl given ↦
-            let parts = and_parts (leb 1 (exponent (suc j))) (leb (exponent (suc j)) 22) given in
+            let parts = and_parts (nat_le 1 (exponent (suc j))) (nat_le (exponent (suc j)) 22) given in
             zeros (exponent (suc j)) (leb-true _ _ parts.0) (leb-true _ _ parts.1)
         | inr next ↦ ap (λ e. bit_value gf64 (power gf64 alpha e) bits) (eqb-true _ _ next) ∙ doubled (exponent j) (each_zero j (omega arith))
       ]

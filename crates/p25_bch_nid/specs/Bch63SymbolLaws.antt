@@ -1,6 +1,6 @@
 -- Symbols that are bits: words of bits as words of the Reed-Solomon code (63,41).
-use Rattle.std.specs.Prelude.{◌≡◌, ◌+◌, ◌==◌, Bool, true, false, List, [], ◌∷◌, map, refl}
-use Rattle.std.proofs.Common.{ap, ap₂, sym, ◌∙◌, cond, eqb, lit≤, lit<}
+use Rattle.std.specs.Prelude.{◌≡◌, ◌+◌, ◌==◌, if◌then◌else◌, Bool, true, false, List, [], ◌∷◌, map, refl}
+use Rattle.std.proofs.Common.{ap, ap₂, sym, ◌∙◌, lit≤, lit<}
 use Rattle.std.specs.Bool.{beq}
 use Rattle.std.proofs.lemmas.Bool.{false_from_ne_true}
 use Rattle.std.proofs.lemmas.List.{length-map}
@@ -23,9 +23,9 @@ pub bits_in-symbols_of : (bits : List Bool) → bits_in (symbols_of bits) ≡ bi
 bits_in-symbols_of [] = refl
 bits_in-symbols_of (bit ∷ bits) = ap₂ ◌∷◌ (again bit) (bits_in-symbols_of bits)
   where
-    again : (bit : Bool) → eqb (number (bit_coefficient gf64 bit)) 1 ≡ bit
-    again true = ap (λ n. eqb n 1) number_one
-    again false = ap (λ n. eqb n 1) number_zero
+    again : (bit : Bool) → (number (bit_coefficient gf64 bit) == 1) ≡ bit
+    again true = ap (λ n. n == 1) number_one
+    again false = ap (λ n. n == 1) number_zero
 
 -- the symbols of two bits compare as the bits do
 compares : (x y : Bool) → same_symbols (bit_coefficient gf64 x) (bit_coefficient gf64 y) ≡ beq x y
@@ -39,7 +39,7 @@ pub distance_of_symbols : (v w : List Bool) → distance_by same_symbols (symbol
 unfolding distance_by
 distance_of_symbols [] w = refl
 distance_of_symbols (x ∷ v) [] = refl
-distance_of_symbols (x ∷ v) (y ∷ w) = ap₂ (λ b d. cond b 0 1 + d) (compares x y) (distance_of_symbols v w)
+distance_of_symbols (x ∷ v) (y ∷ w) = ap₂ (λ b d. (if b then 0 else 1) + d) (compares x y) (distance_of_symbols v w)
 
 -- 63 and 41 make a Reed-Solomon code
 pub IsCode-63_41 : IsCode 63 41

@@ -1,5 +1,5 @@
 -- Network identifiers as 64 sent bits: NAC, DUID, 47 check bits and P.
-use Rattle.std.specs.Prelude.{◌≡◌, ℕ, ◌+◌, ◌*◌, ◌/◌, ◌%◌, ◌^◌, ◌<◌, cond, eqb, ◌||◌}
+use Rattle.std.specs.Prelude.{◌≡◌, ℕ, ◌+◌, ◌*◌, ◌/◌, ◌%◌, ◌^◌, ◌<◌, ◌==◌, ◌||◌, if◌then◌else◌}
 use Rattle.p25_bits.specs.Divisible.{IsDivisible}
 
 -- the generator of BCH(63,16), octal 6331141367235453, of degree 47
@@ -8,7 +8,7 @@ generator = 0xCD930BDD3B2B
 
 -- P by the writer's rule: 1 for DUID 5 and A hex, 0 for every other
 abbrev pub parity_of : ℕ → ℕ
-parity_of duid = cond (eqb duid 5 || eqb duid 10) 1 0
+parity_of duid = if duid == 5 || duid == 10 then 1 else 0
 
 -- the 64 bits that an identifier is sent as, as a number: a BCH word that begins with NAC and DUID, and P
 pub record IsSent (nac duid bits : ℕ) : Type 0 where

@@ -1,5 +1,5 @@
 -- The 64 bits that an identifier is sent as, as a list.
-use Rattle.std.specs.Prelude.{◌≡◌, ℕ, ◌/◌, ◌^◌, Bool, true, false, cond, eqb, ◌||◌, List, [], ◌∷◌, ◌++◌, length, take, refl}
+use Rattle.std.specs.Prelude.{◌≡◌, ℕ, ◌/◌, ◌^◌, Bool, true, false, ◌==◌, ◌||◌, if◌then◌else◌, List, [], ◌∷◌, ◌++◌, length, take, refl}
 use Rattle.std.proofs.Common.{ap, ap₂, sym, ◌∙◌, arith, length-append}
 use Rattle.std.proofs.lemmas.List.{take_at}
 use Rattle.p25_bits.specs.Bits.{bits_of, digit_of}
@@ -11,9 +11,9 @@ use Rattle.p25_bch_nid.specs.Bch63Laws.{encoded, IsEncoding-encoded, one_word}
 
 -- the word of the code that begins with NAC and DUID, and P
 unfoldable pub nid_word : ℕ → ℕ → List Bool
-nid_word nac duid = encoded (bits_of 12 nac ++ bits_of 4 duid) ++ eqb (parity_of duid) 1 ∷ []
+nid_word nac duid = encoded (bits_of 12 nac ++ bits_of 4 duid) ++ (parity_of duid == 1) ∷ []
 
-parity-digit : (b : Bool) → digit_of (eqb (cond b 1 0) 1) ≡ cond b 1 0
+parity-digit : (b : Bool) → digit_of ((if b then 1 else 0) == 1) ≡ (if b then 1 else 0)
 parity-digit true = refl
 parity-digit false = refl
 
@@ -30,6 +30,6 @@ nid_word-sent nac duid bits sent word =
     = ap (λ (xs : List Bool). take 63 xs) cut ∙ take_at (bits_of 63 (bits / 2 ^ 1)) (bits_of 1 bits) 63 (length-bits_of 63 (bits / 2 ^ 1)) in
     let same = one_word (take 63 (bits_of 64 bits)) (encoded info) word.word_of_set encoding.word_of_set (word.begins ∙ sym encoding.begins) in
     let last
-    = same_from_field_of (bits_of 1 bits) (eqb (parity_of duid) 1 ∷ []) (length-bits_of 1 bits)
-    (field_of-bits_of 1 bits ∙ sent.parity ∙ sym (parity-digit (eqb duid 5 || eqb duid 10)) ∙ sym (field_of-one (eqb (parity_of duid) 1))) in
+    = same_from_field_of (bits_of 1 bits) ((parity_of duid == 1) ∷ []) (length-bits_of 1 bits)
+    (field_of-bits_of 1 bits ∙ sent.parity ∙ sym (parity-digit (duid == 5 || duid == 10)) ∙ sym (field_of-one (parity_of duid == 1))) in
     cut ∙ ap₂ (λ (xs ys : List Bool). xs ++ ys) (sym beginning ∙ same) last

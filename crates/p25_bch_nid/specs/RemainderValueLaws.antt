@@ -1,5 +1,5 @@
 -- At a zero of the generator a polynomial has the value of its remainder.
-use Rattle.std.specs.Prelude.{◌≡◌, ℕ, zero, suc, ◌+◌, ◌*◌, ◌/◌, ◌%◌, ◌^◌, ◌<◌, Bool, true, false, cond, List, [], ◌∷◌, length, bit_xor, eqb, refl}
+use Rattle.std.specs.Prelude.{◌≡◌, ℕ, zero, suc, ◌+◌, ◌*◌, ◌/◌, ◌%◌, ◌^◌, ◌<◌, Bool, true, false, if◌then◌else◌, ◌==◌, List, [], ◌∷◌, length, bit_xor, refl}
 use Rattle.std.proofs.Common.{ap, ap₂, sym, subst, ◌∙◌, inl, inr, arith}
 use Rattle.std.proofs.lemmas.Bool.{cases_lt, cond_below, cond_above}
 use Rattle.std.proofs.lemmas.Nat.{div-mul-add, mod-mul-add, pow_pos}
@@ -29,8 +29,8 @@ module _ {F : Type 0} (K : Field F) (x : F) where
   pub number_value-suc : (width number : ℕ) → number < 2 ^ width → number_value (suc width) number ≡ number_value width number
   number_value-suc width number low =
       ap (bit_value K x) (bits_of-suc width number)
-      ∙ bit_value-cons K x (eqb (bit_at number width) 1) (bits_of width number)
-      ∙ ap (λ bit. bit_coefficient K (eqb bit 1) ⊗ power K x (length (bits_of width number)) ⊕ number_value width number)
+      ∙ bit_value-cons K x (bit_at number width == 1) (bits_of width number)
+      ∙ ap (λ bit. bit_coefficient K (bit == 1) ⊗ power K x (length (bits_of width number)) ⊕ number_value width number)
       (bit_at_above number width width low (omega arith))
       ∙ ap (λ w. w ⊕ number_value width number) (zero_mul K (power K x (length (bits_of width number))))
       ∙ zero_add K (number_value width number)
@@ -60,17 +60,17 @@ module _ {F : Type 0} (K : Field F) (x : F) where
       digit-lt true = omega arith
       digit-lt false = omega arith
 
-      test : (bit : Bool) → eqb (digit_of bit) 1 ≡ bit
+      test : (bit : Bool) → (digit_of bit == 1) ≡ bit
       test true = refl
       test false = refl
 
       one_bit : (n : ℕ) (bit : Bool) → n % 2 ≡ digit_of bit → number_value 1 n ≡ bit_coefficient K bit
       one_bit n bit last =
           ap (bit_value K x) (bits_of-suc 0 n)
-          ∙ bit_value-cons K x (eqb (bit_at n 0) 1) (bits_of 0 n)
+          ∙ bit_value-cons K x (bit_at n 0 == 1) (bits_of 0 n)
           ∙ ap₂ ◌⊕◌
           (
-          ap₂ (λ b w. bit_coefficient K b ⊗ power K x w) (ap (λ m. eqb m 1) (bit_at_lowest n ∙ last) ∙ test bit) (length-bits_of 0 n)
+          ap₂ (λ b w. bit_coefficient K b ⊗ power K x w) (ap (λ m. m == 1) (bit_at_lowest n ∙ last) ∙ test bit) (length-bits_of 0 n)
           ∙ ap (λ p. bit_coefficient K bit ⊗ p) (power-zero K x)
           ∙ mul_one K (bit_coefficient K bit)
           )
@@ -123,11 +123,12 @@ module _ {F : Type 0} (K : Field F) (x : F) where
     unfolding syndrome_of remainders
     word_value [] = number_value-zero degree ∙ sym (bit_value-nil K x)
     word_value (bit ∷ word) =
-        number_value-xor degree (cond bit (power_remainder generator degree (length word)) 0) (syndrome_of (remainders generator degree (length word)) word)
+        number_value-xor degree (if bit then power_remainder generator degree (length word) else 0)
+        (syndrome_of (remainders generator degree (length word)) word)
         ∙ ap₂ ◌⊕◌ (chosen bit) (word_value word)
         ∙ sym (bit_value-cons K x bit word)
       where
         chosen : (bit : Bool)
-            → number_value degree (cond bit (power_remainder generator degree (length word)) 0) ≡ bit_coefficient K bit ⊗ power K x (length word)
+            → number_value degree (if bit then power_remainder generator degree (length word) else 0) ≡ bit_coefficient K bit ⊗ power K x (length word)
         chosen true = power_remainder_value (length word) ∙ sym (one_mul K (power K x (length word)))
         chosen false = number_value-zero degree ∙ sym (zero_mul K (power K x (length word)))

@@ -1,6 +1,6 @@
 //! The zeros of a locator at all 63 places at once, by a table.
 
-ghost use Rattle.std.specs.Prelude.{◌≡◌, ◌↔◌, ℕ, ◌-◌, ◌^◌, ◌<◌, eqb, IsTrue, length};
+ghost use Rattle.std.specs.Prelude.{◌≡◌, ◌↔◌, ℕ, ◌-◌, ◌^◌, ◌<◌, ◌==◌, IsTrue, length};
 ghost use Rattle.std.specs.Int.{bit_at};
 ghost use Rattle.p25_gf64.specs.Field.{power};
 ghost use Rattle.p25_gf64.specs.Symbol.{alpha, number};
@@ -96,7 +96,7 @@ static PLANES: [[u64; 8]; 144] = planes! {
 // Answers a number whose bit 62 - j is 1 exactly where a polynomial of twelve coefficients vanishes at the point of place j.
 pub(crate) fn zeros_of(polynomial: &[Sym]) -> u64
     requires { length polynomial.now ≡ 12 }
-    ensures zeros { (j : ℕ) → j < 63 → IsTrue (eqb (bit_at result (63 - 1 - j)) 1)
+    ensures zeros { (j : ℕ) → j < 63 → IsTrue (bit_at result (63 - 1 - j) == 1)
         ↔ (value_at gf64 12 (coefficient gf64 polynomial.now) (point_of 63 j) ≡ gf64.zero) }
     ensures below { result < 2 ^ 63 }
 {

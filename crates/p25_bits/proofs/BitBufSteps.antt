@@ -107,11 +107,6 @@ slice_get-held now words len i held inside below there =
 
 -- Inverted bits.
 
-pub length-flipped : (bits : List Bool) (i : ℕ) → length (flipped bits i) ≡ length bits
-length-flipped [] i = refl
-length-flipped (x ∷ bits) zero = refl
-length-flipped (x ∷ bits) (suc i) = ap suc (length-flipped bits i)
-
 -- the first bits, of which one is inverted
 take-flipped : (n : ℕ) (bits : List Bool) (i : ℕ) → take n (flipped bits i) ≡ flipped (take n bits) i
 take-flipped zero bits i = refl

@@ -7,7 +7,7 @@ use Rattle.std.proofs.lemmas.Nat.{mod-pow-add, shr_high, shr-shr, shr_split, div
 use Rattle.std.proofs.lemmas.Nat.Bits.{bit_at-lt, bit_at_cat_low, shr_and_one}
 use Rattle.std.proofs.lemmas.List.{drop_more, take_at, drop_at, get_or_append_left, get_or-append_right}
 use Rattle.std.proofs.lemmas.List.Concat.{flat_map-append}
-use Rattle.p25_bits.specs.Bits.{digit_of, bits_of, field_after, field_of, octet_bits}
+use Rattle.p25_bits.specs.Bits.{digit_of, bits_of, field_after, field_of, octet_bits, flipped}
 
 -- as many bits as were asked for
 pub length-bits_of : (width number : ℕ) → length (bits_of width number) ≡ width
@@ -247,3 +247,9 @@ field_of-one bit = omega arith
 -- one more bit after others doubles their number
 pub field_of-push : (bits : List Bool) (bit : Bool) → field_of (bits ++ bit ∷ []) ≡ 2 * field_of bits + digit_of bit
 field_of-push bits bit = field_of-append bits (bit ∷ []) ∙ omega (arith, field_of-one bit)
+
+-- an inverted bit leaves the number of bits
+pub length-flipped : (bits : List Bool) (place : ℕ) → length (flipped bits place) ≡ length bits
+length-flipped [] place = refl
+length-flipped (bit ∷ bits) zero = refl
+length-flipped (bit ∷ bits) (suc place) = ap suc (length-flipped bits place)

@@ -1,13 +1,13 @@
 -- Laws of the distance of two lists, for any test that calls letters equal exactly where they are one letter, and of the distance of bits as the
 -- weight of an exclusive or. By induction on both lists.
-use Rattle.std.proofs.Common.{◌≡◌, ℕ, zero, suc, ◌+◌, ◌*◌, ◌^◌, ◌<◌, ◌≤◌, inl, inr, Bool, true, false, cond, List, [], ◌∷◌, ◌++◌, length, get_or, drop, refl, ap, ap₂, sym, ◌∙◌, subst, arith, add-one, bit_xor, mod-eq_of_lt, nat_eq}
+use Rattle.std.proofs.Common.{◌≡◌, ℕ, zero, suc, ◌+◌, ◌*◌, ◌^◌, ◌<◌, ◌≤◌, inl, inr, Bool, true, false, cond, not, List, [], ◌∷◌, ◌++◌, length, get_or, take, drop, refl, ap, ap₂, sym, ◌∙◌, subst, arith, add-one, bit_xor, mod-eq_of_lt, nat_eq, length-drop}
 use Rattle.std.specs.Bool.{beq}
 use Rattle.std.specs.Cmp.{booleans_Decides, unsigned_Decides, both_ways}
 use Rattle.std.specs.Cmp.Lexicographic.{pointwise, pointwise_decides}
 use Rattle.std.proofs.lemmas.Bool.{cases_Bool, cond-true, cond-false}
 use Rattle.std.specs.Int.RustNames.{count_ones}
 use Rattle.std.proofs.lemmas.Nat.{ones_cat, xor_block, xor_lt}
-use Rattle.p25_bits.specs.Bits.{digit_of, bits_of, field_of}
+use Rattle.p25_bits.specs.Bits.{digit_of, bits_of, field_of, part, flipped}
 use Rattle.p25_bits.specs.Distance.{distance_by, distance_of}
 use Rattle.p25_bits.proofs.BitsLaws.{length-bits_of, field_of-cons, field_of-lt, field_of-nil, field_of-bits_of}
 
@@ -121,6 +121,31 @@ same_from_distance_of = same_from_distance_by beq beq-alike
 
 pub distance_of-triangle : (xs ys zs : List Bool) → length xs ≡ length ys → distance_of xs zs ≤ distance_of xs ys + distance_of ys zs
 distance_of-triangle = distance_by-triangle beq (λ x y z a b. subst (λ w. beq x w ≡ true) (beq-alike y z b) a)
+
+-- what stands before a place of two lists, and what stands from it on: their distances add up
+pub distance_of-split : (n : ℕ) (xs ys : List Bool) → length xs ≡ length ys → distance_of (take n xs) (take n ys) + distance_of (drop n xs) (drop n ys) ≡ distance_of xs ys
+unfolding distance_by
+distance_of-split zero xs ys long = omega arith
+distance_of-split (suc n) [] [] long = omega arith
+distance_of-split (suc n) [] (y ∷ ys) long = absurd (omega arith)
+distance_of-split (suc n) (x ∷ xs) [] long = absurd (omega arith)
+distance_of-split (suc n) (x ∷ xs) (y ∷ ys) long = omega (arith, distance_of-split n xs ys (omega arith))
+
+-- so the beginnings of two lists differ in no more places than the lists, and so do any two parts
+pub distance_of-take : (n : ℕ) (xs ys : List Bool) → length xs ≡ length ys → distance_of (take n xs) (take n ys) ≤ distance_of xs ys
+distance_of-take n xs ys long = omega (arith, distance_of-split n xs ys long)
+
+pub distance_of-part : (at count : ℕ) (xs ys : List Bool) → length xs ≡ length ys → distance_of (part at count xs) (part at count ys) ≤ distance_of xs ys
+distance_of-part at count xs ys long =
+    let rest : length (drop at xs) ≡ length (drop at ys) = omega (arith, long, length-drop at xs, length-drop at ys) in
+    omega (arith, distance_of-split at xs ys long, distance_of-take count (drop at xs) (drop at ys) rest)
+
+-- one inverted bit makes a distance of at most 1
+pub distance_of-flipped : (bits : List Bool) (place : ℕ) → distance_of (flipped bits place) bits ≤ 1
+unfolding distance_by
+distance_of-flipped [] place = omega arith
+distance_of-flipped (bit ∷ bits) zero = omega (arith, cond-le (beq (not bit) bit), distance_of-same bits)
+distance_of-flipped (bit ∷ bits) (suc place) = omega (arith, cond-true {A = ℕ} (beq bit bit) 0 1 (beq-same bit), distance_of-flipped bits place)
 
 -- lists of one length are the same where they differ in no place
 pub pointwise-distance_of : (xs ys : List Bool) → length xs ≡ length ys → nat_eq (distance_of xs ys) 0 ≡ pointwise beq xs ys

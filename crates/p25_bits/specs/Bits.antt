@@ -1,5 +1,5 @@
 -- Bits and the numbers that they write. The first bit of a list is the highest.
-use Rattle.std.specs.Prelude.{ℕ, zero, suc, ◌+◌, ◌*◌, Bool, true, false, not, eqb, List, [], ◌∷◌, take, drop}
+use Rattle.std.specs.Prelude.{ℕ, zero, suc, ◌+◌, ◌*◌, Bool, true, false, not, ◌==◌, List, [], ◌∷◌, take, drop}
 use Rattle.std.specs.Int.{bit_at}
 use Rattle.std.specs.List.{flat_map}
 
@@ -11,7 +11,7 @@ digit_of false = 0
 -- `width` bits of a number, highest first: those of 2 ^ (width - 1) down to 2 ^ 0
 unfoldable pub bits_of : ℕ → ℕ → List Bool
 bits_of zero number = []
-bits_of (suc width) number = eqb (bit_at number width) 1 ∷ bits_of width number
+bits_of (suc width) number = (bit_at number width == 1) ∷ bits_of width number
 
 -- the number that bits write after a number that stands before them
 unfoldable pub field_after : ℕ → List Bool → ℕ

@@ -1,12 +1,12 @@
 -- The number of places in which two lists differ (the Hamming distance of coding theory).
-use Rattle.std.specs.Prelude.{ℕ, ◌+◌, Bool, cond, List, [], ◌∷◌}
+use Rattle.std.specs.Prelude.{ℕ, ◌+◌, Bool, if◌then◌else◌, List, [], ◌∷◌}
 use Rattle.std.specs.Bool.{beq}
 
 -- how many of the places that both lists have hold letters that a test calls different
 unfoldable pub distance_by : {X : Type 0} → (X → X → Bool) → List X → List X → ℕ
 distance_by same [] ys = 0
 distance_by same (x ∷ xs) [] = 0
-distance_by same (x ∷ xs) (y ∷ ys) = cond (same x y) 0 1 + distance_by same xs ys
+distance_by same (x ∷ xs) (y ∷ ys) = (if same x y then 0 else 1) + distance_by same xs ys
 
 -- in how many places two lists of bits differ
 abbrev pub distance_of : List Bool → List Bool → ℕ

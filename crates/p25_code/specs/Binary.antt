@@ -1,5 +1,5 @@
 -- Binary codes by the columns of a check matrix. A column is a number whose bits are the checks that its place takes part in.
-use Rattle.std.specs.Prelude.{◌≡◌, ℕ, zero, suc, ◌+◌, ◌^◌, Bool, cond, nat_lt, List, [], ◌∷◌, ◌++◌, length, bit_xor}
+use Rattle.std.specs.Prelude.{◌≡◌, ℕ, zero, suc, ◌+◌, ◌^◌, Bool, if◌then◌else◌, nat_lt, List, [], ◌∷◌, ◌++◌, length, bit_xor}
 use Rattle.std.specs.Bool.{beq}
 use Rattle.std.specs.List.{list_all}
 use Rattle.p25_bits.specs.Bits.{digit_of, bits_of}
@@ -8,7 +8,7 @@ use Rattle.p25_bits.specs.Bits.{digit_of, bits_of}
 unfoldable pub syndrome_of : List ℕ → List Bool → ℕ
 syndrome_of [] word = 0
 syndrome_of (column ∷ columns) [] = 0
-syndrome_of (column ∷ columns) (bit ∷ word) = bit_xor (cond bit column 0) (syndrome_of columns word)
+syndrome_of (column ∷ columns) (bit ∷ word) = bit_xor (if bit then column else 0) (syndrome_of columns word)
 
 -- the words that a check matrix lets pass: those of its length with the syndrome 0
 pub record IsChecked (columns : List ℕ) (word : List Bool) : Type 0 where
@@ -38,4 +38,4 @@ unfoldable pub change_of : List ℕ → List Bool → List Bool → ℕ
 change_of [] old new = 0
 change_of (column ∷ columns) [] new = 0
 change_of (column ∷ columns) (x ∷ old) [] = 0
-change_of (column ∷ columns) (x ∷ old) (y ∷ new) = bit_xor (cond (beq x y) 0 column) (change_of columns old new)
+change_of (column ∷ columns) (x ∷ old) (y ∷ new) = bit_xor (if beq x y then 0 else column) (change_of columns old new)

@@ -1,6 +1,6 @@
 -- Lists with erasures: at each place a letter, or an erasure where the letter is not known. What reading such a list to a cost is, where
 -- a wrong letter costs two and an erasure one.
-use Rattle.std.specs.Prelude.{◌≡◌, ℕ, ◌+◌, ◌*◌, ◌<◌, ◌≤◌, Bool, cond, List, [], ◌∷◌, Option, Some, None}
+use Rattle.std.specs.Prelude.{◌≡◌, ℕ, ◌+◌, ◌*◌, ◌<◌, ◌≤◌, Bool, if◌then◌else◌, List, [], ◌∷◌, Option, Some, None}
 use Rattle.p25_bits.specs.Distance.{distance_by}
 use Rattle.p25_code.specs.declared.code.Reading.{Reading}
 use Rattle.p25_code.specs.declared.code.Reading.TheVariants.{Found, Beyond}
@@ -9,7 +9,7 @@ use Rattle.p25_code.specs.declared.code.Reading.TheVariants.{Found, Beyond}
 unfoldable pub without_erased : {L : Type 0} → List L → List Bool → List (Option L)
 without_erased [] erased = []
 without_erased (x ∷ xs) [] = Some x ∷ without_erased xs []
-without_erased (x ∷ xs) (gone ∷ erased) = cond gone None (Some x) ∷ without_erased xs erased
+without_erased (x ∷ xs) (gone ∷ erased) = (if gone then None else Some x) ∷ without_erased xs erased
 
 -- what a place counts: 1 with an erasure, 0 with a letter
 abbrev pub erasure_weight : {L : Type 0} → Option L → ℕ
@@ -24,7 +24,7 @@ erasures_in (y ∷ list) = erasure_weight y + erasures_in list
 -- whether a place differs from a letter: 1 or 0, and 0 with an erasure
 abbrev pub letter_distance : {L : Type 0} → (L → L → Bool) → Option L → L → ℕ
 letter_distance same None x = 0
-letter_distance same (Some y) x = cond (same y x) 0 1
+letter_distance same (Some y) x = if same y x then 0 else 1
 
 -- in how many of the places without an erasure a list differs from a word
 unfoldable pub kept_distance : {L : Type 0} → (L → L → Bool) → List (Option L) → List L → ℕ

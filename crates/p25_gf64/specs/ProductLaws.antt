@@ -1,6 +1,6 @@
 -- The laws of the product on numbers below 64. Facts of two numbers are computed over all pairs; the
 -- others follow by the steps of the product.
-use Rattle.std.specs.Prelude.{◌≡◌, ℕ, zero, suc, ◌/◌, ◌%◌, ◌<◌, ◌==◌, Bool, true, false, ◌&&◌, ◌||◌, ◌≢◌, cond, nat_lt, bit_xor, refl}
+use Rattle.std.specs.Prelude.{◌≡◌, ℕ, zero, suc, ◌/◌, ◌%◌, ◌<◌, ◌==◌, Bool, true, false, ◌&&◌, ◌||◌, ◌≢◌, if◌then◌else◌, nat_lt, bit_xor, refl}
 use Rattle.std.proofs.Common.{sym, ap, ap₂, ◌∙◌, inl, inr, arith}
 use Rattle.std.proofs.lemmas.Bool.{and_parts, or_cases, cases_eq, eqb-true, ltb-true}
 use Rattle.std.specs.Int.Bits.{xor_lt, xor_assoc, xor_comm}
@@ -91,11 +91,11 @@ xor_regroup p q r s =
     ∙ ap (bit_xor p) (sym (xor_assoc q r s) ∙ ap (λ z. bit_xor z s) (xor_comm q r) ∙ xor_assoc r q s)
     ∙ sym (xor_assoc p r (bit_xor q s))
 
-cond_xor : (t : Bool) (a c : ℕ) → cond t (bit_xor a c) 0 ≡ bit_xor (cond t a 0) (cond t c 0)
+cond_xor : (t : Bool) (a c : ℕ) → (if t then bit_xor a c else 0) ≡ bit_xor (if t then a else 0) (if t then c else 0)
 cond_xor true a c = refl
 cond_xor false a c = refl
 
-cond_lt : (t : Bool) (a : ℕ) → a < 64 → cond t a 0 < 64
+cond_lt : (t : Bool) (a : ℕ) → a < 64 → (if t then a else 0) < 64
 cond_lt true a ha = ha
 cond_lt false a ha = omega arith
 
@@ -123,7 +123,7 @@ product_by-xor (suc n) a c b ha hc =
     let rest =
     ap (λ z. product_by n z (b / 2)) (times_x-xor a c ha hc) ∙ product_by-xor n (times_x a) (times_x c) (b / 2) (times_x-lt a ha) (times_x-lt c hc) in
     ap₂ bit_xor (cond_xor (b % 2 == 1) a c) rest
-    ∙ xor_regroup (cond (b % 2 == 1) a 0) (cond (b % 2 == 1) c 0) (product_by n (times_x a) (b / 2)) (product_by n (times_x c) (b / 2))
+    ∙ xor_regroup (if b % 2 == 1 then a else 0) (if b % 2 == 1 then c else 0) (product_by n (times_x a) (b / 2)) (product_by n (times_x c) (b / 2))
 
 product-xor_left : (a c b : ℕ) → a < 64 → c < 64 → product (bit_xor a c) b ≡ bit_xor (product a b) (product c b)
 unfolding product
@@ -142,9 +142,9 @@ product_by-times_x zero a b ha = refl
 product_by-times_x (suc n) a b ha =
     let t = b % 2 == 1 in
     ap₂ bit_xor (times_x_cond t a) (product_by-times_x n (times_x a) (b / 2) (times_x-lt a ha))
-    ∙ sym (times_x-xor (cond t a 0) (product_by n (times_x a) (b / 2)) (cond_lt t a ha) (product_by-lt n (times_x a) (b / 2) (times_x-lt a ha)))
+    ∙ sym (times_x-xor (if t then a else 0) (product_by n (times_x a) (b / 2)) (cond_lt t a ha) (product_by-lt n (times_x a) (b / 2) (times_x-lt a ha)))
   where
-    times_x_cond : (t : Bool) (a : ℕ) → cond t (times_x a) 0 ≡ times_x (cond t a 0)
+    times_x_cond : (t : Bool) (a : ℕ) → (if t then times_x a else 0) ≡ times_x (if t then a else 0)
     times_x_cond true a = refl
     times_x_cond false a = refl
 
@@ -156,7 +156,7 @@ product-times_x : (a b : ℕ) → a < 64 → b < 64 → times_x (product a b) �
 product-times_x a b ha hb =
     ap times_x (product_comm a b ha hb) ∙ sym (product-times_x_left b a hb) ∙ product_comm (times_x b) a (times_x-lt b hb) ha
 
-product_cond : (t : Bool) (a b : ℕ) → a < 64 → cond t (product a b) 0 ≡ product a (cond t b 0)
+product_cond : (t : Bool) (a b : ℕ) → a < 64 → (if t then product a b else 0) ≡ product a (if t then b else 0)
 product_cond true a b ha = refl
 product_cond false a b ha = sym (product-zero a ha)
 
@@ -167,7 +167,7 @@ product_by-product (suc n) a b c ha hb =
     let t = c % 2 == 1 in
     let rest = ap (λ z. product_by n z (c / 2)) (product-times_x a b ha hb) ∙ product_by-product n a (times_x b) (c / 2) ha (times_x-lt b hb) in
     ap₂ bit_xor (product_cond t a b ha) rest
-    ∙ sym (product-xor a (cond t b 0) (product_by n (times_x b) (c / 2)) ha (cond_lt t b hb) (product_by-lt n (times_x b) (c / 2) (times_x-lt b hb)))
+    ∙ sym (product-xor a (if t then b else 0) (product_by n (times_x b) (c / 2)) ha (cond_lt t b hb) (product_by-lt n (times_x b) (c / 2) (times_x-lt b hb)))
 
 -- the product associates
 pub product_assoc : (a b c : ℕ) → a < 64 → b < 64 → product (product a b) c ≡ product a (product b c)

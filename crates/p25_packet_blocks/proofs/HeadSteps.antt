@@ -1,5 +1,7 @@
--- What the makers of headers need: a flag in front of seven bits, and a number of 24 bits as three octets. By remainders.
-use Rattle.std.proofs.Common.{◌≡◌, ℕ, ◌+◌, ◌*◌, ◌/◌, ◌%◌, ◌<◌, Bool, true, false, cond, eqb, ap, arith}
+-- What the makers of headers need: a flag in front of seven bits, and an LLID as three octets. By remainders.
+use Rattle.std.proofs.Common.{◌≡◌, ℕ, ◌+◌, ◌*◌, ◌/◌, ◌<◌, Bool, true, false, cond, eqb, List, ap, ◌∙◌, arith}
+use Rattle.p25_bits.specs.Numbers.{triple_at}
+use Rattle.p25_packet_blocks.specs.Heads.{llid_octets}
 
 -- a flag as the highest bit of an octet
 pub flag_bit : (number : ℕ) (flag : Bool) → number ≡ mir.Val.bool_byte flag → 128 * number ≡ cond flag 128 0
@@ -19,6 +21,9 @@ no_flag number small = let none : (16 * number + 8) / 128 ≡ 0 = omega (arith, 
 pub some_flag : (number : ℕ) → number < 8 → eqb ((136 + 16 * number) / 128) 1 ≡ true
 some_flag number small = let one : (136 + 16 * number) / 128 ≡ 1 = omega (arith, small) in ap (λ n. eqb n 1) one
 
--- three octets of a number
-pub octets_back : (number : ℕ) → 65536 * (number / 65536) + 256 * (number / 256 % 256) + number % 256 ≡ number
-octets_back number = omega arith
+-- the three octets of an LLID write it
+octets_back : (llid : ℕ) → triple_at (llid_octets llid) 0 ≡ llid
+octets_back llid = omega arith
+
+pub llid_back : (llid : ℕ) (octets : List ℕ) → octets ≡ llid_octets llid → triple_at octets 0 ≡ llid
+llid_back llid octets are = ap (λ (xs : List ℕ). triple_at xs 0) are ∙ octets_back llid

@@ -1,5 +1,5 @@
 -- The fields of a packet header's ten octets, and the headers that this project's stations send.
-use Rattle.std.specs.Prelude.{ℕ, ◌+◌, ◌*◌, ◌/◌, ◌%◌, Bool, if◌then◌else◌, ◌==◌, [], ◌∷◌, slice_index}
+use Rattle.std.specs.Prelude.{ℕ, ◌+◌, ◌*◌, ◌/◌, ◌%◌, Bool, if◌then◌else◌, ◌==◌, List, [], ◌∷◌, ◌++◌, slice_index}
 use Rattle.p25_bits.specs.Numbers.{triple_at}
 use Rattle.p25_packet_blocks.specs.declared.head.PacketHead.{PacketHead}
 
@@ -43,17 +43,21 @@ response_kind head = slice_index head.0 1 / 8 % 8
 unfoldable pub response_status : PacketHead → ℕ
 response_status head = slice_index head.0 1 % 8
 
+-- the three octets of an LLID, the first highest
+abbrev pub llid_octets : ℕ → List ℕ
+llid_octets llid = llid / 65536 ∷ llid / 256 % 256 ∷ llid % 256 ∷ []
+
 -- the header of a confirmed packet, by its LLID, full message flag, blocks to follow, pad count and N(S)
 unfoldable pub confirmed_head : ℕ → Bool → ℕ → ℕ → ℕ → PacketHead
 confirmed_head llid full blocks pad number =
-    record { 0 = 0x56 ∷ 0xC0 ∷ 0 ∷ llid / 65536 ∷ llid / 256 % 256 ∷ llid % 256 ∷ ((if full then 128 else 0) + blocks) ∷ pad ∷ (16 * number + 8) ∷ 0 ∷ [] }
+    record { 0 = 0x56 ∷ 0xC0 ∷ 0 ∷ [] ++ llid_octets llid ++ ((if full then 128 else 0) + blocks) ∷ pad ∷ (16 * number + 8) ∷ 0 ∷ [] }
 
 -- the header of a response, by its LLID, class, type, status and blocks to follow
 unfoldable pub response_head : ℕ → ℕ → ℕ → ℕ → ℕ → PacketHead
 response_head llid class kind status blocks =
-    record { 0 = 0x23 ∷ (64 * class + 8 * kind + status) ∷ 0 ∷ llid / 65536 ∷ llid / 256 % 256 ∷ llid % 256 ∷ (128 + blocks) ∷ 0 ∷ 0 ∷ 0 ∷ [] }
+    record { 0 = 0x23 ∷ (64 * class + 8 * kind + status) ∷ 0 ∷ [] ++ llid_octets llid ++ (128 + blocks) ∷ 0 ∷ 0 ∷ 0 ∷ [] }
 
 -- the header of the packet that opens a link, by its LLID and number: a confirmed packet of no blocks with Syn
 unfoldable pub opening_head : ℕ → ℕ → PacketHead
 opening_head llid number =
-    record { 0 = 0x56 ∷ 0xC0 ∷ 0 ∷ llid / 65536 ∷ llid / 256 % 256 ∷ llid % 256 ∷ 0x80 ∷ 0 ∷ (0x88 + 16 * number) ∷ 0 ∷ [] }
+    record { 0 = 0x56 ∷ 0xC0 ∷ 0 ∷ [] ++ llid_octets llid ++ 0x80 ∷ 0 ∷ (0x88 + 16 * number) ∷ 0 ∷ [] }

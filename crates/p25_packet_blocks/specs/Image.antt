@@ -1,6 +1,5 @@
 -- The image of a packet: the bits of its unit without status symbols, as one list.
-use Rattle.std.specs.Prelude.{ℕ, ◌+◌, ◌-◌, ◌*◌, ◌/◌, ◌%◌, ◌^◌, Bool, false, List, [], ◌∷◌, ◌++◌, replicate}
-use Rattle.std.proofs.Common.{get_or}
+use Rattle.std.specs.Prelude.{ℕ, ◌+◌, ◌-◌, ◌*◌, ◌/◌, ◌%◌, ◌^◌, Bool, false, List, [], ◌∷◌, ◌++◌, replicate, slice_index_or}
 use Rattle.p25_bits.specs.Bits.{part}
 use Rattle.p25_bits.specs.Numbers.{joined_below}
 use Rattle.p25_trellis.specs.Nearest.{half_block, three_quarter_block}
@@ -43,7 +42,7 @@ checked_octets octets = octets ++ four_octets (crc32_of octets)
 
 -- the bits of the block at place j after the header block
 unfoldable pub body_block : Packet → ℕ → List Bool
-body_block (Confirmed packet) j = slot_bits (get_or packet.slots j Bad)
+body_block (Confirmed packet) j = slot_bits (slice_index_or packet.slots j Bad)
 body_block (Plain packet) j = half_block (part (12 * j) 12 (checked_octets packet.octets))
 
 -- nulls up to the length of a unit with n blocks to follow

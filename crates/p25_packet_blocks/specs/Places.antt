@@ -1,6 +1,5 @@
 -- The image of a packet by its places, as the standard says it.
-use Rattle.std.specs.Prelude.{◌≡◌, ℕ, ◌*◌, ◌<◌, ◌≤◌, Bool, false, List, length, take, slice_get, Some}
-use Rattle.std.proofs.Common.{get_or}
+use Rattle.std.specs.Prelude.{◌≡◌, ℕ, ◌*◌, ◌<◌, ◌≤◌, Bool, false, List, length, take, slice_get, slice_index_or, Some}
 use Rattle.p25_bits.specs.Bits.{part}
 use Rattle.p25_trellis.specs.Trellis.{IsBlock}
 use Rattle.p25_trellis.specs.Tables.{half_point, three_quarter_point}
@@ -19,7 +18,7 @@ use Rattle.p25_packet_blocks.specs.Image.{header_octets, confirmed_octets, check
 -- block; at half rate the twelve octets from place 12·j of all octets and their packet CRC
 unfoldable pub IsBodyBlock : Packet → ℕ → List Bool → Type 0
 IsBodyBlock (Confirmed packet) j bits =
-    (block : Block) × (get_or packet.slots j Bad ≡ Good block) × IsBlock 8 3 three_quarter_point (confirmed_octets block) bits
+    (block : Block) × (slice_index_or packet.slots j Bad ≡ Good block) × IsBlock 8 3 three_quarter_point (confirmed_octets block) bits
 IsBodyBlock (Plain packet) j bits = IsBlock 4 2 half_point (part (12 * j) 12 (checked_octets packet.octets)) bits
 
 -- bits are the image of a packet: bits 0 to 111 the front of DUID C, the 196 bits from 112 the header block at half rate,

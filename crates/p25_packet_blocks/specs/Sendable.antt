@@ -1,6 +1,5 @@
 -- Packets that can be sent: what their types keep, and that no slot is Bad.
-use Rattle.std.specs.Prelude.{◌≡◌, ℕ, ◌<◌, List, length, All}
-use Rattle.std.proofs.Common.{get_or}
+use Rattle.std.specs.Prelude.{◌≡◌, ℕ, ◌<◌, List, length, slice_index_or, All}
 use Rattle.p25_packet_blocks.specs.declared.head.PacketHead.{PacketHead}
 use Rattle.p25_packet_blocks.specs.declared.block.Block.{Block}
 use Rattle.p25_packet_blocks.specs.declared.block.Slot.{Slot}
@@ -29,7 +28,7 @@ pub record IsDataBlock (block : Block) : Type 0 where
 
 -- each of the first n slots is Good, and its block keeps what every block keeps
 pub record AreDataBlocks (slots : List Slot) (n : ℕ) : Type 0 where
-  pub at : (j : ℕ) → j < n → (block : Block) × (get_or slots j Bad ≡ Good block) × IsDataBlock block
+  pub at : (j : ℕ) → j < n → (block : Block) × (slice_index_or slots j Bad ≡ Good block) × IsDataBlock block
 
 -- a confirmed packet that can be sent
 pub record IsSendableConfirmed (packet : ConfirmedParts) : Type 0 where

@@ -1,6 +1,6 @@
 -- The packet answer of a unit as it is sent, with its status symbols: the tests Sync, Nid, Duid, PacketHeader and Length, in
 -- this order, and then the packet answer.
-use Rattle.std.specs.Prelude.{ℕ, Bool, List, ◌==◌, leb, length, take, ◌++◌, Result, Ok, Err, Option, Some, None, if◌then◌else◌}
+use Rattle.std.specs.Prelude.{ℕ, Bool, List, ◌==◌, nat_le, length, take, ◌++◌, Result, Ok, Err, Option, Some, None, if◌then◌else◌}
 use Rattle.p25_bits.specs.Bits.{part}
 use Rattle.p25_status.specs.declared.fields.Field.{Field}
 use Rattle.p25_status.specs.declared.fields.Field.TheVariants.{Sync, Nid, Duid, Length}
@@ -32,7 +32,7 @@ unfoldable pub sent_from : Result PacketHead Field → List Bool → Result Pack
 sent_from (Err field) sent = Err field
 sent_from (Ok head) sent =
     let count = packet_sent_length (head_blocks head) in
-    if leb count (length sent) then packet_of_head head (bare_of (take count sent)) else Err Length
+    if nat_le count (length sent) then packet_of_head head (bare_of (take count sent)) else Err Length
 
 unfoldable pub sent_packet_of : List Bool → Result Packet Field
 sent_packet_of sent = sent_from (sent_head_of sent) sent

@@ -1,6 +1,5 @@
 -- Packets of which nothing failed.
-use Rattle.std.specs.Prelude.{◌≢◌, ℕ, ◌<◌, List, length}
-use Rattle.std.proofs.Common.{get_or}
+use Rattle.std.specs.Prelude.{◌≢◌, ℕ, ◌<◌, List, length, slice_index_or}
 use Rattle.p25_packet_blocks.specs.declared.head.PacketHead.{PacketHead}
 use Rattle.p25_packet_blocks.specs.declared.block.Slot.{Slot}
 use Rattle.p25_packet_blocks.specs.declared.block.Slot.TheVariants.{Bad}
@@ -14,7 +13,7 @@ packet_head (Plain packet) = packet.head
 
 -- no slot is Bad
 pub record AreGood (slots : List Slot) : Type 0 where
-  pub at : (j : ℕ) → j < length slots → get_or slots j Bad ≢ Bad
+  pub at : (j : ℕ) → j < length slots → slice_index_or slots j Bad ≢ Bad
 
 -- no slot of a packet is Bad
 unfoldable pub IsWholePacket : Packet → Type 0

@@ -1,6 +1,5 @@
 -- What a packet that was read says of what was received: its checks agree, and it is what the first nearest paths carry.
-use Rattle.std.specs.Prelude.{◌≡◌, ℕ, ◌*◌, ◌<◌, Bool, List}
-use Rattle.std.proofs.Common.{get_or}
+use Rattle.std.specs.Prelude.{◌≡◌, ℕ, ◌*◌, ◌<◌, Bool, List, slice_index_or}
 use Rattle.p25_bits.specs.Bits.{part}
 use Rattle.p25_trellis.specs.Nearest.{half_octets, three_quarter_octets}
 use Rattle.p25_packet_blocks.specs.declared.block.Block.{Block}
@@ -15,7 +14,8 @@ use Rattle.p25_packet_blocks.specs.Image.{header_octets, confirmed_octets, check
 -- the first nearest path to received bits carries the block at place j: the serial number, the CRC-9 and the octets of the
 -- slot's block, or the twelve octets from 12·j of all octets and their packet CRC
 unfoldable pub IsBlockRead : Packet → ℕ → List Bool → Type 0
-IsBlockRead (Confirmed packet) j bits = (block : Block) × (get_or packet.slots j Bad ≡ Good block) × (three_quarter_octets bits ≡ confirmed_octets block)
+IsBlockRead (Confirmed packet) j bits =
+    (block : Block) × (slice_index_or packet.slots j Bad ≡ Good block) × (three_quarter_octets bits ≡ confirmed_octets block)
 IsBlockRead (Plain packet) j bits = half_octets bits ≡ part (12 * j) 12 (checked_octets packet.octets)
 
 -- the first nearest paths to the header block and to each block to follow carry the packet, with all its checks

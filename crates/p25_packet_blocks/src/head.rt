@@ -1,5 +1,5 @@
 ghost use Rattle.std.specs.Prelude.{◌≡◌, ◌^◌, ◌<◌, true, false};
-ghost use Rattle.p25_packet_blocks.specs.Heads.{head_format, head_is_full, head_blocks, head_pad, head_llid, head_syn, head_number, response_class, response_kind, response_status, confirmed_head, response_head, opening_head};
+ghost use Rattle.p25_packet_blocks.specs.Heads.{head_format, head_is_full, head_blocks, head_pad, head_llid, head_syn, head_number, response_class, response_kind, response_status, confirmed_head, response_head, opening_head, llid_octets};
 
 use p25_bits::triple_at;
 
@@ -123,13 +123,14 @@ impl PacketHead {
         ensures syn { head_syn result ≡ false }
         ensures llid { head_llid result ≡ llid }
     {
+        let [high, middle, low] = llid_octets(llid);
         PacketHead([
             0x56,
             0xC0,
             0,
-            (llid / 65536) as u8,
-            (llid / 256 % 256) as u8,
-            (llid % 256) as u8,
+            high,
+            middle,
+            low,
             128 * u8::from(full) + blocks,
             pad,
             16 * number + 8,
@@ -153,13 +154,14 @@ impl PacketHead {
         ensures status { response_status result ≡ status }
         ensures llid { head_llid result ≡ llid }
     {
+        let [high, middle, low] = llid_octets(llid);
         PacketHead([
             0x23,
             64 * class + 8 * kind + status,
             0,
-            (llid / 65536) as u8,
-            (llid / 256 % 256) as u8,
-            (llid % 256) as u8,
+            high,
+            middle,
+            low,
             128 + blocks,
             0,
             0,
@@ -180,17 +182,30 @@ impl PacketHead {
         ensures syn { head_syn result ≡ true }
         ensures llid { head_llid result ≡ llid }
     {
+        let [high, middle, low] = llid_octets(llid);
         PacketHead([
             0x56,
             0xC0,
             0,
-            (llid / 65536) as u8,
-            (llid / 256 % 256) as u8,
-            (llid % 256) as u8,
+            high,
+            middle,
+            low,
             0x80,
             0,
             0x88 + 16 * number,
             0,
         ])
     }
+}
+
+// The three octets of an LLID, the first highest.
+fn llid_octets(llid: u32) -> [u8; 3]
+    requires { llid < 2 ^ 24 }
+    ensures { result ≡ llid_octets llid }
+{
+    [
+        (llid / 65536) as u8,
+        (llid / 256 % 256) as u8,
+        (llid % 256) as u8,
+    ]
 }

@@ -1,6 +1,6 @@
 //! Units of packets read, without their status symbols.
 
-ghost use Rattle.std.specs.Prelude.{◌≡◌, ℕ, ◌+◌, ◌*◌, ◌≤◌, ◌<◌, eqb, length, take, drop, Ok, None};
+ghost use Rattle.std.specs.Prelude.{◌≡◌, ℕ, ◌+◌, ◌*◌, ◌≤◌, ◌<◌, ◌==◌, length, take, drop, Ok, None};
 ghost use Rattle.p25_bits.specs.Numbers.{octets_number};
 ghost use Rattle.p25_crc.specs.Values.{crc32_of};
 ghost use Rattle.p25_packet_blocks.specs.declared.packet.Packet.{Packet as packet_type};
@@ -106,7 +106,7 @@ fn read_octets(bare: &BitBuf, blocks: usize, octets: &mut [u8], fixes: &mut u32)
 // Whether the last four octets are the packet CRC of the others.
 fn check_agrees(octets: &[u8], count: usize) -> bool
     requires { length octets.now ≡ count + 4 }
-    ensures { result ≡ eqb (octets_number (drop count octets.now)) (crc32_of (take count octets.now)) }
+    ensures { result ≡ (octets_number (drop count octets.now) == crc32_of (take count octets.now)) }
 {
     let check = [
         octets[count],

@@ -1,5 +1,5 @@
 -- Distances of words by their symbols.
-use Rattle.std.specs.Prelude.{◌≡◌, ℕ, zero, suc, ◌+◌, true, cond, List, [], ◌∷◌, length, refl}
+use Rattle.std.specs.Prelude.{◌≡◌, ℕ, zero, suc, ◌+◌, true, if◌then◌else◌, List, [], ◌∷◌, length, refl}
 use Rattle.std.proofs.Common.{ap, ap₂, sym, ◌∙◌, inl, inr, arith}
 use Rattle.std.proofs.lemmas.Bool.{cond-true, cond-false, eq-eqb, false_from_ne_true}
 use Rattle.p25_bits.specs.Distance.{distance_by}
@@ -19,9 +19,9 @@ nonzeros_first zero f = omega arith
 nonzeros_first (suc n) f = omega (arith, nonzeros_first n f)
 
 -- two symbols differ exactly where their sum is not zero
-pub weight_of_sum : (x y : Sym) → cond (same_symbols x y) 0 1 ≡ weight_by (gf64.is_zero (gf64.add x y))
+pub weight_of_sum : (x y : Sym) → (if same_symbols x y then 0 else 1) ≡ weight_by (gf64.is_zero (gf64.add x y))
 weight_of_sum x y =
-    elim (gf64.is_zero (gf64.add x y)) as (λ w. cond (same_symbols x y) 0 1 ≡ weight_by w) [
+    elim (gf64.is_zero (gf64.add x y)) as (λ w. (if same_symbols x y then 0 else 1) ≡ weight_by w) [
       | inl none ↦ cond-true (same_symbols x y) 0 1 (eq-eqb (number x) (number y) (ap number (same_from_sum gf64 x y none)))
       | inr other ↦ cond-false (same_symbols x y) 0 1 (false_from_ne_true (same_symbols x y) (λ test. other (none test)))
     ]

@@ -1,6 +1,6 @@
 -- The word of some information: the information, and then the remainder of its polynomial by the generator. The symbol at j is the
 -- coefficient of the j-th power of 1/x.
-use Rattle.std.specs.Prelude.{ℕ, zero, suc, ◌-◌, eqb, List, if◌then◌else◌}
+use Rattle.std.specs.Prelude.{ℕ, zero, suc, ◌-◌, ◌==◌, List, if◌then◌else◌}
 use Rattle.p25_bits.specs.Numbers.{each_below}
 use Rattle.p25_gf64.specs.declared.symbol.Sym.{Sym}
 use Rattle.p25_gf64.specs.Field.{power}
@@ -10,7 +10,7 @@ use Rattle.p25_algebra.specs.Series.{coefficient, shifted, times_linear}
 
 -- the coefficients of the generator: the product of 1 + α^i / x for each i from 1 to the number of check symbols
 unfoldable pub generator_of : ℕ → ℕ → Sym
-generator_of zero j = if eqb j 0 then gf64.one else gf64.zero
+generator_of zero j = if j == 0 then gf64.one else gf64.zero
 generator_of (suc checks) j = times_linear gf64 (power gf64 alpha (suc checks)) (generator_of checks) j
 
 -- the coefficients after the first `count` were made zero, one after the other, by multiples of the generator

@@ -1,5 +1,5 @@
 -- Errors of a received word: what is added to it at each place. Places may be erased: what stands there is not known.
-use Rattle.std.specs.Prelude.{◌≡◌, ℕ, zero, suc, ◌+◌, ◌-◌, ◌*◌, ◌<◌, ◌≤◌, Bool, false, List, length, slice_index_or, eqb, cond}
+use Rattle.std.specs.Prelude.{◌≡◌, ℕ, zero, suc, ◌+◌, ◌-◌, ◌*◌, ◌<◌, ◌≤◌, Bool, false, List, length, slice_index, slice_index_or, ◌==◌, if◌then◌else◌}
 use Rattle.p25_gf64.specs.declared.symbol.Sym.{Sym}
 use Rattle.p25_gf64.specs.Field.{power}
 use Rattle.p25_gf64.specs.Symbol.{alpha}
@@ -22,11 +22,11 @@ is_erased erased j = slice_index_or erased j false
 -- how many of the places 0 to n - 1 are erased
 unfoldable pub erased_below : List Bool → ℕ → ℕ
 erased_below erased zero = 0
-erased_below erased (suc n) = erased_below erased n + cond (is_erased erased n) 1 0
+erased_below erased (suc n) = erased_below erased n + (if is_erased erased n then 1 else 0)
 
 -- the errors at places that are not erased
 abbrev pub kept_errors : List Bool → (ℕ → Sym) → ℕ → Sym
-kept_errors erased errors j = cond (is_erased erased j) gf64.zero (errors j)
+kept_errors erased errors j = if is_erased erased j then gf64.zero else errors j
 
 -- these errors explain so many syndromes: twice the wrong places that are not erased, and the erased places, are no more than these,
 -- and the power sums of the errors are the syndromes
@@ -43,15 +43,15 @@ pub record AreErrors (n checks : ℕ) (syndromes : List Sym) (errors : ℕ → S
 pub record IsListed (places : List ℕ) (j : ℕ) : Type 0 where
   pub index : ℕ
   pub inside : index < length places
-  pub there : slice_index_or places index 0 ≡ j
+  pub there : slice_index places index ≡ j
 
 -- the places are those below `upto` at whose points a polynomial vanishes, in rising order
 pub record AreZeros (n : ℕ) (polynomial : List Sym) (upto : ℕ) (places : List ℕ) : Type 0 where
-  pub below : (c : ℕ) → c < length places → slice_index_or places c 0 < upto
-  pub rising : (c d : ℕ) → c < d → d < length places → slice_index_or places c 0 < slice_index_or places d 0
-  pub zeros : (c : ℕ) → c < length places → value_at gf64 (length polynomial) (coefficient gf64 polynomial) (point_of n (slice_index_or places c 0)) ≡ gf64.zero
+  pub below : (c : ℕ) → c < length places → slice_index places c < upto
+  pub rising : (c d : ℕ) → c < d → d < length places → slice_index places c < slice_index places d
+  pub zeros : (c : ℕ) → c < length places → value_at gf64 (length polynomial) (coefficient gf64 polynomial) (point_of n (slice_index places c)) ≡ gf64.zero
   pub all : (j : ℕ) → j < upto → value_at gf64 (length polynomial) (coefficient gf64 polynomial) (point_of n j) ≡ gf64.zero → IsListed places j
 
 -- what stands at place j where each value is added at its place
 abbrev pub placed : List ℕ → (ℕ → Sym) → ℕ → Sym
-placed places values j = sum_below gf64 (length places) (λ c. cond (eqb (slice_index_or places c 0) j) (values c) gf64.zero)
+placed places values j = sum_below gf64 (length places) (λ c. if slice_index places c == j then values c else gf64.zero)

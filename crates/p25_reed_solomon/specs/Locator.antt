@@ -1,5 +1,5 @@
 -- Locators of the places of a received word that are erased or wrong, and their evaluators.
-use Rattle.std.specs.Prelude.{◌≡◌, ◌≢◌, ℕ, zero, suc, ◌+◌, ◌<◌, Bool, true, false, List, cond}
+use Rattle.std.specs.Prelude.{◌≡◌, ◌≢◌, ℕ, zero, suc, ◌+◌, ◌<◌, Bool, true, false, List, if◌then◌else◌}
 use Rattle.p25_gf64.specs.declared.symbol.Sym.{Sym}
 use Rattle.p25_gf64.specs.Gf64.{gf64}
 use Rattle.p25_algebra.specs.Series.{value_at, slope_at, times_linear, IsZero, IsShort}
@@ -8,7 +8,8 @@ use Rattle.p25_reed_solomon.specs.Errors.{element_of, point_of, is_erased, Expla
 -- a polynomial times 1 + x times the element of each erased place below `upto`, among n
 unfoldable pub times_erasures : ℕ → List Bool → ℕ → (ℕ → Sym) → ℕ → Sym
 times_erasures n erased zero f = f
-times_erasures n erased (suc j) f = cond (is_erased erased j) (times_linear gf64 (element_of n j) (times_erasures n erased j f)) (times_erasures n erased j f)
+times_erasures n erased (suc j) f =
+    if is_erased erased j then times_linear gf64 (element_of n j) (times_erasures n erased j f) else times_erasures n erased j f
 
 -- a polynomial of degree `most` at most that vanishes at the points of the erased places and, for any errors that explain the
 -- syndromes, at those of the wrong ones. Where it vanishes, the error times its slope is the evaluator's value and the slope is not

@@ -1,5 +1,5 @@
 -- The Reed-Solomon codes over GF(64): the words that vanish at successive powers of α.
-use Rattle.std.specs.Prelude.{◌≡◌, ℕ, Bool, eqb, ◌-◌, ◌*◌, ◌/◌, ◌<◌, ◌≤◌, List, length}
+use Rattle.std.specs.Prelude.{◌≡◌, ℕ, Bool, ◌==◌, ◌-◌, ◌*◌, ◌/◌, ◌<◌, ◌≤◌, List, length}
 use Rattle.p25_gf64.specs.declared.symbol.Sym.{Sym}
 use Rattle.p25_gf64.specs.Field.{power}
 use Rattle.p25_gf64.specs.Symbol.{alpha, number}
@@ -31,4 +31,4 @@ radius_of n k = (n - k) / 2
 
 -- whether two symbols are one
 abbrev pub same_symbols : Sym → Sym → Bool
-same_symbols x y = eqb (number x) (number y)
+same_symbols x y = number x == number y

@@ -1,6 +1,6 @@
 -- A transmission of which at most one bit comes inverted arrives within radius: no part of it differs in more places than the
 -- whole. By recursion on the bits and on the flips.
-use Rattle.std.proofs.Common.{◌≡◌, ℕ, zero, suc, ◌+◌, ◌*◌, ◌/◌, ◌<◌, ◌≤◌, inl, inr, Bool, true, false, cond, not, List, [], ◌∷◌, ◌++◌, length, take, drop, replicate, refl, ap, ap₂, sym, subst, ◌∙◌, arith, length-append, length-drop}
+use Rattle.std.proofs.Common.{◌≡◌, ℕ, zero, suc, ◌+◌, ◌*◌, ◌/◌, ◌<◌, ◌≤◌, inl, inr, Bool, cond, List, [], ◌∷◌, ◌++◌, length, take, drop, replicate, refl, ap, ap₂, sym, subst, ◌∙◌, arith, length-append, length-drop}
 use Rattle.std.specs.Prelude.{nat_lt, count_by}
 use Rattle.std.specs.Bool.{beq}
 use Rattle.std.proofs.lemmas.Bool.{cases_lt}
@@ -10,7 +10,7 @@ use Rattle.std.proofs.lemmas.List.Sums.{sum_by-cons}
 use Rattle.p25_bits.specs.Bits.{part, flipped}
 use Rattle.p25_bits.specs.Distance.{distance_by, distance_of}
 use Rattle.p25_bits.proofs.PartLaws.{length-part}
-use Rattle.p25_bits.proofs.DistanceLaws.{distance_by-append, distance_of-same, distance_of-sym, distance_of-triangle}
+use Rattle.p25_bits.proofs.DistanceLaws.{distance_by-append, distance_of-same, distance_of-sym, distance_of-triangle, distance_of-split, distance_of-take, distance_of-part, distance_of-flipped}
 use Rattle.p25_status.specs.Woven.{bare_in, bare_of}
 use Rattle.p25_status.proofs.WovenLaws.{length-woven, length-bare_of}
 use Rattle.p25_unit_front.specs.Front.{identifier_bits}
@@ -29,20 +29,6 @@ use Rattle.p25_stations.proofs.AirLoopLaws.{flipped-past, length-flipped}
 
 -- Distances of parts.
 
-distance-split : (n : ℕ) (xs ys : List Bool) → length xs ≡ length ys → distance_of (take n xs) (take n ys) + distance_of (drop n xs) (drop n ys) ≡ distance_of xs ys
-unfolding distance_by
-distance-split zero xs ys e = omega arith
-distance-split (suc n) [] [] e = omega arith
-distance-split (suc n) [] (y ∷ ys) e = absurd (omega arith)
-distance-split (suc n) (x ∷ xs) [] e = absurd (omega arith)
-distance-split (suc n) (x ∷ xs) (y ∷ ys) e = omega (arith, distance-split n xs ys (omega arith))
-
-distance-take : (n : ℕ) (xs ys : List Bool) → length xs ≡ length ys → distance_of (take n xs) (take n ys) ≤ distance_of xs ys
-distance-take n xs ys e = omega (arith, distance-split n xs ys e)
-
-distance-part : (at count : ℕ) (xs ys : List Bool) → length xs ≡ length ys → distance_of (part at count xs) (part at count ys) ≤ distance_of xs ys
-distance-part at count xs ys e = omega (arith, distance-split at xs ys e, distance-take count (drop at xs) (drop at ys) (omega (arith, e, length-drop at xs, length-drop at ys)))
-
 -- the bits of blocks without their status symbols
 distance-bare_in : (blocks : ℕ) (xs ys : List Bool) → length xs ≡ 72 * blocks → length ys ≡ 72 * blocks → distance_of (bare_in blocks xs) (bare_in blocks ys) ≤ distance_of xs ys
 unfolding bare_in distance_by
@@ -52,9 +38,9 @@ distance-bare_in (suc blocks) xs ys e f =
     let front : distance_of (take 70 xs) (take 70 ys) ≤ distance_of (take 72 xs) (take 72 ys)
     = subst (λ (bits : List Bool). distance_of bits (take 70 ys) ≤ distance_of (take 72 xs) (take 72 ys)) (take-take 70 72 xs (omega arith))
     (subst (λ (bits : List Bool). distance_of (take 70 (take 72 xs)) bits ≤ distance_of (take 72 xs) (take 72 ys)) (take-take 70 72 ys (omega arith))
-    (distance-take 70 (take 72 xs) (take 72 ys) (omega (arith, length-part 0 72 xs (omega (arith, e)), length-part 0 72 ys (omega (arith, f)))))) in
+    (distance_of-take 70 (take 72 xs) (take 72 ys) (omega (arith, length-part 0 72 xs (omega (arith, e)), length-part 0 72 ys (omega (arith, f)))))) in
     let rest = distance-bare_in blocks (drop 72 xs) (drop 72 ys) (omega (arith, e, length-drop 72 xs)) (omega (arith, f, length-drop 72 ys)) in
-    omega (arith, distance_by-append beq (take 70 xs) (bare_in blocks (drop 72 xs)) (take 70 ys) (bare_in blocks (drop 72 ys)) long, front, rest, distance-split 72 xs ys (e ∙ sym f))
+    omega (arith, distance_by-append beq (take 70 xs) (bare_in blocks (drop 72 xs)) (take 70 ys) (bare_in blocks (drop 72 ys)) long, front, rest, distance_of-split 72 xs ys (e ∙ sym f))
 
 distance-bare_of : (blocks : ℕ) (xs ys : List Bool) → length xs ≡ 72 * blocks → length ys ≡ 72 * blocks → distance_of (bare_of xs) (bare_of ys) ≤ distance_of xs ys
 unfolding bare_of
@@ -65,20 +51,6 @@ distance-bare_of blocks xs ys e f =
     (subst (λ (n : ℕ). distance_of (bare_in blocks xs) (bare_in n ys) ≤ distance_of xs ys) (sym y) (distance-bare_in blocks xs ys e f))
 
 -- Flips.
-
-one-wrong : (bit : Bool) → cond (beq (not bit) bit) 0 1 ≤ 1
-one-wrong true = omega arith
-one-wrong false = omega arith
-
-none-wrong : (bit : Bool) → cond {A = ℕ} (beq bit bit) 0 1 ≡ 0
-none-wrong true = refl
-none-wrong false = refl
-
-distance-flipped : (bits : List Bool) (place : ℕ) → distance_of (flipped bits place) bits ≤ 1
-unfolding distance_by
-distance-flipped [] place = omega arith
-distance-flipped (bit ∷ bits) zero = omega (arith, one-wrong bit, distance_of-same bits)
-distance-flipped (bit ∷ bits) (suc place) = omega (arith, none-wrong bit, distance-flipped bits place)
 
 pub length-with_flips : (bits : List Bool) (flips : List ℕ) → length (with_flips bits flips) ≡ length bits
 unfolding with_flips
@@ -98,7 +70,7 @@ distance-with_flips bits (place ∷ flips) count e =
     let more = sum_by-cons (λ (p : ℕ). cond (nat_lt p count) 1 0) place flips in
     let here : distance_of next bits ≤ cond (nat_lt place count) 1 0
     = elim (cases_lt place count) [
-      | inl inside ↦ omega (arith, distance-flipped bits place, counts-within count place inside)
+      | inl inside ↦ omega (arith, distance_of-flipped bits place, counts-within count place inside)
       | inr past ↦ omega (arith, ap (λ (xs : List Bool). distance_of xs bits) (flipped-past bits place (omega (arith, e, past))), distance_of-same bits)
     ] in
     omega (arith, through, rest, more, here)
@@ -125,11 +97,11 @@ distance-identifier xs ys e h =
     = length-append (part 48 22 xs) (part 72 42 xs) ∙ ap₂ (λ (a b : ℕ). a + b) first second ∙ sym (length-append (part 48 22 ys) (part 72 42 ys)) in
     omega (
       arith,
-      distance-take 63 (part 48 22 xs ++ part 72 42 xs) (part 48 22 ys ++ part 72 42 ys) all,
+      distance_of-take 63 (part 48 22 xs ++ part 72 42 xs) (part 48 22 ys ++ part 72 42 ys) all,
       distance_by-append beq (part 48 22 xs) (part 72 42 xs) (part 48 22 ys)
           (part 72 42 ys) first,
-      distance-part 48 22 xs ys e,
-      distance-part 72 42 xs ys e,
+      distance_of-part 48 22 xs ys e,
+      distance_of-part 72 42 xs ys e,
     )
 
 -- at most one bit of it comes inverted
@@ -146,12 +118,12 @@ few-arrive packet flips sendable few =
     let bare_long : length (bare_of received) ≡ length (bare_of sent) = length-bare_of n received (same ∙ long) ∙ sym (length-bare_of n sent long) in
     record {
       long = same;
-      sync = omega (arith, wrong, distance-take 48 received sent same);
+      sync = omega (arith, wrong, distance_of-take 48 received sent same);
       identifier = omega (arith, wrong, distance-identifier received sent same (omega (arith, same, long)));
       blocks = record {
         long = bare_long;
-        header = omega (arith, bare, distance-part 112 196 (bare_of received) (bare_of sent) bare_long, distance_of-sym (header_bits (bare_of sent)) (header_bits (bare_of received)));
+        header = omega (arith, bare, distance_of-part 112 196 (bare_of received) (bare_of sent) bare_long, distance_of-sym (header_bits (bare_of sent)) (header_bits (bare_of received)));
         blocks = λ (j : ℕ) (h : j < head_blocks (packet_head packet)).
-            omega (arith, bare, least-radius packet, distance-part (308 + 196 * j) 196 (bare_of received) (bare_of sent) bare_long, distance_of-sym (block_bits (bare_of sent) j) (block_bits (bare_of received) j));
+            omega (arith, bare, least-radius packet, distance_of-part (308 + 196 * j) 196 (bare_of received) (bare_of sent) bare_long, distance_of-sym (block_bits (bare_of sent) j) (block_bits (bare_of received) j));
       };
     }

@@ -19,13 +19,15 @@ identifier_read : (read : Option Nid) (bits : List Bool) → 114 ≤ length bits
 identifier_read None bits long is = tt
 identifier_read (Some nid) bits long is = (long, sym is)
 
-pub IsBegun-read : (before begun : Begun) (bits : List Bool) → IsBegun before bits → begun.head ≡ before.head → begun.distance ≡ before.distance → 114 ≤ length bits → option_map (λ nid. (nid.nac, nid.duid)) begun.nid ≡ identifier_of bits → IsBegun begun bits
+pub IsBegun-read : (before begun : Begun) (bits : List Bool) → IsBegun before bits → begun.head ≡ before.head → begun.distance ≡ before.distance → 114 ≤ length bits
+    → option_map (λ nid. (nid.nac, nid.duid)) begun.nid ≡ identifier_of bits → IsBegun begun bits
 unfolding IsBegun
 IsBegun-read before begun bits was same counted long is =
     (identifier_read begun.nid bits long is, subst (λ (head : Option PacketHead). IsHeader head begun.distance bits) (sym same) (subst (λ (n : ℕ). IsHeader before.head n bits) (sym counted) was.1))
 
 -- a header
-pub IsBegun-headed : (before begun : Begun) (bits : List Bool) (head : PacketHead) → IsBegun before bits → begun.nid ≡ before.nid → begun.head ≡ Some head → 316 ≤ length bits → Ok head ≡ sent_head_of bits → begun.distance ≡ sent_head_distance bits → IsBegun begun bits
+pub IsBegun-headed : (before begun : Begun) (bits : List Bool) (head : PacketHead) → IsBegun before bits → begun.nid ≡ before.nid → begun.head ≡ Some head → 316 ≤ length bits
+    → Ok head ≡ sent_head_of bits → begun.distance ≡ sent_head_distance bits → IsBegun begun bits
 unfolding IsBegun
 IsBegun-headed before begun bits head was same is long read counted =
     (subst (λ (nid : Option Nid). IsIdentifier nid bits) (sym same) was.0, subst (λ (h : Option PacketHead). IsHeader h begun.distance bits) (sym is) (long, sym read, counted))

@@ -1,6 +1,5 @@
 -- What the sent bits of a unit read as.
-use Rattle.std.specs.Prelude.{ℕ, Bool, if◌then◌else◌, ◌==◌, List, [], ◌∷◌, length, Option, Some, None, Result, Ok, Err}
-use Rattle.std.proofs.Common.{get_or}
+use Rattle.std.specs.Prelude.{ℕ, Bool, if◌then◌else◌, ◌==◌, List, [], ◌∷◌, length, slice_index_or, Option, Some, None, Result, Ok, Err}
 use Rattle.p25_bits.specs.Numbers.{joined_below}
 use Rattle.p25_status.specs.Woven.{bare_of, statuses_of}
 use Rattle.p25_status.specs.declared.fields.Field.{Field}
@@ -31,7 +30,7 @@ failing_slot j Bad = Block j ∷ []
 
 -- the fields that fail of the first n slots, in order
 unfoldable pub failing_slots_of : ℕ → List Slot → List Field
-failing_slots_of n slots = joined_below n (λ j. failing_slot j (get_or slots j Bad))
+failing_slots_of n slots = joined_below n (λ j. failing_slot j (slice_index_or slots j Bad))
 
 -- the fields that fail of a packet: a block for each slot that is Bad
 unfoldable pub failing_blocks_of : packet_type → List Field

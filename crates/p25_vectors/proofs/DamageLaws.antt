@@ -1,20 +1,15 @@
 -- What the damage of words leaves of a list of bits: where the words lie apart, each differs in no more bits than are inverted of
 -- it, and what lies outside them is unchanged. By recursion on the words: a later word begins after an earlier one.
-use Rattle.std.proofs.Common.{◌≡◌, ℕ, zero, suc, ◌+◌, ◌<◌, ◌≤◌, ◌⊎◌, inl, inr, Bool, true, false, cond, not, ◌&&◌, nat_le, List, [], ◌∷◌, ◌++◌, length, take, drop, get_or, refl, ap, sym, subst, ◌∙◌, arith, length-drop}
-use Rattle.std.specs.Bool.{beq}
+use Rattle.std.proofs.Common.{◌≡◌, ℕ, zero, suc, ◌+◌, ◌<◌, ◌≤◌, ◌⊎◌, inl, inr, Bool, true, ◌&&◌, nat_le, List, [], ◌∷◌, ◌++◌, length, take, drop, get_or, refl, ap, sym, subst, ◌∙◌, arith}
 use Rattle.std.proofs.lemmas.Bool.{and_parts, leb-true}
 use Rattle.p25_bits.specs.Bits.{part, flipped}
-use Rattle.p25_bits.specs.Distance.{distance_by, distance_of}
+use Rattle.p25_bits.specs.Distance.{distance_of}
+use Rattle.p25_bits.proofs.BitsLaws.{length-flipped}
 use Rattle.p25_bits.proofs.PartLaws.{part-take}
-use Rattle.p25_bits.proofs.DistanceLaws.{distance_of-same, distance_of-triangle}
+use Rattle.p25_bits.proofs.DistanceLaws.{distance_of-same, distance_of-triangle, distance_of-part, distance_of-flipped}
 use Rattle.p25_vectors.specs.Damage.{inverted, damaged}
 
 -- One bit inverted.
-
-length-flipped : (bits : List Bool) (place : ℕ) → length (flipped bits place) ≡ length bits
-length-flipped [] place = refl
-length-flipped (bit ∷ bits) zero = refl
-length-flipped (bit ∷ bits) (suc place) = ap suc (length-flipped bits place)
 
 drop-flipped : (from : ℕ) (bits : List Bool) (place : ℕ) → place < from → drop from (flipped bits place) ≡ drop from bits
 drop-flipped from [] place h = refl
@@ -27,33 +22,6 @@ take-flipped zero bits place h = refl
 take-flipped (suc until) [] place h = refl
 take-flipped (suc until) (bit ∷ bits) zero h = absurd (omega arith)
 take-flipped (suc until) (bit ∷ bits) (suc place) h = ap (λ xs. bit ∷ xs) (take-flipped until bits place (omega arith))
-
-one-wrong : (bit : Bool) → cond (beq (not bit) bit) 0 1 ≤ 1
-one-wrong true = omega arith
-one-wrong false = omega arith
-
-none-wrong : (bit : Bool) → cond {A = ℕ} (beq bit bit) 0 1 ≡ 0
-none-wrong true = refl
-none-wrong false = refl
-
-distance-flipped : (bits : List Bool) (place : ℕ) → distance_of (flipped bits place) bits ≤ 1
-unfolding distance_by
-distance-flipped [] place = omega arith
-distance-flipped (bit ∷ bits) zero = omega (arith, one-wrong bit, distance_of-same bits)
-distance-flipped (bit ∷ bits) (suc place) = omega (arith, none-wrong bit, distance-flipped bits place)
-
--- no part of two lists differs in more places than the whole
-distance-split : (n : ℕ) (xs ys : List Bool) → length xs ≡ length ys → distance_of (take n xs) (take n ys) + distance_of (drop n xs) (drop n ys) ≡ distance_of xs ys
-unfolding distance_by
-distance-split zero xs ys e = omega arith
-distance-split (suc n) [] [] e = omega arith
-distance-split (suc n) [] (y ∷ ys) e = absurd (omega arith)
-distance-split (suc n) (x ∷ xs) [] e = absurd (omega arith)
-distance-split (suc n) (x ∷ xs) (y ∷ ys) e = omega (arith, distance-split n xs ys (omega arith))
-
-distance-part : (at count : ℕ) (xs ys : List Bool) → length xs ≡ length ys → distance_of (part at count xs) (part at count ys) ≤ distance_of xs ys
-distance-part at count xs ys e =
-    omega (arith, distance-split at xs ys e, distance-split count (drop at xs) (drop at ys) (omega (arith, e, length-drop at xs, length-drop at ys)))
 
 -- Some bits inverted.
 
@@ -88,7 +56,7 @@ distance-inverted at (suc count) bits =
     omega (
       arith,
       distance_of-triangle (flipped now (at + count)) now bits (length-flipped now (at + count)),
-      distance-flipped now (at + count),
+      distance_of-flipped now (at + count),
       distance-inverted at count bits,
     )
 
@@ -209,7 +177,7 @@ distance-damaged from (word ∷ words) (count ∷ counts) bits zero apart fit h 
     omega (
       arith,
       ap (λ (xs : List Bool). distance_of xs (part word.0 word.1 bits)) later,
-      distance-part word.0 word.1 first bits (length-inverted word.0 count bits),
+      distance_of-part word.0 word.1 first bits (length-inverted word.0 count bits),
       distance-inverted word.0 count bits,
     )
 distance-damaged from (word ∷ words) (count ∷ counts) bits (suc i) apart fit h =

@@ -35,8 +35,9 @@ whole : (c : goal.After-degree_bound)
     × (c.degree_bound.result ≤ (c.args.checks - c.count_erasures-erasures.result) / 2 + c.count_erasures-erasures.result)
 whole c =
     let n = length c.args.erased.now in
-    located n c.args.checks c.count_erasures-erasures.result ((c.args.checks - c.count_erasures-erasures.result) / 2) c.args.syndromes.now c.multiply_by_erasures.new.polynomial c.fill_front.new.out c.args.erased.now c.key_of-key.result.locator
-    c.key_of-key.result.evaluator c.requires.places c.count_erasures-erasures.ensures.count (omega (arith, c.count_erasures-erasures.ensures.count, c.requires.erasures)) c.requires.some c.requires.few refl (omega arith)
+    located n c.args.checks c.count_erasures-erasures.result ((c.args.checks - c.count_erasures-erasures.result) / 2) c.args.syndromes.now
+    c.multiply_by_erasures.new.polynomial c.fill_front.new.out c.args.erased.now c.key_of-key.result.locator c.key_of-key.result.evaluator
+    c.requires.places c.count_erasures-erasures.ensures.count (omega (arith, c.count_erasures-erasures.ensures.count, c.requires.erasures)) c.requires.some c.requires.few refl (omega arith)
     (λ k low. c.multiply_by_erasures.ensures k low ∙ ap (λ (s : List Sym). times_erasures n c.args.erased.now n (coefficient gf64 s) k) c.copy_from_slice.ensures.after)
     c.key_of-key.ensures (omega arith) c.fill_front.ensures c.degree_bound.result c.multiply_by_erasures-2.new.polynomial c.loop-i.evaluator c.loop-i.i (omega arith) (omega arith)
     c.degree_bound.ensures.some c.degree_bound.ensures.short c.degree_bound.ensures.least c.multiply_by_erasures-2.ensures c.loop-i.invariant

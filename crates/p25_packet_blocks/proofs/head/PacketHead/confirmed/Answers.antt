@@ -1,17 +1,16 @@
-use Rattle.std.proofs.Common.{ℕ, ◌+◌, ◌*◌, ◌/◌, ◌%◌, [], ◌∷◌, refl, ap, arith}
+use Rattle.std.proofs.Common.{ℕ, ◌+◌, ◌*◌, List, [], ◌∷◌, get_or, refl, ap₂, arith}
 use Rattle.p25_packet_blocks.specs.declared.head.PacketHead.{PacketHead}
 use Rattle.p25_packet_blocks.specs.Heads.{head_format, head_is_full, head_blocks, head_pad, head_llid, head_syn, head_number, confirmed_head}
-use Rattle.p25_packet_blocks.proofs.HeadSteps.{flag_bit, flag_back, no_flag, octets_back}
+use Rattle.p25_packet_blocks.proofs.HeadSteps.{flag_bit, flag_back, no_flag, llid_back}
 use Rattle.p25_packet_blocks.proofs.head.PacketHead.confirmed.Goals as goal
 
 pub returns-clause-octets : goal.returns-clause-octets
 unfolding confirmed_head
 returns-clause-octets c =
-    let llid = c.args.llid in
-    let with_flag : ℕ → PacketHead = λ n. record {
-      0 = 0x56 ∷ 0xC0 ∷ 0 ∷ llid / 65536 ∷ llid / 256 % 256 ∷ llid % 256 ∷ (n + c.args.blocks) ∷ c.args.pad ∷ (16 * c.args.number + 8) ∷ 0 ∷ [];
+    let made : List ℕ → ℕ → PacketHead = λ llid flag. record {
+      0 = 0x56 ∷ 0xC0 ∷ 0 ∷ get_or llid 0 0 ∷ get_or llid 1 0 ∷ get_or llid 2 0 ∷ (flag + c.args.blocks) ∷ c.args.pad ∷ (16 * c.args.number + 8) ∷ 0 ∷ [];
     } in
-    ap with_flag (flag_bit c.from.result c.args.full c.from.ensures)
+    ap₂ made c.llid_octets.ensures (flag_bit c.from.result c.args.full c.from.ensures)
 
 pub returns-clause-format : goal.returns-clause-format
 unfolding head_format
@@ -39,4 +38,4 @@ returns-clause-syn c = no_flag c.args.number c.requires.number
 
 pub returns-clause-llid : goal.returns-clause-llid
 unfolding head_llid
-returns-clause-llid c = octets_back c.args.llid
+returns-clause-llid c = llid_back c.args.llid c.llid_octets.result c.llid_octets.ensures

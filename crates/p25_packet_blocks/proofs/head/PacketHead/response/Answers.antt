@@ -1,11 +1,16 @@
-use Rattle.std.proofs.Common.{◌≡◌, ◌+◌, ◌/◌, eqb, refl, ap, arith}
+use Rattle.std.proofs.Common.{◌≡◌, ℕ, ◌+◌, ◌*◌, ◌/◌, eqb, List, [], ◌∷◌, get_or, refl, ap, arith}
+use Rattle.p25_packet_blocks.specs.declared.head.PacketHead.{PacketHead}
 use Rattle.p25_packet_blocks.specs.Heads.{head_format, head_is_full, head_blocks, head_llid, response_class, response_kind, response_status, response_head}
-use Rattle.p25_packet_blocks.proofs.HeadSteps.{octets_back}
+use Rattle.p25_packet_blocks.proofs.HeadSteps.{llid_back}
 use Rattle.p25_packet_blocks.proofs.head.PacketHead.response.Goals as goal
 
 pub returns-clause-octets : goal.returns-clause-octets
 unfolding response_head
-returns-clause-octets c = refl
+returns-clause-octets c =
+    let made : List ℕ → PacketHead = λ llid. record {
+      0 = 0x23 ∷ (64 * c.args.class + 8 * c.args.kind + c.args.status) ∷ 0 ∷ get_or llid 0 0 ∷ get_or llid 1 0 ∷ get_or llid 2 0 ∷ (128 + c.args.blocks) ∷ 0 ∷ 0 ∷ 0 ∷ [];
+    } in
+    ap made c.llid_octets.ensures
 
 pub returns-clause-format : goal.returns-clause-format
 unfolding head_format
@@ -33,4 +38,4 @@ returns-clause-status c = omega (arith, c.requires.status)
 
 pub returns-clause-llid : goal.returns-clause-llid
 unfolding head_llid
-returns-clause-llid c = octets_back c.args.llid
+returns-clause-llid c = llid_back c.args.llid c.llid_octets.result c.llid_octets.ensures

@@ -1,4 +1,4 @@
-use Rattle.std.proofs.Common.{arith, refl, drop, length-drop}
+use Rattle.std.proofs.Common.{◌≤◌, length, arith, refl, drop, length-drop}
 use Rattle.p25_units.proofs.BegunLaws.{IsBegun-headed, begun-distance, begun-headed}
 use Rattle.p25_units.proofs.begun.Begun.read_head.Goals as goal
 
@@ -7,7 +7,9 @@ returns-in-Some-clause-value c = begun-headed c.args.self.now (drop c.args.at c.
 
 pub returns-in_ok-head-in-None-clause-begun : goal.returns-in_ok-head-in-None-clause-begun
 returns-in_ok-head-in-None-clause-begun c =
-    IsBegun-headed c.args.self.now _ (drop c.args.at c.args.bits.now) c.in_ok-head-in-None.head c.requires.begun refl refl (omega (arith, c.requires.there, length-drop c.args.at c.args.bits.now)) c.in_ok-head-in-None.ensures.head c.in_ok-head-in-None.ensures.distance
+    let there : 316 ≤ length (drop c.args.at c.args.bits.now) = omega (arith, c.requires.there, length-drop c.args.at c.args.bits.now) in
+    IsBegun-headed c.args.self.now _ (drop c.args.at c.args.bits.now) c.in_ok-head-in-None.head c.requires.begun refl refl there c.in_ok-head-in-None.ensures.head
+    c.in_ok-head-in-None.ensures.distance
 
 pub returns-in-Some-clause-distance : goal.returns-in-Some-clause-distance
 returns-in-Some-clause-distance c = λ head is. begun-distance c.args.self.now (drop c.args.at c.args.bits.now) c.in-Some.head c.requires.begun c.in-Some.is
