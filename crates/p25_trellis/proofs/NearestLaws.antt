@@ -112,7 +112,7 @@ same_nearest states width point received octets distance some reading =
     same_reading states width (distance_from point received) octets (nearest_octets states width point received) distance (nearest_distance states point received) reading (nearest_reading states width point received some)
 
 -- the symbols that octets write, and then 0, are a path
-IsPath-path_from : (states width : ℕ) (octets : List ℕ) → states ≡ 2 ^ width → IsPath states (path_from width octets)
+pub IsPath-path_from : (states width : ℕ) (octets : List ℕ) → states ≡ 2 ^ width → IsPath states (path_from width octets)
 unfolding path_from
 IsPath-path_from states width octets states_is =
     let P : ℕ → Type 0 = λ symbol. symbol < states in
@@ -125,7 +125,7 @@ IsPath-path_from states width octets states_is =
     }
 
 -- and it carries them
-Carries-path_from : (width : ℕ) (octets : List ℕ) → length octets ≡ 6 * width → All (λ octet. octet < 256) octets → Carries width (path_from width octets) octets
+pub Carries-path_from : (width : ℕ) (octets : List ℕ) → length octets ≡ 6 * width → All (λ octet. octet < 256) octets → Carries width (path_from width octets) octets
 unfolding path_from
 Carries-path_from width octets long small =
     let bits = octet_bits octets in
