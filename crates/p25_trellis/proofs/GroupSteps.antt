@@ -1,103 +1,115 @@
--- Groups of eight symbols, which have as many octets as a symbol has bits: the number that the symbols write, and the octets that it writes.
-use Rattle.std.proofs.Common.{◌≡◌, ◌≢◌, ℕ, ◌+◌, ◌-◌, ◌*◌, ◌/◌, ◌%◌, ◌^◌, ◌<◌, ◌≤◌, Bool, List, [], ◌∷◌, ◌++◌, length, take, get_or, set, ap, ap₂, sym, subst, ◌∙◌, arith, All, below_more, get_or-set_same, get_or-set_other}
-use Rattle.std.proofs.Math.Nat.{mul-le-mul_left, mul-le-mul_right, pow-le-pow_right}
-use Rattle.std.proofs.Math.Seq.{take-add}
-use Rattle.std.proofs.lemmas.List.{ext_get_or, take_all, take_more}
-use Rattle.std.proofs.lemmas.List.Elements.{All-append, All-same}
+-- Numbers of a few bits each, group by group: joined to one number, taken apart, and written as numbers of another width.
+use Rattle.std.proofs.Common.{◌≡◌, ◌≢◌, ℕ, ◌+◌, ◌-◌, ◌*◌, ◌/◌, ◌%◌, ◌^◌, ◌<◌, ◌≤◌, Bool, List, [], ◌∷◌, ◌++◌, length, take, drop, get_or, set, ap, ap₂, sym, ◌∙◌, arith, add-one, below_more, get_or-set_same, get_or-set_other, length-drop}
+use Rattle.std.proofs.Math.Nat.{mul-suc, mul-le-mul_left, mul-le-mul_right}
+use Rattle.std.proofs.Math.Pow.{pow_mono}
+use Rattle.std.proofs.lemmas.List.{ext_get_or, take_more}
+use Rattle.std.proofs.lemmas.Nat.{pow-add, shl_whole}
 use Rattle.std.proofs.lemmas.Slice.{take-put_mid}
 use borrow.Rule.Slice.PartMut.{put_mid}
 use Rattle.p25_bits.specs.Bits.{bits_of, field_of, part}
 use Rattle.p25_bits.specs.Numbers.{number_bits, numbers_from}
-use Rattle.p25_bits.proofs.BitsLaws.{length-bits_of, take-bits_of, drop-bits_of, field_of-bits_of, bits_of-joined}
-use Rattle.p25_bits.proofs.NumbersLaws.{number_bits-append, number_bits-one, length-numbers_from, get_or-numbers_from, number_bits-numbers_from}
-use Rattle.p25_trellis.proofs.PathSteps.{count_more}
-use Rattle.p25_trellis.proofs.QueueSteps.{pushed_number-lt}
+use Rattle.p25_bits.proofs.BitsLaws.{take-bits_of, drop-bits_of, field_of-bits_of, bits_of-joined}
+use Rattle.p25_bits.proofs.NumbersLaws.{number_bits-append, number_bits-one, length-number_bits, take-number_bits, drop-number_bits, length-numbers_from, get_or-numbers_from, numbers_from-add, numbers_from-take}
 
--- one symbol more
-pub group_more : (width states i number : ℕ) (symbols : List ℕ) → states ≡ 2 ^ width → i < length symbols → get_or symbols i 0 < states → number < 2 ^ (width * i)
-    → bits_of (width * i) number ≡ number_bits width (take i symbols)
-    → bits_of (width * (i + 1)) (number * states + get_or symbols i 0) ≡ number_bits width (take (i + 1) symbols)
-group_more width states i number symbols states_is inside below fits so_far =
-    let symbol = get_or symbols i 0 in
-    let small : symbol < 2 ^ width = subst (λ (n : ℕ). symbol < n) states_is below in
-    ap₂ bits_of (count_more width i) (ap (λ n. number * n + symbol) states_is)
-    ∙ bits_of-joined (width * i) width number symbol small
-    ∙ ap₂ (λ (xs ys : List Bool). xs ++ ys) so_far (sym (number_bits-one width symbol))
-    ∙ sym (number_bits-append width (take i symbols) (symbol ∷ []))
-    ∙ ap (number_bits width) (sym (take_more symbols i 0 inside))
+-- so many for one more
+pub count_more : (width i : ℕ) → width * (i + 1) ≡ width * i + width
+count_more width i = rw add-one (omega (arith, mul-suc width i))
 
--- its number has so many bits
-pub group_more-lt : (width states i number symbol : ℕ) → states ≡ 2 ^ width → symbol < states → number < 2 ^ (width * i) → number * states + symbol < 2 ^ (width * (i + 1))
-group_more-lt width states i number symbol states_is below fits =
-    let small : symbol < 2 ^ width = subst (λ (n : ℕ). symbol < n) states_is below in
-    let whole : number * states + symbol ≡ number * 2 ^ width + symbol = ap (λ n. number * n + symbol) states_is in
+-- one number more is joined to those before it
+pub joined_more : (width i whole number : ℕ) (numbers : List ℕ) → i < length numbers → number ≡ get_or numbers i 0 → number < 2 ^ width
+    → bits_of (width * i) whole ≡ number_bits width (take i numbers)
+    → bits_of (width * (i + 1)) (whole * 2 ^ width + number) ≡ number_bits width (take (i + 1) numbers)
+joined_more width i whole number numbers inside is small so_far =
+    ap (λ n. bits_of n (whole * 2 ^ width + number)) (count_more width i)
+    ∙ bits_of-joined (width * i) width whole number small
+    ∙ ap₂ (λ (xs ys : List Bool). xs ++ ys) so_far (sym (number_bits-one width number))
+    ∙ sym (number_bits-append width (take i numbers) (number ∷ []))
+    ∙ ap (λ n. number_bits width (take i numbers ++ n ∷ [])) is
+    ∙ ap (number_bits width) (sym (take_more numbers i 0 inside))
+
+-- what they are joined to has so many bits
+pub joined_more-lt : (width i whole number : ℕ) → number < 2 ^ width → whole < 2 ^ (width * i) → whole * 2 ^ width + number < 2 ^ (width * (i + 1))
+joined_more-lt width i whole number small fits =
     let power : 2 ^ (width * (i + 1)) ≡ 2 ^ (width * i + width) = ap (λ n. 2 ^ n) (count_more width i) in
-    omega (arith, whole, power, pushed_number-lt number width (width * i) symbol fits small)
+    omega (arith, power, pow-add 2 (width * i) width, mul-le-mul_right (2 ^ width) fits)
 
--- and fits a 32-bit word
-pub group_fits : (width i number : ℕ) → width ≤ 3 → i ≤ 8 → number < 2 ^ (width * i) → number < 2 ^ 24
-group_fits width i number few early fits =
-    let two : 0 < 2 = omega arith in
-    let most : width * i ≤ 24 = omega (arith, mul-le-mul_right i few, mul-le-mul_left 3 early) in
-    omega (arith, fits, pow-le-pow_right two most)
+-- few numbers have few bits
+pub joined-lt : (width i count whole : ℕ) → i ≤ count → width * count ≤ 28 → whole < 2 ^ (width * i) → whole < 2 ^ 28
+joined-lt width i count whole inside few fits =
+    let short : width * i ≤ 28 = omega (arith, few, mul-le-mul_left width inside) in
+    omega (arith, fits, pow_mono short)
 
--- an octet of the low bits of a number
-octet_of : (number count k : ℕ) → k < count → get_or (numbers_from 8 count (bits_of (8 * count) number)) k 0 ≡ number / 2 ^ (8 * (count - 1 - k)) % 256
-octet_of number count k early =
-    let fits : 8 * k ≤ 8 * count = omega arith in
-    let eight : 8 ≤ 8 * count - 8 * k = omega arith in
-    let place : 8 * count - 8 * k - 8 ≡ 8 * (count - 1 - k) = omega arith in
-    get_or-numbers_from 8 count (bits_of (8 * count) number) k 0 early
-    ∙ ap (λ (bits : List Bool). field_of (take 8 bits)) (drop-bits_of (8 * k) (8 * count) number fits)
-    ∙ ap field_of (take-bits_of 8 (8 * count - 8 * k) number eight)
-    ∙ field_of-bits_of 8 (number / 2 ^ (8 * count - 8 * k - 8))
-    ∙ ap (λ n. number / 2 ^ n % 256) place
+-- so what is joined can be moved up in its word
+pub moved_up : (width i count whole : ℕ) → i < count → width * count ≤ 28 → whole < 2 ^ (width * i) → whole * 2 ^ width % 2 ^ 64 ≡ whole * 2 ^ width
+moved_up width i count whole inside few fits =
+    let more : i + 1 ≤ count = omega arith in
+    let short : width * i + width ≤ 64 = omega (arith, few, count_more width i, mul-le-mul_left width more) in
+    shl_whole whole (width * i) width 64 fits short
 
--- octets that are each what the number has are all of its low bits
-pub octets_number-is : (number : ℕ) (octets : List ℕ) (i : ℕ) → length octets ≤ i → ((k : ℕ) → k < i → get_or octets k 0 ≡ number / 2 ^ (8 * (length octets - 1 - k)) % 256)
-    → octets ≡ numbers_from 8 (length octets) (bits_of (8 * length octets) number)
-octets_number-is number octets i all each =
-    let count = length octets in
-    ext_get_or 0 octets (numbers_from 8 count (bits_of (8 * count) number)) (sym (length-numbers_from 8 count (bits_of (8 * count) number)))
+-- the bits before a place, at it and after it
+pub split_at : (width k count : ℕ) → k < count → width * count ≡ width * k + width + width * (count - 1 - k)
+split_at width k count early =
+    let whole : count ≡ k + 1 + (count - 1 - k) = omega arith in
+    let split : (rest : ℕ) → count ≡ k + 1 + rest → width * count ≡ width * k + width + width * rest = λ rest is. omega (arith, ap (λ n. width * n) is) in
+    split (count - 1 - k) whole
+
+-- a number at its place in the low bits of another
+apart_at : (width count whole k : ℕ) → k < count → get_or (numbers_from width count (bits_of (width * count) whole)) k 0 ≡ whole / 2 ^ (width * (count - 1 - k)) % 2 ^ width
+apart_at width count whole k early =
+    let split = split_at width k count early in
+    let fits : width * k ≤ width * count = omega (arith, split) in
+    let enough : width ≤ width * count - width * k = omega (arith, split) in
+    let place : width * count - width * k - width ≡ width * (count - 1 - k) = omega (arith, split) in
+    get_or-numbers_from width count (bits_of (width * count) whole) k 0 early
+    ∙ ap (λ (bits : List Bool). field_of (take width bits)) (drop-bits_of (width * k) (width * count) whole fits)
+    ∙ ap field_of (take-bits_of width (width * count - width * k) whole enough)
+    ∙ field_of-bits_of width (whole / 2 ^ (width * count - width * k - width))
+    ∙ ap (λ n. whole / 2 ^ n % 2 ^ width) place
+
+-- numbers that are each what stands at its place are all that the low bits write
+pub apart_all : (width whole : ℕ) (numbers : List ℕ) (i : ℕ) → length numbers ≤ i
+    → ((k : ℕ) → k < i → get_or numbers k 0 ≡ whole / 2 ^ (width * (length numbers - 1 - k)) % 2 ^ width)
+    → numbers ≡ numbers_from width (length numbers) (bits_of (width * length numbers) whole)
+apart_all width whole numbers i all each =
+    let count = length numbers in
+    ext_get_or 0 numbers (numbers_from width count (bits_of (width * count) whole)) (sym (length-numbers_from width count (bits_of (width * count) whole)))
     (λ k inside.
     let done : k < i = omega arith in
-    each k done ∙ sym (octet_of number count k inside))
+    each k done ∙ sym (apart_at width count whole k inside))
 
-pub octets_number-bits : (number count : ℕ) → number_bits 8 (numbers_from 8 count (bits_of (8 * count) number)) ≡ bits_of (8 * count) number
-octets_number-bits number count =
-    let long = length-bits_of (8 * count) number in
-    let fits : 8 * count ≤ length (bits_of (8 * count) number) = omega (arith, long) in
-    let all : length (bits_of (8 * count) number) ≤ 8 * count = omega (arith, long) in
-    number_bits-numbers_from 8 count (bits_of (8 * count) number) fits ∙ take_all (8 * count) (bits_of (8 * count) number) all
+-- one number more is taken
+pub apart_more : (width count whole : ℕ) (numbers : List ℕ) (i value : ℕ) → i < length numbers → value ≡ whole / 2 ^ (width * (count - 1 - i)) % 2 ^ width
+    → ((k : ℕ) → k < i → get_or numbers k 0 ≡ whole / 2 ^ (width * (count - 1 - k)) % 2 ^ width) → (k : ℕ) → k < i + 1
+    → get_or (set numbers i value) k 0 ≡ whole / 2 ^ (width * (count - 1 - k)) % 2 ^ width
+apart_more width count whole numbers i value inside is so_far =
+    below_more (λ k. get_or (set numbers i value) k 0 ≡ whole / 2 ^ (width * (count - 1 - k)) % 2 ^ width) i
+    (λ k early. let other : k ≢ i = omega arith in get_or-set_other numbers i k value 0 other ∙ so_far k early)
+    (get_or-set_same numbers i value 0 inside ∙ is)
 
--- one octet more
-pub octet_more : (number count : ℕ) (octets : List ℕ) (i value : ℕ) → i < length octets → value ≡ number / 2 ^ (8 * (count - 1 - i)) % 256
-    → ((k : ℕ) → k < i → get_or octets k 0 ≡ number / 2 ^ (8 * (count - 1 - k)) % 256) → (k : ℕ) → k < i + 1 → get_or (set octets i value) k 0 ≡ number / 2 ^ (8 * (count - 1 - k)) % 256
-octet_more number count octets i value inside is so_far =
-    below_more (λ k. get_or (set octets i value) k 0 ≡ number / 2 ^ (8 * (count - 1 - k)) % 256) i
-    (λ k early. let other : k ≢ i = omega arith in get_or-set_other octets i k value 0 other ∙ so_far k early)
-    (get_or-set_same octets i value 0 inside ∙ is)
+-- one group more of the numbers that bits write
+pub groups_more : (width count g : ℕ) (bits : List Bool) (numbers group : List ℕ) → count * g ≤ length numbers → group ≡ numbers_from width count (drop (width * (count * g)) bits)
+    → take (count * g) numbers ≡ numbers_from width (count * g) bits
+    → take (count * (g + 1)) (put_mid (count * g) (count * g + count - count * g) numbers group) ≡ numbers_from width (count * (g + 1)) bits
+groups_more width count g bits numbers group there read so_far =
+    let long : length group ≡ count = ap length read ∙ length-numbers_from width count (drop (width * (count * g)) bits) in
+    let next : count * (g + 1) ≡ count * g + length group = omega (arith, count_more count g, long) in
+    take-put_mid (count * g) (count * g + count - count * g) numbers group (count * (g + 1)) next there
+    ∙ ap₂ (λ (xs ys : List ℕ). xs ++ ys) so_far read
+    ∙ sym (numbers_from-add width (count * g) count bits)
+    ∙ ap (λ n. numbers_from width n bits) (sym (count_more count g))
 
--- one group more
-pub groups_more : (width g size : ℕ) (path octets group : List ℕ) → size ≡ width → length group ≡ width → width * g ≤ length octets
-    → number_bits 8 group ≡ number_bits width (part (8 * g) 8 path) → number_bits 8 (take (width * g) octets) ≡ number_bits width (take (8 * g) path)
-    → number_bits 8 (take (width * (g + 1)) (put_mid (size * g) (size * g + size - size * g) octets group)) ≡ number_bits width (take (8 * (g + 1)) path)
-groups_more width g size path octets group same long there written so_far =
-    let next : width * (g + 1) ≡ size * g + length group = count_more width g ∙ ap₂ ◌+◌ (ap (λ n. n * g) (sym same)) (sym long) in
-    let start : size * g ≤ length octets = omega (arith, there, ap (λ n. n * g) same) in
-    let more : 8 * g + 8 ≡ 8 * (g + 1) = omega arith in
-    ap (number_bits 8) (take-put_mid (size * g) (size * g + size - size * g) octets group (width * (g + 1)) next start ∙ ap (λ n. take n octets ++ group) (ap (λ n. n * g) same))
-    ∙ number_bits-append 8 (take (width * g) octets) group
-    ∙ ap₂ (λ (xs ys : List Bool). xs ++ ys) so_far written
-    ∙ sym (number_bits-append width (take (8 * g) path) (part (8 * g) 8 path))
-    ∙ ap (number_bits width) (sym (take-add (8 * g) 8 path) ∙ ap (λ n. take n path) more)
-
--- and its octets are octets
-pub groups_more-All : (width g size : ℕ) (octets group : List ℕ) → size ≡ width → length group ≡ width → width * g ≤ length octets → All (λ n. n < 256) group → All (λ n. n < 256) (take (width * g) octets)
-    → All (λ n. n < 256) (take (width * (g + 1)) (put_mid (size * g) (size * g + size - size * g) octets group))
-groups_more-All width g size octets group same long there small so_far =
-    let next : width * (g + 1) ≡ size * g + length group = count_more width g ∙ ap₂ ◌+◌ (ap (λ n. n * g) (sym same)) (sym long) in
-    let start : size * g ≤ length octets = omega (arith, there, ap (λ n. n * g) same) in
-    All-same (λ (n : ℕ). n < 256) _ (take (width * g) octets ++ group)
-    (take-put_mid (size * g) (size * g + size - size * g) octets group (width * (g + 1)) next start ∙ ap (λ n. take n octets ++ group) (ap (λ n. n * g) same))
-    (All-append (λ (n : ℕ). n < 256) (take (width * g) octets) group so_far small)
+-- a group that is written as numbers of another width
+pub group_anew : (from to g whole : ℕ) (source group : List ℕ) → to * g + to ≤ length source → group ≡ numbers_from to from (bits_of (to * from) whole)
+    → bits_of (from * to) whole ≡ number_bits from (part (to * g) to source) → group ≡ numbers_from to from (drop (to * (from * g)) (number_bits from source))
+group_anew from to g whole source group there is written =
+    let rest = drop (to * g) source in
+    let inside : to * g ≤ length source = omega arith in
+    let left : to ≤ length rest = omega (arith, length-drop (to * g) source) in
+    let turned : to * from ≡ from * to = omega arith in
+    let place : from * (to * g) ≡ to * (from * g) = omega arith in
+    let enough : to * from ≤ from * to = omega arith in
+    let long : to * from ≤ length (number_bits from rest) = omega (arith, length-number_bits from rest, mul-le-mul_left from left) in
+    is
+    ∙ ap (numbers_from to from) (ap (λ n. bits_of n whole) turned ∙ written ∙ sym (take-number_bits from to rest left))
+    ∙ numbers_from-take to from (from * to) (number_bits from rest) enough long
+    ∙ ap (numbers_from to from) (sym (drop-number_bits from (to * g) source inside) ∙ ap (λ n. drop n (number_bits from source)) place)

@@ -1,8 +1,6 @@
 pub mod RateSteps
 mod TablesSteps
 pub mod InterleaveLaws
-pub mod QueueSteps
-pub mod PathSteps
 pub mod PathLaws
 pub mod CostLaws
 pub mod FirstPathLaws

@@ -1,6 +1,6 @@
 -- The first nearest path, as a function, is the first least path; what is read by it and the block of octets follow. The
 -- path goes by induction on the symbols that are left: the lowest symbol with the cheapest best end goes before that end.
-use Rattle.std.proofs.Common.{◌≡◌, ℕ, zero, suc, ◌*◌, ◌^◌, ◌<◌, ◌≤◌, inl, inr, Bool, cond, ltb, List, [], ◌∷◌, length, take, refl, ap, sym, subst, ◌∙◌, arith, All, add-one, length-append}
+use Rattle.std.proofs.Common.{◌≡◌, ℕ, zero, suc, ◌*◌, ◌^◌, ◌<◌, ◌≤◌, inl, inr, Bool, if◌then◌else◌, nat_lt, List, [], ◌∷◌, length, take, refl, ap, sym, subst, ◌∙◌, arith, All, add-one, length-append}
 use Rattle.std.proofs.lemmas.Bool.{cases_lt, cond-true, cond-false, lt-ltb, le-ltb}
 use Rattle.std.proofs.lemmas.List.{length-take-le, take_all, take_at, drop_at}
 use Rattle.std.proofs.lemmas.List.Elements.{All-append, All-cons, All-nil}
@@ -16,15 +16,15 @@ use Rattle.p25_trellis.proofs.FirstPathLaws.{IsFirstLeastEnd, IsFirstLeastEnd-la
 use Rattle.p25_trellis.proofs.PathLaws.{power-pos, same_block}
 
 -- one number more is the lowest least where it has less
-IsLowestLeast-more : (states : ℕ) (value : ℕ → ℕ) (symbol : ℕ) → IsLowestLeast states value symbol (value symbol) → let next = cond (ltb (value states) (value symbol)) states symbol in IsLowestLeast (suc states) value next (value next)
+IsLowestLeast-more : (states : ℕ) (value : ℕ → ℕ) (symbol : ℕ) → IsLowestLeast states value symbol (value symbol) → let next = if nat_lt (value states) (value symbol) then states else symbol in IsLowestLeast (suc states) value next (value next)
 IsLowestLeast-more states value symbol was =
     let P : ℕ → ℕ → Type 0 = λ bound next. IsLowestLeast bound value next (value next) in
     elim (cases_lt (value states) (value symbol)) [
       | inl less ↦
-          subst (λ (next : ℕ). P (suc states) next) (sym (cond-true (ltb (value states) (value symbol)) states symbol (lt-ltb (value states) (value symbol) less)))
+          subst (λ (next : ℕ). P (suc states) next) (sym (cond-true (nat_lt (value states) (value symbol)) states symbol (lt-ltb (value states) (value symbol) less)))
           (subst (λ (bound : ℕ). P bound states) (add-one states) (IsLowestLeast-less states value symbol (value symbol) (value states) was refl less))
       | inr more ↦
-          subst (λ (next : ℕ). P (suc states) next) (sym (cond-false (ltb (value states) (value symbol)) states symbol (le-ltb (value states) (value symbol) more)))
+          subst (λ (next : ℕ). P (suc states) next) (sym (cond-false (nat_lt (value states) (value symbol)) states symbol (le-ltb (value states) (value symbol) more)))
           (subst (λ (bound : ℕ). P bound symbol) (add-one states) (IsLowestLeast-kept states value symbol (value symbol) (value states) was refl more))
     ]
 
@@ -33,7 +33,7 @@ IsLowestLeast-lowest_least : (states : ℕ) (value : ℕ → ℕ) → 0 < states
 unfolding lowest_least
 IsLowestLeast-lowest_least zero value some = absurd (omega arith)
 IsLowestLeast-lowest_least (suc zero) value some =
-    let none : cond (ltb (value 0) (value 0)) 0 0 ≡ 0 = cond-false (ltb (value 0) (value 0)) 0 0 (le-ltb (value 0) (value 0) (omega arith)) in
+    let none : (if nat_lt (value 0) (value 0) then 0 else 0) ≡ 0 = cond-false (nat_lt (value 0) (value 0)) 0 0 (le-ltb (value 0) (value 0) (omega arith)) in
     subst (λ (next : ℕ). IsLowestLeast 1 value next (value next)) (sym none) (IsLowestLeast-one value (value 0) refl)
 IsLowestLeast-lowest_least (suc (suc n)) value some = IsLowestLeast-more (suc n) value (lowest_least (suc n) value) (IsLowestLeast-lowest_least (suc n) value (omega arith))
 
@@ -112,7 +112,7 @@ same_nearest states width point received octets distance some reading =
     same_reading states width (distance_from point received) octets (nearest_octets states width point received) distance (nearest_distance states point received) reading (nearest_reading states width point received some)
 
 -- the symbols that octets write, and then 0, are a path
-IsPath-path_from : (states width : ℕ) (octets : List ℕ) → states ≡ 2 ^ width → IsPath states (path_from width octets)
+pub IsPath-path_from : (states width : ℕ) (octets : List ℕ) → states ≡ 2 ^ width → IsPath states (path_from width octets)
 unfolding path_from
 IsPath-path_from states width octets states_is =
     let P : ℕ → Type 0 = λ symbol. symbol < states in
@@ -125,7 +125,7 @@ IsPath-path_from states width octets states_is =
     }
 
 -- and it carries them
-Carries-path_from : (width : ℕ) (octets : List ℕ) → length octets ≡ 6 * width → All (λ octet. octet < 256) octets → Carries width (path_from width octets) octets
+pub Carries-path_from : (width : ℕ) (octets : List ℕ) → length octets ≡ 6 * width → All (λ octet. octet < 256) octets → Carries width (path_from width octets) octets
 unfolding path_from
 Carries-path_from width octets long small =
     let bits = octet_bits octets in

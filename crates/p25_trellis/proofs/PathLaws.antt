@@ -22,16 +22,6 @@ IsPath-from_front states path some long beginning last =
 pub power-pos : (width states : ℕ) → states ≡ 2 ^ width → 0 < states
 power-pos width states is = rw is (pow_pos width)
 
--- the symbols whose bits are those of octets carry them
-pub Carries-from_bits : (width octets_most : ℕ) (path octets : List ℕ) (bits : List Bool) → 48 * width ≡ 8 * octets_most → length octets ≡ octets_most
-    → All (λ octet. octet < 256) octets → bits ≡ [] ++ number_bits 8 octets → number_bits width (take 48 path) ≡ part 0 (width * 48) bits
-    → Carries width path octets
-Carries-from_bits width most path octets bits same long small is read =
-    let short : length bits ≤ width * 48 = omega (arith, ap length is, length-number_bits 8 octets) in record {
-      are_octets = small;
-      information = read ∙ take_all (width * 48) bits short ∙ is ∙ number_bits-octets octets;
-    }
-
 -- nibbles of one more symbol
 pub nibbles_from-cons : (point : ℕ → ℕ → ℕ) (state symbol : ℕ) (symbols : List ℕ) → nibbles_from point state (symbol ∷ symbols) ≡ point state symbol ∷ nibbles_from point symbol symbols
 unfolding nibbles_from
@@ -57,16 +47,6 @@ nibbles_more point state nibbles path step nibble here there is =
     ap (λ (ns : List ℕ). ns ++ left) (take_more_set nibbles step nibble here)
     ∙ append_assoc (take step nibbles) (nibble ∷ []) left
     ∙ ap (λ (zs : List ℕ). take step nibbles ++ zs) (ap (λ n. n ∷ left) is ∙ sym (nibbles_from-cons point state symbol (drop (step + 1) path)) ∙ ap (nibbles_from point state) (sym (drop_more path step 0 there)))
-
--- the octets whose bits are those of symbols are what they carry
-pub Carries-from_octets : (width most : ℕ) (path octets : List ℕ) (bits : List Bool) → length octets ≡ most → All (λ octet. octet < 256) octets
-    → length bits ≤ 8 * most → bits ≡ [] ++ number_bits width (take 48 path) → number_bits 8 (take most octets) ≡ part 0 (8 * most) bits
-    → Carries width path octets
-Carries-from_octets width most path octets bits long small short is read =
-    let all : length octets ≤ most = omega arith in record {
-      are_octets = small;
-      information = sym is ∙ sym (take_all (8 * most) bits short) ∙ sym read ∙ ap (number_bits 8) (take_all most octets all) ∙ number_bits-octets octets;
-    }
 
 -- a path carries no other octets
 pub same_octets : (width : ℕ) (path octets others : List ℕ) → Carries width path octets → Carries width path others → octets ≡ others

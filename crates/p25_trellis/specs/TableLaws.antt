@@ -1,5 +1,5 @@
 -- The laws of the tables of points, from tests over the whole table that compute.
-use Rattle.std.specs.Prelude.{◌≡◌, ◌≢◌, ℕ, zero, suc, ◌+◌, ◌/◌, ◌<◌, ◌≤◌, Bool, true, false, cond, ◌&&◌, ◌||◌, eqb, leb, ltb, ◌∷◌, replicate, refl}
+use Rattle.std.specs.Prelude.{◌≡◌, ◌≢◌, ℕ, zero, suc, ◌+◌, ◌/◌, ◌<◌, ◌≤◌, Bool, true, false, if◌then◌else◌, ◌==◌, nat_le, nat_lt, ◌&&◌, ◌||◌, ◌∷◌, replicate, refl}
 use Rattle.std.proofs.Common.{inl, inr, sym, subst, arith}
 use Rattle.std.proofs.lemmas.Bool.{cases_Bool, leb-true, ltb-true, eqb-true}
 use Rattle.std.proofs.lemmas.List.Elements.{All-cons, All-replicate}
@@ -12,11 +12,11 @@ use Rattle.p25_trellis.specs.Tables.{point_nibbles, half_rows, three_quarter_row
 
 -- in how many bits at least the half-rate paths from two states differ until they meet
 unfoldable pub half_parted : ℕ → ℕ → ℕ
-half_parted a b = cond (eqb a b) 0 (cond (eqb (a / 2) (b / 2)) 2 3)
+half_parted a b = if a == b then 0 else if a / 2 == b / 2 then 2 else 3
 
 -- how far two symbols at three-quarter rate part before they meet again
 unfoldable pub three_quarter_parted : ℕ → ℕ → ℕ
-three_quarter_parted a b = cond (eqb a b) 0 1
+three_quarter_parted a b = if a == b then 0 else 1
 
 -- a test is passed by every number below n
 unfoldable pub passed_below : ℕ → (ℕ → Bool) → Bool
@@ -31,30 +31,30 @@ both false b h = absurd (cc)
 pub passed_below-at : (n : ℕ) (test : ℕ → Bool) → passed_below n test ≡ true → (k : ℕ) → k < n → test k ≡ true
 unfolding passed_below
 passed_below-at zero test passed k below = absurd (omega arith)
-passed_below-at (suc n) test passed k below = elim (cases_Bool (eqb k n)) [
+passed_below-at (suc n) test passed k below = elim (cases_Bool (k == n)) [
   | inl same ↦ let here = (both (test n) (passed_below n test) passed).0 in subst (λ (i : ℕ). test i ≡ true) (sym (eqb-true k n same)) here
   | inr other ↦ passed_below-at n test (both (test n) (passed_below n test) passed).1 k (smaller other)
 ]
   where
-    smaller : eqb k n ≡ false → k < n
+    smaller : (k == n) ≡ false → k < n
     smaller other = grind (arith, other, below)
 
 -- every point is a nibble
 unfoldable pub nibbles_test : ℕ → (ℕ → ℕ → ℕ) → Bool
-nibbles_test states point = passed_below states (λ state. passed_below states (λ symbol. ltb (point state symbol) 16))
+nibbles_test states point = passed_below states (λ state. passed_below states (λ symbol. nat_lt (point state symbol) 16))
 
 -- from two states on, a step and what must follow it differ in as many bits as the two states ask for
 unfoldable pub parted_test : ℕ → (ℕ → ℕ → ℕ) → (ℕ → ℕ → ℕ) → Bool
 parted_test states point parted =
     passed_below states (
     λ a. passed_below states (
-    λ b. passed_below states (λ x. passed_below states (λ y. leb (parted a b) (nibble_distance (point a x) (point b y) + parted x y)))))
+    λ b. passed_below states (λ x. passed_below states (λ y. nat_le (parted a b) (nibble_distance (point a x) (point b y) + parted x y)))))
 
 -- two symbols from one state, and what must follow them, differ in so many bits
 unfoldable pub parts_test : ℕ → ℕ → (ℕ → ℕ → ℕ) → (ℕ → ℕ → ℕ) → Bool
 parts_test states apart point parted =
     passed_below states (
-    λ state. passed_below states (λ x. passed_below states (λ y. eqb x y || leb apart (nibble_distance (point state x) (point state y) + parted x y))))
+    λ state. passed_below states (λ x. passed_below states (λ y. x == y || nat_le apart (nibble_distance (point state x) (point state y) + parted x y))))
 
 pub nibbles-from_test : (states : ℕ) (point : ℕ → ℕ → ℕ) → nibbles_test states point ≡ true → (state symbol : ℕ) → state < states → symbol < states
     → point state symbol < 16
@@ -74,7 +74,7 @@ pub parts-from_test : (states apart : ℕ) (point parted : ℕ → ℕ → ℕ) 
 unfolding parts_test
 parts-from_test states apart point parted passed state x y hs hx hy other =
     leb-true apart (nibble_distance (point state x) (point state y) + parted x y)
-    (second (eqb x y) _ (passed_below-at states _ (passed_below-at states _ (passed_below-at states _ passed state hs) x hx) y hy)
+    (second (x == y) _ (passed_below-at states _ (passed_below-at states _ (passed_below-at states _ passed state hs) x hx) y hy)
     (λ same. other (eqb-true x y same)))
   where
     second : (a b : Bool) → (a || b) ≡ true → (a ≡ true → ⊥) → b ≡ true

@@ -24,13 +24,13 @@
 
 mod block;
 mod exact;
+mod groups;
 mod interleave;
 pub mod laws;
 mod least;
 mod near;
 mod nibbles;
 mod path;
-mod queue;
 mod rate;
 mod tables;
 

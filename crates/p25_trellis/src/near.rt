@@ -33,7 +33,9 @@ fn least_at<R: Rate>(nibble: u8, rests: &[u8]) -> [u8; 8]
     requires rests { length rests.now ≡ 8 }
     requires low { (symbol : ℕ) → symbol < R.STATES → slice_index rests.now symbol ≤ 192 }
     ensures least { (state : ℕ) → state < R.STATES
-        → (symbol : ℕ) × IsLowestLeast R.STATES (λ other. nibble_distance (R.point_of state other) nibble + slice_index rests.now other) symbol (slice_index result state) }
+        → (symbol : ℕ)
+        × IsLowestLeast R.STATES (λ other. nibble_distance (R.point_of state other) nibble + slice_index rests.now other) symbol
+        (slice_index result state) }
     ensures len { length result ≡ 8 }
 {
     let mut least = [255; 8];

@@ -1,0 +1,42 @@
+use Rattle.std.proofs.Common.{◌≡◌, ℕ, ◌+◌, ◌*◌, ◌%◌, ◌^◌, ◌<◌, ◌≤◌, length, get_or, ap, sym, subst, ◌∙◌, arith}
+use Rattle.std.proofs.Math.Nat.{mul-zero}
+use Rattle.std.proofs.lemmas.Nat.{pow_pos}
+use Rattle.p25_bits.specs.Bits.{bits_of}
+use Rattle.p25_bits.proofs.BitsLaws.{bits_of-zero}
+use Rattle.p25_bits.proofs.NumbersLaws.{number_bits-nil}
+use Rattle.p25_trellis.proofs.GroupSteps.{joined_more, joined_more-lt, joined-lt, moved_up}
+use Rattle.p25_trellis.proofs.groups.joined.Goals as goal
+
+pub loop-number-init : goal.loop-number-init
+loop-number-init c = record {
+  bits = ap (λ n. bits_of n 0) (mul-zero c.args.width) ∙ bits_of-zero 0 ∙ sym (number_bits-nil c.args.width);
+  fits = pow_pos (c.args.width * 0);
+}
+
+pub overflow_add-whole : goal.overflow_add-whole
+overflow_add-whole c =
+    let width = c.args.width in
+    let i = c.loop-number.number-index in
+    let whole = c.loop-number.whole in
+    let inside : i < length c.args.numbers.now = omega arith in
+    let more : i + 1 ≤ length c.args.numbers.now = omega arith in
+    let small : c.from.result < 2 ^ width = subst (λ (n : ℕ). n < 2 ^ width) (sym c.from.ensures) (c.requires.small i 0 inside) in
+    omega (
+      arith,
+      moved_up width i (length c.args.numbers.now) whole inside c.requires.few c.loop-number.invariant.fits,
+      joined-lt width (i + 1) (length c.args.numbers.now) (whole * 2 ^ width + c.from.result) more c.requires.few (joined_more-lt width i whole c.from.result small c.loop-number.invariant.fits),
+    )
+
+pub loop-number-preserved : goal.loop-number-preserved
+loop-number-preserved c =
+    let width = c.args.width in
+    let i = c.loop-number.number-index in
+    let whole = c.loop-number.whole in
+    let number = c.from.result in
+    let inside : i < length c.args.numbers.now = omega arith in
+    let small : number < 2 ^ width = subst (λ (n : ℕ). n < 2 ^ width) (sym c.from.ensures) (c.requires.small i 0 inside) in
+    let moved : whole * 2 ^ width % 2 ^ 64 + number ≡ whole * 2 ^ width + number
+    = ap (λ n. n + number) (moved_up width i (length c.args.numbers.now) whole inside c.requires.few c.loop-number.invariant.fits) in record {
+      bits = ap (bits_of (width * (i + 1))) moved ∙ joined_more width i whole number c.args.numbers.now inside c.from.ensures small c.loop-number.invariant.bits;
+      fits = subst (λ (n : ℕ). n < 2 ^ (width * (i + 1))) (sym moved) (joined_more-lt width i whole number small c.loop-number.invariant.fits);
+    }
