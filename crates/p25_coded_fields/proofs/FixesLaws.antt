@@ -106,15 +106,13 @@ front_more each i symbols =
     ap (λ n. take (each * i) symbols ++ part n each symbols) (sym (zero-add (each * i))) ∙ part_add 0 (each * i) each symbols ∙ ap (λ n. take n symbols) (one_more each i)
 
 -- after the last place
-pub counted_end : {IsWord : List Bool → Type 0} {size k : ℕ} (each group i : ℕ) (places : List ℕ) (symbols : List Sym) (bits : List Bool) (count : ℕ) → each ≡ group → length places ≤ i → i ≤ length places
-    → length places * group ≡ length symbols
-    → AreCounted IsWord size k each i places (take (each * i) symbols) bits count → AreCounted IsWord size k group (length places) places symbols bits count
-counted_end {IsWord} {size} {k} each group i places symbols bits count same past most covers is =
-    let here : i ≡ length places = omega arith in
-    let all : length symbols ≤ group * length places = omega (arith, mul_comm group (length places)) in
-    let grouped = subst (λ e. AreCounted IsWord size k e i places (take (e * i) symbols) bits count) same is in
-    let ended = subst (λ n. AreCounted IsWord size k group n places (take (group * n) symbols) bits count) here grouped in
-    subst (λ (xs : List Sym). AreCounted IsWord size k group (length places) places xs bits count) (take_all (group * length places) symbols all) ended
+pub all_groups : (P : ℕ → ℕ → List Sym → Type 0) (each group i n : ℕ) (symbols : List Sym) → each ≡ group → n ≤ i → i ≤ n → n * group ≡ length symbols → P each i (take (each * i) symbols) → P group n symbols
+all_groups P each group i n symbols same past most covers is =
+    let here : i ≡ n = omega arith in
+    let all : length symbols ≤ group * n = omega (arith, mul_comm group n) in
+    let grouped = subst (λ e. P e i (take (e * i) symbols)) same is in
+    let ended = subst (λ m. P group m (take (group * m) symbols)) here grouped in
+    subst (λ (xs : List Sym). P group n xs) (take_all (group * n) symbols all) ended
 
 -- all places
 pub counted_all : {IsWord : List Bool → Type 0} {size k : ℕ} (each : ℕ) (places : List ℕ) (symbols : List Sym) (bits : List Bool) (count : ℕ) → AreCounted IsWord size k each (length places) places symbols bits count → 0 < each
@@ -162,14 +160,3 @@ counts_more {IsWord} {size} {k} each i m places read xs bits counts kept count t
 
     last : length front ≡ each * i → known_at i
     last beginning = subst (λ (ys : List Sym). IfSome (get_or (set counts i count) i None) (IsInnerCount IsWord size k (get_or places i 0) ys bits)) (sym (part_last (each * i) each front xs beginning long)) here
-
--- after the last reading
-pub counts_end : {IsWord : List Bool → Type 0} {size k : ℕ} (each group i : ℕ) (places : List ℕ) (symbols : List Sym) (bits : List Bool) (counts : List (Option ℕ)) → each ≡ group → length places ≤ i → i ≤ length places
-    → length places * group ≡ length symbols
-    → AreInnerCounts IsWord size k each i places (take (each * i) symbols) bits counts → AreInnerCounts IsWord size k group (length places) places symbols bits counts
-counts_end {IsWord} {size} {k} each group i places symbols bits counts same past most covers is =
-    let here : i ≡ length places = omega arith in
-    let all : length symbols ≤ group * length places = omega (arith, mul_comm group (length places)) in
-    let grouped = subst (λ e. AreInnerCounts IsWord size k e i places (take (e * i) symbols) bits counts) same is in
-    let ended = subst (λ n. AreInnerCounts IsWord size k group n places (take (group * n) symbols) bits counts) here grouped in
-    subst (λ (xs : List Sym). AreInnerCounts IsWord size k group (length places) places xs bits counts) (take_all (group * length places) symbols all) ended

@@ -5,7 +5,7 @@ use Rattle.p25_bits.specs.Bits.{part}
 use Rattle.p25_bits.proofs.PartLaws.{length-part}
 use Rattle.p25_gf64.specs.declared.symbol.Sym.{Sym}
 use Rattle.p25_coded_fields.specs.Fixes.{AreCounted, IsInnerCount}
-use Rattle.p25_coded_fields.proofs.FixesLaws.{counted_none, counted_more, counted_end, front_more}
+use Rattle.p25_coded_fields.proofs.FixesLaws.{counted_none, counted_more, all_groups, front_more}
 use Rattle.p25_coded_fields.proofs.SymbolsLaws.{group_is, room_at}
 use Rattle.p25_coded_fields.proofs.fixes.field_fixes.Goals as goal
 
@@ -47,4 +47,5 @@ loop-i-preserved g c =
 pub returns : goal.returns
 returns g c =
     let b = g.I.BlockCode in
-    counted_end (c.K-each.result / 6) (b.K / 6) c.loop-i.i c.args.places.now c.args.word.now c.args.bare.now c.loop-i.wrong (ap (λ n. n / 6) c.K-each.ensures) (omega arith) (omega arith) c.requires.word c.loop-i.invariant
+    all_groups (λ each i xs. AreCounted b.IsWord b.N b.K each i c.args.places.now xs c.args.bare.now c.loop-i.wrong) (c.K-each.result / 6) (b.K / 6) c.loop-i.i (length c.args.places.now) c.args.word.now
+    (ap (λ n. n / 6) c.K-each.ensures) (omega arith) (omega arith) c.requires.word c.loop-i.invariant

@@ -4,9 +4,10 @@ use Rattle.std.proofs.lemmas.List.{length-replicate, length-set, set_past}
 use Rattle.p25_bits.specs.Bits.{part}
 use Rattle.p25_code.specs.Erasures.{without_erased}
 use Rattle.p25_code.specs.Readings.{word_read}
+use Rattle.p25_coded_fields.specs.Fixes.{AreInnerCounts}
 use Rattle.p25_coded_fields.specs.Layouts.{field_layout, symbols_or_erasures}
 use Rattle.p25_coded_fields.proofs.SymbolsLaws.{length_group, room_at}
-use Rattle.p25_coded_fields.proofs.FixesLaws.{counted_all, counts_none, counts_more, counts_end}
+use Rattle.p25_coded_fields.proofs.FixesLaws.{counted_all, counts_none, counts_more, all_groups}
 use Rattle.p25_coded_fields.proofs.ReadLaws.{cut_long, outer_read, erased_before, erased_next, erased_whole}
 use Rattle.p25_coded_fields.proofs.read.read_field.Goals as goal
 use Rattle.p25_coded_fields.proofs.read.read_field.Goals.{then-i-lt36, else-i-lt36}
@@ -64,7 +65,8 @@ pub field_fixes-requires-clause-counts : goal.field_fixes-requires-clause-counts
 field_fixes-requires-clause-counts g c =
     let b = g.I.BlockCode in
     let long : length c.loop-i.read ≡ length c.args.word.now = cut_long (length c.args.word.now) _ c.loop-i.read c.loop-i.auto.read (omega arith) in
-    counts_end (c.K-each.result / 6) (b.K / 6) c.loop-i.i c.args.places.now c.loop-i.read c.args.bare.now c.loop-i.counts (ap (λ n. n / 6) c.K-each.ensures) (omega arith) (omega arith)
+    all_groups (λ each i xs. AreInnerCounts b.IsWord b.N b.K each i c.args.places.now xs c.args.bare.now c.loop-i.counts) (c.K-each.result / 6) (b.K / 6) c.loop-i.i (length c.args.places.now) c.loop-i.read
+    (ap (λ n. n / 6) c.K-each.ensures) (omega arith) (omega arith)
     (c.requires.places ∙ sym c.requires.word ∙ sym long) c.loop-i.invariant.counts
 
 pub returns-in-Beyond-clause-value : goal.returns-in-Beyond-clause-value
