@@ -1,22 +1,24 @@
 -- Fixes place by place: one inner word more is one run of bits more in both lists, and their distances add up.
-use Rattle.std.proofs.Common.{◌≡◌, ℕ, zero, suc, ◌+◌, ◌*◌, ◌<◌, ◌≤◌, ◌^◌, Bool, List, [], ◌∷◌, ◌++◌, length, take, get_or, Option, Some, None, IfSome, All, refl, ap, ap₂, sym, subst, ◌∙◌, arith, zero-add, length-append}
+use Rattle.std.proofs.Common.{◌≡◌, ◌≢◌, ℕ, ◌+◌, ◌*◌, ◌<◌, ◌≤◌, ◌^◌, inl, inr, Bool, List, [], ◌∷◌, ◌++◌, length, take, get_or, set, Option, None, IfSome, All, refl, ap, ap₂, sym, subst, ◌∙◌, arith, zero-add, length-append, get_or-set_same, get_or-set_other, below_more}
 use Rattle.std.specs.Bool.{beq}
 use Rattle.std.specs.List.{flat_map}
 use Rattle.std.proofs.Math.Nat.{mul-le-mul_left, mul_comm}
-use Rattle.std.proofs.lemmas.List.{append-nil, take_all, take_more}
+use Rattle.std.proofs.lemmas.Bool.{cases_lt}
+use Rattle.std.proofs.lemmas.List.{append-nil, length-take-le, take_all, take_more, set_past, get_or_past}
 use Rattle.std.proofs.lemmas.List.Concat.{flat_map-append}
+use Rattle.std.proofs.lemmas.Slice.{take-put_mid}
+use borrow.Rule.Slice.PartMut.{put_mid}
 use Rattle.p25_bits.specs.Bits.{part}
 use Rattle.p25_bits.specs.Distance.{distance_of}
 use Rattle.p25_bits.proofs.DistanceLaws.{distance_by-append, distance_of-same}
 use Rattle.p25_bits.proofs.NumbersLaws.{joined_below-zero, joined_below-more, joined_below-same}
 use Rattle.p25_bits.proofs.PartLaws.{length-part, part_add, part_left, part_last}
-use Rattle.p25_code.specs.Words.{IsEncoding}
 use Rattle.p25_gf64.specs.declared.symbol.Sym.{Sym}
 use Rattle.p25_link.specs.Symbols.{symbol_bits}
 use Rattle.p25_link.proofs.SymbolsLaws.{length-symbol_bits}
 use Rattle.p25_coded_fields.specs.Layouts.{field_bits}
 use Rattle.p25_coded_fields.specs.Written.{Encodes}
-use Rattle.p25_coded_fields.specs.Fixes.{inner_bits, field_fixes_of, IsCounted, AreCounted, IsTotal}
+use Rattle.p25_coded_fields.specs.Fixes.{inner_bits, field_fixes_of, AreCounted, IsInnerCount, AreInnerCounts}
 use Rattle.p25_coded_fields.proofs.SymbolsLaws.{one_more, room_at}
 
 -- no inner word
@@ -65,11 +67,11 @@ few_places each n some short = let one : 1 ≤ each = omega arith in omega (arit
 -- one place more
 module _ {IsWord : List Bool → Type 0} {size k : ℕ} (long : (word : List Bool) → IsWord word → length word ≡ size) where
   pub counted_more : (each i : ℕ) (places : List ℕ) (beginning xs : List Sym) (bits : List Bool) (count more total : ℕ) → 6 * each ≡ k → i < length places → length places * each ≤ 36 → All (λ at. at + size ≤ length bits) places
-      → length beginning ≡ each * i → length xs ≡ each → AreCounted IsWord size k each i places beginning bits count → more ≤ 24
-      → ((sent : List Bool) → IsEncoding IsWord k (symbol_bits xs) sent → more ≡ distance_of (part (get_or places i 0) size bits) sent) → (count + more < 2 ^ 32 → total ≡ count + more)
+      → length beginning ≡ each * i → length xs ≡ each → AreCounted IsWord size k each i places beginning bits count
+      → IsInnerCount IsWord size k (get_or places i 0) xs bits more → (count + more < 2 ^ 32 → total ≡ count + more)
       → AreCounted IsWord size k each (i + 1) places (beginning ++ xs) bits total
-  counted_more each i places beginning xs bits count more total sixes inside short there long_front long_xs before few is sum = record {
-    most = λ some. omega (arith, before.most some, exact some);
+  counted_more each i places beginning xs bits count more total sixes inside short there long_front long_xs before is sum = record {
+    most = λ some. omega (arith, before.most some, is.few, exact some);
     value = λ some encoding encodes.
         let at = get_or places i 0 in
         let word = encoding (symbol_bits xs) in
@@ -84,7 +86,7 @@ module _ {IsWord : List Bool → Type 0} {size k : ℕ} (long : (word : List Boo
         record {
           value =
               exact some
-              ∙ ap₂ (λ a b. a + b) here.value (is word made)
+              ∙ ap₂ (λ a b. a + b) here.value (is.value word made)
               ∙ sym (distance_by-append beq received (part at size bits) sent word (here.received_long ∙ sym here.sent_long))
               ∙ ap₂ (λ (us vs : List Bool). distance_of us vs) (sym more_received) (sym more_sent);
           received_long = ap length more_received ∙ length-append received (part at size bits) ∙ omega (arith, here.received_long, long_received, one_more size i);
@@ -95,7 +97,7 @@ module _ {IsWord : List Bool → Type 0} {size k : ℕ} (long : (word : List Boo
       exact : 0 < each → total ≡ count + more
       exact some =
           let places_few : length places ≤ 36 = few_places each (length places) some short in
-          let small : count + more ≤ 888 = omega (arith, before.most some) in
+          let small : count + more ≤ 888 = omega (arith, before.most some, is.few) in
           sum (omega arith)
 
 -- the symbols of one group more
@@ -104,15 +106,13 @@ front_more each i symbols =
     ap (λ n. take (each * i) symbols ++ part n each symbols) (sym (zero-add (each * i))) ∙ part_add 0 (each * i) each symbols ∙ ap (λ n. take n symbols) (one_more each i)
 
 -- after the last place
-pub counted_end : {IsWord : List Bool → Type 0} {size k : ℕ} (each group i : ℕ) (places : List ℕ) (symbols : List Sym) (bits : List Bool) (count : ℕ) → each ≡ group → length places ≤ i → i ≤ length places
-    → length places * group ≡ length symbols
-    → AreCounted IsWord size k each i places (take (each * i) symbols) bits count → AreCounted IsWord size k group (length places) places symbols bits count
-counted_end {IsWord} {size} {k} each group i places symbols bits count same past most covers is =
-    let here : i ≡ length places = omega arith in
-    let all : length symbols ≤ group * length places = omega (arith, mul_comm group (length places)) in
-    let grouped = subst (λ e. AreCounted IsWord size k e i places (take (e * i) symbols) bits count) same is in
-    let ended = subst (λ n. AreCounted IsWord size k group n places (take (group * n) symbols) bits count) here grouped in
-    subst (λ (xs : List Sym). AreCounted IsWord size k group (length places) places xs bits count) (take_all (group * length places) symbols all) ended
+pub all_groups : (P : ℕ → ℕ → List Sym → Type 0) (each group i n : ℕ) (symbols : List Sym) → each ≡ group → n ≤ i → i ≤ n → n * group ≡ length symbols → P each i (take (each * i) symbols) → P group n symbols
+all_groups P each group i n symbols same past most covers is =
+    let here : i ≡ n = omega arith in
+    let all : length symbols ≤ group * n = omega (arith, mul_comm group n) in
+    let grouped = subst (λ e. P e i (take (e * i) symbols)) same is in
+    let ended = subst (λ m. P group m (take (group * m) symbols)) here grouped in
+    subst (λ (xs : List Sym). P group n xs) (take_all (group * n) symbols all) ended
 
 -- all places
 pub counted_all : {IsWord : List Bool → Type 0} {size k : ℕ} (each : ℕ) (places : List ℕ) (symbols : List Sym) (bits : List Bool) (count : ℕ) → AreCounted IsWord size k each (length places) places symbols bits count → 0 < each
@@ -122,11 +122,41 @@ counted_all {IsWord} {size} {k} each places symbols bits count is some encoding 
     let every : length places ≤ length places = omega arith in
     (is.value some encoding encodes).value ∙ ap (λ ps. distance_of (inner_bits size ps bits) (field_bits encoding each (length places) symbols)) (take_all (length places) places every)
 
--- a total of two counts, where both are known
-pub total_more : {P Q R S : ℕ → Type 0} (first second answer : Option ℕ) → IfSome first P → IfSome second Q → IfSome second R → IfSome answer (λ total. IsTotal first second total)
-    → ((m n total : ℕ) → P m → Q n → R n → (m + n < 2 ^ 32 → total ≡ m + n) → S total) → IfSome answer S
-unfolding IsTotal
-total_more (Some m) (Some n) (Some total) p q r is step = step m n total p q r is
-total_more (Some m) None (Some total) p q r is step = absurd is
-total_more None second (Some total) p q r is step = absurd is
-total_more first second None p q r is step = tt
+-- before the first reading
+pub counts_none : {IsWord : List Bool → Type 0} (size k each : ℕ) (places : List ℕ) (symbols : List Sym) (bits : List Bool) (counts : List (Option ℕ)) → AreInnerCounts IsWord size k each 0 places symbols bits counts
+counts_none size k each places symbols bits counts = record { known = λ j before. absurd (omega arith) }
+
+-- one reading more. There is no room for the count of a place after all others
+pub counts_more : {IsWord : List Bool → Type 0} {size k : ℕ} (each i m : ℕ) (places : List ℕ) (read xs : List Sym) (bits : List Bool) (counts kept : List (Option ℕ)) (count : Option ℕ) → each * i + each ≤ length read → length xs ≡ each
+    → kept ≡ set counts i count → AreInnerCounts IsWord size k each i places (take (each * i) read) bits counts → IfSome count (IsInnerCount IsWord size k (get_or places i 0) xs bits)
+    → AreInnerCounts IsWord size k each (i + 1) places (take (each * (i + 1)) (put_mid (each * i) m read xs)) bits kept
+counts_more {IsWord} {size} {k} each i m places read xs bits counts kept count there long made before is =
+    let fits : each * i ≤ length read = omega arith in
+    let next : each * (i + 1) ≡ each * i + length xs = omega (arith, one_more each i) in
+    let beginning = length-take-le (each * i) read fits in
+    subst (λ (cs : List (Option ℕ)). AreInnerCounts IsWord size k each (i + 1) places (take (each * (i + 1)) (put_mid (each * i) m read xs)) bits cs) (sym made)
+    (subst (λ (ys : List Sym). AreInnerCounts IsWord size k each (i + 1) places ys bits (set counts i count)) (sym (take-put_mid (each * i) m read xs (each * (i + 1)) next fits))
+    (record { known = below_more known_at i (λ j inside. earlier beginning j inside) (last beginning) }))
+  where
+    front : List Sym
+    front = take (each * i) read
+
+    known_at : ℕ → Type 0
+    known_at j = IfSome (get_or (set counts i count) j None) (IsInnerCount IsWord size k (get_or places j 0) (part (each * j) each (front ++ xs)) bits)
+
+    earlier : length front ≡ each * i → (j : ℕ) → j < i → known_at j
+    earlier beginning j inside =
+        let other : j ≢ i = omega arith in
+        let same = get_or-set_other counts i j count None other in
+        let group = part_left (each * j) each front xs (room_at each j i (length front) inside (sym beginning)) in
+        subst (λ (c : Option ℕ). IfSome c (IsInnerCount IsWord size k (get_or places j 0) (part (each * j) each (front ++ xs)) bits)) (sym same)
+        (subst (λ (ys : List Sym). IfSome (get_or counts j None) (IsInnerCount IsWord size k (get_or places j 0) ys bits)) (sym group) (before.known j inside))
+
+    here : IfSome (get_or (set counts i count) i None) (IsInnerCount IsWord size k (get_or places i 0) xs bits)
+    here = elim (cases_lt i (length counts)) [
+      | inl inside ↦ rw (get_or-set_same counts i count None inside) is
+      | inr past ↦ rw (set_past counts i count past, get_or_past counts i None past) tt
+    ]
+
+    last : length front ≡ each * i → known_at i
+    last beginning = subst (λ (ys : List Sym). IfSome (get_or (set counts i count) i None) (IsInnerCount IsWord size k (get_or places i 0) ys bits)) (sym (part_last (each * i) each front xs beginning long)) here

@@ -11,12 +11,10 @@ use borrow.Rule.Slice.PartMut.{put_mid}
 use Rattle.p25_bits.specs.Bits.{bits_of, part}
 use Rattle.p25_bits.specs.Distance.{distance_of}
 use Rattle.p25_bits.proofs.BitsLaws.{length-bits_of, take-bits_of}
-use Rattle.p25_bits.proofs.DistanceLaws.{distance_of-bits_of, same_from_distance_by}
+use Rattle.p25_bits.proofs.DistanceLaws.{distance_of-bits_of}
 use Rattle.p25_code.specs.Readings.{IsReadAs}
 use Rattle.p25_code.specs.Words.{IsEncoding}
-use Rattle.p25_code.specs.declared.code.Reading.{Reading}
-use Rattle.p25_code.specs.declared.code.Reading.TheVariants.{Found}
-use Rattle.p25_code.specs.Erasures.{without_erased, IsErasedFound, IsErasedReading}
+use Rattle.p25_code.specs.Erasures.{without_erased}
 use Rattle.p25_code.proofs.ErasedLaws.{without_erased-none}
 use Rattle.p25_gf64.specs.declared.symbol.Sym.{Sym}
 use Rattle.p25_link.specs.Symbols.{symbols_in, symbol_bits}
@@ -141,19 +139,3 @@ pub outer_read : (layout : Layout) (bits : List Bool) (list : List (Option Sym))
     → list ≡ flat_map (λ at. symbols_or_erasures layout.each (layout.inner_reading (part at layout.size bits))) layout.places → value ≡ outer_word_of layout bits
 unfolding outer_word_of received_in
 outer_read layout bits list value read is = read ∙ ap layout.outer_reading is
-
--- an outer word that was read has its letters
-pub found_long : {L : Type 0} (same : L → L → Bool) (IsWord : List L → Type 0) (n most : ℕ) (list : List (Option L)) (received word : List L) (answer : Reading) (fixes : ℕ) → ((w : List L) → IsWord w → length w ≡ n) → answer ≡ Found fixes
-    → IsErasedReading same IsWord most list received word answer → length word ≡ n
-unfolding IsErasedReading
-found_long same IsWord n most list received word answer fixes long found is =
-    let read : IsErasedFound same IsWord most list received word fixes = subst (λ a. IsErasedReading same IsWord most list received word a) found is in
-    long word read.word_of_set
-
--- and it is what was received where no letter changed
-pub found_same : {L : Type 0} (same : L → L → Bool) (IsWord : List L → Type 0) (n most : ℕ) (list : List (Option L)) (received word : List L) (answer : Reading) (fixes : ℕ) → ((x y : L) → same x y ≡ true → x ≡ y)
-    → ((w : List L) → IsWord w → length w ≡ n) → length received ≡ n → answer ≡ Found fixes → fixes ≡ 0 → IsErasedReading same IsWord most list received word answer → received ≡ word
-unfolding IsErasedReading
-found_same same IsWord n most list received word answer fixes alike long long_received found none is =
-    let read : IsErasedFound same IsWord most list received word fixes = subst (λ a. IsErasedReading same IsWord most list received word a) found is in
-    same_from_distance_by same alike received word (long_received ∙ sym (long word read.word_of_set)) (sym read.fixes_is ∙ none)

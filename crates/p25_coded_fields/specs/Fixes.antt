@@ -1,9 +1,11 @@
 -- In how many bits a field was received otherwise than it is sent.
-use Rattle.std.specs.Prelude.{◌≡◌, ℕ, ◌+◌, ◌*◌, ◌<◌, ◌≤◌, ◌^◌, Bool, List, length, take, Option, Some, None}
+use Rattle.std.specs.Prelude.{◌≡◌, ℕ, ◌*◌, ◌<◌, ◌≤◌, Bool, List, length, take, slice_index, slice_index_or, Option, None, IfSome}
 use Rattle.std.specs.List.{flat_map}
 use Rattle.p25_bits.specs.Bits.{part}
 use Rattle.p25_bits.specs.Distance.{distance_of}
+use Rattle.p25_code.specs.Words.{IsEncoding}
 use Rattle.p25_gf64.specs.declared.symbol.Sym.{Sym}
+use Rattle.p25_link.specs.Symbols.{symbol_bits}
 use Rattle.p25_coded_fields.specs.Layouts.{field_bits}
 use Rattle.p25_coded_fields.specs.Written.{Encodes}
 
@@ -26,8 +28,11 @@ pub record AreCounted (IsWord : List Bool → Type 0) (size k each i : ℕ) (pla
   pub most : 0 < each → count ≤ 24 * i
   pub value : 0 < each → (encoding : List Bool → List Bool) → Encodes IsWord k encoding → IsCounted encoding size each i places symbols bits count
 
--- a total is the sum of two counts that are known, unless that sum is too large
-unfoldable pub IsTotal : Option ℕ → Option ℕ → ℕ → Type 0
-IsTotal (Some m) (Some n) total = m + n < 2 ^ 32 → total ≡ m + n
-IsTotal (Some m) None total = ⊥
-IsTotal None more total = ⊥
+-- a count of the bits in which the inner word at a place was received otherwise than it is sent for symbols
+pub record IsInnerCount (IsWord : List Bool → Type 0) (size k at : ℕ) (symbols : List Sym) (bits : List Bool) (count : ℕ) : Type 0 where
+  pub few : count ≤ 24
+  pub value : (sent : List Bool) → IsEncoding IsWord k (symbol_bits symbols) sent → count ≡ distance_of (part at size bits) sent
+
+-- the counts of the first inner words, by their places: each that is known is one for the symbols that were read there
+pub record AreInnerCounts (IsWord : List Bool → Type 0) (size k each i : ℕ) (places : List ℕ) (symbols : List Sym) (bits : List Bool) (counts : List (Option ℕ)) : Type 0 where
+  pub known : (j : ℕ) → j < i → IfSome (slice_index_or counts j None) (IsInnerCount IsWord size k (slice_index places j) (part (each * j) each symbols) bits)

@@ -2,16 +2,13 @@
 
 ghost use Rattle.std.specs.Prelude.{◌≡◌, ℕ, ◌+◌, ◌*◌, ◌/◌, ◌<◌, ◌≤◌, All, Bool, List, IfSome, length, replicate};
 ghost use Rattle.p25_bits.specs.Bits.{part};
-ghost use Rattle.p25_bits.specs.Distance.{distance_of};
 ghost use Rattle.p25_code.specs.Erasures.{without_erased};
 ghost use Rattle.p25_code.specs.Readings.{word_read};
-ghost use Rattle.p25_code.specs.Words.{IsEncoding};
-ghost use Rattle.p25_coded_fields.specs.Fixes.{field_fixes_of, AreCounted, IsTotal};
+ghost use Rattle.p25_coded_fields.specs.Fixes.{field_fixes_of, IsInnerCount};
 ghost use Rattle.p25_coded_fields.specs.Layouts.{field_layout, symbols_or_erasures, outer_word_of};
 ghost use Rattle.p25_coded_fields.specs.Written.{Encodes};
-ghost use Rattle.p25_link.specs.Symbols.{symbol_bits};
 
-use crate::fixes::{field_fixes, sum_of};
+use crate::fixes::field_fixes;
 use p25_bits::BitBuf;
 use p25_code::{ErasedCode, NumberCode, Reading, read_with_erasures};
 use p25_gf64::Sym;
@@ -40,9 +37,7 @@ fn read_inner<I: NumberCode>(
     requires same { length erased.old ≡ length symbols.old }
     requires there { at + I.N ≤ length bare.now }
     ensures erasures { without_erased symbols.new erased.new ≡ symbols_or_erasures (length symbols.old) (I.reading_is (part at I.N bare.now)) }
-    ensures few { IfSome result (λ wrong. wrong ≤ 24) }
-    ensures wrong { IfSome result (λ wrong. (sent : List Bool) → IsEncoding I.IsWord I.K (symbol_bits symbols.new) sent
-        → wrong ≡ distance_of (part at I.N bare.now) sent) }
+    ensures count { IfSome result (IsInnerCount I.IsWord I.N I.K at symbols.new bare.now) }
 {
     let received = bare.field(at, I::N as u32) as u32;
     match I::read_number(received) {
@@ -83,17 +78,21 @@ pub fn read_field<I: NumberCode, O: ErasedCode<Letter = Sym>>(
     ensures most { 0 < I.K → (fixes : ℕ) → result ≡ Reading.Found fixes → fixes ≤ 24 * length places.now }
 {
     let each = I::K / 6;
-    let mut buffer = [false; 36];
-    let erased = &mut buffer[..word.len()];
-    let mut wrong = Some(0);
+    let (mut symbols, mut gone, mut counts) = ([Sym::ZERO; 36], [false; 36], [None; 36]);
+    let read = &mut symbols[..word.len()];
+    let erased = &mut gone[..word.len()];
     for (i, at) in places.iter().enumerate() {
         let (start, end) = (each * i, each * i + each);
-        let more = read_inner::<I>(bare, *at, &mut word[start..end], &mut erased[start..end]);
-        wrong = sum_of(wrong, more);
+        let count = read_inner::<I>(bare, *at, &mut read[start..end], &mut erased[start..end]);
+        // Where inner words have symbols there are no more places than this.
+        if i < counts.len() {
+            counts[i] = count;
+        }
     }
+    word.copy_from_slice(read);
     match read_with_erasures::<O>(word, erased) {
-        Reading::Found { fixes } => Reading::Found {
-            fixes: field_fixes::<I>(fixes, wrong, bare, places, word),
+        Reading::Found { .. } => Reading::Found {
+            fixes: field_fixes::<I>(bare, places, read, &counts, word),
         },
         Reading::Beyond => Reading::Beyond,
     }

@@ -1,5 +1,5 @@
 -- The front of a unit: its frame sync and its network identifier.
-use Rattle.std.specs.Prelude.{◌≡◌, ℕ, Bool, eqb, List, [], ◌∷◌, ◌++◌, length, take, Option}
+use Rattle.std.specs.Prelude.{◌≡◌, ◌==◌, ℕ, Bool, List, [], ◌∷◌, ◌++◌, length, take, Option}
 use Rattle.p25_bits.specs.Bits.{bits_of, part}
 use Rattle.p25_bits.specs.Distance.{distance_of}
 use Rattle.p25_code.specs.Words.{IsEncoding}
@@ -19,7 +19,7 @@ pub record IsFront (nac duid : ℕ) (bits : List Bool) : Type 0 where
   pub long : length bits ≡ 112
   pub sync : take 48 bits ≡ sync_bits
   pub word : IsEncoding IsBch63 16 (bits_of 12 nac ++ bits_of 4 duid) (part 48 63 bits)
-  pub parity : part 111 1 bits ≡ eqb (parity_of duid) 1 ∷ []
+  pub parity : part 111 1 bits ≡ (parity_of duid == 1) ∷ []
 
 -- the 64 bits of the identifier of a unit as it is sent: those after the sync, without the status symbol at 70 and 71
 unfoldable pub identifier_bits : List Bool → List Bool

@@ -1,6 +1,5 @@
 -- The bits of voice units without status symbols, as one list.
-use Rattle.std.specs.Prelude.{ℕ, ◌*◌, Bool, false, List, [], ◌++◌, replicate, slice_index}
-use Rattle.std.proofs.Common.{get_or}
+use Rattle.std.specs.Prelude.{ℕ, ◌*◌, Bool, false, List, [], ◌++◌, replicate, slice_index, slice_index_or}
 use Rattle.std.specs.List.{flat_map}
 use Rattle.p25_bits.specs.Bits.{bits_of, octet_bits, part}
 use Rattle.p25_code.specs.Binary.{systematic}
@@ -48,7 +47,7 @@ contents encoding each symbols low voice = record { encoding = encoding; each = 
 
 -- a voice frame by its number
 abbrev pub frame_at : List VoiceFrame → ℕ → VoiceFrame
-frame_at voice i = let blank : VoiceFrame = record { 0 = [] } in get_or voice i blank
+frame_at voice i = let blank : VoiceFrame = record { 0 = [] } in slice_index_or voice i blank
 
 -- the bits of a piece of a unit
 unfoldable pub piece_bits : Contents → Piece → List Bool

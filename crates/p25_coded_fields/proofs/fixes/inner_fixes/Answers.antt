@@ -9,14 +9,8 @@ use Rattle.p25_link.proofs.SymbolsLaws.{length-symbol_bits}
 use Rattle.p25_coded_fields.proofs.ReadLaws.{wrong_bits}
 use Rattle.p25_coded_fields.proofs.fixes.inner_fixes.Goals as goal
 
-pub returns-clause-few : goal.returns-clause-few
-returns-clause-few g c =
-    let b = g.I.BlockCode in
-    let fits : c.field-received.result < 2 ^ b.N = subst (λ n. c.field-received.result < 2 ^ n) c.N.ensures c.field-received.ensures.fits in
-    omega (arith, ones-xor-le b.N c.field-received.result c.encode_number-sent.result fits c.encode_number-sent.ensures.fits, c.requires.small)
-
-pub returns-clause-wrong : goal.returns-clause-wrong
-returns-clause-wrong g c = λ sent is.
+pub returns : goal.returns
+returns g c =
     let b = g.I.BlockCode in
     let bare = c.args.bare.now in
     let at = c.args.at in
@@ -26,5 +20,8 @@ returns-clause-wrong g c = λ sent is.
     = ap (bits_of b.N) c.field-received.ensures.value ∙ ap (λ n. bits_of b.N (field_of (part at n bare))) c.N.ensures ∙ bits_of-field b.N at bare c.requires.there in
     let long : length info ≡ b.K = length-symbol_bits c.args.symbols.now ∙ c.requires.sixes in
     let same : bits_of b.K c.symbols_number.result ≡ info = ap₂ bits_of (sym long) c.symbols_number.ensures.value ∙ bits_of-field_of info in
-    wrong_bits b.N b.K (g.met.I.BlockCode.one_word c.requires.code) c.field-received.result c.encode_number-sent.result info (part at b.N bare) sent
-    (subst (λ bits. IsEncoding b.IsWord b.K bits (bits_of b.N c.encode_number-sent.result)) same c.encode_number-sent.ensures.encoding) is taken fits c.encode_number-sent.ensures.fits
+    record {
+      few = omega (arith, ones-xor-le b.N c.field-received.result c.encode_number-sent.result fits c.encode_number-sent.ensures.fits, c.requires.small);
+      value = λ sent is. wrong_bits b.N b.K (g.met.I.BlockCode.one_word c.requires.code) c.field-received.result c.encode_number-sent.result info (part at b.N bare) sent
+          (subst (λ bits. IsEncoding b.IsWord b.K bits (bits_of b.N c.encode_number-sent.result)) same c.encode_number-sent.ensures.encoding) is taken fits c.encode_number-sent.ensures.fits;
+    }

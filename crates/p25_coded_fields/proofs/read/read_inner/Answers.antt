@@ -1,4 +1,4 @@
-use Rattle.std.proofs.Common.{◌≡◌, ◌*◌, ◌-◌, ◌/◌, ◌^◌, ◌<◌, true, false, length, replicate, Some, None, IfSome, option_map, refl, sym, subst, ap, ap₂, ◌∙◌, arith}
+use Rattle.std.proofs.Common.{◌≡◌, ◌*◌, ◌-◌, ◌/◌, ◌^◌, ◌<◌, true, false, length, replicate, Some, IfSome, option_map, refl, sym, subst, ap, ap₂, ◌∙◌, arith}
 use Rattle.std.specs.Bool.{beq}
 use Rattle.p25_bits.specs.Bits.{bits_of, field_of, part}
 use Rattle.p25_bits.proofs.DistanceLaws.{ones-xor-le}
@@ -21,15 +21,8 @@ returns-in-Some-clause-erasures g c =
     (c.put_symbols.ensures ∙ ap (λ v. symbols_in each (bits_of (6 * each) v)) (c.from.ensures ∙ ap₂ (λ m n. value / 2 ^ (m - n)) c.N-in-Some.ensures c.K.ensures))
     (c.set_all.ensures ∙ ap (λ n. replicate n false) c.requires.same)
 
-pub returns-in-Some-clause-few : goal.returns-in-Some-clause-few
-returns-in-Some-clause-few g c =
-    let b = g.I.BlockCode in
-    let fits : c.field-received.result < 2 ^ b.N = subst (λ n. c.field-received.result < 2 ^ n) c.N.ensures c.field-received.ensures.fits in
-    let small : c.in-Some.sent < 2 ^ b.N = subst (λ r. IfSome r (λ sent. sent < 2 ^ b.N)) c.in-Some.is c.read_number.ensures.fits in
-    omega (arith, ones-xor-le b.N c.field-received.result c.in-Some.sent fits small, c.requires.small)
-
-pub returns-in-Some-clause-wrong : goal.returns-in-Some-clause-wrong
-returns-in-Some-clause-wrong g c = λ sent is.
+pub returns-in-Some-clause-count : goal.returns-in-Some-clause-count
+returns-in-Some-clause-count g c =
     let b = g.I.BlockCode in
     let m = g.met.I.BlockCode in
     let bare = c.args.bare.now in
@@ -46,7 +39,11 @@ returns-in-Some-clause-wrong g c = λ sent is.
     let made : symbols ≡ symbols_in each (bits_of (6 * each) (value / 2 ^ (b.N - b.K)))
     = c.put_symbols.ensures ∙ ap (λ v. symbols_in each (bits_of (6 * each) v)) (c.from.ensures ∙ ap₂ (λ m n. value / 2 ^ (m - n)) c.N-in-Some.ensures c.K.ensures) in
     let is_word = read_word_of_set beq b.IsWord b.radius_is bits (bits_of b.N value) (b.reading_is bits) (m.reads_as c.requires.code bits) (sym read) in
-    wrong_bits b.N b.K (m.one_word c.requires.code) c.field-received.result value (symbol_bits symbols) bits sent (read_encoding b.N b.K each value symbols c.requires.sixes (m.begins c.requires.code) is_word made) is taken fits small
+    let encoding = read_encoding b.N b.K each value symbols c.requires.sixes (m.begins c.requires.code) is_word made in
+    record {
+      few = omega (arith, ones-xor-le b.N c.field-received.result value fits small, c.requires.small);
+      value = λ sent is. wrong_bits b.N b.K (m.one_word c.requires.code) c.field-received.result value (symbol_bits symbols) bits sent encoding is taken fits small;
+    }
 
 pub returns-in-None-clause-erasures : goal.returns-in-None-clause-erasures
 returns-in-None-clause-erasures g c =
