@@ -8,7 +8,6 @@ ghost use Rattle.std.specs.Prelude.{◌≡◌, ◌+◌, ◌*◌, ◌^◌, ◌<�
 ghost use Rattle.p25_stream.specs.Scan.{given};
 ghost use Rattle.p25_example_groups.specs.Talks.{talk_of, talk_text};
 
-use p25_bits::BitBuf;
 use p25_link::LinkKind;
 use p25_stream::{Item, Scanner};
 use p25_units::{Body, VoiceUnit};
@@ -34,7 +33,6 @@ impl fmt::Display for Talk {
 fn main(rt: HostRuntime) -> io::Result<()> {
     let mut input = rt.stdin();
     let mut scanner = Scanner::new();
-    let mut raw = BitBuf::new();
     let mut octets = [0; 4_096];
     // A scanner takes up to 2^60 bits: so many reads give fewer than 2^47.
     for _ in 0..u32::MAX {
@@ -42,15 +40,15 @@ fn main(rt: HostRuntime) -> io::Result<()> {
         if count == 0 {
             break;
         }
-        scan(&rt, &octets[..count], &mut scanner, &mut raw)?;
+        scan(&rt, &octets[..count], &mut scanner)?;
     }
     scanner.finish();
-    print_talks(&rt, &mut scanner, &mut raw)
+    print_talks(&rt, &mut scanner)
 }
 
 // Pushes octets, a few at a time, and prints what each few decide. A scanner takes octets only while it has no item to give,
 // which is what `drained` says.
-fn scan(rt: &impl Print, octets: &[u8], scanner: &mut Scanner, raw: &mut BitBuf) -> io::Result<()>
+fn scan(rt: &impl Print, octets: &[u8], scanner: &mut Scanner) -> io::Result<()>
     requires drained { given scanner.old ≡ [] }
     requires going { scanner.old.finished ≡ false }
     requires few { scanner.old.place + length scanner.old.held + 8 * length octets.now < 2 ^ 60 }
@@ -61,18 +59,18 @@ fn scan(rt: &impl Print, octets: &[u8], scanner: &mut Scanner, raw: &mut BitBuf)
     let mut taken = 0;
     while taken < octets.len() {
         taken += scanner.push_some(&octets[taken..]);
-        print_talks(rt, scanner, raw)?;
+        print_talks(rt, scanner)?;
     }
     Ok(())
 }
 
 // Prints a line for each talk among the items that the scanner can give, until it can give no more.
-fn print_talks(rt: &impl Print, scanner: &mut Scanner, raw: &mut BitBuf) -> io::Result<()>
+fn print_talks(rt: &impl Print, scanner: &mut Scanner) -> io::Result<()>
     ensures drained { OnOk result (given scanner.new ≡ []) }
     ensures same { scanner.new.finished ≡ scanner.old.finished }
     ensures bits { scanner.new.place + length scanner.new.held ≡ scanner.old.place + length scanner.old.held }
 {
-    while let Some(item) = scanner.next(raw) {
+    while let Some(item) = scanner.next_item() {
         if let Some(talk) = read_talk(&item) {
             println!(rt; "{talk}")?;
         }

@@ -14,7 +14,7 @@ use Rattle.p25_filter.proofs.LinesLaws.{Contains-none}
 use Rattle.p25_recording_filters.specs.declared.recording.Phase.{Phase}
 use Rattle.p25_recording_filters.specs.declared.recording.Phase.TheVariants.{Reading, Ended, Closed}
 use Rattle.p25_recording_filters.specs.Recordings.{HasClosed, IsClosing, IsClosingBy, RecordingParts, bits_ending, bits_written, fresh, has_ended, phase_future, recording_future}
-use Rattle.p25_recording_filters.specs.Reports.{Reporting, report_behind, reported}
+use Rattle.p25_recording_filters.specs.Reports.{IgnoresBits, Reporting, report_behind, reported}
 use Rattle.p25_recording_filters.proofs.ReportsLaws.{behind-cons, behind-nil, reported-cons, reported-nil}
 
 -- an item that was given begins at the place where it was held
@@ -23,11 +23,23 @@ gave-place before now item raw gave =
     let none : before.place + 0 ≡ before.place = omega arith in
     (item-covers before.finished before.place before.held [] item (given now) gave.items).1 ∙ none
 
+-- the bits that an item covers are those with which it was given
+pub gave-bits : (before now : Scan) (item : Item) (raw : List Bool) → Gave before item raw now → Gave before item (take (covered item) before.held) now
+gave-bits before now item raw gave = subst (λ (bits : List Bool). Gave before item bits now) gave.raw_bits gave
+
 -- the bits of one octet
 pub octet_bits-one : (octet : ℕ) → octet_bits (octet ∷ []) ≡ bits_of 8 octet
 octet_bits-one octet = octet_bits-cons octet [] ∙ ap (λ (zs : List Bool). bits_of 8 octet ++ zs) octet_bits-nil ∙ append-nil (bits_of 8 octet)
 
 module _ {R : Type 0} (reporting : Reporting R) where
+  -- what is written of an item and what is kept after it are those of the bits that it covers, where the report is given these bits
+  -- or looks at none
+  pub put-alike : (looks : Bool) → (looks ≡ false → IgnoresBits reporting) → (report : R) (item : Item) (raw bits : List Bool) → (looks ≡ true → raw ≡ bits)
+      → (reporting.piece report item raw ≡ reporting.piece report item bits) × (reporting.behind report item raw ≡ reporting.behind report item bits)
+  put-alike true ignores report item raw bits same =
+      (ap (λ (xs : List Bool). reporting.piece report item xs) (same refl), ap (λ (xs : List Bool). reporting.behind report item xs) (same refl))
+  put-alike false ignores report item raw bits same = ((ignores refl).piece report item raw bits, (ignores refl).behind report item raw bits)
+
   -- what is held with octets that come
   held-octets : (held : List Bool) (octets more : List ℕ) → held ++ octet_bits (octets ++ more) ≡ (held ++ octet_bits octets) ++ octet_bits more
   held-octets held octets more = ap (λ (zs : List Bool). held ++ zs) (octet_bits-append octets more) ∙ sym (append_assoc held (octet_bits octets) (octet_bits more))

@@ -1,38 +1,24 @@
 -- How the work on a soft recording goes on: levels come, an item is given, the input ends.
-use Rattle.std.proofs.Common.{◌≡◌, ℕ, ◌+◌, ◌-◌, ◌*◌, ◌/◌, ◌%◌, ◌<◌, ◌≤◌, ◌&&◌, inl, inr, Bool, true, false, cond, List, [], ◌∷◌, ◌++◌, length, take, drop, map, Some, Ok, refl, ap, ap₂, sym, subst, ◌∙◌, arith, append_assoc, append-nil, length-append, length-drop, eq-eqb, ℤ}
-use Rattle.std.specs.Prelude.{nat_eq}
-use Rattle.std.proofs.lemmas.Bool.{cases_Bool, cond-true, cond-false, eqb-true}
-use Rattle.std.proofs.lemmas.List.{take-append-drop, take-append-le, drop-append-le, drop-drop, length-take-le, drop_at}
-use Rattle.p25_bits.specs.Bits.{part}
-use Rattle.p25_bits.proofs.PartLaws.{part-drop, part_left}
+use Rattle.std.proofs.Common.{◌≡◌, ℕ, ◌+◌, ◌-◌, ◌%◌, ◌<◌, Bool, true, false, List, [], ◌∷◌, ◌++◌, length, drop, map, Some, Ok, refl, ap, ap₂, sym, subst, ◌∙◌, arith, append_assoc, append-nil, length-drop, ℤ}
 use Rattle.p25_units.specs.declared.item.Item.{Item}
-use Rattle.p25_units.specs.declared.item.Item.TheVariants.{Whole, Broken, NoUnit, Gap, Cut}
-use Rattle.p25_units.specs.Items.{covered, place_of, unit_item_of}
-use Rattle.p25_status.specs.Sync.{has_sync}
-use Rattle.p25_units.specs.Needs.{need_of}
-use Rattle.p25_units.specs.declared.needs.Need.TheVariants.{Length}
-use Rattle.p25_units.proofs.NeedsLaws.{need_of-there}
-use Rattle.p25_units.proofs.ItemsLaws.{covered-unit_item_of}
-use Rattle.p25_stream.specs.Items.{first_item, items_by}
+use Rattle.p25_units.specs.Items.{covered, place_of}
+use Rattle.p25_stream.specs.Items.{items_by}
 use Rattle.p25_stream.specs.ItemLaws.{GaveItems}
 use Rattle.p25_stream.specs.Scan.{Scan, Gave, given}
-use Rattle.p25_stream.proofs.ItemsLaws.{first_item-cases, items_by-first, items_by-nil, place_of-first_item}
+use Rattle.p25_stream.proofs.ItemsLaws.{items_by-nil}
 use Rattle.p25_soft.specs.Levels.{hard_bits}
-use Rattle.p25_soft.specs.Softened.{IsHeard, softened}
-use Rattle.p25_soft.proofs.HardBitsLaws.{hard_bits-append, hard_bits-drop, hard_bits-none, hard_bits-part, length-hard_bits}
-use Rattle.p25_soft.proofs.HeardLaws.{IsHeard-front, softened-other, softened-unpacked}
-use Rattle.p25_status.specs.declared.fields.Field.{Field}
+use Rattle.p25_soft.proofs.HardBitsLaws.{hard_bits-none}
 use Rattle.p25_filter.specs.declared.ending.Ending.TheVariants.{Done}
 use Rattle.p25_filter.specs.Futures.{IsClosed, IsIdle, NextPiece, Progress}
 use Rattle.p25_filter.proofs.LinesLaws.{Contains-none}
 use Rattle.p25_recording_filters.specs.Commands.{unfilled}
 use Rattle.p25_units.specs.Units.{whole_octets}
 use Rattle.p25_recording_filters.specs.ItemOutputs.{changed_bits}
-use Rattle.p25_recording_filters.specs.SoftLevels.{filled, grouped, item_softened, octet_level, scanned}
-use Rattle.p25_recording_filters.specs.Softs.{IsHeardAmong, IsHolding, PutSoftItem, SoftParts, first_level, is_even_packet, item_levels, soft_future, soft_future_by, soft_written}
-use Rattle.p25_recording_filters.proofs.OctetsLaws.{whole_octets-append, whole_octets-few}
-use Rattle.p25_recording_filters.proofs.SoftLevelsLaws.{filled-whole, grouped-ungrouped, grouped-whole, length-filled, length-grouped, scanned-append, scanned-split, ungrouped, ungrouped-none}
-use Rattle.p25_recording_filters.proofs.SoftItemLaws.{changed-none, gone-there, holding-next, length-held, place-given, written-given}
+use Rattle.p25_recording_filters.specs.SoftLevels.{filled, grouped, item_softened, octet_level}
+use Rattle.p25_recording_filters.specs.Softs.{IsHolding, PutSoftItem, SoftParts, first_level, soft_future, soft_future_by, soft_written}
+use Rattle.p25_recording_filters.proofs.OctetsLaws.{whole_octets-few}
+use Rattle.p25_recording_filters.proofs.SoftLevelsLaws.{filled-whole, grouped-whole, length-filled}
+use Rattle.p25_recording_filters.proofs.SoftItemLaws.{changed-none, gone-there, place-given, written-given}
 
 -- a level comes
 pub step-push : (before now : SoftParts) (octet : ℕ) (level : ℤ) → before.scan.finished ≡ false → now.scan.finished ≡ false → now.scan.place ≡ before.scan.place

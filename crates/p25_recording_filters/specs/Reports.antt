@@ -1,5 +1,5 @@
 -- Reports of the items of a recording, item by item.
-use Rattle.std.specs.Prelude.{ℕ, Bool, if◌then◌else◌, List, [], ◌∷◌, ◌++◌, take, drop}
+use Rattle.std.specs.Prelude.{◌≡◌, ℕ, Bool, if◌then◌else◌, List, [], ◌∷◌, ◌++◌, take, drop}
 use Rattle.p25_units.specs.declared.item.Item.{Item}
 use Rattle.p25_units.specs.Items.{covered}
 use Rattle.p25_filter.specs.declared.ending.Ending.{Ending}
@@ -11,6 +11,11 @@ pub record Reporting (R : Type 0) : Type 0 where
   pub behind : R → Item → List Bool → R
   pub closing : R → List ℕ
   pub ending : R → Ending
+
+-- what a report writes of an item, and what it is after it, is the same whatever bits the item covers
+pub record IgnoresBits {R : Type 0} (reporting : Reporting R) : Type 0 where
+  pub piece : (report : R) (item : Item) (bits others : List Bool) → reporting.piece report item bits ≡ reporting.piece report item others
+  pub behind : (report : R) (item : Item) (bits others : List Bool) → reporting.behind report item bits ≡ reporting.behind report item others
 
 -- what is written of items that lie end to end over some bits, and of the end of the input where it has ended
 unfoldable pub reported : {R : Type 0} → Reporting R → Bool → R → List Item → List Bool → List ℕ

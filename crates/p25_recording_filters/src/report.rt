@@ -1,8 +1,8 @@
 //! What a command writes of the items of a recording.
 
-ghost use Rattle.std.specs.Prelude.{◌≡◌, ℕ, ◌+◌, ◌^◌, ◌<◌, ◌≤◌};
+ghost use Rattle.std.specs.Prelude.{◌≡◌, ℕ, ◌+◌, ◌^◌, ◌<◌, ◌≤◌, Bool, false};
 ghost use Rattle.p25_units.specs.Items.{IsSoundItem, covered, place_of};
-ghost use Rattle.p25_recording_filters.specs.Reports.{Reporting};
+ghost use Rattle.p25_recording_filters.specs.Reports.{IgnoresBits, Reporting};
 
 use p25_bits::BitBuf;
 use p25_filter::Ending;
@@ -11,6 +11,11 @@ use p25_units::Item;
 
 /// What a command writes of the items of a recording, one after the other.
 pub trait Report {
+    /// Whether it looks at the bits that an item covers. Where it does not, `put` may be given any bits.
+    const LOOKS_AT_BITS: bool;
+
+    ghost LOOKS_AT_BITS: { Bool };
+
     /// What it writes of an item and the bits that it covers, what it keeps after it, and what it writes at the end.
     ghost reporting: { Reporting Self };
 
@@ -38,4 +43,7 @@ pub trait Report {
     /// Answers how the call ends once all is written.
     fn ending(&self) -> Ending
         ensures { result ≡ reporting.ending self.now };
+
+    // Where it does not look at the bits, what it writes and what it keeps are the same for all.
+    ghost ignores_bits: { LOOKS_AT_BITS ≡ false → IgnoresBits reporting };
 }

@@ -108,3 +108,12 @@ pub next-fits : (scan : Scan) (item : Item) → (given scan ≡ [] → ⊥) → 
 next-fits scan item some is =
     let goes = items_by-some scan.finished scan.place scan.held some in
     subst (λ (i : Item). covered i ≤ length scan.held) (sym is) (covered-first_item scan.place scan.held goes.0).1
+
+-- the next item and its bits, once a scanner holds these no longer
+pub gave-next : (scan set now : Scan) (item : Item) (raw : List Bool) (count : ℕ) → (given scan ≡ [] → ⊥) → item ≡ first_item scan.place scan.held → set ≡ scan → count ≡ covered item
+    → raw ≡ take count set.held → now ≡ record set { place = set.place + count; held = drop count set.held } → Gave scan item raw now
+gave-next scan set now item raw count some is same long bits left =
+    gave-first scan now item raw some is (bits ∙ ap₂ (λ (n : ℕ) (s : Scan). take n s.held) long same)
+    (ap (λ (s : Scan). s.held) left ∙ ap₂ (λ (n : ℕ) (s : Scan). drop n s.held) long same)
+    (ap (λ (s : Scan). s.place) left ∙ ap₂ (λ (n : ℕ) (s : Scan). s.place + n) long same)
+    (ap (λ (s : Scan). s.finished) left ∙ ap (λ (s : Scan). s.finished) same)

@@ -14,8 +14,9 @@
 //! ```
 //!
 //! All items are taken before the next octet goes in. What only the end decides comes when you ask again after `finish`: here a
-//! gap of 8 bits. `push_some` takes several octets at once, `next_in` gives an item without moving it, and `repair_item`
-//! replaces the bits of an item by those that were sent.
+//! gap of 8 bits. `push_some` takes several octets at once, and `repair_item` replaces the bits of an item by those that were
+//! sent. `next_item` is for a caller that does not look at the bits: they are not copied. `next_in` and `next_item_in` give an item
+//! without moving it.
 //!
 //! Contracts see a scanner as a `Scan`, the bits that it holds with their place, and the items that it can give as `given`.
 //! `items_by` is the definition of a stream's items, one walk over its bits; `item_laws` says what is true of it, and

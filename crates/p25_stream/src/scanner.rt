@@ -1,9 +1,10 @@
 //! A scanner of bits that come octet by octet.
 
-ghost use Rattle.std.specs.Prelude.{◌≡◌, ◌+◌, ◌%◌, ◌^◌, ◌<◌, ◌≤◌, ◌↔◌, ◌++◌, [], true, false, length, take, drop, IsTrue, IfSome, MatchOption};
+ghost use Rattle.std.specs.Prelude.{◌≡◌, ◌≢◌, ◌+◌, ◌%◌, ◌^◌, ◌<◌, ◌≤◌, ◌↔◌, ◌++◌, [], true, false, length, take, drop, IsTrue, IfSome, MatchOption};
 ghost use Rattle.p25_bits.specs.Bits.{bits_of, octet_bits};
+ghost use Rattle.p25_stream.specs.Items.{first_item};
 ghost use Rattle.p25_stream.specs.Scan.{Gave, given};
-ghost use Rattle.p25_units.specs.Items.{IsSoundItem};
+ghost use Rattle.p25_units.specs.Items.{IsSoundItem, covered};
 
 use crate::arriving::put_some;
 use crate::beginning::Beginning;
@@ -160,16 +161,66 @@ impl Scanner {
         ensures none { result ≡ false → (given self.old ≡ []) × (self.new ≡ self.old) × (raw.new ≡ raw.old) × (item.new ≡ item.old) }
         ensures sound { result ≡ true → IsSoundItem item.new }
     {
+        if !self.set_next(item) {
+            return false;
+        }
+        let count = item.covered();
+        raw.clear();
+        raw.append(&self.held, 0, count as usize);
+        self.let_go(count);
+        true
+    }
+
+    /// Answers the next item, whose bits are held no longer, for a caller that does not look at its bits. `None` comes exactly
+    /// where `next` would answer it; then all stays as it is.
+    pub fn next_item(&mut self) -> Option<Item>
+        ensures given { MatchOption result ((given self.old ≡ []) × (self.new ≡ self.old)) (λ item. Gave self.old item (take (covered item) self.old.held) self.new) }
+        ensures sound { IfSome result IsSoundItem }
+    {
+        let mut item = Item::Cut { place: 0, have: 0 };
+        if self.next_item_in(&mut item) {
+            Some(item)
+        } else {
+            None
+        }
+    }
+
+    /// Sets `item` to the next item, whose bits are held no longer, and answers true. Its bits are not copied. False comes
+    /// exactly where `next` would answer `None`; then all stays as it is. An item is large: so it is not moved.
+    pub fn next_item_in(&mut self, item: &mut Item) -> bool
+        ensures given { result ≡ true → Gave self.old item.new (take (covered item.new) self.old.held) self.new }
+        ensures none { result ≡ false → (given self.old ≡ []) × (self.new ≡ self.old) × (item.new ≡ item.old) }
+        ensures sound { result ≡ true → IsSoundItem item.new }
+    {
+        if !self.set_next(item) {
+            return false;
+        }
+        self.let_go(item.covered());
+        true
+    }
+
+    // Sets `item` to the next item, whose bits are held still, and answers whether there is one.
+    fn set_next(&mut self, item: &mut Item) -> bool
+        ensures same { self.new ≡ self.old }
+        ensures some { result ≡ true → given self.old ≢ [] }
+        ensures first { result ≡ true → item.new ≡ first_item self.old.place self.old.held }
+        ensures none { result ≡ false → (given self.old ≡ []) × (item.new ≡ item.old) }
+        ensures sound { result ≡ true → IsSoundItem item.new }
+    {
         if self.is_drained() {
             return false;
         }
         set_item(self.beginning, &self.held, self.place, &mut self.room, item);
-        let count = item.covered();
-        raw.clear();
-        raw.append(&self.held, 0, count as usize);
+        true
+    }
+
+    // Holds the first bits no longer, so many.
+    fn let_go(&mut self, count: u64)
+        requires { count ≤ length self.old.held }
+        ensures { self.new ≡ record self.old { place = self.old.place + count; held = drop count self.old.held } }
+    {
         self.held.drop_front(count as usize);
         self.place += count;
         self.beginning = beginning_anew(&self.held);
-        true
     }
 }

@@ -48,6 +48,30 @@ fn items_as_they_come(rt: HostRuntime) {
 }
 
 #[test]
+fn items_without_their_bits(rt: HostRuntime) {
+    let mut scanner = Scanner::new();
+    if scanner.is_drained() {
+        scanner.push(0x55);
+    }
+    assert!(rt; scanner.next_item().is_none());
+    scanner.finish();
+    let mut item = Item::Cut { place: 0, have: 0 };
+    assert!(rt; scanner.next_item_in(&mut item));
+    assert!(rt;
+        matches!(
+            item,
+            Item::Gap {
+                place: 0,
+                length: 8
+            }
+        )
+    );
+    assert_eq!(rt; scanner.held(), 0);
+    assert!(rt; !scanner.next_item_in(&mut item));
+    assert_eq!(rt; item.covered(), 8);
+}
+
+#[test]
 fn a_place_within_an_octet(rt: HostRuntime) {
     let mut scanner = Scanner::at(11, 0xA7);
     let mut raw = BitBuf::new();

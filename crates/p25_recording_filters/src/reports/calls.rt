@@ -50,14 +50,20 @@ impl Default for Calls {
 }
 
 impl Report for Calls {
-    ghost use Rattle.std.specs.Prelude.{◌≡◌};
+    ghost use Rattle.std.specs.Prelude.{◌≡◌, false, refl};
     ghost use Rattle.p25_recording_filters.specs.Commands.{calls_reporting};
+
+    const LOOKS_AT_BITS: bool = false;
+
+    ghost LOOKS_AT_BITS = { false };
 
     ghost reporting = { calls_reporting };
 
     ghost counted = { λ report. report.caller.taken };
 
     ghost HasReached = { λ report place. report.caller.reached ≡ place };
+
+    ghost ignores_bits = { λ _. record { piece = λ report item bits others. refl; behind = λ report item bits others. refl } };
 
     fn put(&mut self, item: &Item, raw: &mut BitBuf, out: &mut Line) {
         let _ = raw.len();

@@ -56,11 +56,19 @@ impl Changed {
 }
 
 impl Report for Changed {
+    ghost use Rattle.std.specs.Prelude.{true};
+    ghost use Rattle.std.proofs.lemmas.Bool.{true≢false};
     ghost use Rattle.p25_recording_filters.specs.Commands.{changed_reporting};
+
+    const LOOKS_AT_BITS: bool = true;
+
+    ghost LOOKS_AT_BITS = { true };
 
     ghost reporting = { changed_reporting };
 
     ghost counted = { λ report. 0 };
+
+    ghost ignores_bits = { λ blind. absurd (true≢false blind) };
 
     fn put(&mut self, item: &Item, raw: &mut BitBuf, out: &mut Line) {
         change_item(self.change, item, &mut self.room, raw);

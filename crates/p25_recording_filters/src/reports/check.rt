@@ -46,12 +46,18 @@ impl Default for Check {
 }
 
 impl Report for Check {
-    ghost use Rattle.std.specs.Prelude.{◌+◌};
+    ghost use Rattle.std.specs.Prelude.{◌+◌, false, refl};
     ghost use Rattle.p25_recording_filters.specs.Commands.{check_reporting};
+
+    const LOOKS_AT_BITS: bool = false;
+
+    ghost LOOKS_AT_BITS = { false };
 
     ghost reporting = { check_reporting };
 
     ghost counted = { λ report. report.units + report.faults };
+
+    ghost ignores_bits = { λ _. record { piece = λ report item bits others. refl; behind = λ report item bits others. refl } };
 
     fn put(&mut self, item: &Item, raw: &mut BitBuf, out: &mut Line) {
         let _ = raw.len();

@@ -14,11 +14,18 @@ use p25_units::Item;
 pub struct Show;
 
 impl Report for Show {
+    ghost use Rattle.std.specs.Prelude.{false, refl};
     ghost use Rattle.p25_recording_filters.specs.Commands.{show_reporting};
+
+    const LOOKS_AT_BITS: bool = false;
+
+    ghost LOOKS_AT_BITS = { false };
 
     ghost reporting = { show_reporting };
 
     ghost counted = { λ report. 0 };
+
+    ghost ignores_bits = { λ _. record { piece = λ report item bits others. refl; behind = λ report item bits others. refl } };
 
     fn put(&mut self, item: &Item, raw: &mut BitBuf, out: &mut Line) {
         let _ = raw.len();

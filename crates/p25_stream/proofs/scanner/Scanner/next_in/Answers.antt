@@ -1,35 +1,26 @@
-use Rattle.std.proofs.Common.{◌≡◌, ◌+◌, ◌++◌, [], length, take, drop, refl, ap, ◌∙◌, subst, arith}
-use Rattle.std.proofs.lemmas.Bool.{iff_false}
+use Rattle.std.proofs.Common.{◌++◌, length, take, ap, ◌∙◌, arith}
 use Rattle.p25_bits.specs.Bits.{part}
-use Rattle.p25_stream.specs.Scan.{Scan, Gave, given}
-use Rattle.p25_stream.proofs.ScanLaws.{gave-first, next-fits}
+use Rattle.p25_stream.specs.Scan.{Scan}
+use Rattle.p25_stream.proofs.ScanLaws.{gave-next, next-fits}
 use Rattle.p25_stream.proofs.scanner.Scanner.next_in.Goals as goal
 
 pub append-requires-clause-there : goal.append-requires-clause-there
 append-requires-clause-there c =
-    let inside = c.self.inside in
-    let scan : Scan = record { place = inside.place; held = inside.held; finished = inside.finished } in
-    let fits = next-fits scan c.set_item.new.item (λ none. iff_false c.is_drained.ensures c.if-is_drained.false (subst (λ (s : Scan). given s ≡ []) c.self.view_is none)) c.set_item.ensures.item in
-    omega (arith, fits, c.covered-count.ensures.value)
+    let there = c.if-not-set_next.false in
+    let fits = next-fits c.args.self.now c.set_next.new.item (c.set_next.ensures.some there) (c.set_next.ensures.first there) in
+    omega (arith, fits, c.covered-count.ensures.value, ap (λ (s : Scan). length s.held) c.set_next.ensures.same, ap (λ (s : Scan). length s.held) c.self.view_is)
 
 pub append-requires-clause-room : goal.append-requires-clause-room
 append-requires-clause-room c =
-    let inside = c.self.inside in
-    let scan : Scan = record { place = inside.place; held = inside.held; finished = inside.finished } in
-    let fits = next-fits scan c.set_item.new.item (λ none. iff_false c.is_drained.ensures c.if-is_drained.false (subst (λ (s : Scan). given s ≡ []) c.self.view_is none)) c.set_item.ensures.item in
-    omega (arith, fits, c.covered-count.ensures.value, c.self.invariant.1, ap length c.clear.ensures)
+    let there = c.if-not-set_next.false in
+    let fits = next-fits c.args.self.now c.set_next.new.item (c.set_next.ensures.some there) (c.set_next.ensures.first there) in
+    let held = ap (λ (s : Scan). length s.held) c.self.view_is ∙ ap (λ (s : Scan). length s.held) c.set_next.ensures.same in
+    omega (arith, fits, c.covered-count.ensures.value, held, c.self.invariant.1, ap length c.clear.ensures)
 
 pub returns-clause-given : goal.returns-clause-given
 returns-clause-given c =
-    let inside = c.self.inside in
-    let scan : Scan = record { place = inside.place; held = inside.held; finished = inside.finished } in
+    let there = c.if-not-set_next.false in
     let count = c.covered-count.result in
-    let now : Scan = record { place = inside.place + count; held = c.drop_front.new.self; finished = inside.finished } in
-    let item = c.set_item.new.item in
-    let some = λ (none : given scan ≡ []). iff_false c.is_drained.ensures c.if-is_drained.false (subst (λ (s : Scan). given s ≡ []) c.self.view_is none) in
-    λ _. subst (λ (s : Scan). Gave s item c.append.new.self now) c.self.view_is
-    (gave-first scan now item c.append.new.self some c.set_item.ensures.item
-    (c.append.ensures.list ∙ ap (λ xs. xs ++ part 0 count inside.held) c.clear.ensures ∙ ap (λ n. take n inside.held) c.covered-count.ensures.value)
-    (c.drop_front.ensures.list ∙ ap (λ n. drop n inside.held) c.covered-count.ensures.value)
-    (ap (λ n. inside.place + n) c.covered-count.ensures.value)
-    refl)
+    let bits = c.append.ensures.list ∙ ap (λ xs. xs ++ part 0 count c.self.inside.held) c.clear.ensures ∙ ap (λ (s : Scan). take count s.held) c.self.view_is in
+    λ _. gave-next c.args.self.now c.set_next.new.self c.let_go.new.self c.set_next.new.item c.append.new.self count (c.set_next.ensures.some there) (c.set_next.ensures.first there)
+    c.set_next.ensures.same c.covered-count.ensures.value bits c.let_go.ensures

@@ -1,4 +1,4 @@
-use Rattle.std.proofs.Common.{◌+◌, ◌≤◌, ap, arith}
+use Rattle.std.proofs.Common.{ap, arith}
 use Rattle.p25_calls.specs.Taking.{CallerParts, behind_item}
 use Rattle.p25_recording_filters.specs.Commands.{CallsParts}
 use Rattle.p25_recording_filters.proofs.reports.calls.CallsReport.put.Goals as goal
