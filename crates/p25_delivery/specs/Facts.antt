@@ -1,5 +1,5 @@
 -- The facts that a delivery keeps in a clean run, by what is outstanding. s stands for the present session, and b for the number of its first message.
-use Rattle.std.specs.Prelude.{◌≡◌, ◌≢◌, ℕ, ◌+◌, ◌-◌, ◌%◌, ◌<◌, ◌⊎◌, Bool, List, [], ◌∷◌, ◌++◌, length, take, get_or, None, Some, IfSome}
+use Rattle.std.specs.Prelude.{◌≡◌, ◌≢◌, ℕ, ◌+◌, ◌-◌, ◌%◌, ◌<◌, ◌⊎◌, Bool, List, [], ◌∷◌, ◌++◌, length, take, slice_index_or, None, Some, IfSome}
 use Rattle.p25_delivery.specs.MessageBlocks.{block_count, pad_count, message_block}
 use Rattle.p25_delivery.specs.Places.{held_flags}
 use Rattle.p25_delivery.specs.SentPackets.{message_packet, blocks_packet, opening_packet, ack_packet, retry_packet, Packet}
@@ -14,7 +14,8 @@ IsDataOf number message packet = (packet ≡ message_packet number message) ⊎ 
 pub record KeepsOf (message : List ℕ) (kept : Keeping) : Type 0 where
   pub count : length kept.places ≡ block_count (length message)
   pub pad_is : kept.pad ≡ pad_count (length message)
-  pub held : (j : ℕ) → j < block_count (length message) → (get_or kept.places j None ≡ None) ⊎ (get_or kept.places j None ≡ Some (message_block message j))
+  pub held : (j : ℕ) → j < block_count (length message) →
+      (slice_index_or kept.places j None ≡ None) ⊎ (slice_index_or kept.places j None ≡ Some (message_block message j))
 
 -- while the opening packet with a number is outstanding
 pub record OpeningFacts (number : ℕ) (s : Session) (w : Delivery) : Type 0 where

@@ -1,5 +1,5 @@
 -- A message as the blocks of a confirmed packet carry it, and back.
-use Rattle.std.specs.Prelude.{ℕ, ◌+◌, ◌-◌, ◌*◌, ◌/◌, ◌&&◌, eqb, nat_le, List, ◌++◌, length, take, drop, replicate, Option, Some, None, if◌then◌else◌}
+use Rattle.std.specs.Prelude.{ℕ, ◌+◌, ◌-◌, ◌*◌, ◌/◌, ◌&&◌, ◌==◌, nat_le, List, ◌++◌, length, take, drop, replicate, Option, Some, None, if◌then◌else◌}
 use Rattle.p25_bits.specs.Bits.{part}
 use Rattle.p25_bits.specs.Numbers.{octets_number, each_below}
 use Rattle.p25_crc.specs.Values.{crc32_of}
@@ -35,4 +35,4 @@ message_blocks message = each_below (block_count (length message)) (message_bloc
 unfoldable pub unpadded : List ℕ → ℕ → Option (List ℕ)
 unpadded octets pad =
     let count = length octets - 4 in
-    if nat_le pad count && eqb (octets_number (drop count octets)) (crc32_of (take count octets)) then Some (take (count - pad) octets) else None
+    if nat_le pad count && octets_number (drop count octets) == crc32_of (take count octets) then Some (take (count - pad) octets) else None

@@ -1,5 +1,5 @@
 -- What a receiver does with a packet: the state that it has then, and its answer.
-use Rattle.std.specs.Prelude.{ℕ, ◌+◌, ◌%◌, ◌&&◌, eqb, List, length, replicate, Option, Some, None, if◌then◌else◌}
+use Rattle.std.specs.Prelude.{ℕ, ◌+◌, ◌%◌, ◌&&◌, ◌==◌, List, length, replicate, Option, Some, None, if◌then◌else◌}
 use Rattle.p25_packet_blocks.specs.Heads.{head_is_full, head_blocks, head_pad, head_llid, head_syn, head_number}
 use Rattle.p25_packet_blocks.specs.ConfirmedParts.{ConfirmedParts}
 use Rattle.p25_delivery.specs.MessageBlocks.{unpadded}
@@ -16,13 +16,13 @@ empty_places blocks pad = record { places = replicate blocks None; pad = pad }
 unfoldable pub keeping_full : Option Keeping → ℕ → ℕ → Keeping
 keeping_full None blocks pad = empty_places blocks pad
 keeping_full (Some kept) blocks pad =
-    if eqb (length kept.places) blocks && eqb kept.pad pad then kept else empty_places blocks pad
+    if length kept.places == blocks && kept.pad == pad then kept else empty_places blocks pad
 
 -- what is kept while a packet is heard: nothing where it is ignored, as is one of no blocks, and one without the full
 -- message flag where nothing was kept
 unfoldable pub keeping_for : Option Keeping → PacketHead → Option Keeping
 keeping_for kept head =
-    if head_is_full head then (if eqb (head_blocks head) 0 then None else Some (keeping_full kept (head_blocks head) (head_pad head))) else kept
+    if head_is_full head then (if head_blocks head == 0 then None else Some (keeping_full kept (head_blocks head) (head_pad head))) else kept
 
 -- all places are held, and the blocks are a message or not
 unfoldable pub finished : Receiving → ℕ → Option (List ℕ) → Receiving × Heard
@@ -46,14 +46,14 @@ filled r packet (Some kept) =
 unfoldable pub opening_heard : Receiving → PacketHead → Receiving × Heard
 opening_heard r head =
     let number = head_number head in
-    if eqb (head_blocks head) 0 then (record { last = number; kept = None }, Opened number (ack_packet number)) else (r, Ignored)
+    if head_blocks head == 0 then (record { last = number; kept = None }, Opened number (ack_packet number)) else (r, Ignored)
 
 -- a packet of data comes: that of the last message again, one out of order, or that of the next message
 unfoldable pub data_heard : Receiving → ConfirmedParts → Receiving × Heard
 data_heard r packet =
-    if eqb (head_number packet.head) r.last
+    if head_number packet.head == r.last
     then (r, Again r.last (ack_packet r.last))
-    else (if eqb (head_number packet.head) ((r.last + 1) % 8)
+    else (if head_number packet.head == (r.last + 1) % 8
     then filled r packet (keeping_for r.kept packet.head)
     else (r, RefusedOrder r.last (order_nack_packet r.last)))
 
@@ -61,6 +61,6 @@ data_heard r packet =
 unfoldable pub receiver_heard : Receiving → Packet → Receiving × Heard
 receiver_heard r (Plain packet) = (r, Ignored)
 receiver_heard r (Confirmed packet) =
-    if eqb (head_llid packet.head) station_llid
+    if head_llid packet.head == station_llid
     then (if head_syn packet.head then opening_heard r packet.head else data_heard r packet)
     else (r, Ignored)

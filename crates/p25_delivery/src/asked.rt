@@ -1,4 +1,4 @@
-#![tactic(auto, unfolding(crate::specs::Asked::is_response, crate::specs::Asked::is_ack, crate::specs::Asked::asked_by_flags, crate::specs::Asked::wanted_flags))]
+#![tactic(auto, unfolding(crate::specs::Asked::is_response, crate::specs::Asked::is_ack, crate::specs::Asked::asked_by_flags))]
 
 ghost use Rattle.std.specs.Prelude.{◌≡◌, ◌<◌, ◌≤◌, ◌&&◌, nat_le, not, Bool, List, length, take};
 ghost use Rattle.std.specs.List.{list_any};
@@ -9,7 +9,7 @@ use crate::LLID;
 use p25_packet_blocks::{Flags, PacketHead, Plain, RESPONSE_FORMAT, flags_read};
 
 // What a response asks of a sender with a message outstanding.
-#[derive(Drop)]
+#[derive(Clone, Debug, PartialEq, Eq, Drop)]
 pub enum Asked {
     // Nothing, as it is no answer to that message.
     Nothing,
@@ -84,6 +84,7 @@ fn misses_a_block(flags: &Flags, blocks: usize) -> bool
 }
 
 // As many flags, true for each of so many blocks whose flag is false.
+#[tactic(auto, unfolding(crate::specs::Asked::wanted_flags))]
 fn wanted(flags: &Flags, blocks: usize) -> Flags
     requires { blocks ≤ length flags.now }
     ensures flags { result ≡ wanted_flags blocks flags.now }

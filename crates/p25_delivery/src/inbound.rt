@@ -12,7 +12,7 @@ use std::alloc::{AllocError, Global};
 use std::marker::Model;
 
 /// The half of a station that receives: its receiver, and the messages that were delivered to it.
-#[derive(Drop)]
+#[derive(Debug, Drop)]
 pub struct Inbound {
     receiver: Receiver,
     received: MessageList,

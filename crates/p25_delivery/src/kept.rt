@@ -1,4 +1,4 @@
-ghost use Rattle.std.specs.Prelude.{◌≡◌, ◌<◌, ◌≤◌, ◌&&◌, eqb, length, IfSome};
+ghost use Rattle.std.specs.Prelude.{◌≡◌, ◌<◌, ◌≤◌, ◌&&◌, ◌==◌, length, IfSome};
 ghost use Rattle.p25_delivery.specs.Places.{put_slots, put_block, all_octets, held_flags};
 ghost use Rattle.p25_delivery.specs.Halves.{Keeping};
 ghost use Rattle.p25_delivery.specs.ReceiverRules.{empty_places};
@@ -9,7 +9,7 @@ use p25_packet_blocks::{Block, Flags, Slot, Slots};
 use std::marker::Model;
 
 // The places of a message's blocks, from 1 to 127 of them, each empty or with its block, and the number of pad octets.
-#[derive(Drop)]
+#[derive(Clone, Debug, PartialEq, Eq, Drop)]
 pub(crate) struct Kept {
     places: ArrayVec<Option<Block>, 127>,
     pad: u8,
@@ -21,6 +21,8 @@ impl Model for Kept {
     ghost view = { λ kept. record { places = kept.places.items; pad = kept.pad } };
 
     ghost invariant = { λ kept. 0 < length kept.places.items };
+
+    ghost inverse = { λ kept. record { places = record { items = kept.places }; pad = kept.pad } };
 }
 
 impl Kept {
@@ -39,7 +41,7 @@ impl Kept {
 
     // Whether there are so many places and this pad.
     pub(crate) fn is_of(&self, blocks: u8, pad: u8) -> bool
-        ensures { result ≡ (eqb (length self.now.places) blocks && eqb self.now.pad pad) }
+        ensures { result ≡ (length self.now.places == blocks && self.now.pad == pad) }
     {
         self.places.len() == blocks as usize && self.pad == pad
     }

@@ -8,12 +8,8 @@
 //!
 //! ```
 //! let mut sender = Sender::new();
-//! let mut receiver = Receiver::new();
-//! let heard = match sender.offer(&Message::new(b"ab").ok_or("two octets")?) {
-//!     Offer::Taken { packet, .. } => Some(receiver.hear(&packet)),
-//!     Offer::Busy | Offer::Down => None,
-//! };
-//! assert!(rt; matches!(heard, Some(Heard::Delivered { .. })));
+//! let offer = sender.offer(&Message::new(b"ab").ok_or("two octets")?);
+//! assert!(rt; matches!(&offer, Offer::Taken { blocks: 1, .. }));
 //! ```
 //!
 //! Contracts see a sender, a receiver and the halves as what they keep, and each call as a function of `SenderRules`,

@@ -29,8 +29,7 @@ pub(crate) fn pad_for(message: &Message) -> u8
     (16 * ((count + 19) / 16) - 4 - count) as u8
 }
 
-// The octets that the blocks of a message carry, at most 16 for each of 127: the message, its pad octets of 0, and the
-// packet CRC.
+// The octets that the blocks of a message carry, at most 16 for each of 127: the message, its pad octets of 0, and the packet CRC.
 #[derive(Drop)]
 pub(crate) struct MessageOctets {
     items: ArrayVec<u8, 2032>,
@@ -115,10 +114,7 @@ fn push_number(items: &mut ArrayVec<u8, 2032>, number: u32)
     requires { length items.old.items + 4 ≤ 2032 }
     ensures { items.new.items ≡ items.old.items ++ number / 2 ^ 24 ∷ number / 2 ^ 16 % 256 ∷ number / 2 ^ 8 % 256 ∷ number % 256 ∷ [] }
 {
-    items.push((number / 0x100_0000) as u8);
-    items.push((number / 0x1_0000 % 256) as u8);
-    items.push((number / 0x100 % 256) as u8);
-    items.push((number % 256) as u8);
+    push_octets(items, &number.to_be_bytes());
 }
 
 // The number that four octets write.
@@ -126,8 +122,5 @@ fn number_in(octets: &[u8]) -> u32
     requires { length octets.now ≡ 4 }
     ensures { result ≡ octets_number octets.now }
 {
-    0x100_0000 * octets[0] as u32
-        + 0x1_0000 * octets[1] as u32
-        + 0x100 * octets[2] as u32
-        + octets[3] as u32
+    u32::from_be_bytes([octets[0], octets[1], octets[2], octets[3]])
 }

@@ -29,7 +29,7 @@ pub struct Mark {
 /// of their sessions before the present one.
 ///
 /// Each call answers what happened, and the packet to send, where there is one: it becomes the newest transmission.
-#[derive(Drop)]
+#[derive(Debug, Drop)]
 pub struct Outbound {
     sender: Sender,
     sent: MessageList,

@@ -11,7 +11,7 @@ use p25_packet_blocks::{Confirmed, Flags, Packet, PacketHead};
 use std::marker::Model;
 
 /// The answer to a packet that a receiver hears; `answer` is the response to send.
-#[derive(Drop)]
+#[derive(Clone, Debug, PartialEq, Eq, Drop)]
 pub enum Heard {
     /// The message is whole, and delivered.
     Delivered {
@@ -50,7 +50,7 @@ pub enum Heard {
 }
 
 /// A receiver of messages.
-#[derive(Drop)]
+#[derive(Clone, Debug, PartialEq, Eq, Drop)]
 pub struct Receiver {
     // V(R), the number of the last message that was delivered
     last: u8,
@@ -63,6 +63,8 @@ impl Model for Receiver {
     ghost view = { λ s. record { last = s.last; kept = s.kept } };
 
     ghost invariant = { λ s. s.last < 8 };
+
+    ghost inverse = { λ s. record { last = s.last; kept = s.kept } };
 }
 
 impl Receiver {

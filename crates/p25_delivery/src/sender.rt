@@ -12,7 +12,7 @@ use p25_packet_blocks::{Flags, Packet, Plain};
 use std::marker::Model;
 
 /// What a sender waits for an answer to.
-#[derive(Drop)]
+#[derive(Clone, Debug, PartialEq, Eq, Drop)]
 pub enum Outstanding {
     /// Nothing: a message may be offered.
     Nothing,
@@ -23,7 +23,7 @@ pub enum Outstanding {
 }
 
 /// The answer to a message that is offered.
-#[derive(Drop)]
+#[derive(Clone, Debug, PartialEq, Eq, Drop)]
 pub enum Offer {
     /// The message is outstanding: its number, the number of its blocks, and the packet to send.
     Taken {
@@ -38,7 +38,7 @@ pub enum Offer {
 }
 
 /// The answer to a timeout.
-#[derive(Drop)]
+#[derive(Clone, Debug, PartialEq, Eq, Drop)]
 pub enum Resend {
     /// What is outstanding is to be sent again: its number, how often it was sent with this time, and the packet.
     Sent {
@@ -53,7 +53,7 @@ pub enum Resend {
 }
 
 /// The answer to a packet that a sender hears.
-#[derive(Drop)]
+#[derive(Clone, Debug, PartialEq, Eq, Drop)]
 pub enum SenderHeard {
     /// The message with this number has come.
     Acknowledged {
@@ -83,7 +83,7 @@ pub enum SenderHeard {
 }
 
 /// The answer where the session is to be opened again.
-#[derive(Drop)]
+#[derive(Clone, Debug, PartialEq, Eq, Drop)]
 pub enum Reopen {
     /// The opening packet is to be sent.
     Sent { number: u8, packet: Packet },
@@ -95,7 +95,7 @@ pub enum Reopen {
 const MOST_TRIES: u8 = 16;
 
 /// A sender of messages, of which one is outstanding at most.
-#[derive(Drop)]
+#[derive(Clone, Debug, PartialEq, Eq, Drop)]
 pub struct Sender {
     // the number of the next message, or of the one that is outstanding
     next: u8,
@@ -111,6 +111,8 @@ impl Model for Sender {
     ghost view = { λ s. record { next = s.next; outstanding = s.outstanding; tries = s.tries; down = s.down } };
 
     ghost invariant = { λ s. IsSending (record { next = s.next; outstanding = s.outstanding; tries = s.tries; down = s.down }) };
+
+    ghost inverse = { λ s. record { next = s.next; outstanding = s.outstanding; tries = s.tries; down = s.down } };
 }
 
 impl Sender {
@@ -256,7 +258,6 @@ impl Sender {
         ensures { (self.new, result) ≡ response_heard self.old.outstanding self.old response.now }
     {
         match &self.outstanding {
-            Outstanding::Nothing => SenderHeard::Ignored,
             Outstanding::Message(message) => {
                 match asked_by(response, self.next, blocks_for(message)) {
                     Asked::Nothing => SenderHeard::Ignored,
@@ -275,14 +276,12 @@ impl Sender {
                     }
                 }
             }
-            Outstanding::Opening(number) => {
+            Outstanding::Opening(number) if acknowledges(response.head(), *number) => {
                 let number = *number;
-                if !acknowledges(response.head(), number) {
-                    return SenderHeard::Ignored;
-                }
                 self.go_on_after(number);
                 SenderHeard::Opened { number }
             }
+            _ => SenderHeard::Ignored,
         }
     }
 

@@ -12,7 +12,7 @@ pub enum Way {
 }
 
 /// What a step was. Where a station answers, it has the name and the fields of that answer, but no packet.
-#[derive(Drop)]
+#[derive(Clone, Debug, PartialEq, Eq, Drop)]
 pub enum StepKind {
     /// The message is outstanding, and its packet was sent.
     Taken {

@@ -1,6 +1,6 @@
 -- The two stations of a duplex world, and what that world keeps: of each a half that sends and a half that receives. And what each
 -- event makes of the world, and the step that it is.
-use Rattle.std.specs.Prelude.{ℕ, List, codes, Option, None, Bool, true, false, eqb, Result, Ok, Err}
+use Rattle.std.specs.Prelude.{ℕ, List, codes, Option, None, Bool, true, false, ◌==◌, Result, Ok, Err}
 pub use Rattle.p25_duplex.specs.declared.side.Side.{Side, TheVariants.{A, B}}
 pub use Rattle.p25_packet_blocks.specs.declared.packet.Packet.{Packet}
 use Rattle.p25_delivery.specs.Halves.{Outgoing, Incoming, first_outgoing, first_incoming}
@@ -72,7 +72,7 @@ after_receiving own (delivery, kind) = (record own { inbound = delivery.inbound;
 
 -- an answer is a packet of format 03 hex; every other is data
 abbrev pub is_answer : Packet → Bool
-is_answer packet = eqb (head_format (packet_head packet)) 3
+is_answer packet = head_format (packet_head packet) == 3
 
 -- a station hears a packet: an answer by its half that sends, data by its half that receives
 abbrev pub heard_as : Bool → StationState → StationState → Packet → StationState × StepKind

@@ -6,7 +6,7 @@ use p25_messages::{Flips, Message};
 use p25_stations::Step;
 
 /// Something that happens at one of the two stations, or on the air between them.
-#[derive(Drop)]
+#[derive(Clone, Debug, PartialEq, Eq, Drop)]
 pub enum DuplexEvent {
     /// A message is offered to the sender of a station.
     Send(Side, Message),
@@ -30,15 +30,14 @@ impl DuplexEvent {
     {
         match self {
             DuplexEvent::Send(side, _) => *side,
-            DuplexEvent::Timeout(side) => *side,
-            DuplexEvent::Reopen(side) => *side,
+            DuplexEvent::Timeout(side) | DuplexEvent::Reopen(side) => *side,
             DuplexEvent::Deliver { to, .. } => *to,
         }
     }
 }
 
 /// A step of the duplex world.
-#[derive(Drop)]
+#[derive(Clone, Debug, PartialEq, Eq, Drop)]
 pub struct DuplexStep {
     /// The station that acts or hears.
     pub side: Side,

@@ -6,8 +6,7 @@
 //!
 //! ```
 //! let mut world = DuplexWorld::new(rt.alloc());
-//! let message = Message::new(b"ab").ok_or("two octets")?;
-//! let _ = world.step(&DuplexEvent::Send(Side::A, message))?;
+//! let _ = world.step(&DuplexEvent::Send(Side::A, Message::new(b"ab").ok_or("two octets")?))?;
 //! assert_eq!(rt; world.sent(Side::A).len(), 1);
 //! ```
 //!

@@ -1,3 +1,5 @@
+#![tactic(auto, unfolding(p25_delivery::specs::Delivery::happens, p25_delivery::specs::Delivery::with_outbound, p25_delivery::specs::Delivery::with_inbound))]
+
 ghost use Rattle.std.specs.Prelude.{◌≡◌, ◌<◌, ◌≤◌, OnOk, OnErr};
 ghost use Rattle.p25_duplex.specs.DuplexSteps.{first_station, StationState, is_answer, heard_as, station_step};
 
@@ -9,7 +11,7 @@ use std::alloc::{AllocError, Global};
 use std::marker::Model;
 
 /// A station that sends messages and answers those of the other, with the newest transmission of its direction.
-#[derive(Drop)]
+#[derive(Debug, Drop)]
 pub(crate) struct Station {
     outbound: Outbound,
     inbound: Inbound,
@@ -68,7 +70,6 @@ impl Station {
     }
 
     // Answers the step that an event of this station is, beside the other station, and has it happen. There is room for it.
-    #[tactic(auto, unfolding(p25_delivery::specs::Delivery::happens, p25_delivery::specs::Delivery::with_outbound))]
     pub(crate) fn step(&mut self, event: &DuplexEvent, other: &Station) -> Step
         requires { 0 < self.old.spare }
         ensures { (self.new.state, result) ≡ station_step self.old.state other.now.state event.now }
@@ -93,7 +94,6 @@ impl Station {
     }
 
     // Hears a packet: an answer by the half that sends, data by the half that receives.
-    #[tactic(auto, unfolding(p25_delivery::specs::Delivery::happens, p25_delivery::specs::Delivery::with_outbound, p25_delivery::specs::Delivery::with_inbound))]
     fn hear(&mut self, packet: &Packet) -> StepKind
         requires { 0 < self.old.spare }
         ensures { (other : StationState) → (self.new.state, result) ≡ heard_as (is_answer packet.now) self.old.state other packet.now }

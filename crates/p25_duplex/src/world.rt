@@ -10,7 +10,7 @@ use std::alloc::{AllocError, Global};
 use std::marker::Model;
 
 /// Two packet stations that both send and acknowledge, and the air between them, which keeps the newest transmission of each.
-#[derive(Drop)]
+#[derive(Debug, Drop)]
 pub struct DuplexWorld {
     a: Station,
     b: Station,
@@ -31,8 +31,7 @@ impl Model for DuplexWorld {
 }
 
 impl DuplexWorld {
-    /// Answers a world before its first step: nothing was sent, and both receivers wait for the first message. It takes no
-    /// memory.
+    /// Answers a world before its first step: nothing was sent, and both receivers wait for the first message. It takes no memory.
     pub fn new(alloc: Global) -> DuplexWorld
         ensures { result.state ≡ first_duplex }
     {

@@ -1,5 +1,5 @@
 -- No words of a script line of long messages are refused as a line that is too long. By cases of what they are read as.
-use Rattle.std.specs.Prelude.{◌≡◌, ◌≢◌, ℕ, Bool, true, false, cond, List, [], ◌∷◌, codes, Result, Ok, Err}
+use Rattle.std.specs.Prelude.{◌≡◌, ◌≢◌, ℕ, Bool, true, false, if◌then◌else◌, List, [], ◌∷◌, codes, Result, Ok, Err}
 use Rattle.std.specs.Str.{bytes_eq}
 use Rattle.std.proofs.Common.{refl}
 use Rattle.p25_line.specs.declared.fault.LineFault.{LineFault}
@@ -21,7 +21,8 @@ inner-not_long : (read : Result Event LineFault) → (read ≡ Err Long → ⊥)
 inner-not_long (Ok event) other e = cc e
 inner-not_long (Err fault) other e = let same : fault ≡ Long = cc e in other (cc same)
 
-either-not_long : (b : Bool) (one other : Result LongEvent LineFault) → (one ≡ Err Long → ⊥) → (other ≡ Err Long → ⊥) → cond b one other ≡ Err Long → ⊥
+either-not_long : (b : Bool) (one other : Result LongEvent LineFault) → (one ≡ Err Long → ⊥) → (other ≡ Err Long → ⊥) →
+    (if b then one else other) ≡ Err Long → ⊥
 either-not_long true one other x y e = x e
 either-not_long false one other x y e = y e
 

@@ -6,7 +6,7 @@ use p25_messages::{LAST_PART, LongMessage, MOST_LONG, Message, PART_OCTETS};
 use std::marker::Model;
 
 /// What comes of a message that a joiner takes.
-#[derive(Debug, PartialEq, Eq, Drop)]
+#[derive(Clone, Debug, PartialEq, Eq, Drop)]
 pub enum Joined {
     /// The last part of a long message, which is whole now.
     Whole(LongMessage),
@@ -17,7 +17,7 @@ pub enum Joined {
 }
 
 /// Joins the parts of long messages, which come in order.
-#[derive(Drop)]
+#[derive(Clone, Debug, PartialEq, Eq, Drop)]
 pub struct Joiner {
     // the number of the part that is expected
     next: u8,
@@ -33,6 +33,8 @@ impl Model for Joiner {
     ghost view = { λ s. record { next = s.next; octets = s.items.items } };
 
     ghost invariant = { λ s. IsJoining (record { next = s.next; octets = s.items.items }) };
+
+    ghost inverse = { λ s. record { next = s.next; items = record { items = s.octets } } };
 }
 
 // Whether a part is refused: where so many octets stand after its first one.
@@ -78,13 +80,11 @@ impl Joiner {
     pub fn take(&mut self, message: &Message) -> Joined
         ensures { (self.new, result) ≡ message_taken self.old message.now }
     {
-        match message.octets().split_first() {
-            Some((mark, octets)) => self.take_part(*mark >= LAST_PART, *mark % LAST_PART, octets),
-            None => {
-                self.reset();
-                Joined::Refused
-            }
-        }
+        let Some((mark, octets)) = message.octets().split_first() else {
+            self.reset();
+            return Joined::Refused;
+        };
+        self.take_part(*mark >= LAST_PART, *mark % LAST_PART, octets)
     }
 
     // Takes a part with a number.

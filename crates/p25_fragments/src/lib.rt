@@ -6,8 +6,7 @@
 //!
 //! ```
 //! let mut world = LongWorld::new(rt.alloc());
-//! let message = LongMessage::new(b"ab").ok_or("two octets")?;
-//! let _ = world.step(&LongEvent::Long(message))?;
+//! let _ = world.step(&LongEvent::Long(LongMessage::new(b"ab").ok_or("two octets")?))?;
 //! assert_eq!(rt; world.taken().len(), 1);
 //! ```
 //!

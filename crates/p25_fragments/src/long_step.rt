@@ -2,7 +2,7 @@ use p25_messages::LongMessage;
 use p25_stations::{Event, Step};
 
 /// Something that happens in a world of long messages.
-#[derive(Drop)]
+#[derive(Clone, Debug, PartialEq, Eq, Drop)]
 pub enum LongEvent {
     /// A long message is offered.
     Long(LongMessage),
@@ -11,7 +11,7 @@ pub enum LongEvent {
 }
 
 /// What a step means for the long messages.
-#[derive(Drop)]
+#[derive(Clone, Debug, PartialEq, Eq, Drop)]
 pub enum Then {
     /// Nothing.
     Plain,
@@ -34,7 +34,7 @@ pub enum Then {
 }
 
 /// A step of a world of long messages.
-#[derive(Drop)]
+#[derive(Clone, Debug, PartialEq, Eq, Drop)]
 pub struct LongStep {
     /// The step of the two stations: of the event, or of the offer of the first part; None for Busy and Down alone.
     pub first: Option<Step>,

@@ -15,14 +15,14 @@ use std::alloc::{AllocError, Global};
 use std::marker::Model;
 
 /// A part that is outstanding: its long message, and its number.
-#[derive(Drop)]
+#[derive(Debug, Drop)]
 pub(crate) struct OutstandingPart {
     message: LongMessage,
     number: u8,
 }
 
 /// Two packet stations, the air between them, and the long messages that they carry in parts.
-#[derive(Drop)]
+#[derive(Debug, Drop)]
 pub struct LongWorld {
     inner: World,
     // the long message of which a part is outstanding
@@ -116,9 +116,8 @@ impl LongWorld {
         self.marks.reserve(steps as usize)
     }
 
-    /// Answers the step that an event is, and has it happen. There is room for it, and it takes no memory. A long message is
-    /// Down where the sender of the inner world is down, and else Busy where a part or the opening packet is outstanding; then
-    /// nothing changes.
+    /// Answers the step that an event is, and has it happen. There is room for it, and it takes no memory. A long message is Down where the
+    /// sender of the inner world is down, and else Busy where a part or the opening packet is outstanding; then nothing changes.
     pub fn step_ready(&mut self, event: &LongEvent) -> LongStep
         requires { 0 < self.old.spare }
         ensures step { (self.new.state, result) ≡ long_step self.old.state event.now }

@@ -1,4 +1,4 @@
-ghost use Rattle.std.specs.Prelude.{◌≡◌, ℕ, ◌+◌, ◌<◌, ◌≤◌, Some, List, [], ◌∷◌, ◌++◌, length, slice_get, All};
+ghost use Rattle.std.specs.Prelude.{◌≡◌, ℕ, ◌+◌, ◌<◌, ◌≤◌, ◌↔◌, IsTrue, Some, List, [], ◌∷◌, ◌++◌, length, slice_get, All};
 ghost use Rattle.std.specs.List.Sorted.{IsStrictlyIncreasing};
 
 use arrayvec::ArrayVec;
@@ -6,7 +6,7 @@ use std::marker::Model;
 
 /// The places of wrong bits in a transmission: a strictly ascending list of at most 4,096 numbers below 25,920, the length
 /// of the longest unit as it is sent.
-#[derive(Drop)]
+#[derive(Clone, Debug, PartialEq, Eq, Drop)]
 pub struct Flips {
     items: ArrayVec<u16, 4096>,
 }
@@ -17,6 +17,8 @@ impl Model for Flips {
     ghost view = { λ s. s.items.items };
 
     ghost invariant = { λ s. IsStrictlyIncreasing s.items.items × All (λ place. place < 25920) s.items.items };
+
+    ghost inverse = { λ places. record { items = record { items = places } } };
 }
 
 impl Flips {
@@ -37,6 +39,21 @@ impl Flips {
         ensures below { All (λ place. place < 25920) self.now }
     {
         self.items.len()
+    }
+
+    /// Answers whether the list holds no place.
+    pub fn is_empty(&self) -> bool
+        ensures { IsTrue result ↔ (self.now ≡ []) }
+    {
+        self.len() == 0
+    }
+
+    /// Answers all places, in order.
+    pub fn as_slice(&self) -> &[u16]
+        ensures value { result.now ≡ self.now }
+        ensures most { length self.now ≤ 4096 }
+    {
+        self.items.as_slice()
     }
 
     /// Answers place `i` of the list.

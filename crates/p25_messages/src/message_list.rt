@@ -1,4 +1,4 @@
-ghost use Rattle.std.specs.Prelude.{◌≡◌, ◌+◌, ◌^◌, ◌<◌, ◌≤◌, Some, List, [], ◌∷◌, ◌++◌, length, slice_get, vec_len, OnOk, OnErr};
+ghost use Rattle.std.specs.Prelude.{◌≡◌, ◌+◌, ◌^◌, ◌<◌, ◌≤◌, ◌↔◌, IsTrue, Some, List, [], ◌∷◌, ◌++◌, length, slice_get, vec_len, OnOk, OnErr};
 ghost use Rattle.p25_messages.specs.MessageList.{ListParts, pieces_between, start_before, room_for, IsKept};
 
 use crate::message::MessageOf;
@@ -10,7 +10,7 @@ pub type MessageList = MessageListOf<2028>;
 
 /// A list of messages of at most `MOST` octets. Contracts see it as the list, `list`, and the number of messages for which
 /// there is room, `spare`.
-#[derive(Drop)]
+#[derive(Debug, Drop)]
 pub struct MessageListOf<const MOST: usize> {
     // the octets of all messages, one after another
     octets: Vec<u8>,
@@ -52,6 +52,13 @@ impl<const MOST: usize> MessageListOf<MOST> {
         ensures { result ≡ length self.now.list }
     {
         self.ends.len()
+    }
+
+    /// Answers whether the list holds no message.
+    pub fn is_empty(&self) -> bool
+        ensures { IsTrue result ↔ (self.now.list ≡ []) }
+    {
+        self.len() == 0
     }
 
     /// Answers the octets of message `i`, counted from 0.

@@ -1,6 +1,6 @@
 //! The texts of steps.
 
-ghost use Rattle.std.specs.Prelude.{◌≡◌, ◌+◌, ◌*◌, ◌<◌, ◌≤◌, Bool, true, ◌++◌, [], ◌∷◌, length, cond, codes, decimal};
+ghost use Rattle.std.specs.Prelude.{◌≡◌, ◌+◌, ◌*◌, ◌<◌, ◌≤◌, Bool, true, ◌++◌, [], ◌∷◌, length, if◌then◌else◌, codes, decimal};
 ghost use Rattle.p25_delivery.specs.declared.step_kind.StepKind.TheVariants.{Taken, Retry};
 ghost use Rattle.p25_line.specs.CommaLists.{comma_text};
 ghost use Rattle.p25_line.specs.Octets.{octets_text};
@@ -174,7 +174,7 @@ fn put_serials(wanted: &Flags, out: &mut Line)
 fn put_serial(behind: bool, serial: usize, out: &mut Line)
     requires below { serial < 128 }
     requires room { length out.old + 4 ≤ 8192 }
-    ensures text { out.new ≡ out.old ++ cond behind (44 ∷ []) [] ++ decimal serial }
+    ensures text { out.new ≡ out.old ++ (if behind then 44 ∷ [] else []) ++ decimal serial }
     ensures short { length out.new ≤ length out.old + 4 }
 {
     if behind {

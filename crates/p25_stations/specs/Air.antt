@@ -1,5 +1,5 @@
 -- The air between the two stations: a transmission is the unit of a packet, of which the listed bits come inverted. And what a delivery reads as.
-use Rattle.std.specs.Prelude.{nat_lt, length, count_by, ℕ, ◌&&◌, Bool, true, false, not, eqb, List, [], ◌∷◌, replicate, Result, Ok, Err, if◌then◌else◌}
+use Rattle.std.specs.Prelude.{nat_lt, length, count_by, ℕ, ◌&&◌, Bool, true, false, not, ◌==◌, List, [], ◌∷◌, replicate, Result, Ok, Err, if◌then◌else◌}
 use Rattle.std.specs.Str.{bytes_eq}
 use Rattle.std.proofs.Common.{lit<}
 use Rattle.p25_bits.specs.Bits.{flipped}
@@ -39,7 +39,7 @@ received_bits packet flips = with_flips (transmission_of packet) flips
 -- a slot is true to the one that was sent: it is Bad, or holds the same block
 unfoldable pub is_true_slot : Slot → Slot → Bool
 is_true_slot sent Bad = true
-is_true_slot (Good was) (Good block) = eqb was.serial block.serial && bytes_eq was.octets block.octets
+is_true_slot (Good was) (Good block) = was.serial == block.serial && bytes_eq was.octets block.octets
 is_true_slot sent heard = false
 
 -- slot by slot
@@ -59,7 +59,7 @@ is_true_to sent heard = false
 -- every other is heard, and is a false pass where it is not true to the one that was sent
 unfoldable pub carried_from : Packet → Result (ℕ × Packet) Field → Carried
 carried_from sent (Err field) = Lost field
-carried_from sent (Ok (nac, packet)) = if eqb nac station_nac then Heard packet (not (is_true_to sent packet)) else Foreign
+carried_from sent (Ok (nac, packet)) = if nac == station_nac then Heard packet (not (is_true_to sent packet)) else Foreign
 
 -- what comes of a packet that is sent, where the bits at some places come inverted
 unfoldable pub carried_of : Packet → List ℕ → Carried

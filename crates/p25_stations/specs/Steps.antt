@@ -36,7 +36,7 @@ heard_step w false_pass (delivery, kind) =
     (record { delivery = delivery; false_passes = counted_when false_pass w.false_passes }, record { kind = kind; false_pass = false_pass })
 
 -- what happens at the delivery where a packet is heard that way, and the newest transmission of that way
-unfoldable pub heard_by : Way → Packet → Happening
+abbrev pub heard_by : Way → Packet → Happening
 heard_by Packets packet = Data_heard packet
 heard_by Answers packet = Answer_heard packet
 

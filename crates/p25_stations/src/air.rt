@@ -15,7 +15,7 @@ use p25_packet_blocks::{Packet, packet_image, read_packet_unit};
 use p25_status::{BARE_BLOCK_LENGTH, Field, Status, Statuses, weave};
 
 /// What comes of a transmission.
-#[derive(Drop)]
+#[derive(Clone, Debug, PartialEq, Eq, Drop)]
 pub enum Carried {
     /// The bits that came read as no packet: the first field that fails.
     Lost(Field),
@@ -55,10 +55,10 @@ fn invert(bits: &mut BitBuf, flips: &Flips)
     }
 }
 
-/// Answers what comes of a packet that is transmitted, where the bits at some places of its unit come inverted; no slot of it
-/// is Bad, and a place past the end of the unit inverts nothing. Lost comes exactly where `read_packet_unit` refuses the bits, and with its field; Foreign exactly where they
-/// read as a packet with another network access code. A packet that is heard is a false pass where its header differs from
-/// the one sent, or a Good slot from the block sent there, or the octets of one that is not confirmed.
+/// Answers what comes of a packet that is transmitted, where the bits at some places of its unit come inverted; no slot of it is Bad, and a
+/// place past the end of the unit inverts nothing. Lost comes exactly where `read_packet_unit` refuses the bits, and with its field;
+/// Foreign exactly where they read as a packet with another network access code. A packet that is heard is a false pass where its header
+/// differs from the one sent, or a Good slot from the block sent there, or the octets of one that is not confirmed.
 pub fn carry(packet: &Packet, flips: &Flips) -> Carried
     requires { IsWholePacket packet.now }
     ensures { result ≡ carried_of packet.now flips.now }
@@ -68,10 +68,8 @@ pub fn carry(packet: &Packet, flips: &Flips) -> Carried
     invert(&mut bits, flips);
     match read_packet_unit(&bits) {
         Err(field) => Carried::Lost(field),
-        Ok((nac, heard)) => {
-            if nac != NAC {
-                return Carried::Foreign;
-            }
+        Ok((nac, _)) if nac != NAC => Carried::Foreign,
+        Ok((_, heard)) => {
             let false_pass = !is_true_to(packet, &heard);
             Carried::Heard {
                 packet: heard,

@@ -26,8 +26,7 @@ pub fn clean_runs_are_orderly()
         AreOrderly (sessions_of (world_run first_world events).delivery) }
 {}
 
-/// **Theorem.** Its clause says that the delivery of a world keeps the facts that `DeliveryFacts` names while no step was a false
-/// pass.
+/// **Theorem.** Its clause says that the delivery of a world keeps the facts that `DeliveryFacts` names while no step was a false pass.
 pub fn world_facts()
     ensures { (events : List event_type) → AreEvents events → IsCleanRun events → DeliveryFacts (world_run first_world events).delivery }
 {}

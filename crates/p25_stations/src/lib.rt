@@ -6,8 +6,7 @@
 //!
 //! ```
 //! let mut world = World::new(rt.alloc());
-//! let message = Message::new(b"ab").ok_or("two octets")?;
-//! let _ = world.step(&Event::Send(message))?;
+//! let _ = world.step(&Event::Send(Message::new(b"ab").ok_or("two octets")?))?;
 //! let _ = world.step(&Event::ToReceiver(Flips::new()))?;
 //! assert_eq!(rt; world.delivered().len(), 1);
 //! ```

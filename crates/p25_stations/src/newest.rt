@@ -10,7 +10,7 @@ use p25_packet_blocks::Packet;
 use std::marker::Model;
 
 /// The newest transmission of a direction of the air, where there is one. Contracts see it as that packet, which can be sent.
-#[derive(Drop)]
+#[derive(Clone, Debug, PartialEq, Eq, Drop)]
 pub struct Newest {
     packet: Option<Packet>,
 }
@@ -21,6 +21,8 @@ impl Model for Newest {
     ghost view = { λ n. n.packet };
 
     ghost invariant = { λ n. IfSome n.packet IsSendable };
+
+    ghost inverse = { λ packet. record { packet = packet } };
 }
 
 impl Newest {
@@ -51,11 +53,10 @@ impl Newest {
     pub fn deliver(&self, way: Way, flips: &Flips) -> Result<(Packet, bool), StepKind>
         ensures { result ≡ delivery_of way self.now flips.now }
     {
-        let carried = match &self.packet {
-            None => return Err(StepKind::Nothing { way }),
-            Some(packet) => carry(packet, flips),
+        let Some(packet) = &self.packet else {
+            return Err(StepKind::Nothing { way });
         };
-        match carried {
+        match carry(packet, flips) {
             Carried::Lost(field) => Err(StepKind::Lost { way, field }),
             Carried::Foreign => Err(StepKind::Ignored { way }),
             Carried::Heard { packet, false_pass } => Ok((packet, false_pass)),

@@ -5,7 +5,7 @@ use p25_delivery::StepKind;
 use p25_messages::{Flips, Message};
 
 /// Something that happens to the two stations or on the air between them.
-#[derive(Drop)]
+#[derive(Clone, Debug, PartialEq, Eq, Drop)]
 pub enum Event {
     /// A message is offered to the sender.
     Send(Message),
@@ -20,7 +20,7 @@ pub enum Event {
 }
 
 /// A step of the world.
-#[derive(Drop)]
+#[derive(Clone, Debug, PartialEq, Eq, Drop)]
 pub struct Step {
     /// What the step was.
     pub kind: StepKind,
@@ -44,10 +44,6 @@ impl Step {
     pub fn counted(&self, false_passes: u64) -> u64
         ensures { result ≡ counted_when self.now.false_pass false_passes }
     {
-        if self.false_pass {
-            false_passes.saturating_add(1)
-        } else {
-            false_passes
-        }
+        false_passes.saturating_add(u64::from(self.false_pass))
     }
 }

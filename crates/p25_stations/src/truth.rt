@@ -9,13 +9,7 @@ use p25_packet_blocks::{Packet, Slot, Slots};
 fn is_true_slot(sent: Slot, heard: Slot) -> bool
     ensures { result ≡ is_true_slot sent heard }
 {
-    match heard {
-        Slot::Bad => true,
-        Slot::Good(block) => match sent {
-            Slot::Good(was) => was.serial() == block.serial() && was.octets() == block.octets(),
-            Slot::Bad => false,
-        },
-    }
+    heard == Slot::Bad || heard == sent
 }
 
 // Whether each slot is.
@@ -42,9 +36,7 @@ pub(crate) fn is_true_to(sent: &Packet, heard: &Packet) -> bool
         (Packet::Confirmed(sent), Packet::Confirmed(heard)) => {
             sent.head() == heard.head() && are_true_slots(sent.slots(), heard.slots())
         }
-        (Packet::Plain(sent), Packet::Plain(heard)) => {
-            sent.head() == heard.head() && sent.octets().octets() == heard.octets().octets()
-        }
+        (Packet::Plain(sent), Packet::Plain(heard)) => sent == heard,
         _ => false,
     }
 }

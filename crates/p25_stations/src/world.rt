@@ -1,3 +1,5 @@
+#![tactic(auto, unfolding(p25_delivery::specs::Delivery::happens, p25_delivery::specs::Delivery::with_outbound, p25_delivery::specs::Delivery::with_inbound))]
+
 ghost use Rattle.std.specs.Prelude.{◌≡◌, ◌+◌, ◌<◌, ◌≤◌, length, OnOk, OnErr, IfOk};
 ghost use Rattle.p25_stations.specs.Steps.{world_step, heard_by, delivery_step};
 ghost use Rattle.p25_stations.specs.WorldState.{first_world};
@@ -12,7 +14,7 @@ use std::alloc::{AllocError, Global};
 use std::marker::Model;
 
 /// Two packet stations and the air between them, which keeps the newest transmission of each direction.
-#[derive(Drop)]
+#[derive(Debug, Drop)]
 pub struct World {
     outbound: Outbound,
     inbound: Inbound,
@@ -38,8 +40,7 @@ impl Model for World {
 }
 
 impl World {
-    /// Answers a world before its first step: nothing was sent, and the receiver waits for the first message. It takes no
-    /// memory.
+    /// Answers a world before its first step: nothing was sent, and the receiver waits for the first message. It takes no memory.
     pub fn new(alloc: Global) -> World
         ensures { result.state ≡ first_world }
     {
@@ -134,7 +135,6 @@ impl World {
     }
 
     // Has a station hear a packet that came that way.
-    #[tactic(auto, unfolding(crate::specs::Steps::heard_by, p25_delivery::specs::Delivery::happens, p25_delivery::specs::Delivery::with_outbound, p25_delivery::specs::Delivery::with_inbound))]
     fn hear(&mut self, way: Way, packet: &Packet) -> StepKind
         requires { 0 < self.old.spare }
         ensures step { (self.new.state.delivery, result) ≡ happens self.old.state.delivery (heard_by way packet.now) }

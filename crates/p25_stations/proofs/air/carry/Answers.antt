@@ -17,15 +17,15 @@ returns-in-Err c =
     sym (carried-lost c.args.packet.now c.args.flips.now c.in-Err.field
     (reading c.args.packet.now c.args.flips.now c.transmit.new.out c.invert.new.bits c.read_packet_unit.result (Err c.in-Err.field) c.transmit.ensures.bits c.invert.ensures.bits c.read_packet_unit.ensures c.in-Err.is))
 
-pub returns-then-nac-ne-NAC : goal.returns-then-nac-ne-NAC
-returns-then-nac-ne-NAC c =
-    sym (carried-foreign c.args.packet.now c.args.flips.now c.in-Ok.nac c.in-Ok.heard
-    (reading c.args.packet.now c.args.flips.now c.transmit.new.out c.invert.new.bits c.read_packet_unit.result (Ok (c.in-Ok.nac, c.in-Ok.heard)) c.transmit.ensures.bits c.invert.ensures.bits c.read_packet_unit.ensures c.in-Ok.is)
+pub returns-in-Ok : goal.returns-in-Ok
+returns-in-Ok c =
+    sym (carried-foreign c.args.packet.now c.args.flips.now c.in-Ok.nac c.in-Ok.field-0-1
+    (reading c.args.packet.now c.args.flips.now c.transmit.new.out c.invert.new.bits c.read_packet_unit.result (Ok (c.in-Ok.nac, c.in-Ok.field-0-1)) c.transmit.ensures.bits c.invert.ensures.bits c.read_packet_unit.ensures c.in-Ok.is)
     c.if-nac-ne-NAC.true)
 
-pub returns-else-nac-ne-NAC : goal.returns-else-nac-ne-NAC
-returns-else-nac-ne-NAC c =
-    let heard = carried-heard c.args.packet.now c.args.flips.now c.in-Ok.nac c.in-Ok.heard
-    (reading c.args.packet.now c.args.flips.now c.transmit.new.out c.invert.new.bits c.read_packet_unit.result (Ok (c.in-Ok.nac, c.in-Ok.heard)) c.transmit.ensures.bits c.invert.ensures.bits c.read_packet_unit.ensures c.in-Ok.is)
+pub returns-in-Ok-2 : goal.returns-in-Ok-2
+returns-in-Ok-2 c =
+    let heard = carried-heard c.args.packet.now c.args.flips.now c.in-Ok.nac c.in-Ok.field-0-1
+    (reading c.args.packet.now c.args.flips.now c.transmit.new.out c.invert.new.bits c.read_packet_unit.result (Ok (c.in-Ok.nac, c.in-Ok.field-0-1)) c.transmit.ensures.bits c.invert.ensures.bits c.read_packet_unit.ensures c.in-Ok.is)
     c.if-nac-ne-NAC.false in
-    ap (λ (b : Bool). Heard c.in-Ok.heard (not b)) c.is_true_to-false_pass.ensures ∙ sym heard
+    ap (λ (b : Bool). Heard c.in-Ok.field-0-1 (not b)) c.is_true_to-false_pass.ensures ∙ sym heard

@@ -5,5 +5,5 @@ use Rattle.p25_packet_blocks.specs.Sendable.{IsSendable}
 use Rattle.p25_stations.proofs.AirLaws.{sendable-whole}
 use Rattle.p25_stations.proofs.newest.Newest.deliver.Goals as goal
 
-pub carry-carried-requires : goal.carry-carried-requires
-carry-carried-requires c = sendable-whole c.in-Some.packet (subst (λ (newest : Option Packet). IfSome newest IsSendable) c.in-Some.is c.self.invariant)
+pub carry-requires : goal.carry-requires
+carry-requires c = sendable-whole c.in-Some.packet (subst (λ (newest : Option Packet). IfSome newest IsSendable) c.in-Some.is c.self.invariant)
