@@ -1,5 +1,5 @@
 -- What a joiner keeps, and what it makes of the messages that it is handed.
-use Rattle.std.specs.Prelude.{◌≡◌, ℕ, ◌+◌, ◌*◌, ◌%◌, ◌<◌, Bool, true, false, not, ◌&&◌, ◌||◌, nat_eq, nat_lt, nat_le, List, [], ◌∷◌, ◌++◌, length, if◌then◌else◌}
+use Rattle.std.specs.Prelude.{◌≡◌, ℕ, ◌+◌, ◌*◌, ◌%◌, ◌<◌, ◌==◌, Bool, true, false, not, ◌&&◌, ◌||◌, nat_lt, nat_le, List, [], ◌∷◌, ◌++◌, length, if◌then◌else◌}
 pub use Rattle.p25_fragments.specs.declared.joiner.Joined.{Joined, TheVariants.{Whole, Part, Refused}}
 
 -- the number of the part that is expected, and the octets of the parts before it, joined
@@ -20,7 +20,7 @@ pub record IsJoining (j : Joining) : Type 0 where
 -- none where it is not the only one; another with other than 500 octets, or with the number 7
 abbrev pub is_refused : ℕ → Bool → ℕ → ℕ → Bool
 is_refused next last number count =
-    not (nat_eq number next) || (if last then nat_lt 500 count || (nat_lt 0 number && nat_eq count 0) else not (nat_eq count 500) || nat_eq number 7)
+    not (number == next) || (if last then nat_lt 500 count || (nat_lt 0 number && (count == 0)) else not (count == 500) || (number == 7))
 
 -- after a part, by whether it is refused and whether it is the last
 unfoldable pub taken_as : Bool → Bool → Joining → ℕ → List ℕ → Joining × Joined
