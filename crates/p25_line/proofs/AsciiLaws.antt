@@ -1,5 +1,5 @@
 -- Texts whose octets are all below 128: numbers, digits, lists with commas, and words that are joined. By tests of octets, which compute.
-use Rattle.std.proofs.Common.{◌≡◌, ℕ, zero, suc, ◌/◌, ◌%◌, ◌<◌, ◌==◌, ◌&&◌, Bool, true, false, cond, List, [], ◌∷◌, ◌++◌, drop, map, slice_index, refl, ap₂, ◌∙◌, arith}
+use Rattle.std.proofs.Common.{◌≡◌, ℕ, zero, suc, ◌/◌, ◌%◌, ◌<◌, ◌==◌, ◌&&◌, Bool, true, false, cond, List, [], ◌∷◌, ◌++◌, length, drop, map, slice_index, refl, ap₂, ◌∙◌, arith}
 use Rattle.std.specs.Prelude.{IsAscii, decimal, nat_lt}
 use Rattle.std.specs.Fmt.{digit_glyph, digits, digits_onto}
 use Rattle.std.specs.List.{join_with_byte, list_all}
@@ -10,6 +10,8 @@ use Rattle.hex.specs.Hex.{encode_lower, encode_with, lower_digits}
 use Rattle.p25_line.specs.CommaLists.{comma_text, list_text}
 use Rattle.p25_line.specs.Octets.{octets_text}
 use Rattle.p25_line.specs.Values.{three_digits}
+use Rattle.p25_line.specs.Words.{is_printed, is_word}
+use Rattle.p25_line.proofs.WordsLaws.{all-also}
 
 -- each octet is below 128
 abbrev pub is_ascii : List ℕ → Bool
@@ -30,6 +32,24 @@ pub ascii-drop : (count : ℕ) (text : List ℕ) → is_ascii text ≡ true → 
 ascii-drop zero text all = all
 ascii-drop (suc count) [] all = refl
 ascii-drop (suc count) (octet ∷ text) all = ascii-drop count text (and_parts (nat_lt octet 128) (is_ascii text) all).1
+
+-- texts after a first one, each after those before
+abbrev joined : List ℕ → List (List ℕ) → List ℕ
+joined text [] = text
+joined text (part ∷ parts) = joined (text ++ part) parts
+
+pub ascii-joined : (text : List ℕ) (parts : List (List ℕ)) → is_ascii text ≡ true → list_all is_ascii parts ≡ true → is_ascii (joined text parts) ≡ true
+ascii-joined text [] first all = first
+ascii-joined text (part ∷ parts) first all =
+    let each = and_parts (is_ascii part) (list_all is_ascii parts) all in
+    ascii-joined (text ++ part) parts (ascii-append text part first each.0) each.1
+
+-- a word
+pub ascii-word : (word : List ℕ) → is_word word ≡ true → is_ascii word ≡ true
+ascii-word word is = all-also is_printed (λ octet. nat_lt octet 128) printed-ascii word (and_parts (nat_lt 0 (length word)) (list_all is_printed word) is).1
+  where
+    printed-ascii : (octet : ℕ) → is_printed octet ≡ true → nat_lt octet 128 ≡ true
+    printed-ascii octet printed = grind arith
 
 -- a number in decimal
 ascii-glyph : (digit : ℕ) → digit < 10 → nat_lt (digit_glyph false digit) 128 ≡ true

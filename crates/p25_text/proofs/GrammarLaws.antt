@@ -49,7 +49,7 @@ pub word-kind_named : (word : List ℕ) (kind : UnitKind) → kind_named word �
 word-kind_named word kind found = named-word kind_word kinds word kind found
 
 -- the word of a kind is a word of at most nine octets
-kind-word : (kind : UnitKind) → is_word (kind_word kind) ≡ true
+pub kind-word : (kind : UnitKind) → is_word (kind_word kind) ≡ true
 kind-word Hdu = refl
 kind-word Ldu1 = refl
 kind-word Ldu2 = refl

@@ -81,7 +81,7 @@ word-more (octet ∷ word) value some printed =
     ap₂ ◌&&◌ (lt-ltb 0 (suc (length (word ++ value))) long) (list_all-append is_printed (octet ∷ word) value ∙ ap₂ ◌&&◌ parts.1 printed)
 
 -- each key is a word of at most seven octets
-key-word : (key : UnitKey) → is_word (key_text key) ≡ true
+pub key-word : (key : UnitKey) → is_word (key_text key) ≡ true
 key-word Nac = refl
 key-word Mi = refl
 key-word Mfid = refl
