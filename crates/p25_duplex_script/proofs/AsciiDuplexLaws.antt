@@ -1,5 +1,5 @@
 -- The texts of steps of both stations, and of the end of a run for a side, have octets below 128 alone. By the texts that they are made of.
-use Rattle.std.proofs.Common.{◌≡◌, ℕ, ◌+◌, ◌&&◌, true, List, [], ◌∷◌, length, refl, ap₂}
+use Rattle.std.proofs.Common.{◌≡◌, ◌+◌, ◌&&◌, true, [], ◌∷◌, length, refl, ap₂}
 use Rattle.std.specs.Prelude.{codes, decimal}
 use Rattle.p25_line.proofs.AsciiLaws.{ascii-decimal, ascii-joined, is_ascii}
 use Rattle.p25_script.specs.StepTexts.{sessions_text, step_text_of}

@@ -1,7 +1,6 @@
 -- The texts of steps, and of the end of a run, have octets below 128 alone. By the texts that they are made of.
 use Rattle.std.proofs.Common.{◌≡◌, ℕ, ◌+◌, ◌/◌, ◌&&◌, Bool, true, false, cond, List, [], ◌∷◌, ◌++◌, length, refl, ap₂}
 use Rattle.std.specs.Prelude.{codes, decimal, nat_lt}
-use Rattle.hex.specs.Hex.{encode_lower}
 use Rattle.p25_bits.specs.Numbers.{octets_from}
 use Rattle.p25_line.specs.CommaLists.{comma_text}
 use Rattle.p25_line.specs.Octets.{octets_text}

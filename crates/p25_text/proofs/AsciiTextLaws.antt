@@ -1,12 +1,10 @@
 -- The texts of units, items and calls have octets below 128 alone. By the texts that they are made of.
-use Rattle.std.proofs.Common.{◌≡◌, ℕ, suc, ◌+◌, ◌<◌, ◌&&◌, Bool, true, false, List, [], ◌∷◌, Option, Some, None, refl, ap₂, arith}
-use Rattle.std.specs.Prelude.{codes, decimal, nat_lt}
+use Rattle.std.proofs.Common.{◌≡◌, ℕ, ◌+◌, ◌<◌, ◌&&◌, Bool, true, false, List, [], ◌∷◌, Option, Some, None, refl, ap₂, arith}
+use Rattle.std.specs.Prelude.{codes, decimal}
 use Rattle.std.specs.List.{list_all}
 use Rattle.std.proofs.lemmas.Bool.{and_parts, lt-ltb}
 use Rattle.hex.specs.Hex.{encode_lower}
 use Rattle.p25_line.specs.Values.{three_digits}
-use Rattle.p25_line.specs.Octets.{octets_text}
-use Rattle.p25_line.specs.CommaLists.{list_text}
 use Rattle.p25_line.proofs.AsciiLaws.{ascii-append, ascii-comma_text, ascii-decimal, ascii-drop, ascii-encode_lower, ascii-join, ascii-joined, ascii-list_text, ascii-map, ascii-octets_text, ascii-three_digits, ascii-word, is_ascii}
 use Rattle.p25_status.specs.Status.{status_number}
 use Rattle.p25_status.specs.declared.fields.Field.{Field}

@@ -9,7 +9,8 @@ use Rattle.p25_text.specs.declared.names.UnitKind.{UnitKind}
 kind-not_long : (kind : UnitKind) (words : List (List ℕ)) → read_kind kind words ≡ Err Long → ⊥
 kind-not_long kind words e =
     let found = values_behind (keys_of kind) words in
-    found-not_long (read_values kind) (λ values. or-not_long (unit_in kind values) Value (λ same. cc same)) (ok_or found Key) (or-not_long found Key (λ same. cc same)) e
+    let by_value = λ (values : List (List ℕ)). or-not_long (unit_in kind values) Value (λ same. cc same) in
+    found-not_long (read_values kind) by_value (ok_or found Key) (or-not_long found Key (λ same. cc same)) e
 
 pub unit_words_not_long : (words : List (List ℕ)) → read_words words ≢ Err Long
 unit_words_not_long [] e = cc e

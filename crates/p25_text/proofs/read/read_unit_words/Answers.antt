@@ -32,14 +32,16 @@ returns-in-Some-read_values c =
     let kind = c.in-Some.kind in
     let keys : c.keys-keys.result.now ≡ keys_of kind = c.keys-keys.ensures.keys in
     sym (right_kind c.args.words.now c.first.result.now kind c.first.ensures (sym c.in-Some.ensures)
-    ∙ ap (λ values. found_read (read_values kind) (ok_or values Key)) (ap (λ k. values_behind k (drop 1 c.args.words.now)) (sym keys) ∙ sym c.in-Some-values_of_words.ensures) ∙ ap (λ found. ok_or found Value) (sym c.in-Some-read_values.ensures))
+    ∙ ap (λ values. found_read (read_values kind) (ok_or values Key)) (ap (λ k. values_behind k (drop 1 c.args.words.now)) (sym keys) ∙ sym c.in-Some-values_of_words.ensures)
+    ∙ ap (λ found. ok_or found Value) (sym c.in-Some-read_values.ensures))
 
 pub returns-in-None : goal.returns-in-None
 returns-in-None c =
     let kind = c.in-Some.kind in
     let keys : c.keys-keys.result.now ≡ keys_of kind = c.keys-keys.ensures.keys in
     sym (right_kind c.args.words.now c.first.result.now kind c.first.ensures (sym c.in-Some.ensures)
-    ∙ ap (λ values. found_read (read_values kind) (ok_or values Key)) (ap (λ k. values_behind k (drop 1 c.args.words.now)) (sym keys) ∙ sym c.in-Some-values_of_words.ensures) ∙ ap (λ found. ok_or found Value) (sym c.in-None.ensures))
+    ∙ ap (λ values. found_read (read_values kind) (ok_or values Key)) (ap (λ k. values_behind k (drop 1 c.args.words.now)) (sym keys) ∙ sym c.in-Some-values_of_words.ensures)
+    ∙ ap (λ found. ok_or found Value) (sym c.in-None.ensures))
 
 pub read_values-requires : goal.read_values-requires
 read_values-requires c =
