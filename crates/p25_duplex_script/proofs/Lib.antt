@@ -1,2 +1,3 @@
 pub mod DuplexReadSteps
 pub mod DuplexLineLaws
+pub mod AsciiDuplexLaws

@@ -16,6 +16,7 @@
 //! `DuplexStepText` is a step whose `{}` writes its text, and `DuplexEventLine` an event that `parse` reads as `read_duplex_event` does.
 #![tactic(auto)]
 
+pub mod laws;
 mod read;
 mod shown;
 mod texts;

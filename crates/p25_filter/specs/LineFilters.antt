@@ -1,5 +1,5 @@
 -- The work on lines: what it still writes, for any octets that may still come.
-use Rattle.std.specs.Prelude.{◌≡◌, ℕ, ◌+◌, Bool, true, false, ◌||◌, if◌then◌else◌, List, [], ◌∷◌, ◌++◌, Result, Ok, Err}
+use Rattle.std.specs.Prelude.{◌≡◌, ℕ, ◌+◌, ◌*◌, Bool, true, false, ◌||◌, if◌then◌else◌, List, [], ◌∷◌, ◌++◌, Result, Ok, Err}
 use Rattle.p25_line.specs.declared.fault.LineFault.{LineFault}
 use Rattle.p25_filter.specs.declared.ending.Ending.TheVariants.{BadLine}
 use Rattle.p25_filter.specs.declared.ending.Refusal.{Refusal}
@@ -29,19 +29,9 @@ first_line machine = line_filtering machine [] 0 [] Reading
 
 -- how many lines are there to be taken
 abbrev pub lines_ready : LinePhase → ℕ
-lines_ready Reading = 0
 lines_ready Ready = 1
 lines_ready ReadyLast = 1
-lines_ready Closing = 0
-lines_ready Closed = 0
-
--- how many pieces may still come, beside a second one that is there
-abbrev pub pieces_of : LinePhase → ℕ
-pieces_of Reading = 0
-pieces_of Ready = 2
-pieces_of ReadyLast = 3
-pieces_of Closing = 1
-pieces_of Closed = 0
+lines_ready other = 0
 
 -- no more octets come
 abbrev pub is_ended_phase : LinePhase → Bool
@@ -69,6 +59,11 @@ closes_with Ready ended = ended
 closes_with ReadyLast ended = true
 closes_with Closing ended = true
 closes_with Closed ended = false
+
+-- how many pieces may still come, beside a second one that is there: two of each line that is there, and one where what is written
+-- at the end is still to be written
+abbrev pub pieces_of : LinePhase → ℕ
+pieces_of phase = 2 * lines_ready phase + (if closes_with phase false then 1 else 0)
 
 -- what is still written, how the call ends, and after which texts memory may be wanting
 unfoldable pub line_future : {M : Type 0} → LineRules M → LineFiltering M → Future

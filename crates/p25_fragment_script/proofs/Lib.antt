@@ -1,2 +1,3 @@
 pub mod LongReadSteps
 pub mod LongScriptLaws
+pub mod AsciiLongLaws

@@ -19,6 +19,7 @@
 #![tactic(auto)]
 
 mod closing;
+pub mod laws;
 mod read;
 mod shown;
 mod steps;

@@ -1,6 +1,6 @@
 //! Events of long messages read from lines.
 
-ghost use Rattle.std.specs.Prelude.{◌≡◌, ◌↔◌, ◌<◌, ◌≤◌, IfOk, Err, length, drop, slice_get};
+ghost use Rattle.std.specs.Prelude.{◌≡◌, ◌↔◌, ◌<◌, ◌≤◌, ◌==◌, IfOk, Err, length, drop, slice_get};
 ghost use Rattle.p25_line.specs.declared.fault.LineFault.TheVariants.{Long};
 ghost use Rattle.std.specs.Str.{bytes_eq};
 ghost use Rattle.p25_fragments.specs.declared.long_step.LongEvent.{LongEvent as event_type};
@@ -51,13 +51,20 @@ fn read_long_words(words: &LineWords) -> Result<LongEvent, LineFault>
     if !is_same(first, b"long") {
         return read_other(first, words);
     }
-    if words.count() != 2 {
+    if !has_two(words) {
         return Err(LineFault::Key);
     }
     match message_value(words.get(1)) {
         Some(message) => Ok(LongEvent::Long(message)),
         None => Err(LineFault::Value),
     }
+}
+
+// Whether a line has two words.
+fn has_two(words: &LineWords) -> bool
+    ensures { result ≡ (length words.now == 2) }
+{
+    words.count() == 2
 }
 
 // Whether two words are the same.

@@ -1,12 +1,13 @@
 -- Splitting undoes joining: parts that lack the octet between them are read back from their join, and a line of words is the join of its words.
-use Rattle.std.proofs.Common.{◌≡◌, ℕ, ◌<◌, ◌≤◌, ◌==◌, Bool, true, false, List, [], ◌∷◌, length, take, Some, Result, Ok, Err, inl, inr, refl, sym, ap, ◌∙◌, arith}
-use Rattle.std.specs.Prelude.{nat_lt}
+use Rattle.std.proofs.Common.{◌≡◌, ℕ, ◌<◌, ◌≤◌, ◌==◌, Bool, true, false, List, [], ◌∷◌, length, take, Option, Some, Result, Ok, Err, inl, inr, refl, sym, ap, ◌∙◌, arith}
+use Rattle.std.specs.Prelude.{nat_lt, ok_or}
 use Rattle.std.specs.List.{slice_split, join_with_byte, list_all, All}
 use Rattle.std.proofs.lemmas.Bool.{and_parts, cases_Bool, cases_lt, eq-eqb}
 use Rattle.std.proofs.lemmas.List.Splits.{slice_split_none, slice_split_at, length-slice_split, join_with_byte-slice_split}
-use Rattle.p25_line.specs.Words.{is_printed, is_word, parts_of, words_in, words_or_fault, or_form, LiesIn, marked, WordsFound, WordsAnswer}
+use Rattle.p25_line.specs.Words.{is_printed, is_word, parts_of, words_in, words_or_fault, LiesIn, marked, WordsFound, WordsAnswer}
 use Rattle.p25_line.specs.Marks.{Marks}
 use Rattle.p25_line.specs.declared.fault.LineFault.{LineFault}
+use Rattle.p25_line.specs.declared.fault.LineFault.TheVariants.{Form}
 use Rattle.p25_line.proofs.WordsLaws.{printed-spaces, words_in-words, words_in-none, words_or_fault-long, words_or_fault-words}
 
 -- an octet does not stand among others
@@ -35,7 +36,7 @@ pub words_or_fault-join : (words : List (List ℕ)) → 0 < length words → lis
 words_or_fault-join words some all short =
     let line = join_with_byte 32 words in
     let parts : parts_of line ≡ words = split-join 32 is_word word-spaces words some all in
-    words_or_fault-words line short ∙ ap or_form (words_in-words line (ap (list_all is_word) parts ∙ all) ∙ ap Some parts)
+    words_or_fault-words line short ∙ ap (λ (words : Option (List (List ℕ))). ok_or words Form) (words_in-words line (ap (list_all is_word) parts ∙ all) ∙ ap Some parts)
 
 -- what an accepted line is
 pub record Accepted (line : List ℕ) (words : List (List ℕ)) : Type 0 where
@@ -45,11 +46,11 @@ pub record Accepted (line : List ℕ) (words : List (List ℕ)) : Type 0 where
   pub join : join_with_byte 32 words ≡ line
   pub parts : parts_of line ≡ words
 
-accepted-words : (line : List ℕ) (words : List (List ℕ)) → length line ≤ 8192 → or_form (words_in line) ≡ Ok words → Accepted line words
+accepted-words : (line : List ℕ) (words : List (List ℕ)) → length line ≤ 8192 → ok_or (words_in line) Form ≡ Ok words → Accepted line words
 accepted-words line words short found =
     elim (cases_Bool (list_all is_word (parts_of line))) [
       | inl all ↦
-          let same : parts_of line ≡ words = let known = ap or_form (words_in-words line all) in cc in
+          let same : parts_of line ≡ words = let known = ap (λ (words : Option (List (List ℕ))). ok_or words Form) (words_in-words line all) in cc in
           record {
             short = short;
             all = ap (list_all is_word) (sym same) ∙ all;
@@ -57,7 +58,7 @@ accepted-words line words short found =
             join = ap (join_with_byte 32) (sym same) ∙ join_with_byte-slice_split 32 line;
             parts = same;
           }
-      | inr other ↦ let known = ap or_form (words_in-none line other) in cc
+      | inr other ↦ let known = ap (λ (words : Option (List (List ℕ))). ok_or words Form) (words_in-none line other) in cc
     ]
 
 pub Accepted-words : (line : List ℕ) (words : List (List ℕ)) → words_or_fault line ≡ Ok words → Accepted line words

@@ -12,3 +12,4 @@ pub mod CommaPartLaws
 pub mod CommaListLaws
 pub mod CommaReadLaws
 pub mod CommaWriteLaws
+pub mod AsciiLaws

@@ -1,6 +1,6 @@
 -- Reading a line by its words and writing it undo each other, where they do for words. For all that lines tell of.
 use Rattle.std.proofs.Common.{◌≡◌, ℕ, ◌<◌, ◌≤◌, true, List, length, Option, Some, None, Result, Ok, Err, refl, ap, ◌∙◌, sym}
-use Rattle.std.specs.Prelude.{IfOk}
+use Rattle.std.specs.Prelude.{IfOk, ok_or}
 use Rattle.std.specs.List.{join_with_byte, list_all}
 use Rattle.p25_line.specs.LineReadings.{found_read, keyed_or_fault, line_read, named_or_fault, value_or_fault}
 use Rattle.p25_line.specs.Words.{is_word, words_or_fault}
@@ -22,6 +22,15 @@ value-not_long make None e = cc e
 pub keyed-not_long : {K V X : Type 0} (make : K → V → X) (key : Option K) (value : Option V) → keyed_or_fault make key value ≡ Err Long → ⊥
 keyed-not_long make (Some key) value e = value-not_long (make key) value e
 keyed-not_long make None value e = cc e
+
+pub or-not_long : {X : Type 0} (found : Option X) (fault : LineFault) → (fault ≡ Long → ⊥) → ok_or found fault ≡ Err Long → ⊥
+or-not_long None fault other e = let same : fault ≡ Long = cc e in other same
+or-not_long (Some value) fault other e = cc e
+
+pub found-not_long : {X : Type 0} (read : List (List ℕ) → Result X LineFault) → ((words : List (List ℕ)) → read words ≡ Err Long → ⊥) → (found : Result (List (List ℕ)) LineFault)
+    → (found ≡ Err Long → ⊥) → found_read read found ≡ Err Long → ⊥
+found-not_long read never (Ok words) other e = never words e
+found-not_long read never (Err fault) other e = let same : fault ≡ Long = cc e in other (ap Err same)
 
 pub named-not_long : {K X : Type 0} (read : K → List (List ℕ) → Result X LineFault) (others : List (List ℕ)) → ((kind : K) → read kind others ≡ Err Long → ⊥) → (kind : Option K)
     → named_or_fault read kind others ≡ Err Long → ⊥

@@ -1,12 +1,12 @@
 -- What is kept of the words of a line: the places of the first 16, and how many there are.
 use Rattle.std.proofs.Common.{◌≡◌, ℕ, zero, suc, ◌<◌, ◌≤◌, List, [], ◌∷◌, length, take, drop, slice_get, Option, Some, None, Result, Ok, Err, inl, inr, refl, sym, ap, ap₂, ◌∙◌, arith, length-take, length-drop}
-use Rattle.std.specs.Prelude.{◌↔◌}
+use Rattle.std.specs.Prelude.{◌↔◌, ok_or}
 use Rattle.std.proofs.lemmas.Bool.{cases_lt}
 use Rattle.std.proofs.lemmas.List.{length-map}
 use Rattle.p25_line.specs.Marks.{Marks}
-use Rattle.p25_line.specs.Words.{AreWordsOf, marked, or_form, parts_of, word_at, words_in, words_or_fault, WordsAnswer, WordsFound}
+use Rattle.p25_line.specs.Words.{AreWordsOf, marked, parts_of, word_at, words_in, words_or_fault, WordsAnswer, WordsFound}
 use Rattle.p25_line.specs.declared.fault.LineFault.{LineFault}
-use Rattle.p25_line.specs.declared.fault.LineFault.TheVariants.{Long}
+use Rattle.p25_line.specs.declared.fault.LineFault.TheVariants.{Form, Long}
 use Rattle.p25_line.specs.declared.word_list.Place.{Place}
 use Rattle.p25_line.proofs.JoinLaws.{Accepted-words, Known, Known-words}
 use Rattle.p25_line.proofs.WordsLaws.{words_or_fault-long, words_or_fault-words}
@@ -35,7 +35,7 @@ pub refused-answer : (line : List ℕ) (list : Marks) (fault : LineFault) → Wo
 refused-answer line list fault answer = refused line list fault (words_or_fault line) refl answer
 
 -- too long is a line of more than 8,192 octets, and no other
-form-long : (words : Option (List (List ℕ))) → or_form words ≡ Err Long → ⊥
+form-long : (words : Option (List (List ℕ))) → ok_or words Form ≡ Err Long → ⊥
 form-long (Some words) same = cc same
 form-long None same = cc same
 

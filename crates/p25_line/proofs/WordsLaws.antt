@@ -1,6 +1,6 @@
 -- Laws of the words of a line. Splitting is followed octet by octet: a line has allowed octets alone where each of its parts is printed.
 use Rattle.std.proofs.Common.{◌≡◌, ℕ, ◌<◌, ◌≤◌, ◌==◌, ◌&&◌, ◌||◌, Bool, true, false, cond, List, [], ◌∷◌, length, Some, None, Err, inl, inr, refl, sym, ap, ap₂, ◌∙◌, arith}
-use Rattle.std.specs.Prelude.{nat_lt}
+use Rattle.std.specs.Prelude.{nat_lt, ok_or}
 use Rattle.std.specs.List.{find, onto_first, list_all, All}
 use Rattle.std.specs.Str.{bytes_eq}
 use Rattle.std.proofs.Math.Bool.{and_assoc}
@@ -9,8 +9,8 @@ use Rattle.std.proofs.lemmas.List.Elements.{All-nil, All-cons}
 use Rattle.std.proofs.lemmas.List.Splits.{length-slice_split}
 use Rattle.std.proofs.lemmas.Slice.Eq.{bytes_eq-Decides}
 use Rattle.p25_line.specs.Values.{is_lower_digit}
-use Rattle.p25_line.specs.Words.{is_printed, is_word, parts_of, words_in, words_or_fault, or_form}
-use Rattle.p25_line.specs.declared.fault.LineFault.TheVariants.{Long}
+use Rattle.p25_line.specs.Words.{is_printed, is_word, parts_of, words_in, words_or_fault}
+use Rattle.p25_line.specs.declared.fault.LineFault.TheVariants.{Form, Long}
 
 -- an octet that may stand in a line of words
 abbrev pub is_allowed : ℕ → Bool
@@ -64,7 +64,7 @@ pub words_or_fault-long : (line : List ℕ) → 8192 < length line → words_or_
 unfolding words_or_fault
 words_or_fault-long line long = grind arith
 
-pub words_or_fault-words : (line : List ℕ) → length line ≤ 8192 → words_or_fault line ≡ or_form (words_in line)
+pub words_or_fault-words : (line : List ℕ) → length line ≤ 8192 → words_or_fault line ≡ ok_or (words_in line) Form
 unfolding words_or_fault
 words_or_fault-words line short = grind arith
 

@@ -1,5 +1,6 @@
 -- What the loop over a line's octets keeps: the parts that end before `start` are words and are noted, and from there on to `i` the octets are printed.
-use Rattle.std.proofs.Common.{◌≡◌, ℕ, zero, suc, ◌+◌, ◌-◌, ◌<◌, ◌≤◌, ◌==◌, ◌&&◌, ◌||◌, true, false, List, [], ◌∷◌, ◌++◌, length, take, drop, get_or, Some, None, Ok, Err, refl, sym, ap, ap₂, subst, ◌∙◌, arith, take-append-drop, append-nil, length-append, length-take, length-drop, ◌⊎◌, inl, inr}
+use Rattle.std.proofs.Common.{◌≡◌, ℕ, zero, suc, ◌+◌, ◌-◌, ◌<◌, ◌≤◌, ◌==◌, ◌&&◌, ◌||◌, true, false, List, [], ◌∷◌, ◌++◌, length, take, drop, get_or, Option, Some, None, Ok, Err, refl, sym, ap, ap₂, subst, ◌∙◌, arith, take-append-drop, append-nil, length-append, length-take, length-drop, ◌⊎◌, inl, inr}
+use Rattle.std.specs.Prelude.{ok_or}
 use Rattle.std.specs.List.{list_all, All}
 use Rattle.std.proofs.lemmas.Bool.{cases_Bool, eqb-true, lt-ltb, true≢false}
 use Rattle.std.proofs.lemmas.List.{drop_more, take_all, take_at, drop_all, drop-drop, take-map, get_or-drop, map-append}
@@ -7,7 +8,7 @@ use Rattle.std.proofs.lemmas.List.Elements.{All-nil, All-push, All-take}
 use Rattle.std.proofs.lemmas.List.Folds.{list_all-append, list_all_more, list_all_at}
 use Rattle.std.proofs.lemmas.List.Splits.{slice_split_none, slice_split_at}
 use Rattle.p25_line.specs.Marks.{Marks}
-use Rattle.p25_line.specs.Words.{is_printed, is_word, parts_of, words_in, or_form, LiesIn, word_at, marked, WordsFound, WordsAnswer}
+use Rattle.p25_line.specs.Words.{is_printed, is_word, parts_of, words_in, LiesIn, word_at, marked, WordsFound, WordsAnswer}
 use Rattle.p25_line.specs.declared.fault.LineFault.TheVariants.{Long, Form}
 use Rattle.p25_line.specs.declared.word_list.Place.{Place}
 use Rattle.p25_line.proofs.WordsLaws.{printed-spaces, printed-parts, words-printed, words_in-words, words_in-none, words_or_fault-long, words_or_fault-words, is_allowed}
@@ -239,11 +240,11 @@ answer-long line list none long =
 -- a line of another form
 pub answer-form : (line : List ℕ) (list : Marks) → list ≡ record { places = []; count = 0 } → length line ≤ 8192 → words_in line ≡ None → WordsAnswer line list (Err Form)
 answer-form line list none short other =
-    subst (WordsFound line list (Err Form)) (sym (words_or_fault-words line short ∙ ap or_form other)) (refl, ap (λ (m : Marks). m.count) none, ap (λ (m : Marks). m.places) none)
+    subst (WordsFound line list (Err Form)) (sym (words_or_fault-words line short ∙ ap (λ (words : Option (List (List ℕ))). ok_or words Form) other)) (refl, ap (λ (m : Marks). m.count) none, ap (λ (m : Marks). m.places) none)
 
 -- a line of words
 pub answer-words : (line : List ℕ) (list noted : Marks) (start i : ℕ) → Cut line list start i → i ≡ length line → start < i → length line ≤ 8192
     → noted.count ≡ list.count + 1 → noted.places ≡ take 16 (list.places ++ record { start = start; len = i - start } ∷ []) → WordsAnswer line noted (Ok tt)
 answer-words line list noted start i cut end some short count places =
     let facts = Cut-end line list noted start i cut end some count places in
-    subst (WordsFound line noted (Ok tt)) (sym (words_or_fault-words line short ∙ ap or_form facts.0)) (refl, facts.1, facts.2, facts.3)
+    subst (WordsFound line noted (Ok tt)) (sym (words_or_fault-words line short ∙ ap (λ (words : Option (List (List ℕ))). ok_or words Form) facts.0)) (refl, facts.1, facts.2, facts.3)

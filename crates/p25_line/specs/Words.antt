@@ -1,5 +1,5 @@
 -- The words of a line, and what a list of words tells of them.
-use Rattle.std.specs.Prelude.{◌≡◌, ℕ, ◌+◌, ◌≤◌, ◌==◌, ◌&&◌, nat_lt, nat_le, Bool, if◌then◌else◌, List, [], length, take, drop, map, All, Option, Some, None, Result, Ok, Err}
+use Rattle.std.specs.Prelude.{◌≡◌, ℕ, ◌+◌, ◌≤◌, ◌==◌, ◌&&◌, nat_lt, nat_le, Bool, if◌then◌else◌, List, [], length, take, drop, map, All, Option, Some, None, ok_or, Result, Ok, Err}
 use Rattle.std.specs.List.{slice_split, list_all}
 use Rattle.p25_line.specs.Marks.{Marks}
 use Rattle.p25_line.specs.declared.fault.LineFault.{LineFault}
@@ -22,14 +22,9 @@ parts_of line = slice_split (λ octet. octet == 32) line
 unfoldable pub words_in : List ℕ → Option (List (List ℕ))
 words_in line = if list_all is_word (parts_of line) then Some (parts_of line) else None
 
--- the words, or that the form is wrong
-abbrev pub or_form : Option (List (List ℕ)) → Result (List (List ℕ)) LineFault
-or_form (Some words) = Ok words
-or_form None = Err Form
-
 -- the words of a line, or why it is refused
 unfoldable pub words_or_fault : List ℕ → Result (List (List ℕ)) LineFault
-words_or_fault line = if nat_lt 8192 (length line) then Err Long else or_form (words_in line)
+words_or_fault line = if nat_lt 8192 (length line) then Err Long else ok_or (words_in line) Form
 
 -- a place lies within a line
 abbrev pub LiesIn : List ℕ → Place → Type 0

@@ -4,3 +4,4 @@ pub mod ScriptLaws
 pub mod ReadLaws
 pub mod TextSteps
 pub mod PlacesSteps
+pub mod AsciiStepLaws

@@ -1,11 +1,14 @@
-//! Lines and events tell each other. The function makes no call: its contract is the theorem.
+//! Lines and events tell each other, and the texts are ASCII. The functions make no call: their contracts are the theorems.
 
-ghost use Rattle.std.specs.Prelude.{◌≡◌, ◌≢◌, ℕ, ◌<◌, ◌≤◌, List, length, Ok};
+ghost use Rattle.std.specs.Prelude.{◌≡◌, ◌≢◌, ℕ, ◌<◌, ◌≤◌, List, length, Ok, IsAscii};
 ghost use Rattle.p25_stations.specs.Runs.{IsEvent};
 ghost use Rattle.p25_delivery.specs.SoundHalves.{IsMessage};
+ghost use Rattle.p25_stations.specs.WorldState.{WorldState};
 ghost use Rattle.p25_stations.specs.declared.step.Event.{Event as event_type};
 ghost use Rattle.p25_stations.specs.declared.step.Event.TheVariants.{Send, ToReceiver, ToSender};
 ghost use Rattle.p25_script.specs.Script.{IsScripted, event_of, event_text};
+ghost use Rattle.p25_stations.specs.declared.step.Step.{Step as step_type};
+ghost use Rattle.p25_script.specs.StepTexts.{closing_text_of, step_text_of};
 ghost use Rattle.p25_script.specs.Values.{ArePlaces};
 
 /// **Theorem.** That lines and events tell each other. The line of each event that is not too long is
@@ -20,4 +23,11 @@ pub fn script_laws()
     ensures data { (places : List ℕ) → ArePlaces places → length places ≤ 1360 → length (event_text (ToReceiver places)) ≤ 8192 }
     ensures answer { (places : List ℕ) → ArePlaces places → length places ≤ 1360 → length (event_text (ToSender places)) ≤ 8192 }
     ensures world { (event : event_type) → IsScripted event → IsEvent event }
+{}
+
+/// **Theorem.** Each octet of the text of a step, and of the text that closes a run, is below 128, whatever the step and the world
+/// are. So these texts are always UTF-8.
+pub fn texts_are_ascii()
+    ensures steps { (step : step_type) → IsAscii (step_text_of step) }
+    ensures closing { (world : WorldState) → IsAscii (closing_text_of world) }
 {}

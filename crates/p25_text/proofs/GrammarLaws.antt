@@ -2,9 +2,11 @@
 use Rattle.std.proofs.Common.{◌≡◌, ℕ, suc, ◌≤◌, ◌&&◌, true, List, [], ◌∷◌, length, Option, Some, None, Result, Ok, inl, inr, refl, ap, ap₂, subst, ◌∙◌, arith}
 use Rattle.std.specs.List.{list_all}
 use Rattle.std.specs.Option.{option_map}
-use Rattle.std.specs.Prelude.{IfOk}
+use Rattle.std.specs.Prelude.{IfOk, ok_or}
 use Rattle.p25_line.specs.Words.{is_printed, is_word}
+use Rattle.p25_line.specs.LineReadings.{found_read, named_or_fault}
 use Rattle.p25_line.specs.declared.fault.LineFault.{LineFault}
+use Rattle.p25_line.specs.declared.fault.LineFault.TheVariants.{Key, Value}
 use Rattle.p25_line.proofs.LineReadLaws.{WordLaws, line_read-facts, line_read-words, words-line_read}
 use Rattle.p25_voice_units.specs.declared.unit.VoiceUnit.{VoiceUnit}
 use Rattle.p25_voice_units.specs.declared.unit.VoiceUnit.TheVariants.{Header, Link1, Link2, End, EndLink}
@@ -15,7 +17,7 @@ use Rattle.p25_units.specs.UnitParts.{UnitParts}
 use Rattle.p25_units.specs.declared.unit.Body.{Body}
 use Rattle.p25_units.specs.declared.unit.Body.TheVariants.{Voice, Packet}
 use Rattle.p25_units.specs.Units.{IsSendableBody, IsSendableUnit}
-use Rattle.p25_text.specs.Grammar.{body_in, body_values, keyed, kind_of, or_value, read_kind, read_line_of, read_values, read_words, text_of, unit_from, unit_in, unit_words, values_behind, values_of}
+use Rattle.p25_text.specs.Grammar.{body_in, body_values, keyed, kind_of, read_kind, read_line_of, read_values, read_words, text_of, unit_from, unit_in, unit_words, values_behind, values_of}
 use Rattle.p25_text.specs.Names.{kind_named, kind_word, kinds, keys_of}
 use Rattle.p25_text.specs.Packets.{confirmed_in, packet_kind, packet_values, plain_in}
 use Rattle.p25_text.specs.Values.{nac_in}
@@ -47,7 +49,7 @@ pub word-kind_named : (word : List ℕ) (kind : UnitKind) → kind_named word �
 word-kind_named word kind found = named-word kind_word kinds word kind found
 
 -- the word of a kind is a word of at most nine octets
-kind-word : (kind : UnitKind) → is_word (kind_word kind) ≡ true
+pub kind-word : (kind : UnitKind) → is_word (kind_word kind) ≡ true
 kind-word Hdu = refl
 kind-word Ldu1 = refl
 kind-word Ldu2 = refl
@@ -186,9 +188,9 @@ read_words-unit_words : (unit : UnitParts) → IsSendableUnit unit → read_word
 read_words-unit_words unit fits =
     let kind = kind_of unit.body in
     let count : length (keys_of kind) ≡ length (values_of unit) = body-count unit.body fits.body in
-    ap (read_kind (keyed (keys_of kind) (values_of unit))) (kind_named-word kind)
-    ∙ ap (read_values kind) (values_behind-keyed (keys_of kind) (values_of unit) count)
-    ∙ ap or_value (ap₂ unit_from (nac_in-three_digits unit.nac (omega (arith, fits.nac_fits))) (body_in-values unit.body fits.body))
+    ap (λ named. named_or_fault read_kind named (keyed (keys_of kind) (values_of unit))) (kind_named-word kind)
+    ∙ ap (λ values. found_read (read_values kind) (ok_or values Key)) (values_behind-keyed (keys_of kind) (values_of unit) count)
+    ∙ ap (λ found. ok_or found Value) (ap₂ unit_from (nac_in-three_digits unit.nac (omega (arith, fits.nac_fits))) (body_in-values unit.body fits.body))
 
 -- the values that a unit was read from
 from-parts : (kind : UnitKind) (nac_word : List ℕ) (values : List (List ℕ)) (nac : Option ℕ) (body : Option Body) (unit : UnitParts)
@@ -203,24 +205,24 @@ from-parts kind nac_word values (Some nac) (Some body) unit nac_found body_found
     subst (λ (u : UnitParts). (kind_of u.body ≡ kind) × (values_of u ≡ nac_word ∷ values) × IsSendableUnit u) same
     (read.same_kind, ap₂ ◌∷◌ parts.0 read.same_values, record { nac_fits = omega (arith, parts.1); body = read.fits })
 
-from-values : (kind : UnitKind) (values : List (List ℕ)) (unit : UnitParts) → or_value (unit_in kind values) ≡ Ok unit
+from-values : (kind : UnitKind) (values : List (List ℕ)) (unit : UnitParts) → read_values kind values ≡ Ok unit
     → (kind_of unit.body ≡ kind) × (values_of unit ≡ values) × IsSendableUnit unit
 from-values kind [] unit found = cc found
 from-values kind (nac_word ∷ values) unit found = from-parts kind nac_word values (nac_in nac_word) (body_in kind values) unit refl refl (some-unit (unit_in kind (nac_word ∷ values)) found)
   where
-    some-unit : (made : Option UnitParts) → or_value made ≡ Ok unit → made ≡ Some unit
+    some-unit : (made : Option UnitParts) → ok_or made Value ≡ Ok unit → made ≡ Some unit
     some-unit (Some other) e = let same : other ≡ unit = cc e in ap Some same
     some-unit None e = cc e
 
 from-keys : (kind : UnitKind) (words : List (List ℕ)) (values : Option (List (List ℕ))) (unit : UnitParts) → values_behind (keys_of kind) words ≡ values
-    → read_values kind values ≡ Ok unit → (kind_of unit.body ≡ kind) × (keyed (keys_of kind) (values_of unit) ≡ words) × IsSendableUnit unit
+    → found_read (read_values kind) (ok_or values Key) ≡ Ok unit → (kind_of unit.body ≡ kind) × (keyed (keys_of kind) (values_of unit) ≡ words) × IsSendableUnit unit
 from-keys kind words None unit same found = cc found
 from-keys kind words (Some values) unit same found =
     let read = from-values kind values unit found in
     (read.0, ap (keyed (keys_of kind)) read.1 ∙ (keyed-values_behind (keys_of kind) words values same).0, read.2)
 
 from-kind : (first : List ℕ) (words : List (List ℕ)) (kind : Option UnitKind) (unit : UnitParts) → kind_named first ≡ kind
-    → read_kind words kind ≡ Ok unit → (unit_words unit ≡ first ∷ words) × IsSendableUnit unit
+    → named_or_fault read_kind kind words ≡ Ok unit → (unit_words unit ≡ first ∷ words) × IsSendableUnit unit
 from-kind first words None unit same found = cc found
 from-kind first words (Some kind) unit same found =
     let read = from-keys kind words (values_behind (keys_of kind) words) unit refl found in

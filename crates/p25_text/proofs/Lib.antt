@@ -8,3 +8,4 @@ pub mod GrammarLaws
 pub mod ReadLaws
 pub mod ItemTextSteps
 pub mod WriteLaws
+pub mod AsciiTextLaws

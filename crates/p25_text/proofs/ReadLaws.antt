@@ -1,56 +1,57 @@
 -- What each answer of the reader of lines shows of the reading by the definition.
 use Rattle.std.proofs.Common.{◌≡◌, ℕ, suc, true, false, ◌+◌, ◌<◌, List, [], ◌∷◌, ◌++◌, length, drop, slice_get, get_or, Option, Some, None, Err, refl, sym, ap, ap₂, ◌∙◌, arith, append-nil, append_assoc}
-use Rattle.std.specs.Prelude.{nat_eq}
+use Rattle.std.specs.Prelude.{◌==◌, ok_or}
 use Rattle.std.specs.Option.{option_map, option_and_then}
 use Rattle.std.specs.List.{starts_with}
 use Rattle.std.proofs.lemmas.Bool.{cond-true, cond-false}
 use Rattle.std.proofs.lemmas.List.{drop_more, drop_all}
 use Rattle.std.proofs.lemmas.Option.{slice_get-get_or}
 use Rattle.p25_line.specs.declared.fault.LineFault.TheVariants.{Key, Kind as WrongKind}
+use Rattle.p25_line.specs.LineReadings.{found_read, named_or_fault}
 use Rattle.p25_line.proofs.LineWordsLaws.{first-others}
 use Rattle.p25_text.specs.Grammar.{read_kind, read_values, read_words, values_behind, behind}
 use Rattle.p25_text.specs.Names.{kind_named, keys_of, key_text}
-use Rattle.p25_text.specs.Values.{with_value}
+use Rattle.p25_line.specs.CommaLists.{with_entry}
 use Rattle.p25_text.specs.declared.names.UnitKey.{UnitKey}
 use Rattle.p25_text.specs.declared.names.UnitKind.{UnitKind}
 use Rattle.p25_text.proofs.WordLaws.{values_behind-other}
 
 -- the first word names no kind
 pub wrong_kind : (words : List (List ℕ)) (first : List ℕ) → slice_get words 0 ≡ Some first → kind_named first ≡ None → read_words words ≡ Err WrongKind
-wrong_kind words first at none = ap read_words (first-others words first at) ∙ ap (read_kind (drop 1 words)) none
+wrong_kind words first at none = ap read_words (first-others words first at) ∙ ap (λ kind. named_or_fault read_kind kind (drop 1 words)) none
 
 -- or one
 pub right_kind : (words : List (List ℕ)) (first : List ℕ) (kind : UnitKind) → slice_get words 0 ≡ Some first → kind_named first ≡ Some kind
-    → read_words words ≡ read_values kind (values_behind (keys_of kind) (drop 1 words))
-right_kind words first kind at named = ap read_words (first-others words first at) ∙ ap (read_kind (drop 1 words)) named
+    → read_words words ≡ read_kind kind (drop 1 words)
+right_kind words first kind at named = ap read_words (first-others words first at) ∙ ap (λ kind. named_or_fault read_kind kind (drop 1 words)) named
 
 -- another number of words than of keys and one is a wrong key
 pub wrong_count : (words : List (List ℕ)) (first : List ℕ) (kind : UnitKind) → slice_get words 0 ≡ Some first → kind_named first ≡ Some kind → (length words ≡ length (keys_of kind) + 1 → ⊥)
     → read_words words ≡ Err Key
 wrong_count words first kind at named other =
     let count : length words ≡ suc (length (drop 1 words)) = ap length (first-others words first at) in
-    right_kind words first kind at named ∙ ap (read_values kind) (values_behind-other (keys_of kind) (drop 1 words) (λ same. other (omega (arith, count, same))))
+    right_kind words first kind at named ∙ ap (λ values. found_read (read_values kind) (ok_or values Key)) (values_behind-other (keys_of kind) (drop 1 words) (λ same. other (omega (arith, count, same))))
 
 -- what stands after a key
-pub after-key : (word text rest : List ℕ) (key : UnitKey) → text ≡ key_text key → starts_with nat_eq word text ≡ true → rest ≡ drop (length text) word → Some rest ≡ behind (key_text key) word
+pub after-key : (word text rest : List ℕ) (key : UnitKey) → text ≡ key_text key → starts_with ◌==◌ word text ≡ true → rest ≡ drop (length text) word → Some rest ≡ behind (key_text key) word
 after-key word text rest key same starts is =
-    ap Some is ∙ sym (cond-true (starts_with nat_eq word text) (Some (drop (length text) word)) None starts) ∙ ap (λ t. behind t word) same
+    ap Some is ∙ sym (cond-true (starts_with ◌==◌ word text) (Some (drop (length text) word)) None starts) ∙ ap (λ t. behind t word) same
 
-pub no-key : (word text : List ℕ) (key : UnitKey) → text ≡ key_text key → starts_with nat_eq word text ≡ false → None ≡ behind (key_text key) word
-no-key word text key same other = sym (cond-false (starts_with nat_eq word text) (Some (drop (length text) word)) None other) ∙ ap (λ t. behind t word) same
+pub no-key : (word text : List ℕ) (key : UnitKey) → text ≡ key_text key → starts_with ◌==◌ word text ≡ false → None ≡ behind (key_text key) word
+no-key word text key same other = sym (cond-false (starts_with ◌==◌ word text) (Some (drop (length text) word)) None other) ∙ ap (λ t. behind t word) same
 
 -- one key and one word more
 pub values-more : (keys : List UnitKey) (words : List (List ℕ)) (i : ℕ) (d : UnitKey) (first : Option (List ℕ)) → i < length keys → i + 1 < length words
     → first ≡ option_and_then (behind (key_text (get_or keys i d))) (slice_get words (i + 1))
-    → values_behind (drop i keys) (drop (i + 1) words) ≡ with_value first (values_behind (drop (i + 1) keys) (drop (i + 1 + 1) words))
+    → values_behind (drop i keys) (drop (i + 1) words) ≡ with_entry first (values_behind (drop (i + 1) keys) (drop (i + 1 + 1) words))
 values-more keys words i d first in_keys in_words same =
     let read : slice_get words (i + 1) ≡ Some (get_or words (i + 1) []) = slice_get-get_or words (i + 1) [] in_words in
     ap₂ values_behind (drop_more keys i d in_keys) (drop_more words (i + 1) [] in_words)
-    ∙ ap (λ f. with_value f (values_behind (drop (i + 1) keys) (drop (i + 1 + 1) words))) (sym (same ∙ ap (option_and_then (behind (key_text (get_or keys i d)))) read))
+    ∙ ap (λ f. with_entry f (values_behind (drop (i + 1) keys) (drop (i + 1 + 1) words))) (sym (same ∙ ap (option_and_then (behind (key_text (get_or keys i d)))) read))
 
 -- the values so far, with one more
 pub so_far-more : (done : List (List ℕ)) (value : List ℕ) (rest : Option (List (List ℕ)))
-    → option_map (λ values. done ++ values) (with_value (Some value) rest) ≡ option_map (λ values. (done ++ value ∷ []) ++ values) rest
+    → option_map (λ values. done ++ values) (with_entry (Some value) rest) ≡ option_map (λ values. (done ++ value ∷ []) ++ values) rest
 so_far-more done value None = refl
 so_far-more done value (Some values) = ap Some (sym (append_assoc done (value ∷ []) values))
 

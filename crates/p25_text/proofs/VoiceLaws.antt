@@ -17,7 +17,8 @@ use Rattle.p25_voice_units.specs.declared.unit.VoiceUnit.TheVariants.{Header, Li
 use Rattle.p25_voice_units.specs.Sendable.{IsSendableVoice, IsSpeech, IsVoiceFrame}
 use Rattle.p25_voice_units.specs.declared.voice.VoiceFrame.{VoiceFrame}
 use Rattle.p25_text.specs.Names.{other_keys, width_of}
-use Rattle.p25_text.specs.Values.{octets_in, with_value}
+use Rattle.p25_text.specs.Values.{octets_in}
+use Rattle.p25_line.specs.CommaLists.{with_entry}
 use Rattle.p25_text.specs.Voices.{frame_octets, frames_of, octet_number, octets_behind, pair_of, voice_from, voice_in, voice_kind, voice_octets, voice_values}
 use Rattle.p25_text.specs.declared.names.UnitKey.{UnitKey}
 use Rattle.p25_text.specs.declared.names.UnitKind.{UnitKind}
@@ -46,14 +47,14 @@ octets_behind-encode [] [] wide = refl
 octets_behind-encode [] (octets ∷ fields) wide = absurd wide
 octets_behind-encode (key ∷ keys) [] wide = absurd wide
 octets_behind-encode (key ∷ keys) (octets ∷ fields) wide =
-    ap₂ with_value (octets_in-encode_lower (width_of key) octets wide.0.small wide.0.long) (octets_behind-encode keys fields wide.1)
+    ap₂ with_entry (octets_in-encode_lower (width_of key) octets wide.0.small wide.0.long) (octets_behind-encode keys fields wide.1)
 
 record AreOctetsOf (keys : List UnitKey) (values fields : List (List ℕ)) : Type 0 where
   texts : map encode_lower fields ≡ values
   wide : AllWide keys fields
 
 octets_more : (key : UnitKey) (keys : List UnitKey) (value : List ℕ) (values : List (List ℕ)) (first : Option (List ℕ)) (others : Option (List (List ℕ))) (fields : List (List ℕ))
-    → octets_in (width_of key) value ≡ first → with_value first others ≡ Some fields → ((rest : List (List ℕ)) → others ≡ Some rest → AreOctetsOf keys values rest)
+    → octets_in (width_of key) value ≡ first → with_entry first others ≡ Some fields → ((rest : List (List ℕ)) → others ≡ Some rest → AreOctetsOf keys values rest)
     → AreOctetsOf (key ∷ keys) (value ∷ values) fields
 octets_more key keys value values None others fields found all step = cc all
 octets_more key keys value values (Some octets) None fields found all step = cc all

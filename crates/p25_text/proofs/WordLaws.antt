@@ -1,6 +1,6 @@
 -- Keys with their values: put together and taken apart, and that they are words of a line that is not too long.
 use Rattle.std.proofs.Common.{◌≡◌, ℕ, suc, ◌+◌, ◌*◌, ◌<◌, ◌≤◌, ◌&&◌, true, List, [], ◌∷◌, ◌++◌, length, drop, Option, Some, None, inl, inr, refl, sym, ap, ap₂, ◌∙◌, arith, length-append}
-use Rattle.std.specs.Prelude.{nat_lt, nat_eq}
+use Rattle.std.specs.Prelude.{◌==◌, nat_lt}
 use Rattle.std.specs.List.{join_with_byte, list_all, starts_with}
 use Rattle.std.proofs.lemmas.Bool.{and_parts, cases_Bool, cond-true, cond-false, lt-ltb}
 use Rattle.std.proofs.lemmas.Bool.Decides.{Decides-eqb}
@@ -10,25 +10,25 @@ use Rattle.std.proofs.lemmas.Slice.Eq.{starts_is}
 use Rattle.p25_line.specs.Words.{is_printed, is_word}
 use Rattle.p25_text.specs.Grammar.{behind, keyed, values_behind}
 use Rattle.p25_text.specs.Names.{key_text}
-use Rattle.p25_text.specs.Values.{with_value}
+use Rattle.p25_line.specs.CommaLists.{with_entry}
 use Rattle.p25_text.specs.declared.names.UnitKey.{UnitKey}
 use Rattle.p25_text.specs.declared.names.UnitKey.TheVariants.{Nac, Mi, Mfid, Algid, Kid, Tgid, Lc, Lsd, Frames, Head, Blocks, Octets}
 
 -- what stands after a key
 pub behind-append : (key value : List ℕ) → behind key (key ++ value) ≡ Some value
 behind-append key value =
-    let starts = (starts_is {E = nat_eq} Decides-eqb (key ++ value) key (starts_with nat_eq (key ++ value) key) refl).1 value refl in
-    cond-true (starts_with nat_eq (key ++ value) key) (Some (drop (length key) (key ++ value))) None starts ∙ ap Some (drop_at key value (length key) refl)
+    let starts = (starts_is {E = ◌==◌} Decides-eqb (key ++ value) key (starts_with ◌==◌ (key ++ value) key) refl).1 value refl in
+    cond-true (starts_with ◌==◌ (key ++ value) key) (Some (drop (length key) (key ++ value))) None starts ∙ ap Some (drop_at key value (length key) refl)
 
 pub append-behind : (key word value : List ℕ) → behind key word ≡ Some value → key ++ value ≡ word
 append-behind key word value found =
-    elim (cases_Bool (starts_with nat_eq word key)) [
+    elim (cases_Bool (starts_with ◌==◌ word key)) [
       | inl starts ↦
-          let whole = (starts_is {E = nat_eq} Decides-eqb word key (starts_with nat_eq word key) refl).0 starts in
-          let read = cond-true (starts_with nat_eq word key) (Some (drop (length key) word)) None starts in
+          let whole = (starts_is {E = ◌==◌} Decides-eqb word key (starts_with ◌==◌ word key) refl).0 starts in
+          let read = cond-true (starts_with ◌==◌ word key) (Some (drop (length key) word)) None starts in
           let same : drop (length key) word ≡ value = cc in
           ap (λ v. key ++ v) (sym same) ∙ sym whole
-      | inr other ↦ let read = cond-false (starts_with nat_eq word key) (Some (drop (length key) word)) None other in cc
+      | inr other ↦ let read = cond-false (starts_with ◌==◌ word key) (Some (drop (length key) word)) None other in cc
     ]
 
 -- the values of words that were made of keys and values
@@ -36,10 +36,10 @@ pub values_behind-keyed : (keys : List UnitKey) (values : List (List ℕ)) → l
 values_behind-keyed [] [] same = refl
 values_behind-keyed [] (value ∷ values) same = absurd (omega arith)
 values_behind-keyed (key ∷ keys) [] same = absurd (omega arith)
-values_behind-keyed (key ∷ keys) (value ∷ values) same = ap₂ with_value (behind-append (key_text key) value) (values_behind-keyed keys values (omega arith))
+values_behind-keyed (key ∷ keys) (value ∷ values) same = ap₂ with_entry (behind-append (key_text key) value) (values_behind-keyed keys values (omega arith))
 
 keyed-more : (key : UnitKey) (keys : List UnitKey) (word : List ℕ) (words values : List (List ℕ)) (first : Option (List ℕ)) (others : Option (List (List ℕ)))
-    → behind (key_text key) word ≡ first → values_behind keys words ≡ others → with_value first others ≡ Some values
+    → behind (key_text key) word ≡ first → values_behind keys words ≡ others → with_entry first others ≡ Some values
     → ((rest : List (List ℕ)) → values_behind keys words ≡ Some rest → (keyed keys rest ≡ words) × (length rest ≡ length keys))
     → (keyed (key ∷ keys) values ≡ word ∷ words) × (length values ≡ suc (length keys))
 keyed-more key keys word words values None others found rest all step = cc all
@@ -60,9 +60,9 @@ keyed-values_behind (key ∷ keys) [] values found = cc found
 keyed-values_behind (key ∷ keys) (word ∷ words) values found =
     keyed-more key keys word words values (behind (key_text key) word) (values_behind keys words) refl refl found (λ rest h. keyed-values_behind keys words rest h)
 
-with_value-none : (value : Option (List ℕ)) → with_value value None ≡ None
-with_value-none None = refl
-with_value-none (Some value) = refl
+with_entry-none : (value : Option (List ℕ)) → with_entry value None ≡ None
+with_entry-none None = refl
+with_entry-none (Some value) = refl
 
 -- a wrong number of words has no values
 pub values_behind-other : (keys : List UnitKey) (words : List (List ℕ)) → (length words ≡ length keys → ⊥) → values_behind keys words ≡ None
@@ -70,7 +70,7 @@ values_behind-other [] [] other = absurd (other refl)
 values_behind-other [] (word ∷ words) other = refl
 values_behind-other (key ∷ keys) [] other = refl
 values_behind-other (key ∷ keys) (word ∷ words) other =
-    ap (with_value (behind (key_text key) word)) (values_behind-other keys words (λ same. other (ap suc same))) ∙ with_value-none (behind (key_text key) word)
+    ap (with_entry (behind (key_text key) word)) (values_behind-other keys words (λ same. other (ap suc same))) ∙ with_entry-none (behind (key_text key) word)
 
 -- a word stays a word with more printed octets after it
 word-more : (word value : List ℕ) → is_word word ≡ true → list_all is_printed value ≡ true → is_word (word ++ value) ≡ true
@@ -81,7 +81,7 @@ word-more (octet ∷ word) value some printed =
     ap₂ ◌&&◌ (lt-ltb 0 (suc (length (word ++ value))) long) (list_all-append is_printed (octet ∷ word) value ∙ ap₂ ◌&&◌ parts.1 printed)
 
 -- each key is a word of at most seven octets
-key-word : (key : UnitKey) → is_word (key_text key) ≡ true
+pub key-word : (key : UnitKey) → is_word (key_text key) ≡ true
 key-word Nac = refl
 key-word Mi = refl
 key-word Mfid = refl

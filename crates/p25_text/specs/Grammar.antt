@@ -1,17 +1,18 @@
 -- Unit lines: the line of a unit, and the unit of a line.
 use Rattle.std.specs.Option.{option_map}
-use Rattle.std.specs.Prelude.{ℕ, nat_eq, if◌then◌else◌, List, [], ◌∷◌, ◌++◌, length, drop, Option, Some, None, Result, Ok, Err}
+use Rattle.std.specs.Prelude.{ℕ, ◌==◌, if◌then◌else◌, List, [], ◌∷◌, ◌++◌, length, drop, Option, Some, None, ok_or, Result, Err}
 use Rattle.std.specs.List.{join_with_byte, starts_with}
 use Rattle.p25_line.specs.Values.{three_digits}
-use Rattle.p25_line.specs.LineReadings.{line_read}
+use Rattle.p25_line.specs.CommaLists.{with_entry}
+use Rattle.p25_line.specs.LineReadings.{found_read, line_read, named_or_fault}
 use Rattle.p25_line.specs.declared.fault.LineFault.{LineFault}
-use Rattle.p25_line.specs.declared.fault.LineFault.TheVariants.{Form, Key, Value, Kind as WrongKind}
+use Rattle.p25_line.specs.declared.fault.LineFault.TheVariants.{Form, Key, Value}
 use Rattle.p25_units.specs.UnitParts.{UnitParts}
 use Rattle.p25_units.specs.declared.unit.Body.{Body}
 use Rattle.p25_units.specs.declared.unit.Body.TheVariants.{Voice, Packet}
 use Rattle.p25_text.specs.Names.{kind_word, kind_named, keys_of, key_text}
 use Rattle.p25_text.specs.Packets.{confirmed_in, packet_kind, packet_values, plain_in}
-use Rattle.p25_text.specs.Values.{nac_in, with_value}
+use Rattle.p25_text.specs.Values.{nac_in}
 use Rattle.p25_text.specs.Voices.{voice_in, voice_kind, voice_values}
 use Rattle.p25_text.specs.declared.names.UnitKey.{UnitKey}
 use Rattle.p25_text.specs.declared.names.UnitKind.{UnitKind}
@@ -63,14 +64,14 @@ text_of unit = join_with_byte 32 (unit_words unit)
 
 -- what stands after a key in a word that begins with it
 abbrev pub behind : List ℕ → List ℕ → Option (List ℕ)
-behind key word = if starts_with nat_eq word key then Some (drop (length key) word) else None
+behind key word = if starts_with ◌==◌ word key then Some (drop (length key) word) else None
 
 -- the values after keys: none where there are more or fewer words than keys, or where some word does not begin with its key
 abbrev pub values_behind : List UnitKey → List (List ℕ) → Option (List (List ℕ))
 values_behind [] [] = Some []
 values_behind [] (word ∷ words) = None
 values_behind (key ∷ keys) [] = None
-values_behind (key ∷ keys) (word ∷ words) = with_value (behind (key_text key) word) (values_behind keys words)
+values_behind (key ∷ keys) (word ∷ words) = with_entry (behind (key_text key) word) (values_behind keys words)
 
 -- a unit of its two parts, where there are both
 abbrev pub unit_from : Option ℕ → Option Body → Option UnitParts
@@ -83,24 +84,17 @@ abbrev pub unit_in : UnitKind → List (List ℕ) → Option UnitParts
 unit_in kind [] = None
 unit_in kind (nac ∷ values) = unit_from (nac_in nac) (body_in kind values)
 
--- the unit, or that a value is wrong
-abbrev pub or_value : Option UnitParts → Result UnitParts LineFault
-or_value (Some unit) = Ok unit
-or_value None = Err Value
+-- the unit of the values of a kind, or that a value is wrong
+abbrev pub read_values : UnitKind → List (List ℕ) → Result UnitParts LineFault
+read_values kind values = ok_or (unit_in kind values) Value
 
--- the unit of the values of a kind, or that a key is wrong
-abbrev pub read_values : UnitKind → Option (List (List ℕ)) → Result UnitParts LineFault
-read_values kind (Some values) = or_value (unit_in kind values)
-read_values kind None = Err Key
+-- the unit of the words after that of a kind, or the first cause for which they are refused: a key, or else a value
+abbrev pub read_kind : UnitKind → List (List ℕ) → Result UnitParts LineFault
+read_kind kind words = found_read (read_values kind) (ok_or (values_behind (keys_of kind) words) Key)
 
--- the unit of the words after a kind, or that the kind is wrong
-abbrev pub read_kind : List (List ℕ) → Option UnitKind → Result UnitParts LineFault
-read_kind words (Some kind) = read_values kind (values_behind (keys_of kind) words)
-read_kind words None = Err WrongKind
-
--- the unit of the words of a line, of which there is one at least
+-- the unit of the words of a line, of which there is one at least, or the first cause for which they are refused
 abbrev pub read_words : List (List ℕ) → Result UnitParts LineFault
-read_words (first ∷ words) = read_kind words (kind_named first)
+read_words (first ∷ words) = named_or_fault read_kind (kind_named first) words
 read_words [] = Err Form
 
 -- the unit of a line, or the first cause for which the line is refused

@@ -29,9 +29,3 @@ key_value_text key octets = 32 ∷ key_text key ++ encode_lower octets
 -- the octets whose text a word is, where there are so many, maybe none
 abbrev pub octets_or_none : ℕ → List ℕ → Option (List ℕ)
 octets_or_none count word = if count == 0 then (if bytes_eq word dash then Some [] else None) else octets_in count word
-
--- one value more, where there are all
-abbrev pub with_value : Option (List ℕ) → Option (List (List ℕ)) → Option (List (List ℕ))
-with_value None values = None
-with_value (Some value) None = None
-with_value (Some value) (Some values) = Some (value ∷ values)

@@ -4,11 +4,12 @@ use Rattle.std.specs.List.{flat_map}
 use Rattle.std.specs.Option.{option_and_then}
 use Rattle.hex.specs.Hex.{encode_lower}
 use Rattle.p25_bits.specs.Numbers.{pair_at}
+use Rattle.p25_line.specs.CommaLists.{with_entry}
 use Rattle.p25_voice_units.specs.declared.unit.VoiceUnit.{VoiceUnit}
 use Rattle.p25_voice_units.specs.declared.unit.VoiceUnit.TheVariants.{Header, Link1, Link2, End, EndLink}
 use Rattle.p25_voice_units.specs.declared.voice.VoiceFrame.{VoiceFrame}
 use Rattle.p25_text.specs.Names.{other_keys, width_of}
-use Rattle.p25_text.specs.Values.{octets_in, with_value}
+use Rattle.p25_text.specs.Values.{octets_in}
 use Rattle.p25_text.specs.declared.names.UnitKey.{UnitKey}
 use Rattle.p25_text.specs.declared.names.UnitKind.{UnitKind}
 use Rattle.p25_text.specs.declared.names.UnitKind.TheVariants.{Hdu, Ldu1, Ldu2, Tdu, Tdulc}
@@ -50,7 +51,7 @@ abbrev pub octets_behind : List UnitKey → List (List ℕ) → Option (List (Li
 octets_behind [] [] = Some []
 octets_behind [] (value ∷ values) = None
 octets_behind (key ∷ keys) [] = None
-octets_behind (key ∷ keys) (value ∷ values) = with_value (octets_in (width_of key) value) (octets_behind keys values)
+octets_behind (key ∷ keys) (value ∷ values) = with_entry (octets_in (width_of key) value) (octets_behind keys values)
 
 -- the number of one octet
 abbrev pub octet_number : List ℕ → ℕ

@@ -33,6 +33,7 @@
 
 mod calls;
 mod items;
+pub mod laws;
 mod names;
 mod packet_texts;
 mod packets;

@@ -1,5 +1,8 @@
 use Rattle.std.proofs.Common.{◌≡◌, ◌+◌, length, drop, sym, ap, ◌∙◌}
-use Rattle.p25_text.specs.Grammar.{or_value, read_values, values_behind}
+use Rattle.std.specs.Prelude.{ok_or}
+use Rattle.p25_line.specs.LineReadings.{found_read}
+use Rattle.p25_line.specs.declared.fault.LineFault.TheVariants.{Key, Value}
+use Rattle.p25_text.specs.Grammar.{read_values, values_behind}
 use Rattle.p25_text.specs.Names.{keys_of}
 use Rattle.p25_text.proofs.ReadLaws.{right_kind, wrong_count, wrong_kind}
 use Rattle.p25_text.proofs.WordLaws.{keyed-values_behind}
@@ -22,21 +25,23 @@ returns-in_default-values_of_words c =
     let kind = c.in-Some.kind in
     let keys : c.keys-keys.result.now ≡ keys_of kind = c.keys-keys.ensures.keys in
     sym (right_kind c.args.words.now c.first.result.now kind c.first.ensures (sym c.in-Some.ensures)
-    ∙ ap (read_values kind) (ap (λ k. values_behind k (drop 1 c.args.words.now)) (sym keys) ∙ sym c.in_default-values_of_words.ensures))
+    ∙ ap (λ values. found_read (read_values kind) (ok_or values Key)) (ap (λ k. values_behind k (drop 1 c.args.words.now)) (sym keys) ∙ sym c.in_default-values_of_words.ensures))
 
 pub returns-in-Some-read_values : goal.returns-in-Some-read_values
 returns-in-Some-read_values c =
     let kind = c.in-Some.kind in
     let keys : c.keys-keys.result.now ≡ keys_of kind = c.keys-keys.ensures.keys in
     sym (right_kind c.args.words.now c.first.result.now kind c.first.ensures (sym c.in-Some.ensures)
-    ∙ ap (read_values kind) (ap (λ k. values_behind k (drop 1 c.args.words.now)) (sym keys) ∙ sym c.in-Some-values_of_words.ensures) ∙ ap or_value (sym c.in-Some-read_values.ensures))
+    ∙ ap (λ values. found_read (read_values kind) (ok_or values Key)) (ap (λ k. values_behind k (drop 1 c.args.words.now)) (sym keys) ∙ sym c.in-Some-values_of_words.ensures)
+    ∙ ap (λ found. ok_or found Value) (sym c.in-Some-read_values.ensures))
 
 pub returns-in-None : goal.returns-in-None
 returns-in-None c =
     let kind = c.in-Some.kind in
     let keys : c.keys-keys.result.now ≡ keys_of kind = c.keys-keys.ensures.keys in
     sym (right_kind c.args.words.now c.first.result.now kind c.first.ensures (sym c.in-Some.ensures)
-    ∙ ap (read_values kind) (ap (λ k. values_behind k (drop 1 c.args.words.now)) (sym keys) ∙ sym c.in-Some-values_of_words.ensures) ∙ ap or_value (sym c.in-None.ensures))
+    ∙ ap (λ values. found_read (read_values kind) (ok_or values Key)) (ap (λ k. values_behind k (drop 1 c.args.words.now)) (sym keys) ∙ sym c.in-Some-values_of_words.ensures)
+    ∙ ap (λ found. ok_or found Value) (sym c.in-None.ensures))
 
 pub read_values-requires : goal.read_values-requires
 read_values-requires c =
