@@ -1,5 +1,5 @@
 -- Numbers of a few bits each, group by group: joined to one number, taken apart, and written as numbers of another width.
-use Rattle.std.proofs.Common.{◌≡◌, ◌≢◌, ℕ, ◌+◌, ◌-◌, ◌*◌, ◌/◌, ◌%◌, ◌^◌, ◌<◌, ◌≤◌, Bool, List, [], ◌∷◌, ◌++◌, length, take, drop, get_or, set, ap, ap₂, sym, ◌∙◌, arith, add-one, below_more, get_or-set_same, get_or-set_other, length-drop}
+use Rattle.std.proofs.Common.{◌≡◌, ℕ, ◌+◌, ◌-◌, ◌*◌, ◌/◌, ◌%◌, ◌^◌, ◌<◌, ◌≤◌, Bool, List, [], ◌∷◌, ◌++◌, length, take, drop, get_or, ap, ap₂, sym, ◌∙◌, arith, add-one, length-drop}
 use Rattle.std.proofs.Math.Nat.{mul-suc, mul-le-mul_left, mul-le-mul_right}
 use Rattle.std.proofs.Math.Pow.{pow_mono}
 use Rattle.std.proofs.lemmas.List.{ext_get_or, take_more}
@@ -47,7 +47,7 @@ moved_up width i count whole inside few fits =
     shl_whole whole (width * i) width 64 fits short
 
 -- the bits before a place, at it and after it
-pub split_at : (width k count : ℕ) → k < count → width * count ≡ width * k + width + width * (count - 1 - k)
+split_at : (width k count : ℕ) → k < count → width * count ≡ width * k + width + width * (count - 1 - k)
 split_at width k count early =
     let whole : count ≡ k + 1 + (count - 1 - k) = omega arith in
     let split : (rest : ℕ) → count ≡ k + 1 + rest → width * count ≡ width * k + width + width * rest = λ rest is. omega (arith, ap (λ n. width * n) is) in
@@ -76,15 +76,6 @@ apart_all width whole numbers i all each =
     (λ k inside.
     let done : k < i = omega arith in
     each k done ∙ sym (apart_at width count whole k inside))
-
--- one number more is taken
-pub apart_more : (width count whole : ℕ) (numbers : List ℕ) (i value : ℕ) → i < length numbers → value ≡ whole / 2 ^ (width * (count - 1 - i)) % 2 ^ width
-    → ((k : ℕ) → k < i → get_or numbers k 0 ≡ whole / 2 ^ (width * (count - 1 - k)) % 2 ^ width) → (k : ℕ) → k < i + 1
-    → get_or (set numbers i value) k 0 ≡ whole / 2 ^ (width * (count - 1 - k)) % 2 ^ width
-apart_more width count whole numbers i value inside is so_far =
-    below_more (λ k. get_or (set numbers i value) k 0 ≡ whole / 2 ^ (width * (count - 1 - k)) % 2 ^ width) i
-    (λ k early. let other : k ≢ i = omega arith in get_or-set_other numbers i k value 0 other ∙ so_far k early)
-    (get_or-set_same numbers i value 0 inside ∙ is)
 
 -- one group more of the numbers that bits write
 pub groups_more : (width count g : ℕ) (bits : List Bool) (numbers group : List ℕ) → count * g ≤ length numbers → group ≡ numbers_from width count (drop (width * (count * g)) bits)

@@ -1,22 +1,11 @@
 -- Paths, their nibbles and what they carry.
-use Rattle.std.proofs.Common.{◌≡◌, ℕ, suc, ◌+◌, ◌*◌, ◌^◌, ◌<◌, ◌≤◌, Bool, List, [], ◌∷◌, ◌++◌, length, take, drop, get_or, set, refl, ap, ap₂, sym, subst, ◌∙◌, arith, append_assoc, All}
-use Rattle.std.proofs.lemmas.List.{take-append-drop, take_more_set, drop_more, take_all, length-take-le}
-use Rattle.std.proofs.lemmas.List.Elements.{All-cons, All-nil, All-append, All-same, All-take}
+use Rattle.std.proofs.Common.{◌≡◌, ℕ, suc, ◌+◌, ◌^◌, ◌<◌, ◌≤◌, Bool, List, [], ◌∷◌, ◌++◌, length, take, drop, get_or, set, refl, ap, ap₂, sym, subst, ◌∙◌, arith, append_assoc, All}
+use Rattle.std.proofs.lemmas.List.{take-append-drop, take_more_set, drop_more, length-take-le}
+use Rattle.std.proofs.lemmas.List.Elements.{All-take}
 use Rattle.std.proofs.lemmas.Nat.{pow_pos}
-use Rattle.p25_bits.specs.Bits.{part}
 use Rattle.p25_bits.specs.Numbers.{number_bits}
 use Rattle.p25_trellis.specs.Trellis.{IsPath, IsBlock, Carries, nibbles_from, sent_bits}
 use Rattle.p25_bits.proofs.NumbersLaws.{length-number_bits, number_bits-octets, same_from_number_bits}
-
--- few symbols and then 0 are a path
-pub IsPath-from_front : (states : ℕ) (path : List ℕ) → 0 < states → length path ≡ 49 → All (λ n. n < states) (take 48 path) → drop 48 path ≡ 0 ∷ [] → IsPath states path
-IsPath-from_front states path some long beginning last =
-    let P : ℕ → Type 0 = λ n. n < states in record {
-      long = long;
-      below
-          = All-same P path (take 48 path ++ 0 ∷ []) (sym (take-append-drop 48 path) ∙ ap (λ (zs : List ℕ). take 48 path ++ zs) last) (All-append P (take 48 path) (0 ∷ []) beginning (All-cons P 0 [] some (All-nil P)));
-      last = last;
-    }
 
 -- a power of two is not 0
 pub power-pos : (width states : ℕ) → states ≡ 2 ^ width → 0 < states

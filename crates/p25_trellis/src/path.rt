@@ -6,7 +6,7 @@ ghost use Rattle.p25_trellis.specs.Trellis.{IsPath, Carries, nibbles_from};
 use super::groups::regroup;
 use super::rate::Rate;
 
-// The path that carries octets: the symbols of each eight come from as many octets as a symbol has bits.
+// The path that carries octets: the 48 symbols that their bits write, and then 0.
 pub(crate) fn path_of<R: Rate>(octets: &[u8]) -> [u8; 49]
     requires { length octets.now ≡ R.OCTETS }
     ensures is_path { IsPath R.STATES result }

@@ -1,4 +1,4 @@
-use Rattle.std.proofs.Common.{◌≡◌, ℕ, ◌+◌, ◌-◌, ◌*◌, ◌<◌, ◌≤◌, length, take, drop, ap, sym, ◌∙◌, arith}
+use Rattle.std.proofs.Common.{◌≡◌, ◌+◌, ◌-◌, ◌*◌, ◌≤◌, length, take, drop, ap, sym, ◌∙◌, arith}
 use Rattle.std.proofs.Math.Nat.{mul-zero, mul-le-mul_left}
 use borrow.Rule.Slice.PartMut.{mid_of}
 use Rattle.p25_bits.specs.Bits.{bits_of, part}
