@@ -1,4 +1,4 @@
-use Rattle.std.proofs.Common.{◌≡◌, ◌*◌, ◌-◌, ◌/◌, ◌^◌, ◌<◌, true, false, length, replicate, Some, IfSome, option_map, refl, sym, subst, ap, ap₂, ◌∙◌, arith}
+use Rattle.std.proofs.Common.{◌≡◌, ◌*◌, ◌-◌, ◌/◌, ◌^◌, ◌<◌, true, false, length, replicate, Some, IfSome, is_some, option_map, refl, sym, subst, ap, ap₂, ◌∙◌, arith}
 use Rattle.std.specs.Bool.{beq}
 use Rattle.p25_bits.specs.Bits.{bits_of, field_of, part}
 use Rattle.p25_bits.proofs.DistanceLaws.{ones-xor-le}
@@ -20,6 +20,15 @@ returns-in-Some-clause-erasures g c =
     inner_found b.N b.K each value (b.reading_is (part at b.N bare)) c.put_symbols.new.symbols c.set_all.new.erased c.requires.sixes (g.met.I.BlockCode.begins c.requires.code) read
     (c.put_symbols.ensures ∙ ap (λ v. symbols_in each (bits_of (6 * each) v)) (c.from.ensures ∙ ap₂ (λ m n. value / 2 ^ (m - n)) c.N-in-Some.ensures c.K.ensures))
     (c.set_all.ensures ∙ ap (λ n. replicate n false) c.requires.same)
+
+pub returns-in-Some-clause-known : goal.returns-in-Some-clause-known
+returns-in-Some-clause-known g c =
+    let b = g.I.BlockCode in
+    let bare = c.args.bare.now in
+    let at = c.args.at in
+    let taken : bits_of b.N c.field-received.result ≡ part at b.N bare
+    = ap (bits_of b.N) c.field-received.ensures.value ∙ ap (λ n. bits_of b.N (field_of (part at n bare))) c.N.ensures ∙ bits_of-field b.N at bare c.requires.there in
+    ap is_some (ap (option_map (bits_of b.N)) (sym c.in-Some.is) ∙ c.read_number.ensures.reading ∙ ap b.reading_is taken)
 
 pub returns-in-Some-clause-count : goal.returns-in-Some-clause-count
 returns-in-Some-clause-count g c =
@@ -44,6 +53,15 @@ returns-in-Some-clause-count g c =
       few = omega (arith, ones-xor-le b.N c.field-received.result value fits small, c.requires.small);
       value = λ sent is. wrong_bits b.N b.K (m.one_word c.requires.code) c.field-received.result value (symbol_bits symbols) bits sent encoding is taken fits small;
     }
+
+pub returns-in-None-clause-known : goal.returns-in-None-clause-known
+returns-in-None-clause-known g c =
+    let b = g.I.BlockCode in
+    let bare = c.args.bare.now in
+    let at = c.args.at in
+    let taken : bits_of b.N c.field-received.result ≡ part at b.N bare
+    = ap (bits_of b.N) c.field-received.ensures.value ∙ ap (λ n. bits_of b.N (field_of (part at n bare))) c.N.ensures ∙ bits_of-field b.N at bare c.requires.there in
+    ap is_some (ap (option_map (bits_of b.N)) (sym c.in-None.is) ∙ c.read_number.ensures.reading ∙ ap b.reading_is taken)
 
 pub returns-in-None-clause-erasures : goal.returns-in-None-clause-erasures
 returns-in-None-clause-erasures g c =
