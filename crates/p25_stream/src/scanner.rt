@@ -174,7 +174,8 @@ impl Scanner {
     /// Answers the next item, whose bits are held no longer, for a caller that does not look at its bits. `None` comes exactly
     /// where `next` would answer it; then all stays as it is.
     pub fn next_item(&mut self) -> Option<Item>
-        ensures given { MatchOption result ((given self.old ≡ []) × (self.new ≡ self.old)) (λ item. Gave self.old item (take (covered item) self.old.held) self.new) }
+        ensures given { MatchOption result ((given self.old ≡ []) × (self.new ≡ self.old))
+            (λ item. Gave self.old item (take (covered item) self.old.held) self.new) }
         ensures sound { IfSome result IsSoundItem }
     {
         let mut item = Item::Cut { place: 0, have: 0 };
