@@ -21,9 +21,10 @@ fn a_list_of_one_message(rt: HostRuntime) -> Result<(), Fail> {
 #[test]
 fn a_message_is_delivered(rt: HostRuntime) -> Result<(), Fail> {
     let mut sender = Sender::new();
-    let mut receiver = Receiver::new();
-    let heard = match sender.offer(&Message::new(b"ab").ok_or("two octets")?) {
-        Offer::Taken { packet, .. } => Some(receiver.hear(&packet)),
+    let offer = sender.offer(&Message::new(b"ab").ok_or("two octets")?);
+    assert!(rt; matches!(&offer, Offer::Taken { blocks: 1, .. }));
+    let heard = match offer {
+        Offer::Taken { packet, .. } => Some(Receiver::new().hear(&packet)),
         Offer::Busy | Offer::Down => None,
     };
     assert!(rt; matches!(heard, Some(Heard::Delivered { .. })));
@@ -33,8 +34,7 @@ fn a_message_is_delivered(rt: HostRuntime) -> Result<(), Fail> {
 #[test]
 fn a_world_delivers_a_message(rt: HostRuntime) -> Result<(), Fail> {
     let mut world = World::new(rt.alloc());
-    let message = Message::new(b"ab").ok_or("two octets")?;
-    let _ = world.step(&Event::Send(message))?;
+    let _ = world.step(&Event::Send(Message::new(b"ab").ok_or("two octets")?))?;
     let _ = world.step(&Event::ToReceiver(Flips::new()))?;
     assert_eq!(rt; world.delivered().len(), 1);
     Ok(())
@@ -43,8 +43,7 @@ fn a_world_delivers_a_message(rt: HostRuntime) -> Result<(), Fail> {
 #[test]
 fn a_long_world_takes_a_message(rt: HostRuntime) -> Result<(), Fail> {
     let mut world = LongWorld::new(rt.alloc());
-    let message = LongMessage::new(b"ab").ok_or("two octets")?;
-    let _ = world.step(&LongEvent::Long(message))?;
+    let _ = world.step(&LongEvent::Long(LongMessage::new(b"ab").ok_or("two octets")?))?;
     assert_eq!(rt; world.taken().len(), 1);
     Ok(())
 }
@@ -52,8 +51,7 @@ fn a_long_world_takes_a_message(rt: HostRuntime) -> Result<(), Fail> {
 #[test]
 fn a_side_takes_a_message(rt: HostRuntime) -> Result<(), Fail> {
     let mut world = DuplexWorld::new(rt.alloc());
-    let message = Message::new(b"ab").ok_or("two octets")?;
-    let _ = world.step(&DuplexEvent::Send(Side::A, message))?;
+    let _ = world.step(&DuplexEvent::Send(Side::A, Message::new(b"ab").ok_or("two octets")?))?;
     assert_eq!(rt; world.sent(Side::A).len(), 1);
     Ok(())
 }
