@@ -76,7 +76,7 @@ fn word_fixes<I: NumberCode>(
     }
 }
 
-// The same, by encoding the symbols.
+// In how many bits the inner word at a place was received otherwise than the symbols are sent, by encoding them.
 fn inner_fixes<I: NumberCode>(bare: &BitBuf, at: usize, symbols: &[Sym]) -> u32
     requires code { I.HasCode }
     requires small { I.N ≤ 24 }

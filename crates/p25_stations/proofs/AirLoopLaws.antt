@@ -25,11 +25,6 @@ flipped-past [] place h = refl
 flipped-past (bit ∷ bits) zero h = absurd (omega arith)
 flipped-past (bit ∷ bits) (suc place) h = ap (λ (xs : List Bool). bit ∷ xs) (flipped-past bits place (omega arith))
 
-pub length-flipped : (bits : List Bool) (place : ℕ) → length (flipped bits place) ≡ length bits
-length-flipped [] place = refl
-length-flipped (bit ∷ bits) zero = refl
-length-flipped (bit ∷ bits) (suc place) = ap suc (length-flipped bits place)
-
 -- one more place
 pub with_flips-more : (bits now : List Bool) (flips : List ℕ) (i place : ℕ) → slice_get flips i ≡ Some place → i < length flips → now ≡ with_flips bits (take i flips) → flipped now place ≡ with_flips bits (take (i + 1) flips)
 with_flips-more bits now flips i place is h e =

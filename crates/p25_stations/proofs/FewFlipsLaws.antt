@@ -9,6 +9,7 @@ use Rattle.std.proofs.lemmas.List.{take-take, length-replicate}
 use Rattle.std.proofs.lemmas.List.Sums.{sum_by-cons}
 use Rattle.p25_bits.specs.Bits.{part, flipped}
 use Rattle.p25_bits.specs.Distance.{distance_by, distance_of}
+use Rattle.p25_bits.proofs.BitsLaws.{length-flipped}
 use Rattle.p25_bits.proofs.PartLaws.{length-part}
 use Rattle.p25_bits.proofs.DistanceLaws.{distance_by-append, distance_of-same, distance_of-sym, distance_of-triangle, distance_of-split, distance_of-take, distance_of-part, distance_of-flipped}
 use Rattle.p25_status.specs.Woven.{bare_in, bare_of}
@@ -25,7 +26,7 @@ use Rattle.p25_packet_blocks.specs.Sendable.{IsSendable}
 use Rattle.p25_packet_blocks.specs.Within.{block_radius}
 use Rattle.p25_packet_blocks.proofs.PlacesLaws.{image_long}
 use Rattle.p25_stations.specs.Air.{places_within, station_nac, station_status, transmission_of, with_flips, received_bits, ArrivesWithin}
-use Rattle.p25_stations.proofs.AirLoopLaws.{flipped-past, length-flipped}
+use Rattle.p25_stations.proofs.AirLoopLaws.{flipped-past}
 
 -- Distances of parts.
 
