@@ -34,5 +34,6 @@ pub record IsInnerCount (IsWord : List Bool → Type 0) (size k at : ℕ) (symbo
   pub value : (sent : List Bool) → IsEncoding IsWord k (symbol_bits symbols) sent → count ≡ distance_of (part at size bits) sent
 
 -- the counts of the first inner words, by their places: each that is known is one for the symbols that were read there
-pub record AreInnerCounts (IsWord : List Bool → Type 0) (size k each i : ℕ) (places : List ℕ) (symbols : List Sym) (bits : List Bool) (counts : List (Option ℕ)) : Type 0 where
+pub record AreInnerCounts (IsWord : List Bool → Type 0) (size k each i : ℕ) (places : List ℕ) (symbols : List Sym) (bits : List Bool)
+    (counts : List (Option ℕ)) : Type 0 where
   pub known : (j : ℕ) → j < i → IfSome (slice_index_or counts j None) (IsInnerCount IsWord size k (slice_index places j) (part (each * j) each symbols) bits)

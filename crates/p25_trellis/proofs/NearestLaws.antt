@@ -16,7 +16,8 @@ use Rattle.p25_trellis.proofs.FirstPathLaws.{IsFirstLeastEnd, IsFirstLeastEnd-la
 use Rattle.p25_trellis.proofs.PathLaws.{power-pos, same_block}
 
 -- one number more is the lowest least where it has less
-IsLowestLeast-more : (states : ℕ) (value : ℕ → ℕ) (symbol : ℕ) → IsLowestLeast states value symbol (value symbol) → let next = if nat_lt (value states) (value symbol) then states else symbol in IsLowestLeast (suc states) value next (value next)
+IsLowestLeast-more : (states : ℕ) (value : ℕ → ℕ) (symbol : ℕ) → IsLowestLeast states value symbol (value symbol)
+    → let next = if nat_lt (value states) (value symbol) then states else symbol in IsLowestLeast (suc states) value next (value next)
 IsLowestLeast-more states value symbol was =
     let P : ℕ → ℕ → Type 0 = λ bound next. IsLowestLeast bound value next (value next) in
     elim (cases_lt (value states) (value symbol)) [
