@@ -1,6 +1,7 @@
 //! Values from outside: rules as tables, parts of long messages, and scripts through `run`.
 
 mod duplex;
+mod faces;
 mod faults;
 mod fragments;
 mod heads;
