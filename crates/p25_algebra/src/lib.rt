@@ -2,8 +2,8 @@
 //! field of characteristic 2.
 //!
 //! Each function here is a theorem: its body is empty, and its contract says what is true in GF(64).
-//! The proofs are over any such field; a crate above cites the lemma of the same name in this
-//! crate's `proofs/`.
+//! The proofs are over any such field; a crate above cites the lemmas in this crate's `proofs/`, which
+//! `proofs/laws/NAME/Answers.antt` names.
 //!
 //! A polynomial is seen as the coefficient of x^i at each i, and the elements and factors of a power
 //! sum as functions of their place.

@@ -11,7 +11,7 @@
 //! assert_eq!(rt; check.to_be_bytes(), [0xCE, 0x3C]);
 //! ```
 //!
-//! | call | width, divisor without its highest term | in the catalogues of checksums | of the text 123456789 |
+//! | call | width, divisor without its highest term | in the catalogs of checksums | of the text 123456789 |
 //! |---|---|---|---|
 //! | `crc9` | 9, 059 hex | width 9 | serial 0 and sixteen octets of 0: 1FF hex |
 //! | `crc16` | 16, 1021 hex | CRC-16/GSM | CE3C hex |

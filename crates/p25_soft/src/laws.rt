@@ -1,4 +1,4 @@
-//! Laws of levels: which are read as what was sent. The bodies are empty: each function states what is proved.
+//! Laws of levels: which are read as what was sent. Each function states what is proved, and calls at most other theorems.
 
 ghost use Rattle.std.specs.Prelude.{◌≡◌, ℕ, ◌*◌, ◌<◌, List, ℤ, All, length};
 ghost use Rattle.p25_trellis.specs.Nearest.{block_from, half_block, half_octets, three_quarter_block, three_quarter_octets};

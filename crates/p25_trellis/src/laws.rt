@@ -1,5 +1,5 @@
-//! Laws of the rates: how far their paths differ, and what the functions of blocks and readings are. The bodies are empty:
-//! each function states what is proved.
+//! Laws of the rates: how far their paths differ, and what the functions of blocks and readings are. Each function
+//! states what is proved, and calls at most other theorems.
 
 ghost use Rattle.std.specs.Prelude.{◌≡◌, ℕ, ◌*◌, ◌<◌, ◌≤◌, Bool, List, All, length};
 ghost use Rattle.std.specs.List.{concat};

@@ -14,7 +14,7 @@
 //!
 //! Contracts see what the bits from a place on need as `need_of`, what a unit's bits read as as `unit_reading_of`, its bits
 //! as `image_of`, and its item as `unit_item_of`. `need_laws` says all that a scanner has to know of units, and
-//! `unit_laws` what is read from a unit, undamaged or with few wrong bits. A kind of unit stands at a line in each of
+//! `unit_laws` what is read from a unit, undamaged or with few wrong bits. Each kind of unit is a case in each of
 //! `body_length`, `body_image_of`, `body_looked`, `kind_need` and `body_reading_of`.
 #![tactic(auto)]
 
