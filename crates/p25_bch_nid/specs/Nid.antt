@@ -1,4 +1,4 @@
--- Network identifiers as 64 sent bits: NAC, DUID, 47 check bits and P.
+-- Network identifiers (NID) as 64 sent bits: NAC, DUID, 47 check bits and P.
 use Rattle.std.specs.Prelude.{◌≡◌, ℕ, ◌+◌, ◌*◌, ◌/◌, ◌%◌, ◌^◌, ◌<◌, ◌==◌, ◌||◌, if◌then◌else◌}
 use Rattle.p25_bits.specs.Divisible.{IsDivisible}
 
@@ -6,11 +6,11 @@ use Rattle.p25_bits.specs.Divisible.{IsDivisible}
 abbrev pub generator : ℕ
 generator = 0xCD930BDD3B2B
 
--- P by the writer's rule: 1 for DUID 5 and A hex, 0 for every other
+-- P by the writer's rule: 1 for DUID 5 (LDU1) and A hex (LDU2), 0 for every other
 abbrev pub parity_of : ℕ → ℕ
 parity_of duid = if duid == 5 || duid == 10 then 1 else 0
 
--- the 64 bits that an identifier is sent as, as a number: a BCH word that begins with NAC and DUID, and P
+-- the 64 bits that a network identifier (NID) is sent as, as a number: a BCH word that begins with NAC and DUID, and P
 pub record IsSent (nac duid bits : ℕ) : Type 0 where
   pub word : IsDivisible generator (bits / 2)
   pub information : bits / 2 ^ 48 ≡ 16 * nac + duid

@@ -1,4 +1,4 @@
--- The reading of a network identifier to radius 11, as a function of its 64 bits, and what it is.
+-- The reading of a network identifier (NID) to radius 11, as a function of its 64 bits, and what it is.
 use Rattle.std.specs.Prelude.{◌≡◌, ℕ, ◌≤◌, Bool, List, take, Option, Some, None, option_map}
 use Rattle.std.specs.Bool.{beq}
 use Rattle.p25_bits.specs.Bits.{field_of, part}
@@ -11,7 +11,7 @@ use Rattle.p25_bch_nid.specs.Bch63Readings.{bch63_reading_of}
 abbrev pub identifier_of_word : List Bool → ℕ × ℕ
 identifier_of_word word = (field_of (take 12 word), field_of (part 12 4 word))
 
--- the reading of 64 bits: the NAC and the DUID of the word within 11 bits of the first 63, or none
+-- the network identifier (NID) that 64 bits read as: the NAC and the DUID of the word within 11 bits of the first 63, or none
 unfoldable pub nid_reading_of : List Bool → Option (ℕ × ℕ)
 nid_reading_of bits = option_map identifier_of_word (bch63_reading_of (take 63 bits))
 

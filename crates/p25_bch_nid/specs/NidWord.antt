@@ -1,4 +1,4 @@
--- The 64 bits that an identifier is sent as, as a list.
+-- The 64 bits that a network identifier (NID) is sent as, as a list.
 use Rattle.std.specs.Prelude.{◌≡◌, ℕ, ◌/◌, ◌^◌, Bool, true, false, ◌==◌, ◌||◌, if◌then◌else◌, List, [], ◌∷◌, ◌++◌, length, take, refl}
 use Rattle.std.proofs.Common.{ap, ap₂, sym, ◌∙◌, arith, length-append}
 use Rattle.std.proofs.lemmas.List.{take_at}
@@ -9,7 +9,7 @@ use Rattle.p25_bch_nid.specs.Nid.{parity_of, IsSent}
 use Rattle.p25_bch_nid.specs.Bch63.{IsBch63}
 use Rattle.p25_bch_nid.specs.Bch63Laws.{encoded, IsEncoding-encoded, one_word}
 
--- the word of the code that begins with NAC and DUID, and P
+-- the 64 bits of a network identifier (NID): the word of the code that begins with NAC and DUID, and P
 unfoldable pub nid_word : ℕ → ℕ → List Bool
 nid_word nac duid = encoded (bits_of 12 nac ++ bits_of 4 duid) ++ (parity_of duid == 1) ∷ []
 

@@ -1,4 +1,4 @@
-//! The laws of the code and of the reading of identifiers, for those who prove what they read.
+//! The laws of the code and of the reading of network identifiers (NID), for those who prove what they read.
 
 ghost use Rattle.std.specs.Prelude.{◌≡◌, ◌↔◌, ℕ, ◌^◌, ◌<◌, ◌≤◌, Bool, List, Option, Some, length, take};
 ghost use Rattle.p25_bits.specs.Bits.{field_of};
@@ -16,7 +16,7 @@ pub fn two_forms()
     ensures { (word : List Bool) → IsBch63 word ↔ ((length word ≡ 63) × IsDivisible generator (field_of word)) }
 {}
 
-/// **Theorem.** The laws of reading identifiers.
+/// **Theorem.** The laws of reading network identifiers (NID).
 ///
 /// - `only`: what is read is the one answer that `IsNidReading` allows.
 /// - `word`: wherever a word of the code lies within 11 bits of the first 63, its NAC and DUID are read.
@@ -32,7 +32,7 @@ pub fn reading_laws()
     ensures first { (a b : List Bool) → take 63 a ≡ take 63 b → nid_reading_of a ≡ nid_reading_of b }
 {}
 
-/// **Theorem.** The data unit identifiers as numbers.
+/// **Theorem.** The data unit identifiers (DUID) as numbers.
 pub fn identifiers()
     ensures hdu { HDU ≡ 0 }
     ensures tdu { TDU ≡ 3 }

@@ -1,4 +1,4 @@
-//! Network identifiers of the Project 25 air interface (TIA-102.BAAA, Network Identifier): a 12-bit network access
+//! Network identifiers (NID) of the Project 25 air interface (TIA-102.BAAA, Network Identifier): a 12-bit network access
 //! code (NAC) and a 4-bit data unit identifier (DUID), protected by the BCH code (63,16) and followed by one bit P.
 //!
 //! The 64 bits of an identifier are a number whose highest bit is sent first. The first 63 of them are a word of the code,

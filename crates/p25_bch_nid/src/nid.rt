@@ -1,19 +1,19 @@
 ghost use Rattle.std.specs.Prelude.{◌≡◌, ◌≤◌, ◌<◌, ◌↔◌, ◌+◌, ◌*◌, ◌/◌, ◌%◌, IsSome, IfSome};
 
-/// A network identifier: whose traffic it is, and which kind of unit follows.
+/// A network identifier (NID): whose traffic it is, and which kind of unit follows.
 #[derive(Clone, Copy, Debug, PartialEq, Eq)]
 pub struct Nid {
-    /// The network access code, below 4,096.
+    /// The network access code (NAC), below 4,096.
     pub nac: u16,
-    /// The data unit identifier, below 16.
+    /// The data unit identifier (DUID), below 16.
     pub duid: u8,
     ghost nac_fits: { nac ≤ 4095 },
     ghost duid_fits: { duid ≤ 15 },
 }
 
 impl Nid {
-    /// Answers the identifier of a network access code and a data unit identifier; `None` exactly where the first
-    /// is above 4,095 or the second above 15.
+    /// Answers the network identifier (NID) of a network access code (NAC) and a data unit identifier (DUID); `None` exactly where
+    /// the first is above 4,095 or the second above 15.
     pub fn new(nac: u16, duid: u8) -> Option<Nid>
         ensures fits { IsSome result ↔ ((nac ≤ 4095) × (duid ≤ 15)) }
         ensures value { IfSome result (λ nid. (nid.nac ≡ nac) × (nid.duid ≡ duid)) }
@@ -26,7 +26,8 @@ impl Nid {
     }
 }
 
-/// The identifier whose NAC and DUID a number writes, twelve bits and four, the highest first. Each number writes one.
+/// The network identifier (NID) whose NAC and DUID a number writes, twelve bits and four, the highest first. Each number writes
+/// one.
 impl From<u16> for Nid {
     ghost from_gives = { λ number nid. (nid.nac ≡ number / 16) × (nid.duid ≡ number % 16) };
 
@@ -38,7 +39,8 @@ impl From<u16> for Nid {
     }
 }
 
-/// The number that writes the NAC and the DUID, twelve bits and four, the highest first: the information of the code word.
+/// The number that writes the NAC and the DUID of a network identifier (NID), twelve bits and four, the highest first: the
+/// information of the code word.
 impl From<Nid> for u16 {
     ghost from_gives = { λ nid number. number ≡ 16 * nid.nac + nid.duid };
 

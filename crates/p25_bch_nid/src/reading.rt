@@ -1,4 +1,4 @@
-//! Identifiers as they are received.
+//! Network identifiers (NID) as they are received.
 
 ghost use Rattle.std.specs.Prelude.{◌≡◌, ◌≤◌, ◌<◌, ◌^◌, Bool, List, Some, take, option_map};
 ghost use Rattle.p25_bits.specs.Bits.{bits_of};
@@ -9,8 +9,8 @@ ghost use Rattle.p25_bch_nid.specs.NidReading.{IsNidReading, identifier_of_word,
 use crate::correction::nearest;
 use crate::nid::Nid;
 
-/// Answers the identifier of 64 received bits, the first bit highest: the NAC and the DUID with which the word of the BCH
-/// code (63,16) begins that lies within 11 bits of the first 63. `None` comes exactly where no word of the code lies so
+/// Answers the network identifier (NID) of 64 received bits, the first bit highest: the NAC and the DUID with which the word of
+/// the BCH code (63,16) begins that lies within 11 bits of the first 63. `None` comes exactly where no word of the code lies so
 /// near. The last bit, P, is not looked at. TIA-102.BAAA, Network Identifier.
 ///
 /// A word without wrong bits is answered from its check bits.
@@ -26,7 +26,7 @@ pub fn read_nid(bits: u64) -> Option<Nid>
     }
 }
 
-// Answers the identifier with which a word of 63 bits begins, as a number with the first bit highest.
+// Answers the network identifier (NID) with which a word of 63 bits begins, as a number with the first bit highest.
 fn identifier_in(word: u64) -> Option<Nid>
     requires { word < 2 ^ 63 }
     ensures { option_map (λ nid. (nid.nac, nid.duid)) result ≡ Some (identifier_of_word (bits_of 63 word)) }

@@ -4,7 +4,7 @@ use super::*;
 use p25_bits::{number_of, put_number};
 use p25_code::{BlockCode, Reading};
 
-// An identifier and the 64 bits that it is sent as. P, the last bit, is 1 for DUID 5 and A hex alone.
+// A network identifier (NID) and the 64 bits that it is sent as. P, the last bit, is 1 for DUID 5 (LDU1) and A hex (LDU2) alone.
 const SENT: [(u16, u8, u64); 6] = [
     (0x800, 0x0, 0x8000_CD93_0BDD_3B2A),
     (0x000, 0x3, 0x0003_364C_2F74_ECAC),
@@ -34,7 +34,7 @@ fn sent_bits(rt: HostRuntime) {
     }
 }
 
-// A network access code and a data unit identifier, and whether they make an identifier.
+// A network access code (NAC) and a data unit identifier (DUID), and whether they make a network identifier (NID).
 const PARTS: [(u16, u8, bool); 6] = [
     (0, 0, true),
     (4_095, 15, true),

@@ -1,5 +1,5 @@
-//! Fields of units: an outer word of symbols over GF(64), carried by inner words of bits at places of the unit (TIA-102.BAAA,
-//! Voice Data Units).
+//! Fields of units, as link control (LC) and encryption sync (ES) are: an outer word of symbols over GF(64), carried by inner
+//! words of bits at places of the unit (TIA-102.BAAA, Voice Data Units).
 //!
 //! A symbol is the number that six bits write, the first bit highest. The information of an inner word is one symbol, or two
 //! of a Golay (24,12) word. `put_coded` encodes the symbols of an outer word as inner words, one after the other;

@@ -1,4 +1,4 @@
--- The reading of the code (16,8) of the low speed data as a function.
+-- The reading of the code (16,8) of the low speed data (LSD) as a function.
 use Rattle.std.specs.Prelude.{◌++◌, Bool, List, Option}
 use Rattle.std.specs.Bool.{beq}
 use Rattle.p25_code.specs.Binary.{IsChecked, check_columns}

@@ -1,4 +1,4 @@
-//! The Hamming code (10,6) and the code (16,8) of the low speed data, of the Project 25 air interface (TIA-102.BAAA).
+//! The Hamming code (10,6) and the code (16,8) of the low speed data (LSD), of the Project 25 air interface (TIA-102.BAAA).
 //!
 //! A word is a slice of bits in the order in which they are sent: the information first, its most significant bit first,
 //! then the check bits. `Hamming10` has 6 bits of information and 4 checks, and corrects one wrong bit. `Lsd16` has 8 and

@@ -1,4 +1,4 @@
-//! The code of the low speed data (16,8).
+//! The code (16,8) of the low speed data (LSD).
 
 ghost use Rattle.std.specs.Prelude.{◌≡◌, ◌<◌};
 ghost use Rattle.p25_code.specs.WrongBits.{number_sum};
@@ -29,7 +29,7 @@ static MESSAGES: [u16; 256] = sums! {
 
 const RADIUS: u32 = 2;
 
-/// The shortened cyclic code (16,8) of the low speed data: eight bits of information and their eight remainder bits, so
+/// The shortened cyclic code (16,8) of the low speed data (LSD): eight bits of information and their eight remainder bits, so
 /// that the word, as a polynomial with the first bit highest, is divisible by x^8 + x^5 + x^4 + x^3 + 1 (139 hex). Any two
 /// words differ in at least 5 bits; two wrong bits are corrected. TIA-102.BAAA, Low Speed Data.
 #[derive(Clone, Copy, Debug, PartialEq, Eq)]

@@ -1,4 +1,5 @@
--- The words of voice units as bits, by their fields in order, and as symbols of six bits.
+-- The words of voice units as bits, by their fields in order, and as symbols of six bits: link control (LC), encryption sync (ES) and
+-- the header word of an HDU.
 use Rattle.std.specs.Prelude.{◌≡◌, ℕ, ◌<◌, ◌^◌, Bool, List, ◌++◌, length, All}
 use Rattle.p25_bits.specs.Bits.{bits_of, field_of, octet_bits, part}
 use Rattle.p25_bits.specs.Numbers.{octets_from}
@@ -8,27 +9,27 @@ use Rattle.p25_link.specs.declared.encryption_sync.EncryptionSync.{EncryptionSyn
 use Rattle.p25_link.specs.declared.header_word.HeaderWord.{HeaderWord}
 use Rattle.p25_link.specs.Symbols.{symbols_in, symbol_bits}
 
--- the 72 bits of link control: its nine octets
+-- the 72 bits of link control (LC): its nine octets
 unfoldable pub link_word_bits : LinkControl → List Bool
 link_word_bits link = octet_bits link.0
 
--- the 96 bits of encryption sync: MI 72, ALGID 8, KID 16
+-- the 96 bits of encryption sync (ES): MI 72, ALGID 8, KID 16
 unfoldable pub sync_word_bits : EncryptionSync → List Bool
 sync_word_bits sync = octet_bits sync.mi ++ bits_of 8 sync.algid ++ bits_of 16 sync.kid
 
--- the 120 bits of the header word: MI 72, MFID 8, ALGID 8, KID 16, TGID 16
+-- the 120 bits of the header word of an HDU: MI 72, MFID 8, ALGID 8, KID 16, TGID 16
 unfoldable pub header_word_bits : HeaderWord → List Bool
 header_word_bits word = octet_bits word.mi ++ bits_of 8 word.mfid ++ bits_of 8 word.algid ++ bits_of 16 word.kid ++ bits_of 16 word.tgid
 
--- the link control of 72 bits
+-- the link control (LC) of 72 bits
 unfoldable pub link_of_bits : List Bool → LinkControl
 link_of_bits bits = record { 0 = octets_from 9 bits }
 
--- the encryption sync of 96 bits
+-- the encryption sync (ES) of 96 bits
 unfoldable pub sync_of_bits : List Bool → EncryptionSync
 sync_of_bits bits = record { mi = octets_from 9 bits; algid = field_of (part 72 8 bits); kid = field_of (part 80 16 bits) }
 
--- the header word of 120 bits
+-- the header word of an HDU, of 120 bits
 unfoldable pub header_of_bits : List Bool → HeaderWord
 header_of_bits bits = record {
   mi = octets_from 9 bits;
@@ -63,17 +64,17 @@ pub record AreNineOctets (octets : List ℕ) : Type 0 where
   pub long : length octets ≡ 9
   pub small : All (λ octet. octet < 256) octets
 
--- what every link control keeps
+-- what every link control (LC) keeps
 pub record IsLinkControl (link : LinkControl) : Type 0 where
   pub octets : AreNineOctets link.0
 
--- what every encryption sync keeps
+-- what every encryption sync (ES) keeps
 pub record IsEncryptionSync (sync : EncryptionSync) : Type 0 where
   pub mi : AreNineOctets sync.mi
   pub algid : sync.algid < 2 ^ 8
   pub kid : sync.kid < 2 ^ 16
 
--- what every header word keeps
+-- what every header word of an HDU keeps
 pub record IsHeaderWord (word : HeaderWord) : Type 0 where
   pub mi : AreNineOctets word.mi
   pub mfid : word.mfid < 2 ^ 8

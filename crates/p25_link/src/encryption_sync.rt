@@ -1,4 +1,4 @@
-//! Encryption sync.
+//! Encryption sync (ES).
 
 ghost use Rattle.std.specs.Prelude.{◌≡◌, length};
 ghost use Rattle.p25_link.specs.Words.{sync_symbols, sync_of_symbols, IsEncryptionSync};
@@ -6,19 +6,19 @@ ghost use Rattle.p25_link.specs.Words.{sync_symbols, sync_of_symbols, IsEncrypti
 use crate::symbols::{first_octets, octets_number, put_symbols, symbols_number};
 use p25_gf64::Sym;
 
-/// What a receiver needs to decrypt a call that it joins. TIA-102.BAAA, Encryption Sync Word.
+/// Encryption sync (ES): what a receiver needs to decrypt a call that it joins. TIA-102.BAAA, Encryption Sync Word.
 #[derive(Clone, Copy, Debug, PartialEq, Eq)]
 pub struct EncryptionSync {
-    /// The message indicator.
+    /// The message indicator (MI).
     pub mi: [u8; 9],
-    /// The algorithm; 80 hex means that the voice is not encrypted.
+    /// The algorithm (ALGID); 80 hex means that the voice is not encrypted.
     pub algid: u8,
-    /// The key.
+    /// The key (KID).
     pub kid: u16,
 }
 
 impl EncryptionSync {
-    /// Answers the sixteen symbols of message indicator, algorithm and key.
+    /// Answers the sixteen symbols of encryption sync (ES): those of message indicator, algorithm and key.
     pub fn symbols(&self) -> [Sym; 16]
         ensures value { result ≡ sync_symbols self.now }
         ensures len { length result ≡ 16 }
@@ -32,7 +32,7 @@ impl EncryptionSync {
         symbols
     }
 
-    /// Answers the encryption sync whose symbols these are.
+    /// Answers the encryption sync (ES) whose symbols these are.
     pub fn from_symbols(symbols: &[Sym; 16]) -> EncryptionSync
         ensures value { result ≡ sync_of_symbols symbols.now }
         ensures back { sync_symbols result ≡ symbols.now }

@@ -1,4 +1,4 @@
-//! The header word.
+//! The header word of a header data unit (HDU).
 
 ghost use Rattle.std.specs.Prelude.{◌≡◌, length};
 ghost use Rattle.p25_link.specs.Words.{header_symbols, header_of_symbols, IsHeaderWord};
@@ -6,23 +6,23 @@ ghost use Rattle.p25_link.specs.Words.{header_symbols, header_of_symbols, IsHead
 use crate::symbols::{first_octets, octets_number, put_symbols, symbols_number};
 use p25_gf64::Sym;
 
-/// What the header of a call says before its voice. TIA-102.BAAA, Header Code Word.
+/// The header word of a header data unit (HDU): what is said of a call before its voice. TIA-102.BAAA, Header Code Word.
 #[derive(Clone, Copy, Debug, PartialEq, Eq)]
 pub struct HeaderWord {
-    /// The message indicator.
+    /// The message indicator (MI).
     pub mi: [u8; 9],
-    /// The manufacturer.
+    /// The manufacturer (MFID).
     pub mfid: u8,
-    /// The algorithm; 80 hex means that the voice is not encrypted.
+    /// The algorithm (ALGID); 80 hex means that the voice is not encrypted.
     pub algid: u8,
-    /// The key.
+    /// The key (KID).
     pub kid: u16,
-    /// The talk group.
+    /// The talk group (TGID).
     pub tgid: u16,
 }
 
 impl HeaderWord {
-    /// Answers the twenty symbols of message indicator, manufacturer, algorithm, key and talk group.
+    /// Answers the twenty symbols of the header word of an HDU: those of message indicator, manufacturer, algorithm, key and talk group.
     pub fn symbols(&self) -> [Sym; 20]
         ensures value { result ≡ header_symbols self.now }
         ensures len { length result ≡ 20 }
@@ -37,7 +37,7 @@ impl HeaderWord {
         symbols
     }
 
-    /// Answers the header word whose symbols these are.
+    /// Answers the header word of an HDU whose symbols these are.
     pub fn from_symbols(symbols: &[Sym; 20]) -> HeaderWord
         ensures value { result ≡ header_of_symbols symbols.now }
         ensures back { header_symbols result ≡ symbols.now }

@@ -1,4 +1,4 @@
-//! The laws of words and their symbols.
+//! The laws of words and their symbols: of link control (LC), encryption sync (ES) and the header word of an HDU.
 
 ghost use Rattle.std.specs.Prelude.{◌≡◌, List, length};
 ghost use Rattle.p25_gf64.specs.declared.symbol.Sym.{Sym};

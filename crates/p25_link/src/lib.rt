@@ -1,5 +1,5 @@
-//! The words that voice units carry beside voice, as the symbols of six bits that their codes take: link control, encryption
-//! sync and the header word (TIA-102.BAAA, Voice Data Units).
+//! The words that voice units carry beside voice, as the symbols of six bits that their codes take: link control (LC) of an
+//! LDU1 and a TDULC, encryption sync (ES) of an LDU2, and the header word of an HDU (TIA-102.BAAA, Voice Data Units).
 //!
 //! The bits of a word are those of its fields in order, each field's most significant bit first. Six bits are a symbol, the
 //! first of them the highest of the symbol's number.

@@ -1,4 +1,4 @@
-//! Link control.
+//! Link control (LC).
 
 ghost use Rattle.std.specs.Prelude.{◌≡◌, ◌≢◌, ◌↔◌, ◌+◌, ◌*◌, length, slice_index};
 ghost use Rattle.p25_link.specs.Words.{link_symbols, link_of_symbols, IsLinkControl};
@@ -9,11 +9,11 @@ use crate::symbols::{first_octets, octets_number, put_symbols, symbols_number};
 use p25_bits::{pair_at, triple_at};
 use p25_gf64::Sym;
 
-/// The nine octets of link control, which say whose voice a call carries and to whom. TIA-102.BAAA, Link Control Word.
+/// Link control (LC): nine octets, which say whose voice a call carries and to whom. TIA-102.BAAA, Link Control Word.
 #[derive(Clone, Copy, Debug, PartialEq, Eq)]
 pub struct LinkControl(pub [u8; 9]);
 
-/// What link control says of a call, by its first octet. TIA-102.BAAA, Link Control Word, Formats.
+/// What link control (LC) says of a call, by its first octet. TIA-102.BAAA, Link Control Word, Formats.
 #[derive(Clone, Copy, Debug, PartialEq, Eq)]
 pub enum LinkKind {
     /// A call to a group (first octet 00 hex).
@@ -41,7 +41,7 @@ pub enum LinkKind {
 }
 
 impl LinkControl {
-    /// Answers the twelve symbols of the nine octets.
+    /// Answers the twelve symbols of the nine octets of link control (LC).
     pub fn symbols(&self) -> [Sym; 12]
         ensures value { result ≡ link_symbols self.now }
         ensures len { length result ≡ 12 }
@@ -53,7 +53,7 @@ impl LinkControl {
         symbols
     }
 
-    /// Answers the link control whose symbols these are.
+    /// Answers the link control (LC) whose symbols these are.
     pub fn from_symbols(symbols: &[Sym; 12]) -> LinkControl
         ensures value { result ≡ link_of_symbols symbols.now }
         ensures back { link_symbols result ≡ symbols.now }
@@ -61,7 +61,7 @@ impl LinkControl {
         LinkControl(first_octets(symbols_number(symbols), 72))
     }
 
-    /// Answers what the octets say of the call. Other comes exactly where the first octet is neither 00 nor 03 hex.
+    /// Answers what link control (LC) says of the call. Other comes exactly where the first octet is neither 00 nor 03 hex.
     pub fn kind(&self) -> LinkKind
         ensures value { result ≡ link_kind_of self.now }
         ensures other { (result ≡ LinkKind.Other) ↔ ((slice_index self.now.0 0 ≢ 0) × (slice_index self.now.0 0 ≢ 3)) }

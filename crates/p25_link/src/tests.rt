@@ -1,4 +1,5 @@
-//! Words and their symbols, with values computed apart from this code.
+//! Link control (LC), encryption sync (ES) and the header word of an HDU, and their symbols, with values computed apart from this
+//! code.
 
 use super::{EncryptionSync, HeaderWord, LinkControl, LinkKind};
 use p25_gf64::Sym;
@@ -27,7 +28,7 @@ fn assert_numbers(rt: &impl Abort, symbols: &[Sym], numbers: &[u8]) {
 
 #[test]
 fn link_control_symbols(rt: HostRuntime) -> Result<(), Fail> {
-    // Rows: the octets, and the numbers of the symbols.
+    // Rows: the octets of link control (LC), and the numbers of the symbols.
     let rows: [([u8; 9], [u8; 12]); 4] = [
         ([0; 9], [0; 12]),
         ([255; 9], [63; 12]),
@@ -51,7 +52,7 @@ fn link_control_symbols(rt: HostRuntime) -> Result<(), Fail> {
 
 #[test]
 fn encryption_sync_symbols(rt: HostRuntime) -> Result<(), Fail> {
-    // Rows: the sync, and the numbers of the symbols.
+    // Rows: the encryption sync (ES), and the numbers of the symbols.
     let rows: [(EncryptionSync, [u8; 16]); 3] = [
         (
             EncryptionSync {
@@ -88,7 +89,7 @@ fn encryption_sync_symbols(rt: HostRuntime) -> Result<(), Fail> {
 
 #[test]
 fn header_word_symbols(rt: HostRuntime) -> Result<(), Fail> {
-    // Rows: the word, and the numbers of the symbols.
+    // Rows: the header word of an HDU, and the numbers of the symbols.
     let rows: [(HeaderWord, [u8; 20]); 3] = [
         (
             HeaderWord {
@@ -133,7 +134,7 @@ fn header_word_symbols(rt: HostRuntime) -> Result<(), Fail> {
 
 #[test]
 fn kinds_of_calls(rt: HostRuntime) -> Result<(), Fail> {
-    // Rows: the octets, and the kind.
+    // Rows: the octets of link control (LC), and the kind of call.
     let rows: [([u8; 9], LinkKind); 7] = [
         (
             [0; 9],

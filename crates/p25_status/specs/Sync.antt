@@ -7,7 +7,7 @@ use Rattle.p25_bits.specs.Distance.{distance_of}
 abbrev pub sync_length : ℕ
 sync_length = 48
 
--- how many bits a network identifier has: it stands after the sync
+-- how many bits a network identifier (NID) has: it stands after the sync
 abbrev pub identifier_length : ℕ
 identifier_length = 64
 

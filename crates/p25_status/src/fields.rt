@@ -11,29 +11,29 @@ pub enum Field {
     /// The frame sync, with more than four wrong bits.
     #[default]
     Sync,
-    /// The network identifier.
+    /// The network identifier (NID).
     Nid,
-    /// The data unit identifier, where it is none that this toolkit knows.
+    /// The data unit identifier (DUID), where it is none that this toolkit knows.
     Duid,
-    /// The header word of a header unit.
+    /// The header word of a header data unit (HDU).
     HeaderWord,
-    /// The link control of a voice unit or a terminator.
+    /// The link control (LC) of an LDU1, voice with link control, or of a TDULC, a terminator with link control.
     LinkControl,
-    /// The encryption sync of a voice unit.
+    /// The encryption sync (ES) of an LDU2, voice with encryption sync.
     EncryptionSync,
-    /// The first low speed data word of a voice unit.
+    /// The first low speed data (LSD) word of an LDU1 or an LDU2.
     LowSpeed1,
-    /// The second low speed data word of a voice unit.
+    /// The second low speed data (LSD) word of an LDU1 or an LDU2.
     LowSpeed2,
-    /// The header block of a packet, where its CRC does not agree.
+    /// The header block of a packet (PDU), where its CRC does not agree.
     PacketHeader,
-    /// The length of a packet, where it is not the one that its header tells.
+    /// The length of a packet (PDU), where it is not the one that its header tells.
     Length,
-    /// The format of a packet, where it is none that this toolkit reads.
+    /// The format of a packet (PDU), where it is none that this toolkit reads.
     Format,
-    /// The CRC of a whole packet.
+    /// The CRC of a whole packet (PDU).
     PacketCrc,
-    /// The CRC of one block of a packet, by its place, from 0.
+    /// The CRC of one block of a packet (PDU), by its place, from 0.
     Block(u8),
 }
 

@@ -14,7 +14,7 @@ pub const SYNC_LENGTH: usize = 48;
 /// In how many of its places a frame sync may be wrong. That number is this project's choice.
 pub const SYNC_SLACK: u32 = 4;
 
-/// How many bits the network identifier has, which stands after the sync. TIA-102.BAAA, Network Identifier.
+/// How many bits the network identifier (NID) has, which stands after the sync. TIA-102.BAAA, Network Identifier.
 pub const IDENTIFIER_LENGTH: usize = 64;
 
 /// Answers in how many places 48 bits differ from the frame sync. `window` is the number of the bits, the first highest.

@@ -1,4 +1,4 @@
--- The front of a unit: its frame sync and its network identifier.
+-- The front of a unit: its frame sync and its network identifier (NID).
 use Rattle.std.specs.Prelude.{◌≡◌, ◌==◌, ℕ, Bool, List, [], ◌∷◌, ◌++◌, length, take, Option}
 use Rattle.p25_bits.specs.Bits.{bits_of, part}
 use Rattle.p25_bits.specs.Distance.{distance_of}
@@ -9,7 +9,7 @@ use Rattle.p25_bch_nid.specs.Nid.{parity_of}
 use Rattle.p25_bch_nid.specs.NidReading.{nid_reading_of}
 use Rattle.p25_bch_nid.specs.NidWord.{nid_word}
 
--- the first 112 bits of a unit: the sync and the identifier
+-- the first 112 bits of a unit: the sync and the network identifier (NID)
 unfoldable pub unit_front : ℕ → ℕ → List Bool
 unit_front nac duid = sync_bits ++ nid_word nac duid
 
@@ -21,11 +21,11 @@ pub record IsFront (nac duid : ℕ) (bits : List Bool) : Type 0 where
   pub word : IsEncoding IsBch63 16 (bits_of 12 nac ++ bits_of 4 duid) (part 48 63 bits)
   pub parity : part 111 1 bits ≡ (parity_of duid == 1) ∷ []
 
--- the 64 bits of the identifier of a unit as it is sent: those after the sync, without the status symbol at 70 and 71
+-- the 64 bits of the network identifier (NID) of a unit as it is sent: those after the sync, without the status symbol at 70 and 71
 unfoldable pub identifier_bits : List Bool → List Bool
 identifier_bits sent = part 48 22 sent ++ part 72 42 sent
 
--- its reading: NAC and DUID
+-- the network identifier (NID) that they read as: NAC and DUID
 unfoldable pub identifier_of : List Bool → Option (ℕ × ℕ)
 identifier_of sent = nid_reading_of (identifier_bits sent)
 

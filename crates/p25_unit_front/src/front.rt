@@ -1,4 +1,4 @@
-//! Fronts written, read and compared.
+//! Fronts, frame sync and network identifier (NID), written, read and compared.
 
 ghost use Rattle.std.specs.Prelude.{◌≡◌, ◌+◌, ◌^◌, ◌<◌, ◌≤◌, ◌++◌, length, drop, option_map};
 ghost use Rattle.p25_bits.specs.Bits.{field_of};
@@ -12,7 +12,7 @@ use p25_bch_nid::{Nid, nid_bits, nid_distance, read_nid};
 use p25_bits::BitBuf;
 use p25_status::{SENT_BLOCK_LENGTH, SYNC, sync_distance};
 
-// Where the identifier begins in a sent unit.
+// Where the network identifier (NID) begins in a sent unit.
 const IDENTIFIER_AT: usize = 48;
 
 // How many of its bits stand before the status symbol within it.
@@ -21,8 +21,8 @@ const BEFORE_STATUS: u32 = 22;
 // With how many bits it goes on after the status symbol.
 const AFTER_STATUS: u32 = 42;
 
-/// Appends the front of a unit: the 48 bits of the frame sync and the 64 bits of the identifier, first to last, without
-/// a status symbol.
+/// Appends the front of a unit: the 48 bits of the frame sync and the 64 bits of the network identifier (NID), first to last,
+/// without a status symbol.
 pub fn put_front(nid: &Nid, out: &mut BitBuf)
     requires { length out.old + 112 ≤ 25928 }
     ensures list { out.new ≡ out.old ++ unit_front nid.now.nac nid.now.duid }
@@ -32,8 +32,8 @@ pub fn put_front(nid: &Nid, out: &mut BitBuf)
     out.put_field(nid_bits(nid), 64);
 }
 
-/// Answers the identifier of the unit whose sent bits begin at place `at`: the NAC and the DUID of the word of the BCH
-/// code (63,16) within 11 bits of the first 63 bits of its identifier. `None` comes exactly where no word lies so near.
+/// Answers the network identifier (NID) of the unit whose sent bits begin at place `at`: the NAC and the DUID of the word of the
+/// BCH code (63,16) within 11 bits of the first 63 bits of its identifier. `None` comes exactly where no word lies so near.
 pub fn read_identifier(bits: &BitBuf, at: usize) -> Option<Nid>
     requires { at + 114 ≤ length bits.now }
     ensures { option_map (λ nid. (nid.nac, nid.duid)) result ≡ identifier_of (drop at bits.now) }
@@ -41,8 +41,8 @@ pub fn read_identifier(bits: &BitBuf, at: usize) -> Option<Nid>
     read_nid(identifier(bits, at))
 }
 
-/// Answers in how many places the sync and the first 63 bits of the identifier of the unit whose sent bits begin at
-/// place `at` differ from those that are sent for an identifier.
+/// Answers in how many places the sync and the first 63 bits of the network identifier (NID) of the unit whose sent bits begin
+/// at place `at` differ from those that are sent for an identifier.
 pub fn front_fixes(bits: &BitBuf, at: usize, nid: &Nid) -> u32
     requires { at + 114 ≤ length bits.now }
     ensures value { result ≡ front_fixes_of (nid.now.nac, nid.now.duid) (drop at bits.now) }
@@ -51,7 +51,7 @@ pub fn front_fixes(bits: &BitBuf, at: usize, nid: &Nid) -> u32
     sync_distance(bits.field(at, 48)) + nid_distance(identifier(bits, at), nid)
 }
 
-// The 64 bits of the identifier of the unit whose sent bits begin at a place, as a number.
+// The 64 bits of the network identifier (NID) of the unit whose sent bits begin at a place, as a number.
 fn identifier(bits: &BitBuf, at: usize) -> u64
     requires { at + 114 ≤ length bits.now }
     ensures value { result ≡ field_of (identifier_bits (drop at bits.now)) }

@@ -1,4 +1,4 @@
-//! What the front of a unit is by the places of its bits.
+//! What the front of a unit, its frame sync and its network identifier (NID), is by the places of its bits.
 
 ghost use Rattle.std.specs.Prelude.{◌≡◌, ◌↔◌, ◌*◌, ◌≤◌, ℕ, Bool, List, length, take};
 ghost use Rattle.p25_unit_front.specs.Front.{IsFront, front_of, front_fixes_of, unit_front};

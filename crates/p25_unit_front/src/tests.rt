@@ -15,7 +15,7 @@ fn the_example_of_the_head(rt: HostRuntime) {
     assert!(rt; bare.len() == 112 && bare.field(48, 16) == 0x2933);
 }
 
-// The front of a terminator of NAC 0 as it is sent, with the status symbol 0 within its identifier.
+// The front of a terminator (TDU) of NAC 0 as it is sent, with the status symbol 0 within its network identifier (NID).
 fn sent_front(wrong_sync: u64, wrong_identifier: u64) -> BitBuf
     ensures { length result ≡ 114 }
 {
