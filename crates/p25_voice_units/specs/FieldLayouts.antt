@@ -21,18 +21,18 @@ words_at size at (Nulls count) = []
 unfoldable pub word_places : ℕ → List (ℕ × Piece) → List ℕ
 word_places size rows = flat_map (λ row. words_at size row.0 row.1) rows
 
--- the header word: 20 of 36 symbols, each the information of a Golay (18,6) word
+-- the header word of an HDU: 20 of 36 symbols, each the information of a Golay (18,6) word
 abbrev pub header_layout : Layout
 header_layout = field_layout (word_places 18 hdu_rows) 18 1 golay18_reading_of (rs_erased_reading_of 36 20) 20
 
--- link control in voice: 12 of 24 symbols, each the information of a Hamming word
+-- link control (LC) in an LDU1: 12 of 24 symbols, each the information of a Hamming word
 abbrev pub link_layout : Layout
 link_layout = field_layout (word_places 10 ldu_rows) 10 1 hamming10_reading_of (rs_erased_reading_of 24 12) 12
 
--- encryption sync: 16 of 24 symbols, each the information of a Hamming word
+-- encryption sync (ES) in an LDU2: 16 of 24 symbols, each the information of a Hamming word
 abbrev pub sync_layout : Layout
 sync_layout = field_layout (word_places 10 ldu_rows) 10 1 hamming10_reading_of (rs_erased_reading_of 24 16) 16
 
--- link control in a terminator: 12 of 24 symbols, two of them the information of a Golay (24,12) word
+-- link control (LC) in a TDULC: 12 of 24 symbols, two of them the information of a Golay (24,12) word
 abbrev pub tdulc_layout : Layout
 tdulc_layout = field_layout (word_places 24 tdulc_rows) 24 2 golay24_reading_of (rs_erased_reading_of 24 12) 12

@@ -14,11 +14,12 @@ use Rattle.p25_voice_units.specs.Readings.{low_places}
 unfoldable pub wide : ℕ → List ℕ → List (ℕ × ℕ)
 wide width places = map (λ at. (at, width)) places
 
--- the looked-at places of a unit with voice: its inner words and its low speed words
+-- the looked-at places of an LDU1 or an LDU2: its inner words and its low speed words
 unfoldable pub link_looked : List (ℕ × ℕ)
 link_looked = wide 10 (word_places 10 ldu_rows) ++ wide 16 (low_places ldu_rows)
 
--- the looked-at places of a unit, as a place and a number of bits each: its inner words and its low speed words
+-- the looked-at places of a unit (HDU, LDU1, LDU2, TDU or TDULC), as a place and a number of bits each: its inner words and its low
+-- speed words
 unfoldable pub voice_looked : VoiceUnit → List (ℕ × ℕ)
 voice_looked (Header word) = wide 18 (word_places 18 hdu_rows)
 voice_looked (Link1 link low voice) = link_looked
@@ -38,6 +39,6 @@ voice_fixes_of unit received image = distance_of (bits_at (voice_looked unit) re
 pub record AreFixes (unit : VoiceUnit) (received : List Bool) (fixes : ℕ) : Type 0 where
   pub value : (nac : ℕ) → fixes ≡ voice_fixes_of unit received (voice_image_of nac unit)
 
--- in how many bits a low speed word was received otherwise than it is sent for an octet
+-- in how many bits a low speed data (LSD) word was received otherwise than it is sent for an octet
 unfoldable pub low_fixes_of : ℕ → ℕ → List Bool → ℕ
 low_fixes_of i octet received = distance_of (part (slice_index (low_places ldu_rows) i) 16 received) (lsd16_word (bits_of 8 octet))

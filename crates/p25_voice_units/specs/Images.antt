@@ -1,4 +1,4 @@
--- The bits of voice units without status symbols, as one list.
+-- The bits of voice units (HDU, LDU1, LDU2, TDU and TDULC) without status symbols, as one list.
 use Rattle.std.specs.Prelude.{ℕ, ◌*◌, Bool, false, List, [], ◌++◌, replicate, slice_index, slice_index_or}
 use Rattle.std.specs.List.{flat_map}
 use Rattle.p25_bits.specs.Bits.{bits_of, octet_bits, part}
@@ -34,7 +34,7 @@ unfoldable pub lsd16_word : List Bool → List Bool
 lsd16_word info = systematic lsd16_rows 8 info
 
 -- what a unit carries: the code of its inner words and how many symbols one of them has, the symbols of its outer word, two octets of
--- low speed data, and nine voice frames
+-- low speed data (LSD), and nine voice frames
 pub record Contents : Type 0 where
   pub encoding : List Bool → List Bool
   pub each : ℕ
@@ -61,7 +61,7 @@ piece_bits carried (Nulls count) = replicate count false
 unfoldable pub rows_bits : Contents → List (ℕ × Piece) → List Bool
 rows_bits carried rows = flat_map (λ row. piece_bits carried row.1) rows
 
--- the bits after the front
+-- the bits after the front of an HDU, an LDU1, an LDU2, a TDU or a TDULC
 unfoldable pub voice_body : VoiceUnit → List Bool
 voice_body (Header word) = rows_bits (contents golay18_word 1 (rs_word 36 20 (header_symbols word)) [] []) hdu_rows
 voice_body (Link1 link low voice) = rows_bits (contents hamming10_word 1 (rs_word 24 12 (link_symbols link)) low voice) ldu_rows

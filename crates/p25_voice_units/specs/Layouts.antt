@@ -4,11 +4,11 @@ use Rattle.std.specs.Prelude.{ℕ, List, [], ◌∷◌}
 use Rattle.p25_voice_units.specs.declared.layout.Piece.{Piece}
 use Rattle.p25_voice_units.specs.declared.layout.Piece.TheVariants.{Words, Frame, LowSpeed, Nulls}
 
--- a header: 36 inner words of its coded field, and nulls
+-- an HDU, a header: 36 inner words of its coded field, and nulls
 abbrev pub hdu_rows : List (ℕ × Piece)
 hdu_rows = (112, Words 0 36) ∷ (760, Nulls 10) ∷ []
 
--- voice with link control or encryption sync: nine frames, 24 inner words of the coded field, and two low speed words
+-- an LDU1 or an LDU2, voice with link control or encryption sync: nine frames, 24 inner words of the coded field, and two low speed words
 abbrev pub ldu_rows : List (ℕ × Piece)
 ldu_rows =
     (112, Frame 0)
@@ -30,10 +30,10 @@ ldu_rows =
     ∷ (1536, Frame 8)
     ∷ []
 
--- a terminator: nulls alone
+-- a TDU, a terminator: nulls alone
 abbrev pub tdu_rows : List (ℕ × Piece)
 tdu_rows = (112, Nulls 28) ∷ []
 
--- a terminator with link control: 12 inner words of its coded field, and nulls
+-- a TDULC, a terminator with link control: 12 inner words of its coded field, and nulls
 abbrev pub tdulc_rows : List (ℕ × Piece)
 tdulc_rows = (112, Words 0 12) ∷ (400, Nulls 20) ∷ []

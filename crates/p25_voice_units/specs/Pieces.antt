@@ -10,7 +10,7 @@ piece_length size (Frame i) = 144
 piece_length size (LowSpeed i) = 16
 piece_length size (Nulls count) = count
 
--- there are enough symbols, `each` for an inner word, enough octets of low speed data and enough voice frames
+-- there are enough symbols, `each` for an inner word, enough octets of low speed data (LSD) and enough voice frames
 abbrev pub piece_fits : ℕ → ℕ → ℕ → ℕ → Piece → Bool
 piece_fits each symbols low frames (Words first count) = nat_le (each * first + each * count) symbols
 piece_fits each symbols low frames (Frame i) = nat_lt i frames

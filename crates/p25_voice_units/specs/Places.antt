@@ -1,4 +1,4 @@
--- The bits of voice units by their places, as the standard has it.
+-- The bits of voice units (HDU, LDU1, LDU2, TDU and TDULC) by their places, as the standard has it.
 use Rattle.std.specs.Prelude.{◌≡◌, ℕ, Bool, false, List, [], length, take, replicate, slice_index, All}
 use Rattle.p25_bits.specs.Bits.{bits_of, octet_bits, part}
 use Rattle.p25_code.specs.Words.{IsEncoding}
@@ -19,8 +19,8 @@ use Rattle.p25_voice_units.specs.Layouts.{hdu_rows, ldu_rows, tdu_rows, tdulc_ro
 use Rattle.p25_voice_units.specs.FieldLayouts.{header_layout, link_layout, sync_layout, tdulc_layout}
 use Rattle.p25_voice_units.specs.Images.{frame_at}
 
--- what stands at a place: the 144 bits of a voice frame, a low speed word with an octet of data, or nulls. Of the inner words of the
--- coded field `HasField` speaks
+-- what stands at a place: the 144 bits of a voice frame, a low speed data (LSD) word with an octet, or nulls. Of the inner words of
+-- the coded field `HasField` speaks
 abbrev pub HasPiece : List ℕ → List VoiceFrame → List Bool → ℕ → Piece → Type 0
 HasPiece low voice bare at (Words first count) = Unit {0}
 HasPiece low voice bare at (Frame i) = part at 144 bare ≡ octet_bits (frame_at voice i).0
@@ -33,7 +33,7 @@ pub record IsLaidOut (nac duid count : ℕ) (rows : List (ℕ × Piece)) (low : 
   pub front : IsFront nac duid (take 112 bare)
   pub pieces : All (λ row. HasPiece low voice bare row.0 row.1) rows
 
--- bits are a voice unit: they are laid out as its kind is, and carry its coded field
+-- bits are a voice unit (HDU, LDU1, LDU2, TDU or TDULC): they are laid out as its kind is, and carry its coded field
 unfoldable pub IsVoiceImage : ℕ → VoiceUnit → List Bool → Type 0
 IsVoiceImage nac (Header word) bare =
     IsLaidOut nac 0 770 hdu_rows [] [] bare × HasField IsGolay18 (IsWord 36 20) header_layout (header_symbols word) bare

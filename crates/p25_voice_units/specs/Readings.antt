@@ -1,4 +1,4 @@
--- What voice units are read from.
+-- What voice units (HDU, LDU1, LDU2, TDU and TDULC) are read from.
 use Rattle.std.specs.Prelude.{ℕ, Bool, if◌then◌else◌, ◌==◌, List, [], ◌∷◌, ◌++◌, take, drop, map, slice_index, Option, Some, None, option_map, Result, Ok, Err}
 use Rattle.std.specs.List.{flat_map}
 use Rattle.p25_bits.specs.Bits.{field_of, part}
@@ -26,14 +26,14 @@ frame_at_place at (Frame i) = at ∷ []
 frame_at_place at (LowSpeed i) = []
 frame_at_place at (Nulls count) = []
 
--- the place of a low speed word
+-- the place of a low speed data (LSD) word, if that is what stands at a place
 abbrev pub low_at_place : ℕ → Piece → List ℕ
 low_at_place at (Words first count) = []
 low_at_place at (Frame i) = []
 low_at_place at (LowSpeed i) = at ∷ []
 low_at_place at (Nulls count) = []
 
--- the places of the voice frames and of the low speed words of a layout
+-- the places of the voice frames and of the low speed data (LSD) words of a layout
 unfoldable pub frame_places : List (ℕ × Piece) → List ℕ
 frame_places rows = flat_map (λ row. frame_at_place row.0 row.1) rows
 
@@ -44,15 +44,15 @@ low_places rows = flat_map (λ row. low_at_place row.0 row.1) rows
 unfoldable pub frame_in : ℕ → List Bool → VoiceFrame
 frame_in at bare = record { 0 = octets_from 18 (drop at bare) }
 
--- the voice frames of a unit, as received
+-- the voice frames of an LDU1 or an LDU2, as received
 unfoldable pub voice_in : List Bool → List VoiceFrame
 voice_in bare = map (λ at. frame_in at bare) (frame_places ldu_rows)
 
--- the octet of the low speed word of a number, from 0, or none where no word lies within 2 bits
+-- the octet of the low speed data (LSD) word of a number, from 0, or none where no word lies within 2 bits
 unfoldable pub low_in : ℕ → List Bool → Option ℕ
 low_in i bare = option_map (λ word. field_of (take 8 word)) (lsd16_reading_of (part (slice_index (low_places ldu_rows) i) 16 bare))
 
--- the words of the coded fields, or none where the field fails
+-- the words of the coded fields, header word of an HDU, link control (LC) and encryption sync (ES), or none where the field fails
 unfoldable pub header_in : List Bool → Option HeaderWord
 header_in bare = option_map header_of_symbols (field_reading_of header_layout bare)
 
@@ -67,16 +67,16 @@ unfoldable pub missing : {X : Type 0} → Field → Option X → List Field
 missing field None = field ∷ []
 missing field (Some x) = []
 
--- the failing fields of a unit with voice, in order
+-- the failing fields of an LDU1 or an LDU2, in order
 unfoldable pub failing : {X : Type 0} → Field → Option X → Option ℕ → Option ℕ → List Field
 failing field word first second = missing field word ++ missing LowSpeed1 first ++ missing LowSpeed2 second
 
--- units by their parts: the unit where no part fails, else exactly the fields that fail, in order
+-- units (HDU, LDU1, LDU2 and TDULC) by their parts: the unit where no part fails, else exactly the fields that fail, in order
 unfoldable pub header_from : Option HeaderWord → Result VoiceUnit (List Field)
 header_from (Some word) = Ok (Header word)
 header_from None = Err (HeaderField ∷ [])
 
--- a unit with voice, made of its word and of the octets of low speed data
+-- an LDU1 or an LDU2, made of its word and of the octets of low speed data (LSD)
 unfoldable pub ldu_from : {X : Type 0} → Field → (X → List ℕ → VoiceUnit) → Option X → Option ℕ → Option ℕ → Result VoiceUnit (List Field)
 ldu_from field unit (Some word) (Some first) (Some second) = Ok (unit word (first ∷ second ∷ []))
 ldu_from field unit word first second = Err (failing field word first second)
@@ -85,7 +85,7 @@ unfoldable pub tdulc_from : Option LinkControl → Result VoiceUnit (List Field)
 tdulc_from (Some link) = Ok (EndLink link)
 tdulc_from None = Err (LinkField ∷ [])
 
--- units by their bits
+-- an LDU1 and an LDU2 by their bits
 unfoldable pub ldu1_in : List Bool → Result VoiceUnit (List Field)
 ldu1_in bare = ldu_from LinkField (λ link low. Link1 link low (voice_in bare)) (link_in link_layout bare) (low_in 0 bare) (low_in 1 bare)
 

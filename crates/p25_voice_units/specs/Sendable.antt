@@ -12,24 +12,24 @@ pub record IsVoiceFrame (frame : VoiceFrame) : Type 0 where
   pub long : length frame.0 ≡ 18
   pub small : All (λ octet. octet < 256) frame.0
 
--- nine voice frames, and two octets of low speed data
+-- nine voice frames, and two octets of low speed data (LSD)
 pub record IsSpeech (low : List ℕ) (voice : List VoiceFrame) : Type 0 where
   pub two : length low ≡ 2
   pub small : All (λ octet. octet < 256) low
   pub nine : length voice ≡ 9
   pub frames : All IsVoiceFrame voice
 
--- what voice with link control keeps
+-- what an LDU1, voice with link control, keeps
 pub record IsSendableLink1 (link : LinkControl) (low : List ℕ) (voice : List VoiceFrame) : Type 0 where
   pub word : IsLinkControl link
   pub speech : IsSpeech low voice
 
--- what voice with encryption sync keeps
+-- what an LDU2, voice with encryption sync, keeps
 pub record IsSendableLink2 (sync : EncryptionSync) (low : List ℕ) (voice : List VoiceFrame) : Type 0 where
   pub word : IsEncryptionSync sync
   pub speech : IsSpeech low voice
 
--- what every voice unit keeps
+-- what every voice unit (HDU, LDU1, LDU2, TDU or TDULC) keeps
 unfoldable pub IsSendableVoice : VoiceUnit → Type 0
 IsSendableVoice (Header word) = IsHeaderWord word
 IsSendableVoice (Link1 link low voice) = IsSendableLink1 link low voice

@@ -10,11 +10,11 @@ use Rattle.p25_voice_units.specs.Layouts.{ldu_rows}
 use Rattle.p25_voice_units.specs.FieldLayouts.{header_layout, link_layout, sync_layout, tdulc_layout}
 use Rattle.p25_voice_units.specs.Readings.{low_places, voice_in}
 
--- at most two bits of each low speed word are wrong
+-- at most two bits of each low speed data (LSD) word are wrong
 abbrev pub AreLowWithin : List Bool → List Bool → Type 0
 AreLowWithin sent received = All (λ at. distance_of (part at 16 received) (part at 16 sent) ≤ 2) (low_places ldu_rows)
 
--- of a unit with voice: the coded field costs at most so much, and so few bits of the low speed words are wrong
+-- of an LDU1 or an LDU2: the coded field costs at most so much, and so few bits of the low speed words are wrong
 pub record IsLinkWithin (checks : ℕ) (layout : Layout) (sent received : List Bool) : Type 0 where
   pub field : IsFieldNear checks layout sent received
   pub low : AreLowWithin sent received
@@ -28,7 +28,7 @@ IsVoiceWithin (Link2 sync low voice) sent received = IsLinkWithin 8 sync_layout 
 IsVoiceWithin End sent received = Unit {0}
 IsVoiceWithin (EndLink link) sent received = IsFieldNear 12 tdulc_layout sent received
 
--- the unit with the voice frames as received
+-- the unit with the voice frames of an LDU1 or an LDU2 as received
 abbrev pub received_voice : VoiceUnit → List Bool → VoiceUnit
 received_voice (Header word) received = Header word
 received_voice (Link1 link low voice) received = Link1 link low (voice_in received)

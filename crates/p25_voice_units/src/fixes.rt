@@ -1,4 +1,4 @@
-//! In how many places received voice units differ from what was sent.
+//! In how many places received voice units (HDU, LDU1, LDU2, TDU and TDULC) differ from what was sent.
 
 ghost use Rattle.std.specs.Prelude.{◌≡◌, ◌+◌, ◌*◌, ◌≤◌, All, Some, length};
 ghost use Rattle.p25_bits.specs.Distance.{distance_of};
@@ -19,15 +19,15 @@ pub fn voice_fixes(unit: &VoiceUnit, received: &BitBuf, image: &BitBuf) -> u32
 {
     match unit {
         VoiceUnit::Header(_) => differing(&HDU_WORDS, 18, received, image),
-        VoiceUnit::Link1 { .. } => link_fixes(received, image),
-        VoiceUnit::Link2 { .. } => link_fixes(received, image),
+        VoiceUnit::Link1 { .. } => ldu_fixes(received, image),
+        VoiceUnit::Link2 { .. } => ldu_fixes(received, image),
         VoiceUnit::End => 0,
         VoiceUnit::EndLink { .. } => differing(&TDULC_WORDS, 24, received, image),
     }
 }
 
-// Counts the wrong bits of the words of an LDU.
-fn link_fixes(received: &BitBuf, image: &BitBuf) -> u32
+// Counts the wrong bits of the words of an LDU1 or an LDU2.
+fn ldu_fixes(received: &BitBuf, image: &BitBuf) -> u32
     requires received { 1680 ≤ length received.now }
     requires image { 1680 ≤ length image.now }
     ensures value { result ≡ distance_of (bits_at link_looked received.now) (bits_at link_looked image.now) }

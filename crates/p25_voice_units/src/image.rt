@@ -1,10 +1,10 @@
-//! Voice units as bits.
+//! Voice units (HDU, LDU1, LDU2, TDU and TDULC) as bits.
 
 ghost use Rattle.std.specs.Prelude.{All, ◌≡◌, ◌+◌, ◌*◌, ◌/◌, ◌<◌, ◌≤◌, ◌++◌, Bool, List, Ok, Some, true, length, sum_by};
 ghost use Rattle.std.specs.List.{list_all};
 ghost use Rattle.p25_coded_fields.specs.Written.{Encodes};
 ghost use Rattle.p25_bits.specs.Bits.{bits_of, octet_bits};
-ghost use Rattle.p25_voice_units.specs.declared.unit.VoiceUnit.TheVariants.{Header as header_unit, Link1 as ldu1_unit, Link2 as ldu2_unit, End as end_unit, EndLink as tdulc_unit};
+ghost use Rattle.p25_voice_units.specs.declared.unit.VoiceUnit.TheVariants.{Header as hdu_unit, Link1 as ldu1_unit, Link2 as ldu2_unit, End as tdu_unit, EndLink as tdulc_unit};
 ghost use Rattle.p25_voice_units.specs.Images.{piece_bits, rows_bits, contents, lsd16_word, voice_body, voice_image_of};
 ghost use Rattle.p25_voice_units.specs.Lengths.{voice_duid, voice_length_of};
 ghost use Rattle.p25_voice_units.specs.Readings.{voice_reading_of};
@@ -35,7 +35,7 @@ fn put_frame(octets: &[u8; 18], out: &mut BitBuf)
     out.put_numbers(octets, 8);
 }
 
-// Appends the low speed word of an octet.
+// Appends the low speed data (LSD) word of an octet.
 fn put_low(octet: u8, out: &mut BitBuf)
     requires { length out.old + 16 ≤ 25928 }
     ensures list { out.new ≡ out.old ++ lsd16_word (bits_of 8 octet) }
@@ -96,10 +96,10 @@ fn put_rows<I: NumberCode>(
     }
 }
 
-// Appends what stands after the front of a header.
-fn put_header(word: &HeaderWord, out: &mut BitBuf)
+// Appends what stands after the front of an HDU: the header word.
+fn put_hdu(word: &HeaderWord, out: &mut BitBuf)
     requires { length out.old + 658 ≤ 25928 }
-    ensures list { out.new ≡ out.old ++ voice_body (header_unit word.now) }
+    ensures list { out.new ≡ out.old ++ voice_body (hdu_unit word.now) }
     ensures len { length out.new ≡ length out.old + 658 }
     ensures sound { IsHeaderWord word.now }
 {
@@ -108,7 +108,7 @@ fn put_header(word: &HeaderWord, out: &mut BitBuf)
     put_rows::<Golay18>(&HDU_ROWS, &symbols, &[], &[], out);
 }
 
-// Appends what stands after the front of voice with link control.
+// Appends what stands after the front of an LDU1: voice with link control (LC).
 fn put_ldu1(link: &LinkControl, low: &[u8; 2], voice: &Voice, out: &mut BitBuf)
     requires { length out.old + 1568 ≤ 25928 }
     ensures list { out.new ≡ out.old ++ voice_body (ldu1_unit link.now low.now voice.now) }
@@ -122,7 +122,7 @@ fn put_ldu1(link: &LinkControl, low: &[u8; 2], voice: &Voice, out: &mut BitBuf)
     put_rows::<Hamming10>(&LDU_ROWS, &symbols, low, voice.frames(), out);
 }
 
-// Appends what stands after the front of voice with encryption sync.
+// Appends what stands after the front of an LDU2: voice with encryption sync (ES).
 fn put_ldu2(sync: &EncryptionSync, low: &[u8; 2], voice: &Voice, out: &mut BitBuf)
     requires { length out.old + 1568 ≤ 25928 }
     ensures list { out.new ≡ out.old ++ voice_body (ldu2_unit sync.now low.now voice.now) }
@@ -136,16 +136,16 @@ fn put_ldu2(sync: &EncryptionSync, low: &[u8; 2], voice: &Voice, out: &mut BitBu
     put_rows::<Hamming10>(&LDU_ROWS, &symbols, low, voice.frames(), out);
 }
 
-// Appends what stands after the front of a terminator.
-fn put_end(out: &mut BitBuf)
+// Appends what stands after the front of a TDU, a terminator: nulls alone.
+fn put_tdu(out: &mut BitBuf)
     requires { length out.old + 28 ≤ 25928 }
-    ensures list { out.new ≡ out.old ++ voice_body end_unit }
+    ensures list { out.new ≡ out.old ++ voice_body tdu_unit }
     ensures len { length out.new ≡ length out.old + 28 }
 {
     put_rows::<Golay18>(&TDU_ROWS, &[], &[], &[], out);
 }
 
-// Appends what stands after the front of a terminator with link control.
+// Appends what stands after the front of a TDULC, a terminator: link control (LC).
 fn put_tdulc(link: &LinkControl, out: &mut BitBuf)
     requires { length out.old + 308 ≤ 25928 }
     ensures list { out.new ≡ out.old ++ voice_body (tdulc_unit link.now) }
@@ -171,7 +171,7 @@ fn fit_frame(frame: &VoiceFrame)
     fit(&frame.0);
 }
 
-// Its contract says what low speed data and voice keep.
+// Its contract says what low speed data (LSD) and voice keep.
 fn fit_speech(low: &[u8; 2], voice: &Voice)
     ensures { IsSpeech low.now voice.now }
 {
@@ -189,16 +189,16 @@ fn put_body(unit: &VoiceUnit, out: &mut BitBuf)
     ensures sendable { IsSendableVoice unit.now }
 {
     match unit {
-        VoiceUnit::Header(word) => put_header(word, out),
+        VoiceUnit::Header(word) => put_hdu(word, out),
         VoiceUnit::Link1 { link, low, voice } => put_ldu1(link, low, voice, out),
         VoiceUnit::Link2 { sync, low, voice } => put_ldu2(sync, low, voice, out),
-        VoiceUnit::End => put_end(out),
+        VoiceUnit::End => put_tdu(out),
         VoiceUnit::EndLink { link } => put_tdulc(link, out),
     }
 }
 
-/// Sets `out` to the bits of a voice unit without status symbols, first to last: its front, with a network access code below
-/// 4,096, and the pieces of its layout. TIA-102.BAAA, Voice Data Units.
+/// Sets `out` to the bits of a voice unit (HDU, LDU1, LDU2, TDU or TDULC) without status symbols, first to last: its front, with a
+/// network access code below 4,096, and the pieces of its layout. TIA-102.BAAA, Voice Data Units.
 pub fn voice_image(nac: u16, unit: &VoiceUnit, out: &mut BitBuf)
     requires { nac < 4096 }
     ensures list { out.new ≡ voice_image_of nac unit.now }
@@ -211,7 +211,7 @@ pub fn voice_image(nac: u16, unit: &VoiceUnit, out: &mut BitBuf)
     put_body(unit, out);
 }
 
-// The identifier of a NAC and a DUID.
+// The network identifier (NID) of a NAC and a DUID.
 fn identifier(nac: u16, duid: u8) -> Nid
     requires nac { nac ≤ 4095 }
     requires duid { duid ≤ 15 }

@@ -1,4 +1,4 @@
-//! The bits of units of each kind, computed apart from this code.
+//! The bits of units of each kind, HDU, LDU1, LDU2, TDU and TDULC, computed apart from this code.
 
 ghost use Rattle.std.specs.Prelude.{◌<◌, ◌≤◌, length};
 
@@ -7,12 +7,14 @@ use p25_bits::BitBuf;
 use p25_link::{EncryptionSync, HeaderWord, LinkControl};
 use std::process::Abort;
 
+// A message indicator (MI).
 const MI: [u8; 9] = [0x12, 0x34, 0x56, 0x78, 0x9A, 0xBC, 0xDE, 0xF0, 0x0F];
 
+// Link control (LC).
 const LINK: LinkControl = LinkControl([0x00, 0x90, 0x80, 0x00, 0x12, 0x34, 0x56, 0x78, 0x9A]);
 
-// The bits of a header.
-const HEADER_BITS: [u64; 13] = [
+// The bits of an HDU.
+const HDU_BITS: [u64; 13] = [
     0x5575_F5FF_77FF_2930,
     0x0F3B_5DF8_01C2_12A5,
     0xE371_846E_3160_CE7B,
@@ -29,7 +31,7 @@ const HEADER_BITS: [u64; 13] = [
 ];
 
 // The bits of an HDU whose header word is 0.
-const EMPTY_HEADER_BITS: [u64; 13] = [
+const EMPTY_HDU_BITS: [u64; 13] = [
     0x5575_F5FF_77FF_0000,
     0x0000,
     0x0000,
@@ -46,10 +48,10 @@ const EMPTY_HEADER_BITS: [u64; 13] = [
 ];
 
 // The bits of a TDU.
-const END_BITS: [u64; 3] = [0x5575_F5FF_77FF_FFF3, 0x26CF_422C_4D4E_0000, 0x0000];
+const TDU_BITS: [u64; 3] = [0x5575_F5FF_77FF_FFF3, 0x26CF_422C_4D4E_0000, 0x0000];
 
 // The bits of a TDULC.
-const END_LINK_BITS: [u64; 7] = [
+const TDULC_BITS: [u64; 7] = [
     0x5575_F5FF_77FF_123F,
     0xADC3_CF2A_9192_0095,
     0x2D08_03DA_0018_EB23,
@@ -60,7 +62,7 @@ const END_LINK_BITS: [u64; 7] = [
 ];
 
 // The bits of an LDU1 whose octets count on.
-const COUNTED_LINK_BITS: [u64; 27] = [
+const COUNTED_LDU1_BITS: [u64; 27] = [
     0x5575_F5FF_77FF_2935,
     0x55EF_2C65_3437_0001,
     0x0203_0405_0607_0809,
@@ -91,7 +93,7 @@ const COUNTED_LINK_BITS: [u64; 27] = [
 ];
 
 // The bits of an LDU1 where all bits of what it carries are 1.
-const ONES_LINK_BITS: [u64; 27] = [
+const ONES_LDU1_BITS: [u64; 27] = [
     0x5575_F5FF_77FF_FFF5,
     0x4A57_1CC5_9417_FFFF,
     0xFFFF_FFFF_FFFF_FFFF,
@@ -122,7 +124,7 @@ const ONES_LINK_BITS: [u64; 27] = [
 ];
 
 // The bits of an LDU2 whose octets count on.
-const SYNC_BITS: [u64; 27] = [
+const LDU2_BITS: [u64; 27] = [
     0x5575_F5FF_77FF_F7EA,
     0x7F32_A167_2919_0001,
     0x0203_0405_0607_0809,
@@ -192,7 +194,7 @@ fn assert_image(rt: &impl Abort, nac: u16, unit: &VoiceUnit, words: &[u64]) {
 }
 
 #[test]
-fn headers_and_terminators(rt: HostRuntime) {
+fn hdu_tdu_and_tdulc(rt: HostRuntime) {
     assert_image(
         &rt,
         0x293,
@@ -203,7 +205,7 @@ fn headers_and_terminators(rt: HostRuntime) {
             kid: 0x1234,
             tgid: 0xABCD,
         }),
-        &HEADER_BITS,
+        &HDU_BITS,
     );
     assert_image(
         &rt,
@@ -215,19 +217,19 @@ fn headers_and_terminators(rt: HostRuntime) {
             kid: 0,
             tgid: 0,
         }),
-        &EMPTY_HEADER_BITS,
+        &EMPTY_HDU_BITS,
     );
-    assert_image(&rt, 0xFFF, &VoiceUnit::End, &END_BITS);
+    assert_image(&rt, 0xFFF, &VoiceUnit::End, &TDU_BITS);
     assert_image(
         &rt,
         0x123,
         &VoiceUnit::EndLink { link: LINK },
-        &END_LINK_BITS,
+        &TDULC_BITS,
     );
 }
 
 #[test]
-fn voice_with_link_control(rt: HostRuntime) {
+fn ldu1(rt: HostRuntime) {
     assert_image(
         &rt,
         0x293,
@@ -236,7 +238,7 @@ fn voice_with_link_control(rt: HostRuntime) {
             low: [0x5A, 0xC3],
             voice: counted_voice(),
         },
-        &COUNTED_LINK_BITS,
+        &COUNTED_LDU1_BITS,
     );
     assert_image(
         &rt,
@@ -246,12 +248,12 @@ fn voice_with_link_control(rt: HostRuntime) {
             low: [255, 255],
             voice: even_voice(255),
         },
-        &ONES_LINK_BITS,
+        &ONES_LDU1_BITS,
     );
 }
 
 #[test]
-fn voice_with_encryption_sync(rt: HostRuntime) {
+fn ldu2(rt: HostRuntime) {
     let sync = EncryptionSync {
         mi: MI,
         algid: 0x81,
@@ -265,6 +267,6 @@ fn voice_with_encryption_sync(rt: HostRuntime) {
             low: [0x01, 0x80],
             voice: counted_voice(),
         },
-        &SYNC_BITS,
+        &LDU2_BITS,
     );
 }

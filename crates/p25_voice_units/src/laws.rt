@@ -1,5 +1,5 @@
-//! The laws of the images, of the readings and of the layouts of voice units. Each function states what is proved, and makes no
-//! call.
+//! The laws of the images, of the readings and of the layouts of voice units (HDU, LDU1, LDU2, TDU and TDULC). Each function states
+//! what is proved, and makes no call.
 
 ghost use Rattle.std.specs.Prelude.{◌≡◌, ◌↔◌, ◌+◌, ◌*◌, ◌%◌, ◌≤◌, ℕ, Bool, List, Some, length, Ok};
 ghost use Rattle.p25_voice_units.specs.declared.unit.VoiceUnit.{VoiceUnit};

@@ -1,4 +1,5 @@
-//! Where the parts of voice units stand after their front, without status symbols. TIA-102.BAAA, Voice Data Units.
+//! Where the parts of voice units (HDU, LDU1, LDU2, TDU and TDULC) stand after their front, without status symbols. TIA-102.BAAA,
+//! Voice Data Units.
 
 /// What stands at a place of a voice unit.
 #[derive(Clone, Copy, Debug, PartialEq, Eq)]
@@ -7,17 +8,17 @@ pub enum Piece {
     Words(usize, usize),
     /// The voice frame of a number, from 0.
     Frame(usize),
-    /// The low speed data word of a number, from 0.
+    /// The low speed data (LSD) word of a number, from 0.
     LowSpeed(usize),
     /// So many nulls, bits that are 0.
     Nulls(usize),
 }
 
-/// The layout of a header: a place, counted from the first sync bit, and what stands there. Its inner words are Golay (18,6)
-/// words.
+/// The layout of an HDU, a header: a place, counted from the first sync bit, and what stands there. Its inner words are Golay
+/// (18,6) words.
 pub const HDU_ROWS: [(usize, Piece); 2] = [(112, Piece::Words(0, 36)), (760, Piece::Nulls(10))];
 
-/// The layout of voice with link control or encryption sync. Its inner words are Hamming (10,6) words.
+/// The layout of an LDU1 or an LDU2, voice with link control or with encryption sync. Its inner words are Hamming (10,6) words.
 pub const LDU_ROWS: [(usize, Piece); 17] = [
     (112, Piece::Frame(0)),
     (256, Piece::Frame(1)),
@@ -38,8 +39,8 @@ pub const LDU_ROWS: [(usize, Piece); 17] = [
     (1536, Piece::Frame(8)),
 ];
 
-/// The layout of a terminator.
+/// The layout of a TDU, a terminator.
 pub const TDU_ROWS: [(usize, Piece); 1] = [(112, Piece::Nulls(28))];
 
-/// The layout of a terminator with link control. Its inner words are Golay (24,12) words.
+/// The layout of a TDULC, a terminator with link control. Its inner words are Golay (24,12) words.
 pub const TDULC_ROWS: [(usize, Piece); 2] = [(112, Piece::Words(0, 12)), (400, Piece::Nulls(20))];

@@ -1,17 +1,19 @@
-//! Voice units: their bits without status symbols, written and read (TIA-102.BAAA, Voice Data Units).
+//! Voice units, which are HDU, LDU1, LDU2, TDU and TDULC: their bits without status symbols, written and read (TIA-102.BAAA,
+//! Voice Data Units).
 //!
 //! The first bit of a list is the first that is sent. A voice unit begins with its front, the frame sync and the network
-//! identifier, whose DUID tells its kind:
+//! identifier (NID), whose DUID tells its kind:
 //!
 //! | DUID | kind | bits | after the front |
 //! |---|---|---|---|
-//! | 0 | header | 770 | the header word, 36 symbols in as many Golay (18,6) words; nulls |
-//! | 5 | voice with link control | 1,680 | nine voice frames; link control, 24 symbols in as many Hamming (10,6) words; two low speed words |
-//! | A hex | voice with encryption sync | 1,680 | the same with encryption sync |
-//! | 3 | terminator | 140 | nulls |
-//! | F hex | terminator with link control | 420 | link control, 24 symbols in twelve Golay (24,12) words; nulls |
+//! | 0 | HDU: header | 770 | the header word, 36 symbols in as many Golay (18,6) words; nulls |
+//! | 5 | LDU1: voice with link control (LC) | 1,680 | nine voice frames; LC, 24 symbols in as many Hamming (10,6) words; two words of LSD |
+//! | A hex | LDU2: voice with encryption sync (ES) | 1,680 | the same with ES |
+//! | 3 | TDU: terminator | 140 | nulls |
+//! | F hex | TDULC: terminator with link control | 420 | LC, 24 symbols in twelve Golay (24,12) words; nulls |
 //!
-//! Where each part stands is a table for each kind, as `LDU_ROWS`. Voice frames are carried as they are and not decoded.
+//! LSD is low speed data. Where each part stands is a table for each kind, as `LDU_ROWS`. Voice frames are carried as they are
+//! and not decoded.
 //!
 //! ```
 //! let link = LinkControl([7; 9]);

@@ -1,4 +1,4 @@
-//! Voice units read from bits.
+//! Voice units (HDU, LDU1, LDU2, TDU and TDULC) read from bits.
 
 ghost use Rattle.std.specs.Prelude.{◌≡◌, ◌+◌, ◌*◌, ◌/◌, ◌<◌, ◌≤◌, [], ◌∷◌, ◌++◌, All, Bool, List, Some, IfErr, IfOk, IfSome, length};
 ghost use Rattle.p25_reed_solomon.specs.Encoding.{rs_word};
@@ -63,7 +63,7 @@ fn read_symbols<I: NumberCode, const N: usize, const K: usize>(
     }
 }
 
-// The header word of a header. Where it is read its wrong bits are added to `fixes`.
+// The header word of an HDU. Where it is read its wrong bits are added to `fixes`.
 fn read_header_word(bare: &BitBuf, fixes: &mut u32) -> Option<HeaderWord>
     requires there { 770 ≤ length bare.now }
     requires few { fixes.old ≤ 1000 }
@@ -78,8 +78,8 @@ fn read_header_word(bare: &BitBuf, fixes: &mut u32) -> Option<HeaderWord>
     }
 }
 
-// The link control of a unit with voice. Where it is read its wrong bits are added to `fixes`.
-fn read_link_control(bare: &BitBuf, fixes: &mut u32) -> Option<LinkControl>
+// The link control (LC) of an LDU1. Where it is read its wrong bits are added to `fixes`.
+fn read_ldu1_link_control(bare: &BitBuf, fixes: &mut u32) -> Option<LinkControl>
     requires there { 1680 ≤ length bare.now }
     requires few { fixes.old ≤ 1000 }
     ensures value { result ≡ link_in link_layout bare.now }
@@ -93,7 +93,7 @@ fn read_link_control(bare: &BitBuf, fixes: &mut u32) -> Option<LinkControl>
     }
 }
 
-// The encryption sync of a unit with voice. Where it is read its wrong bits are added to `fixes`.
+// The encryption sync (ES) of an LDU2. Where it is read its wrong bits are added to `fixes`.
 fn read_encryption_sync(bare: &BitBuf, fixes: &mut u32) -> Option<EncryptionSync>
     requires there { 1680 ≤ length bare.now }
     requires few { fixes.old ≤ 1000 }
@@ -108,8 +108,8 @@ fn read_encryption_sync(bare: &BitBuf, fixes: &mut u32) -> Option<EncryptionSync
     }
 }
 
-// The link control of a terminator. Where it is read its wrong bits are added to `fixes`.
-fn read_end_control(bare: &BitBuf, fixes: &mut u32) -> Option<LinkControl>
+// The link control (LC) of a TDULC. Where it is read its wrong bits are added to `fixes`.
+fn read_tdulc_link_control(bare: &BitBuf, fixes: &mut u32) -> Option<LinkControl>
     requires there { 420 ≤ length bare.now }
     requires few { fixes.old ≤ 1000 }
     ensures value { result ≡ link_in tdulc_layout bare.now }
@@ -123,7 +123,7 @@ fn read_end_control(bare: &BitBuf, fixes: &mut u32) -> Option<LinkControl>
     }
 }
 
-// The octet of a low speed word, by its number. Where it is read its wrong bits are added to `fixes`.
+// The octet of a low speed data (LSD) word of an LDU1 or an LDU2, by its number. Where it is read its wrong bits are added to `fixes`.
 fn read_low(bare: &BitBuf, i: usize, fixes: &mut u32) -> Option<u8>
     requires i { i < 2 }
     requires there { 1680 ≤ length bare.now }
@@ -152,7 +152,7 @@ fn read_frame(bare: &BitBuf, at: usize) -> VoiceFrame
     VoiceFrame(octets)
 }
 
-// The nine voice frames of a unit with voice.
+// The nine voice frames of an LDU1 or an LDU2.
 fn read_frames(bare: &BitBuf) -> Voice
     requires { 1680 ≤ length bare.now }
     ensures { result ≡ voice_in bare.now }
@@ -175,7 +175,7 @@ fn note<T>(fields: &mut FieldList, field: Field, part: &Option<T>)
     }
 }
 
-// The failing fields of a unit with voice, in order.
+// The failing fields of an LDU1 or an LDU2, in order.
 fn failing_of<T>(
     field: Field,
     word: &Option<T>,
@@ -191,8 +191,8 @@ fn failing_of<T>(
     fields
 }
 
-// A header. Where it is read `fixes` becomes the number of its wrong bits.
-fn read_header(bare: &BitBuf, fixes: &mut u32) -> Result<VoiceUnit, FieldList>
+// An HDU, a header. Where it is read `fixes` becomes the number of its wrong bits.
+fn read_hdu(bare: &BitBuf, fixes: &mut u32) -> Result<VoiceUnit, FieldList>
     requires there { 770 ≤ length bare.now }
     requires none { fixes.old ≡ 0 }
     ensures value { result ≡ header_from (header_in bare.now) }
@@ -205,7 +205,7 @@ fn read_header(bare: &BitBuf, fixes: &mut u32) -> Result<VoiceUnit, FieldList>
     }
 }
 
-// Voice with link control. Where it is read `fixes` becomes the number of its wrong bits.
+// An LDU1, voice with link control. Where it is read `fixes` becomes the number of its wrong bits.
 fn read_ldu1(bare: &BitBuf, fixes: &mut u32) -> Result<VoiceUnit, FieldList>
     requires there { 1680 ≤ length bare.now }
     requires none { fixes.old ≡ 0 }
@@ -213,7 +213,7 @@ fn read_ldu1(bare: &BitBuf, fixes: &mut u32) -> Result<VoiceUnit, FieldList>
     ensures fixes { IfOk result (λ unit. AreFixes unit bare.now fixes.new) }
     ensures most { fixes.new ≤ 864 }
 {
-    let link = read_link_control(bare, fixes);
+    let link = read_ldu1_link_control(bare, fixes);
     let first = read_low(bare, 0, fixes);
     let second = read_low(bare, 1, fixes);
     let fields = failing_of(Field::LinkControl, &link, &first, &second);
@@ -234,7 +234,7 @@ fn read_ldu1(bare: &BitBuf, fixes: &mut u32) -> Result<VoiceUnit, FieldList>
     })
 }
 
-// Voice with encryption sync. Where it is read `fixes` becomes the number of its wrong bits.
+// An LDU2, voice with encryption sync. Where it is read `fixes` becomes the number of its wrong bits.
 fn read_ldu2(bare: &BitBuf, fixes: &mut u32) -> Result<VoiceUnit, FieldList>
     requires there { 1680 ≤ length bare.now }
     requires none { fixes.old ≡ 0 }
@@ -263,7 +263,7 @@ fn read_ldu2(bare: &BitBuf, fixes: &mut u32) -> Result<VoiceUnit, FieldList>
     })
 }
 
-// A terminator with link control. Where it is read `fixes` becomes the number of its wrong bits.
+// A TDULC, a terminator with link control. Where it is read `fixes` becomes the number of its wrong bits.
 fn read_tdulc(bare: &BitBuf, fixes: &mut u32) -> Result<VoiceUnit, FieldList>
     requires there { 420 ≤ length bare.now }
     requires none { fixes.old ≡ 0 }
@@ -271,20 +271,20 @@ fn read_tdulc(bare: &BitBuf, fixes: &mut u32) -> Result<VoiceUnit, FieldList>
     ensures fixes { IfOk result (λ unit. AreFixes unit bare.now fixes.new) }
     ensures most { fixes.new ≤ 864 }
 {
-    match read_end_control(bare, fixes) {
+    match read_tdulc_link_control(bare, fixes) {
         Some(link) => Ok(VoiceUnit::EndLink { link }),
         None => Err(FieldList::one(Field::LinkControl)),
     }
 }
 
-/// Answers the voice unit of a data unit identifier that bits without status symbols read as. There are as many bits as
-/// a unit of that kind has. Each field is read by its own codes: the header word, the link control and the encryption sync
-/// as `read_field` does, each low speed word where one of its code lies within 2 bits. Voice frames are answered as received;
-/// the bits of the front and nulls are not looked at.
+/// Answers the voice unit (HDU, LDU1, LDU2, TDU or TDULC) of a data unit identifier (DUID) that bits without status symbols read
+/// as. There are as many bits as a unit of that kind has. Each field is read by its own codes: the header word, the link control
+/// and the encryption sync as `read_field` does, each low speed word where one of its code lies within 2 bits. Voice frames are
+/// answered as received; the bits of the front and nulls are not looked at.
 ///
-/// The refusal is the list of exactly the fields that fail, in order, and never empty: of a header HeaderWord; of voice with link control
-/// LinkControl, LowSpeed1 and LowSpeed2; of voice with encryption sync EncryptionSync, LowSpeed1 and LowSpeed2; of a
-/// terminator with link control LinkControl. Of a terminator none fails. TIA-102.BAAA, Voice Data Units.
+/// The refusal is the list of exactly the fields that fail, in order, and never empty: of an HDU HeaderWord; of an LDU1
+/// LinkControl, LowSpeed1 and LowSpeed2; of an LDU2 EncryptionSync, LowSpeed1 and LowSpeed2; of a TDULC LinkControl. Of a TDU
+/// none fails. TIA-102.BAAA, Voice Data Units.
 pub fn read_voice(duid: u8, bare: &BitBuf) -> Result<VoiceUnit, FieldList>
     requires { voice_length_of duid ≡ Some (length bare.now) }
     ensures reading { result ≡ voice_reading_of duid bare.now }
@@ -304,7 +304,7 @@ pub fn read_voice_counted(duid: u8, bare: &BitBuf, fixes: &mut u32) -> Result<Vo
 {
     *fixes = 0;
     match duid {
-        HDU => read_header(bare, fixes),
+        HDU => read_hdu(bare, fixes),
         TDU => Ok(VoiceUnit::End),
         LDU1 => read_ldu1(bare, fixes),
         LDU2 => read_ldu2(bare, fixes),

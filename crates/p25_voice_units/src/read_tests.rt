@@ -1,4 +1,4 @@
-//! Units of each kind with damage: read with so many fixes, or refused with the fields that fail.
+//! Units of each kind, HDU, LDU1, LDU2, TDU and TDULC, with damage: read with so many fixes, or refused with the fields that fail.
 
 use super::{
     Voice, VoiceFrame, VoiceUnit, read_voice, read_voice_counted, voice_fixes, voice_image,
@@ -44,7 +44,7 @@ const fn run(at: usize, bits: usize) -> Damage {
     each(at, 0, 1, bits)
 }
 
-// Three bits of a low speed word that bring no word within 2 bits.
+// Three bits of a low speed data (LSD) word that bring no word within 2 bits.
 fn low_beyond(at: usize) -> [Damage; 2] {
     [run(at.saturating_add(12), 1), run(at.saturating_add(14), 2)]
 }
@@ -105,7 +105,8 @@ fn assert_failing(rt: &impl Abort, unit: &VoiceUnit, all: &[Damage], fields: &[F
     assert_read_as(rt, unit, all, unit, 0, fields);
 }
 
-fn header(octet: u8) -> VoiceUnit {
+// An HDU whose header word is made of one octet.
+fn hdu(octet: u8) -> VoiceUnit {
     VoiceUnit::Header(HeaderWord {
         mi: [octet; 9],
         mfid: octet,
@@ -115,7 +116,7 @@ fn header(octet: u8) -> VoiceUnit {
     })
 }
 
-// Its last voice frame begins with an octet.
+// An LDU1 whose last voice frame begins with an octet.
 fn ldu1(octet: u8) -> VoiceUnit {
     let mut frames = [VoiceFrame([0x35; 18]); 9];
     frames[8].0[0] = octet;
@@ -126,6 +127,7 @@ fn ldu1(octet: u8) -> VoiceUnit {
     }
 }
 
+// An LDU2.
 fn ldu2() -> VoiceUnit {
     VoiceUnit::Link2 {
         sync: EncryptionSync {
@@ -138,6 +140,7 @@ fn ldu2() -> VoiceUnit {
     }
 }
 
+// A TDULC.
 fn tdulc() -> VoiceUnit {
     VoiceUnit::EndLink {
         link: LinkControl([0x03, 0x90, 0, 0x12, 0x34, 0x56, 0x78, 0x9A, 0xBC]),
@@ -145,10 +148,10 @@ fn tdulc() -> VoiceUnit {
 }
 
 #[test]
-fn headers(rt: HostRuntime) {
+fn damaged_hdu(rt: HostRuntime) {
     for octet in [0, 0xA7] {
-        let unit = header(octet);
-        // Undamaged; its nulls; three bits of each word; eight words inverted and three bits of the others.
+        let unit = hdu(octet);
+        // An HDU undamaged; its nulls; three bits of each word; eight words inverted and three bits of the others.
         assert_read(&rt, &unit, &[], 0);
         assert_read(&rt, &unit, &[run(760, 10)], 0);
         assert_read(&rt, &unit, &[each(112, 18, 36, 3)], 108);
@@ -186,9 +189,9 @@ fn headers(rt: HostRuntime) {
 }
 
 #[test]
-fn voice_with_link_control(rt: HostRuntime) {
+fn damaged_ldu1(rt: HostRuntime) {
     let unit = ldu1(0x35);
-    // One bit of each Hamming word, two bits of each low speed word, and twelve words that are not read.
+    // One bit of each Hamming word of an LDU1, two bits of each low speed word, and twelve words that are not read.
     let one_each = [
         each(400, 10, 4, 1),
         each(584, 10, 4, 1),
@@ -224,9 +227,9 @@ fn voice_with_link_control(rt: HostRuntime) {
 }
 
 #[test]
-fn voice_with_encryption_sync(rt: HostRuntime) {
+fn damaged_ldu2(rt: HostRuntime) {
     let unit = ldu2();
-    // Eight words that are not read, and one more.
+    // Eight words of an LDU2 that are not read, and one more.
     let eight = [each(1136, 10, 4, 10), each(1320, 10, 4, 10)];
     let first = low_beyond(1504);
     let second = low_beyond(1520);
@@ -247,9 +250,9 @@ fn voice_with_encryption_sync(rt: HostRuntime) {
 }
 
 #[test]
-fn terminators(rt: HostRuntime) {
+fn damaged_tdu_and_tdulc(rt: HostRuntime) {
     let unit = tdulc();
-    // Three bits of each word; three words inverted to other ones; six words that are not read, and one more.
+    // Three bits of each word of a TDULC; three words inverted to other ones; six words that are not read, and one more.
     assert_read(&rt, &unit, &[], 0);
     assert_read(&rt, &unit, &[each(112, 24, 12, 3), run(400, 20)], 36);
     assert_read(&rt, &unit, &[each(112, 24, 3, 24)], 72);

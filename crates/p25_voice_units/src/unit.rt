@@ -1,4 +1,4 @@
-//! The kinds of voice units.
+//! The kinds of voice units: HDU, LDU1, LDU2, TDU and TDULC.
 
 ghost use Rattle.std.specs.Prelude.{◌≡◌, ℕ, ◌≤◌, Some};
 ghost use Rattle.p25_voice_units.specs.Lengths.{voice_duid, voice_length_of};
@@ -7,25 +7,25 @@ use crate::voice::Voice;
 use p25_bch_nid::{HDU, LDU1, LDU2, TDU, TDULC};
 use p25_link::{EncryptionSync, HeaderWord, LinkControl};
 
-/// A voice unit without its network access code and status symbols.
+/// A voice unit, of one of the kinds HDU, LDU1, LDU2, TDU and TDULC, without its network access code (NAC) and status symbols.
 #[derive(Clone, Debug, Drop, PartialEq, Eq)]
 pub enum VoiceUnit {
     /// HDU: a header, with which a call begins (TIA-102.BAAA, Header Data Unit).
     Header(HeaderWord),
     /// LDU1: voice with link control (TIA-102.BAAA, Logical Link Data Unit 1).
     Link1 {
-        /// The link control.
+        /// The link control (LC).
         link: LinkControl,
-        /// The two octets of low speed data.
+        /// The two octets of low speed data (LSD).
         low: [u8; 2],
         /// The voice frames.
         voice: Voice,
     },
     /// LDU2: voice with encryption sync (TIA-102.BAAA, Logical Link Data Unit 2).
     Link2 {
-        /// The encryption sync.
+        /// The encryption sync (ES).
         sync: EncryptionSync,
-        /// The two octets of low speed data.
+        /// The two octets of low speed data (LSD).
         low: [u8; 2],
         /// The voice frames.
         voice: Voice,
@@ -34,7 +34,7 @@ pub enum VoiceUnit {
     End,
     /// TDULC: a terminator with link control (TIA-102.BAAA, Expanded Terminator Data Unit).
     EndLink {
-        /// The link control.
+        /// The link control (LC).
         link: LinkControl,
     },
 }
@@ -69,9 +69,9 @@ impl VoiceUnit {
     }
 }
 
-/// Answers how many bits a voice unit with a data unit identifier has without status symbols: 770 for a header (0), 1,680
-/// for voice with link control (5) or encryption sync (A hex), 140 for a terminator (3), and 420 for one with link control
-/// (F hex). `None` comes exactly where the identifier is that of no voice unit.
+/// Answers how many bits a voice unit with a data unit identifier (DUID) has without status symbols: 770 for an HDU (0), 1,680
+/// for an LDU1 (5) or an LDU2 (A hex), 140 for a TDU (3), and 420 for a TDULC (F hex). `None` comes exactly where the
+/// identifier is that of no voice unit.
 #[tactic(auto, unfolding(crate::specs::Lengths::voice_length_of))]
 pub fn voice_length(duid: u8) -> Option<usize>
     ensures { result ≡ voice_length_of duid }

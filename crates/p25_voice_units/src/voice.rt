@@ -1,4 +1,4 @@
-//! Voice frames.
+//! The voice frames of an LDU1 or an LDU2.
 
 ghost use Rattle.std.specs.Prelude.{◌≡◌, ◌<◌, length, slice_get, Some};
 
@@ -9,7 +9,7 @@ use std::marker::Model;
 #[derive(Clone, Copy, Debug, PartialEq, Eq)]
 pub struct VoiceFrame(pub [u8; 18]);
 
-/// The nine voice frames of a logical link unit, in the order of sending.
+/// The nine voice frames of a logical link data unit, LDU1 or LDU2, in the order of sending.
 #[derive(Clone, Copy, Debug, PartialEq, Eq)]
 pub struct Voice {
     frames: [VoiceFrame; 9],

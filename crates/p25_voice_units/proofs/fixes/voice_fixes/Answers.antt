@@ -29,15 +29,15 @@ unfolding word_places places_from
 differing-requires-in-EndLink-clause-image c =
     tdulc_there c.args.image.now (long_by_kind (voice_duid c.args.unit.now) 15 420 (length c.args.image.now) (ap voice_duid c.in-EndLink.is) length-tdulc c.requires.image)
 
-pub link_fixes-requires : goal.link_fixes-requires
-link_fixes-requires c =
+pub ldu_fixes-requires : goal.ldu_fixes-requires
+ldu_fixes-requires c =
     let kind = ap voice_duid c.in-Link1.is in
     let received = long_by_kind (voice_duid c.args.unit.now) 5 1680 (length c.args.received.now) kind length-ldu1 c.requires.received in
     let image = long_by_kind (voice_duid c.args.unit.now) 5 1680 (length c.args.image.now) kind length-ldu1 c.requires.image in
     record { received = omega arith; image = omega arith }
 
-pub link_fixes-requires-in-Link2 : goal.link_fixes-requires-in-Link2
-link_fixes-requires-in-Link2 c =
+pub ldu_fixes-requires-in-Link2 : goal.ldu_fixes-requires-in-Link2
+ldu_fixes-requires-in-Link2 c =
     let kind = ap voice_duid c.in-Link2.is in
     let received = long_by_kind (voice_duid c.args.unit.now) 10 1680 (length c.args.received.now) kind length-ldu2 c.requires.received in
     let image = long_by_kind (voice_duid c.args.unit.now) 10 1680 (length c.args.image.now) kind length-ldu2 c.requires.image in
@@ -49,11 +49,11 @@ returns-in-Header-clause-value c = c.differing.ensures.value ∙ sym (ap (λ uni
 
 pub returns-in-Link1-clause-value : goal.returns-in-Link1-clause-value
 unfolding voice_fixes_of voice_looked
-returns-in-Link1-clause-value c = c.link_fixes.ensures.value ∙ sym (ap (λ unit. voice_fixes_of unit c.args.received.now c.args.image.now) c.in-Link1.is)
+returns-in-Link1-clause-value c = c.ldu_fixes.ensures.value ∙ sym (ap (λ unit. voice_fixes_of unit c.args.received.now c.args.image.now) c.in-Link1.is)
 
 pub returns-in-Link2-clause-value : goal.returns-in-Link2-clause-value
 unfolding voice_fixes_of voice_looked
-returns-in-Link2-clause-value c = c.link_fixes-in-Link2.ensures.value ∙ sym (ap (λ unit. voice_fixes_of unit c.args.received.now c.args.image.now) c.in-Link2.is)
+returns-in-Link2-clause-value c = c.ldu_fixes-in-Link2.ensures.value ∙ sym (ap (λ unit. voice_fixes_of unit c.args.received.now c.args.image.now) c.in-Link2.is)
 
 pub returns-in-End-clause-value : goal.returns-in-End-clause-value
 unfolding voice_fixes_of voice_looked bits_at distance_by

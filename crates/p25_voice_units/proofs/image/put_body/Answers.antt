@@ -7,10 +7,10 @@ use Rattle.p25_voice_units.proofs.image.put_body.Goals as goal
 
 pub returns-in-Header : goal.returns-in-Header
 returns-in-Header c =
-    let long : length c.put_header.new.out ≡ 770 = omega (arith, c.put_header.ensures.len, c.requires) in record {
-      list = c.put_header.ensures.list ∙ ap (λ unit. c.args.out.now ++ voice_body unit) (sym c.in-Header.is);
+    let long : length c.put_hdu.new.out ≡ 770 = omega (arith, c.put_hdu.ensures.len, c.requires) in record {
+      list = c.put_hdu.ensures.list ∙ ap (λ unit. c.args.out.now ++ voice_body unit) (sym c.in-Header.is);
       len = ap (λ unit. voice_length_of (voice_duid unit)) c.in-Header.is ∙ length-header ∙ ap Some (sym long);
-      sendable = sendable_header c.args.unit.now c.in-Header.word c.in-Header.is c.put_header.ensures.sound;
+      sendable = sendable_header c.args.unit.now c.in-Header.word c.in-Header.is c.put_hdu.ensures.sound;
     }
 
 pub returns-in-Link1 : goal.returns-in-Link1
@@ -31,8 +31,8 @@ returns-in-Link2 c =
 
 pub returns-in-End : goal.returns-in-End
 returns-in-End c =
-    let long : length c.put_end.new.out ≡ 140 = omega (arith, c.put_end.ensures.len, c.requires) in record {
-      list = c.put_end.ensures.list ∙ ap (λ unit. c.args.out.now ++ voice_body unit) (sym c.in-End.is);
+    let long : length c.put_tdu.new.out ≡ 140 = omega (arith, c.put_tdu.ensures.len, c.requires) in record {
+      list = c.put_tdu.ensures.list ∙ ap (λ unit. c.args.out.now ++ voice_body unit) (sym c.in-End.is);
       len = ap (λ unit. voice_length_of (voice_duid unit)) c.in-End.is ∙ length-end ∙ ap Some (sym long);
       sendable = sendable_end c.args.unit.now c.in-End.is;
     }

@@ -6,13 +6,13 @@ use Rattle.p25_voice_units.proofs.read.read_tdulc.Goals as goal
 
 pub returns-in-Some-clause-value : goal.returns-in-Some-clause-value
 unfolding tdulc_from
-returns-in-Some-clause-value c = ap tdulc_from (sym c.in-Some.is ∙ c.read_end_control.ensures.value)
+returns-in-Some-clause-value c = ap tdulc_from (sym c.in-Some.is ∙ c.read_tdulc_link_control.ensures.value)
 
 pub returns-in-Some-clause-fixes : goal.returns-in-Some-clause-fixes
 returns-in-Some-clause-fixes c =
-    let counted = some_at _ c.read_end_control.result c.in-Some.link c.read_end_control.ensures.fixes c.in-Some.is in
-    tdulc_fixes c.in-Some.link c.args.bare.now c.read_end_control.new.fixes (omega (arith, counted, c.requires.none))
+    let counted = some_at _ c.read_tdulc_link_control.result c.in-Some.link c.read_tdulc_link_control.ensures.fixes c.in-Some.is in
+    tdulc_fixes c.in-Some.link c.args.bare.now c.read_tdulc_link_control.new.fixes (omega (arith, counted, c.requires.none))
 
 pub returns-in-None-clause-value : goal.returns-in-None-clause-value
 unfolding tdulc_from
-returns-in-None-clause-value c = ap Err c.one.ensures ∙ ap tdulc_from (sym c.in-None.is ∙ c.read_end_control.ensures.value)
+returns-in-None-clause-value c = ap Err c.one.ensures ∙ ap tdulc_from (sym c.in-None.is ∙ c.read_tdulc_link_control.ensures.value)

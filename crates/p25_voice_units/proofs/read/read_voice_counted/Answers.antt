@@ -5,8 +5,8 @@ use Rattle.p25_voice_units.proofs.KindsLaws.{long_by_kind, reading-header, readi
 use Rattle.p25_voice_units.proofs.CountedLaws.{end_fixes}
 use Rattle.p25_voice_units.proofs.read.read_voice_counted.Goals as goal
 
-pub read_header-requires-clause-there : goal.read_header-requires-clause-there
-read_header-requires-clause-there c = omega (arith, long_by_kind c.args.duid 0 770 (length c.args.bare.now) c.in-0.is length-header c.requires)
+pub read_hdu-requires-clause-there : goal.read_hdu-requires-clause-there
+read_hdu-requires-clause-there c = omega (arith, long_by_kind c.args.duid 0 770 (length c.args.bare.now) c.in-0.is length-header c.requires)
 
 pub read_ldu1-requires-clause-there : goal.read_ldu1-requires-clause-there
 read_ldu1-requires-clause-there c = omega (arith, long_by_kind c.args.duid 5 1680 (length c.args.bare.now) c.in-5.is length-ldu1 c.requires)
@@ -18,7 +18,7 @@ pub read_tdulc-requires-clause-there : goal.read_tdulc-requires-clause-there
 read_tdulc-requires-clause-there c = omega (arith, long_by_kind c.args.duid 15 420 (length c.args.bare.now) c.in-15.is length-tdulc c.requires)
 
 pub returns-in-0-clause-value : goal.returns-in-0-clause-value
-returns-in-0-clause-value c = reading_by_kind c.args.duid 0 c.args.bare.now c.read_header.result _ c.in-0.is c.read_header.ensures.value (reading-header c.args.bare.now)
+returns-in-0-clause-value c = reading_by_kind c.args.duid 0 c.args.bare.now c.read_hdu.result _ c.in-0.is c.read_hdu.ensures.value (reading-header c.args.bare.now)
 
 pub returns-in-3-clause-value : goal.returns-in-3-clause-value
 returns-in-3-clause-value c = reading_by_kind c.args.duid 3 c.args.bare.now _ _ c.in-3.is refl (reading-end c.args.bare.now)

@@ -1,7 +1,7 @@
 use Rattle.p25_voice_units.specs.Images.{golay18_word}
 use Rattle.p25_voice_units.proofs.CodesLaws.{golay18_encodes}
 use Rattle.p25_voice_units.proofs.ImageSteps.{header_made}
-use Rattle.p25_voice_units.proofs.image.put_header.Goals as goal
+use Rattle.p25_voice_units.proofs.image.put_hdu.Goals as goal
 
 pub returns-clause-list : goal.returns-clause-list
 returns-clause-list c =

@@ -2,7 +2,7 @@ use Rattle.std.proofs.Common.{Err, sym, ap, ◌∙◌, arith}
 use Rattle.p25_voice_units.specs.Readings.{header_from}
 use Rattle.p25_voice_units.proofs.CountedLaws.{header_fixes}
 use Rattle.p25_voice_units.proofs.ReadLaws.{some_at}
-use Rattle.p25_voice_units.proofs.read.read_header.Goals as goal
+use Rattle.p25_voice_units.proofs.read.read_hdu.Goals as goal
 
 pub returns-in-Some-clause-value : goal.returns-in-Some-clause-value
 unfolding header_from

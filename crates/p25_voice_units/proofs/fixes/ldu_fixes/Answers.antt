@@ -6,7 +6,7 @@ use Rattle.p25_voice_units.specs.Layouts.{ldu_rows}
 use Rattle.p25_voice_units.specs.FieldLayouts.{word_places}
 use Rattle.p25_voice_units.specs.Readings.{low_places}
 use Rattle.p25_voice_units.proofs.FixesLaws.{fixes-append}
-use Rattle.p25_voice_units.proofs.fixes.link_fixes.Goals as goal
+use Rattle.p25_voice_units.proofs.fixes.ldu_fixes.Goals as goal
 
 pub returns-clause-value : goal.returns-clause-value
 unfolding link_looked word_places low_places places_from
