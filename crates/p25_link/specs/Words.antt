@@ -1,5 +1,5 @@
--- The words of voice units as bits, by their fields in order, and as symbols of six bits: link control (LC), encryption sync (ES) and
--- the header word of an HDU.
+-- The words of voice units as bits, by their fields in order, and as symbols of six bits: link control (LC), encryption sync (ES)
+-- and the header word of an HDU.
 use Rattle.std.specs.Prelude.{◌≡◌, ℕ, ◌<◌, ◌^◌, Bool, List, ◌++◌, length, All}
 use Rattle.p25_bits.specs.Bits.{bits_of, field_of, octet_bits, part}
 use Rattle.p25_bits.specs.Numbers.{octets_from}

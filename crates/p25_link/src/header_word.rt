@@ -22,7 +22,8 @@ pub struct HeaderWord {
 }
 
 impl HeaderWord {
-    /// Answers the twenty symbols of the header word of an HDU: those of message indicator, manufacturer, algorithm, key and talk group.
+    /// Answers the twenty symbols of the header word of an HDU: those of message indicator, manufacturer, algorithm, key and talk
+    /// group.
     pub fn symbols(&self) -> [Sym; 20]
         ensures value { result ≡ header_symbols self.now }
         ensures len { length result ≡ 20 }

@@ -1,4 +1,4 @@
--- What contracts see of a confirmed packet: its parts alone.
+-- What contracts see of a confirmed packet (PDU): its parts alone.
 use Rattle.std.specs.Prelude.{List}
 use Rattle.p25_packet_blocks.specs.declared.head.PacketHead.{PacketHead}
 use Rattle.p25_packet_blocks.specs.declared.block.Slot.{Slot}

@@ -1,4 +1,4 @@
--- In how many bits the blocks of a unit were received otherwise than its packet is sent.
+-- In how many bits the blocks of a unit were received otherwise than its packet (PDU) is sent.
 use Rattle.std.specs.Prelude.{ℕ, zero, suc, ◌+◌, ◌*◌, Bool, List}
 use Rattle.p25_bits.specs.Bits.{part}
 use Rattle.p25_bits.specs.Distance.{distance_of}

@@ -1,4 +1,4 @@
--- The fields of a packet header's ten octets, and the headers that this project's stations send.
+-- The fields of the ten octets of the header of a packet (PDU), and the headers that this project's stations send.
 use Rattle.std.specs.Prelude.{ℕ, ◌+◌, ◌*◌, ◌/◌, ◌%◌, Bool, if◌then◌else◌, ◌==◌, List, [], ◌∷◌, ◌++◌, slice_index}
 use Rattle.p25_bits.specs.Numbers.{triple_at}
 use Rattle.p25_packet_blocks.specs.declared.head.PacketHead.{PacketHead}

@@ -1,4 +1,4 @@
--- The image of a packet: the bits of its unit without status symbols, as one list.
+-- The image of a packet (PDU): the bits of its unit without status symbols, as one list.
 use Rattle.std.specs.Prelude.{ℕ, ◌+◌, ◌-◌, ◌*◌, ◌/◌, ◌%◌, ◌^◌, Bool, false, List, [], ◌∷◌, ◌++◌, replicate, slice_index_or}
 use Rattle.p25_bits.specs.Bits.{part}
 use Rattle.p25_bits.specs.Numbers.{joined_below}
@@ -49,7 +49,7 @@ body_block (Plain packet) j = half_block (part (12 * j) 12 (checked_octets packe
 unfoldable pub packet_nulls : ℕ → List Bool
 packet_nulls n = replicate (packet_bare_length n - packet_bits n) false
 
--- the image: the front of a unit of DUID C, the header block, the blocks to follow in order, and nulls
+-- the image of a packet (PDU): the front of a unit of DUID C, the header block, the blocks to follow in order, and nulls
 unfoldable pub packet_image_of : ℕ → Packet → List Bool
 packet_image_of nac packet =
     let n = head_blocks (packet_head packet) in

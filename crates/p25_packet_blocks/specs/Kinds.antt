@@ -1,4 +1,4 @@
--- What makes a packet confirmed, and what makes it plain.
+-- What makes a packet (PDU) confirmed, and what makes it plain.
 use Rattle.std.specs.Prelude.{◌≡◌, ℕ, ◌-◌, ◌*◌, ◌⊎◌, length}
 use Rattle.p25_packet_blocks.specs.Heads.{head_format, head_blocks}
 use Rattle.p25_packet_blocks.specs.Parts.{PlainParts}

@@ -1,4 +1,4 @@
--- How long the unit of a packet is, by its number of blocks to follow.
+-- How long the unit of a packet (PDU) is, by its number of blocks to follow.
 use Rattle.std.specs.Prelude.{ℕ, ◌+◌, ◌*◌, ◌/◌}
 
 -- the bits before the nulls: the front, the header block and the blocks to follow

@@ -1,4 +1,4 @@
--- What contracts see of a block, and of a packet that is not confirmed: their parts alone.
+-- What contracts see of a block, and of a packet (PDU) that is not confirmed: their parts alone.
 use Rattle.std.specs.Prelude.{ℕ, List}
 use Rattle.p25_packet_blocks.specs.declared.head.PacketHead.{PacketHead}
 

@@ -1,4 +1,4 @@
--- The image of a packet by its places, as the standard says it.
+-- The image of a packet (PDU) by its places, as the standard says it.
 use Rattle.std.specs.Prelude.{◌≡◌, ℕ, ◌*◌, ◌<◌, ◌≤◌, Bool, false, List, length, take, slice_get, slice_index_or, Some}
 use Rattle.p25_bits.specs.Bits.{part}
 use Rattle.p25_trellis.specs.Trellis.{IsBlock}
@@ -21,7 +21,7 @@ IsBodyBlock (Confirmed packet) j bits =
     (block : Block) × (slice_index_or packet.slots j Bad ≡ Good block) × IsBlock 8 3 three_quarter_point (confirmed_octets block) bits
 IsBodyBlock (Plain packet) j bits = IsBlock 4 2 half_point (part (12 * j) 12 (checked_octets packet.octets)) bits
 
--- bits are the image of a packet: bits 0 to 111 the front of DUID C, the 196 bits from 112 the header block at half rate,
+-- bits are the image of a packet (PDU): bits 0 to 111 the front of DUID C, the 196 bits from 112 the header block at half rate,
 -- the 196 bits from 308 + 196·j block j, and every other bit 0
 pub record IsPacketImage (nac : ℕ) (packet : Packet) (bits : List Bool) : Type 0 where
   pub long : length bits ≡ packet_bare_length (head_blocks (packet_head packet))

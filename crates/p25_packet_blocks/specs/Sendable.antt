@@ -1,4 +1,4 @@
--- Packets that can be sent: what their types keep, and that no slot is Bad.
+-- Packets (PDU) that can be sent: what their types keep, and that no slot is Bad.
 use Rattle.std.specs.Prelude.{◌≡◌, ℕ, ◌<◌, List, length, slice_index_or, All}
 use Rattle.p25_packet_blocks.specs.declared.head.PacketHead.{PacketHead}
 use Rattle.p25_packet_blocks.specs.declared.block.Block.{Block}
@@ -42,7 +42,7 @@ pub record IsSendablePlain (packet : PlainParts) : Type 0 where
   pub head : IsHead packet.head
   pub small : AreOctets packet.octets
 
--- a packet that can be sent
+-- a packet (PDU) that can be sent
 unfoldable pub IsSendable : Packet → Type 0
 IsSendable (Confirmed packet) = IsSendableConfirmed packet
 IsSendable (Plain packet) = IsSendablePlain packet

@@ -1,4 +1,4 @@
--- What a packet that was read says of what was received: its checks agree, and it is what the first nearest paths carry.
+-- What a packet (PDU) that was read says of what was received: its checks agree, and it is what the first nearest paths carry.
 use Rattle.std.specs.Prelude.{◌≡◌, ℕ, ◌*◌, ◌<◌, Bool, List, slice_index_or}
 use Rattle.p25_bits.specs.Bits.{part}
 use Rattle.p25_trellis.specs.Nearest.{half_octets, three_quarter_octets}

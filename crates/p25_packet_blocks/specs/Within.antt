@@ -1,4 +1,4 @@
--- Received bits within radius of a packet's image.
+-- Received bits within radius of the image of a packet (PDU).
 use Rattle.std.specs.Prelude.{◌≡◌, ℕ, ◌*◌, ◌<◌, ◌≤◌, Bool, List, length, take}
 use Rattle.p25_bits.specs.Distance.{distance_of}
 use Rattle.p25_status.specs.Sync.{sync_slack}
@@ -26,8 +26,8 @@ pub record AreBlocksWithin (packet : Packet) (image received : List Bool) : Type
   pub header : distance_of (header_bits image) (header_bits received) ≤ 2
   pub blocks : (j : ℕ) → j < head_blocks (packet_head packet) → distance_of (block_bits image j) (block_bits received j) ≤ block_radius packet
 
--- received bits are within radius of a sent unit of a packet: so few wrong bits of the sync and of the first 63 of the
--- identifier, and of its blocks; status symbols, the last bit of the identifier and nulls are free
+-- received bits are within radius of a sent unit of a packet (PDU): so few wrong bits of the sync and of the first 63 of the network
+-- identifier (NID), and of its blocks; status symbols, the last bit of the identifier and nulls are free
 pub record IsPacketWithin (packet : Packet) (sent received : List Bool) : Type 0 where
   pub long : length received ≡ length sent
   pub sync : distance_of (take 48 received) (take 48 sent) ≤ sync_slack

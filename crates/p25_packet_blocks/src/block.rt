@@ -2,7 +2,7 @@ ghost use Rattle.std.specs.Prelude.{◌≡◌, ◌<◌, length};
 
 use std::marker::Model;
 
-/// A block of a confirmed packet: its serial number, at most 127, and its sixteen octets. TIA-102.BAAA, Packet Data,
+/// A block of a confirmed packet (PDU): its serial number, at most 127, and its sixteen octets. TIA-102.BAAA, Packet Data,
 /// Confirmed Data Block.
 #[derive(Clone, Copy, Debug, PartialEq, Eq)]
 pub struct Block {
@@ -49,7 +49,7 @@ impl Block {
     }
 }
 
-/// What stands in the place of a block of a confirmed packet that was received: the block, or that its CRC-9 does not
+/// What stands in the place of a block of a confirmed packet (PDU) that was received: the block, or that its CRC-9 does not
 /// agree. The default, which fills the unused places of a list, means nothing.
 #[derive(Clone, Copy, Debug, PartialEq, Eq, Default)]
 pub enum Slot {

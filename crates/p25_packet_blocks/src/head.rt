@@ -3,16 +3,16 @@ ghost use Rattle.p25_packet_blocks.specs.Heads.{head_format, head_is_full, head_
 
 use p25_bits::triple_at;
 
-/// The format of a confirmed packet. TIA-102.BAAA, Packet Data, Header Block.
+/// The format of a confirmed packet (PDU). TIA-102.BAAA, Packet Data, Header Block.
 pub const CONFIRMED_FORMAT: u8 = 0x16;
 
-/// The format of an unconfirmed packet. TIA-102.BAAA, Packet Data, Header Block.
+/// The format of an unconfirmed packet (PDU). TIA-102.BAAA, Packet Data, Header Block.
 pub const PLAIN_FORMAT: u8 = 0x15;
 
-/// The format of a response. TIA-102.BAAA, Packet Data, Header Block.
+/// The format of a response, a packet (PDU) too. TIA-102.BAAA, Packet Data, Header Block.
 pub const RESPONSE_FORMAT: u8 = 0x03;
 
-/// The ten octets of a packet's header, without its CRC. All are kept as they are; only the fields that are read below
+/// The ten octets of the header of a packet (PDU), without its CRC. All are kept as they are; only the fields that are read below
 /// mean something here. TIA-102.BAAA, Packet Data, Header Block.
 #[derive(Clone, Copy, Debug, PartialEq, Eq)]
 pub struct PacketHead(pub [u8; 10]);

@@ -1,4 +1,4 @@
-//! Units of packets written, without their status symbols.
+//! Units of packets (PDU) written, without their status symbols.
 
 ghost use Rattle.std.specs.Prelude.{◌≡◌, ◌+◌, ◌*◌, ◌-◌, ◌<◌, ◌≤◌, ◌++◌, length, replicate, false, Ok};
 ghost use Rattle.p25_bits.specs.Numbers.{joined_below};
@@ -25,7 +25,7 @@ use p25_status::{BARE_BLOCK_LENGTH, SENT_BLOCK_LENGTH};
 use p25_trellis::{Half, ThreeQuarter, encode_block};
 use p25_unit_front::put_front;
 
-/// Answers the length of the unit of a packet as it is sent, by the blocks to follow of its header: 112 bits, 196 for each
+/// Answers the length of the unit of a packet (PDU) as it is sent, by the blocks to follow of its header: 112 bits, 196 for each
 /// block and the header block, filled to a multiple of 70, and two status bits for each 70.
 pub fn packet_length(head: &PacketHead) -> usize
     ensures value { result ≡ packet_sent_length (head_blocks head.now) }
@@ -35,7 +35,7 @@ pub fn packet_length(head: &PacketHead) -> usize
     SENT_BLOCK_LENGTH * parts(head)
 }
 
-// How many times 70 bits the unit of a packet fills.
+// How many times 70 bits the unit of a packet (PDU) fills.
 fn parts(head: &PacketHead) -> usize
     ensures parts { 70 * result ≡ packet_bare_length (head_blocks head.now) }
     ensures sent { 72 * result ≡ packet_sent_length (head_blocks head.now) }
@@ -46,7 +46,7 @@ fn parts(head: &PacketHead) -> usize
         / BARE_BLOCK_LENGTH
 }
 
-// Appends the front of the unit of a packet.
+// Appends the front of the unit of a packet (PDU).
 fn put_packet_front(nac: u16, out: &mut BitBuf)
     requires nac { nac < 4096 }
     requires room { length out.old + 112 ≤ 25928 }
@@ -59,7 +59,7 @@ fn put_packet_front(nac: u16, out: &mut BitBuf)
     }
 }
 
-// Appends the header block.
+// Appends the header block of a packet (PDU).
 fn put_header(head: &PacketHead, out: &mut BitBuf)
     requires { length out.old + 196 ≤ 25928 }
     ensures list { out.new ≡ out.old ++ half_block (header_octets head.now) }
@@ -73,7 +73,7 @@ fn put_header(head: &PacketHead, out: &mut BitBuf)
     encode_block::<Half>(octets.as_slice(), out);
 }
 
-// Appends a confirmed block.
+// Appends a block of a confirmed packet (PDU).
 fn put_block(block: &Block, out: &mut BitBuf)
     requires { length out.old + 196 ≤ 25928 }
     ensures list { out.new ≡ out.old ++ three_quarter_block (confirmed_octets block.now) }
@@ -89,7 +89,7 @@ fn put_block(block: &Block, out: &mut BitBuf)
     encode_block::<ThreeQuarter>(octets.as_slice(), out);
 }
 
-// Appends the blocks to follow of a confirmed packet.
+// Appends the blocks to follow of a confirmed packet (PDU).
 fn put_confirmed(packet: &Confirmed, out: &mut BitBuf)
     requires whole { AreGood packet.now.slots }
     requires room { length out.old + 196 * head_blocks packet.now.head ≤ 25928 }
@@ -106,7 +106,7 @@ fn put_confirmed(packet: &Confirmed, out: &mut BitBuf)
     }
 }
 
-// Appends the blocks to follow of another packet.
+// Appends the blocks to follow of a packet (PDU) that is not confirmed.
 fn put_plain(packet: &Plain, out: &mut BitBuf)
     requires { length out.old + 196 * head_blocks packet.now.head ≤ 25928 }
     ensures list { out.new ≡ out.old ++ joined_below (head_blocks packet.now.head) (body_block (plain_packet packet.now)) }
@@ -124,7 +124,7 @@ fn put_plain(packet: &Plain, out: &mut BitBuf)
     }
 }
 
-// Appends the blocks to follow of a packet.
+// Appends the blocks to follow of a packet (PDU).
 fn put_body(packet: &Packet, out: &mut BitBuf)
     requires whole { IsWholePacket packet.now }
     requires room { length out.old + 196 * head_blocks (packet_head packet.now) ≤ 25928 }
@@ -149,7 +149,7 @@ fn put_nulls(count: usize, out: &mut BitBuf)
     }
 }
 
-/// Sets `out` to the unit of a packet without status symbols, from its sync on: the front of DUID C with a network access
+/// Sets `out` to the unit of a packet (PDU) without status symbols, from its sync on: the front of DUID C with a network access
 /// code below 4,096, the header block, the blocks to follow in order, and nulls up to a multiple of 70 bits. No slot of the
 /// packet is Bad. TIA-102.BAAA, Packet Data.
 pub fn packet_image(nac: u16, packet: &Packet, out: &mut BitBuf)

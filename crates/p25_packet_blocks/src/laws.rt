@@ -1,5 +1,5 @@
-//! What the image of a packet is by its places, and what received bits within radius of it read as. Each function states what
-//! is proved, and makes no call but of the theorems that it stands on.
+//! What the image of a packet (PDU) is by its places, and what received bits within radius of it read as. Each function states
+//! what is proved, and makes no call but of the theorems that it stands on.
 
 ghost use Rattle.std.specs.Prelude.{◌≡◌, ℕ, ◌↔◌, Bool, List, Ok};
 ghost use Rattle.p25_packet_blocks.specs.declared.packet.Packet.{Packet as packet_type};
@@ -22,7 +22,7 @@ pub fn one_image()
         → IsSendable packet → IsPacketImage nac packet bits ↔ (bits ≡ packet_image_of nac packet) }
 {}
 
-/// **Theorem.** The laws of damaged packets.
+/// **Theorem.** The laws of damaged packets (PDU).
 ///
 /// - `plain`: a unit without status symbols with at most two wrong bits in the header block and in each half-rate block, and
 ///   at most one in each three-quarter-rate block, reads as the packet.
@@ -43,8 +43,8 @@ pub fn packet_radius()
     three_quarter_rate_near();
 }
 
-/// **Theorem.** The formats of packets as numbers, and the places of the header block and of the blocks to follow: those of the
-/// definitions.
+/// **Theorem.** The formats of packets (PDU) as numbers, and the places of the header block and of the blocks to follow: those of
+/// the definitions.
 pub fn numbers()
     ensures confirmed { CONFIRMED_FORMAT ≡ 0x16 }
     ensures plain { PLAIN_FORMAT ≡ 0x15 }

@@ -1,4 +1,4 @@
-//! Packets of data: their header, their blocks, what a unit reads as, and the unit of a packet (TIA-102.BAAA, Packet Data).
+//! Packets of data (PDU): their header, their blocks, what a unit reads as, and the unit of a packet (TIA-102.BAAA, Packet Data).
 //!
 //! The first bit of a list is the first that is sent. Octets stand in the order in which they are sent, and of each octet the
 //! most significant bit comes first. A packet is a header of ten octets and what follows it: of a confirmed packet a slot for

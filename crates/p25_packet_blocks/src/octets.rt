@@ -12,7 +12,7 @@ pub(crate) fn append<const N: usize>(items: &mut ArrayVec<u8, N>, more: &[u8])
     items.try_extend_from_slice(more).unwrap();
 }
 
-/// A list of at most 1,520 octets, as many as a packet of 127 blocks that is not confirmed has before its CRC.
+/// A list of at most 1,520 octets, as many as a packet (PDU) of 127 blocks that is not confirmed has before its CRC.
 #[derive(Clone, Debug, Default, Drop, PartialEq, Eq)]
 pub struct Octets {
     items: ArrayVec<u8, 1520>,

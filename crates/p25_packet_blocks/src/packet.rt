@@ -11,7 +11,7 @@ use crate::slots::Slots;
 use p25_bits::BitBuf;
 use std::marker::Model;
 
-/// A confirmed packet: a header of format 16 hex, and a slot for each block to follow.
+/// A confirmed packet (PDU): a header of format 16 hex, and a slot for each block to follow.
 #[derive(Clone, Debug, Drop, PartialEq, Eq)]
 pub struct Confirmed {
     head: PacketHead,
@@ -72,7 +72,7 @@ impl Confirmed {
     }
 }
 
-/// A packet that is not confirmed, or a response: a header of format 15 or 03 hex, and its octets before the packet CRC,
+/// A packet (PDU) that is not confirmed, or a response: a header of format 15 or 03 hex, and its octets before the packet CRC,
 /// twelve for each block to follow less those four, or none where there is no block to follow.
 #[derive(Clone, Debug, Drop, PartialEq, Eq)]
 pub struct Plain {
@@ -133,7 +133,7 @@ impl Plain {
     }
 }
 
-/// A packet, by the way in which it is sent. TIA-102.BAAA, Packet Data.
+/// A packet (PDU), by the way in which it is sent. TIA-102.BAAA, Packet Data.
 #[derive(Clone, Debug, Drop, PartialEq, Eq)]
 pub enum Packet {
     /// A packet whose blocks are confirmed one by one.

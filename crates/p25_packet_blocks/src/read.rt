@@ -1,4 +1,4 @@
-//! Units of packets read, without their status symbols.
+//! Units of packets (PDU) read, without their status symbols.
 
 ghost use Rattle.std.specs.Prelude.{◌≡◌, ℕ, ◌+◌, ◌*◌, ◌≤◌, ◌<◌, ◌==◌, length, take, drop, Ok, None};
 ghost use Rattle.p25_bits.specs.Numbers.{octets_number};
@@ -19,16 +19,16 @@ use p25_crc::{crc9, crc16, crc32};
 use p25_status::Field;
 use p25_trellis::{Half, ThreeQuarter, read_block};
 
-/// Where the header block begins in the unit of a packet without status symbols.
+/// Where the header block begins in the unit of a packet (PDU) without status symbols.
 pub const HEADER_AT: usize = 112;
 
-/// Where the blocks to follow begin in the unit of a packet without status symbols.
+/// Where the blocks to follow begin in the unit of a packet (PDU) without status symbols.
 pub const BLOCKS_AT: usize = 308;
 
-/// How many bits a block of a packet has.
+/// How many bits a block of a packet (PDU) has.
 pub const BLOCK_LENGTH: usize = 196;
 
-// The header that the octets of a header block hold.
+// The header of a packet (PDU) that the octets of a header block hold.
 pub(crate) fn head_in(octets: &[u8; 12]) -> Result<PacketHead, Field>
     ensures { result ≡ head_from octets.now }
 {
@@ -41,9 +41,9 @@ pub(crate) fn head_in(octets: &[u8; 12]) -> Result<PacketHead, Field>
     }
 }
 
-/// Answers the header that the header block of a unit holds. `bare` has at least the 308 bits of the unit's front and its
-/// header block, without status symbols. PacketHeader comes exactly where the last two octets of the block are not the
-/// header CRC of the others. TIA-102.BAAA, Packet Data, Header Block.
+/// Answers the header that the header block of the unit of a packet (PDU) holds. `bare` has at least the 308 bits of the unit's
+/// front and its header block, without status symbols. PacketHeader comes exactly where the last two octets of the block are not
+/// the header CRC of the others. TIA-102.BAAA, Packet Data, Header Block.
 pub fn read_head(bare: &BitBuf) -> Result<PacketHead, Field>
     requires { 308 ≤ length bare.now }
     ensures { result ≡ head_reading_of bare.now }
@@ -53,7 +53,7 @@ pub fn read_head(bare: &BitBuf) -> Result<PacketHead, Field>
     head_in(&octets)
 }
 
-// The slot that the octets of a confirmed block are.
+// The slot that the octets of a block of a confirmed packet (PDU) are.
 fn slot_in(octets: &[u8; 18]) -> Slot
     ensures { result ≡ slot_from octets.now }
 {
@@ -68,7 +68,7 @@ fn slot_in(octets: &[u8; 18]) -> Slot
     }
 }
 
-// Sets `slots` to those of the blocks to follow of a confirmed packet. Adds the distances of their nearest paths to `fixes`.
+// Sets `slots` to those of the blocks to follow of a confirmed packet (PDU). Adds the distances of their nearest paths to `fixes`.
 pub(crate) fn read_slots(bare: &BitBuf, blocks: usize, slots: &mut Slots, fixes: &mut u32)
     requires blocks { blocks ≤ 127 }
     requires there { 308 + 196 * blocks ≤ length bare.now }
@@ -85,7 +85,8 @@ pub(crate) fn read_slots(bare: &BitBuf, blocks: usize, slots: &mut Slots, fixes:
     }
 }
 
-// Sets the octets to those of the blocks to follow at half rate. Adds the distances of their nearest paths to `fixes`.
+// Sets the octets to those of the blocks to follow of a packet (PDU) at half rate. Adds the distances of their nearest paths to
+// `fixes`.
 fn read_octets(bare: &BitBuf, blocks: usize, octets: &mut [u8], fixes: &mut u32)
     requires blocks { blocks ≤ 127 }
     requires octets { length octets.old ≡ 12 * blocks }
@@ -103,7 +104,7 @@ fn read_octets(bare: &BitBuf, blocks: usize, octets: &mut [u8], fixes: &mut u32)
     }
 }
 
-// Whether the last four octets are the packet CRC of the others.
+// Whether the last four octets are the CRC of a packet (PDU), of the others.
 fn check_agrees(octets: &[u8], count: usize) -> bool
     requires { length octets.now ≡ count + 4 }
     ensures { result ≡ (octets_number (drop count octets.now) == crc32_of (take count octets.now)) }
@@ -153,7 +154,7 @@ fn read_plain(
     set_plain(head, octets, packet)
 }
 
-/// Answers the packet of a header that was read and of its unit without status symbols, which has at least as many bits as
+/// Answers the packet (PDU) of a header that was read and of its unit without status symbols, which has at least as many bits as
 /// the blocks to follow ask for. Format and PacketCrc come as in `read_packet`.
 pub fn read_packet_with(head: PacketHead, bare: &BitBuf) -> Result<Packet, Field>
     requires { 308 + 196 * head_blocks head ≤ length bare.now }
@@ -190,8 +191,8 @@ fn read_blocks(
     }
 }
 
-/// Sets `packet` to the packet of the header that a unit without status symbols holds, and answers None; or answers the field that
-/// fails, where `packet` means nothing. A packet is large: set in place it is not moved. Format and PacketCrc come as in
+/// Sets `packet` to the packet (PDU) of the header that a unit without status symbols holds, and answers None; or answers the field
+/// that fails, where `packet` means nothing. A packet is large: set in place it is not moved. Format and PacketCrc come as in
 /// `read_packet`. `distance` is in how many bits the header block differs from the nearest block. Sets `fixes`, where a packet is read
 /// and none of its slots is Bad, to the number of bits in which the header block and the blocks to follow were received otherwise
 /// than they are sent for it.
@@ -212,9 +213,9 @@ pub fn set_packet(
     read_blocks(head, bare, packet, fixes)
 }
 
-/// Answers the packet of the header that a unit without status symbols holds, as `read_packet_with` does. Sets `fixes`, where a
-/// packet is answered and none of its slots is Bad, to the number of bits in which the header block and the blocks to follow were
-/// received otherwise than they are sent for it.
+/// Answers the packet (PDU) of the header that a unit without status symbols holds, as `read_packet_with` does. Sets `fixes`, where
+/// a packet is answered and none of its slots is Bad, to the number of bits in which the header block and the blocks to follow
+/// were received otherwise than they are sent for it.
 pub fn read_packet_counted(
     head: PacketHead,
     bare: &BitBuf,
@@ -234,7 +235,7 @@ pub fn read_packet_counted(
     }
 }
 
-/// Answers the packet that a unit holds. `bare` is the unit without status symbols, from its front on: it has at least 308
+/// Answers the packet (PDU) that a unit holds. `bare` is the unit without status symbols, from its front on: it has at least 308
 /// bits, and where its header is read at least as many as the blocks to follow ask for. In this order PacketHeader comes
 /// exactly where the header CRC does not agree, Format exactly where the format is none of 16, 15 and 03 hex, and PacketCrc
 /// exactly where the format is 15 or 03 hex, there are blocks to follow and the packet CRC does not agree. The slot of a

@@ -4,7 +4,7 @@ use crate::block::Slot;
 use arrayvec::ArrayVec;
 use std::marker::Model;
 
-/// A list of at most 127 slots, one for each block to follow, in the order of sending.
+/// A list of at most 127 slots, one for each block to follow of a confirmed packet (PDU), in the order of sending.
 #[derive(Clone, Debug, Default, Drop, PartialEq, Eq)]
 pub struct Slots {
     items: ArrayVec<Slot, 127>,

@@ -1,4 +1,4 @@
-//! Units made by a program apart from this code, and each call once.
+//! Units of packets (PDU) made by a program apart from this code, and each call once.
 
 mod rows;
 

@@ -1,4 +1,4 @@
-//! Units of packets read as they are sent, with their status symbols.
+//! Units of packets (PDU) read as they are sent, with their status symbols.
 
 ghost use Rattle.std.specs.Prelude.{◌≡◌, ◌+◌, ◌*◌, ◌≤◌, length, drop};
 ghost use Rattle.p25_packet_blocks.specs.UnitReading.{sent_header_bits, sent_head_of, sent_head_distance, sent_packet_of, packet_unit_of};
@@ -13,7 +13,7 @@ use p25_status::{BARE_BLOCK_LENGTH, Field, SENT_BLOCK_LENGTH, Statuses, is_sync,
 use p25_trellis::{Half, read_block};
 use p25_unit_front::read_identifier;
 
-// Sets `header` to the bits of the header block of the unit whose sent bits begin at a place.
+// Sets `header` to the bits of the header block of the unit of a packet (PDU) whose sent bits begin at a place.
 fn take_header(bits: &BitBuf, at: usize, header: &mut BitBuf)
     requires { at + 316 ≤ length bits.now }
     ensures list { header.new ≡ sent_header_bits (drop at bits.now) }
@@ -28,9 +28,9 @@ fn take_header(bits: &BitBuf, at: usize, header: &mut BitBuf)
     header.append(bits, at + 4 * SENT_BLOCK_LENGTH, 28);
 }
 
-/// Answers the header of the packet whose unit as it is sent begins at place `at`. The 316 bits with its front and its header
-/// block are there. PacketHeader comes exactly where the last two octets of the block are not the header CRC of the others.
-/// TIA-102.BAAA, Packet Data, Header Block.
+/// Answers the header of the packet (PDU) whose unit as it is sent begins at place `at`. The 316 bits with its front and its
+/// header block are there. PacketHeader comes exactly where the last two octets of the block are not the header CRC of the
+/// others. TIA-102.BAAA, Packet Data, Header Block.
 pub fn read_head_at(bits: &BitBuf, at: usize) -> Result<PacketHead, Field>
     requires { at + 316 ≤ length bits.now }
     ensures { result ≡ sent_head_of (drop at bits.now) }
@@ -38,8 +38,8 @@ pub fn read_head_at(bits: &BitBuf, at: usize) -> Result<PacketHead, Field>
     read_head_at_counted(bits, at, &mut 0)
 }
 
-/// Answers the header as `read_head_at` does. Sets `distance` to the number of bits in which the header block was received
-/// otherwise than the nearest block is sent, also where its CRC does not agree.
+/// Answers the header of a packet (PDU) as `read_head_at` does. Sets `distance` to the number of bits in which the header block
+/// was received otherwise than the nearest block is sent, also where its CRC does not agree.
 pub fn read_head_at_counted(
     bits: &BitBuf,
     at: usize,
@@ -56,7 +56,7 @@ pub fn read_head_at_counted(
     head_in(&octets)
 }
 
-// The packet of a unit as it is sent, from its header on.
+// The packet (PDU) of a unit as it is sent, from its header on.
 fn read_sent_packet(bits: &BitBuf) -> Result<Packet, Field>
     requires { 316 ≤ length bits.now }
     ensures { result ≡ sent_packet_of bits.now }
@@ -71,9 +71,9 @@ fn read_sent_packet(bits: &BitBuf) -> Result<Packet, Field>
     read_packet_with(head, &bare)
 }
 
-/// Answers the network access code and the packet of the unit that begins at place 0, as it is sent, with its status symbols.
-/// There are at least 360 bits, as many as the shortest unit has; bits after the unit are not looked at. In this order Sync
-/// comes exactly where more than four bits of the sync are wrong, Nid exactly where no identifier lies within 11 bits, Duid
+/// Answers the network access code (NAC) and the packet (PDU) of the unit that begins at place 0, as it is sent, with its status
+/// symbols. There are at least 360 bits, as many as the shortest unit has; bits after the unit are not looked at. In this order
+/// Sync comes exactly where more than four bits of the sync are wrong, Nid exactly where no identifier lies within 11 bits, Duid
 /// exactly where the DUID is not C, PacketHeader exactly where the header CRC does not agree, Length exactly where the header
 /// asks for more bits than there are, and Format and PacketCrc as in `read_packet`. TIA-102.BAAA, Packet Data.
 pub fn read_packet_unit(bits: &BitBuf) -> Result<(u16, Packet), Field>

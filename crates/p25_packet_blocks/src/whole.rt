@@ -7,7 +7,7 @@ use crate::packet::Packet;
 use crate::slots::Slots;
 
 impl Packet {
-    /// Answers the header.
+    /// Answers the header of the packet (PDU).
     pub fn head(&self) -> PacketHead
         ensures { result ≡ packet_head self.now }
     {
@@ -31,7 +31,7 @@ fn are_good(slots: &Slots) -> bool
     true
 }
 
-/// Answers whether no slot is Bad: true of each packet that is not confirmed.
+/// Answers whether no slot of a packet (PDU) is Bad: true of each one that is not confirmed.
 #[tactic(auto, unfolding(crate::specs::Whole::IsWholePacket))]
 pub fn is_whole(packet: &Packet) -> bool
     ensures { IsTrue result ↔ IsWholePacket packet.now }

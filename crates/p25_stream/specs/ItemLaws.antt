@@ -96,23 +96,24 @@ GaveItems =
     → Gave before item raw now → (before.finished ≡ true → (ended ≡ true) × (more ≡ []))
     → items_by ended before.place (before.held ++ more) ≡ item ∷ items_by ended now.place (now.held ++ more)
 
--- where 144 bits are there, at most 4 of the first 48 differ from the sync, and the first 63 bits of the identifier differ in at
--- most 11 from those that are sent for a network access code of 12 bits and the data unit identifier 3, the first item is the
--- terminator with that code, whole, with the two status symbols that are there, and the wrong bits as its fixes; it is decided
+-- where 144 bits are there, at most 4 of the first 48 differ from the sync, and the first 63 bits of the network identifier (NID)
+-- differ in at most 11 from those that are sent for a network access code of 12 bits and the data unit identifier 3, the first
+-- item is the terminator (TDU) with that code, whole, with the two status symbols that are there, and the wrong bits as its
+-- fixes; it is decided
 abbrev pub TerminatorIsRead : Type 0
 TerminatorIsRead =
     (at nac : ℕ) (bits : List Bool) → HasTerminator nac bits
     → (first_item at bits ≡ Whole at (terminator nac (statuses_of (take 144 bits))) (sync_errors bits + identifier_errors nac bits))
     × (is_decided bits ≡ true)
 
--- and the first item is a terminator with some code only there
+-- and the first item is a terminator (TDU) with some code only there
 abbrev pub TerminatorIsThere : Type 0
 TerminatorIsThere =
     (at nac : ℕ) (bits : List Bool) (place : ℕ) (statuses : List Status) (fixes : ℕ)
     → first_item at bits ≡ Whole place (terminator nac statuses) fixes
     → HasTerminator nac bits × (place ≡ at) × (statuses ≡ statuses_of (take 144 bits)) × (fixes ≡ sync_errors bits + identifier_errors nac bits)
 
--- the bits that are sent for a terminator are read as it, with no fixes, whatever bits follow
+-- the bits that are sent for a terminator (TDU) are read as it, with no fixes, whatever bits follow
 abbrev pub SentTerminatorIsRead : Type 0
 SentTerminatorIsRead =
     (at nac : ℕ) (statuses : List Status) (more : List Bool) → nac < 4096 → length statuses ≡ 2

@@ -14,7 +14,7 @@ repaired (NoUnit place field) raw = raw
 repaired (Gap place count) raw = raw
 repaired (Cut place have) raw = raw
 
--- a frame with another network access code and one status symbol in place of all
+-- a frame with another network access code (NAC) and one status symbol in place of all
 abbrev pub bridged_frame : ℕ → Status → Frame → Frame
 bridged_frame nac status frame = frame_as nac (replicate (length frame.statuses) status) frame
 

@@ -13,7 +13,7 @@ use crate::judging::{beginning_anew, set_item, settle};
 use p25_bits::BitBuf;
 use p25_units::Item;
 
-// How many bits are taken before any is judged: those of the shortest unit, so that it is judged once.
+// How many bits are taken before any is judged: those of the shortest unit, a TDU, so that it is judged once.
 const SHORTEST: usize = 144;
 
 /// Sets `item` to the first item of the bits of some octets from bit `at` on, and answers true. `place` is where that bit

@@ -15,8 +15,8 @@ ghost use Rattle.p25_stream.specs.ItemLaws.{DecidedStay, FirstStays, GapsAreFull
 /// - `whole`: an item is a whole unit only where the bits that it covers read as its frame, as received: those of its front lie
 ///   within radius, and what it carries is what its code words and blocks read as.
 /// - `undamaged`: where bits begin with a sound frame's image, the first item is that frame, whole and with no fixes.
-/// - `terminator`, `terminator_is_there`: the first item is a terminator with a network access code exactly where 144 bits
-///   are there, at most 4 of them are wrong in the sync, and at most 11 in the first 63 of the identifier.
+/// - `terminator`, `terminator_is_there`: the first item is a terminator (TDU) with a network access code exactly where 144 bits
+///   are there, at most 4 of them are wrong in the sync, and at most 11 in the first 63 of the network identifier (NID).
 /// - `sent_terminator`: the bits that are sent for a terminator are read as it, with no fixes.
 /// - `gave`: what a scanner gave is the first of the items of what it held and any bits that come later.
 pub fn item_laws()

@@ -1,4 +1,5 @@
-//! Streams of bits, divided into items: whole units, broken ones, places where a unit begins but cannot be read, and gaps.
+//! Streams of bits, divided into items: whole units (HDU, LDU1, LDU2, TDU, TDULC and PDU), broken ones, places where a unit begins
+//! but cannot be read, and gaps.
 //!
 //! Octets are taken in order, each octet's most significant bit first; places count bits from the first one. Items lie
 //! end to end and cover every bit. A `Scanner` gives each of them as soon as no later bit can change it:

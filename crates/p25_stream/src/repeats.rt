@@ -1,4 +1,4 @@
-//! Items that are sent again, repaired or under another network access code.
+//! Items that are sent again, repaired or under another network access code (NAC).
 
 ghost use Rattle.std.specs.Prelude.{◌≡◌, ◌<◌, ◌≤◌, replicate};
 ghost use Rattle.p25_units.specs.Items.{IsSoundItem};
@@ -10,8 +10,8 @@ use p25_status::weave;
 use p25_units::{Frame, Item, Status, Statuses, image_as, unit_image};
 
 /// Replaces the bits that an item covers by those of its frame where it is `Whole`, so that no wrong bit is left in its
-/// sync, its identifier and its code words; its status symbols and the bits without a code stay as received. The bits of
-/// every other item stay as they are.
+/// sync, its network identifier (NID) and its code words; its status symbols and the bits without a code stay as received. The
+/// bits of every other item stay as they are.
 pub fn repair_item(item: &Item, raw: &mut BitBuf)
     requires { IsSoundItem item.now }
     ensures { raw.new ≡ repaired item.now raw.old }
@@ -43,7 +43,7 @@ fn repair_frame(frame: &Frame, room: &mut BitBuf, raw: &mut BitBuf)
     weave(room, &frame.statuses, raw);
 }
 
-/// Sets `out` to the bits of a `Whole` item's frame, with another network access code and with one status symbol in place
+/// Sets `out` to the bits of a `Whole` item's frame, with another network access code (NAC) and with one status symbol in place
 /// of all, and answers true. For every other item it answers false, and `out` stays as it is.
 pub fn bridge_item(item: &Item, nac: u16, status: Status, out: &mut BitBuf) -> bool
     requires sound { IsSoundItem item.now }
@@ -63,7 +63,7 @@ pub fn bridge_item(item: &Item, nac: u16, status: Status, out: &mut BitBuf) -> b
     }
 }
 
-// The bits of a frame under another network access code, with one status symbol in place of all.
+// The bits of a frame under another network access code (NAC), with one status symbol in place of all.
 fn bridge_frame(frame: &Frame, nac: u16, status: Status, out: &mut BitBuf)
     requires sound { IsSoundFrame frame.now }
     requires nac { nac < 4096 }

@@ -111,7 +111,7 @@ fn octets_as_many_as_there_are(rt: HostRuntime) {
     assert_eq!(rt; scanner.held(), 72);
 }
 
-// What a terminator carries: nothing of it fails.
+// What a terminator (TDU) carries: nothing of it fails.
 #[tactic(auto, unfolding(p25_units::specs::Units::IsWholeBody))]
 fn terminator() -> Body
     ensures { IsWholeBody result }

@@ -12,7 +12,7 @@ use Rattle.p25_units.specs.declared.unit.Body.{Body}
 use Rattle.p25_units.specs.declared.unit.Body.TheVariants.{Voice, Packet}
 use Rattle.p25_units.specs.declared.frame.Frame.{Frame}
 
--- the looked-at places of a packet with n blocks to follow: its header block, and these
+-- the looked-at places of a packet (PDU) with n blocks to follow: its header block, and these
 unfoldable pub packet_looked : ℕ → List (ℕ × ℕ)
 packet_looked n = (112, 196) ∷ each_below n (λ j. (308 + 196 * j, 196))
 
@@ -21,8 +21,8 @@ abbrev pub body_looked : Body → List (ℕ × ℕ)
 body_looked (Voice voice) = voice_looked voice
 body_looked (Packet packet) = packet_looked (head_blocks (packet_head packet))
 
--- the looked-at places of a unit without status symbols: its sync, the first 63 bits of its identifier, and its code words
--- and blocks
+-- the looked-at places of a unit without status symbols: its sync, the first 63 bits of its network identifier (NID), and its code
+-- words and blocks
 abbrev pub looked_of : UnitParts → List (ℕ × ℕ)
 looked_of unit = (0, 111) ∷ body_looked unit.body
 

@@ -30,7 +30,7 @@ place_of (NoUnit place field) = place
 place_of (Gap place count) = place
 place_of (Cut place have) = place
 
--- a broken unit has an identifier: a NAC of 12 bits and a DUID of 4
+-- a broken unit has a network identifier (NID): a NAC of 12 bits and a DUID of 4
 pub record HasIdentifier (nac duid : ℕ) : Type 0 where
   pub nac_fits : nac < 4096
   pub duid_fits : duid < 16
@@ -48,14 +48,14 @@ abbrev pub item_from : ℕ → ℕ × ℕ → List Bool → Result Frame (List F
 item_from place nid sent (Ok frame) = Whole place frame (fixes_of frame sent)
 item_from place nid sent (Err fields) = Broken place (length sent) nid.0 nid.1 fields
 
--- the item of a whole voice unit by its parts
+-- the item of a whole voice unit (HDU, LDU1, LDU2, TDU or TDULC) by its parts
 abbrev pub whole_voice : ℕ → ℕ → VoiceUnit → List Status → ℕ → Item
 whole_voice place nac voice statuses fixes =
     let unit : UnitParts = record { nac = nac; body = Voice voice } in
     let frame : Frame = record { unit = unit; statuses = statuses } in
     Whole place frame fixes
 
--- the item of sent bits by their identifier
+-- the item of sent bits by their network identifier (NID)
 abbrev pub identified_item : ℕ → List Bool → Option (ℕ × ℕ) → Item
 identified_item place sent None = NoUnit place Nid
 identified_item place sent (Some nid) = item_from place nid sent (reading_from (Some nid) sent)

@@ -1,5 +1,5 @@
--- What the bits from a place on say of a unit there. One rule stands for each kind of unit, joined where the identifier was
--- read.
+-- What the bits from a place on say of a unit there. One rule stands for each kind of unit, joined where the network identifier
+-- (NID) was read.
 use Rattle.std.specs.Prelude.{ℕ, Bool, true, false, if◌then◌else◌, ◌==◌, nat_lt, List, Option, Some, None, Result, Ok, Err, length}
 use Rattle.p25_status.specs.Sync.{has_sync}
 use Rattle.p25_status.specs.declared.fields.Field.{Field}
@@ -18,25 +18,26 @@ use Rattle.p25_units.specs.declared.needs.Need.TheVariants.{NoSync, More, Length
 unfoldable pub length_need : ℕ → ℕ → Need
 length_need count have = if nat_lt have count then More count else Length count
 
--- what a voice unit needs, by how many bits its kind has without status symbols; none where there is no such kind
+-- what a voice unit (HDU, LDU1, LDU2, TDU or TDULC) needs, by how many bits its kind has without status symbols; none where there
+-- is no such kind
 unfoldable pub voice_need : Option ℕ → ℕ → Need
 voice_need None have = NoLength Duid
 voice_need (Some bare) have = length_need (sent_length bare) have
 
--- what a packet needs whose header was read, or fails
+-- what a packet (PDU) needs whose header was read, or fails
 unfoldable pub head_need : Result PacketHead Field → ℕ → Need
 head_need (Err field) have = NoLength field
 head_need (Ok head) have = length_need (packet_sent_length (head_blocks head)) have
 
--- what a packet needs: the 316 bits with its front and its header block, and then all that its header asks for
+-- what a packet (PDU) needs: the 316 bits with its front and its header block, and then all that its header asks for
 unfoldable pub packet_need : List Bool → Need
 packet_need bits = if nat_lt (length bits) 316 then More 316 else head_need (sent_head_of bits) (length bits)
 
--- what the unit of a DUID needs
+-- what the unit of a DUID needs: that of an HDU, an LDU1, an LDU2, a TDU, a TDULC or a PDU
 unfoldable pub kind_need : ℕ → List Bool → Need
 kind_need duid bits = if duid == 0xC then packet_need bits else voice_need (voice_length_of duid) (length bits)
 
--- what is needed after an identifier that was read, or none
+-- what is needed after a network identifier (NID) that was read, or none
 unfoldable pub identified_need : Option (ℕ × ℕ) → List Bool → Need
 identified_need None bits = NoLength Nid
 identified_need (Some nid) bits = kind_need nid.1 bits

@@ -18,7 +18,7 @@ use Rattle.p25_units.specs.declared.unit.Body.{Body}
 use Rattle.p25_units.specs.declared.unit.Body.TheVariants.{Voice, Packet}
 use Rattle.p25_units.specs.declared.frame.Frame.{Frame}
 
--- a voice unit that was read, as what a unit carries
+-- a voice unit (HDU, LDU1, LDU2, TDU or TDULC) that was read, as what a unit carries
 abbrev pub body_from : Result VoiceUnit (List Field) → Result Body (List Field)
 body_from (Ok voice) = Ok (Voice voice)
 body_from (Err fields) = Err fields
@@ -32,17 +32,17 @@ failing_slot j Bad = Block j ∷ []
 unfoldable pub failing_slots_of : ℕ → List Slot → List Field
 failing_slots_of n slots = joined_below n (λ j. failing_slot j (slice_index_or slots j Bad))
 
--- the fields that fail of a packet: a block for each slot that is Bad
+-- the fields that fail of a packet (PDU): a block for each slot that is Bad
 unfoldable pub failing_blocks_of : packet_type → List Field
 failing_blocks_of (Confirmed packet) = failing_slots_of (length packet.slots) packet.slots
 failing_blocks_of (Plain packet) = []
 
--- a packet as what a unit carries, where no field of it fails
+-- a packet (PDU) as what a unit carries, where no field of it fails
 abbrev pub whole_from : packet_type → List Field → Result Body (List Field)
 whole_from packet [] = Ok (Packet packet)
 whole_from packet (field ∷ fields) = Err (field ∷ fields)
 
--- a packet that was read, as what a unit carries: the header, the format and the packet CRC fail alone
+-- a packet (PDU) that was read, as what a unit carries: the header, the format and the packet CRC fail alone
 unfoldable pub packet_body_from : Result packet_type Field → Result Body (List Field)
 packet_body_from (Err field) = Err (field ∷ [])
 packet_body_from (Ok packet) = whole_from packet (failing_blocks_of packet)
@@ -52,7 +52,7 @@ abbrev pub body_or : Option (List Field) → Body → Result Body (List Field)
 body_or None body = Ok body
 body_or (Some fields) body = Err fields
 
--- what a unit of a DUID carries, or exactly the fields that fail
+-- what a unit of a DUID carries, HDU, LDU1, LDU2, TDU, TDULC or PDU, or exactly the fields that fail
 unfoldable pub body_reading_of : ℕ → List Bool → Result Body (List Field)
 body_reading_of duid bare = if duid == 0xC then packet_body_from (packet_reading_of bare) else body_from (voice_reading_of duid bare)
 
@@ -69,7 +69,7 @@ abbrev pub frame_or : Option (List Field) → Frame → Result Frame (List Field
 frame_or None frame = Ok frame
 frame_or (Some fields) frame = Err fields
 
--- the frame of sent bits by their identifier
+-- the frame of sent bits by their network identifier (NID)
 unfoldable pub reading_from : Option (ℕ × ℕ) → List Bool → Result Frame (List Field)
 reading_from None sent = Err (Nid ∷ [])
 reading_from (Some nid) sent = frame_from nid.0 (statuses_of sent) (body_reading_of nid.1 (bare_of sent))

@@ -1,4 +1,4 @@
--- Terminators (TIA-102.BAAA, Simple Terminator Data Unit) as they are sent and as they are received.
+-- Terminators (TDU; TIA-102.BAAA, Simple Terminator Data Unit) as they are sent and as they are received.
 use Rattle.std.specs.Prelude.{◌≡◌, ◌↔◌, ℕ, ◌+◌, ◌<◌, ◌≤◌, Bool, false, List, ◌++◌, length, take, replicate}
 use Rattle.p25_bits.specs.Distance.{distance_of}
 use Rattle.p25_status.specs.Sync.{sync_bits}
@@ -13,13 +13,14 @@ use Rattle.p25_units.specs.WithinRadius.{IsWithinRadius}
 use Rattle.p25_units.specs.declared.unit.Body.TheVariants.{Voice}
 use Rattle.p25_units.specs.declared.frame.Frame.{Frame}
 
--- a terminator with a network access code, and its status symbols
+-- a terminator (TDU) with a network access code (NAC), and its status symbols
 abbrev pub terminator : ℕ → List Status → Frame
 terminator nac statuses =
     let unit : UnitParts = record { nac = nac; body = Voice End } in
     record { unit = unit; statuses = statuses }
 
--- the bits that are sent for it: the sync, the identifier with the data unit identifier 3, 28 nulls, and the status symbols
+-- the bits that are sent for it: the sync, the network identifier (NID) with the data unit identifier (DUID) 3, 28 nulls, and the
+-- status symbols
 abbrev pub terminator_bits : ℕ → List Status → List Bool
 terminator_bits nac statuses = woven ((sync_bits ++ nid_word nac 3) ++ replicate 28 false) statuses
 
@@ -27,12 +28,12 @@ terminator_bits nac statuses = woven ((sync_bits ++ nid_word nac 3) ++ replicate
 abbrev pub sync_errors : List Bool → ℕ
 sync_errors bits = distance_of (take 48 bits) sync_bits
 
--- in how many of the first 63 bits of its identifier they differ from those of a terminator with a network access code
+-- in how many of the first 63 bits of its network identifier (NID) they differ from those of a terminator with a network access code
 abbrev pub identifier_errors : ℕ → List Bool → ℕ
 identifier_errors nac bits = distance_of (take 63 (identifier_bits bits)) (take 63 (nid_word nac 3))
 
--- bits begin with a terminator with a network access code of 12 bits, damaged or not: 144 are there, at most 4 are wrong in the
--- sync, and at most 11 among the first 63 of the identifier
+-- bits begin with a terminator (TDU) with a network access code of 12 bits, damaged or not: 144 are there, at most 4 are wrong in
+-- the sync, and at most 11 among the first 63 of the identifier
 pub record HasTerminator (nac : ℕ) (bits : List Bool) : Type 0 where
   pub there : 144 ≤ length bits
   pub fits : nac < 4096

@@ -1,4 +1,4 @@
--- The bits of units, with and without status symbols.
+-- The bits of units (HDU, LDU1, LDU2, TDU, TDULC and PDU), with and without status symbols.
 use Rattle.std.specs.Prelude.{◌≡◌, ◌≤◌, ℕ, ◌*◌, ◌/◌, Bool, List, length, replicate}
 use Rattle.std.specs.Option.{unwrap_or}
 use Rattle.p25_bits.specs.Numbers.{octets_from}
@@ -17,7 +17,7 @@ use Rattle.p25_units.specs.declared.unit.Body.{Body}
 use Rattle.p25_units.specs.declared.unit.Body.TheVariants.{Voice, Packet}
 use Rattle.p25_units.specs.declared.frame.Frame.{Frame}
 
--- the data unit identifier of what a unit carries: C hex of a packet
+-- the data unit identifier (DUID) of what a unit carries: C hex of a packet (PDU)
 abbrev pub body_duid : Body → ℕ
 body_duid (Voice voice) = voice_duid voice
 body_duid (Packet packet) = 0xC
@@ -48,7 +48,7 @@ frame_length_of unit = sent_length (body_length unit.body)
 unfoldable pub image_of : Frame → List Bool
 image_of frame = woven (unit_image_of frame.unit) frame.statuses
 
--- a frame under another network access code, with other status symbols
+-- a frame under another network access code (NAC), with other status symbols
 abbrev pub frame_as : ℕ → List Status → Frame → Frame
 frame_as nac statuses frame =
     let unit : UnitParts = record { nac = nac; body = frame.unit.body } in

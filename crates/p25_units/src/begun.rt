@@ -12,8 +12,9 @@ use p25_packet_blocks::{PacketHead, read_head_at_counted};
 use p25_status::Field;
 use p25_unit_front::read_identifier;
 
-/// What was read of the unit at a place with a sync, so that nothing is read twice while its bits come: its identifier and,
-/// of a packet, its header, or nothing yet. Contracts see by `IsBegun` that it is true of the bits from that place on.
+/// What was read of the unit at a place with a sync, so that nothing is read twice while its bits come: its network identifier
+/// (NID) and, of a packet (PDU), its header, or nothing yet. Contracts see by `IsBegun` that it is true of the bits from that
+/// place on.
 #[derive(Clone, Copy, Debug, PartialEq, Eq)]
 pub struct Begun {
     nid: Option<Nid>,
@@ -33,7 +34,7 @@ impl Begun {
         }
     }
 
-    // The identifier of the unit at a place, which is read where it was not.
+    // The network identifier (NID) of the unit at a place, which is read where it was not.
     pub(crate) fn identify(&mut self, bits: &BitBuf, at: usize) -> Option<Nid>
         requires there { at + 114 ≤ length bits.now }
         requires begun { IsBegun self.old (drop at bits.now) }
@@ -50,14 +51,15 @@ impl Begun {
         }
     }
 
-    // In how many bits the block of the header that was read differs from the nearest block.
+    // In how many bits the block of the header of a packet (PDU) that was read differs from the nearest block.
     pub(crate) fn distance(&self) -> u32
         ensures { result ≡ self.now.distance }
     {
         self.distance
     }
 
-    // The header of the packet at a place, which is read where it was not, and in how many bits its block differs from the nearest.
+    // The header of the packet (PDU) at a place, which is read where it was not, and in how many bits its block differs from the
+    // nearest.
     pub(crate) fn read_head(&mut self, bits: &BitBuf, at: usize) -> Result<PacketHead, Field>
         requires there { at + 316 ≤ length bits.now }
         requires begun { IsBegun self.old (drop at bits.now) }

@@ -23,7 +23,7 @@ use p25_unit_front::front_fixes;
 use p25_voice_units::{VoiceUnit, voice_fixes, voice_image};
 
 /// Answers in how many looked-at places the sent bits from place `at` on differ from the image of a frame: of its sync, of
-/// the first 63 bits of its identifier, and of its code words and blocks. A sound frame's bits are there.
+/// the first 63 bits of its network identifier (NID), and of its code words and blocks. A sound frame's bits are there.
 pub fn fixes(bits: &BitBuf, at: usize, frame: &Frame) -> u32
     requires there { at + frame_length_of frame.now.unit ≤ length bits.now }
     requires sound { IsSoundFrame frame.now }
@@ -47,7 +47,7 @@ fn body_fixes(bits: &BitBuf, at: usize, unit: &Unit) -> u32
     }
 }
 
-// Counts the wrong bits of a voice unit after its front.
+// Counts the wrong bits of a voice unit (HDU, LDU1, LDU2, TDU or TDULC) after its front.
 fn voice_unit_fixes(bits: &BitBuf, at: usize, nac: u16, voice: &VoiceUnit) -> u32
     requires there { at + sent_length (body_length (voice_in voice.now)) ≤ length bits.now }
     requires nac { nac ≤ 4095 }
@@ -67,7 +67,7 @@ fn voice_unit_fixes(bits: &BitBuf, at: usize, nac: u16, voice: &VoiceUnit) -> u3
     coded_fixes(nac, voice, &bare)
 }
 
-// Counts them by the unit's bits without status symbols. After the front of a terminator stand no words.
+// Counts them by the unit's bits without status symbols. After the front of a TDU, a terminator, stand no words.
 fn coded_fixes(nac: u16, voice: &VoiceUnit, bare: &BitBuf) -> u32
     requires nac { nac ≤ 4095 }
     requires long { voice_length_of (voice_duid voice.now) ≡ Some (length bare.now) }
@@ -95,7 +95,7 @@ fn word_fixes(nac: u16, voice: &VoiceUnit, bare: &BitBuf) -> u32
     voice_fixes(voice, bare, &image)
 }
 
-// Counts the wrong bits of a packet after its front.
+// Counts the wrong bits of a packet (PDU) after its front.
 fn packet_fixes(bits: &BitBuf, at: usize, nac: u16, packet: &Packet) -> u32
     requires there { at + packet_sent_length (head_blocks (packet_head packet.now)) ≤ length bits.now }
     requires nac { nac ≤ 4095 }

@@ -29,8 +29,8 @@ impl Frame {
     }
 }
 
-/// Answers how many bits a unit has as it is sent, with its status symbols: 144 to 1,728 for a voice unit, and 360
-/// to 25,920 for a packet.
+/// Answers how many bits a unit has as it is sent, with its status symbols: 144 (TDU) to 1,728 (LDU1 and LDU2) for a voice unit,
+/// and 360 to 25,920 for a packet (PDU).
 pub fn frame_length(unit: &Unit) -> usize
     ensures value { result ≡ frame_length_of unit.now }
     ensures most { result ≤ 25920 }

@@ -29,8 +29,8 @@ pub enum Item {
         frame: Frame,
         fixes: u32,
     },
-    /// A unit of `length` bits, its identifier, and exactly the fields that fail, in order: those of a voice unit, or of a
-    /// packet its format or its packet CRC alone, or each of its blocks whose CRC-9 does not agree.
+    /// A unit of `length` bits, its network identifier (NID), and exactly the fields that fail, in order: those of a voice unit,
+    /// or of a packet (PDU) its format or its packet CRC alone, or each of its blocks whose CRC-9 does not agree.
     Broken {
         place: u64,
         length: u32,
@@ -83,7 +83,7 @@ impl Item {
         }
     }
 
-    // Becomes a whole voice unit. Where it was one, no room for a packet is moved.
+    // Becomes a whole voice unit (HDU, LDU1, LDU2, TDU or TDULC). Where it was one, no room for a packet is moved.
     fn set_voice(&mut self, place: u64, nac: u16, voice: VoiceUnit, statuses: Statuses, fixes: u32)
         requires { nac < 4096 }
         ensures { self.new ≡ whole_voice place nac voice statuses fixes }
@@ -164,7 +164,7 @@ pub fn unit_item_in(
     }
 }
 
-// Sets `item` to that of a voice unit whose identifier was read.
+// Sets `item` to that of a voice unit (HDU, LDU1, LDU2, TDU or TDULC) whose network identifier (NID) was read.
 fn set_voice_item(
     bits: &BitBuf,
     at: usize,
@@ -192,7 +192,8 @@ fn set_voice_item(
     }
 }
 
-// Sets `item` to that of a packet whose identifier was read. A packet takes room, so it is read apart from voice units.
+// Sets `item` to that of a packet (PDU) whose network identifier (NID) was read. A packet takes room, so it is read apart from voice
+// units.
 #[inline(never)]
 fn set_packet_item(
     bits: &BitBuf,
@@ -243,8 +244,8 @@ fn set_packet_item(
     }
 }
 
-// Sets `frame` to that of a packet whose identifier was read, or answers the fields that fail. Sets `fixes`, where none fails, to
-// those of the frame.
+// Sets `frame` to that of a packet (PDU) whose network identifier (NID) was read, or answers the fields that fail. Sets `fixes`,
+// where none fails, to those of the frame.
 fn read_packet_frame(
     bits: &BitBuf,
     at: usize,

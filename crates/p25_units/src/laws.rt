@@ -65,7 +65,7 @@ pub fn unit_laws()
     ensures whole_is_read { WholeUnitIsRead }
 {}
 
-/// **Theorem.** What terminators are among all units.
+/// **Theorem.** What terminators (TDU) are among all units.
 ///
 /// - `sound`: the frame of a terminator is sound exactly where it has two status symbols.
 /// - `sent`: its bits as they are sent are the sync, the identifier, 28 nulls and the status symbols.

@@ -1,4 +1,4 @@
-//! Units as they are sent: written, found at a place and read.
+//! Units (HDU, LDU1, LDU2, TDU, TDULC and PDU) as they are sent: written, found at a place and read.
 //!
 //! The first bit of a list is the first that is sent. A sent unit has a status symbol of two bits after every 70 of its
 //! bits; all places and lengths here count it in.

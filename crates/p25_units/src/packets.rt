@@ -1,4 +1,4 @@
-//! Packets as what units carry.
+//! Packets (PDU) as what units carry.
 
 ghost use Rattle.std.specs.Prelude.{◌≡◌, ℕ, ◌+◌, ◌<◌, ◌≤◌, [], ◌∷◌, ◌++◌, length, Ok, None};
 ghost use Rattle.p25_packet_blocks.specs.Fixes.{head_distance};
@@ -14,8 +14,8 @@ use p25_bits::BitBuf;
 use p25_packet_blocks::{Packet, PacketHead, Slot, Slots, read_packet_counted, set_packet};
 use p25_status::{Field, FieldList};
 
-// The packet of a unit without status symbols, by its header that was read or fails. Sets `fixes`, where a packet is answered, to
-// the number of wrong bits of its blocks.
+// The packet (PDU) of a unit without status symbols, by its header that was read or fails. Sets `fixes`, where a packet is answered,
+// to the number of wrong bits of its blocks.
 pub(crate) fn read_packet_body(
     head: Result<PacketHead, Field>,
     bare: &BitBuf,
@@ -32,8 +32,8 @@ pub(crate) fn read_packet_body(
     }
 }
 
-// Sets `packet` to the packet of a unit without status symbols, by its header, whose block differs in `distance` bits from the
-// nearest block, or answers the fields that fail. Sets `fixes`, where none fails, to the number of wrong bits of its blocks.
+// Sets `packet` to the packet (PDU) of a unit without status symbols, by its header, whose block differs in `distance` bits from
+// the nearest block, or answers the fields that fail. Sets `fixes`, where none fails, to the number of wrong bits of its blocks.
 pub(crate) fn set_whole_packet(
     head: PacketHead,
     distance: u32,
@@ -64,7 +64,7 @@ fn failing_fields(fields: FieldList) -> Option<FieldList>
     }
 }
 
-// A packet that was read or a field of which fails.
+// A packet (PDU) that was read or a field of which fails.
 fn packet_body(reading: Result<Packet, Field>) -> Result<Body, FieldList>
     ensures { result ≡ packet_body_from reading }
 {
@@ -77,7 +77,7 @@ fn packet_body(reading: Result<Packet, Field>) -> Result<Body, FieldList>
     }
 }
 
-// A packet where no field fails.
+// A packet (PDU) where no field fails.
 fn whole_packet(packet: Packet, fields: FieldList) -> Result<Body, FieldList>
     ensures { result ≡ whole_from packet fields }
 {
@@ -88,7 +88,7 @@ fn whole_packet(packet: Packet, fields: FieldList) -> Result<Body, FieldList>
     }
 }
 
-// The fields that fail of a packet: a block for each slot that is Bad.
+// The fields that fail of a packet (PDU): a block for each slot that is Bad.
 fn failing_blocks(packet: &Packet) -> FieldList
     ensures { result ≡ failing_blocks_of packet.now }
 {

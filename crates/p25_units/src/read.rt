@@ -22,8 +22,8 @@ use p25_unit_front::read_identifier;
 use p25_voice_units::read_voice;
 
 /// Answers the frame that the `count` sent bits from place `at` on read as, where `need` answers that length there. The
-/// refusal is the list of exactly the fields that fail, in order, and is never empty: those of a voice unit, or of a packet its
-/// format or its packet CRC alone, or each block whose CRC-9 does not agree.
+/// refusal is the list of exactly the fields that fail, in order, and is never empty: those of a voice unit, or of a packet (PDU)
+/// its format or its packet CRC alone, or each block whose CRC-9 does not agree.
 pub fn read_unit(bits: &BitBuf, at: usize, count: usize) -> Result<Frame, FieldList>
     requires there { at ≤ length bits.now }
     requires needed { need_of (drop at bits.now) ≡ Length count }
@@ -36,8 +36,8 @@ pub fn read_unit(bits: &BitBuf, at: usize, count: usize) -> Result<Frame, FieldL
     }
 }
 
-// Reads a unit whose identifier was read; `begun` holds what else was. A frame is large: made apart from its caller, it
-// is copied at once.
+// Reads a unit whose network identifier (NID) was read; `begun` holds what else was. A frame is large: made apart from its caller,
+// it is copied at once.
 #[inline(never)]
 pub(crate) fn read_identified(
     bits: &BitBuf,
@@ -63,7 +63,7 @@ pub(crate) fn read_identified(
     }
 }
 
-// What a unit carries, by the DUID of its identifier. Sets `statuses` to its status symbols.
+// What a unit carries, by the DUID of its network identifier (NID). Sets `statuses` to its status symbols.
 fn read_body(
     duid: u8,
     bits: &BitBuf,
@@ -87,7 +87,7 @@ fn read_body(
     read_voice_body(duid, &bare)
 }
 
-// The voice unit of a DUID, as what a unit carries.
+// The voice unit (HDU, LDU1, LDU2, TDU or TDULC) of a DUID, as what a unit carries.
 fn read_voice_body(duid: u8, bare: &BitBuf) -> Result<Body, FieldList>
     requires { voice_length_of duid ≡ Some (length bare.now) }
     ensures { result ≡ body_from (voice_reading_of duid bare.now) }

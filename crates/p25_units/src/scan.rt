@@ -14,15 +14,15 @@ use p25_packet_blocks::packet_length;
 use p25_status::{BARE_BLOCK_LENGTH, Field, SENT_BLOCK_LENGTH, is_sync};
 use p25_voice_units::voice_length;
 
-// The bits from which an identifier can be read: those up to its last, with the status symbol within it.
+// The bits from which a network identifier (NID) can be read: those up to its last, with the status symbol within it.
 const IDENTIFIED: usize = 114;
 
-// The bits from which the header of a packet can be read: those up to the last of its block, with four status symbols.
+// The bits from which the header of a packet (PDU) can be read: those up to the last of its block, with four status symbols.
 const HEADED: usize = 316;
 
 /// Answers what the bits from place `at` on need, the first that holds: 48 bits; a sync (`NoSync`); 114 bits; a network
-/// identifier that can be read (`NoLength` of `Nid`) and is that of a known unit (`NoLength` of `Duid`); of a packet 316
-/// bits, and a header whose CRC agrees (`NoLength` of `PacketHeader`); all bits of that unit. `More` tells how many bits
+/// identifier (NID) that can be read (`NoLength` of `Nid`) and is that of a known unit (`NoLength` of `Duid`); of a packet (PDU)
+/// 316 bits, and a header whose CRC agrees (`NoLength` of `PacketHeader`); all bits of that unit. `More` tells how many bits
 /// have to be there from the place on.
 pub fn need(bits: &BitBuf, at: usize) -> Need
     requires { at ≤ length bits.now }
@@ -75,7 +75,7 @@ fn need_at_sync(bits: &BitBuf, at: usize, begun: &mut Begun) -> Need
     }
 }
 
-// What the unit of a DUID needs.
+// What the unit of a DUID needs: that of an HDU, an LDU1, an LDU2, a TDU, a TDULC or a PDU.
 fn need_of_kind(duid: u8, bits: &BitBuf, at: usize, begun: &mut Begun) -> Need
     requires there { at ≤ length bits.now }
     requires begun { IsBegun begun.old (drop at bits.now) }
@@ -88,7 +88,7 @@ fn need_of_kind(duid: u8, bits: &BitBuf, at: usize, begun: &mut Begun) -> Need
     need_of_voice(duid, bits.len() - at)
 }
 
-// What the voice unit of a DUID needs where so many bits are there.
+// What the voice unit (HDU, LDU1, LDU2, TDU or TDULC) of a DUID needs where so many bits are there.
 fn need_of_voice(duid: u8, have: usize) -> Need
     ensures { result ≡ voice_need (voice_length_of duid) have }
 {
@@ -98,7 +98,7 @@ fn need_of_voice(duid: u8, have: usize) -> Need
     }
 }
 
-// What a packet needs.
+// What a packet (PDU) needs.
 fn need_of_packet(bits: &BitBuf, at: usize, begun: &mut Begun) -> Need
     requires there { at ≤ length bits.now }
     requires begun { IsBegun begun.old (drop at bits.now) }

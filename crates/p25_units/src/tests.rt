@@ -1,5 +1,5 @@
-//! Units that a program apart from this code made: what they need at each number of bits, what they read as, damaged and not,
-//! and that they are written as the same bits.
+//! Units (HDU, LDU1, LDU2, TDU, TDULC and PDU) that a program apart from this code made: what they need at each number of bits,
+//! what they read as, damaged and not, and that they are written as the same bits.
 
 ghost use Rattle.p25_units.specs.Items.{IsSoundItem};
 ghost use Rattle.p25_units.specs.Units.{IsSoundFrame};
@@ -114,7 +114,7 @@ fn assert_written(rt: &impl Abort, frame: &Frame, bits: &BitBuf)
     assert!(rt; BitBuf::distance(&made, bits) == 0 && fixes(bits, 0, frame) == 0);
 }
 
-// Asserts that a frame is written under another network access code with that code.
+// Asserts that a frame is written under another network access code (NAC) with that code.
 fn assert_code(rt: &impl Abort, frame: &Frame)
     requires { IsSoundFrame frame.now }
 {

@@ -19,14 +19,14 @@ use std::marker::Model;
 /// What a unit carries, by its kind.
 #[derive(Clone, Debug, Drop, PartialEq, Eq)]
 pub enum Body {
-    /// A voice unit.
+    /// A voice unit: an HDU, an LDU1, an LDU2, a TDU or a TDULC.
     Voice(VoiceUnit),
-    /// A packet of data.
+    /// A packet of data (PDU).
     Packet(Packet),
 }
 
 impl Body {
-    /// Answers the data unit identifier of the unit's kind.
+    /// Answers the data unit identifier (DUID) of the unit's kind: that of HDU, LDU1, LDU2, TDU, TDULC or PDU.
     pub fn duid(&self) -> u8
         ensures value { result ≡ body_duid self.now }
         ensures fits { result ≤ 15 }
@@ -47,8 +47,8 @@ impl Body {
         }
     }
 
-    // Becomes the packet of a unit without status symbols, by its header, or answers the fields that fail. Where it was one, no
-    // room is moved. Sets `fixes`, where none fails, to the number of wrong bits of its blocks.
+    // Becomes the packet (PDU) of a unit without status symbols, by its header, or answers the fields that fail. Where it was one,
+    // no room is moved. Sets `fixes`, where none fails, to the number of wrong bits of its blocks.
     fn read_packet(
         &mut self,
         head: PacketHead,
@@ -86,7 +86,7 @@ impl Body {
     }
 }
 
-/// A unit: its network access code, which is below 4,096, and what it carries.
+/// A unit: its network access code (NAC), which is below 4,096, and what it carries.
 #[derive(Clone, Debug, Drop, PartialEq, Eq)]
 pub struct Unit {
     nac: u16,
@@ -107,7 +107,7 @@ impl Model for Unit {
 }
 
 impl Unit {
-    /// Answers the unit of a network access code and a body.
+    /// Answers the unit of a network access code (NAC) and a body.
     pub fn new(nac: u16, body: Body) -> Unit
         requires { nac < 4096 }
         ensures { result ≡ record { nac = nac; body = body } }
@@ -124,7 +124,7 @@ impl Unit {
         self.body.set_voice(voice);
     }
 
-    // Becomes the packet of a unit without status symbols under a network access code, or answers the fields that fail, as
+    // Becomes the packet (PDU) of a unit without status symbols under a network access code, or answers the fields that fail, as
     // `read_packet` of what it carries does.
     pub(crate) fn read_packet(
         &mut self,
@@ -146,7 +146,7 @@ impl Unit {
         self.body.read_packet(head, distance, bare, fixes)
     }
 
-    /// Answers the network access code.
+    /// Answers the network access code (NAC).
     pub fn nac(&self) -> u16
         ensures value { result ≡ self.now.nac }
         ensures fits { result < 4096 }
@@ -161,7 +161,7 @@ impl Unit {
         &self.body
     }
 
-    // The identifier that is sent for the unit.
+    // The network identifier (NID) that is sent for the unit.
     pub(crate) fn identifier(&self) -> Nid
         ensures nac { result.nac ≡ self.now.nac }
         ensures duid { result.duid ≡ body_duid self.now.body }

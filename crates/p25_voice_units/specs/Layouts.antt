@@ -8,7 +8,8 @@ use Rattle.p25_voice_units.specs.declared.layout.Piece.TheVariants.{Words, Frame
 abbrev pub hdu_rows : List (ℕ × Piece)
 hdu_rows = (112, Words 0 36) ∷ (760, Nulls 10) ∷ []
 
--- an LDU1 or an LDU2, voice with link control or encryption sync: nine frames, 24 inner words of the coded field, and two low speed words
+-- an LDU1 or an LDU2, voice with link control or encryption sync: nine frames, 24 inner words of the coded field, and two low
+-- speed words
 abbrev pub ldu_rows : List (ℕ × Piece)
 ldu_rows =
     (112, Frame 0)

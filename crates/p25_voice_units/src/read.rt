@@ -123,7 +123,8 @@ fn read_tdulc_link_control(bare: &BitBuf, fixes: &mut u32) -> Option<LinkControl
     }
 }
 
-// The octet of a low speed data (LSD) word of an LDU1 or an LDU2, by its number. Where it is read its wrong bits are added to `fixes`.
+// The octet of a low speed data (LSD) word of an LDU1 or an LDU2, by its number. Where it is read its wrong bits are added to
+// `fixes`.
 fn read_low(bare: &BitBuf, i: usize, fixes: &mut u32) -> Option<u8>
     requires i { i < 2 }
     requires there { 1680 ≤ length bare.now }

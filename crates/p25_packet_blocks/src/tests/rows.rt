@@ -1,8 +1,9 @@
-//! Units before their status symbols are woven in, by their words of 64 bits, the most significant bit first; bits 0 follow.
+//! Units of packets (PDU) before their status symbols are woven in, by their words of 64 bits, the most significant bit first;
+//! bits 0 follow.
 
 use p25_status::Field;
 
-// Units that are read and written: the network access code, the length in bits, the words.
+// Units of packets (PDU) that are read and written: the network access code, the length in bits, the words.
 pub(super) const UNITS: [(u16, usize, &[u64]); 5] = [
     (
         0x293,
@@ -79,7 +80,7 @@ pub(super) const UNITS: [(u16, usize, &[u64]); 5] = [
     ),
 ];
 
-// Damaged units: the field that fails, the length in bits, the words.
+// Damaged units of packets (PDU): the field that fails, the length in bits, the words.
 pub(super) const DAMAGED: [(Option<Field>, usize, &[u64]); 8] = [
     // a confirmed block zeroed
     (
@@ -172,7 +173,7 @@ pub(super) const DAMAGED: [(Option<Field>, usize, &[u64]); 8] = [
             0xAF92_22C2_2227_4000,
         ],
     ),
-    // DUID 3
+    // DUID 3, that of a TDU
     (
         Some(Field::Duid),
         350,

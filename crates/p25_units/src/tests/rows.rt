@@ -3,10 +3,10 @@
 
 use crate::{Field, Need};
 
-// The front of the network access code 293 hex and of the packets below.
+// The front of the network access code (NAC) 293 hex and of the packets (PDU) below.
 const FRONT: u64 = 0x5575_F5FF_77FF_293C;
 
-// A response without blocks.
+// A response without blocks (PDU).
 const RESPONSE: [u64; 6] = [
     FRONT,
     0xD60B_E02B_B372_2522,
@@ -26,7 +26,7 @@ const NO_HEADER: [u64; 6] = [
     0,
 ];
 
-// A packet of format 17 hex without blocks.
+// A packet (PDU) of format 17 hex without blocks.
 const FORMAT_17: [u64; 6] = [
     FRONT,
     0xD60B_E02B_B372_2822,
@@ -36,7 +36,7 @@ const FORMAT_17: [u64; 6] = [
     0,
 ];
 
-// A confirmed packet of one block, of 560 bits.
+// A confirmed packet (PDU) of one block, of 560 bits.
 const CONFIRMED: [u64; 9] = [
     FRONT,
     0xD60B_E02B_B372_C422,
@@ -49,7 +49,7 @@ const CONFIRMED: [u64; 9] = [
     0,
 ];
 
-// An unconfirmed packet of one block, of 560 bits, with its block zeroed.
+// An unconfirmed packet (PDU) of one block, of 560 bits, with its block zeroed.
 const NO_CHECK: [u64; 9] = [
     FRONT,
     0xD60B_E02B_B372_2322,
@@ -62,7 +62,7 @@ const NO_CHECK: [u64; 9] = [
     0,
 ];
 
-// A confirmed packet of two blocks, both zeroed, of 700 bits.
+// A confirmed packet (PDU) of two blocks, both zeroed, of 700 bits.
 const NO_BLOCKS: [u64; 11] = [
     0x5575_F5FF_77FF_ABCC,
     0xC425_E74B_DC0A_C42F,
@@ -77,7 +77,7 @@ const NO_BLOCKS: [u64; 11] = [
     0x2222_2222_2222_2220,
 ];
 
-// A confirmed packet of 127 blocks, all zeroed.
+// A confirmed packet (PDU) of 127 blocks, all zeroed.
 pub(super) const LARGEST: [u64; 6] = [
     FRONT,
     0xD60B_E02B_B372_C422,
@@ -87,15 +87,15 @@ pub(super) const LARGEST: [u64; 6] = [
     0x2222_2222_2222_2222,
 ];
 
-// A terminator; one whose sync has five wrong bits; one whose identifier is more than eleven bits away from each.
+// A terminator (TDU); one whose sync has five wrong bits; one whose network identifier (NID) is more than eleven bits away from
+// each.
 const TERMINATOR: [u64; 3] = [0x5575_F5FF_77FF_0003, 0x364C_2F74_ECAC_0000, 0];
 
 const NO_SYNC: [u64; 3] = [0x5575_F5FF_77E0_0003, 0x364C_2F74_ECAC_0000, 0];
 
 const FAR: [u64; 3] = [0x5575_F5FF_77FF_0003, 0x682D_4527_4B06_0000, 0];
 
-// Voice units whose fields and frames are zeros: a header, voice with link control and with encryption sync, and a terminator with
-// link control.
+// Voice units whose fields and frames are zeros: an HDU, an LDU1, an LDU2 and a TDULC.
 const HEADER: [u64; 2] = [0x5575_F5FF_77FF_0000, 0];
 
 const LINK_1: [u64; 3] = [0x5575_F5FF_77FF_2935, 0x55EF_2C65_3437_0000, 0];
@@ -158,7 +158,7 @@ const NO_HEADER_NEEDS: [(usize, Need); 5] = [
     (360, Need::NoLength(Field::PacketHeader)),
 ];
 
-// For a terminator.
+// For a terminator (TDU).
 const TERMINATOR_NEEDS: [(usize, Need); 7] = [
     (0, Need::More(48)),
     (47, Need::More(48)),
@@ -224,7 +224,7 @@ pub(super) const NEEDS: [(&[u64], usize, &[(usize, Need)]); 14] = [
     ),
 ];
 
-// Four bits of the sync, eleven of the identifier, and its last bit, P, which is not looked at.
+// Four bits of the sync, eleven of the network identifier (NID), and its last bit, P, which is not looked at.
 const AT_RADIUS: [usize; 16] = [0, 1, 2, 3, 48, 53, 58, 63, 68, 75, 80, 85, 90, 95, 100, 113];
 
 // Units, their number of bits, the sent bits that are inverted, the fixes, and the fields that fail.
@@ -249,13 +249,13 @@ pub(super) const READINGS: [(&[u64], usize, &[usize], u32, &[Field]); 17] = [
         15,
         &[],
     ),
-    // nulls
+    // nulls of an HDU
     (&HEADER, 770, &[780, 785, 789], 0, &[]),
-    // voice bits of the first frame and of the second
+    // voice bits of the first frame of an LDU1 and of the second
     (&LINK_1, 1_680, &[114, 263, 264, 409], 0, &[]),
-    // two bits of each low speed word
+    // two bits of each low speed data (LSD) word of an LDU1
     (&LINK_1, 1_680, &[1_546, 1_547, 1_562, 1_563], 4, &[]),
-    // both low speed words beyond
+    // both low speed data (LSD) words beyond
     (
         &LINK_2,
         1_680,
@@ -263,7 +263,7 @@ pub(super) const READINGS: [(&[u64], usize, &[usize], u32, &[Field]); 17] = [
         0,
         &[Field::LowSpeed1, Field::LowSpeed2],
     ),
-    // three bits of the first word and of the last
+    // three bits of the first word of a TDULC and of the last
     (&END_LINK, 420, &[114, 115, 116, 386, 387, 388], 6, &[]),
     (&LINK_2, 1_680, &[], 0, &[]),
 ];
