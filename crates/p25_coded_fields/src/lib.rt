@@ -1,4 +1,4 @@
-//! Fields of units, as link control (LC) and encryption sync (ES) are: an outer word of symbols over GF(64), carried by inner
+//! Fields of units, such as link control (LC) and encryption sync (ES): an outer word of symbols over GF(64), carried by inner
 //! words of bits at places of the unit (TIA-102.BAAA, Voice Data Units).
 //!
 //! A symbol is the number that six bits write, the first bit highest. The information of an inner word is one symbol, or two

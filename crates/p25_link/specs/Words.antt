@@ -39,23 +39,27 @@ header_of_bits bits = record {
   tgid = field_of (part 104 16 bits);
 }
 
--- the symbols of the words
+-- the symbols of link control (LC)
 unfoldable pub link_symbols : LinkControl → List Sym
 link_symbols link = symbols_in 12 (link_word_bits link)
 
+-- the symbols of encryption sync (ES)
 unfoldable pub sync_symbols : EncryptionSync → List Sym
 sync_symbols sync = symbols_in 16 (sync_word_bits sync)
 
+-- the symbols of the header word of an HDU
 unfoldable pub header_symbols : HeaderWord → List Sym
 header_symbols word = symbols_in 20 (header_word_bits word)
 
--- the words of symbols
+-- the link control (LC) of symbols
 unfoldable pub link_of_symbols : List Sym → LinkControl
 link_of_symbols symbols = link_of_bits (symbol_bits symbols)
 
+-- the encryption sync (ES) of symbols
 unfoldable pub sync_of_symbols : List Sym → EncryptionSync
 sync_of_symbols symbols = sync_of_bits (symbol_bits symbols)
 
+-- the header word of an HDU, of symbols
 unfoldable pub header_of_symbols : List Sym → HeaderWord
 header_of_symbols symbols = header_of_bits (symbol_bits symbols)
 

@@ -1,4 +1,4 @@
--- Flags as the octets of a selective retry, a packet (PDU).
+-- Flags as the octets of a selective retry (PDU).
 use Rattle.std.specs.Prelude.{ℕ, ◌/◌, Bool, ◌==◌, List, [], ◌∷◌, ◌++◌, length, take, Option, Some, None, if◌then◌else◌}
 use Rattle.p25_bits.specs.Bits.{octet_bits}
 use Rattle.p25_bits.specs.Numbers.{octets_from}

@@ -1,4 +1,4 @@
--- The packet (PDU) answer: what a unit without its status symbols reads as. Each reading is in steps, so that what decides is an
+-- The packet answer: what a unit (PDU) without its status symbols reads as. Each reading is in steps, so that what decides is an
 -- argument of the next step.
 use Rattle.std.specs.Prelude.{◌≡◌, ℕ, ◌+◌, ◌-◌, ◌*◌, ◌/◌, ◌%◌, ◌≤◌, Bool, List, length, ◌==◌, ◌||◌, take, drop, slice_index, Option, Some, None, Result, Ok, Err, if◌then◌else◌}
 use Rattle.p25_bits.specs.Bits.{part}
@@ -77,7 +77,7 @@ unfoldable pub packet_of_head : PacketHead → List Bool → Result Packet Field
 packet_of_head head bare =
     if head_format head == 0x16 then Ok (confirmed_by_parts head (slots_read (head_blocks head) bare)) else unconfirmed_from head bare
 
--- the packet (PDU) answer: PacketHeader, Format and PacketCrc are tested in this order
+-- the packet answer of a unit (PDU): PacketHeader, Format and PacketCrc are tested in this order
 unfoldable pub packet_from : Result PacketHead Field → List Bool → Result Packet Field
 packet_from (Err field) bare = Err field
 packet_from (Ok head) bare = packet_of_head head bare

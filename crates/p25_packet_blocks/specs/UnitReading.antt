@@ -1,4 +1,4 @@
--- The packet (PDU) answer of a unit as it is sent, with its status symbols: the tests Sync, Nid, Duid, PacketHeader and Length, in
+-- The packet answer of a unit (PDU) as it is sent, with its status symbols: the tests Sync, Nid, Duid, PacketHeader and Length, in
 -- this order, and then the packet answer.
 use Rattle.std.specs.Prelude.{ℕ, Bool, List, ◌==◌, nat_le, length, take, ◌++◌, Result, Ok, Err, Option, Some, None, if◌then◌else◌}
 use Rattle.p25_bits.specs.Bits.{part}
@@ -47,6 +47,6 @@ unfoldable pub identified_packet_of : Option (ℕ × ℕ) → List Bool → Resu
 identified_packet_of None sent = Err Nid
 identified_packet_of (Some nid) sent = if nid.1 == 12 then with_nac nid.0 (sent_packet_of sent) else Err Duid
 
--- the packet (PDU) answer
+-- the packet answer of a unit (PDU) as it is sent
 unfoldable pub packet_unit_of : List Bool → Result (ℕ × Packet) Field
 packet_unit_of sent = if has_sync sent then identified_packet_of (identifier_of sent) sent else Err Sync

@@ -10,8 +10,8 @@ use crate::octets::Octets;
 use p25_bits::BitBuf;
 use std::marker::Model;
 
-/// The flags of a selective retry, a packet (PDU), one for each block of a message: true means that the block was received. There
-/// are 64 or 128.
+/// The flags of a selective retry (PDU), one for each block of a message: true means that the block was received. There are 64
+/// or 128.
 #[derive(Clone, Debug, Drop)]
 pub struct Flags {
     flags: [bool; 128],

@@ -9,7 +9,7 @@ pub const CONFIRMED_FORMAT: u8 = 0x16;
 /// The format of an unconfirmed packet (PDU). TIA-102.BAAA, Packet Data, Header Block.
 pub const PLAIN_FORMAT: u8 = 0x15;
 
-/// The format of a response, a packet (PDU) too. TIA-102.BAAA, Packet Data, Header Block.
+/// The format of a response (PDU). TIA-102.BAAA, Packet Data, Header Block.
 pub const RESPONSE_FORMAT: u8 = 0x03;
 
 /// The ten octets of the header of a packet (PDU), without its CRC. All are kept as they are; only the fields that are read below

@@ -104,7 +104,7 @@ fn read_octets(bare: &BitBuf, blocks: usize, octets: &mut [u8], fixes: &mut u32)
     }
 }
 
-// Whether the last four octets are the CRC of a packet (PDU), of the others.
+// Whether the last four octets of a packet (PDU) are the packet CRC of the others.
 fn check_agrees(octets: &[u8], count: usize) -> bool
     requires { length octets.now ≡ count + 4 }
     ensures { result ≡ (octets_number (drop count octets.now) == crc32_of (take count octets.now)) }

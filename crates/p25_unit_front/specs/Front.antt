@@ -25,7 +25,7 @@ pub record IsFront (nac duid : ℕ) (bits : List Bool) : Type 0 where
 unfoldable pub identifier_bits : List Bool → List Bool
 identifier_bits sent = part 48 22 sent ++ part 72 42 sent
 
--- the network identifier (NID) that they read as: NAC and DUID
+-- the network identifier (NID) that these bits read as: NAC and DUID
 unfoldable pub identifier_of : List Bool → Option (ℕ × ℕ)
 identifier_of sent = nid_reading_of (identifier_bits sent)
 

@@ -1,5 +1,5 @@
-//! The front of a unit: the first 112 of its bits, its frame sync and its network identifier (NID) (TIA-102.BAAA, Frame
-//! Synchronization and Network Identifier).
+//! The front of a unit: the first 112 of its bits, its frame sync and its network identifier (NID). TIA-102.BAAA, Frame
+//! Synchronization and Network Identifier.
 //!
 //! The first bit of a list is the first that is sent. Without status symbols the sync has bits 0 to 47 and the
 //! identifier bits 48 to 111. A status symbol stands within the identifier, so in a unit as it is sent the identifier has

@@ -33,7 +33,7 @@ head_need (Ok head) have = length_need (packet_sent_length (head_blocks head)) h
 unfoldable pub packet_need : List Bool → Need
 packet_need bits = if nat_lt (length bits) 316 then More 316 else head_need (sent_head_of bits) (length bits)
 
--- what the unit of a DUID needs: that of an HDU, an LDU1, an LDU2, a TDU, a TDULC or a PDU
+-- what the unit of a DUID (HDU, LDU1, LDU2, TDU, TDULC or PDU) needs
 unfoldable pub kind_need : ℕ → List Bool → Need
 kind_need duid bits = if duid == 0xC then packet_need bits else voice_need (voice_length_of duid) (length bits)
 

@@ -52,7 +52,7 @@ abbrev pub body_or : Option (List Field) → Body → Result Body (List Field)
 body_or None body = Ok body
 body_or (Some fields) body = Err fields
 
--- what a unit of a DUID carries, HDU, LDU1, LDU2, TDU, TDULC or PDU, or exactly the fields that fail
+-- what a unit of a DUID (HDU, LDU1, LDU2, TDU, TDULC or PDU) carries, or exactly the fields that fail
 unfoldable pub body_reading_of : ℕ → List Bool → Result Body (List Field)
 body_reading_of duid bare = if duid == 0xC then packet_body_from (packet_reading_of bare) else body_from (voice_reading_of duid bare)
 

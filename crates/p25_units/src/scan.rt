@@ -75,7 +75,7 @@ fn need_at_sync(bits: &BitBuf, at: usize, begun: &mut Begun) -> Need
     }
 }
 
-// What the unit of a DUID needs: that of an HDU, an LDU1, an LDU2, a TDU, a TDULC or a PDU.
+// What the unit of a DUID (HDU, LDU1, LDU2, TDU, TDULC or PDU) needs.
 fn need_of_kind(duid: u8, bits: &BitBuf, at: usize, begun: &mut Begun) -> Need
     requires there { at ≤ length bits.now }
     requires begun { IsBegun begun.old (drop at bits.now) }

@@ -52,13 +52,15 @@ voice_in bare = map (λ at. frame_in at bare) (frame_places ldu_rows)
 unfoldable pub low_in : ℕ → List Bool → Option ℕ
 low_in i bare = option_map (λ word. field_of (take 8 word)) (lsd16_reading_of (part (slice_index (low_places ldu_rows) i) 16 bare))
 
--- the words of the coded fields, header word of an HDU, link control (LC) and encryption sync (ES), or none where the field fails
+-- the header word of an HDU, or none where the field fails
 unfoldable pub header_in : List Bool → Option HeaderWord
 header_in bare = option_map header_of_symbols (field_reading_of header_layout bare)
 
+-- the link control (LC) of an LDU1 or a TDULC, by the layout of the field, or none where the field fails
 unfoldable pub link_in : Layout → List Bool → Option LinkControl
 link_in layout bare = option_map link_of_symbols (field_reading_of layout bare)
 
+-- the encryption sync (ES) of an LDU2, or none where the field fails
 unfoldable pub sync_in : List Bool → Option EncryptionSync
 sync_in bare = option_map sync_of_symbols (field_reading_of sync_layout bare)
 
@@ -71,24 +73,27 @@ missing field (Some x) = []
 unfoldable pub failing : {X : Type 0} → Field → Option X → Option ℕ → Option ℕ → List Field
 failing field word first second = missing field word ++ missing LowSpeed1 first ++ missing LowSpeed2 second
 
--- units (HDU, LDU1, LDU2 and TDULC) by their parts: the unit where no part fails, else exactly the fields that fail, in order
+-- an HDU by its header word: the unit where that was read, else the field that fails
 unfoldable pub header_from : Option HeaderWord → Result VoiceUnit (List Field)
 header_from (Some word) = Ok (Header word)
 header_from None = Err (HeaderField ∷ [])
 
--- an LDU1 or an LDU2, made of its word and of the octets of low speed data (LSD)
+-- an LDU1 or an LDU2, made of its word and of the octets of low speed data (LSD), where all were read, else exactly the fields that
+-- fail, in order
 unfoldable pub ldu_from : {X : Type 0} → Field → (X → List ℕ → VoiceUnit) → Option X → Option ℕ → Option ℕ → Result VoiceUnit (List Field)
 ldu_from field unit (Some word) (Some first) (Some second) = Ok (unit word (first ∷ second ∷ []))
 ldu_from field unit word first second = Err (failing field word first second)
 
+-- a TDULC by its link control (LC): the unit where that was read, else the field that fails
 unfoldable pub tdulc_from : Option LinkControl → Result VoiceUnit (List Field)
 tdulc_from (Some link) = Ok (EndLink link)
 tdulc_from None = Err (LinkField ∷ [])
 
--- an LDU1 and an LDU2 by their bits
+-- the LDU1 that bits read as, or exactly the fields that fail, in order
 unfoldable pub ldu1_in : List Bool → Result VoiceUnit (List Field)
 ldu1_in bare = ldu_from LinkField (λ link low. Link1 link low (voice_in bare)) (link_in link_layout bare) (low_in 0 bare) (low_in 1 bare)
 
+-- the LDU2 that bits read as, or exactly the fields that fail, in order
 unfoldable pub ldu2_in : List Bool → Result VoiceUnit (List Field)
 ldu2_in bare = ldu_from SyncField (λ sync low. Link2 sync low (voice_in bare)) (sync_in bare) (low_in 0 bare) (low_in 1 bare)
 

@@ -28,7 +28,7 @@ IsVoiceWithin (Link2 sync low voice) sent received = IsLinkWithin 8 sync_layout 
 IsVoiceWithin End sent received = Unit {0}
 IsVoiceWithin (EndLink link) sent received = IsFieldNear 12 tdulc_layout sent received
 
--- the unit with the voice frames of an LDU1 or an LDU2 as received
+-- the unit, where it is an LDU1 or an LDU2 with the voice frames as received
 abbrev pub received_voice : VoiceUnit → List Bool → VoiceUnit
 received_voice (Header word) received = Header word
 received_voice (Link1 link low voice) received = Link1 link low (voice_in received)

@@ -145,7 +145,7 @@ fn put_tdu(out: &mut BitBuf)
     put_rows::<Golay18>(&TDU_ROWS, &[], &[], &[], out);
 }
 
-// Appends what stands after the front of a TDULC, a terminator: link control (LC).
+// Appends what stands after the front of a TDULC: terminator with link control (LC).
 fn put_tdulc(link: &LinkControl, out: &mut BitBuf)
     requires { length out.old + 308 ≤ 25928 }
     ensures list { out.new ≡ out.old ++ voice_body (tdulc_unit link.now) }
