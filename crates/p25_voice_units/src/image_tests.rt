@@ -220,12 +220,7 @@ fn hdu_tdu_and_tdulc(rt: HostRuntime) {
         &EMPTY_HDU_BITS,
     );
     assert_image(&rt, 0xFFF, &VoiceUnit::End, &TDU_BITS);
-    assert_image(
-        &rt,
-        0x123,
-        &VoiceUnit::EndLink { link: LINK },
-        &TDULC_BITS,
-    );
+    assert_image(&rt, 0x123, &VoiceUnit::EndLink { link: LINK }, &TDULC_BITS);
 }
 
 #[test]
