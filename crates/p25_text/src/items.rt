@@ -60,7 +60,7 @@ fn put_whole(place: u64, frame: &Frame, fixes: u32, out: &mut Line)
     put_unit(&frame.unit, out);
 }
 
-// Appends the text of a broken unit with its network access code and data unit identifier to an empty line.
+// Appends the text of a broken unit with its network access code (NAC) and data unit identifier (DUID) to an empty line.
 #[tactic(auto, unfolding(crate::specs::ItemTexts::item_text_of))]
 fn put_broken(place: u64, count: u32, identifier: (u16, u8), fields: &FieldList, out: &mut Line)
     requires { out.old ≡ [] }
