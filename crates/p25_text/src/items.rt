@@ -113,7 +113,7 @@ fn put_field_names(fields: &FieldList, out: &mut Line)
     }
 }
 
-/// Appends the name of a field.
+/// Appends the name of a field, as `nid` of the network identifier (NID).
 #[tactic(auto, using(p25_line::proofs::DecimalLaws::decimal_octet))]
 pub fn put_field_name(field: Field, out: &mut Line)
     requires { length out.old + 15 ≤ 8192 }
