@@ -1,5 +1,5 @@
-//! A call of four voice units: built, shown, counted, repaired, bridged and grouped; each read and each write fails in turn, and
-//! it is cut off after each of its octets.
+//! A call of four voice units (HDU, LDU1, LDU2 and TDULC): built, shown, counted, repaired, bridged and grouped; each read and each
+//! write fails in turn, and it is cut off after each of its octets.
 
 ghost use Rattle.std.specs.Prelude.{◌≤◌, ◌<◌, length};
 

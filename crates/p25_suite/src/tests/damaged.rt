@@ -14,20 +14,21 @@ use p25_tool::{Outcome, run};
 use std::alloc::Global;
 
 // A unit of the call: its first octet and the one after its last, the bits that are inverted, and what `show` says before its
-// line. In each, 4 bits of the sync, 11 of the identifier and its last one are wrong.
+// line. In each, 4 bits of the sync, 11 of the network identifier (NID) and its last one are wrong.
 type AtRadius = (usize, usize, &'static [Inverted], &'static [u8]);
 
 const FRONT: [Inverted; 3] = [(0, 0, 1, 4), (48, 0, 1, 11), (111, 0, 1, 1)];
 
 const CALL: [AtRadius; 4] = [
-    // Eight Golay words are inverted, and three bits of each other.
+    // Of the HDU eight Golay words are inverted, and three bits of each other.
     (
         0,
         99,
         &[(112, 18, 8, 18), (256, 18, 28, 3)],
         b"unit at=0 bits=792 fix=243 status=11111111111 ",
     ),
-    // Twelve Hamming words are inverted, so that they cannot be read, and a bit of each other; two bits of each low speed word.
+    // Of the LDU1 twelve Hamming words are inverted, so that they cannot be read, and a bit of each other; two bits of each word of its
+    // low speed data (LSD).
     (
         99,
         315,
@@ -42,7 +43,8 @@ const CALL: [AtRadius; 4] = [
         ],
         b"unit at=792 bits=1728 fix=151 status=111111111111111111111111 ",
     ),
-    // Four Hamming words are others of their code; a bit of each other is inverted, and two of each low speed word.
+    // Of the LDU2 four Hamming words are others of their code; a bit of each other is inverted, and two of each word of its low speed
+    // data (LSD).
     (
         315,
         531,
@@ -57,7 +59,7 @@ const CALL: [AtRadius; 4] = [
         ],
         b"unit at=2520 bits=1728 fix=51 status=111111111111111111111111 ",
     ),
-    // Three Golay words are inverted, and three bits of each other.
+    // Of the TDULC three Golay words are inverted, and three bits of each other.
     (
         531,
         585,

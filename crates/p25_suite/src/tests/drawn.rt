@@ -1,5 +1,5 @@
-//! Drawn units: a line of a drawn kind with drawn values, its image, and that image with wrong bits at drawn places, as few as the
-//! codes of the unit correct.
+//! Drawn units (HDU, LDU1, LDU2, TDU, TDULC and PDU): a line of a drawn kind with drawn values, its image, and that image with wrong
+//! bits at drawn places, as few as the codes of the unit correct.
 
 ghost use Rattle.std.specs.Prelude.{◌≤◌, ◌<◌, length};
 
@@ -12,9 +12,10 @@ use std::alloc::Global;
 pub type Damage = (u16, u16, u16, u16, u16, u16);
 
 // A kind of unit: its line with a question mark for each drawn digit, whether the digits of nine voice frames end it, and what
-// may be wrong after its identifier.
+// may be wrong after its network identifier (NID).
 pub type Kind = (&'static [u8], bool, &'static [Damage]);
 
+// What may be wrong of an LDU1.
 const LINK_1: [Damage; 7] = [
     (400, 10, 4, 10, 1, 1),
     (584, 10, 4, 10, 1, 1),
@@ -25,6 +26,7 @@ const LINK_1: [Damage; 7] = [
     (1504, 16, 2, 16, 2, 0),
 ];
 
+// What may be wrong of an LDU2.
 const LINK_2: [Damage; 7] = [
     (400, 10, 4, 10, 1, 2),
     (584, 10, 4, 10, 1, 0),
@@ -74,7 +76,7 @@ pub const KINDS: [Kind; 8] = [
     ),
 ];
 
-// The sync and the identifier, of which the last bit is free.
+// The sync and the network identifier (NID), of which the last bit is free.
 const FRONT: [Damage; 2] = [(0, 0, 1, 48, 4, 0), (48, 0, 1, 63, 11, 0)];
 
 // Numbers that are drawn: a linear congruence of 64 bits, of which the upper ones are given.
@@ -216,8 +218,8 @@ fn damage_words(unit: &mut [u8], words: &Damage, full: bool, draw: &mut Draw) ->
     all
 }
 
-// A unit of a kind, with as many wrong bits as may be in its sync, its identifier and its words, or with drawn numbers of them.
-// The last bit of the identifier is wrong.
+// A unit of a kind, with as many wrong bits as may be in its sync, its network identifier (NID) and its words, or with drawn
+// numbers of them. The last bit of the identifier is wrong.
 pub fn draw_unit(alloc: Global, kind: &Kind, full: bool, draw: &mut Draw) -> Drawn {
     let line = line_of(kind, draw);
     let symbol = b'0' + draw.below(4) as u8;

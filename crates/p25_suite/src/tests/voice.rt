@@ -1,4 +1,5 @@
-//! Units of every voice kind: built from a line, damaged, shown in pieces of 1, of 2, of 7 and of all octets, and repaired.
+//! Voice units (HDU, LDU1, LDU2 and TDULC): built from a line, damaged, shown in pieces of 1, of 2, of 7 and of all octets, and
+//! repaired.
 
 ghost use Rattle.std.specs.Prelude.{◌<◌};
 
@@ -31,6 +32,7 @@ const ZERO_LINK_2: &[u8] = b"ldu2 nac=000 mi=000000000000000000 algid=00 kid=000
 
 const ZERO_END_LINK: &[u8] = b"tdulc nac=000 lc=000000000000000000";
 
+// Header data units (HDU).
 const HEADERS: [Row; 6] = [
     (
         "a header of zeros",
@@ -94,6 +96,7 @@ const HEADERS: [Row; 6] = [
     ),
 ];
 
+// Voice with link control (LDU1), and with encryption sync (LDU2).
 const LINK_UNITS: [Row; 11] = [
     (
         "a link unit 1 with a wrong bit in each Hamming word",
@@ -213,6 +216,7 @@ const LINK_UNITS: [Row; 11] = [
     ),
 ];
 
+// Terminators with link control (TDULC).
 const TERMINATORS: [Row; 5] = [
     (
         "a terminator with three Golay words inverted",
@@ -322,7 +326,7 @@ fn holds(alloc: Global, row: &Row) -> bool {
         && writes(alloc, &[b"repair"], &room[..size], &repaired[..size])
 }
 
-// The header of zeros, but its 36 symbols are 20 zeros and the coefficients of (x - α)(x - α^2)..(x - α^15): in at least 16
+// The HDU of zeros, but its 36 symbols are 20 zeros and the coefficients of (x - α)(x - α^2)..(x - α^15): in at least 16
 // symbols it differs from each word of the code.
 const FAR_HEADER: [u8; 99] = [
     0x55, 0x75, 0xF5, 0xFF, 0x77, 0xFF, 0x00, 0x00, 0x00, 0x00, 0x00, 0x00, 0x00, 0x00, 0x00, 0x00,
