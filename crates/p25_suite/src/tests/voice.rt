@@ -1,16 +1,10 @@
 //! Voice units (HDU, LDU1, LDU2 and TDULC): built from a line, damaged, shown in pieces of 1, of 2, of 7 and of all octets, and
 //! repaired.
 
-ghost use Rattle.std.specs.Prelude.{◌<◌};
-
-use super::{build, change_bit, writes};
+use super::{Inverted, build, invert, writes};
 use p25_line::Line;
 use p25_link::{LinkControl, LinkKind};
 use std::alloc::Global;
-
-// Bits that are inverted: the first place, how far the next is, how many places there are, and how many bits at each.
-// Places count the bits of a unit without its status symbols; that of the first bit of its sync is 0.
-pub type Inverted = (u16, u16, u16, u16);
 
 // A unit: what its row shows, its status symbols, its line, the nine voice frames' digit where it has them, the bits that
 // are inverted, what `show` writes, and whether the line follows that, since the unit is whole.
@@ -264,24 +258,6 @@ const TERMINATORS: [Row; 5] = [
         true,
     ),
 ];
-
-fn invert_run(octets: &mut [u8], first: usize, width: u16)
-    requires { first < 30000 }
-{
-    for i in 0..usize::from(width) {
-        change_bit(octets, first + i, None);
-    }
-}
-
-pub fn invert(octets: &mut [u8], inverted: &Inverted) {
-    let (first, step, places, width) = *inverted;
-    for i in 0..usize::from(places) {
-        let place = usize::from(first) + i * usize::from(step);
-        if place < 30_000 {
-            invert_run(octets, place, width);
-        }
-    }
-}
 
 // The line of a row, with its voice frames.
 fn line_of(row: &Row) -> Line {
