@@ -21,7 +21,7 @@ link_talk (Group mfid emergency group source) = Some (record { group = group; ra
 link_talk (Individual mfid destination source) = None
 link_talk Other = None
 
--- what an LDU1 says, voice with link control (LC)
+-- what an LDU1, voice with link control (LC), says
 abbrev pub voice_talk : VoiceUnit → Option Talk
 voice_talk (Header word) = None
 voice_talk (Link1 link low voice) = link_talk (link_kind_of link)
