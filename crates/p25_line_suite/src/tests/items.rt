@@ -94,7 +94,7 @@ fn whole_items(rt: HostRuntime) -> Result<(), Fail> {
     Ok(())
 }
 
-// Each field as it is named, as `nid` the network identifier (NID).
+// The name of each field, as `nid` of the network identifier (NID).
 const FIELDS: [(Field, &[u8]); 14] = [
     (Field::Sync, b"nounit at=7 field=sync"),
     (Field::Nid, b"nounit at=7 field=nid"),
