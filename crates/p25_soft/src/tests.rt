@@ -9,7 +9,7 @@ use p25_status::{Status, Statuses, weave};
 use p25_trellis::{Half, ThreeQuarter, read_block};
 use p25_units::{Begun, Need, need, unit_item};
 
-// The front of packets (PDU) below: the sync, the network access code (NAC) 293 hex and the data unit identifier (DUID) C hex.
+// The front of some packets (PDU): the sync, the network access code (NAC) 293 hex and the data unit identifier (DUID) C hex.
 const FRONT: u64 = 0x5575_F5FF_77FF_293C;
 
 // A confirmed packet (PDU) of one block, of 560 bits without status symbols.
