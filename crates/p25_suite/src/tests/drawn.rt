@@ -19,7 +19,7 @@ type Damage = (u16, u16, u16, u16, u16, u16);
 // may be wrong after its network identifier (NID).
 type Kind = (&'static [u8], bool, &'static [Damage]);
 
-// What may be wrong of an LDU1.
+// What may be wrong in an LDU1 after its front.
 const LINK_1: [Damage; 7] = [
     (400, 10, 4, 10, 1, 1),
     (584, 10, 4, 10, 1, 1),
@@ -30,7 +30,7 @@ const LINK_1: [Damage; 7] = [
     (1504, 16, 2, 16, 2, 0),
 ];
 
-// What may be wrong of an LDU2.
+// What may be wrong in an LDU2 after its front.
 const LINK_2: [Damage; 7] = [
     (400, 10, 4, 10, 1, 2),
     (584, 10, 4, 10, 1, 0),
