@@ -36,7 +36,8 @@ uint32_t p25_version(void);
 
 /* Items of a recording ---------------------------------------------------------------------------------------------------- */
 
-/* The data unit identifiers. */
+/* The data unit identifiers (DUID): of the header (HDU), the terminator (TDU), voice with link control (LDU1) and with encryption sync
+   (LDU2), packets (PDU), and the terminator with link control (TDULC). */
 enum { P25_HDU = 0, P25_TDU = 3, P25_LDU1 = 5, P25_LDU2 = 10, P25_PDU = 12, P25_TDULC = 15 };
 
 /* The kinds of items, and with what the line of each begins. */
@@ -54,8 +55,8 @@ typedef struct p25_item {
     uint32_t bits;        /* how many bits it covers, at least 1: the next item begins at place + bits */
     uint32_t fixes;       /* of a unit how many of the bits that are looked at were wrong, else 0 */
     uint32_t text_length; /* the octets of its text, without the zero at its end: at most 8,191 */
-    uint16_t nac;         /* of a unit or a broken one the network access code, 0 to 4095, else 0 */
-    uint8_t duid;         /* of a unit or a broken one the data unit identifier, 0 to 15, else 0 */
+    uint16_t nac;         /* of a unit or a broken one the network access code (NAC), 0 to 4095, else 0 */
+    uint8_t duid;         /* of a unit or a broken one the data unit identifier (DUID), 0 to 15, else 0 */
     uint8_t kind;         /* one of the kinds above */
 } p25_item;
 
@@ -87,7 +88,7 @@ int32_t p25_next_item(const uint8_t *octets, size_t n, uint64_t begin, uint64_t 
 enum {
     P25_NO_ROOM = -2,      /* the unit has more octets than there is room for */
     P25_NO_UNIT = -3,      /* the octets do not begin with a whole unit */
-    P25_WRONG_NAC = -4,    /* the network access code is above 4095 */
+    P25_WRONG_NAC = -4,    /* the network access code (NAC) is above 4095 */
     P25_WRONG_STATUS = -5, /* the status symbol is above 3 */
     P25_LINE_LONG = -11,   /* long: the line has more than 8,192 octets */
     P25_LINE_FORM = -12,   /* form: it is not words of octets 21 to 7E hex with single spaces between them */
@@ -105,7 +106,7 @@ int32_t p25_build(const char *line, size_t n, uint8_t status, uint8_t *octets, s
    `p25 repair` writes of it. Answers how many octets it wrote, 18 to 3,240, or P25_NO_UNIT or P25_NO_ROOM, and then writes nothing. */
 int32_t p25_repair(const uint8_t *octets, size_t n, uint8_t *into, size_t room);
 
-/* Writes the unit with which the n octets begin under the network access code nac, 0 to 4095, and with the status symbol, 0 to 3,
+/* Writes the unit with which the n octets begin under the network access code (NAC) nac, 0 to 4095, and with the status symbol, 0 to 3,
    everywhere: what `p25 bridge` writes of it. Answers how many octets it wrote, 18 to 3,240, or one of the numbers above, and then
    writes nothing. */
 int32_t p25_bridge(const uint8_t *octets, size_t n, uint16_t nac, uint8_t status, uint8_t *into, size_t room);
@@ -119,8 +120,8 @@ enum {
 };
 
 /* The Reed-Solomon codes over GF(64). A word is an array of octets from 0 to 63, one for each symbol of six bits, the first one sent
-   first: 20, 12 or 16 of information and then 16, 12 or 8 of check. (36,20) is that of the header, (24,12) of the link control, (24,16)
-   of the encryption sync.
+   first: 20, 12 or 16 of information and then 16, 12 or 8 of check. (36,20) is that of the header (HDU), (24,12) of the link control
+   (LC), (24,16) of the encryption sync (ES).
 
    A `read` puts right at most 8, 6 or 4 wrong symbols, and answers how many there were, or P25_BEYOND or P25_NO_LETTERS. A
    `read_erased` is told the symbols that are not known, which must be 0 to 63 too: it reads a word where twice the wrong ones among the
@@ -139,9 +140,9 @@ int32_t p25_rs_24_16_write(uint8_t symbols[24]);
 /* What a `write` below answers where the information has more bits than the code takes. */
 #define P25_NO_WORD UINT32_C(0xFFFFFFFF)
 
-/* The Golay codes (24,12) and (18,6), the Hamming code (10,6), and the code (16,8) of the low speed data. A word is a number of 24, 18,
-   10 or 16 bits, and its 12, 6, 6 or 8 highest are the information. A `read` puts right at most 3, 3, 1 or 2 wrong bits, and answers
-   how many there were, or P25_BEYOND or P25_NO_LETTERS. A `write` answers the word of an information, or P25_NO_WORD. */
+/* The Golay codes (24,12) and (18,6), the Hamming code (10,6), and the code (16,8) of the low speed data (LSD). A word is a number of
+   24, 18, 10 or 16 bits, and its 12, 6, 6 or 8 highest are the information. A `read` puts right at most 3, 3, 1 or 2 wrong bits, and
+   answers how many there were, or P25_BEYOND or P25_NO_LETTERS. A `write` answers the word of an information, or P25_NO_WORD. */
 int32_t p25_golay24_read(uint32_t *word);
 int32_t p25_golay18_read(uint32_t *word);
 int32_t p25_hamming10_read(uint32_t *word);
@@ -151,19 +152,20 @@ uint32_t p25_golay18_write(uint32_t info);
 uint32_t p25_hamming10_write(uint32_t info);
 uint32_t p25_lsd16_write(uint32_t info);
 
-/* Network identifiers: 64 bits as a number, 12 of the network access code, 4 of the data unit identifier, 47 of check, and the bit P. */
+/* Network identifiers (NID): 64 bits as a number, 12 of the network access code (NAC), 4 of the data unit identifier (DUID), 47 of
+   check, and the bit P. */
 
-/* Sets *nac and *duid to those of a received identifier of which at most 11 of the first 63 bits are wrong, and answers how many are;
-   or P25_BEYOND, and then they stay. P is not looked at. */
+/* Sets *nac and *duid to those of a received network identifier (NID) of which at most 11 of the first 63 bits are wrong, and answers how
+   many are; or P25_BEYOND, and then they stay. P is not looked at. */
 int32_t p25_nid_read(uint64_t bits, uint16_t *nac, uint8_t *duid);
 
 /* What p25_nid_write answers where nac is above 4095 or duid above 15. */
 #define P25_NO_NID UINT64_C(0xFFFFFFFFFFFFFFFF)
 
-/* Answers the bits of an identifier, or P25_NO_NID. P is 1 for the data unit identifiers 5 and 10. */
+/* Answers the bits of a network identifier (NID), or P25_NO_NID. P is 1 for the data unit identifiers 5 (LDU1) and 10 (LDU2). */
 uint64_t p25_nid_write(uint16_t nac, uint8_t duid);
 
-/* Blocks of packets ------------------------------------------------------------------------------------------------------- */
+/* Blocks of packets (PDU) ------------------------------------------------------------------------------------------------- */
 
 /* A block at half rate carries 12 octets, at three-quarter rate 18, by a trellis path of 196 bits, interleaved as they are sent. Bits
    fill 25 octets; the last four bits of the last octet are 0 where they are written, and are not looked at where they are read. */
@@ -187,13 +189,13 @@ void p25_three_quarter_rate_write(const uint8_t octets[18], uint8_t bits[25]);
 /* What p25_crc9 answers where the serial number is above 127. */
 #define P25_NO_CRC9 0xFFFF
 
-/* Answers the nine check bits of a block of a confirmed packet: of its serial number, at most 127, and its sixteen octets. */
+/* Answers the nine check bits of a block of a confirmed packet (PDU): of its serial number, at most 127, and its sixteen octets. */
 uint16_t p25_crc9(uint8_t serial, const uint8_t octets[16]);
 
-/* Answers the sixteen check bits of the ten octets of a packet's header; of any other number of octets too. */
+/* Answers the sixteen check bits of the ten octets of the header of a packet (PDU); of any other number of octets too. */
 uint16_t p25_crc16(const uint8_t *octets, size_t n);
 
-/* Answers the 32 check bits of the data and pad octets of a packet. */
+/* Answers the 32 check bits of the data and pad octets of a packet (PDU). */
 uint32_t p25_crc32(const uint8_t *octets, size_t n);
 
 #ifdef __cplusplus

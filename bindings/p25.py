@@ -90,9 +90,9 @@ class Item(NamedTuple):
     fixes: int
     """Of a unit how many of the bits that are looked at were wrong; else 0."""
     nac: Optional[int]
-    """Of a unit or a broken one the network access code, 0 to 4095; else None."""
+    """Of a unit or a broken one the network access code (NAC), 0 to 4095; else None."""
     duid: Optional[int]
-    """Of a unit or a broken one the data unit identifier, 0 to 15; else None."""
+    """Of a unit or a broken one the data unit identifier (DUID), 0 to 15; else None."""
     text: str
     """The line of `p25 show`, without its end."""
 
@@ -185,7 +185,8 @@ def repair_unit(octets):
 
 
 def bridge_unit(octets, nac, status):
-    """Answers the unit with which the octets begin, under a network access code, 0 to 4095, and with a status symbol, 0 to 3, everywhere.
+    """Answers the unit with which the octets begin, under a network access code (NAC), 0 to 4095, and with a status symbol, 0 to 3,
+    everywhere.
 
     ValueError has the word nac, status, or unit where they begin with no whole unit.
     """
@@ -220,8 +221,8 @@ def repair(octets):
 
 
 def bridge(octets, nac, status):
-    """Answers the whole units of a recording one after the other, under a network access code, 0 to 4095, and with a status symbol,
-    0 to 3, everywhere, as `p25 bridge NAC STATUS` writes them. ValueError has the word nac or status."""
+    """Answers the whole units of a recording one after the other, under a network access code (NAC), 0 to 4095, and with a status
+    symbol, 0 to 3, everywhere, as `p25 bridge NAC STATUS` writes them. ValueError has the word nac or status."""
     octets, nac, status = bytes(octets), _number(nac, 4095, "nac"), _number(status, 3, "status")
     return b"".join(bridge_unit(_cut(octets, it.place, it.bits), nac, status) for it in items(octets) if it.kind == "unit")
 
@@ -295,7 +296,7 @@ def _reading(word, answer):
 
 
 class BlockCode:
-    """A trellis code of packets. A block of 12 octets at half rate, or of 18 at three-quarter rate, is sent as 196 bits in 25 octets,
+    """A trellis code of packets (PDU). A block of 12 octets at half rate, or of 18 at three-quarter rate, is sent as 196 bits in 25 octets,
     the last four bits of which are none of the block."""
 
     def __init__(self, name, length):
@@ -338,32 +339,32 @@ HALF_RATE, THREE_QUARTER_RATE = BlockCode("half_rate", 12), BlockCode("three_qua
 
 
 def read_nid(bits):
-    """Answers the network access code and the data unit identifier of 64 received bits, and how many of the first 63 were wrong, at
-    most 11; None where more are. ValueError("letters") where the number has more than 64 bits."""
+    """Answers the network access code (NAC) and the data unit identifier (DUID) of a network identifier (NID), 64 received bits, and
+    how many of the first 63 were wrong, at most 11; None where more are. ValueError("letters") where the number has more than 64 bits."""
     nac, duid = _U16(), _U8()
     answer = _nid_read(_number(bits, (1 << 64) - 1, "letters"), ctypes.byref(nac), ctypes.byref(duid))
     return None if answer < 0 else (nac.value, duid.value, answer)
 
 
 def write_nid(nac, duid):
-    """Answers the 64 bits of an identifier as a number. ValueError has the word nac (above 4095) or duid (above 15)."""
+    """Answers the 64 bits of a network identifier (NID) as a number. ValueError has the word nac (above 4095) or duid (above 15)."""
     return _nid_write(_number(nac, 4095, "nac"), _number(duid, 15, "duid"))
 
 
 def crc9(serial, octets):
-    """Answers the nine check bits of a block of a confirmed packet, of its serial number and its sixteen octets. ValueError has the word
-    serial (above 127) or length."""
+    """Answers the nine check bits of a block of a confirmed packet (PDU), of its serial number and its sixteen octets. ValueError has
+    the word serial (above 127) or length."""
     return _crc9(_number(serial, 127, "serial"), _octets(octets, 16))
 
 
 def crc16(octets):
-    """Answers the sixteen check bits of the octets of a packet's header."""
+    """Answers the sixteen check bits of the octets of the header of a packet (PDU)."""
     octets = bytes(octets)
     return _crc16(octets, len(octets))
 
 
 def crc32(octets):
-    """Answers the 32 check bits of the data and pad octets of a packet."""
+    """Answers the 32 check bits of the data and pad octets of a packet (PDU)."""
     octets = bytes(octets)
     return _crc32(octets, len(octets))
 

@@ -1,4 +1,4 @@
--- The octets of units: built from lines, repaired, and under another network access code.
+-- The octets of units: built from lines, repaired, and under another network access code (NAC).
 use Rattle.std.specs.Prelude.{ℕ, ℤ, negsuc, Bool, if◌then◌else◌, List, [], ◌∷◌, take, Result, Ok, Err}
 use Rattle.p25_bits.specs.Bits.{octet_bits}
 use Rattle.p25_line.specs.declared.fault.LineFault.{LineFault}
@@ -12,7 +12,7 @@ use Rattle.p25_units.specs.UnitParts.{UnitParts}
 use Rattle.p25_units.specs.Units.{image_octets, whole_octets}
 use Rattle.p25_units.specs.declared.item.Item.{Item}
 
--- -3: no whole unit begins there; -4: a network access code has 12 bits; -5: a status symbol is 0 to 3
+-- -3: no whole unit begins there; -4: a network access code (NAC) has 12 bits; -5: a status symbol is 0 to 3
 abbrev pub no_unit : ℤ
 no_unit = negsuc 2
 
@@ -47,6 +47,6 @@ first_changed change (item ∷ items) bits = if is_whole_item item then Ok (whol
 abbrev pub unit_repaired : List ℕ → Result (List ℕ) ℤ
 unit_repaired octets = first_changed repaired (items_of 0 (octet_bits octets)) (octet_bits octets)
 
--- and under another network access code, with one status symbol everywhere
+-- and under another network access code (NAC), with one status symbol everywhere
 abbrev pub unit_bridged : ℕ → Status → List ℕ → Result (List ℕ) ℤ
 unit_bridged nac status octets = first_changed (λ item raw. bridged nac status item []) (items_of 0 (octet_bits octets)) (octet_bits octets)

@@ -40,7 +40,7 @@ abbrev pub fixes_told : Item → ℕ
 fixes_told (Whole place frame fixes) = fixes
 fixes_told item = 0
 
--- the identifier of a unit
+-- the network identifier (NID) of a unit: its NAC and its DUID
 abbrev pub nac_told : Item → ℕ
 nac_told (Whole place frame fixes) = frame.unit.nac
 nac_told (Broken place count nac duid fields) = nac

@@ -1,4 +1,4 @@
-//! Blocks of the trellis codes: 196 bits in 25 octets, or 98 levels.
+//! Blocks of packets (PDU) by the trellis codes: 196 bits in 25 octets, or 98 levels.
 //!
 //! Bits are in the order of sending, the highest bit of the first octet first; so the last octet holds four of them, in its upper half.
 //! There is a level for every two bits, a number from -128 to 127: 96 stands for 01, 32 for 00, -32 for 10 and -96 for 11.

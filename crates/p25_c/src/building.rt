@@ -1,4 +1,4 @@
-//! Octets of units: built from lines, repaired, and under another network access code.
+//! Octets of units: built from lines, repaired, and under another network access code (NAC).
 
 ghost use Rattle.std.specs.Prelude.{◌≡◌, ◌*◌, ◌<◌, ◌≤◌, ◌++◌, pos, Ok, Err, length, drop};
 ghost use Rattle.p25_bits.specs.Numbers.{octets_from};
@@ -17,7 +17,7 @@ use p25_stream::{bridge_item, find_item, repair_item};
 use p25_text::read_line;
 use p25_units::{Frame, Item, Unit, image};
 
-// No whole unit begins there; a network access code has 12 bits; a status symbol is 0 to 3.
+// No whole unit begins there; a network access code (NAC) has 12 bits; a status symbol is 0 to 3.
 const NO_UNIT: i32 = -3;
 
 const WRONG_NAC: i32 = -4;
@@ -63,7 +63,7 @@ fn fault_answer(fault: LineFault) -> i32
     }
 }
 
-// Writes the octets of a unit's image with one status symbol everywhere. No slot of a packet is Bad.
+// Writes the octets of a unit's image with one status symbol everywhere. No slot of a packet (PDU) is Bad.
 fn write_unit(unit: Unit, status: Status, octets: &mut [u8]) -> i32
     requires { IsSendableBody unit.body }
     ensures { IsWriting (Ok (image_octets status unit)) octets.old octets.new result }
@@ -137,7 +137,7 @@ fn is_whole(item: &Item) -> bool
     }
 }
 
-/// Writes the whole unit that `octets` begin with into `into` under another network access code and with one status symbol
+/// Writes the whole unit that `octets` begin with into `into` under another network access code (NAC) and with one status symbol
 /// everywhere, as the command `bridge` writes it, and answers how many octets it has. The octets of `into` after them stay.
 ///
 /// Where it does not, all of `into` stays, and it answers the first of these that applies: -4, `nac` is above 4095; -5, `status`
@@ -158,7 +158,7 @@ pub extern "C" fn p25_bridge(octets: &[u8], nac: u16, status: u8, into: &mut [u8
     bridge_unit(octets, nac, symbol, into)
 }
 
-// Writes the whole unit that octets begin with under another network access code and with one status symbol everywhere.
+// Writes the whole unit that octets begin with under another network access code (NAC) and with one status symbol everywhere.
 fn bridge_unit(octets: &[u8], nac: u16, status: Status, into: &mut [u8]) -> i32
     requires { nac < 4096 }
     ensures { IsWriting (unit_bridged nac status octets.now) into.old into.new result }

@@ -1,10 +1,10 @@
-//! The three checks of packets.
+//! The three checks of packets (PDU).
 
 ghost use Rattle.std.specs.Prelude.{◌≡◌, ◌<◌, ◌≤◌};
 ghost use Rattle.p25_crc.specs.Values.{crc9_of, crc16_of, crc32_of};
 
-/// Answers the nine check bits of a confirmed block: of its serial number, below 128, and its sixteen octets. Answers FFFF hex,
-/// which is no check, where the serial number is above 127.
+/// Answers the nine check bits of a block of a confirmed packet (PDU): of its serial number, below 128, and its sixteen octets.
+/// Answers FFFF hex, which is no check, where the serial number is above 127.
 #[unsafe(no_mangle)]
 pub extern "C" fn p25_crc9(serial: u8, octets: &[u8; 16]) -> u16
     ensures check { serial < 128 → result ≡ crc9_of serial octets.now }
@@ -16,7 +16,7 @@ pub extern "C" fn p25_crc9(serial: u8, octets: &[u8; 16]) -> u16
     p25_crc::crc9(serial, octets)
 }
 
-/// Answers the sixteen check bits of the octets of a packet header. The octets of a header are ten; any number is taken.
+/// Answers the sixteen check bits of the octets of the header of a packet (PDU). They are ten; any number is taken.
 #[unsafe(no_mangle)]
 pub extern "C" fn p25_crc16(octets: &[u8]) -> u16
     ensures { result ≡ crc16_of octets.now }
@@ -24,7 +24,7 @@ pub extern "C" fn p25_crc16(octets: &[u8]) -> u16
     p25_crc::crc16(octets)
 }
 
-/// Answers the 32 check bits of the data and pad octets of a packet.
+/// Answers the 32 check bits of the data and pad octets of a packet (PDU).
 #[unsafe(no_mangle)]
 pub extern "C" fn p25_crc32(octets: &[u8]) -> u32
     ensures { result ≡ crc32_of octets.now }

@@ -121,7 +121,7 @@ fn item_parts(found: &Item, text_length: u32) -> ItemParts
     }
 }
 
-// The network access code and the data unit identifier of a unit.
+// The network access code (NAC) and the data unit identifier (DUID) of a unit.
 fn identifier(found: &Item) -> (u16, u8)
     ensures nac { result.0 ≡ nac_told found.now }
     ensures duid { result.1 ≡ duid_told found.now }

@@ -1,4 +1,4 @@
-//! The Reed-Solomon codes (36,20), (24,12) and (24,16) over octets.
+//! The Reed-Solomon codes over octets: (36,20) of the header (HDU), (24,12) of link control (LC), (24,16) of encryption sync (ES).
 //!
 //! A word is an array of octets from 0 to 63, one for each symbol of six bits, in the order of sending: first those of the
 //! information, then the check symbols.

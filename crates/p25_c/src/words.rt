@@ -1,4 +1,4 @@
-//! The binary words as numbers, and network identifiers. The first bit that is sent is the highest of a number.
+//! The binary words as numbers, and network identifiers (NID). The first bit that is sent is the highest of a number.
 
 ghost use Rattle.std.specs.Prelude.{◌≡◌, ℕ, ◌^◌, ◌<◌, ◌≤◌, ◌⊎◌};
 ghost use Rattle.p25_bits.specs.Bits.{bits_of};
@@ -43,7 +43,7 @@ pub extern "C" fn p25_hamming10_read(word: &mut u32) -> i32
     read_number::<Hamming10>(word)
 }
 
-/// Reads a received word of the low speed data, of 16 bits, as `p25_golay24_read` does. At most 2 wrong bits are corrected.
+/// Reads a received word of the low speed data (LSD), of 16 bits, as `p25_golay24_read` does. At most 2 wrong bits are corrected.
 #[unsafe(no_mangle)]
 pub extern "C" fn p25_lsd16_read(word: &mut u32) -> i32
     ensures { IsNumberReading 16 lsd16_reading_of word.old word.new result }
@@ -76,7 +76,7 @@ pub extern "C" fn p25_hamming10_write(info: u32) -> u32
     write_number::<Hamming10>(info)
 }
 
-/// Answers the word of the low speed data with this information, of 8 bits, as `p25_golay24_write` does.
+/// Answers the word of the low speed data (LSD) with this information, of 8 bits, as `p25_golay24_write` does.
 #[unsafe(no_mangle)]
 pub extern "C" fn p25_lsd16_write(info: u32) -> u32
     ensures { IsNumberWriting IsLsd16 8 16 info result }
@@ -84,8 +84,8 @@ pub extern "C" fn p25_lsd16_write(info: u32) -> u32
     write_number::<Lsd16>(info)
 }
 
-/// Reads a network identifier of 64 bits, sets its NAC and its DUID, and answers how many of the first 63 bits were wrong, at most
-/// 11. Answers -1 where no word of the code lies so near; the two stay then. The last bit is not looked at.
+/// Reads a network identifier (NID) of 64 bits, sets its NAC and its DUID, and answers how many of the first 63 bits were wrong, at
+/// most 11. Answers -1 where no word of the code lies so near; the two stay then. The last bit is not looked at.
 #[unsafe(no_mangle)]
 pub extern "C" fn p25_nid_read(bits: u64, nac: &mut u16, duid: &mut u8) -> i32
     ensures { IsIdentifierReading (bits_of 64 bits) (nac.old, duid.old) (nac.new, duid.new) result }
@@ -100,8 +100,8 @@ pub extern "C" fn p25_nid_read(bits: u64, nac: &mut u16, duid: &mut u8) -> i32
     }
 }
 
-/// Answers the 64 bits that are sent for a NAC, below 4,096, and a DUID, below 16. Answers a number of ones alone, which is none, where
-/// one of the two is above.
+/// Answers the network identifier (NID), 64 bits, that is sent for a NAC, below 4,096, and a DUID, below 16. Answers a number of ones
+/// alone, which is none, where one of the two is above.
 #[unsafe(no_mangle)]
 pub extern "C" fn p25_nid_write(nac: u16, duid: u8) -> u64
     ensures { IsIdentifierWriting nac duid result }

@@ -10,7 +10,7 @@ use Rattle.p25_calls.specs.declared.seen.UnitSeen.{UnitSeen}
 use Rattle.p25_calls.specs.Seen.{is_header, is_link_unit, is_voice, unit_end, units_of}
 use Rattle.p25_calls.specs.Runs.{Run, last_unit, runs_by, units_in}
 
--- how a call ends by its last unit: with a terminator without or with link control, or with none
+-- how a call ends by its last unit: with a terminator without or with link control (TDU or TDULC), or with none
 abbrev pub end_of : UnitSeen → CallEnd
 end_of unit = if unit.duid == 3 then Tdu else if unit.duid == 0xF then Tdulc else Open
 
@@ -33,7 +33,7 @@ call_of run = record {
   algid = first_had (λ unit. unit.algid) (units_in run);
 }
 
--- a run is a call where it has voice units alone, and a link unit among them
+-- a run is a call where it has voice units alone, and a link unit (LDU1 or LDU2) among them
 abbrev pub is_call : Run → Bool
 is_call run = list_all is_voice (units_in run) && list_any is_link_unit (units_in run)
 

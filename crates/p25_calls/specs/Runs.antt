@@ -36,6 +36,7 @@ runs_of [] = []
 runs_of (unit ∷ units) = with_unit unit (runs_of units)
 
 -- the runs that no further unit can join, whatever it is: all but the last, and the last one too where it ends with a terminator
+-- (TDU or TDULC)
 unfoldable pub closed_runs : List Run → List Run
 closed_runs [] = []
 closed_runs (run ∷ []) = if is_terminator (last_unit run) then run ∷ [] else []

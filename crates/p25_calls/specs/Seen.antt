@@ -10,7 +10,7 @@ use Rattle.p25_units.specs.declared.item.Item.{Item}
 use Rattle.p25_units.specs.declared.item.Item.TheVariants.{Whole, Broken, NoUnit, Gap, Cut}
 use Rattle.p25_calls.specs.declared.seen.UnitSeen.{UnitSeen}
 
--- the link control that a unit carries: voice with link control and a terminator with link control have one
+-- the link control (LC) that a unit carries: voice with link control (LDU1) and a terminator with link control (TDULC) have one
 abbrev pub link_in : Body → Option LinkControl
 link_in (Voice (Header word)) = None
 link_in (Voice (Link1 link low frames)) = Some link
@@ -19,7 +19,7 @@ link_in (Voice End) = None
 link_in (Voice (EndLink link)) = Some link
 link_in (Packet packet) = None
 
--- the algorithm that a unit names: a header and voice with encryption sync name one
+-- the algorithm that a unit names: a header (HDU) and voice with encryption sync (LDU2) name one
 abbrev pub algid_in : Body → Option ℕ
 algid_in (Voice (Header word)) = Some word.algid
 algid_in (Voice (Link1 link low frames)) = None
@@ -40,7 +40,7 @@ whole_unit place frame = record {
   algid = algid_in frame.unit.body;
 }
 
--- a broken unit, of which the place, the length and the identifier are known alone
+-- a broken unit, of which the place, the length and the network identifier (NID) are known alone
 abbrev pub broken_unit : ℕ → ℕ → ℕ → ℕ → UnitSeen
 broken_unit place count nac duid = record { place = place; bits = count; nac = nac; duid = duid; broken = true; link = None; algid = None }
 
@@ -56,19 +56,19 @@ unit_of (Cut place have) = None
 abbrev pub units_of : List Item → List UnitSeen
 units_of items = filter_map unit_of items
 
--- a voice unit is each unit but a packet, whose data unit identifier is C hex
+-- a voice unit is each unit but a packet (PDU), whose data unit identifier (DUID) is C hex
 abbrev pub is_voice : UnitSeen → Bool
 is_voice unit = not (unit.duid == 0xC)
 
--- a header has the data unit identifier 0
+-- a header (HDU) has the data unit identifier (DUID) 0
 abbrev pub is_header : UnitSeen → Bool
 is_header unit = unit.duid == 0
 
--- a link unit has 5 or A hex
+-- a link unit has 5 (LDU1) or A hex (LDU2)
 abbrev pub is_link_unit : UnitSeen → Bool
 is_link_unit unit = unit.duid == 5 || unit.duid == 0xA
 
--- a terminator has 3 or F hex
+-- a terminator has 3 (TDU) or F hex (TDULC)
 abbrev pub is_terminator : UnitSeen → Bool
 is_terminator unit = unit.duid == 3 || unit.duid == 0xF
 
@@ -76,8 +76,9 @@ is_terminator unit = unit.duid == 3 || unit.duid == 0xF
 abbrev pub unit_end : UnitSeen → ℕ
 unit_end unit = unit.place + unit.bits
 
--- there is a break between a unit and the next one where one of them is no voice unit, their network access codes differ, the
--- first is a terminator, the second is a header, or the second begins more than 3,456 bits after the first ends
+-- there is a break between a unit and the next one where one of them is no voice unit, their network access codes (NAC) differ,
+-- the first is a terminator (TDU or TDULC), the second is a header (HDU), or the second begins more than 3,456 bits after the
+-- first ends
 unfoldable pub is_break : UnitSeen → UnitSeen → Bool
 is_break unit next =
     not (is_voice unit)

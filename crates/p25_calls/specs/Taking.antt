@@ -53,7 +53,7 @@ abbrev pub broken_off : Option Call → UnitSeen → Option Call
 broken_off None unit = None
 broken_off (Some call) unit = if goes_on call unit then None else if_linked call
 
--- the call that ends with the last unit of a run, since it is its terminator
+-- the call that ends with the last unit of a run, since it is its terminator (TDU or TDULC)
 abbrev pub terminated : Call → UnitSeen → Option Call
 terminated run unit = if is_terminator unit then if_linked run else None
 
@@ -115,6 +115,6 @@ pub record IsPending (reached taken : ℕ) (call : Call) : Type 0 where
 abbrev pub IsCaller : CallerParts → Type 0
 IsCaller caller = IfSome caller.pending (IsPending caller.reached caller.taken)
 
--- the network access code of the run that is open has 12 bits
+-- the network access code (NAC) of the run that is open has 12 bits
 abbrev pub HasSoundPending : CallerParts → Type 0
 HasSoundPending caller = IfSome caller.pending (λ call. call.nac < 4096)

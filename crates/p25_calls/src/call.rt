@@ -8,38 +8,38 @@ ghost use Rattle.p25_calls.specs.Taking.{call_of_one, extended, goes_on, if_link
 use crate::seen::UnitSeen;
 use p25_link::LinkControl;
 
-// The most bits between two units of a call: two units of voice.
+// The most bits between two units of a call: as many as an LDU1 and an LDU2 have.
 const SILENCE_MOST: u64 = 3_456;
 
 /// How a call ends.
 #[derive(Clone, Copy, Debug, PartialEq, Eq)]
 pub enum CallEnd {
-    /// With a terminator without link control.
+    /// With a TDU: a terminator without link control.
     Tdu,
-    /// With a terminator with link control.
+    /// With a TDULC: a terminator with link control.
     Tdulc,
-    /// Without a terminator.
+    /// Without a terminator (TDU or TDULC).
     Open,
 }
 
-/// A call: a longest run of voice units without a break inside, which holds a link unit.
+/// A call: a longest run of voice units without a break inside, which holds a link unit (LDU1 or LDU2).
 #[derive(Clone, Copy, Debug, PartialEq, Eq)]
 pub struct Call {
     /// The place of the first unit.
     pub place: u64,
     /// How many bits there are from there to the end of the last unit.
     pub bits: u64,
-    /// The network access code of its units.
+    /// The network access code (NAC) of its units.
     pub nac: u16,
-    /// Whether it begins without a header.
+    /// Whether it begins without a header (HDU).
     pub late: bool,
     /// How it ends.
     pub end: CallEnd,
-    /// How many link units it has.
+    /// How many link units (LDU1 or LDU2) it has.
     pub links: u32,
     /// How many of its units are broken.
     pub broken: u32,
-    /// The link control of the first whole unit that carries one.
+    /// The link control (LC) of the first whole unit that carries one.
     pub link: Option<LinkControl>,
     /// The algorithm of the first whole unit that names one.
     pub algid: Option<u8>,

@@ -55,8 +55,8 @@ impl Caller {
     /// Takes an item. It begins where the last one ended, or at place 0 where none was taken; places are below 2^60, and fewer
     /// than 2^32 − 1 items were taken.
     ///
-    /// Answers the call that ends with this item, since it is its terminator, or the call that ended with the unit before, where
-    /// that is no terminator, since there is a break before this one. `None` comes exactly where no call ends so.
+    /// Answers the call that ends with this item, since it is its terminator (TDU or TDULC), or the call that ended with the unit
+    /// before, where that is no terminator, since there is a break before this one. `None` comes exactly where no call ends so.
     pub fn take(&mut self, item: &Item) -> Option<Call>
         requires place { place_of item.now ≡ self.old.reached }
         requires below { place_of item.now < 2 ^ 60 }

@@ -1,9 +1,9 @@
-//! Voice units grouped into calls.
+//! Voice units (HDU, LDU1, LDU2, TDU and TDULC) grouped into calls.
 //!
 //! The items of a stream are taken one after the other, as they lie end to end. A call is a longest run of voice units without
-//! a break inside that holds voice; there is a break where a header begins or a terminator ends, where the network access code
-//! changes, where a packet stands, and where a unit begins more than 3,456 bits after the one before it ends. Places and
-//! lengths count bits.
+//! a break inside that holds voice (LDU1 or LDU2); there is a break where a header (HDU) begins or a terminator (TDU or TDULC)
+//! ends, where the network access code (NAC) changes, where a packet (PDU) stands, and where a unit begins more than 3,456 bits
+//! after the one before it ends. Places and lengths count bits.
 //!
 //! ```text
 //! let mut caller = Caller::new();

@@ -57,7 +57,7 @@ pub fn terminated(run: &Call, unit: &UnitSeen) -> Option<Call>
     }
 }
 
-/// Answers a run, where a further unit may still join it: its last unit is a voice unit, and no terminator.
+/// Answers a run, where a further unit may still join it: its last unit is a voice unit, and no terminator (TDU or TDULC).
 pub fn pending_run(run: Call, unit: &UnitSeen) -> Option<Call>
     ensures { result ≡ pending_run run unit.now }
 {

@@ -15,48 +15,48 @@ pub struct UnitSeen {
     pub place: u64,
     /// How many bits it has.
     pub bits: u64,
-    /// Its network access code.
+    /// Its network access code (NAC).
     pub nac: u16,
-    /// Its data unit identifier.
+    /// Its data unit identifier (DUID).
     pub duid: u8,
     /// Whether some field of it fails.
     pub broken: bool,
-    /// Its link control, where it carries one and no field fails.
+    /// Its link control (LC), where it carries one and no field fails.
     pub link: Option<LinkControl>,
     /// Its algorithm, where it names one and no field fails.
     pub algid: Option<u8>,
 }
 
 impl UnitSeen {
-    /// Answers whether it is a voice unit: any but a packet.
+    /// Answers whether it is a voice unit: any but a packet (PDU).
     pub fn is_voice(&self) -> bool
         ensures { result ≡ is_voice self.now }
     {
         self.duid != PDU
     }
 
-    /// Answers whether it is a header.
+    /// Answers whether it is a header data unit (HDU).
     pub fn is_header(&self) -> bool
         ensures { result ≡ is_header self.now }
     {
         self.duid == HDU
     }
 
-    /// Answers whether it is a link unit: one that carries voice.
+    /// Answers whether it is a link unit: an LDU1 or an LDU2, which carry voice.
     pub fn is_link_unit(&self) -> bool
         ensures { result ≡ is_link_unit self.now }
     {
         self.duid == LDU1 || self.duid == LDU2
     }
 
-    /// Answers whether it is a terminator, with link control or without.
+    /// Answers whether it is a terminator, with link control (TDULC) or without (TDU).
     pub fn is_terminator(&self) -> bool
         ensures { result ≡ is_terminator self.now }
     {
         self.duid == TDU || self.duid == TDULC
     }
 
-    /// Answers whether it is a terminator with link control.
+    /// Answers whether it is a terminator with link control (TDULC).
     pub fn has_tdulc(&self) -> bool
         ensures { result ≡ (self.now.duid == 15) }
     {
@@ -109,7 +109,7 @@ pub fn seen_unit(item: &Item) -> Option<UnitSeen>
     }
 }
 
-// The link control that a unit carries.
+// The link control (LC) that a unit carries, where it is an LDU1 or a TDULC.
 fn link_in(body: &Body) -> Option<LinkControl>
     ensures { result ≡ link_in body.now }
 {
@@ -122,7 +122,7 @@ fn link_in(body: &Body) -> Option<LinkControl>
     }
 }
 
-// The algorithm that a unit names.
+// The algorithm that a unit names, where it is an HDU or an LDU2.
 fn algid_in(body: &Body) -> Option<u8>
     ensures { result ≡ algid_in body.now }
 {

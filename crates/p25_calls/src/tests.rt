@@ -135,8 +135,8 @@ fn have_spans(rt: &impl Abort, calls: &[Option<Call>], spans: &[(u64, u64)]) {
 #[test]
 fn breaks_divide_calls(rt: HostRuntime) {
     call_laws();
-    // Each row: how many bits of a gap stand before a unit, its network access code and its data unit identifier; and the
-    // place and the bits of each call.
+    // Each row: how many bits of a gap stand before a unit, its network access code (NAC) and its data unit identifier
+    // (DUID); and the place and the bits of each call.
     let rows: [(&[(u32, u16, u8)], &[(u64, u64)]); 14] = [
         (&[(0, 0x293, 5), (3_456, 0x293, 10)], &[(0, 6912)]),
         (
@@ -144,7 +144,7 @@ fn breaks_divide_calls(rt: HostRuntime) {
             &[(0, 1728), (5185, 1728)],
         ),
         (&[(0, 0x293, 5), (0, 0x294, 10)], &[(0, 1728), (1728, 1728)]),
-        // A terminator, a header and a packet between two units.
+        // A terminator (TDU, and then TDULC), a header (HDU) and a packet (PDU) between two units.
         (
             &[(0, 1, 5), (0, 1, 3), (0, 1, 5)],
             &[(0, 3456), (3456, 1728)],
@@ -164,7 +164,7 @@ fn breaks_divide_calls(rt: HostRuntime) {
         ),
         (&[(7, 0, 0), (0, 0, 10)], &[(7, 3456)]),
         (&[(0, 1, 5), (0, 1, 7)], &[(0, 3456)]),
-        // No link unit.
+        // No link unit: neither an LDU1 nor an LDU2.
         (&[(0, 1, 0), (0, 1, 3)], &[]),
         (&[(0, 1, 3), (0, 1, 15)], &[]),
         (&[(0, 1, 12)], &[]),
@@ -175,7 +175,7 @@ fn breaks_divide_calls(rt: HostRuntime) {
     }
 }
 
-// Voice with link control, and with encryption sync.
+// An LDU1, voice with link control, and an LDU2, voice with encryption sync.
 fn ldu1(last: u8) -> VoiceUnit {
     VoiceUnit::Link1 {
         link: LinkControl([0, 0, 0, 0, 0, 1, 0, 0, last]),
@@ -196,6 +196,7 @@ fn ldu2(algid: u8) -> VoiceUnit {
     }
 }
 
+// An HDU: a header.
 fn header(algid: u8) -> VoiceUnit {
     VoiceUnit::Header(HeaderWord {
         mi: [0; 9],

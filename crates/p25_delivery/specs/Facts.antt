@@ -6,7 +6,7 @@ use Rattle.p25_delivery.specs.SentPackets.{message_packet, blocks_packet, openin
 use Rattle.p25_delivery.specs.Halves.{Keeping, Outstanding, Nothing, Message, Opening}
 use Rattle.p25_delivery.specs.Delivery.{Delivery, Session, empty_session, present_session, first_number}
 
--- a packet with a message, or with some of its blocks, as a sender sends it
+-- a packet (PDU) with a message, or with some of its blocks, as a sender sends it
 unfoldable pub IsDataOf : ℕ → List ℕ → Packet → Type 0
 IsDataOf number message packet = (packet ≡ message_packet number message) ⊎ ((wanted : List Bool) × (packet ≡ blocks_packet number message wanted))
 

@@ -9,7 +9,8 @@ use Rattle.p25_delivery.specs.declared.sender.SenderHeard.{SenderHeard, TheVaria
 use Rattle.p25_delivery.specs.declared.sender.Reopen.{Reopen as ReopenAnswer, TheVariants.{Sent as ReopenSent, Up as ReopenUp}}
 use Rattle.p25_delivery.specs.declared.receiver.Heard.{Heard as HeardAnswer, TheVariants.{Delivered as HeardDelivered, Opened as ReceiverOpened, Again as HeardAgain, Kept as HeardKept, RefusedCrc as HeardCrc, RefusedOrder as HeardOrder, Ignored as ReceiverIgnored}}
 use Rattle.p25_delivery.specs.declared.step_kind.Way.TheVariants.{Packets, Answers}
-pub use Rattle.p25_delivery.specs.declared.step_kind.StepKind.{StepKind, TheVariants.{Taken, Busy, OfferDown, Resent, Idle, TimeoutDown, Reopened, Up, Ignored, Delivered, SynHeard, Again, Kept, RefusedCrc, RefusedOrder, Acknowledged, LinkOpened, Retry, Repeat, AnswerDown}}
+pub use Rattle.p25_delivery.specs.declared.step_kind.StepKind.{StepKind}
+use Rattle.p25_delivery.specs.declared.step_kind.StepKind.TheVariants.{Taken, Busy, OfferDown, Resent, Idle, TimeoutDown, Reopened, Up, Ignored, Delivered, SynHeard, Again, Kept, RefusedCrc, RefusedOrder, Acknowledged, LinkOpened, Retry, Repeat, AnswerDown}
 
 -- a mark of a sending half of whose messages so many were delivered
 abbrev pub mark_of : Outgoing → ℕ → Mark

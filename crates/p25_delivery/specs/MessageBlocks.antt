@@ -1,4 +1,4 @@
--- A message as the blocks of a confirmed packet carry it, and back.
+-- A message as the blocks of a confirmed packet (PDU) carry it, and back.
 use Rattle.std.specs.Prelude.{ℕ, ◌+◌, ◌-◌, ◌*◌, ◌/◌, ◌&&◌, ◌==◌, nat_le, List, ◌++◌, length, take, drop, replicate, Option, Some, None, if◌then◌else◌}
 use Rattle.p25_bits.specs.Bits.{part}
 use Rattle.p25_bits.specs.Numbers.{octets_number, each_below}

@@ -1,4 +1,4 @@
--- Runs in which each packet that is heard is true to the one that was sent, and what is promised of each session.
+-- Runs in which each packet (PDU) that is heard is true to the one that was sent, and what is promised of each session.
 use Rattle.std.specs.Prelude.{◌≡◌, ◌≤◌, ◌⊎◌, List, [], ◌∷◌, length, Option, Some, ℕ, ◌+◌, ◌++◌}
 use Rattle.p25_packet_blocks.specs.declared.block.Slot.{Slot, TheVariants.{Bad}}
 use Rattle.p25_packet_blocks.specs.declared.packet.Packet.{Packet, TheVariants.{Confirmed, Plain}}

@@ -1,4 +1,4 @@
--- What a receiver does with a packet: the state that it has then, and its answer.
+-- What a receiver does with a packet (PDU): the state that it has then, and its answer.
 use Rattle.std.specs.Prelude.{ℕ, ◌+◌, ◌%◌, ◌&&◌, ◌==◌, List, length, replicate, Option, Some, None, if◌then◌else◌}
 use Rattle.p25_packet_blocks.specs.Heads.{head_is_full, head_blocks, head_pad, head_llid, head_syn, head_number}
 use Rattle.p25_packet_blocks.specs.ConfirmedParts.{ConfirmedParts}

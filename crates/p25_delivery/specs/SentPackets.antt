@@ -1,4 +1,4 @@
--- The packets that this project's stations send. Those of data go one way, and the responses the other.
+-- The packets (PDU) that this project's stations send. Those of data go one way, and the responses the other.
 use Rattle.std.specs.Prelude.{ℕ, Bool, true, false, nat_le, List, [], ◌∷◌, length, map, slice_index_or, if◌then◌else◌}
 use Rattle.p25_bits.specs.Numbers.{joined_below}
 pub use Rattle.p25_packet_blocks.specs.Parts.{BlockParts, PlainParts}
@@ -9,7 +9,7 @@ use Rattle.p25_packet_blocks.specs.declared.block.Slot.{Slot, TheVariants.{Good}
 pub use Rattle.p25_packet_blocks.specs.declared.packet.Packet.{Packet, TheVariants.{Confirmed, Plain}}
 use Rattle.p25_delivery.specs.MessageBlocks.{block_count, pad_count, message_block, message_blocks}
 
--- the logical link identifier of both stations
+-- the logical link identifier (LLID) of both stations
 abbrev pub station_llid : ℕ
 station_llid = 1
 
@@ -17,7 +17,7 @@ station_llid = 1
 abbrev pub good_slot : BlockParts → Slot
 good_slot block = Good block
 
--- the whole packet of a message: the full message flag, and all blocks
+-- the whole packet (PDU) of a message: the full message flag, and all blocks
 unfoldable pub message_packet : ℕ → List ℕ → Packet
 message_packet number message =
     let count = block_count (length message) in
@@ -29,13 +29,13 @@ unfoldable pub wanted_slots : List ℕ → List Bool → List Slot
 wanted_slots message wanted =
     joined_below (block_count (length message)) (λ serial. if slice_index_or wanted serial false then good_slot (message_block message serial) ∷ [] else [])
 
--- the packet of the blocks of a message that are wanted, without the full message flag
+-- the packet (PDU) of the blocks of a message that are wanted, without the full message flag
 unfoldable pub blocks_packet : ℕ → List ℕ → List Bool → Packet
 blocks_packet number message wanted =
     let slots = wanted_slots message wanted in
     Confirmed (record { head = confirmed_head station_llid false (length slots) (pad_count (length message)) number; slots = slots })
 
--- the packet that opens the session anew
+-- the packet (PDU) that opens the session anew
 unfoldable pub opening_packet : ℕ → Packet
 opening_packet number = Confirmed (record { head = opening_head station_llid number; slots = [] })
 

@@ -61,7 +61,7 @@ impl Inbound {
         self.received.reserve(calls)
     }
 
-    /// Answers what comes of a packet that its receiver hears, and the response to send, where there is one: it becomes the
+    /// Answers what comes of a packet (PDU) that its receiver hears, and the response to send, where there is one: it becomes the
     /// newest transmission. There is room for a call.
     #[tactic(auto, unfolding(crate::specs::HalfRules::after_data))]
     pub fn hear(&mut self, packet: &Packet) -> (StepKind, Option<Packet>)

@@ -1,4 +1,4 @@
-//! Delivery of messages in confirmed packets, as a machine: a sender and a receiver, which only answer calls; the two halves
+//! Delivery of messages in confirmed packets (PDU), as a machine: a sender and a receiver, which only answer calls; the two halves
 //! of a station over them; and the laws of a delivery of two halves. What they send is a value, and the air is the caller's.
 //!
 //! A sender has one message outstanding at most. Its packets carry a number N(S) of three bits, 0 to 7 and then 0 again;
@@ -33,8 +33,8 @@ pub use receiver::{Heard, Receiver};
 pub use sender::{Offer, Outstanding, Reopen, Resend, Sender, SenderHeard};
 pub use step_kind::{StepKind, Way};
 
-/// The network access code that both stations use.
+/// The network access code (NAC) that both stations use.
 pub const NAC: u16 = 0x293;
 
-/// The logical link identifier that both stations use.
+/// The logical link identifier (LLID) that both stations use.
 pub const LLID: u32 = 1;

@@ -84,8 +84,7 @@ impl MessageOctets {
         Block::new(serial, octets)
     }
 
-    // The message of these octets, where so many are pad octets: None where the packet CRC does not agree, or there are not
-    // so many octets.
+    // The message of these octets, where so many are pad octets: None where the packet CRC does not agree, or there are fewer octets.
     #[tactic(auto, unfolding(crate::specs::MessageBlocks::unpadded))]
     pub(crate) fn message(&self, pad: u8) -> Option<Message>
         requires { 4 ≤ length self.now }

@@ -166,7 +166,7 @@ impl Outbound {
         }
     }
 
-    /// Answers what comes of a packet that its sender hears. It needs no room.
+    /// Answers what comes of a packet (PDU) that its sender hears. It needs no room.
     pub fn hear(&mut self, packet: &Packet) -> (StepKind, Option<Packet>)
         ensures step { (self.new.state, result) ≡ after_answer self.old.state (sender_heard self.old.state.sender packet.now) }
         ensures sendable { IfSome result.1 IsSendable }

@@ -10,7 +10,7 @@ use p25_messages::Message;
 use p25_packet_blocks::{Confirmed, Flags, Packet, PacketHead};
 use std::marker::Model;
 
-/// The answer to a packet that a receiver hears; `answer` is the response to send.
+/// The answer to a packet (PDU) that a receiver hears; `answer` is the response to send.
 #[derive(Clone, Debug, PartialEq, Eq, Drop)]
 pub enum Heard {
     /// The message is whole, and delivered.

@@ -52,7 +52,7 @@ pub enum Resend {
     Down,
 }
 
-/// The answer to a packet that a sender hears.
+/// The answer to a packet (PDU) that a sender hears.
 #[derive(Clone, Debug, PartialEq, Eq, Drop)]
 pub enum SenderHeard {
     /// The message with this number has come.

@@ -1,4 +1,4 @@
-//! The packets that stations send.
+//! The packets (PDU) that stations send.
 #![tactic(auto, unfolding(crate::specs::SentPackets::opening_packet, crate::specs::SentPackets::short_response, crate::specs::SentPackets::retry_packet))]
 
 ghost use Rattle.std.specs.Prelude.{◌≡◌, ◌<◌, ◌≤◌, ◌⊎◌, length};
@@ -12,7 +12,7 @@ use p25_packet_blocks::{
     Confirmed, Flags, Octets, Packet, PacketHead, Plain, Slot, Slots, flags_make,
 };
 
-// The whole packet of a message.
+// The whole packet (PDU) of a message.
 pub(crate) fn message(number: u8, message: &Message) -> Packet
     requires { number < 8 }
     ensures { result ≡ message_packet number message.now }
@@ -43,7 +43,7 @@ fn wanted_blocks(message: &Message, wanted: &Flags) -> Slots
     slots
 }
 
-// The packet of the blocks of a message that are wanted.
+// The packet (PDU) of the blocks of a message that are wanted.
 pub(crate) fn blocks(number: u8, message: &Message, wanted: &Flags) -> Packet
     requires number { number < 8 }
     requires flags { block_count (length message.now) ≤ length wanted.now }
@@ -54,7 +54,7 @@ pub(crate) fn blocks(number: u8, message: &Message, wanted: &Flags) -> Packet
     Packet::Confirmed(Confirmed::new(head, slots))
 }
 
-// The packet that opens the session anew.
+// The packet (PDU) that opens the session anew.
 pub(crate) fn opening(number: u8) -> Packet
     requires { number < 8 }
     ensures { result ≡ opening_packet number }

@@ -42,12 +42,12 @@ pub enum StepKind {
     Nothing {
         way: Way,
     },
-    /// The bits that came read as no packet: the first field that fails.
+    /// The bits that came read as no packet (PDU): the first field that fails.
     Lost {
         way: Way,
         field: Field,
     },
-    /// The packet has another network access code, or the station ignores it.
+    /// The packet has another network access code (NAC), or the station ignores it.
     Ignored {
         way: Way,
     },

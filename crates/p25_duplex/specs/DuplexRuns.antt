@@ -3,7 +3,8 @@ use Rattle.std.specs.Prelude.{◌≡◌, false, List, [], ◌∷◌, Option, Som
 use Rattle.p25_delivery.specs.SoundHalves.{IsMessage}
 use Rattle.p25_delivery.specs.Runs.{run_by, steps_by, EachIs}
 use Rattle.p25_delivery.specs.Delivery.{Delivery, newest_after}
-pub use Rattle.p25_duplex.specs.DuplexSteps.{DuplexState, first_duplex, station_at, delivery_at, Packet, Side, other_side, is_answer, duplex_step, DuplexEvent, Send, DuplexStep}
+pub use Rattle.p25_duplex.specs.DuplexSteps.{DuplexState, first_duplex, station_at, delivery_at, Side, other_side}
+pub use Rattle.p25_duplex.specs.DuplexSteps.{Packet, is_answer, DuplexEvent, Send, DuplexStep, duplex_step}
 
 -- what every event keeps: what is sent is a message of at most 2,028 octets
 unfoldable pub IsDuplexEvent : DuplexEvent → Type 0
@@ -40,8 +41,7 @@ newest_in kind side newest d (event ∷ events) =
     let next = (duplex_step d event).0 in
     newest_in kind side (newest_after (kind (station_at side next).newest) newest) next events
 
--- the delivery of a side's messages after a list of events, with the newest data that the side's direction carried, and the newest
--- answer that the other's carried
+-- the delivery of a side's messages after a list of events, with the newest data of its direction and the newest answer of the other's
 abbrev pub delivery_after : Side → List DuplexEvent → Delivery
 delivery_after side events =
     record (delivery_at side (duplex_run first_duplex events)) {

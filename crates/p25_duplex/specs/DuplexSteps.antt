@@ -70,11 +70,11 @@ after_sending own (delivery, kind) = (record own { outbound = delivery.outbound;
 abbrev pub after_receiving : StationState → Delivery × StepKind → StationState × StepKind
 after_receiving own (delivery, kind) = (record own { inbound = delivery.inbound; newest = delivery.answer }, kind)
 
--- an answer is a packet of format 03 hex; every other is data
+-- an answer is a packet (PDU) of format 03 hex; every other is data
 abbrev pub is_answer : Packet → Bool
 is_answer packet = head_format (packet_head packet) == 3
 
--- a station hears a packet: an answer by its half that sends, data by its half that receives
+-- a station hears a packet (PDU): an answer by its half that sends, data by its half that receives
 abbrev pub heard_as : Bool → StationState → StationState → Packet → StationState × StepKind
 heard_as true own other packet = after_sending own (happens (delivery_between own other) (Answer_heard packet))
 heard_as false own other packet = after_receiving own (happens (delivery_between other own) (Data_heard packet))

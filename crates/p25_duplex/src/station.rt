@@ -93,7 +93,7 @@ impl Station {
         }
     }
 
-    // Hears a packet: an answer by the half that sends, data by the half that receives.
+    // Hears a packet (PDU): an answer by the half that sends, data by the half that receives.
     fn hear(&mut self, packet: &Packet) -> StepKind
         requires { 0 < self.old.spare }
         ensures { (other : StationState) → (self.new.state, result) ≡ heard_as (is_answer packet.now) self.old.state other packet.now }

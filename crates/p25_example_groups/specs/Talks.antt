@@ -15,13 +15,13 @@ use Rattle.p25_example_groups.specs.declared.Talk.{Talk}
 abbrev pub talk_text : Talk → List ℕ
 talk_text talk = codes "group " ++ decimal talk.group ++ codes " radio " ++ decimal talk.radio
 
--- what link control says, where it is that of a call to a group
+-- what link control (LC) says, where it is that of a call to a group
 abbrev pub link_talk : LinkKind → Option Talk
 link_talk (Group mfid emergency group source) = Some (record { group = group; radio = source })
 link_talk (Individual mfid destination source) = None
 link_talk Other = None
 
--- what a voice unit with link control says
+-- what an LDU1, voice with link control (LC), says
 abbrev pub voice_talk : VoiceUnit → Option Talk
 voice_talk (Header word) = None
 voice_talk (Link1 link low voice) = link_talk (link_kind_of link)

@@ -1,4 +1,4 @@
-//! Prints the group and the radio of each voice unit with link control (`ldu1`) on standard input, in decimal, as it comes.
+//! Prints the group and the radio of each LDU1, voice with link control (LC), on standard input, in decimal, as it comes.
 //!
 //! The order of the calls is what this program shows. Push octets, take every item that they decide, and only then push
 //! more. At the end of the input call `finish`, and take items once more: the end decides what no octet decided.
@@ -78,7 +78,7 @@ fn print_talks(rt: &impl Print, scanner: &mut Scanner) -> io::Result<()>
     Ok(())
 }
 
-// Who speaks to which group, where the item is a whole `ldu1` whose link control says it.
+// Who speaks to which group, where the item is a whole LDU1 whose link control (LC) says it.
 fn read_talk(item: &Item) -> Option<Talk>
     ensures { result ≡ talk_of item.now }
 {

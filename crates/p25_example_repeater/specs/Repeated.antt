@@ -4,7 +4,7 @@ use Rattle.p25_units.specs.Units.{frame_as, image_of}
 use Rattle.p25_units.specs.declared.item.Item.{Item}
 use Rattle.p25_units.specs.declared.item.Item.TheVariants.{Whole, Broken, NoUnit, Gap, Cut}
 
--- the network access code under which units are sent again
+-- the network access code (NAC) under which units are sent again
 abbrev pub network : ℕ
 network = 0x2A1
 

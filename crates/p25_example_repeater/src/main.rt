@@ -1,5 +1,5 @@
-//! Writes the recording on standard input under another network access code: each whole unit in its place, with that code and
-//! repaired, and all other bits as they came.
+//! Writes the recording on standard input under another network access code (NAC): each whole unit in its place, with that code
+//! and repaired, and all other bits as they came.
 //!
 //! What this program shows is how a unit is changed and sent again. An item comes with its bits; those of a whole unit are
 //! replaced by the image of its frame under the other code. No item changes its length, so each stays where it was.
@@ -16,7 +16,7 @@ use p25_units::image_as;
 use std::io;
 use std::io::{Read, Write};
 
-/// The code under which units are sent again.
+/// The network access code (NAC) under which units are sent again.
 const NETWORK: u16 = 0x2A1;
 
 /// How many bits are written at once, at most.

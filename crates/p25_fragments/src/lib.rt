@@ -1,8 +1,8 @@
 //! Long messages over two packet stations: up to 4,000 octets over a delivery whose messages have at most 2,028.
 //!
 //! A long message is sent as parts, each a message of the stations: one octet with the number of the part, 80 hex more for
-//! the last, and then at most 500 octets, in the order in which they are sent. The packet head stays as it is; the first
-//! octet of a part is this project's own.
+//! the last, and then at most 500 octets, in the order in which they are sent. The head of the packet (PDU) stays as it is; the
+//! first octet of a part is this project's own.
 //!
 //! ```
 //! let mut world = LongWorld::new(rt.alloc());

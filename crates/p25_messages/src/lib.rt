@@ -1,6 +1,6 @@
 //! Messages of packet data, long messages and their parts, lists of both, and the places of wrong bits in a transmission.
 //!
-//! A message is a list of at most 2,028 octets, in the order in which they are sent: as many as the 127 blocks of a packet
+//! A message is a list of at most 2,028 octets, in the order in which they are sent: as many as the 127 blocks of a packet (PDU)
 //! carry beside the packet CRC. A long message is a list of at most 4,000, which is sent in parts, each a message. Both are
 //! a `MessageOf` so many octets, which contracts see as the octets, and their lists a `MessageListOf` so many.
 //!

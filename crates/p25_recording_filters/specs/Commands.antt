@@ -42,7 +42,7 @@ abbrev pub change_of : Change → Item → List Bool → List Bool
 change_of Repaired item raw = repaired item raw
 change_of (Bridged nac status) item raw = bridged nac status item []
 
--- the network access code of a change is one
+-- the network access code (NAC) of a change is one
 abbrev pub IsSoundChange : Change → Type 0
 IsSoundChange Repaired = Unit {0}
 IsSoundChange (Bridged nac status) = nac < 4096
@@ -64,7 +64,7 @@ pub record CallsParts : Type 0 where
   pub caller : CallerParts
   pub count : ℕ
 
--- it has answered no more calls than it took items, of which there are few, and the run that is open has a network access code
+-- it has answered no more calls than it took items, of which there are few, and the run that is open has a network access code (NAC)
 pub record IsCalls (report : CallsParts) : Type 0 where
   pub sound : HasSoundPending report.caller
   pub fewer : report.count ≤ report.caller.taken

@@ -52,7 +52,7 @@ abbrev pub calls_line : ℕ → List ℕ
 calls_line count = codes "calls=" ++ decimal count ++ 10 ∷ []
 
 -- what `soft` writes for the octets of a soft recording, whether they are all or more may come: the bits of all items of the hard
--- bits of its levels, each broken packet that begins at an even place softened
+-- bits of its levels, each broken packet (PDU) that begins at an even place softened
 unfoldable pub soft_output : Bool → List ℕ → List ℕ
 soft_output ended octets =
     let levels = scanned ended (map octet_level octets) in

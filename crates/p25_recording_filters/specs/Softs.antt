@@ -57,7 +57,7 @@ pub record IsHolding (scan : Scan) (levels : List ℤ) : Type 0 where
   pub placed : scan.place % 8 ≤ 2 * length (grouped levels)
   pub full : scan.finished ≡ true → length levels % 4 ≡ 0
 
--- an item is a broken packet that begins at an even place
+-- an item is a broken packet (PDU) that begins at an even place
 abbrev pub is_even_packet : Item → Bool
 is_even_packet (Broken place count nac duid fields) = duid == 0xC && place % 2 == 0
 is_even_packet (Whole place frame fixes) = false
@@ -69,7 +69,7 @@ is_even_packet (Cut place have) = false
 abbrev pub item_levels : Item → List ℤ → List ℤ
 item_levels item levels = part (place_of item % 8 / 2) (covered item / 2) levels
 
--- a broken packet at an even place is heard from its levels
+-- a broken packet (PDU) at an even place is heard from its levels
 pub record IsHeardAmong (item : Item) (levels : List ℤ) (raw : List Bool) : Type 0 where
   pub there : place_of item % 8 / 2 + covered item / 2 ≤ length levels
   pub heard : IsHeard item (item_levels item levels) raw

@@ -1,4 +1,4 @@
-//! The work of `soft` on a soft recording: its levels become bits, and the blocks of broken packets are read again from them.
+//! The work of `soft` on a soft recording: its levels become bits, and the blocks of broken packets (PDU) are read again from them.
 
 ghost use Rattle.std.specs.Prelude.{◌≡◌, ◌≢◌, ◌+◌, ◌-◌, ◌%◌, ◌^◌, ◌<◌, ◌≤◌, true, false, [], ◌∷◌, ◌++◌, length, drop};
 ghost use Rattle.p25_bits.specs.Bits.{bits_of};
@@ -24,8 +24,8 @@ use std::marker::Model;
 // The level with which the last group of four is filled.
 const FILLER: i8 = 32;
 
-/// A recording of levels at work: a filter that gives the bits of its items, in which failing blocks of packets are read from
-/// the levels. At most seven bits that do not fill an octet are kept back.
+/// A recording of levels at work: a filter that gives the bits of its items, in which failing blocks of packets (PDU) are read
+/// from the levels. At most seven bits that do not fill an octet are kept back.
 #[derive(Drop)]
 pub struct Soft {
     scanner: Scanner,
@@ -95,7 +95,7 @@ fn fill(levels: &mut HeldLevels, scanner: &mut Scanner)
     }
 }
 
-// Whether an item is a broken packet that begins at an even place.
+// Whether an item is a broken packet (PDU) that begins at an even place.
 fn is_even_packet(item: &Item) -> bool
     ensures { result ≡ is_even_packet item.now }
 {

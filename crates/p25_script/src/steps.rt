@@ -42,7 +42,7 @@ fn put_kind(kind: &StepKind, out: &mut Line)
         StepKind::Resent { number, tries } => put_sent(b"timeout sent ns=", *number, *tries, out),
         StepKind::Idle => out.put(b"timeout idle"),
         StepKind::TimeoutDown => out.put(b"timeout down"),
-        StepKind::Reopened { number } => out.put_labelled(b"reopen sent ns=", u64::from(*number)),
+        StepKind::Reopened { number } => put_numbered(b"reopen sent ns=", *number, out),
         StepKind::Up => out.put(b"reopen up"),
         StepKind::Nothing { way } => put_way(*way, b" none", out),
         StepKind::Lost { way, field } => {
@@ -51,25 +51,13 @@ fn put_kind(kind: &StepKind, out: &mut Line)
         }
         StepKind::Ignored { way } => put_way(*way, b" ignored", out),
         StepKind::Delivered { number, message } => put_delivered(*number, message, out),
-        StepKind::SynHeard { number } => out.put_labelled(b"data opened ns=", u64::from(*number)),
-        StepKind::Again { number } => out.put_labelled(b"data again ack=", u64::from(*number)),
+        StepKind::SynHeard { number } => put_numbered(b"data opened ns=", *number, out),
+        StepKind::Again { number } => put_numbered(b"data again ack=", *number, out),
         StepKind::Kept { number, flags } => put_kept(*number, flags, out),
-        StepKind::RefusedCrc { number } => out.put_labelled(
-            b"data refused crc ns=",
-            u64::from(*number),
-        ),
-        StepKind::RefusedOrder { last } => out.put_labelled(
-            b"data refused order vr=",
-            u64::from(*last),
-        ),
-        StepKind::Acknowledged { number } => out.put_labelled(
-            b"answer acknowledged ns=",
-            u64::from(*number),
-        ),
-        StepKind::LinkOpened { number } => out.put_labelled(
-            b"answer opened ns=",
-            u64::from(*number),
-        ),
+        StepKind::RefusedCrc { number } => put_numbered(b"data refused crc ns=", *number, out),
+        StepKind::RefusedOrder { last } => put_numbered(b"data refused order vr=", *last, out),
+        StepKind::Acknowledged { number } => put_numbered(b"answer acknowledged ns=", *number, out),
+        StepKind::LinkOpened { number } => put_numbered(b"answer opened ns=", *number, out),
         StepKind::Retry {
             number,
             wanted,
@@ -88,6 +76,15 @@ fn put_way(way: Way, rest: &[u8], out: &mut Line)
 {
     out.put(word_of_way(way));
     out.put(rest);
+}
+
+// Appends a label and a number.
+fn put_numbered(label: &[u8], number: u8, out: &mut Line)
+    requires { length out.old + length label.now + 100 ≤ 8192 }
+    ensures text { out.new ≡ out.old ++ (label.now ++ decimal number) }
+    ensures short { length out.new ≤ length out.old + length label.now + 100 }
+{
+    out.put_labelled(label, u64::from(number));
 }
 
 // Appends the text of a message that was taken.

@@ -1,4 +1,4 @@
--- An item's bits with the blocks of a broken packet read from levels.
+-- An item's bits with the blocks of a broken packet (PDU) read from levels.
 use Rattle.std.specs.Prelude.{◌≡◌, ℕ, zero, suc, ◌+◌, ◌*◌, ◌/◌, Bool, true, false, ◌||◌, ◌==◌, List, ◌++◌, length, take, drop, ℤ, pos, slice_index_or, Result, Ok, Err, if◌then◌else◌}
 use Rattle.std.specs.List.{list_any}
 use Rattle.p25_bits.specs.Numbers.{each_below, joined_below}
@@ -57,7 +57,7 @@ unfoldable pub blocks_replaced : List Field → ℕ → ℕ
 blocks_replaced fields zero = 0
 blocks_replaced fields (suc n) = blocks_replaced fields n + (if names_all fields || names_block fields n then 1 else 0)
 
--- the number of blocks to follow that a header tells
+-- the number of blocks to follow that the header of a packet (PDU) tells
 unfoldable pub told_blocks : Result PacketHead Field → ℕ
 told_blocks (Ok head) = head_blocks head
 told_blocks (Err field) = 0
@@ -66,15 +66,15 @@ told_blocks (Err field) = 0
 unfoldable pub blocks_to_follow : List Bool → ℕ
 blocks_to_follow sent = told_blocks (sent_head_of sent)
 
--- the unit of a packet with n blocks to follow, without status symbols, its blocks replaced
+-- the unit of a packet (PDU) with n blocks to follow, without status symbols, its blocks replaced
 unfoldable pub softened_bare : List Field → List ℤ → ℕ → List Bool → List Bool
 softened_bare fields levels n bare = take 308 bare ++ joined_below n (softened_block fields levels bare) ++ drop (308 + 196 * n) bare
 
--- the sent bits of a broken packet, its blocks replaced
+-- the sent bits of a broken packet (PDU), its blocks replaced
 unfoldable pub softened_packet : List Field → List ℤ → List Bool → List Bool
 softened_packet fields levels sent = woven (softened_bare fields levels (blocks_to_follow sent) (bare_of sent)) (statuses_of sent)
 
--- the bits of an item, the blocks of a broken packet replaced
+-- the bits of an item, the blocks of a broken packet (PDU) replaced
 unfoldable pub softened : Item → List ℤ → List Bool → List Bool
 softened (Broken place count nac duid fields) levels sent = if duid == 0xC then softened_packet fields levels sent else sent
 softened (Whole place frame fixes) levels sent = sent

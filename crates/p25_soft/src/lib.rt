@@ -1,4 +1,4 @@
-//! Blocks of packets read from soft symbols, the levels of a four-level signal.
+//! Blocks of packets (PDU) read from soft symbols, the levels of a four-level signal.
 //!
 //! A soft recording has one level for every two bits, a number from -128 to 127; the first level is the first that was sent,
 //! and of its two bits the first is the higher. The levels are this project's own: 01 is 96, 00 is 32, 10 is -32 and 11 is

@@ -1,4 +1,4 @@
-//! The blocks of broken packets, read again from their levels.
+//! The blocks of broken packets (PDU), read again from their levels.
 
 ghost use Rattle.std.specs.Prelude.{◌≡◌, ◌+◌, ◌*◌, ◌<◌, ◌≤◌, ◌||◌, ◌++◌, length, if◌then◌else◌};
 ghost use Rattle.p25_bits.specs.Numbers.{joined_below};
@@ -17,7 +17,7 @@ use p25_units::Item;
 // How many dibits of a unit stand before each of its status symbols.
 const BARE_DIBITS: usize = 35;
 
-// The number of blocks to follow that the header of a packet tells.
+// The number of blocks to follow that the header of a packet (PDU) tells.
 fn told_blocks(sent: &BitBuf) -> usize
     requires { 316 ≤ length sent.now }
     ensures value { result ≡ blocks_to_follow sent.now }
@@ -141,7 +141,7 @@ fn append_blocks(
     count
 }
 
-// Replaces the bits of a broken packet.
+// Replaces the bits of a broken packet (PDU).
 fn soften_packet(fields: &FieldList, levels: &[i8], raw: &mut BitBuf) -> u32
     requires long { length raw.old ≡ packet_sent_length (blocks_to_follow raw.old) }
     requires levels { length raw.old ≡ 2 * length levels.now }
@@ -163,7 +163,7 @@ fn soften_packet(fields: &FieldList, levels: &[i8], raw: &mut BitBuf) -> u32
     count
 }
 
-/// Replaces the bits of the blocks of a broken packet that fail by the sent bits of their soft paths, and answers how many
+/// Replaces the bits of the blocks of a broken packet (PDU) that fail by the sent bits of their soft paths, and answers how many
 /// blocks were replaced. `raw` has the bits that the item covers, `levels` the levels that they were read from, one for each
 /// two bits, and a broken item is the one that these bits are divided into.
 ///

@@ -1,4 +1,4 @@
-//! Levels, blocks read from them, and broken packets that a program apart from this code made.
+//! Levels, blocks read from them, and broken packets (PDU) that a program apart from this code made.
 
 ghost use Rattle.std.specs.Prelude.{◌≡◌, ◌*◌, ◌≤◌, length};
 ghost use Rattle.p25_soft.specs.Levels.{hard_bits};
@@ -9,10 +9,10 @@ use p25_status::{Status, Statuses, weave};
 use p25_trellis::{Half, ThreeQuarter, read_block};
 use p25_units::{Begun, Need, need, unit_item};
 
-// The front of the network access code 293 hex and of the packets below.
+// The front of some packets (PDU): the sync, the network access code (NAC) 293 hex and the data unit identifier (DUID) C hex.
 const FRONT: u64 = 0x5575_F5FF_77FF_293C;
 
-// A confirmed packet of one block, of 560 bits without status symbols.
+// A confirmed packet (PDU) of one block, of 560 bits without status symbols.
 const CONFIRMED: [u64; 8] = [
     FRONT,
     0xD60B_E02B_B372_C422,
@@ -24,7 +24,7 @@ const CONFIRMED: [u64; 8] = [
     0x2252_2222_2222_2200,
 ];
 
-// A confirmed packet of two blocks, both of zeros, of 700 bits.
+// A confirmed packet (PDU) of two blocks, both of zeros, of 700 bits.
 const NO_BLOCKS: [u64; 11] = [
     0x5575_F5FF_77FF_ABCC,
     0xC425_E74B_DC0A_C42F,
@@ -39,7 +39,7 @@ const NO_BLOCKS: [u64; 11] = [
     0x2222_2222_2222_2220,
 ];
 
-// An unconfirmed packet of one block, of zeros, of 560 bits.
+// An unconfirmed packet (PDU) of one block, of zeros, of 560 bits.
 const NO_CHECK: [u64; 8] = [
     FRONT,
     0xD60B_E02B_B372_2322,
@@ -51,7 +51,7 @@ const NO_CHECK: [u64; 8] = [
     0x2222_2222_2222_2200,
 ];
 
-// A packet of the format 17 hex without blocks, of 350 bits.
+// A packet (PDU) of the format 17 hex without blocks, of 350 bits.
 const FORMAT_17: [u64; 6] = [
     FRONT,
     0xD60B_E02B_B372_2822,

@@ -1,4 +1,4 @@
--- The air between the two stations: a transmission is the unit of a packet, of which the listed bits come inverted. And what a delivery reads as.
+-- The air between the two stations: a transmission is the unit of a packet (PDU), of which the listed bits come inverted. And what a delivery reads as.
 use Rattle.std.specs.Prelude.{nat_lt, length, count_by, ℕ, ◌&&◌, Bool, true, false, not, ◌==◌, List, [], ◌∷◌, replicate, Result, Ok, Err, if◌then◌else◌}
 use Rattle.std.specs.Str.{bytes_eq}
 use Rattle.std.proofs.Common.{lit<}
@@ -15,7 +15,7 @@ use Rattle.p25_packet_blocks.specs.UnitReading.{packet_unit_of}
 use Rattle.p25_packet_blocks.specs.Within.{IsPacketWithin, sent_unit}
 use Rattle.p25_stations.specs.declared.air.Carried.{Carried, TheVariants.{Lost, Foreign, Heard}}
 
--- the network access code of both stations
+-- the network access code (NAC) of both stations
 abbrev pub station_nac : ℕ
 station_nac = 0x293
 
@@ -23,7 +23,7 @@ station_nac = 0x293
 abbrev pub station_status : Status
 station_status = status_at_number 0 (lit< tt)
 
--- the unit of a packet as a station sends it, with its status symbols
+-- the unit of a packet (PDU) as a station sends it, with its status symbols
 unfoldable pub transmission_of : Packet → List Bool
 transmission_of packet = sent_unit station_nac packet (replicate (packet_parts (head_blocks (packet_head packet))) station_status)
 
@@ -32,7 +32,7 @@ unfoldable pub with_flips : List Bool → List ℕ → List Bool
 with_flips bits [] = bits
 with_flips bits (place ∷ places) = with_flips (flipped bits place) places
 
--- the bits that come of a packet that is sent
+-- the bits that come of a packet (PDU) that is sent
 abbrev pub received_bits : Packet → List ℕ → List Bool
 received_bits packet flips = with_flips (transmission_of packet) flips
 
@@ -48,24 +48,24 @@ are_true_slots [] [] = true
 are_true_slots (was ∷ sent) (slot ∷ slots) = is_true_slot was slot && are_true_slots sent slots
 are_true_slots sent slots = false
 
--- a packet that is read is true to the one that was sent: it has the same header, and each slot is Bad or holds the block
+-- a packet (PDU) that is read is true to the one that was sent: it has the same header, and each slot is Bad or holds the block
 -- sent there, or the octets are the same
 unfoldable pub is_true_to : Packet → Packet → Bool
 is_true_to (Confirmed sent) (Confirmed heard) = bytes_eq sent.head.0 heard.head.0 && are_true_slots sent.slots heard.slots
 is_true_to (Plain sent) (Plain heard) = bytes_eq sent.head.0 heard.head.0 && bytes_eq sent.octets heard.octets
 is_true_to sent heard = false
 
--- a delivery by what its bits read as: it is lost where a field fails; a packet with another network access code is foreign;
--- every other is heard, and is a false pass where it is not true to the one that was sent
+-- a delivery by what its bits read as: it is lost where a field fails; a packet (PDU) with another network access code (NAC) is
+-- foreign; every other is heard, and is a false pass where it is not true to the one that was sent
 unfoldable pub carried_from : Packet → Result (ℕ × Packet) Field → Carried
 carried_from sent (Err field) = Lost field
 carried_from sent (Ok (nac, packet)) = if nac == station_nac then Heard packet (not (is_true_to sent packet)) else Foreign
 
--- what comes of a packet that is sent, where the bits at some places come inverted
+-- what comes of a packet (PDU) that is sent, where the bits at some places come inverted
 unfoldable pub carried_of : Packet → List ℕ → Carried
 carried_of packet flips = carried_from packet (packet_unit_of (received_bits packet flips))
 
--- a packet that is sent arrives within radius where the bits at these places come inverted
+-- a packet (PDU) that is sent arrives within radius where the bits at these places come inverted
 unfoldable pub ArrivesWithin : Packet → List ℕ → Type 0
 ArrivesWithin packet flips = IsPacketWithin packet (transmission_of packet) (received_bits packet flips)
 

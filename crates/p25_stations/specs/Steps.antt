@@ -30,7 +30,7 @@ counted_when false passes = passes
 abbrev pub quiet_step : WorldState → Delivery × StepKind → WorldState × Step
 quiet_step w (delivery, kind) = (record w { delivery = delivery }, record { kind = kind; false_pass = false })
 
--- a step in which a packet is heard
+-- a step in which a packet (PDU) is heard
 abbrev pub heard_step : WorldState → Bool → Delivery × StepKind → WorldState × Step
 heard_step w false_pass (delivery, kind) =
     (record { delivery = delivery; false_passes = counted_when false_pass w.false_passes }, record { kind = kind; false_pass = false_pass })

@@ -17,16 +17,16 @@ use p25_status::{BARE_BLOCK_LENGTH, Field, Status, Statuses, weave};
 /// What comes of a transmission.
 #[derive(Clone, Debug, PartialEq, Eq, Drop)]
 pub enum Carried {
-    /// The bits that came read as no packet: the first field that fails.
+    /// The bits that came read as no packet (PDU): the first field that fails.
     Lost(Field),
-    /// They read as a packet with another network access code.
+    /// They read as a packet (PDU) with another network access code (NAC).
     Foreign,
-    /// They read as a packet for the stations, which is true to the one that was sent or a false pass.
+    /// They read as a packet (PDU) for the stations, which is true to the one that was sent or a false pass.
     Heard { packet: Packet, false_pass: bool },
 }
 
-/// Sets `out` to the unit of a packet as a station sends it, from its sync on, with the network access code 293 hex and the
-/// status symbol 00 throughout. No slot of the packet is Bad.
+/// Sets `out` to the unit of a packet (PDU) as a station sends it, from its sync on, with the network access code (NAC) 293 hex and
+/// the status symbol 00 throughout. No slot of the packet is Bad.
 pub fn transmit(packet: &Packet, out: &mut BitBuf)
     requires { IsWholePacket packet.now }
     ensures bits { out.new ≡ transmission_of packet.now }
@@ -55,10 +55,10 @@ fn invert(bits: &mut BitBuf, flips: &Flips)
     }
 }
 
-/// Answers what comes of a packet that is transmitted, where the bits at some places of its unit come inverted; no slot of it is Bad, and a
-/// place past the end of the unit inverts nothing. Lost comes exactly where `read_packet_unit` refuses the bits, and with its field;
-/// Foreign exactly where they read as a packet with another network access code. A packet that is heard is a false pass where its header
-/// differs from the one sent, or a Good slot from the block sent there, or the octets of one that is not confirmed.
+/// Answers what comes of a packet (PDU) that is transmitted, where the bits at some places of its unit come inverted; no slot of it is
+/// Bad, and a place past the end of the unit inverts nothing. Lost comes exactly where `read_packet_unit` refuses the bits, and with
+/// its field; Foreign exactly where they read as a packet with another network access code (NAC). A packet that is heard is a false pass
+/// where its header differs from the one sent, or a Good slot from the block sent there, or the octets of one that is not confirmed.
 pub fn carry(packet: &Packet, flips: &Flips) -> Carried
     requires { IsWholePacket packet.now }
     ensures { result ≡ carried_of packet.now flips.now }

@@ -1,7 +1,7 @@
-//! Two packet stations and the air between them: a sender, a receiver, and what comes of a packet that is sent.
+//! Two packet stations and the air between them: a sender, a receiver, and what comes of a packet (PDU) that is sent.
 //!
-//! A transmission is the unit of a packet as it is sent, from its first bit on, with the network access code 293 hex and the
-//! status symbol 00 throughout. Places of bits that come inverted are counted from that first bit. Each event of a world is
+//! A transmission is the unit of a packet as it is sent, from its first bit on, with the network access code (NAC) 293 hex and
+//! the status symbol 00 throughout. Places of bits that come inverted are counted from that first bit. Each event of a world is
 //! one step. The rules of the stations and of the air are this project's, over those of TIA-102.BAAA, Packet Data.
 //!
 //! ```

@@ -9,7 +9,7 @@ use p25_messages::Flips;
 use p25_packet_blocks::Packet;
 use std::marker::Model;
 
-/// The newest transmission of a direction of the air, where there is one. Contracts see it as that packet, which can be sent.
+/// The newest transmission of a direction of the air, where there is one. Contracts see it as that packet (PDU), which can be sent.
 #[derive(Clone, Debug, PartialEq, Eq, Drop)]
 pub struct Newest {
     packet: Option<Packet>,
@@ -47,7 +47,7 @@ impl Newest {
         kind
     }
 
-    /// Answers what comes of it that way: the packet that is heard, and whether it is a false pass, as `carry` says; or the
+    /// Answers what comes of it that way: the packet (PDU) that is heard, and whether it is a false pass, as `carry` says; or the
     /// step in which nothing is heard, which is Lost or Ignored, or Nothing where there is no transmission.
     #[tactic(auto, unfolding(crate::specs::Steps::delivery_of, crate::specs::Steps::heard_of))]
     pub fn deliver(&self, way: Way, flips: &Flips) -> Result<(Packet, bool), StepKind>

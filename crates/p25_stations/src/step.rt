@@ -24,7 +24,7 @@ pub enum Event {
 pub struct Step {
     /// What the step was.
     pub kind: StepKind,
-    /// Whether it is a delivery that reads as another packet than the one that was sent.
+    /// Whether it is a delivery that reads as another packet (PDU) than the one that was sent.
     pub false_pass: bool,
 }
 

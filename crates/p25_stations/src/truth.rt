@@ -27,7 +27,7 @@ fn are_true_slots(sent: &Slots, heard: &Slots) -> bool
     true
 }
 
-// Whether a packet that was read has the header of the one that was sent, and slot by slot is Bad or holds the same block,
+// Whether a packet (PDU) that was read has the header of the one that was sent, and slot by slot is Bad or holds the same block,
 // or has the same octets.
 pub(crate) fn is_true_to(sent: &Packet, heard: &Packet) -> bool
     ensures { result ≡ is_true_to sent.now heard.now }

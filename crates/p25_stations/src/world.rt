@@ -134,7 +134,7 @@ impl World {
         Ok(self.step_ready(event))
     }
 
-    // Has a station hear a packet that came that way.
+    // Has a station hear a packet (PDU) that came that way.
     fn hear(&mut self, way: Way, packet: &Packet) -> StepKind
         requires { 0 < self.old.spare }
         ensures step { (self.new.state.delivery, result) ≡ happens self.old.state.delivery (heard_by way packet.now) }

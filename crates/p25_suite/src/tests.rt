@@ -116,3 +116,78 @@ fn put_named(text: &mut Line, name: &[u8], number: u64) {
         text.put_number(number);
     }
 }
+
+// Puts a text after another, where both are short.
+fn put_short(text: &mut Line, more: &[u8]) {
+    if text.len() <= 4_000 && more.len() <= 4_000 {
+        text.put(more);
+    }
+}
+
+// Bits that are inverted: the first place, how far the next is, how many places there are, and how many bits at each.
+// Places count the bits of a unit without its status symbols; that of the first bit of its sync is 0.
+type Inverted = (u16, u16, u16, u16);
+
+// Inverts so many bits from a place on.
+fn invert_run(octets: &mut [u8], first: usize, width: u16)
+    requires { first < 30000 }
+{
+    for i in 0..usize::from(width) {
+        change_bit(octets, first + i, None);
+    }
+}
+
+// Inverts bits of a sent unit.
+fn invert(octets: &mut [u8], inverted: &Inverted) {
+    let (first, step, places, width) = *inverted;
+    for i in 0..usize::from(places) {
+        let place = usize::from(first) + i * usize::from(step);
+        if place < 30_000 {
+            invert_run(octets, place, width);
+        }
+    }
+}
+
+// A unit of the call: its line, whether nine voice frames of zeros end it, and what `show` says before it.
+type Part = (&'static [u8], bool, &'static [u8]);
+
+const PARTS: [Part; 4] = [
+    (
+        b"hdu nac=293 mi=000000000000000000 mfid=00 algid=80 kid=0000 tgid=0001",
+        false,
+        b"unit at=0 bits=792 fix=0 status=11111111111 ",
+    ),
+    (
+        b"ldu1 nac=293 lc=000000000001000001 lsd=0000 voice=",
+        true,
+        b"unit at=792 bits=1728 fix=0 status=111111111111111111111111 ",
+    ),
+    (
+        b"ldu2 nac=293 mi=000000000000000000 algid=80 kid=0000 lsd=0000 voice=",
+        true,
+        b"unit at=2520 bits=1728 fix=0 status=111111111111111111111111 ",
+    ),
+    (
+        b"tdulc nac=293 lc=000000000001000001",
+        false,
+        b"unit at=4248 bits=432 fix=0 status=111111 ",
+    ),
+];
+
+// The lines of the first units, as they are built from or as they are shown.
+fn lines_of(count: usize, shown: bool) -> Line {
+    let mut text = Line::new();
+    for (line, voice, prefix) in PARTS.iter().take(count) {
+        if text.len() <= 4_000 && line.len() <= 200 && prefix.len() <= 200 {
+            if shown {
+                text.put(prefix);
+            }
+            text.put(line);
+            if *voice {
+                text.put(&[b'0'; 324]);
+            }
+            text.put(b"\n");
+        }
+    }
+    text
+}

@@ -7,18 +7,18 @@ use Rattle.p25_calls.specs.declared.call.Call.{Call}
 use Rattle.p25_calls.specs.declared.call.CallEnd.{CallEnd}
 use Rattle.p25_calls.specs.declared.call.CallEnd.TheVariants.{Tdu, Tdulc, Open}
 
--- how a call was entered
+-- how a call was entered: late, or with its header (HDU)
 abbrev pub entry_word : Bool → List ℕ
 entry_word true = codes "late"
 entry_word false = codes "header"
 
--- how a call ends
+-- how a call ends: with a TDU, with a TDULC, or open
 abbrev pub end_word : CallEnd → List ℕ
 end_word Tdu = codes "tdu"
 end_word Tdulc = codes "tdulc"
 end_word Open = codes "open"
 
--- the link control of a call
+-- the link control (LC) of a call
 abbrev pub link_text : Option LinkControl → List ℕ
 link_text (Some link) = encode_lower link.0
 link_text None = codes "none"

@@ -25,12 +25,12 @@ abbrev pub kind_of : Body → UnitKind
 kind_of (Voice voice) = voice_kind voice
 kind_of (Packet packet) = packet_kind packet
 
--- the values after the network access code, in the order of the keys
+-- the values after the network access code (NAC), in the order of the keys
 abbrev pub body_values : Body → List (List ℕ)
 body_values (Voice voice) = voice_values voice
 body_values (Packet packet) = packet_values packet
 
--- what the values after the network access code are read as
+-- what the values after the network access code (NAC) are read as
 abbrev pub body_in : UnitKind → List (List ℕ) → Option Body
 body_in Confirmed (head ∷ blocks ∷ []) = option_map Packet (confirmed_in head blocks)
 body_in Confirmed values = None

@@ -18,7 +18,7 @@ kind_word Confirmed = codes "confirmed"
 kind_word Plain = codes "plain"
 kind_word Response = codes "response"
 
--- the keys of a kind after its network access code, in their order
+-- the keys of a kind after its network access code (NAC), in their order
 abbrev pub other_keys : UnitKind → List UnitKey
 other_keys Hdu = Mi ∷ Mfid ∷ Algid ∷ Kid ∷ Tgid ∷ []
 other_keys Ldu1 = Lc ∷ Lsd ∷ Frames ∷ []

@@ -1,4 +1,4 @@
--- The values of packets after the network access code, and the packets that values are read as.
+-- The values of packets (PDU) after the network access code (NAC), and the packets that values are read as.
 use Rattle.std.specs.Prelude.{ℕ, ◌-◌, ◌*◌, ◌==◌, ◌&&◌, nat_lt, if◌then◌else◌, List, [], ◌∷◌, ◌++◌, length, take, drop, slice_index, Option, Some, None}
 use Rattle.std.specs.Option.{option_and_then, option_map}
 use Rattle.hex.specs.Hex.{encode_lower}
@@ -26,12 +26,12 @@ abbrev pub slot_text : Slot → List ℕ
 slot_text (Good block) = block_text block
 slot_text Bad = []
 
--- the values of a packet, in the order of the keys after the network access code
+-- the values of a packet (PDU), in the order of the keys after the network access code (NAC)
 abbrev pub packet_values : Packet → List (List ℕ)
 packet_values (Confirmed packet) = encode_lower packet.head.0 ∷ list_text slot_text packet.slots ∷ []
 packet_values (Plain packet) = encode_lower packet.head.0 ∷ octets_text packet.octets ∷ []
 
--- the kind of the line of a packet: that of a packet that is not confirmed is told by the format
+-- the kind of the line of a packet (PDU): that of a packet that is not confirmed is told by the format
 abbrev pub packet_kind : Packet → UnitKind
 packet_kind (Confirmed packet) = ConfirmedKind
 packet_kind (Plain packet) = if head_format packet.head == 0x03 then ResponseKind else PlainKind
@@ -51,31 +51,31 @@ block_in text = if (length text == 35) && (slice_index text 2 == 58) then block_
 abbrev pub slot_in : List ℕ → Option Slot
 slot_in text = option_map Good (block_in text)
 
--- the header that a word of 20 digits is read as
+-- the header of a packet (PDU) that a word of 20 digits is read as
 abbrev pub head_in : List ℕ → Option PacketHead
 head_in word = option_map (λ octets. record { 0 = octets }) (octets_in 10 word)
 
--- a confirmed packet of its header and its slots
+-- a confirmed packet (PDU) of its header and its slots
 abbrev pub confirmed_of : PacketHead → List Slot → Packet
 confirmed_of head slots = Confirmed (record { head = head; slots = slots })
 
--- the confirmed packet of a header of format 16 hex, where a word is read as so many slots as there are blocks to follow
+-- the confirmed packet (PDU) of a header of format 16 hex, where a word is read as so many slots as there are blocks to follow
 abbrev pub confirmed_from : List ℕ → PacketHead → Option Packet
 confirmed_from word head = if head_format head == 0x16 then option_map (confirmed_of head) (counted (head_blocks head) (list_in slot_in word)) else None
 
--- the confirmed packet of two values
+-- the confirmed packet (PDU) of two values
 abbrev pub confirmed_in : List ℕ → List ℕ → Option Packet
 confirmed_in head blocks = option_and_then (confirmed_from blocks) (head_in head)
 
--- another packet of its header and its octets before the packet CRC
+-- another packet (PDU) of its header and its octets before the packet CRC
 abbrev pub plain_of : PacketHead → List ℕ → Packet
 plain_of head octets = Plain (record { head = head; octets = octets })
 
--- the packet of a header of a format, where a word is read as twelve octets for each block to follow less four, or as none
+-- the packet (PDU) of a header of a format, where a word is read as twelve octets for each block to follow less four, or as none
 -- where there is no block to follow
 abbrev pub plain_from : ℕ → List ℕ → PacketHead → Option Packet
 plain_from format word head = if head_format head == format then option_map (plain_of head) (octets_or_none (12 * head_blocks head - 4) word) else None
 
--- the packet of a format of two values
+-- the packet (PDU) of a format of two values
 abbrev pub plain_in : ℕ → List ℕ → List ℕ → Option Packet
 plain_in format head octets = option_and_then (plain_from format octets) (head_in head)

@@ -18,7 +18,7 @@ number_in (Some (high ∷ low ∷ [])) = Some (256 * high + low)
 number_in (Some octets) = None
 number_in None = None
 
--- the network access code that a word of three digits is
+-- the network access code (NAC) that a word of three digits is
 abbrev pub nac_in : List ℕ → Option ℕ
 nac_in word = number_in (octets_in 2 (48 ∷ word))
 

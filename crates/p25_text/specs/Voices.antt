@@ -1,4 +1,5 @@
--- The values of voice units after the network access code, and the voice units that values are read as.
+-- The values of voice units (HDU, LDU1, LDU2, TDU, TDULC) after the network access code (NAC), and the voice units that values are
+-- read as.
 use Rattle.std.specs.Prelude.{ℕ, zero, suc, ◌/◌, ◌%◌, List, [], ◌∷◌, take, drop, map, slice_index, Option, Some, None}
 use Rattle.std.specs.List.{flat_map}
 use Rattle.std.specs.Option.{option_and_then}
@@ -20,11 +21,11 @@ use Rattle.p25_text.specs.declared.names.UnitKind.TheVariants.{Hdu, Ldu1, Ldu2, 
 abbrev pub pair_of : ℕ → List ℕ
 pair_of number = number / 256 ∷ number % 256 ∷ []
 
--- the octets of voice frames, one frame after the other
+-- the octets of the voice frames of an LDU1 or an LDU2, one frame after the other
 unfoldable pub frame_octets : List VoiceFrame → List ℕ
 frame_octets frames = flat_map (λ frame. frame.0) frames
 
--- the octets of a unit's fields, in the order of the keys after the network access code
+-- the octets of a unit's fields, in the order of the keys after the network access code (NAC)
 abbrev pub voice_octets : VoiceUnit → List (List ℕ)
 voice_octets (Header word) = word.mi ∷ (word.mfid ∷ []) ∷ (word.algid ∷ []) ∷ pair_of word.kid ∷ pair_of word.tgid ∷ []
 voice_octets (Link1 link low voice) = link.0 ∷ low ∷ frame_octets voice ∷ []
@@ -57,7 +58,7 @@ octets_behind (key ∷ keys) (value ∷ values) = with_entry (octets_in (width_o
 abbrev pub octet_number : List ℕ → ℕ
 octet_number octets = slice_index octets 0
 
--- so many voice frames, of eighteen octets each
+-- so many voice frames of an LDU1 or an LDU2, of eighteen octets each
 unfoldable pub frames_of : ℕ → List ℕ → List VoiceFrame
 frames_of zero octets = []
 frames_of (suc n) octets = record { 0 = take 18 octets } ∷ frames_of n (drop 18 octets)

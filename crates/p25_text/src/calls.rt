@@ -8,8 +8,8 @@ use p25_line::Line;
 use p25_link::LinkControl;
 
 /// Sets `out` to the text of a call, without the end of its line: its place and its length in decimal, the three digits of its
-/// network access code, how it was entered and how it ends, how many link units and how many broken units it has in decimal,
-/// the 18 digits of its link control, and the two of its algorithm.
+/// network access code (NAC), how it was entered and how it ends, how many link units (LDU1 or LDU2) and how many broken units it
+/// has in decimal, the 18 digits of its link control (LC), and the two of its algorithm.
 #[tactic(auto, unfolding(crate::specs::CallTexts::call_text_of))]
 pub fn call_text(call: &Call, out: &mut Line)
     requires { call.now.nac < 4096 }
@@ -33,7 +33,7 @@ pub fn call_text(call: &Call, out: &mut Line)
     put_algid(call.algid, out);
 }
 
-// Appends how a call was entered.
+// Appends how a call was entered: late, or with its header (HDU).
 fn put_entry(late: bool, out: &mut Line)
     requires { length out.old + 6 ≤ 8192 }
     ensures text { out.new ≡ out.old ++ entry_word late }
@@ -46,7 +46,7 @@ fn put_entry(late: bool, out: &mut Line)
     }
 }
 
-// Appends how a call ends.
+// Appends how a call ends: with a TDU, with a TDULC, or open.
 fn put_end(end: CallEnd, out: &mut Line)
     requires { length out.old + 5 ≤ 8192 }
     ensures text { out.new ≡ out.old ++ end_word end }
@@ -59,7 +59,7 @@ fn put_end(end: CallEnd, out: &mut Line)
     }
 }
 
-// Appends the link control of a call.
+// Appends the link control (LC) of a call.
 fn put_link(link: &Option<LinkControl>, out: &mut Line)
     requires { length out.old + 18 ≤ 8192 }
     ensures text { out.new ≡ out.old ++ link_text link.now }

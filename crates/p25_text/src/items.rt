@@ -60,7 +60,7 @@ fn put_whole(place: u64, frame: &Frame, fixes: u32, out: &mut Line)
     put_unit(&frame.unit, out);
 }
 
-// Appends the text of a broken unit with its network access code and data unit identifier to an empty line.
+// Appends the text of a broken unit with its network access code (NAC) and data unit identifier (DUID) to an empty line.
 #[tactic(auto, unfolding(crate::specs::ItemTexts::item_text_of))]
 fn put_broken(place: u64, count: u32, identifier: (u16, u8), fields: &FieldList, out: &mut Line)
     requires { out.old ≡ [] }
@@ -113,7 +113,7 @@ fn put_field_names(fields: &FieldList, out: &mut Line)
     }
 }
 
-/// Appends the name of a field.
+/// Appends the name of a field, as `nid` of the network identifier (NID).
 #[tactic(auto, using(p25_line::proofs::DecimalLaws::decimal_octet))]
 pub fn put_field_name(field: Field, out: &mut Line)
     requires { length out.old + 15 ≤ 8192 }

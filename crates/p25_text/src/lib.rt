@@ -1,7 +1,9 @@
 //! The texts of units, items and calls, and units read from lines.
 //!
-//! A unit line is words with single spaces between them: the kind of the unit, and then each key of that kind with `=` and
-//! its value, in one order. Digits are hexadecimal in lower case, two for each octet.
+//! A unit line is words with single spaces between them: the kind of the unit (HDU, LDU1, LDU2, TDU, TDULC, or one of the three
+//! of a packet, PDU), and then each key of that kind with `=` and its value, in one order: `nac` network access code (NAC), `lc`
+//! link control (LC), `lsd` low speed data (LSD), and `mi`, `algid` and `kid` of encryption sync (ES). Digits are hexadecimal in
+//! lower case, two for each octet.
 //!
 //! | kind | keys, each with how many digits its value has |
 //! |---|---|

@@ -6,50 +6,50 @@ ghost use Rattle.p25_text.specs.Names.{key_text, keys_of, kind_named, kind_word}
 /// A kind of unit line.
 #[derive(Clone, Copy)]
 pub enum UnitKind {
-    /// A header.
+    /// A header data unit (HDU).
     Hdu,
-    /// Voice with link control.
+    /// An LDU1: voice with link control.
     Ldu1,
-    /// Voice with encryption sync.
+    /// An LDU2: voice with encryption sync.
     Ldu2,
-    /// A terminator without link control.
+    /// A TDU: a terminator without link control.
     Tdu,
-    /// A terminator with link control.
+    /// A TDULC: a terminator with link control.
     Tdulc,
-    /// A packet whose blocks are confirmed one by one.
+    /// A packet (PDU) whose blocks are confirmed one by one.
     Confirmed,
-    /// A packet that is not confirmed.
+    /// A packet (PDU) that is not confirmed.
     Plain,
-    /// A response to a packet.
+    /// A response to a packet (PDU).
     Response,
 }
 
 /// A key of a unit line.
 #[derive(Clone, Copy)]
 pub enum UnitKey {
-    /// The network access code.
+    /// The network access code (NAC).
     Nac,
-    /// The message indicator.
+    /// The message indicator (MI), of an HDU or of encryption sync (ES).
     Mi,
-    /// The manufacturer.
+    /// The manufacturer (MFID).
     Mfid,
-    /// The algorithm.
+    /// The algorithm (ALGID), of an HDU or of encryption sync (ES).
     Algid,
-    /// The key of a cipher.
+    /// The key of a cipher (KID), of an HDU or of encryption sync (ES).
     Kid,
-    /// The talk group.
+    /// The talk group (TGID).
     Tgid,
-    /// The octets of link control.
+    /// The octets of link control (LC).
     Lc,
-    /// The two octets of low speed data.
+    /// The two octets of low speed data (LSD).
     Lsd,
-    /// The octets of nine voice frames.
+    /// The octets of the nine voice frames of an LDU1 or an LDU2.
     Frames,
-    /// The octets of a packet's header.
+    /// The octets of the header of a packet (PDU).
     Head,
-    /// The blocks to follow of a confirmed packet.
+    /// The blocks to follow of a confirmed packet (PDU).
     Blocks,
-    /// The octets of another packet before its packet CRC.
+    /// The octets of another packet (PDU) before its packet CRC.
     Octets,
 }
 

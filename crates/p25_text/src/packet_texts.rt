@@ -1,4 +1,4 @@
-//! The lines of packets.
+//! The lines of packets (PDU).
 
 ghost use Rattle.std.specs.Prelude.{◌≡◌, ◌+◌, ◌≤◌, ◌++◌, length};
 ghost use Rattle.p25_line.specs.CommaLists.{list_text};
@@ -11,7 +11,7 @@ use p25_line::Line;
 use p25_packet_blocks::{Block, Confirmed, Packet, Plain, RESPONSE_FORMAT, Slot, Slots};
 use p25_units::Body;
 
-/// Appends the line of a packet.
+/// Appends the line of a packet (PDU).
 pub fn put_packet(nac: u16, packet: &Packet, out: &mut Line)
     requires { length out.old + 4700 ≤ 8192 }
     ensures text { out.new ≡ out.old ++ text_of (record { nac = nac; body = Body.Packet packet.now }) }
@@ -23,7 +23,7 @@ pub fn put_packet(nac: u16, packet: &Packet, out: &mut Line)
     }
 }
 
-// Appends the line of a confirmed packet.
+// Appends the line of a confirmed packet (PDU).
 fn put_confirmed(nac: u16, packet: &Confirmed, out: &mut Line)
     requires { length out.old + 4700 ≤ 8192 }
     ensures text { out.new ≡ out.old ++ text_of (record { nac = nac; body = Body.Packet (Packet.Confirmed packet.now) }) }
@@ -35,7 +35,7 @@ fn put_confirmed(nac: u16, packet: &Confirmed, out: &mut Line)
     put_slots(packet.slots(), out);
 }
 
-// Appends the line of another packet.
+// Appends the line of another packet (PDU).
 fn put_plain(nac: u16, packet: &Plain, out: &mut Line)
     requires { length out.old + 4700 ≤ 8192 }
     ensures text { out.new ≡ out.old ++ text_of (record { nac = nac; body = Body.Packet (Packet.Plain packet.now) }) }
@@ -47,7 +47,7 @@ fn put_plain(nac: u16, packet: &Plain, out: &mut Line)
     out.put_octets(packet.octets().octets());
 }
 
-// The kind of the line of a packet that is not confirmed.
+// The kind of the line of a packet (PDU) that is not confirmed.
 fn plain_kind(packet: &Plain) -> UnitKind
     ensures { result ≡ packet_kind (Packet.Plain packet.now) }
 {

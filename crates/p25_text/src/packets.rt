@@ -1,4 +1,4 @@
-//! The values of packets: their headers, blocks and octets, read from words.
+//! The values of packets (PDU): their headers, blocks and octets, read from words.
 
 ghost use Rattle.std.specs.Prelude.{◌≡◌, ◌<◌, ◌≤◌, length, IfSome};
 ghost use Rattle.p25_packet_blocks.specs.Kinds.{IsPlainFormat};
@@ -12,7 +12,7 @@ use p25_packet_blocks::{
     Block, CONFIRMED_FORMAT, Confirmed, Octets, Packet, PacketHead, Plain, Slot, Slots,
 };
 
-/// Answers the confirmed packet of a header and of its blocks. `None` comes exactly where a value is not of its form, the
+/// Answers the confirmed packet (PDU) of a header and of its blocks. `None` comes exactly where a value is not of its form, the
 /// format is not 16 hex, or there are not as many blocks as the header has to follow.
 pub fn confirmed_value(head: &[u8], blocks: &[u8]) -> Option<Packet>
     ensures { result ≡ confirmed_in head.now blocks.now }
@@ -25,7 +25,7 @@ pub fn confirmed_value(head: &[u8], blocks: &[u8]) -> Option<Packet>
     Some(Packet::Confirmed(Confirmed::new(head, slots)))
 }
 
-/// Answers the packet of a header of a format, 15 or 03 hex, and of its octets before the packet CRC. `None` comes exactly
+/// Answers the packet (PDU) of a header of a format, 15 or 03 hex, and of its octets before the packet CRC. `None` comes exactly
 /// where a value is not of its form, the format is another, or there are not twelve octets for each block to follow less
 /// four, or none where there is no block to follow.
 pub fn plain_value(format: u8, head: &[u8], octets: &[u8]) -> Option<Packet>
@@ -41,7 +41,7 @@ pub fn plain_value(format: u8, head: &[u8], octets: &[u8]) -> Option<Packet>
     Some(Packet::Plain(Plain::new(head, octets)))
 }
 
-// The header that a word is read as.
+// The header of a packet (PDU) that a word is read as.
 fn head_value(word: &[u8]) -> Option<PacketHead>
     ensures { result ≡ head_in word.now }
 {

@@ -81,7 +81,7 @@ fn read_values(kind: UnitKind, values: &Values) -> Option<Unit>
     Some(Unit::new(nac, body))
 }
 
-// What a unit of a kind carries, by the values after the network access code.
+// What a unit of a kind carries, by the values after the network access code (NAC).
 fn read_body(kind: UnitKind, values: &Values) -> Option<Body>
     requires { length values.now ≡ length (keys_of kind) }
     ensures { result ≡ body_in kind (drop 1 values.now) }
@@ -102,7 +102,7 @@ fn read_body(kind: UnitKind, values: &Values) -> Option<Body>
     }
 }
 
-// The header of the values of a line.
+// The header (HDU) of the values of a line.
 fn read_header(values: &Values) -> Option<VoiceUnit>
     requires { length values.now ≡ 6 }
     ensures { result ≡ voice_in Hdu (drop 1 values.now) }
@@ -116,7 +116,7 @@ fn read_header(values: &Values) -> Option<VoiceUnit>
     )
 }
 
-// The voice with encryption sync of the values of a line.
+// The LDU2, voice with encryption sync, of the values of a line.
 fn read_ldu2(values: &Values) -> Option<VoiceUnit>
     requires { length values.now ≡ 6 }
     ensures { result ≡ voice_in Ldu2 (drop 1 values.now) }
@@ -130,14 +130,14 @@ fn read_ldu2(values: &Values) -> Option<VoiceUnit>
     )
 }
 
-// What a voice unit carries.
+// What a voice unit (HDU, LDU1, LDU2 or TDULC) carries.
 fn voice_body(voice: Option<VoiceUnit>) -> Option<Body>
     ensures { result ≡ option_map Body.Voice voice }
 {
     Some(Body::Voice(voice?))
 }
 
-// What a unit of a packet carries.
+// What a unit of a packet (PDU) carries.
 fn packet_body(packet: Option<Packet>) -> Option<Body>
     ensures { result ≡ option_map Body.Packet packet }
 {

@@ -112,7 +112,7 @@ impl<'a> Model for CallText<'a> {
 }
 
 impl<'a> CallText<'a> {
-    /// Answers a call as its text. Its network access code is below 4,096.
+    /// Answers a call as its text. Its network access code (NAC) is below 4,096.
     pub fn new(call: &'a Call) -> CallText<'a>
         requires { call.now.nac < 4096 }
         ensures { result ≡ call.now }

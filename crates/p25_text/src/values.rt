@@ -67,7 +67,7 @@ fn value_after(word: &[u8], key: UnitKey) -> Option<&[u8]>
     }
 }
 
-/// Answers the network access code that a word is. `None` comes exactly where the word is not three digits.
+/// Answers the network access code (NAC) that a word is. `None` comes exactly where the word is not three digits.
 pub fn nac_value(word: &[u8]) -> Option<u16>
     ensures value { result ≡ nac_in word.now }
     ensures fits { IfSome result (λ nac. nac < 4096) }

@@ -1,4 +1,4 @@
-//! The lines of voice units.
+//! The lines of voice units: HDU, LDU1, LDU2, TDU and TDULC.
 
 ghost use Rattle.std.specs.Prelude.{◌≡◌, ◌+◌, ◌*◌, ◌≤◌, ◌++◌, length};
 ghost use Rattle.p25_text.specs.Grammar.{text_of};
@@ -28,7 +28,7 @@ pub fn put_voice(nac: u16, unit: &VoiceUnit, out: &mut Line)
     }
 }
 
-// Appends the line of a header.
+// Appends the line of a header data unit (HDU).
 fn put_header(nac: u16, word: &HeaderWord, out: &mut Line)
     requires { length out.old + 4700 ≤ 8192 }
     ensures text { out.new ≡ out.old ++ text_of (record { nac = nac; body = Body.Voice (VoiceUnit.Header word.now) }) }
@@ -42,7 +42,7 @@ fn put_header(nac: u16, word: &HeaderWord, out: &mut Line)
     put_pair(UnitKey::Tgid, word.tgid, out);
 }
 
-// Appends the line of voice with link control.
+// Appends the line of an LDU1: voice with link control.
 fn put_ldu1(nac: u16, link: &LinkControl, low: &[u8; 2], voice: &Voice, out: &mut Line)
     requires { length out.old + 4700 ≤ 8192 }
     ensures text { out.new ≡ out.old ++ text_of (record { nac = nac; body = Body.Voice (VoiceUnit.Link1 link.now low.now voice.now) }) }
@@ -54,7 +54,7 @@ fn put_ldu1(nac: u16, link: &LinkControl, low: &[u8; 2], voice: &Voice, out: &mu
     put_frames(voice, out);
 }
 
-// Appends the line of voice with encryption sync.
+// Appends the line of an LDU2: voice with encryption sync.
 fn put_ldu2(nac: u16, sync: &EncryptionSync, low: &[u8; 2], voice: &Voice, out: &mut Line)
     requires { length out.old + 4700 ≤ 8192 }
     ensures text { out.new ≡ out.old ++ text_of (record { nac = nac; body = Body.Voice (VoiceUnit.Link2 sync.now low.now voice.now) }) }
@@ -68,7 +68,7 @@ fn put_ldu2(nac: u16, sync: &EncryptionSync, low: &[u8; 2], voice: &Voice, out: 
     put_frames(voice, out);
 }
 
-// Appends the line of a terminator.
+// Appends the line of a TDU: a terminator without link control.
 fn put_end(nac: u16, out: &mut Line)
     requires { length out.old + 4700 ≤ 8192 }
     ensures text { out.new ≡ out.old ++ text_of (record { nac = nac; body = Body.Voice VoiceUnit.End }) }
@@ -77,7 +77,7 @@ fn put_end(nac: u16, out: &mut Line)
     put_start(UnitKind::Tdu, nac, out);
 }
 
-// Appends the line of a terminator with link control.
+// Appends the line of a TDULC: a terminator with link control.
 fn put_tdulc(nac: u16, link: &LinkControl, out: &mut Line)
     requires { length out.old + 4700 ≤ 8192 }
     ensures text { out.new ≡ out.old ++ text_of (record { nac = nac; body = Body.Voice (VoiceUnit.EndLink link.now) }) }
@@ -96,7 +96,7 @@ fn put_pair(key: UnitKey, number: u16, out: &mut Line)
     put_key_value(key, &number.to_be_bytes(), out);
 }
 
-// Appends the key of voice frames and their octets.
+// Appends the key of the voice frames of an LDU1 or an LDU2, and their octets.
 fn put_frames(voice: &Voice, out: &mut Line)
     requires { length out.old + 332 ≤ 8192 }
     ensures text { out.new ≡ out.old ++ key_value_text Frames (frame_octets voice.now) }

@@ -1,4 +1,4 @@
-//! The values of voice units: their fields, read from words.
+//! The values of voice units (HDU, LDU1, LDU2, TDULC): their fields, read from words.
 
 ghost use Rattle.std.specs.Prelude.{◌≡◌, ◌+◌, ◌*◌, ◌≤◌, [], ◌∷◌, length, take, drop};
 ghost use Rattle.std.specs.Option.{option_and_then};
@@ -10,7 +10,7 @@ use super::values::octets_value;
 use p25_link::{EncryptionSync, HeaderWord, LinkControl};
 use p25_voice_units::{Voice, VoiceFrame, VoiceUnit};
 
-/// Answers the header of the values of its fields. `None` comes exactly where a value is not of its form.
+/// Answers the header (HDU) of the values of its fields. `None` comes exactly where a value is not of its form.
 pub fn header_value(
     mi: &[u8],
     mfid: &[u8],
@@ -34,7 +34,8 @@ pub fn header_value(
     }))
 }
 
-/// Answers the voice with link control of the values of its fields. `None` comes exactly where a value is not of its form.
+/// Answers the LDU1, voice with link control, of the values of its fields. `None` comes exactly where a value is not of its
+/// form.
 pub fn ldu1_value(link: &[u8], low: &[u8], voice: &[u8]) -> Option<VoiceUnit>
     ensures { result ≡ voice_in Ldu1 (link.now ∷ low.now ∷ voice.now ∷ []) }
 {
@@ -48,7 +49,7 @@ pub fn ldu1_value(link: &[u8], low: &[u8], voice: &[u8]) -> Option<VoiceUnit>
     })
 }
 
-/// Answers the voice with encryption sync of the values of its fields. `None` comes exactly where a value is not of its
+/// Answers the LDU2, voice with encryption sync, of the values of its fields. `None` comes exactly where a value is not of its
 /// form.
 pub fn ldu2_value(
     mi: &[u8],
@@ -75,7 +76,8 @@ pub fn ldu2_value(
     })
 }
 
-/// Answers the terminator with link control of the value of its field. `None` comes exactly where it is not of its form.
+/// Answers the TDULC, a terminator with link control, of the value of its field. `None` comes exactly where it is not of its
+/// form.
 pub fn tdulc_value(link: &[u8]) -> Option<VoiceUnit>
     ensures { result ≡ voice_in Tdulc (link.now ∷ []) }
 {
@@ -85,7 +87,7 @@ pub fn tdulc_value(link: &[u8]) -> Option<VoiceUnit>
     })
 }
 
-// The nine voice frames of octets.
+// The nine voice frames of an LDU1 or an LDU2, of their octets.
 fn frames(octets: &[u8; 162]) -> Voice
     requires { length octets.now ≡ 162 }
     ensures { result ≡ frames_of 9 octets.now }

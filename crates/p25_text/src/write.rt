@@ -14,7 +14,7 @@ use super::voice_texts::put_voice;
 use p25_line::Line;
 use p25_units::{Body, Unit};
 
-/// Sets `out` to the line of a unit, without the end of the line. A slot of a packet that is Bad has no text, so that the
+/// Sets `out` to the line of a unit, without the end of the line. A slot of a packet (PDU) that is Bad has no text, so that the
 /// line of a packet that is not whole is not read.
 pub fn unit_text(unit: &Unit, out: &mut Line)
     ensures { out.new ≡ text_of unit.now }
@@ -35,7 +35,7 @@ pub fn put_unit(unit: &Unit, out: &mut Line)
     }
 }
 
-/// Appends the word of a kind, and the first key with the network access code.
+/// Appends the word of a kind, and the first key with the network access code (NAC).
 pub fn put_start(kind: UnitKind, nac: u16, out: &mut Line)
     requires { length out.old + 17 ≤ 8192 }
     ensures text { out.new ≡ out.old ++ (kind_word kind ++ 32 ∷ key_text Nac ++ three_digits nac) }

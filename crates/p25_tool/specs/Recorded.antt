@@ -23,7 +23,7 @@ pub record IsRecording (arrivals : List Arrival) (octets : List ℕ) : Type 0 wh
 abbrev pub images_arrived : List Arrival → List Bool
 images_arrived arrivals = flat_map (λ arrival. image_of (frame_arrived arrival)) arrivals
 
--- the images of units that came, under another network access code, with one status symbol everywhere
+-- the images of units that came, under another network access code (NAC), with one status symbol everywhere
 abbrev pub images_bridged : ℕ → Status → List Arrival → List Bool
 images_bridged nac status arrivals = flat_map (λ arrival. image_of (bridged_frame nac status (frame_arrived arrival))) arrivals
 
@@ -67,7 +67,7 @@ RepairedIsRecorded =
     → IsRecording (map undamaged arrivals) (output_by Repair ended octets)
     × (output_by Repair true (output_by Repair ended octets) ≡ output_by Repair ended octets)
 
--- `bridge` writes their images under its network access code and with its status symbol
+-- `bridge` writes their images under its network access code (NAC) and with its status symbol
 abbrev pub BridgesUnits : Type 0
 BridgesUnits =
     (ended : Bool) (nac : ℕ) (status : Status) (arrivals : List Arrival) (octets : List ℕ) → nac < 4096 → IsRecording arrivals octets

@@ -19,7 +19,7 @@ IsUnitCommand (Bridge nac status) = Unit {0}
 IsUnitCommand command = ⊥
 
 -- what they write of a recording of units: a line for each, whole and as received; the line that counts them and no fault; their
--- images as received; and these under another network access code and with one status symbol
+-- images as received; and these under another network access code (NAC) and with one status symbol
 abbrev pub AreWrittenOf : Command → List Arrival → List ℕ → Type 0
 AreWrittenOf Show arrivals octets = octets ≡ flat_map shown (wholes_of 0 arrivals)
 AreWrittenOf Check arrivals octets = octets ≡ check_line (length arrivals) 0

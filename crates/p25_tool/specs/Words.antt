@@ -50,7 +50,7 @@ two_word_command word value =
     else if bytes_eq word (codes "sample") then sample_of (number_below 10001 value)
     else None
 
--- `bridge` with a network access code and a status symbol, where they are both
+-- `bridge` with a network access code (NAC) and a status symbol, where they are both
 abbrev pub bridge_of : Option ℕ → Option Status → Option Command
 bridge_of None status = None
 bridge_of (Some nac) None = None
@@ -68,7 +68,7 @@ command_of (first ∷ second ∷ []) = two_word_command first second
 command_of (first ∷ second ∷ third ∷ []) = three_word_command first second third
 command_of (first ∷ second ∷ third ∷ fourth ∷ others) = None
 
--- the network access code of a command is one, and its number of sample units is in its range
+-- the network access code (NAC) of a command is one, and its number of sample units is in its range
 abbrev pub IsSoundCommand : Command → Type 0
 IsSoundCommand Show = Unit {0}
 IsSoundCommand Check = Unit {0}

@@ -51,7 +51,7 @@ impl LineMachine for Build {
     }
 }
 
-// Sets `out` to the octets of a unit's image with one status symbol everywhere. No slot of a packet is Bad.
+// Sets `out` to the octets of a unit's image with one status symbol everywhere. No slot of a packet (PDU) is Bad.
 fn put_image(unit: Unit, status: Status, out: &mut Line)
     requires { IsSendableBody unit.body }
     ensures { out.new ≡ image_octets status unit }

@@ -9,7 +9,7 @@ pub enum Command {
     Check,
     /// The recording, each whole unit in it as it was sent.
     Repair,
-    /// The whole units of a recording, under another network access code and with this status symbol everywhere.
+    /// The whole units of a recording, under another network access code (NAC) and with this status symbol everywhere.
     Bridge { nac: u16, status: Status },
     /// The text of each call of a recording, one a line, and how many there are.
     Calls,
@@ -21,7 +21,7 @@ pub enum Command {
     Duplex,
     /// The steps that the lines of a script of long messages are, one or two lines a step, and a last line that counts.
     Fragments,
-    /// The recording whose levels these are, one octet each, the blocks of broken packets read again from their levels.
+    /// The recording whose levels these are, one octet each, the blocks of broken packets (PDU) read again from their levels.
     Soft,
     /// What the first sample units read as, one line. There are 1 to 10,000 of them.
     Sample { count: u64 },

@@ -57,7 +57,7 @@ pub fn written_laws()
 /// - `check`: the last line alone, which counts the units and no fault.
 /// - `repair`: the images of the units as received, end to end.
 /// - `repaired`: these are a recording of the same units without damage; repairing it again changes nothing.
-/// - `bridge`: the images of the units as received under another network access code and with one status symbol.
+/// - `bridge`: the images of the units as received under another network access code (NAC) and with one status symbol.
 pub fn recorded_laws()
     ensures recorded { UnitsAreRecorded }
     ensures show { ShowsUnits }

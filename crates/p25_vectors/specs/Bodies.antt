@@ -24,7 +24,7 @@ kinds = End ∷ Header ∷ EndLink ∷ Link1 ∷ Link2 ∷ Confirmed ∷ Plain �
 unfoldable pub kind_of : ℕ → Kind
 kind_of i = slice_index_or kinds (i % 8) End
 
--- a header word: fifteen octets of MI, MFID, ALGID, KID and TGID
+-- the header word of an HDU: fifteen octets of MI, MFID, ALGID, KID and TGID
 abbrev pub header_of : List ℕ → HeaderWord
 header_of octets = record {
   mi = take 9 octets;
@@ -34,11 +34,11 @@ header_of octets = record {
   tgid = pair_at octets 13;
 }
 
--- encryption sync: twelve octets of MI, ALGID and KID
+-- encryption sync (ES), of an LDU2: twelve octets of MI, ALGID and KID
 abbrev pub sync_of : List ℕ → EncryptionSync
 sync_of octets = record { mi = take 9 octets; algid = slice_index octets 9; kid = pair_at octets 10 }
 
--- link control: nine octets
+-- link control (LC), of an LDU1 or a TDULC: nine octets
 abbrev pub link_of : List ℕ → LinkControl
 link_of octets = record { 0 = octets }
 
@@ -46,14 +46,14 @@ link_of octets = record { 0 = octets }
 abbrev pub voice_frame_of : List ℕ → VoiceFrame
 voice_frame_of octets = record { 0 = octets }
 
--- so many voice frames
+-- so many voice frames, of an LDU1 or an LDU2
 unfoldable pub voice_drawn : ℕ → ℕ → List VoiceFrame
 voice_drawn count state = each_below count (λ i. voice_frame_of (octets_drawn 18 (state_after (18 * i) state)))
 
 abbrev pub voice_next : ℕ → Drawing (List VoiceFrame)
 voice_next count = λ state. (voice_drawn count state, state_after (18 * count) state)
 
--- the ten octets of a header of a packet: the first one, the second, 0, the LLID, the full message flag with the blocks to
+-- the ten octets of a header of a packet (PDU): the first one, the second, 0, the LLID, the full message flag with the blocks to
 -- follow, 0, the octet after the pad count, and 0
 abbrev pub head_of : ℕ → ℕ → List ℕ → ℕ → ℕ → PacketHead
 head_of first second llid blocks ninth = record { 0 = first ∷ second ∷ 0 ∷ llid ++ (0x80 + blocks) ∷ 0 ∷ ninth ∷ 0 ∷ [] }
@@ -69,7 +69,7 @@ blocks_next = λ state. (blocks_drawn state, state_after 1 state)
 abbrev pub block_of : ℕ → List ℕ → Slot
 block_of serial octets = Good (record { serial = serial; octets = octets })
 
--- so many blocks of a confirmed packet
+-- so many blocks of a confirmed packet (PDU)
 unfoldable pub slots_drawn : ℕ → ℕ → List Slot
 slots_drawn blocks state = each_below blocks (λ j. block_of j (octets_drawn 16 (state_after (16 * j) state)))
 

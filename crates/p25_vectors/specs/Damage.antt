@@ -1,5 +1,5 @@
--- The damage of a sample unit: how many of the first bits of its sync, of its identifier and of each of its code words and
--- blocks are inverted, as the draws after a state say.
+-- The damage of a sample unit: how many of the first bits of its sync, of its network identifier (NID) and of each of its code
+-- words and blocks are inverted, as the draws after a state say.
 use Rattle.std.specs.Prelude.{ℕ, zero, suc, ◌+◌, ◌-◌, ◌%◌, if◌then◌else◌, nat_lt, Bool, List, [], ◌∷◌, ◌++◌}
 use Rattle.p25_bits.specs.Bits.{flipped}
 use Rattle.p25_bits.specs.Numbers.{each_below}
@@ -36,7 +36,7 @@ field_counts count size radius most state = word_counts count size radius (draw 
 abbrev pub field_draws : ℕ → ℕ → ℕ → ℕ
 field_draws count most state = 1 + (count - draw 0 state % (most + 1))
 
--- the 24 Hamming words and the two low speed words of a unit with voice
+-- the 24 Hamming words of an LDU1 or an LDU2, and the two words of its low speed data (LSD)
 abbrev pub link_counts : ℕ → ℕ → List ℕ
 link_counts most state = field_counts 24 10 1 most state ++ word_counts 2 16 2 0 (state_after (field_draws 24 most state) state)
 
@@ -60,8 +60,8 @@ body_damage_draws (Voice End) state = 0
 body_damage_draws (Voice (EndLink link)) state = field_draws 12 3 state
 body_damage_draws (Packet packet) state = 1 + head_blocks (packet_head packet)
 
--- the words of a unit without status symbols that are damaged: its sync, the first 63 bits of its identifier, and its code
--- words and blocks
+-- the words of a unit without status symbols that are damaged: its sync, the first 63 bits of its network identifier (NID), and
+-- its code words and blocks
 unfoldable pub damaged_words : Body → List (ℕ × ℕ)
 damaged_words body = (0, 48) ∷ (48, 63) ∷ body_looked body
 

@@ -19,7 +19,7 @@ frame_of nac status body =
     let unit : UnitParts = record { nac = nac; body = body } in
     record { unit = unit; statuses = replicate (body_length body / 70) status }
 
--- the frame of a kind: its NAC, its status symbol, and what it carries
+-- the frame of a kind: its network access code (NAC), its status symbol, and what it carries
 unfoldable pub frame_next : Kind → Drawing Frame
 frame_next kind =
     and_then number_next (λ nac. and_then number_next (λ symbol. and_then (body_next kind) (λ body.

@@ -25,6 +25,7 @@ fn nine<const N: usize>(octets: &[u8; N]) -> [u8; 9]
     first
 }
 
+// Draws the header word of an HDU.
 fn draw_header(draws: &mut Draws) -> HeaderWord
     ensures word { result ≡ header_of (octets_drawn 15 draws.old) }
     ensures state { draws.new ≡ state_after 15 draws.old }
@@ -39,6 +40,7 @@ fn draw_header(draws: &mut Draws) -> HeaderWord
     }
 }
 
+// Draws link control (LC), of an LDU1 or a TDULC.
 fn draw_link(draws: &mut Draws) -> LinkControl
     ensures link { result ≡ link_of (octets_drawn 9 draws.old) }
     ensures state { draws.new ≡ state_after 9 draws.old }
@@ -46,6 +48,7 @@ fn draw_link(draws: &mut Draws) -> LinkControl
     LinkControl(draws.octets())
 }
 
+// Draws encryption sync (ES), of an LDU2.
 fn draw_sync(draws: &mut Draws) -> EncryptionSync
     ensures sync { result ≡ sync_of (octets_drawn 12 draws.old) }
     ensures state { draws.new ≡ state_after 12 draws.old }
@@ -58,6 +61,7 @@ fn draw_sync(draws: &mut Draws) -> EncryptionSync
     }
 }
 
+// Draws the voice frames of an LDU1 or an LDU2.
 fn draw_voice(draws: &mut Draws) -> Voice
     ensures voice { result ≡ voice_drawn 9 draws.old }
     ensures state { draws.new ≡ state_after 162 draws.old }
@@ -78,7 +82,7 @@ fn draw_blocks(draws: &mut Draws) -> u8
     1 + draws.below(4) as u8
 }
 
-// The header of a packet, with the full message flag.
+// The header of a packet (PDU), with the full message flag.
 fn head_with(first: u8, second: u8, llid: [u8; 3], blocks: u8, ninth: u8) -> PacketHead
     requires { blocks < 128 }
     ensures { result ≡ head_of first second llid blocks ninth }

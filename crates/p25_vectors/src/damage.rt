@@ -130,7 +130,7 @@ fn damage_field(
     damage_words(places, words, whole, draws, bits)
 }
 
-// Damages the inner words and the low speed words of an LDU.
+// Damages the inner words of an LDU1 or an LDU2, and the words of its low speed data (LSD).
 fn damage_link(most: usize, draws: &mut Draws, bits: &mut BitBuf) -> u32
     requires most { most ≤ 24 }
     requires long { length bits.old ≡ 1680 }
@@ -145,7 +145,7 @@ fn damage_link(most: usize, draws: &mut Draws, bits: &mut BitBuf) -> u32
     field + damage_words(&LOW_WORDS, LOW_SPEED, 0, draws, bits)
 }
 
-// Damages the words of a voice unit after its front.
+// Damages the words of a voice unit after its front: of an HDU, a TDULC, an LDU1 or an LDU2. A TDU has none.
 fn damage_voice(voice: &VoiceUnit, draws: &mut Draws, bits: &mut BitBuf) -> u32
     requires { length bits.old ≡ body_length (voice_in voice.now) }
     ensures list { bits.new ≡ damaged (voice_looked voice.now) (body_counts (voice_in voice.now) draws.old) bits.old }
@@ -164,7 +164,7 @@ fn damage_voice(voice: &VoiceUnit, draws: &mut Draws, bits: &mut BitBuf) -> u32
     }
 }
 
-// Inverts the first bits of each of so many blocks of a packet after its header block, as draws say, and answers how many.
+// Inverts the first bits of each of so many blocks of a packet (PDU) after its header block, as draws say, and answers how many.
 fn damage_blocks(count: usize, radius: usize, draws: &mut Draws, bits: &mut BitBuf) -> u32
     requires few { count < 128 }
     requires radius { radius ≤ 2 }
@@ -182,7 +182,7 @@ fn damage_blocks(count: usize, radius: usize, draws: &mut Draws, bits: &mut BitB
     flips
 }
 
-// Damages all blocks of a packet.
+// Damages all blocks of a packet (PDU).
 fn damage_packet(packet: &Packet, draws: &mut Draws, bits: &mut BitBuf) -> u32
     requires { length bits.old ≡ body_length (packet_in packet.now) }
     ensures list { bits.new ≡ damaged (packet_looked (head_blocks (packet_head packet.now)))
@@ -209,7 +209,7 @@ fn radius_of(packet: &Packet) -> usize
 }
 
 // Inverts bits of a unit without status symbols, as draws say, and answers how many: the first ones of its sync, of its
-// identifier, and of each of its code words and blocks.
+// network identifier (NID), and of each of its code words and blocks.
 pub(crate) fn damage(body: &Body, draws: &mut Draws, bits: &mut BitBuf) -> u32
     requires { length bits.old ≡ body_length body.now }
     ensures list { bits.new ≡ damaged (damaged_words body.now) (damage_counts body.now draws.old) bits.old }

@@ -6,21 +6,21 @@ ghost use Rattle.p25_vectors.specs.Bodies.{kind_of, kinds};
 // What a sample unit is.
 #[derive(Clone, Copy, Debug, PartialEq, Eq)]
 pub(crate) enum Kind {
-    // A terminator.
+    // A TDU: a terminator without link control.
     End,
-    // A header.
+    // A header data unit (HDU).
     Header,
-    // A terminator with link control.
+    // A TDULC: a terminator with link control.
     EndLink,
-    // Voice with link control.
+    // An LDU1: voice with link control.
     Link1,
-    // Voice with encryption sync.
+    // An LDU2: voice with encryption sync.
     Link2,
-    // A confirmed packet.
+    // A confirmed packet (PDU).
     Confirmed,
-    // A packet that is not confirmed.
+    // A packet (PDU) that is not confirmed.
     Plain,
-    // A response.
+    // A response to a packet (PDU).
     Response,
 }
 

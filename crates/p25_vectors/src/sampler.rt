@@ -33,14 +33,14 @@ pub struct SampleUnit {
 ///
 /// - A draw replaces a state below 2^32, which starts at 0, by 1664525 times it plus 1013904223, modulo 2^32; the number drawn is
 ///   the new state by 65,536, and an octet is a number drawn modulo 256.
-/// - Of each unit are drawn, in this order: its network access code, modulo 4,096; its status symbol, modulo 4, the same
-///   everywhere; its fields, octet by octet in the order of sending, of a packet with blocks first their number, 1 and a
+/// - Of each unit are drawn, in this order: its network access code (NAC), modulo 4,096; its status symbol, modulo 4, the same
+///   everywhere; its fields, octet by octet in the order of sending, of a packet (PDU) with blocks first their number, 1 and a
 ///   number modulo 4, and then the LLID; and its damage.
-/// - The damage is how many first bits are inverted: of the sync, modulo 5; of the identifier, modulo 12; then how many inner
-///   words of the coded field are inverted whole, modulo 9, 4, 7 and 5 of a header, a terminator with link control, voice with
-///   link control and voice with encryption sync; then of each later inner word, modulo 4 in a Golay word and 2 in a Hamming
-///   word; then of each low speed word, modulo 3; of the header block and each half-rate block of a packet, modulo 3, and of each
-///   three-quarter-rate block, modulo 2.
+/// - The damage is how many first bits are inverted: of the sync, modulo 5; of the network identifier (NID), modulo 12; then how
+///   many inner words of the coded field are inverted whole, modulo 9, 4, 7 and 5 of a header (HDU), a terminator with link
+///   control (TDULC), voice with link control (LDU1) and voice with encryption sync (LDU2); then of each later inner word, modulo
+///   4 in a Golay word and 2 in a Hamming word; then of each word of low speed data (LSD), modulo 3; of the header block and each
+///   half-rate block of a packet, modulo 3, and of each three-quarter-rate block, modulo 2.
 #[derive(Clone, Debug, Drop)]
 pub struct Sampler {
     draws: Draws,

@@ -12,7 +12,7 @@ fn first_unit(rt: HostRuntime) {
     assert_eq!(rt; (bits.len(), unit.flips), (144, 8));
 }
 
-// The first unit, and what is counted of the first thousand.
+// The first unit, a TDU, and what is counted of the first thousand.
 #[test]
 fn reports(rt: HostRuntime) {
     for (units, flips) in [(1, 8), (1_000, 39_735)] {

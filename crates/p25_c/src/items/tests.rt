@@ -2,7 +2,7 @@
 
 use super::*;
 
-// A gap of 24 bits, a terminator with one wrong bit, a terminator whose link control fails, and the first ten octets of another.
+// A gap of 24 bits, a TDU with one wrong bit, a TDULC whose link control (LC) fails, and the first ten octets of another TDU.
 const RECORDING: [u8; 85] = [
     0x00, 0x00, 0x00, 0xD5, 0x75, 0xF5, 0xFF, 0x77, 0xFF, 0x29, 0x33, 0x38, 0x5D, 0xDC, 0xA3, 0x3B,
     0x5B, 0x80, 0x00, 0x00, 0x01, 0x55, 0x75, 0xF5, 0xFF, 0x77, 0xFF, 0x29, 0x3F, 0xE2, 0x11, 0xF3,
@@ -12,7 +12,7 @@ const RECORDING: [u8; 85] = [
     0xFF, 0x29, 0x33, 0x38, 0x5D,
 ];
 
-// The items of the recording: place, bits, fixes, access code, identifier, kind and text.
+// The items of the recording: place, bits, fixes, network access code (NAC), data unit identifier (DUID), kind and text.
 const ITEMS: [(u64, u32, u32, u16, u8, u8, &'static [u8]); 4] = [
     (0, 24, 0, 0, 0, 4, b"gap at=0 bits=24"),
     (

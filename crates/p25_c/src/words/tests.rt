@@ -1,4 +1,4 @@
-//! Words and identifiers that other programs encoded and read.
+//! Words and network identifiers (NID) that other programs encoded and read.
 
 use super::*;
 

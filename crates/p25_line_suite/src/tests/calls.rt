@@ -5,7 +5,7 @@ use p25_line::Line;
 use p25_text::{CallText, call_text};
 use std::test::Fail;
 
-// A call of each end, and its text.
+// A call of each end (with a TDU, with a TDULC, and open), and its text.
 const TEXTS: [(Call, &[u8]); 3] = [
     (
         Call {

@@ -7,6 +7,7 @@ use p25_units::Body;
 use p25_voice_units::VoiceUnit;
 use std::test::Fail;
 
+// The fields of an HDU.
 #[test]
 fn fields_of_a_header(rt: HostRuntime) -> Result<(), Fail> {
     let unit = read_line(b"hdu nac=123 mi=0102030405060708ff mfid=45 algid=67 kid=89ab tgid=cdef")?;
@@ -20,6 +21,7 @@ fn fields_of_a_header(rt: HostRuntime) -> Result<(), Fail> {
     Ok(())
 }
 
+// The line of an LDU2.
 const LINK2: [(&[u8], usize); 5] = [
     (b"ldu2 nac=123 mi=0102030405060708ff algid=67 ", 1),
     (b"kid=89ab lsd=1234 voice=", 1),
@@ -28,6 +30,7 @@ const LINK2: [(&[u8], usize); 5] = [
     (b"22", 126),
 ];
 
+// The encryption sync (ES), the low speed data (LSD) and the voice frames of an LDU2.
 #[test]
 fn fields_of_voice(rt: HostRuntime) -> Result<(), Fail> {
     let unit = read_line(repeated(&LINK2).octets())?;
@@ -43,6 +46,7 @@ fn fields_of_voice(rt: HostRuntime) -> Result<(), Fail> {
     Ok(())
 }
 
+// The line of a confirmed packet (PDU).
 const CONFIRMED: [(&[u8], usize); 3] = [
     (b"confirmed nac=293 head=56c00000000182000800 ", 1),
     (b"blocks=00:00000000000000000000000000000000,", 1),

@@ -30,7 +30,7 @@ fn item_is_shown(rt: HostRuntime) -> Result<(), Fail> {
     Ok(())
 }
 
-// Whether no slot of a packet is Bad.
+// Whether no slot of a packet (PDU) is Bad.
 #[tactic(auto, unfolding(p25_units::specs::Units::IsWholeBody))]
 fn is_whole_body(body: &Body) -> bool
     ensures { IsTrue result → IsWholeBody body.now }
@@ -64,7 +64,8 @@ fn whole(unit: Unit) -> Option<Item>
     })
 }
 
-// The text of a whole unit tells its place, length, fixes and status symbols before its line.
+// The text of a whole unit, here of a TDU, a TDULC and packets (PDU), tells its place, length, fixes and status symbols before its
+// line.
 const WHOLE: [(&[u8], &[u8]); 4] = [
     (
         b"tdu nac=000",
@@ -93,6 +94,7 @@ fn whole_items(rt: HostRuntime) -> Result<(), Fail> {
     Ok(())
 }
 
+// The name of each field, as `nid` of the network identifier (NID).
 const FIELDS: [(Field, &[u8]); 14] = [
     (Field::Sync, b"nounit at=7 field=sync"),
     (Field::Nid, b"nounit at=7 field=nid"),

@@ -37,7 +37,7 @@ fn unit_is_parsed_and_shown(rt: HostRuntime) -> Result<(), Fail> {
     Ok(())
 }
 
-// Lines of each kind, of zeros and of other digits.
+// Lines of a TDU, an HDU, a TDULC and packets (PDU), of zeros and of other digits.
 const SHORT: [&[u8]; 10] = [
     b"tdu nac=29a",
     b"hdu nac=000 mi=000000000000000000 mfid=00 algid=00 kid=0000 tgid=0000",
@@ -59,7 +59,7 @@ fn short_lines(rt: HostRuntime) -> Result<(), Fail> {
     Ok(())
 }
 
-// Lines of voice, and packets of 127 blocks, as many of their bits ones as may be.
+// Lines of voice (LDU1 and LDU2), and packets (PDU) of 127 blocks, as many of their bits ones as may be.
 const LONG: [&[(&[u8], usize)]; 6] = [
     &[
         (b"ldu1 nac=fff lc=ffffffffffffffffff lsd=ffff voice=", 1),

@@ -41,8 +41,8 @@ fn first_faults(rt: HostRuntime) {
     }
 }
 
-// A value of a header has as many digits as its key asks for. A packet's format is that of its kind, and there are as many
-// blocks or octets as its header asks for.
+// A value of a header (HDU) has as many digits as its key asks for. The format of a packet (PDU) is that of its kind, and there
+// are as many blocks or octets as its header asks for.
 const VALUES: [&[u8]; 28] = [
     b"hdu nac=000 mi=0 mfid=00 algid=00 kid=0000 tgid=0000",
     b"hdu nac=000 mi=000000000000000000 mfid=000 algid=00 kid=0000 tgid=0000",
@@ -81,7 +81,7 @@ fn refused_values(rt: HostRuntime) {
     }
 }
 
-// A value of voice has as many digits as its key asks for, and so has that of a terminator with link control.
+// A value of voice (LDU1) has as many digits as its key asks for, and so has that of a terminator with link control (TDULC).
 const VOICE: [&[(&[u8], usize)]; 5] = [
     &[(b"tdulc nac=000 lc=", 1), (b"0", 17)],
     &[

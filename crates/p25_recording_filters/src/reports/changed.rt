@@ -17,7 +17,7 @@ use std::marker::Model;
 pub enum Change {
     /// Each whole unit as it was sent, and all other bits as they are.
     Repaired,
-    /// The whole units alone, with another network access code and one status symbol everywhere.
+    /// The whole units alone, with another network access code (NAC) and one status symbol everywhere.
     Bridged { nac: u16, status: Status },
 }
 
@@ -42,7 +42,7 @@ impl Model for Changed {
 }
 
 impl Changed {
-    /// Answers the report before the first item. A network access code is below 4096.
+    /// Answers the report before the first item. A network access code (NAC) is below 4096.
     pub fn new(change: Change) -> Changed
         requires { IsSoundChange change }
         ensures { result ≡ record { change = change; kept = [] } }

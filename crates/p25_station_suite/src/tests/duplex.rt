@@ -28,8 +28,8 @@ const B_RESENT: &[u8] =
     b timeout sent ns=0 try=12\nb timeout sent ns=0 try=13\nb timeout sent ns=0 try=14\n\
     b timeout sent ns=0 try=15\nb timeout sent ns=0 try=16\n";
 
-// The places where the identifiers of the access codes 293 and 292 hex differ, and those where the first transmissions of 6162 and of
-// 6163 hex do, stand in the rows.
+// The places where the network identifiers (NID) of the network access codes (NAC) 293 and 292 hex differ, and those where the first
+// transmissions of 6162 and of 6163 hex do, stand in the rows.
 const ROWS: [Row; 9] = [
     (
         "an empty script",

@@ -1,4 +1,4 @@
-//! The rules of both stations as tables, with blocks computed apart from this code.
+//! The rules of both stations as tables of packets (PDU), with blocks computed apart from this code.
 
 ghost use Rattle.std.specs.Prelude.{◌≤◌, length};
 
@@ -17,7 +17,7 @@ const BLOCK: [u8; 16] = [
 // What comes of a call: a word, and the numbers that go with it.
 type Told = (&'static str, u8, u8);
 
-// What a sender makes of a packet that it hears.
+// What a sender makes of a packet (PDU) that it hears.
 fn told(sender: &mut Sender, packet: &Packet) -> Told {
     match sender.hear(packet) {
         SenderHeard::Acknowledged { number } => ("acknowledged", number, 0),
@@ -84,7 +84,7 @@ fn answers_to_responses(rt: HostRuntime) {
     }
 }
 
-// A packet that is not confirmed, if it has the octets of a response with so many blocks.
+// A packet (PDU) that is not confirmed, if it has the octets of a response with so many blocks.
 fn plain(head: PacketHead, octets: Octets) -> Option<Packet> {
     if head.format() != 0x03 || octets.len() + 4 != 12 * head.blocks() as usize {
         return None;
@@ -206,7 +206,7 @@ fn sixteen_transmissions(rt: HostRuntime) {
     }
 }
 
-// The packet of a message that is offered, and its number.
+// The packet (PDU) of a message that is offered, and its number.
 fn offered(sender: &mut Sender) -> Option<(Packet, u8)> {
     match sender.offer(&Message::new(b"ab")?) {
         Offer::Taken { number, packet, .. } => Some((packet, number)),
@@ -275,7 +275,7 @@ fn slots(behind: Behind) -> Slots
     slots
 }
 
-// A confirmed packet, if the header is one of so many blocks.
+// A confirmed packet (PDU), if the header is one of so many blocks.
 fn packet(head: PacketHead, slots: Slots) -> Option<Packet> {
     if head.format() != 0x16 || head.blocks() as usize != slots.len() {
         return None;
@@ -283,7 +283,7 @@ fn packet(head: PacketHead, slots: Slots) -> Option<Packet> {
     Some(Packet::Confirmed(Confirmed::new(head, slots)))
 }
 
-// A packet of data by its LLID, the full message flag, its pad, its number and what stands after its header.
+// A packet (PDU) of data by its LLID, the full message flag, its pad, its number and what stands after its header.
 type Data = (u32, bool, u8, u8, Behind);
 
 fn data(row: Data) -> Option<Packet> {
@@ -298,7 +298,7 @@ fn data(row: Data) -> Option<Packet> {
 
 const WHOLE: Data = (LLID, true, 10, 0, Behind::Block(0, 0x61));
 
-// What a receiver makes of a packet before its first message.
+// What a receiver makes of a packet (PDU) before its first message.
 const PACKETS: [(Data, &str); 9] = [
     ((LLID, true, 10, 7, Behind::Block(0, 0x61)), "again"),
     ((LLID, true, 10, 1, Behind::Block(0, 0x61)), "refused order"),

@@ -1,58 +1,14 @@
-//! A call of four voice units: built, shown, counted, repaired, bridged and grouped; each read and each write fails in turn, and
-//! it is cut off after each of its octets.
+//! A call of four voice units (HDU, LDU1, LDU2 and TDULC): built, shown, counted, repaired, bridged and grouped; each read and each
+//! write fails in turn, and it is cut off after each of its octets.
 
 ghost use Rattle.std.specs.Prelude.{◌≤◌, ◌<◌, length};
 
-use super::{Call, build, calm, ends, put_named, writes};
+use super::{Call, build, calm, ends, lines_of, put_named, writes};
 use p25_line::Line;
 use p25_tool::Outcome;
 
-// A unit of the call: its line, whether nine voice frames of zeros end it, and what `show` says before it.
-pub type Part = (&'static [u8], bool, &'static [u8]);
-
-pub const PARTS: [Part; 4] = [
-    (
-        b"hdu nac=293 mi=000000000000000000 mfid=00 algid=80 kid=0000 tgid=0001",
-        false,
-        b"unit at=0 bits=792 fix=0 status=11111111111 ",
-    ),
-    (
-        b"ldu1 nac=293 lc=000000000001000001 lsd=0000 voice=",
-        true,
-        b"unit at=792 bits=1728 fix=0 status=111111111111111111111111 ",
-    ),
-    (
-        b"ldu2 nac=293 mi=000000000000000000 algid=80 kid=0000 lsd=0000 voice=",
-        true,
-        b"unit at=2520 bits=1728 fix=0 status=111111111111111111111111 ",
-    ),
-    (
-        b"tdulc nac=293 lc=000000000001000001",
-        false,
-        b"unit at=4248 bits=432 fix=0 status=111111 ",
-    ),
-];
-
 // How many octets the first units of the call have, none of them and all.
 const ENDS: [u16; 5] = [0, 99, 315, 531, 585];
-
-// The lines of the first units, as they are built from or as they are shown.
-pub fn lines_of(count: usize, shown: bool) -> Line {
-    let mut text = Line::new();
-    for (line, voice, prefix) in PARTS.iter().take(count) {
-        if text.len() <= 4_000 && line.len() <= 200 && prefix.len() <= 200 {
-            if shown {
-                text.put(prefix);
-            }
-            text.put(line);
-            if *voice {
-                text.put(&[b'0'; 324]);
-            }
-            text.put(b"\n");
-        }
-    }
-    text
-}
 
 // How many units of the call are whole in its first octets.
 fn whole_in(octets: usize) -> usize {

@@ -1,20 +1,25 @@
-//! Drawn units: a line of a drawn kind with drawn values, its image, and that image with wrong bits at drawn places, as few as the
-//! codes of the unit correct.
+//! Drawn units (HDU, LDU1, LDU2, TDU, TDULC and PDU): a line of a drawn kind with drawn values, its image, and that image with wrong
+//! bits at drawn places, as few as the codes of the unit correct. Each kind after noise, and 200 units end to end, are shown and
+//! repaired as they were sent.
 
 ghost use Rattle.std.specs.Prelude.{◌≤◌, ◌<◌, length};
 
-use super::{build, change_bit, put_named};
+use super::{build, change_bit, put_named, put_short, words_of, writes};
+use p25_bits::BitBuf;
+use p25_io::{Sink, SliceSink, SteadySource};
 use p25_line::Line;
+use p25_tool::{Outcome, run};
 use std::alloc::Global;
 
 // Words of a unit: the first place, how far the next is, how many there are, how many bits each has, how many of these may be
 // wrong, and in how many of the words any of them may be. Places count the bits of a unit without its status symbols.
-pub type Damage = (u16, u16, u16, u16, u16, u16);
+type Damage = (u16, u16, u16, u16, u16, u16);
 
 // A kind of unit: its line with a question mark for each drawn digit, whether the digits of nine voice frames end it, and what
-// may be wrong after its identifier.
-pub type Kind = (&'static [u8], bool, &'static [Damage]);
+// may be wrong after its network identifier (NID).
+type Kind = (&'static [u8], bool, &'static [Damage]);
 
+// What may be wrong in an LDU1 after its front.
 const LINK_1: [Damage; 7] = [
     (400, 10, 4, 10, 1, 1),
     (584, 10, 4, 10, 1, 1),
@@ -25,6 +30,7 @@ const LINK_1: [Damage; 7] = [
     (1504, 16, 2, 16, 2, 0),
 ];
 
+// What may be wrong in an LDU2 after its front.
 const LINK_2: [Damage; 7] = [
     (400, 10, 4, 10, 1, 2),
     (584, 10, 4, 10, 1, 0),
@@ -35,7 +41,7 @@ const LINK_2: [Damage; 7] = [
     (1504, 16, 2, 16, 2, 0),
 ];
 
-pub const KINDS: [Kind; 8] = [
+const KINDS: [Kind; 8] = [
     (
         b"hdu nac=??? mi=?????????????????? mfid=?? algid=?? kid=???? tgid=????",
         false,
@@ -74,22 +80,22 @@ pub const KINDS: [Kind; 8] = [
     ),
 ];
 
-// The sync and the identifier, of which the last bit is free.
+// The sync and the network identifier (NID), of which the last bit is free.
 const FRONT: [Damage; 2] = [(0, 0, 1, 48, 4, 0), (48, 0, 1, 63, 11, 0)];
 
 // Numbers that are drawn: a linear congruence of 64 bits, of which the upper ones are given.
 #[derive(Drop)]
-pub struct Draw {
+struct Draw {
     state: u64,
 }
 
 impl Draw {
-    pub fn new(seed: u64) -> Draw {
+    fn new(seed: u64) -> Draw {
         Draw { state: seed }
     }
 
     // A number below a bound.
-    pub fn below(&mut self, bound: u64) -> u64
+    fn below(&mut self, bound: u64) -> u64
         requires { 0 < bound }
         ensures { result < bound }
     {
@@ -104,26 +110,26 @@ impl Draw {
 // A drawn unit: its line, its status symbol, its image and that image with wrong bits, how many octets these have, and how many
 // bits are wrong.
 #[derive(Drop)]
-pub struct Drawn {
-    pub line: Line,
-    pub symbol: u8,
-    pub sent: [u8; 256],
-    pub came: [u8; 256],
-    pub size: usize,
-    pub wrong: u64,
+struct Drawn {
+    line: Line,
+    symbol: u8,
+    sent: [u8; 256],
+    came: [u8; 256],
+    size: usize,
+    wrong: u64,
 }
 
 impl Drawn {
-    pub fn sent(&self) -> &[u8] {
+    fn sent(&self) -> &[u8] {
         self.sent.get(..self.size).unwrap_or(&[])
     }
 
-    pub fn came(&self) -> &[u8] {
+    fn came(&self) -> &[u8] {
         self.came.get(..self.size).unwrap_or(&[])
     }
 
     // What `show` writes of the unit at a place, with so many fixes.
-    pub fn shown(&self, place: u64, fixes: u64) -> Line {
+    fn shown(&self, place: u64, fixes: u64) -> Line {
         let mut text = Line::new();
         put_named(&mut text, b"unit at=", place);
         put_named(&mut text, b" bits=", 8 * self.size.min(256) as u64);
@@ -136,13 +142,6 @@ impl Drawn {
         put_short(&mut text, self.line.octets());
         put_short(&mut text, b"\n");
         text
-    }
-}
-
-// Puts a text after another, where both are short.
-pub fn put_short(text: &mut Line, more: &[u8]) {
-    if text.len() <= 4_000 && more.len() <= 4_000 {
-        text.put(more);
     }
 }
 
@@ -216,9 +215,9 @@ fn damage_words(unit: &mut [u8], words: &Damage, full: bool, draw: &mut Draw) ->
     all
 }
 
-// A unit of a kind, with as many wrong bits as may be in its sync, its identifier and its words, or with drawn numbers of them.
-// The last bit of the identifier is wrong.
-pub fn draw_unit(alloc: Global, kind: &Kind, full: bool, draw: &mut Draw) -> Drawn {
+// A unit of a kind, with as many wrong bits as may be in its sync, its network identifier (NID) and its words, or with drawn
+// numbers of them. The last bit of the identifier is wrong.
+fn draw_unit(alloc: Global, kind: &Kind, full: bool, draw: &mut Draw) -> Drawn {
     let line = line_of(kind, draw);
     let symbol = b'0' + draw.below(4) as u8;
     let mut sent = [0; 256];
@@ -236,5 +235,117 @@ pub fn draw_unit(alloc: Global, kind: &Kind, full: bool, draw: &mut Draw) -> Dra
         came,
         size,
         wrong,
+    }
+}
+
+// Puts so many bits after others, where these are few.
+fn put_bits(bits: &mut BitBuf, bit: bool, count: u32) {
+    for _ in 0..count {
+        if bits.len() < 4_000 {
+            bits.push(bit);
+        }
+    }
+}
+
+// Octets after so many bits that are 1, with zeros after them up to a whole octet.
+fn behind(noise: u32, octets: &[u8], out: &mut [u8; 257])
+    requires { noise < 8 }
+{
+    let mut bits = BitBuf::new();
+    put_bits(&mut bits, true, noise);
+    for octet in octets {
+        if bits.len() < 4_000 {
+            bits.put_field(u64::from(*octet), 8);
+        }
+    }
+    put_bits(&mut bits, false, 8 - noise);
+    for (i, octet) in out.iter_mut().enumerate() {
+        if 8 * i + 8 <= bits.len() {
+            *octet = bits.field(8 * i, 8) as u8;
+        }
+    }
+}
+
+// What `show` writes of a unit after noise.
+fn shown_behind(noise: u32, unit: &Drawn, fixes: u64) -> Line
+    requires { noise < 8 }
+{
+    let size = unit.size.min(256) as u64;
+    let mut text = Line::new();
+    put_named(&mut text, b"gap at=0 bits=", u64::from(noise));
+    put_short(&mut text, b"\n");
+    put_short(&mut text, unit.shown(u64::from(noise), fixes).octets());
+    put_named(&mut text, b"gap at=", u64::from(noise) + 8 * size);
+    put_named(&mut text, b" bits=", u64::from(8 - noise));
+    put_short(&mut text, b"\n");
+    text
+}
+
+// Whether a unit after noise is shown and repaired, and then shown with no fixes.
+fn is_found(alloc: Global, noise: u32, unit: &Drawn) -> bool
+    requires { noise < 8 }
+{
+    let mut came = [0; 257];
+    let mut sent = [0; 257];
+    behind(noise, unit.came(), &mut came);
+    behind(noise, unit.sent(), &mut sent);
+    let size = unit.size.min(256) + 1;
+    let damaged = shown_behind(noise, unit, unit.wrong);
+    let undamaged = shown_behind(noise, unit, 0);
+    writes(alloc, &[b"show"], &came[..size], damaged.octets())
+        && writes(alloc, &[b"repair"], &came[..size], &sent[..size])
+        && writes(alloc, &[b"show"], &sent[..size], undamaged.octets())
+}
+
+#[test]
+fn each_kind_at_its_radius_behind_noise(rt: HostRuntime) {
+    let mut draw = Draw::new(25);
+    for kind in KINDS {
+        for noise in 1..8_u32 {
+            let unit = draw_unit(rt.alloc(), &kind, true, &mut draw);
+            assert!(rt; unit.size > 0);
+            assert!(rt; is_found(rt.alloc(), noise, &unit), "{noise}");
+        }
+    }
+}
+
+// Whether a command is done and writes such octets.
+fn gives(alloc: Global, word: &[u8], input: &[u8], output: &[u8]) -> bool {
+    let mut source = SteadySource::new(input, 4_096);
+    let mut room = [0; 65_536];
+    let mut sink = SliceSink::new(&mut room, &[]);
+    run(alloc, &words_of(&[word]), &mut source, &mut sink) == Outcome::Done
+        && sink.written() == output
+}
+
+// Whether drawn units of all kinds, end to end, each with wrong bits at drawn places, are shown and repaired as they were sent.
+fn all_read_back(alloc: Global, seed: u64, count: usize) -> bool {
+    let mut draw = Draw::new(seed);
+    let (mut sent_room, mut came_room, mut text_room) = ([0; 32_768], [0; 32_768], [0; 65_536]);
+    let mut sent = SliceSink::new(&mut sent_room, &[]);
+    let mut came = SliceSink::new(&mut came_room, &[]);
+    let mut text = SliceSink::new(&mut text_room, &[]);
+    let (mut fits, mut place) = (true, 0_u64);
+    for _ in 0..count {
+        let kind = KINDS
+            .get(draw.below(8) as usize)
+            .copied()
+            .unwrap_or(KINDS[0]);
+        let unit = draw_unit(alloc, &kind, false, &mut draw);
+        fits = fits
+            && unit.size > 0
+            && text.write(unit.shown(place, unit.wrong).octets()).is_ok()
+            && sent.write(unit.sent()).is_ok()
+            && came.write(unit.came()).is_ok();
+        place = place.saturating_add(8 * unit.size.min(256) as u64);
+    }
+    fits && gives(alloc, b"show", came.written(), text.written())
+        && gives(alloc, b"repair", came.written(), sent.written())
+}
+
+#[test]
+fn two_hundred_drawn_units_are_read_back(rt: HostRuntime) {
+    for seed in [1, 2, 3, 293, 4_095] {
+        assert!(rt; all_read_back(rt.alloc(), seed, 200), "{seed}");
     }
 }

@@ -8,7 +8,7 @@ use p25_line::Line;
 use p25_tool::{Outcome, run};
 use std::alloc::Global;
 
-// Three terminators, with 16 bits between the first two.
+// Three terminators (TDU), with 16 bits between the first two.
 const RECORDING: &[u8; 56] =
     b"\x55\x75\xF5\xFF\x77\xFF\x00\x03\x35\x93\x0B\xDD\x3B\x2B\x00\x00\x00\x01\x00\x00\
     \x55\x75\xF5\xFF\x77\xFF\x00\x03\x35\x93\x0B\xDD\x3B\x2B\x00\x00\x00\x01\

@@ -1,4 +1,5 @@
-//! Packets: built from a line, their blocks damaged or replaced, shown in pieces of 1, of 2, of 7 and of all octets, and repaired.
+//! Packets (PDU): built from a line, their blocks damaged or replaced, shown in pieces of 1, of 2, of 7 and of all octets, and
+//! repaired.
 
 ghost use Rattle.std.specs.Prelude.{◌<◌};
 
@@ -17,7 +18,7 @@ enum Change {
 
 use Change::{Inverted, Zeroed};
 
-// A packet: what its row shows, its line, what becomes of its bits, what `show` writes, and whether the line follows that,
+// A packet (PDU): what its row shows, its line, what becomes of its bits, what `show` writes, and whether the line follows that,
 // since the packet is whole.
 type Row = (
     &'static str,
@@ -121,7 +122,7 @@ const ROWS: [Row; 12] = [
     ),
 ];
 
-// A packet of the format 17 hex, with no blocks to follow.
+// A packet (PDU) of the format 17 hex, with no blocks to follow.
 const UNKNOWN_FORMAT: [u8; 45] = [
     0x55, 0x75, 0xF5, 0xFF, 0x77, 0xFF, 0x29, 0x3C, 0xD4, 0x82, 0xF8, 0x0A, 0xEC, 0xDC, 0x8A, 0x08,
     0x88, 0xB4, 0x22, 0x2F, 0x1E, 0xC5, 0x22, 0x22, 0x92, 0x22, 0x64, 0xC0, 0x88, 0x88, 0x88, 0x88,
@@ -200,7 +201,7 @@ fn packets(rt: HostRuntime) {
     );
 }
 
-// The line of the largest packet: 127 blocks of zeros, in order.
+// The line of the largest packet (PDU): 127 blocks of zeros, in order.
 fn largest_line() -> Line {
     let mut line = Line::new();
     line.put(b"confirmed nac=293 head=56c000000001ff000800 blocks=");

@@ -4,7 +4,7 @@ use super::{calm, ends};
 use p25_line::{Line, LineFault};
 use p25_tool::Outcome;
 
-// A terminator of NAC 0 with both status symbols 1.
+// A terminator (TDU) of NAC 0 with both status symbols 1.
 const TERMINATOR: &[u8] =
     b"\x55\x75\xF5\xFF\x77\xFF\x00\x03\x35\x93\x0B\xDD\x3B\x2B\x00\x00\x00\x01";
 

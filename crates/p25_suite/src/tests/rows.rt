@@ -14,18 +14,18 @@ type Row = (
     Outcome,
 );
 
-// A terminator of NAC 0 with both status symbols 1.
+// A terminator (TDU) of NAC 0 with both status symbols 1.
 const TERMINATOR: &[u8] =
     b"\x55\x75\xF5\xFF\x77\xFF\x00\x03\x35\x93\x0B\xDD\x3B\x2B\x00\x00\x00\x01";
 
-// A terminator with the bit P of its identifier inverted, and one with its first 11 identifier bits inverted.
+// A TDU with the bit P of its network identifier (NID) inverted, and one with the first 11 bits of its NID inverted.
 const PARITY_INVERTED: &[u8] =
     b"\x55\x75\xF5\xFF\x77\xFF\x00\x03\x35\x93\x0B\xDD\x3B\x2B\x40\x00\x00\x01";
 
 const ELEVEN_WRONG: &[u8] =
     b"\x55\x75\xF5\xFF\x77\xFF\xFF\xE3\x35\x93\x0B\xDD\x3B\x2B\x00\x00\x00\x01";
 
-// A sync, and after it 64 bits that differ from each BCH word in 21 places at least.
+// A sync, and after it 64 bits that are no network identifier (NID): they differ from each BCH word in 21 places at least.
 const NID_BEYOND: &[u8] =
     b"\x55\x75\xF5\xFF\x77\xFF\x00\x03\x69\x0B\x51\x49\xD2\xC1\x80\x00\x00\x01";
 

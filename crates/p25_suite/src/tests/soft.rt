@@ -20,6 +20,7 @@ type Row = (
     &'static [(usize, u8)],
 );
 
+// The line of a confirmed packet (PDU).
 const CONFIRMED: &[u8] =
     b"confirmed nac=293 head=56c00000000181000800 blocks=00:00000000000000000000000000000000";
 
@@ -210,12 +211,12 @@ fn blocks_and_their_levels(rt: HostRuntime) {
     }
 }
 
-// A terminator of NAC 0 with both status symbols 1.
+// A terminator (TDU) of NAC 0 with both status symbols 1.
 const TERMINATOR: [u8; 18] = [
     0x55, 0x75, 0xF5, 0xFF, 0x77, 0xFF, 0x00, 0x03, 0x35, 0x93, 0x0B, 0xDD, 0x3B, 0x2B, 0, 0, 0, 1,
 ];
 
-// The levels of a terminator.
+// The levels of a terminator (TDU).
 fn terminator_levels() -> [u8; 512]
     ensures { length result ≡ 512 }
 {

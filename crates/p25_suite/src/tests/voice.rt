@@ -1,15 +1,10 @@
-//! Units of every voice kind: built from a line, damaged, shown in pieces of 1, of 2, of 7 and of all octets, and repaired.
+//! Voice units (HDU, LDU1, LDU2 and TDULC): built from a line, damaged, shown in pieces of 1, of 2, of 7 and of all octets, and
+//! repaired.
 
-ghost use Rattle.std.specs.Prelude.{◌<◌};
-
-use super::{build, change_bit, writes};
+use super::{Inverted, build, invert, writes};
 use p25_line::Line;
 use p25_link::{LinkControl, LinkKind};
 use std::alloc::Global;
-
-// Bits that are inverted: the first place, how far the next is, how many places there are, and how many bits at each.
-// Places count the bits of a unit without its status symbols; that of the first bit of its sync is 0.
-pub type Inverted = (u16, u16, u16, u16);
 
 // A unit: what its row shows, its status symbols, its line, the nine voice frames' digit where it has them, the bits that
 // are inverted, what `show` writes, and whether the line follows that, since the unit is whole.
@@ -31,6 +26,7 @@ const ZERO_LINK_2: &[u8] = b"ldu2 nac=000 mi=000000000000000000 algid=00 kid=000
 
 const ZERO_END_LINK: &[u8] = b"tdulc nac=000 lc=000000000000000000";
 
+// Header data units (HDU).
 const HEADERS: [Row; 6] = [
     (
         "a header of zeros",
@@ -94,6 +90,7 @@ const HEADERS: [Row; 6] = [
     ),
 ];
 
+// Voice with link control (LDU1), and with encryption sync (LDU2).
 const LINK_UNITS: [Row; 11] = [
     (
         "a link unit 1 with a wrong bit in each Hamming word",
@@ -213,6 +210,7 @@ const LINK_UNITS: [Row; 11] = [
     ),
 ];
 
+// Terminators with link control (TDULC).
 const TERMINATORS: [Row; 5] = [
     (
         "a terminator with three Golay words inverted",
@@ -261,24 +259,6 @@ const TERMINATORS: [Row; 5] = [
     ),
 ];
 
-fn invert_run(octets: &mut [u8], first: usize, width: u16)
-    requires { first < 30000 }
-{
-    for i in 0..usize::from(width) {
-        change_bit(octets, first + i, None);
-    }
-}
-
-pub fn invert(octets: &mut [u8], inverted: &Inverted) {
-    let (first, step, places, width) = *inverted;
-    for i in 0..usize::from(places) {
-        let place = usize::from(first) + i * usize::from(step);
-        if place < 30_000 {
-            invert_run(octets, place, width);
-        }
-    }
-}
-
 // The line of a row, with its voice frames.
 fn line_of(row: &Row) -> Line {
     let mut line = Line::new();
@@ -322,7 +302,7 @@ fn holds(alloc: Global, row: &Row) -> bool {
         && writes(alloc, &[b"repair"], &room[..size], &repaired[..size])
 }
 
-// The header of zeros, but its 36 symbols are 20 zeros and the coefficients of (x - α)(x - α^2)..(x - α^15): in at least 16
+// The HDU of zeros, but its 36 symbols are 20 zeros and the coefficients of (x - α)(x - α^2)..(x - α^15): in at least 16
 // symbols it differs from each word of the code.
 const FAR_HEADER: [u8; 99] = [
     0x55, 0x75, 0xF5, 0xFF, 0x77, 0xFF, 0x00, 0x00, 0x00, 0x00, 0x00, 0x00, 0x00, 0x00, 0x00, 0x00,

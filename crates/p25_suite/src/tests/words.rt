@@ -43,7 +43,7 @@ fn a_script_is_run(rt: HostRuntime) {
     assert_eq!(rt; outcome, Outcome::Done);
 }
 
-// The access code and the status symbol of a bridge are those of its words.
+// The network access code (NAC) and the status symbol of a bridge are those of its words.
 #[test]
 fn words_of_a_bridge(rt: HostRuntime) {
     let (mut from, mut to) = ([0; 18], [0; 18]);
