@@ -37,12 +37,12 @@ IsChecked-tested columns word =
 pub syndrome_of-lt : (checks : ℕ) (rows : List ℕ) (info : List Bool) → rows_fit checks rows ≡ true → syndrome_of rows info < 2 ^ checks
 unfolding syndrome_of
 syndrome_of-lt checks [] info fit = pow_pos checks
-syndrome_of-lt checks (row ∷ rows) [] fit = pow_pos checks
-syndrome_of-lt checks (row ∷ rows) (bit ∷ info) fit =
-    let parts = and_parts (ltb row (2 ^ checks)) (rows_fit checks rows) fit in
-    xor_lt checks (cond bit row 0) (syndrome_of rows info) (chosen bit (ltb-true row (2 ^ checks) parts.0)) (syndrome_of-lt checks rows info parts.1)
+syndrome_of-lt checks (first ∷ rows) [] fit = pow_pos checks
+syndrome_of-lt checks (first ∷ rows) (bit ∷ info) fit =
+    let parts = and_parts (ltb first (2 ^ checks)) (rows_fit checks rows) fit in
+    xor_lt checks (cond bit first 0) (syndrome_of rows info) (chosen bit (ltb-true first (2 ^ checks) parts.0)) (syndrome_of-lt checks rows info parts.1)
   where
-    chosen : (b : Bool) → row < 2 ^ checks → cond b row 0 < 2 ^ checks
+    chosen : (b : Bool) → first < 2 ^ checks → cond b first 0 < 2 ^ checks
     chosen true h = h
     chosen false h = pow_pos checks
 

@@ -19,10 +19,10 @@ pub syndrome_of-append : (rows columns : List ℕ) (info checks : List Bool) →
 unfolding syndrome_of
 syndrome_of-append [] columns [] checks long = sym (xor_zero_l (syndrome_of columns checks))
 syndrome_of-append [] columns (bit ∷ info) checks long = absurd (omega arith)
-syndrome_of-append (row ∷ rows) columns [] checks long = absurd (omega arith)
-syndrome_of-append (row ∷ rows) columns (bit ∷ info) checks long =
-    ap (bit_xor (cond bit row 0)) (syndrome_of-append rows columns info checks (omega arith))
-    ∙ sym (xor_assoc (cond bit row 0) (syndrome_of rows info) (syndrome_of columns checks))
+syndrome_of-append (first ∷ rows) columns [] checks long = absurd (omega arith)
+syndrome_of-append (first ∷ rows) columns (bit ∷ info) checks long =
+    ap (bit_xor (cond bit first 0)) (syndrome_of-append rows columns info checks (omega arith))
+    ∙ sym (xor_assoc (cond bit first 0) (syndrome_of rows info) (syndrome_of columns checks))
 
 -- a bit above a number of lower bits
 pub above : (bit : Bool) (k low : ℕ) → low < 2 ^ k → bit_xor (cond bit (2 ^ k) 0) low ≡ digit_of bit * 2 ^ k + low

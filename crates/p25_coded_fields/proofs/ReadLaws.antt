@@ -1,5 +1,5 @@
 -- The reader of fields: what one inner word gives, by whether it is read, and one more inner word in the loop.
-use Rattle.std.proofs.Common.{◌≡◌, ℕ, zero, suc, ◌+◌, ◌-◌, ◌*◌, ◌/◌, ◌^◌, ◌<◌, ◌≤◌, Bool, true, false, cond, List, [], ◌∷◌, ◌++◌, length, take, map, replicate, get_or, bit_xor, Option, Some, None, refl, subst, ap, ap₂, sym, ◌∙◌, arith}
+use Rattle.std.proofs.Common.{◌≡◌, ℕ, zero, suc, ◌+◌, ◌-◌, ◌*◌, ◌/◌, ◌^◌, ◌<◌, ◌≤◌, Bool, true, false, cond, List, [], ◌∷◌, ◌++◌, length, take, map, replicate, get_or, bit_xor, Option, Some, None, option_map, refl, subst, ap, ap₂, sym, ◌∙◌, arith}
 use Rattle.std.specs.List.{flat_map}
 use Rattle.std.specs.Int.RustNames.{count_ones}
 use Rattle.std.proofs.lemmas.List.{append-nil, length-take-le, take_all, take_more}
@@ -8,10 +8,11 @@ use Rattle.std.proofs.lemmas.List.Concat.{flat_map-append}
 use Rattle.std.proofs.lemmas.List.Elements.{All-replicate}
 use Rattle.std.proofs.lemmas.Slice.{take-put_mid}
 use borrow.Rule.Slice.PartMut.{put_mid}
-use Rattle.p25_bits.specs.Bits.{bits_of, part}
+use Rattle.p25_bits.specs.Bits.{bits_of, field_of, part}
 use Rattle.p25_bits.specs.Distance.{distance_of}
 use Rattle.p25_bits.proofs.BitsLaws.{length-bits_of, take-bits_of}
 use Rattle.p25_bits.proofs.DistanceLaws.{distance_of-bits_of}
+use Rattle.p25_bits.proofs.NumbersLaws.{bits_of-field}
 use Rattle.p25_code.specs.Readings.{IsReadAs}
 use Rattle.p25_code.specs.Words.{IsEncoding}
 use Rattle.p25_code.specs.Erasures.{without_erased}
@@ -59,6 +60,15 @@ cut_long n buffer xs same fits = same ∙ length-take-le n buffer fits
 -- the information of a word, by the number that it writes
 information_bits : (size k each value : ℕ) → 6 * each ≡ k → k ≤ size → bits_of (6 * each) (value / 2 ^ (size - k)) ≡ take k (bits_of size value)
 information_bits size k each value sixes fits = ap (λ n. bits_of n (value / 2 ^ (size - k))) sixes ∙ sym (take-bits_of k size value fits)
+
+-- a number that was received at a place has the bits that stand there
+pub received_bits : {n : ℕ} (size at number : ℕ) (bare : List Bool) → number ≡ field_of (part at n bare) → n ≡ size → at + size ≤ length bare → bits_of size number ≡ part at size bare
+received_bits size at number bare is same there = ap (bits_of size) is ∙ ap (λ m. bits_of size (field_of (part at m bare))) same ∙ bits_of-field size at bare there
+
+-- and what it is read as is what these bits are read as
+pub received_reading : {answer given : Option ℕ} (size number : ℕ) (bits : List Bool) (reading : List Bool → Option (List Bool)) → answer ≡ given
+    → option_map (bits_of size) answer ≡ reading (bits_of size number) → bits_of size number ≡ bits → option_map (bits_of size) given ≡ reading bits
+received_reading size number bits reading is read taken = ap (option_map (bits_of size)) (sym is) ∙ read ∙ ap reading taken
 
 -- an inner word was read
 pub inner_found : (size k each value : ℕ) (reading : Option (List Bool)) (symbols : List Sym) (erased : List Bool) → 6 * each ≡ k → k ≤ size → Some (bits_of size value) ≡ reading

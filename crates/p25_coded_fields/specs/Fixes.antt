@@ -17,23 +17,26 @@ inner_bits size places bits = flat_map (λ at. part at size bits) places
 unfoldable pub field_fixes_of : (List Bool → List Bool) → ℕ → ℕ → List ℕ → List Sym → List Bool → ℕ
 field_fixes_of encoding size each places symbols bits = distance_of (inner_bits size places bits) (field_bits encoding each (length places) symbols)
 
--- a count of the first inner words, whose symbols are given, where an encoding makes them
+-- a count says in how many bits the first inner words of a field were received otherwise than an encoding makes them of their
+-- symbols; as many bits were received as are sent
 pub record IsCounted (encoding : List Bool → List Bool) (size each i : ℕ) (places : List ℕ) (symbols : List Sym) (bits : List Bool) (count : ℕ) : Type 0 where
   pub value : count ≡ distance_of (inner_bits size (take i places) bits) (field_bits encoding each i symbols)
   pub received_long : length (inner_bits size (take i places) bits) ≡ size * i
   pub sent_long : length (field_bits encoding each i symbols) ≡ size * i
 
--- the same count for every encoding, where an inner word has information
+-- where inner words carry symbols, a count says in how many bits the first inner words of a field were received otherwise than
+-- they are sent, whatever function encodes them; and it is at most 24 for each word
 pub record AreCounted (IsWord : List Bool → Type 0) (size k each i : ℕ) (places : List ℕ) (symbols : List Sym) (bits : List Bool) (count : ℕ) : Type 0 where
   pub most : 0 < each → count ≤ 24 * i
   pub value : 0 < each → (encoding : List Bool → List Bool) → Encodes IsWord k encoding → IsCounted encoding size each i places symbols bits count
 
--- a count of the bits in which the inner word at a place was received otherwise than it is sent for symbols
+-- a count says in how many bits the inner word at a place was received otherwise than it is sent for symbols, and it is at most 24
 pub record IsInnerCount (IsWord : List Bool → Type 0) (size k at : ℕ) (symbols : List Sym) (bits : List Bool) (count : ℕ) : Type 0 where
   pub few : count ≤ 24
   pub value : (sent : List Bool) → IsEncoding IsWord k (symbol_bits symbols) sent → count ≡ distance_of (part at size bits) sent
 
--- the counts of the first inner words, by their places: each that is known is one for the symbols that were read there
+-- the counts of the first inner words of a field, in the order of their places: each that is known says in how many bits the
+-- inner word was received otherwise than it is sent for the symbols that were read there
 pub record AreInnerCounts (IsWord : List Bool → Type 0) (size k each i : ℕ) (places : List ℕ) (symbols : List Sym) (bits : List Bool)
     (counts : List (Option ℕ)) : Type 0 where
   pub known : (j : ℕ) → j < i → IfSome (slice_index_or counts j None) (IsInnerCount IsWord size k (slice_index places j) (part (each * j) each symbols) bits)

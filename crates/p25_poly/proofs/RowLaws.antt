@@ -52,21 +52,21 @@ corrected_row n column row x y inside live gain others =
 -- ---- systems
 
 -- a system's equations are the first row's and the others'
-pub met_with_front : (n : ℕ) (rows : List Row) (x : ℕ → Sym) → IsMet n (row_of rows 0) x → AreMet n (drop 1 rows) x → AreMet n rows x
-met_with_front n rows x first rest = record { each = each }
+pub met_with_front : (n : ℕ) (system : List Row) (x : ℕ → Sym) → IsMet n (row_of system 0) x → AreMet n (drop 1 system) x → AreMet n system x
+met_with_front n system x first rest = record { each = each }
   where
-    each : (r : ℕ) → r < length rows → IsMet n (row_of rows r) x
+    each : (r : ℕ) → r < length system → IsMet n (row_of system r) x
     each zero h = first
-    each (suc r) h = rw (← later rows r) (rest.each r (omega (arith, length-drop 1 rows)))
+    each (suc r) h = rw (← later system r) (rest.each r (omega (arith, length-drop 1 system)))
       where
-        later : (rows : List Row) (r : ℕ) → row_of (drop 1 rows) r ≡ row_of rows (suc r)
-        later rows r = get_or-drop 1 rows r blank_row ∙ ap (row_of rows) after
+        later : (system : List Row) (r : ℕ) → row_of (drop 1 system) r ≡ row_of system (suc r)
+        later system r = get_or-drop 1 system r blank_row ∙ ap (row_of system) after
           where
             after : 1 + r ≡ suc r
             after = omega arith
 
-pub met_rest : (n : ℕ) (rows : List Row) (x : ℕ → Sym) → AreMet n rows x → AreMet n (drop 1 rows) x
-met_rest n rows x met = record { each = λ r h. rw get_or-drop (met.each (1 + r) (omega (arith, length-drop 1 rows))) }
+pub met_rest : (n : ℕ) (system : List Row) (x : ℕ → Sym) → AreMet n system x → AreMet n (drop 1 system) x
+met_rest n system x met = record { each = λ r h. rw get_or-drop (met.each (1 + r) (omega (arith, length-drop 1 system))) }
 
 -- a row of zeros holds exactly where its right side is zero
 pub blank_met : (n : ℕ) (row : Row) (x : ℕ → Sym) → ((k : ℕ) → k < n → coefficient gf64 row.cells k ≡ gf64.zero) → row.right ≡ gf64.zero → IsMet n row x
@@ -94,17 +94,17 @@ cleared_elsewhere n column front old new x y cleared agree met = record {
 
 -- ---- the steps of elimination, for rows and what is left of them
 
-module _ (n column : ℕ) (rows cleared : List Row) (front : Row) (inside : column < n) (some : 0 < length rows) (is_front : front ≡ row_of rows 0) (clears : AreCleared column front (drop 1 rows) cleared) where
+module _ (n column : ℕ) (system cleared : List Row) (front : Row) (inside : column < n) (some : 0 < length system) (is_front : front ≡ row_of system 0) (clears : AreCleared column front (drop 1 system) cleared) where
   -- what solves the cleared rows, corrected by the front row, solves all
-  pub corrected_solution : (x y : ℕ → Sym) → AgreeBut column x y → IsMet n front y → AreMet n cleared x → AreMet n rows y
+  pub corrected_solution : (x y : ℕ → Sym) → AgreeBut column x y → IsMet n front y → AreMet n cleared x → AreMet n system y
   corrected_solution x y agree first met =
-      met_with_front n rows y (rw (← is_front) first)
-      (cleared_back n column front (drop 1 rows) cleared y clears first (cleared_elsewhere n column front (drop 1 rows) cleared x y clears agree met))
+      met_with_front n system y (rw (← is_front) first)
+      (cleared_back n column front (drop 1 system) cleared y clears first (cleared_elsewhere n column front (drop 1 system) cleared x y clears agree met))
 
   -- what solves all solves the cleared rows
-  pub solution_cleared : (x : ℕ → Sym) → AreMet n rows x → AreMet n cleared x
+  pub solution_cleared : (x : ℕ → Sym) → AreMet n system x → AreMet n cleared x
   solution_cleared x met =
-      cleared_forth n column front (drop 1 rows) cleared x clears (rw is_front (met.each 0 some)) (met_rest n rows x met)
+      cleared_forth n column front (drop 1 system) cleared x clears (rw is_front (met.each 0 some)) (met_rest n system x met)
 
 -- rows that are not found empty
 pub not_empty : (rows : List Row) (empty : Bool) → empty ≡ (length rows == 0) → empty ≡ false → 0 < length rows

@@ -25,11 +25,11 @@ pub near_rest-le : (states : ℕ) (point : ℕ → ℕ → ℕ) (received rests 
 near_rest-le states point received rests step symbol after early below = rest-le states point (received_cost received) rests 4 step symbol (received_cost-le received) after early below
 
 -- what a symbol costs, as it is read
-pub near_sum : (point : ℕ → ℕ → ℕ) (received rests distances : List ℕ) (step state symbol row column : ℕ) → row ≡ state → column ≡ symbol
+pub near_sum : (point : ℕ → ℕ → ℕ) (received rests distances : List ℕ) (step state symbol entry column : ℕ) → entry ≡ state → column ≡ symbol
     → get_or distances state 0 ≡ nibble_distance (point state symbol) (get_or received step 0)
-    → get_or distances row 0 + get_or rests (8 * (step + 1) + column) 0 ≡ step_cost point (received_cost received) rests step state symbol
+    → get_or distances entry 0 + get_or rests (8 * (step + 1) + column) 0 ≡ step_cost point (received_cost received) rests step state symbol
 unfolding step_cost received_cost rest_in
-near_sum point received rests distances step state symbol row column is same each =
+near_sum point received rests distances step state symbol entry column is same each =
     ap₂ ◌+◌ (ap (λ n. get_or distances n 0) is ∙ each) (rw add-one (ap (λ n. get_or rests (8 * suc step + n) 0) same))
 
 -- the eight entries of the step after one
@@ -62,10 +62,10 @@ IsLowestLeast-step states point received rests step state nibble symbol least fe
     was
 
 -- and it fits an octet
-pub near_sum-lt : (rests distances : List ℕ) (step symbol row column : ℕ) → column ≡ symbol → get_or distances row 0 ≤ 4 → rest_in rests (suc step) symbol ≤ 192
-    → get_or distances row 0 + get_or rests (8 * (step + 1) + column) 0 < 256
+pub near_sum-lt : (rests distances : List ℕ) (step symbol entry column : ℕ) → column ≡ symbol → get_or distances entry 0 ≤ 4 → rest_in rests (suc step) symbol ≤ 192
+    → get_or distances entry 0 + get_or rests (8 * (step + 1) + column) 0 < 256
 unfolding rest_in
-near_sum-lt rests distances step symbol row column same low few =
+near_sum-lt rests distances step symbol entry column same low few =
     let next : get_or rests (8 * (step + 1) + column) 0 ≡ get_or rests (8 * suc step + symbol) 0 = rw add-one (ap (λ n. get_or rests (8 * suc step + n) 0) same) in
     omega (arith, next, low, few)
 

@@ -39,84 +39,84 @@ pub record AreWordPlaces (size count : ℕ) (carried : Contents) (places : List 
   pub cover : carried.each * length places ≡ length carried.symbols
   pub inside : list_all (λ at. nat_le (at + size) count) places ≡ true
 
-module _ {IsWord : List Bool → Type 0} {size k : ℕ} {carried : Contents} (carries : IsCarried IsWord size k carried) {count : ℕ} {rows : List (ℕ × Piece)} (are : AreRows size count carried rows) where
+module _ {IsWord : List Bool → Type 0} {size k : ℕ} {carried : Contents} (carries : IsCarried IsWord size k carried) {count : ℕ} {table : List (ℕ × Piece)} (are : AreRows size count carried table) where
   -- the bits of a unit are as many as they should be
-  pub length-unit : (nac duid : ℕ) → length (unit_front nac duid ++ rows_bits carried rows) ≡ count
+  pub length-unit : (nac duid : ℕ) → length (unit_front nac duid ++ rows_bits carried table) ≡ count
   length-unit nac duid =
-      length-append (unit_front nac duid) (rows_bits carried rows) ∙ ap₂ ◌+◌ (length-unit_front nac duid) (length-rows_bits carries rows are.fit) ∙ sym are.fill
+      length-append (unit_front nac duid) (rows_bits carried table) ∙ ap₂ ◌+◌ (length-unit_front nac duid) (length-rows_bits carries table are.fit) ∙ sym are.fill
 
   -- and have each piece at its place
-  pub unit_parts : (nac duid : ℕ) (bare : List Bool) → bare ≡ unit_front nac duid ++ rows_bits carried rows → All (λ row. part row.0 (piece_length size row.1) bare ≡ piece_bits carried row.1) rows
+  pub unit_parts : (nac duid : ℕ) (bare : List Bool) → bare ≡ unit_front nac duid ++ rows_bits carried table → All (λ row. part row.0 (piece_length size row.1) bare ≡ piece_bits carried row.1) table
   unit_parts nac duid bare is =
-      subst (λ (xs : List Bool). All (λ row. part row.0 (piece_length size row.1) xs ≡ piece_bits carried row.1) rows) (sym is)
-      (rows_parts carries rows 112 (unit_front nac duid) (length-unit_front nac duid) are.stand are.fit)
+      subst (λ (xs : List Bool). All (λ row. part row.0 (piece_length size row.1) xs ≡ piece_bits carried row.1) table) (sym is)
+      (rows_parts carries table 112 (unit_front nac duid) (length-unit_front nac duid) are.stand are.fit)
 
   -- so they are laid out
-  pub laid_out : (nac duid : ℕ) (bare : List Bool) → bare ≡ unit_front nac duid ++ rows_bits carried rows → IsLaidOut nac duid count rows carried.low carried.voice bare
+  pub laid_out : (nac duid : ℕ) (bare : List Bool) → bare ≡ unit_front nac duid ++ rows_bits carried table → IsLaidOut nac duid count table carried.low carried.voice bare
   laid_out nac duid bare is = record {
     long = ap length is ∙ length-unit nac duid;
-    front = subst (λ (xs : List Bool). IsFront nac duid xs) (sym (ap (take 112) is ∙ take_at (unit_front nac duid) (rows_bits carried rows) 112 (length-unit_front nac duid))) (IsFront-unit_front nac duid);
-    pieces = rows_have carried size rows bare (unit_parts nac duid bare is);
+    front = subst (λ (xs : List Bool). IsFront nac duid xs) (sym (ap (take 112) is ∙ take_at (unit_front nac duid) (rows_bits carried table) 112 (length-unit_front nac duid))) (IsFront-unit_front nac duid);
+    pieces = rows_have carried size table bare (unit_parts nac duid bare is);
   }
 
   -- bits that are laid out and have their words are the unit's
-  pub laid_out-only : (nac duid : ℕ) (bare : List Bool) → IsLaidOut nac duid count rows carried.low carried.voice bare
-      → ((i : ℕ) → i < length (word_places size rows) → part (get_or (word_places size rows) i 0) size bare ≡ group_word carries (0 + i)) → bare ≡ unit_front nac duid ++ rows_bits carried rows
+  pub laid_out-only : (nac duid : ℕ) (bare : List Bool) → IsLaidOut nac duid count table carried.low carried.voice bare
+      → ((i : ℕ) → i < length (word_places size table) → part (get_or (word_places size table) i 0) size bare ≡ group_word carries (0 + i)) → bare ≡ unit_front nac duid ++ rows_bits carried table
   laid_out-only nac duid bare is words =
       sym (take-append-drop 112 bare)
       ∙ ap₂ (λ (xs ys : List Bool). xs ++ ys) (unit_front-only nac duid (take 112 bare) is.front)
-      (rows_only size carried rows 112 bare are.stand (is.long ∙ are.fill) (rows_from_words carries rows 0 bare are.counted words is.pieces))
+      (rows_only size carried table 112 bare are.stand (is.long ∙ are.fill) (rows_from_words carries table 0 bare are.counted words is.pieces))
 
   -- its inner words are those of its symbols
-  pub words_in_unit : (nac duid : ℕ) (bare : List Bool) → bare ≡ unit_front nac duid ++ rows_bits carried rows
-      → inner_bits size (word_places size rows) bare ≡ field_bits carried.encoding carried.each (length (word_places size rows)) carried.symbols
+  pub words_in_unit : (nac duid : ℕ) (bare : List Bool) → bare ≡ unit_front nac duid ++ rows_bits carried table
+      → inner_bits size (word_places size table) bare ≡ field_bits carried.encoding carried.each (length (word_places size table)) carried.symbols
   unfolding inner_bits field_bits group_word
   words_in_unit nac duid bare is =
-      let places = word_places size rows in
+      let places = word_places size table in
       let every : length places ≤ length places = omega arith in
       let run : ℕ → List Bool = λ at. part at size bare in
       let word : ℕ → List Bool = λ i. carried.encoding (symbol_bits (part (carried.each * i) carried.each carried.symbols)) in
       ap (flat_map run) (sym (take_all (length places) places every))
       ∙ flat_map_by_place run places 0 (length places) every
       ∙ joined_below-same (length places) (λ i. run (get_or places i 0)) word
-      (λ i inside. let none : 0 + i ≡ i = omega arith in words_from_rows carries rows 0 bare are.counted are.fit (unit_parts nac duid bare is) i inside ∙ ap word none)
+      (λ i inside. let none : 0 + i ≡ i = omega arith in words_from_rows carries table 0 bare are.counted are.fit (unit_parts nac duid bare is) i inside ∙ ap word none)
 
-  module _ (places : AreWordPlaces size count carried (word_places size rows)) where
-    within : (bare : List Bool) → length bare ≡ count → All (λ at. at + size ≤ length bare) (word_places size rows)
+  module _ (places : AreWordPlaces size count carried (word_places size table)) where
+    within : (bare : List Bool) → length bare ≡ count → All (λ at. at + size ≤ length bare) (word_places size table)
     within bare long i d inside =
-        subst (λ m. get_or (word_places size rows) i d + size ≤ m) (sym long) (leb-true _ count (AllPass-from_list_all (λ at. nat_le (at + size) count) (word_places size rows) places.inside i d inside))
+        subst (λ m. get_or (word_places size table) i d + size ≤ m) (sym long) (leb-true _ count (AllPass-from_list_all (λ at. nat_le (at + size) count) (word_places size table) places.inside i d inside))
 
     -- the inner word of a group carries it
-    group_encoded : (i : ℕ) → i < length (word_places size rows) → IsEncoding IsWord k (symbol_bits (part (carried.each * i) carried.each carried.symbols)) (group_word carries (0 + i))
+    group_encoded : (i : ℕ) → i < length (word_places size table) → IsEncoding IsWord k (symbol_bits (part (carried.each * i) carried.each carried.symbols)) (group_word carries (0 + i))
     unfolding group_word
     group_encoded i inside =
         let none : 0 + i ≡ i = omega arith in
         let group = part (carried.each * i) carried.each carried.symbols in
         subst (λ m. IsEncoding IsWord k (symbol_bits group) (carried.encoding (symbol_bits (part (carried.each * m) carried.each carried.symbols)))) (sym none)
-        (field_word carries.long carried.encoding carries.encodes carried.each (length (word_places size rows)) carried.symbols carries.sixes places.cover i inside)
+        (field_word carries.long carried.encoding carries.encodes carried.each (length (word_places size table)) carried.symbols carries.sixes places.cover i inside)
 
     module _ (inner_reading : List Bool → Option (List Bool)) (outer_reading : List (Option Sym) → Option (List Sym)) (n : ℕ) {IsOuterWord : List Sym → Type 0} where
       -- the unit carries its field
-      pub field_carried : (info : List Sym) → IsEncoding IsOuterWord n info carried.symbols → (nac duid : ℕ) (bare : List Bool) → bare ≡ unit_front nac duid ++ rows_bits carried rows
-          → HasField IsWord IsOuterWord (field_layout (word_places size rows) size carried.each inner_reading outer_reading n) info bare
+      pub field_carried : (info : List Sym) → IsEncoding IsOuterWord n info carried.symbols → (nac duid : ℕ) (bare : List Bool) → bare ≡ unit_front nac duid ++ rows_bits carried table
+          → HasField IsWord IsOuterWord (field_layout (word_places size table) size carried.each inner_reading outer_reading n) info bare
       field_carried info outer nac duid bare is =
-          let layout = field_layout (word_places size rows) size carried.each inner_reading outer_reading n in
-          let words = words_from_rows carries rows 0 bare are.counted are.fit (unit_parts nac duid bare is) in
+          let layout = field_layout (word_places size table) size carried.each inner_reading outer_reading n in
+          let words = words_from_rows carries table 0 bare are.counted are.fit (unit_parts nac duid bare is) in
           subst (λ xs. HasField IsWord IsOuterWord layout xs bare) outer.begins
           (field_there layout k carried.symbols bare carries.sixes carries.begins places.cover (within bare (ap length is ∙ length-unit nac duid)) outer.word_of_set
           (λ i d inside.
           subst (λ w. IsEncoding IsWord k (symbol_bits (part (carried.each * i) carried.each carried.symbols)) w)
-          (sym (ap (λ m. part m size bare) (get_or_default (word_places size rows) i d 0 inside) ∙ words i inside))
+          (sym (ap (λ m. part m size bare) (get_or_default (word_places size table) i d 0 inside) ∙ words i inside))
           (group_encoded i inside)))
 
       -- what carries the field has its words
       pub words_carried : (info : List Sym) → ((word : List Sym) → IsEncoding IsOuterWord n info word → word ≡ carried.symbols) → (bare : List Bool) → length bare ≡ count
-          → HasField IsWord IsOuterWord (field_layout (word_places size rows) size carried.each inner_reading outer_reading n) info bare
-          → (i : ℕ) → i < length (word_places size rows) → part (get_or (word_places size rows) i 0) size bare ≡ group_word carries (0 + i)
+          → HasField IsWord IsOuterWord (field_layout (word_places size table) size carried.each inner_reading outer_reading n) info bare
+          → (i : ℕ) → i < length (word_places size table) → part (get_or (word_places size table) i 0) size bare ≡ group_word carries (0 + i)
       words_carried info only bare long has i inside =
-          let layout = field_layout (word_places size rows) size carried.each inner_reading outer_reading n in
+          let layout = field_layout (word_places size table) size carried.each inner_reading outer_reading n in
           let sent = only (sent_in layout bare) (record { word_of_set = has.outer; begins = has.begins }) in
           let there = field_word_there layout k info bare carries.sixes carries.begins (within bare long) has i inside in
           let made = group_encoded i inside in
-          carries.one_word (part (get_or (word_places size rows) i 0) size bare) (group_word carries (0 + i)) there.word_of_set made.word_of_set
+          carries.one_word (part (get_or (word_places size table) i 0) size bare) (group_word carries (0 + i)) there.word_of_set made.word_of_set
           (there.begins ∙ ap (λ (xs : List Sym). symbol_bits (part (carried.each * i) carried.each xs)) sent ∙ sym made.begins)

@@ -1,12 +1,11 @@
-use Rattle.std.proofs.Common.{◌≡◌, ◌^◌, ◌<◌, length, sym, subst, ap, ap₂, ◌∙◌, arith}
-use Rattle.p25_bits.specs.Bits.{bits_of, field_of, part}
+use Rattle.std.proofs.Common.{◌≡◌, ◌^◌, ◌<◌, length, sym, subst, ap₂, ◌∙◌, arith}
+use Rattle.p25_bits.specs.Bits.{bits_of, part}
 use Rattle.p25_bits.proofs.BitsLaws.{bits_of-field_of}
 use Rattle.p25_bits.proofs.DistanceLaws.{ones-xor-le}
-use Rattle.p25_bits.proofs.NumbersLaws.{bits_of-field}
 use Rattle.p25_code.specs.Words.{IsEncoding}
 use Rattle.p25_link.specs.Symbols.{symbol_bits}
 use Rattle.p25_link.proofs.SymbolsLaws.{length-symbol_bits}
-use Rattle.p25_coded_fields.proofs.ReadLaws.{wrong_bits}
+use Rattle.p25_coded_fields.proofs.ReadLaws.{received_bits, wrong_bits}
 use Rattle.p25_coded_fields.proofs.fixes.inner_fixes.Goals as goal
 
 pub returns : goal.returns
@@ -16,8 +15,7 @@ returns g c =
     let at = c.args.at in
     let info = symbol_bits c.args.symbols.now in
     let fits : c.field-received.result < 2 ^ b.N = subst (λ n. c.field-received.result < 2 ^ n) c.N.ensures c.field-received.ensures.fits in
-    let taken : bits_of b.N c.field-received.result ≡ part at b.N bare
-    = ap (bits_of b.N) c.field-received.ensures.value ∙ ap (λ n. bits_of b.N (field_of (part at n bare))) c.N.ensures ∙ bits_of-field b.N at bare c.requires.there in
+    let taken = received_bits b.N at c.field-received.result bare c.field-received.ensures.value c.N.ensures c.requires.there in
     let long : length info ≡ b.K = length-symbol_bits c.args.symbols.now ∙ c.requires.sixes in
     let same : bits_of b.K c.symbols_number.result ≡ info = ap₂ bits_of (sym long) c.symbols_number.ensures.value ∙ bits_of-field_of info in
     record {
