@@ -3,6 +3,5 @@ pub mod SymbolSteps
 pub mod RoomsLaws
 pub mod ItemsLaws
 pub mod CallsLaws
-pub mod BuildingLaws
 pub mod WordSteps
 pub mod BlockSteps

@@ -1,7 +1,6 @@
 //! Octets of units: built from lines, repaired, and under another network access code (NAC).
 
-ghost use Rattle.std.specs.Prelude.{◌≡◌, ◌*◌, ◌<◌, ◌≤◌, ◌++◌, pos, Ok, Err, length, drop};
-ghost use Rattle.p25_bits.specs.Numbers.{octets_from};
+ghost use Rattle.std.specs.Prelude.{◌≡◌, ◌<◌, ◌≤◌, pos, Ok, Err};
 ghost use Rattle.p25_c.specs.Building.{built, fault_answer, unit_bridged, unit_repaired, wrong_nac, wrong_status};
 ghost use Rattle.p25_c.specs.Rooms.{IsWriting};
 ghost use Rattle.p25_status.specs.Status.{status_number};
@@ -81,21 +80,8 @@ fn write_bits(bits: &BitBuf, room: &mut [u8]) -> i32
     if count > room.len() {
         return NO_ROOM;
     }
-    put_octets(bits, count, room);
+    bits.take_numbers(0, 8, &mut room[..count]);
     written(count)
-}
-
-// Sets the first `count` octets of the room to those that bits write.
-fn put_octets(bits: &BitBuf, count: usize, room: &mut [u8])
-    requires bits { 8 * count ≤ length bits.now }
-    requires room { count ≤ length room.old }
-    ensures { room.new ≡ octets_from count bits.now ++ drop count room.old }
-{
-    // The number of bits bounds each place.
-    let _ = bits.len();
-    for k in 0..count {
-        room[k] = bits.field(8 * k, 8) as u8;
-    }
 }
 
 // The number of octets that were written.

@@ -1,10 +1,11 @@
 //! The items of a recording, one a call.
 
-ghost use Rattle.std.specs.Prelude.{◌≡◌, length};
+ghost use Rattle.std.specs.Prelude.{◌≡◌, [], ◌∷◌, false, true, List, Some, length};
 ghost use Rattle.p25_c.specs.Items.{duid_told, fixes_told, is_inside, item_answer, item_left, item_text_left, items_asked, kind_number, nac_told, parts_of};
 ghost use Rattle.p25_c.specs.Rooms.{text_left};
 ghost use Rattle.p25_text.specs.ItemTexts.{item_text_of};
 ghost use Rattle.p25_units.specs.Items.{IsSoundItem};
+ghost use Rattle.p25_units.specs.declared.item.Item.{Item as item_type};
 
 use crate::room::write_text;
 use p25_line::Line;
@@ -63,7 +64,7 @@ pub extern "C" fn p25_next_item(
         return OUTSIDE;
     }
     let mut found = blank();
-    if !find_item(octets, (from - begin) as usize, from, ended, &mut found) {
+    if !find_at(octets, begin, from, ended, &mut found) {
         return NO_ITEM;
     }
     tell_item(&found, item, text);
@@ -90,6 +91,16 @@ fn is_inside(begin: u64, from: u64, count: usize) -> bool
         return false;
     }
     (from - begin).div_ceil(8) <= count as u64
+}
+
+// Sets `found` to the item that begins at a place that may be asked for, if there is one.
+fn find_at(octets: &[u8], begin: u64, from: u64, ended: bool, found: &mut Item) -> bool
+    requires { is_inside begin from (length octets.now) ≡ true }
+    ensures first { result ≡ true → (items : List item_type) × (items_asked ended begin from octets.now ≡ Some (found.new ∷ items)) }
+    ensures none { result ≡ false → items_asked ended begin from octets.now ≡ Some [] }
+    ensures sound { result ≡ true → IsSoundItem found.new }
+{
+    find_item(octets, (from - begin) as usize, from, ended, found)
 }
 
 // Tells an item: its numbers, and its text where there is room.

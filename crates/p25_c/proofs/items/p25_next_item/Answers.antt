@@ -1,7 +1,7 @@
 use Rattle.std.proofs.Common.{List, Option, ap, sym, ◌∙◌}
 use Rattle.p25_units.specs.declared.item.Item.{Item}
 use Rattle.p25_c.specs.Items.{item_answer, item_left, item_text_left}
-use Rattle.p25_c.proofs.ItemsLaws.{items_asked-inside, items_asked-outside}
+use Rattle.p25_c.proofs.ItemsLaws.{items_asked-outside}
 use Rattle.p25_c.proofs.items.p25_next_item.Goals as goal
 
 pub returns-then-not-is_inside-clause-answer : goal.returns-then-not-is_inside-clause-answer
@@ -16,34 +16,24 @@ pub returns-then-not-is_inside-clause-text : goal.returns-then-not-is_inside-cla
 returns-then-not-is_inside-clause-text c =
     sym (ap (λ (asked : Option (List Item)). item_text_left asked c.args.text.now) (items_asked-outside c.args.ended c.args.begin c.args.from c.args.octets.now (sym c.is_inside.ensures ∙ c.if-not-is_inside.true)))
 
-pub returns-then-not-find_item-clause-answer : goal.returns-then-not-find_item-clause-answer
-returns-then-not-find_item-clause-answer c =
-    let none = c.find_item.ensures.none c.if-not-find_item.true in
-    sym (ap item_answer (items_asked-inside c.args.ended c.args.begin c.args.from c.args.octets.now _ (sym c.is_inside.ensures ∙ c.if-not-is_inside.false) none.0))
+pub returns-then-not-find_at-clause-answer : goal.returns-then-not-find_at-clause-answer
+returns-then-not-find_at-clause-answer c = sym (ap item_answer (c.find_at.ensures.none c.if-not-find_at.true))
 
-pub returns-then-not-find_item-clause-item : goal.returns-then-not-find_item-clause-item
-returns-then-not-find_item-clause-item c =
-    let none = c.find_item.ensures.none c.if-not-find_item.true in
-    sym (ap (λ (asked : Option (List Item)). item_left asked c.args.item.now) (items_asked-inside c.args.ended c.args.begin c.args.from c.args.octets.now _ (sym c.is_inside.ensures ∙ c.if-not-is_inside.false) none.0))
+pub returns-then-not-find_at-clause-item : goal.returns-then-not-find_at-clause-item
+returns-then-not-find_at-clause-item c =
+    sym (ap (λ (asked : Option (List Item)). item_left asked c.args.item.now) (c.find_at.ensures.none c.if-not-find_at.true))
 
-pub returns-then-not-find_item-clause-text : goal.returns-then-not-find_item-clause-text
-returns-then-not-find_item-clause-text c =
-    let none = c.find_item.ensures.none c.if-not-find_item.true in
-    sym (ap (λ (asked : Option (List Item)). item_text_left asked c.args.text.now) (items_asked-inside c.args.ended c.args.begin c.args.from c.args.octets.now _ (sym c.is_inside.ensures ∙ c.if-not-is_inside.false) none.0))
+pub returns-then-not-find_at-clause-text : goal.returns-then-not-find_at-clause-text
+returns-then-not-find_at-clause-text c =
+    sym (ap (λ (asked : Option (List Item)). item_text_left asked c.args.text.now) (c.find_at.ensures.none c.if-not-find_at.true))
 
 pub returns-clause-answer : goal.returns-clause-answer
-returns-clause-answer c =
-    let first = c.find_item.ensures.first c.if-not-find_item.false in
-    sym (ap item_answer (items_asked-inside c.args.ended c.args.begin c.args.from c.args.octets.now _ (sym c.is_inside.ensures ∙ c.if-not-is_inside.false) first.items))
+returns-clause-answer c = sym (ap item_answer (c.find_at.ensures.first c.if-not-find_at.false).1)
 
 pub returns-clause-item : goal.returns-clause-item
 returns-clause-item c =
-    let first = c.find_item.ensures.first c.if-not-find_item.false in
-    c.tell_item.ensures.item
-    ∙ sym (ap (λ (asked : Option (List Item)). item_left asked c.args.item.now) (items_asked-inside c.args.ended c.args.begin c.args.from c.args.octets.now _ (sym c.is_inside.ensures ∙ c.if-not-is_inside.false) first.items))
+    c.tell_item.ensures.item ∙ sym (ap (λ (asked : Option (List Item)). item_left asked c.args.item.now) (c.find_at.ensures.first c.if-not-find_at.false).1)
 
 pub returns-clause-text : goal.returns-clause-text
 returns-clause-text c =
-    let first = c.find_item.ensures.first c.if-not-find_item.false in
-    c.tell_item.ensures.text
-    ∙ sym (ap (λ (asked : Option (List Item)). item_text_left asked c.args.text.now) (items_asked-inside c.args.ended c.args.begin c.args.from c.args.octets.now _ (sym c.is_inside.ensures ∙ c.if-not-is_inside.false) first.items))
+    c.tell_item.ensures.text ∙ sym (ap (λ (asked : Option (List Item)). item_text_left asked c.args.text.now) (c.find_at.ensures.first c.if-not-find_at.false).1)
