@@ -47,6 +47,6 @@ first_changed change (item ∷ items) bits = if is_whole_item item then Ok (whol
 abbrev pub unit_repaired : List ℕ → Result (List ℕ) ℤ
 unit_repaired octets = first_changed repaired (items_of 0 (octet_bits octets)) (octet_bits octets)
 
--- and under another network access code (NAC), with one status symbol everywhere
+-- the unit that octets begin with, under another network access code (NAC), with one status symbol everywhere
 abbrev pub unit_bridged : ℕ → Status → List ℕ → Result (List ℕ) ℤ
 unit_bridged nac status octets = first_changed (λ item raw. bridged nac status item []) (items_of 0 (octet_bits octets)) (octet_bits octets)

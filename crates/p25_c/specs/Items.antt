@@ -68,7 +68,7 @@ abbrev pub item_left : Option (List Item) → ItemParts → ItemParts
 item_left (Some (item ∷ items)) before = parts_of item
 item_left asked before = before
 
--- and the text
+-- the text that is left once a place was asked for: that of the first item there, where there is one and room for it
 abbrev pub item_text_left : Option (List Item) → List ℕ → List ℕ
 item_text_left (Some (item ∷ items)) before = text_left (item_text_of item) before
 item_text_left asked before = before

@@ -44,6 +44,6 @@ EachIsClosed =
     (before : List Item) (item : Item) → LieFrom 0 (before ++ item ∷ [])
     → calls_by false (before ++ item ∷ []) ≡ calls_by false before ++ option_to_list (answer_to (behind_items fresh_caller before) item)
 
--- and at the end the call is answered that is open after the items
+-- at the end of the items the call is answered that is open after them
 abbrev pub LastIsOpen : Type 0
 LastIsOpen = (items : List Item) → LieFrom 0 items → calls_by true items ≡ calls_by false items ++ option_to_list (open_call (behind_items fresh_caller items))

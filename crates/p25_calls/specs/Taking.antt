@@ -70,7 +70,7 @@ abbrev pub unit_answer : Option Call → Option UnitSeen → Option Call
 unit_answer pending None = None
 unit_answer pending (Some unit) = ended_call pending unit
 
--- and the run that is open after it
+-- the run that is open after a unit, where an item is one
 abbrev pub unit_pending : Option Call → Option UnitSeen → Option Call
 unit_pending pending None = pending
 unit_pending pending (Some unit) = pending_run (run_with pending unit) unit

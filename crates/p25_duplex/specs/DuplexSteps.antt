@@ -66,7 +66,7 @@ delivery_at side d = delivery_between (station_at side d) (station_at (other_sid
 abbrev pub after_sending : StationState → Delivery × StepKind → StationState × StepKind
 after_sending own (delivery, kind) = (record own { outbound = delivery.outbound; newest = delivery.packet_sent }, kind)
 
--- and of its half that receives, which happens at the delivery of the other's messages
+-- a station after a call of its half that receives, which happens at the delivery of the other's messages
 abbrev pub after_receiving : StationState → Delivery × StepKind → StationState × StepKind
 after_receiving own (delivery, kind) = (record own { inbound = delivery.inbound; newest = delivery.answer }, kind)
 

@@ -38,7 +38,7 @@ abbrev pub NothingAfterWriteFault : Type 0
 NothingAfterWriteFault = (future : Future) (before after : List Event) (piece : List ℕ) (count : ℕ)
     → IsLive future at_first (before ++ WriteFailed piece count ∷ after) → after ≡ []
 
--- and the end tells it
+-- the end tells of a read that fails
 abbrev pub ReadFaultIsTold : Type 0
 ReadFaultIsTold = (future : Future) (before after : List Event) (end : FilterEnd) → IsRun future (before ++ ReadFailed ∷ after) end → end ≡ ReadFault
 

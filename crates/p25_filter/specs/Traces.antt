@@ -69,7 +69,7 @@ MayCome future at ReadFailed = IsSettled future at
 MayCome future at (Wrote piece) = IsDue future at piece
 MayCome future at (WriteFailed piece count) = IsDue future at piece
 
--- and so each event, after those before it
+-- each event of a list may come after those before it
 abbrev pub IsLive : Future → Standing → List Event → Type 0
 IsLive future at [] = Unit {0}
 IsLive future at (event ∷ events) = MayCome future at event × IsLive future (standing_after at event) events

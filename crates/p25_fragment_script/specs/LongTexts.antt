@@ -22,7 +22,7 @@ unfoldable pub line_before : Then → List ℕ
 line_before (Started parts) = ended_line (codes "long taken parts=" ++ decimal parts)
 line_before other = []
 
--- and the line after it, or in its place
+-- the line after it, or in its place
 unfoldable pub line_behind : Then → List ℕ
 line_behind Plain = []
 line_behind (Started parts) = []

@@ -44,7 +44,7 @@ to_short word is =
       passes = sym (zeros_first 0xC75 0x63B 0xF68 0x7B4 0x3DA 0xD99 (short_rows ++ check_columns 12) word) ∙ whole.passes;
     }
 
--- and the other way round
+-- what the short check matrix lets pass are words of the code
 pub from_short : (word : List Bool) → IsChecked (short_rows ++ check_columns 12) word → IsGolay18 word
 unfolding check_columns
 from_short word is = record {

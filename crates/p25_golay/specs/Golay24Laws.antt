@@ -37,7 +37,7 @@ code = record { fit = refl; heavy = heavy }
 generator_degree : HasDegree 0xC75 11
 generator_degree = record { highest = omega arith; none_above = omega arith }
 
--- and not a constant
+-- the generator is not a constant
 not_constant : 1 < 2 ^ 11
 not_constant = omega arith
 
@@ -105,7 +105,7 @@ to_checked word is =
       passes = ap (λ cs. syndrome_of cs word) (sym matrix-stated) ∙ mixed_passes mix stated_columns word passes;
     }
 
--- and the other way round
+-- what the check matrix lets pass are words of the code
 pub from_checked : (word : List Bool) → IsChecked (check_rows ++ check_columns 12) word → IsGolay24 word
 from_checked word is =
     let long = length_checked code word is in

@@ -22,7 +22,7 @@ code = record { fit = refl; heavy = heavy }
 pub to_checked : (word : List Bool) → IsHamming10 word → IsChecked (check_rows ++ check_columns 4) word
 to_checked word is = sum_checked code word is.long is.checks
 
--- and the other way round
+-- what the check matrix lets pass are words of the code
 pub from_checked : (word : List Bool) → IsChecked (check_rows ++ check_columns 4) word → IsHamming10 word
 from_checked word is = record { long = length_checked code word is; checks = checked_sum code word is }
 

@@ -37,7 +37,7 @@ heavy = refl
 pub code : IsSystematic check_rows 8 5
 code = record { fit = refl; heavy = heavy }
 
--- and not a constant
+-- the generator is not a constant
 not_constant : 1 < 2 ^ 8
 not_constant = omega arith
 
@@ -50,7 +50,7 @@ pub to_checked : (word : List Bool) → IsLsd16 word → IsChecked (check_rows +
 unfolding check_columns
 to_checked word is = record { long = is.long; passes = same_sum word is.long ∙ remainders-divisible generator_degree not_constant word is.divisible }
 
--- and the other way round
+-- what the check matrix lets pass are words of the code
 pub from_checked : (word : List Bool) → IsChecked (check_rows ++ check_columns 8) word → IsLsd16 word
 from_checked word is =
     let long = length_checked code word is in

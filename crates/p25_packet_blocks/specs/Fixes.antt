@@ -25,10 +25,10 @@ unfoldable pub blocks_distance : ℕ → (ℕ → ℕ → ℕ) → ℕ → List 
 blocks_distance states point zero bare = 0
 blocks_distance states point (suc n) bare = blocks_distance states point n bare + nearest_distance states point (block_bits bare n)
 
--- those of blocks at half rate
+-- the distances of the nearest paths of n blocks to follow at half rate
 abbrev pub half_distance : ℕ → List Bool → ℕ
 half_distance n bare = blocks_distance 4 half_point n bare
 
--- those of blocks at three-quarter rate
+-- the distances of the nearest paths of n blocks to follow at three-quarter rate
 abbrev pub three_quarter_distance : ℕ → List Bool → ℕ
 three_quarter_distance n bare = blocks_distance 8 three_quarter_point n bare

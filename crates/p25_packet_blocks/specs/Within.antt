@@ -40,6 +40,6 @@ pub record IsSending (nac : ℕ) (packet : Packet) (statuses : List Status) : Ty
   pub sendable : IsSendable packet
   pub counted : 70 * length statuses ≡ packet_bare_length (head_blocks (packet_head packet))
 
--- its unit, as it is sent
+-- the unit of a packet (PDU) as it is sent
 abbrev pub sent_unit : ℕ → Packet → List Status → List Bool
 sent_unit nac packet statuses = woven (packet_image_of nac packet) statuses

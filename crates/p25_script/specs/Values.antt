@@ -32,7 +32,7 @@ where_ascending (Some places) = if is_ascending places then Some places else Non
 abbrev pub places_in : List ℕ → Option (List ℕ)
 places_in word = where_ascending (list_in place_in word)
 
--- and their text
+-- the text of places
 abbrev pub places_text : List ℕ → List ℕ
 places_text places = list_text decimal places
 

@@ -49,7 +49,7 @@ waits (Gap count) have = false
 waits (Ready count begun) have = false
 waits (NoUnit field) have = false
 
--- this is true of the bits that are held
+-- what is known of a beginning is true of the bits that are held
 unfoldable pub IsBeginning : Beginning → List Bool → Type 0
 IsBeginning (Searching clear) bits = IsSearched bits clear
 IsBeginning (Waiting count begun) bits = Needs bits (More count) begun

@@ -106,7 +106,7 @@ TerminatorIsRead =
     → (first_item at bits ≡ Whole at (terminator nac (statuses_of (take 144 bits))) (sync_errors bits + identifier_errors nac bits))
     × (is_decided bits ≡ true)
 
--- and the first item is a terminator (TDU) with some code only there
+-- only there is the first item a terminator (TDU) with some code
 abbrev pub TerminatorIsThere : Type 0
 TerminatorIsThere =
     (at nac : ℕ) (bits : List Bool) (place : ℕ) (statuses : List Status) (fixes : ℕ)

@@ -19,8 +19,8 @@ pub fn repair_item(item: &Item, raw: &mut BitBuf)
     repair_item_in(item, &mut BitBuf::new(), raw);
 }
 
-/// Does the same as `repair_item`. `room` takes the frame's bits without status symbols, so that no buffer has to be made; what
-/// it holds before and after the call means nothing.
+/// Sets the bits of an item as `repair_item` does. `room` takes the frame's bits without status symbols, so that no buffer has to
+/// be made; what it holds before and after the call means nothing.
 pub fn repair_item_in(item: &Item, room: &mut BitBuf, raw: &mut BitBuf)
     requires { IsSoundItem item.now }
     ensures { raw.new ≡ repaired item.now raw.old }

@@ -87,7 +87,7 @@ ShowsEachUnit =
     → octet_bits octets ≡ bits ++ (arrival.bits ++ more)
     → IsHidden (length bits) (items_of 0 (octet_bits octets)) ⊎ HasLine (whole_of (length bits) arrival) (output_by Show true octets)
 
--- and `repair` writes its image at its place
+-- `repair` writes the image of each unit that came near at its place
 abbrev pub RepairsEachUnit : Type 0
 RepairsEachUnit =
     (octets : List ℕ) (bits : List Bool) (arrival : Arrival) (more : List Bool) → IsNearArrival arrival

@@ -46,7 +46,7 @@ TerminatorIsNear =
     (nac : ℕ) (statuses : List Status) (bits : List Bool) → length statuses ≡ 2 → nac < 4096 → 144 ≤ length bits
     → HasTerminator nac bits ↔ IsWithinRadius (terminator nac statuses) (take 144 bits)
 
--- its fixes are the wrong bits of both
+-- the fixes of a terminator (TDU) are the wrong bits of its sync and of its network identifier (NID)
 abbrev pub ErrorsAreFixes : Type 0
 ErrorsAreFixes =
     (nac : ℕ) (statuses : List Status) (bits : List Bool)

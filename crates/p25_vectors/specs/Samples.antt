@@ -48,7 +48,7 @@ sample_frame i = (frame_next (kind_of i) (state_before i)).0
 abbrev pub damage_state : ℕ → ℕ
 damage_state i = (frame_next (kind_of i) (state_before i)).1
 
--- its bits as they are sent, damaged
+-- the bits of a sample unit as they are sent, damaged
 unfoldable pub sample_bits : ℕ → List Bool
 sample_bits i = damaged_image (sample_frame i) (damage_state i)
 
