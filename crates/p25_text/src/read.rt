@@ -13,7 +13,7 @@ ghost use Rattle.p25_text.specs.declared.names.UnitKind.TheVariants.{Hdu, Ldu2};
 use super::names::UnitKind;
 use super::packets::{confirmed_value, plain_value};
 use super::values::{Values, nac_value, values_of_words};
-use super::voices::{header_value, ldu1_value, ldu2_value, tdulc_value};
+use super::voices::{hdu_value, ldu1_value, ldu2_value, tdulc_value};
 use p25_line::{LineFault, LineReader, LineWords, read_whole};
 use p25_packet_blocks::{PLAIN_FORMAT, Packet, RESPONSE_FORMAT};
 use p25_units::{Body, Unit, VoiceUnit};
@@ -89,7 +89,7 @@ fn read_body(kind: UnitKind, values: &Values) -> Option<Body>
     match kind {
         UnitKind::Tdu => Some(Body::Voice(VoiceUnit::End)),
         UnitKind::Tdulc => voice_body(tdulc_value(values.get(1))),
-        UnitKind::Hdu => voice_body(read_header(values)),
+        UnitKind::Hdu => voice_body(read_hdu(values)),
         UnitKind::Ldu1 => voice_body(ldu1_value(values.get(1), values.get(2), values.get(3))),
         UnitKind::Ldu2 => voice_body(read_ldu2(values)),
         UnitKind::Confirmed => packet_body(confirmed_value(values.get(1), values.get(2))),
@@ -103,11 +103,11 @@ fn read_body(kind: UnitKind, values: &Values) -> Option<Body>
 }
 
 // The header (HDU) of the values of a line.
-fn read_header(values: &Values) -> Option<VoiceUnit>
+fn read_hdu(values: &Values) -> Option<VoiceUnit>
     requires { length values.now ≡ 6 }
     ensures { result ≡ voice_in Hdu (drop 1 values.now) }
 {
-    header_value(
+    hdu_value(
         values.get(1),
         values.get(2),
         values.get(3),

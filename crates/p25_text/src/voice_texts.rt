@@ -20,16 +20,16 @@ pub fn put_voice(nac: u16, unit: &VoiceUnit, out: &mut Line)
     ensures short { length out.new ≤ length out.old + 4700 }
 {
     match unit {
-        VoiceUnit::Header(word) => put_header(nac, word, out),
+        VoiceUnit::Header(word) => put_hdu(nac, word, out),
         VoiceUnit::Link1 { link, low, voice } => put_ldu1(nac, link, low, voice, out),
         VoiceUnit::Link2 { sync, low, voice } => put_ldu2(nac, sync, low, voice, out),
-        VoiceUnit::End => put_end(nac, out),
+        VoiceUnit::End => put_tdu(nac, out),
         VoiceUnit::EndLink { link } => put_tdulc(nac, link, out),
     }
 }
 
 // Appends the line of a header data unit (HDU).
-fn put_header(nac: u16, word: &HeaderWord, out: &mut Line)
+fn put_hdu(nac: u16, word: &HeaderWord, out: &mut Line)
     requires { length out.old + 4700 ≤ 8192 }
     ensures text { out.new ≡ out.old ++ text_of (record { nac = nac; body = Body.Voice (VoiceUnit.Header word.now) }) }
     ensures short { length out.new ≤ length out.old + 4700 }
@@ -69,7 +69,7 @@ fn put_ldu2(nac: u16, sync: &EncryptionSync, low: &[u8; 2], voice: &Voice, out: 
 }
 
 // Appends the line of a TDU: a terminator without link control.
-fn put_end(nac: u16, out: &mut Line)
+fn put_tdu(nac: u16, out: &mut Line)
     requires { length out.old + 4700 ≤ 8192 }
     ensures text { out.new ≡ out.old ++ text_of (record { nac = nac; body = Body.Voice VoiceUnit.End }) }
     ensures short { length out.new ≤ length out.old + 4700 }

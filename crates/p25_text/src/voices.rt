@@ -11,13 +11,7 @@ use p25_link::{EncryptionSync, HeaderWord, LinkControl};
 use p25_voice_units::{Voice, VoiceFrame, VoiceUnit};
 
 /// Answers the header (HDU) of the values of its fields. `None` comes exactly where a value is not of its form.
-pub fn header_value(
-    mi: &[u8],
-    mfid: &[u8],
-    algid: &[u8],
-    kid: &[u8],
-    tgid: &[u8],
-) -> Option<VoiceUnit>
+pub fn hdu_value(mi: &[u8], mfid: &[u8], algid: &[u8], kid: &[u8], tgid: &[u8]) -> Option<VoiceUnit>
     ensures { result ≡ voice_in Hdu (mi.now ∷ mfid.now ∷ algid.now ∷ kid.now ∷ tgid.now ∷ []) }
 {
     let mi = octets_value::<9>(mi)?;
