@@ -22,16 +22,22 @@ fn blocks_of_half_rate(rt: HostRuntime) {
             ],
         ),
     ];
-    for (octets, sent) in rows {
-        let mut bits = [255; 25];
-        p25_half_rate_write(&octets, &mut bits);
-        assert_eq!(rt; bits, sent);
-        bits[0] ^= 0x80;
-        bits[24] ^= 0x1F;
-        let mut read = [9; 12];
-        assert_eq!(rt; p25_half_rate_read(&bits, &mut read), 2);
-        assert_eq!(rt; read, octets);
+    for (octets, sent) in &rows {
+        assert!(rt; half_rate_goes_both_ways(octets, sent));
     }
+}
+
+// Whether octets are written as a block, and read of it with two wrong bits, where the last four are others too.
+fn half_rate_goes_both_ways(octets: &[u8; 12], sent: &[u8; 25]) -> bool {
+    let mut bits = [255; 25];
+    p25_half_rate_write(octets, &mut bits);
+    if bits != *sent {
+        return false;
+    }
+    bits[0] ^= 0x80;
+    bits[24] ^= 0x1F;
+    let mut read = [9; 12];
+    p25_half_rate_read(&bits, &mut read) == 2 && read == *octets
 }
 
 #[test]
@@ -55,16 +61,22 @@ fn blocks_of_three_quarter_rate(rt: HostRuntime) {
             ],
         ),
     ];
-    for (octets, sent) in rows {
-        let mut bits = [255; 25];
-        p25_three_quarter_rate_write(&octets, &mut bits);
-        assert_eq!(rt; bits, sent);
-        bits[7] ^= 0x01;
-        bits[24] ^= 0x0F;
-        let mut read = [9; 18];
-        assert_eq!(rt; p25_three_quarter_rate_read(&bits, &mut read), 1);
-        assert_eq!(rt; read, octets);
+    for (octets, sent) in &rows {
+        assert!(rt; three_quarter_rate_goes_both_ways(octets, sent));
     }
+}
+
+// Whether octets are written as a block, and read of it with a wrong bit, where the last four are others too.
+fn three_quarter_rate_goes_both_ways(octets: &[u8; 18], sent: &[u8; 25]) -> bool {
+    let mut bits = [255; 25];
+    p25_three_quarter_rate_write(octets, &mut bits);
+    if bits != *sent {
+        return false;
+    }
+    bits[7] ^= 0x01;
+    bits[24] ^= 0x0F;
+    let mut read = [9; 18];
+    p25_three_quarter_rate_read(&bits, &mut read) == 1 && read == *octets
 }
 
 // The levels of the block of zeros, 49 times 00 and 10, and then two that are nearer to others.

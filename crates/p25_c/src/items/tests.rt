@@ -12,8 +12,11 @@ const RECORDING: [u8; 85] = [
     0xFF, 0x29, 0x33, 0x38, 0x5D,
 ];
 
-// The items of the recording: place, bits, fixes, network access code (NAC), data unit identifier (DUID), kind and text.
-const ITEMS: [(u64, u32, u32, u16, u8, u8, &'static [u8]); 4] = [
+// What is told of an item: place, bits, fixes, network access code (NAC), data unit identifier (DUID), kind and text.
+type Told = (u64, u32, u32, u16, u8, u8, &'static [u8]);
+
+// The items of the recording.
+const ITEMS: [Told; 4] = [
     (0, 24, 0, 0, 0, 4, b"gap at=0 bits=24"),
     (
         24,
@@ -51,7 +54,7 @@ const BEFORE: ItemParts = ItemParts {
 fn is_item(
     item: &ItemParts,
     place: u64,
-    counts: (u32, u32, u32),
+    counts: (u32, u32, usize),
     nac: u16,
     duid: u8,
     kind: u8,
@@ -59,7 +62,7 @@ fn is_item(
     item.place == place
         && item.bits == counts.0
         && item.fixes == counts.1
-        && item.text_length == counts.2
+        && item.text_length as usize == counts.2
         && item.nac == nac
         && item.duid == duid
         && item.kind == kind
@@ -75,42 +78,55 @@ fn has_text(room: &[u8], text: &[u8]) -> bool {
     text.len() < room.len() && &room[..text.len()] == text && room[text.len()] == 0
 }
 
+// Whether an item of the recording is told at a place.
+fn is_told(told: &Told, from: u64) -> bool {
+    let (place, bits, fixes, nac, duid, kind, text) = *told;
+    let mut item = BEFORE;
+    let mut room = [9; 64];
+    p25_next_item(&RECORDING, 0, from, true, &mut item, &mut room) == 1
+        && is_item(&item, place, (bits, fixes, text.len()), nac, duid, kind)
+        && has_text(&room, text)
+}
+
+// Whether no item is told at a place of the octets from bit `begin` on, with an answer, and all stays as it is.
+fn is_none(begin: u64, from: u64, answer: i32) -> bool {
+    let mut item = BEFORE;
+    let mut room = [9; 64];
+    p25_next_item(&RECORDING, begin, from, true, &mut item, &mut room) == answer
+        && is_left(&item)
+        && room[0] == 9
+}
+
 #[test]
 fn each_item_in_turn(rt: HostRuntime) {
     let mut from = 0;
-    for (place, bits, fixes, nac, duid, kind, text) in ITEMS {
-        let mut item = BEFORE;
-        let mut room = [9; 64];
-        assert_eq!(rt;
-            p25_next_item(&RECORDING, 0, from, true, &mut item, &mut room),
-            1
-        );
-        assert!(rt;
-            is_item(
-                &item,
-                place,
-                (bits, fixes, text.len() as u32),
-                nac,
-                duid,
-                kind
-            ),
-            "{place}"
-        );
-        assert!(rt; has_text(&room, text), "{place}");
-        from = place + u64::from(bits);
+    for told in &ITEMS {
+        assert!(rt; is_told(told, from));
+        from = told.0 + u64::from(told.1);
+    }
+    assert!(rt; is_none(0, from, 0));
+}
+
+// The octets that are left out before and after, the place, whether the recording ends, the answer, and the kind.
+type Piece = (usize, usize, u64, bool, i32, u8);
+
+// Whether a piece of the recording tells an item so.
+fn piece_tells(piece: &Piece) -> bool {
+    let (before, after, from, ended, answer, kind) = *piece;
+    if before > 80 || after > 85 - before {
+        return false;
     }
     let mut item = BEFORE;
-    assert_eq!(rt;
-        p25_next_item(&RECORDING, 0, from, true, &mut item, &mut []),
-        0
-    );
-    assert!(rt; is_left(&item));
+    let octets = &RECORDING[before..85 - after];
+    let place = if answer == 1 { from } else { 7 };
+    p25_next_item(octets, 8 * before as u64, from, ended, &mut item, &mut []) == answer
+        && item.kind == kind
+        && item.place == place
 }
 
 #[test]
 fn pieces_that_begin_later(rt: HostRuntime) {
-    // Rows: the octets that are left out before and after, the place, whether the recording ends, the answer, and the kind.
-    let rows: [(usize, usize, u64, bool, i32, u8); 7] = [
+    let pieces: [Piece; 7] = [
         (3, 0, 24, true, 1, 1),
         (3, 64, 24, false, 1, 1),
         (3, 65, 24, false, 0, 7),
@@ -119,33 +135,31 @@ fn pieces_that_begin_later(rt: HostRuntime) {
         (75, 0, 600, false, 0, 7),
         (75, 0, 600, true, 1, 5),
     ];
-    for (before, after, from, ended, answer, kind) in rows {
-        assert!(rt; before + after <= 85);
-        let mut item = BEFORE;
-        let octets = &RECORDING[before..85 - after];
-        assert_eq!(rt;
-            p25_next_item(octets, 8 * before as u64, from, ended, &mut item, &mut []),
-            answer
-        );
-        assert_eq!(rt; item.kind, kind, "{before} {after} {ended}");
-        assert_eq!(rt; item.place, if answer == 1 { from } else { 7 });
+    for piece in &pieces {
+        assert!(rt; piece_tells(piece));
     }
+}
+
+// Whether the text of the gap, of 16 octets, is written into so much room, or is not.
+fn gap_is_written(count: usize, written: bool) -> bool {
+    let mut item = BEFORE;
+    let mut room = [9; 64];
+    if count > 64 {
+        return false;
+    }
+    let first = if written { b'g' } else { 9 };
+    p25_next_item(&RECORDING, 0, 0, true, &mut item, &mut room[..count]) == 1
+        && item.text_length == 16
+        && has_text(&room, b"gap at=0 bits=24") == written
+        && room[0] == first
+        && room[17] == 9
 }
 
 #[test]
 fn room_for_a_text(rt: HostRuntime) {
-    // The text has 16 octets: it wants 17.
+    // It wants 17 octets, one for the zero after it.
     for (count, written) in [(0usize, false), (16, false), (17, true), (64, true)] {
-        let mut item = BEFORE;
-        let mut room = [9; 64];
-        assert_eq!(rt;
-            p25_next_item(&RECORDING, 0, 0, true, &mut item, &mut room[..count]),
-            1
-        );
-        assert_eq!(rt; item.text_length, 16);
-        assert_eq!(rt; has_text(&room, b"gap at=0 bits=24"), written, "{count}");
-        assert_eq!(rt; room[0], if written { b'g' } else { 9 });
-        assert_eq!(rt; room[17], 9);
+        assert!(rt; gap_is_written(count, written));
     }
 }
 
@@ -159,22 +173,9 @@ fn places_outside(rt: HostRuntime) {
         (8, 689),
         (1 << 59, (1 << 59) + 1),
     ] {
-        let mut item = BEFORE;
-        let mut room = [9; 64];
-        assert_eq!(rt;
-            p25_next_item(&RECORDING, begin, from, true, &mut item, &mut room),
-            -1,
-            "{begin} {from}"
-        );
-        assert!(rt; is_left(&item) && room[0] == 9);
+        assert!(rt; is_none(begin, from, -1));
     }
+    assert!(rt; is_none(0, 680, 0));
     let mut item = BEFORE;
-    assert_eq!(rt;
-        p25_next_item(&RECORDING, 0, 680, true, &mut item, &mut []),
-        0
-    );
-    assert_eq!(rt;
-        p25_next_item(&RECORDING, 1 << 59, 1 << 59, true, &mut item, &mut []),
-        1
-    );
+    assert!(rt; p25_next_item(&RECORDING, 1 << 59, 1 << 59, true, &mut item, &mut []) == 1);
 }

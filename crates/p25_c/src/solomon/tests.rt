@@ -1,5 +1,7 @@
 //! Words that other programs encoded and read. A text gives a symbol by two octal digits.
 
+ghost use Rattle.std.specs.Prelude.{◌≤◌};
+
 use super::*;
 
 // The octets of a text.
@@ -9,6 +11,65 @@ fn octets_of<const N: usize>(text: &str) -> [u8; N] {
         *octet = digits[0] % 8 * 8 + digits[1] % 8;
     }
     octets
+}
+
+// The three calls on words of a code.
+trait SymbolCalls<const N: usize> {
+    fn read(symbols: &mut [u8; N]) -> i32;
+
+    fn read_erased(symbols: &mut [u8; N], erased: &[bool; N]) -> i32;
+
+    fn write(symbols: &mut [u8; N]) -> i32;
+}
+
+macro_rules! symbol_calls {
+    ($n:literal, $k:literal, $read:ident, $read_erased:ident, $write:ident) => {
+        impl SymbolCalls<$n> for Rs<$n, $k> {
+            fn read(symbols: &mut [u8; $n]) -> i32 {
+                $read(symbols)
+            }
+
+            fn read_erased(symbols: &mut [u8; $n], erased: &[bool; $n]) -> i32 {
+                $read_erased(symbols, erased)
+            }
+
+            fn write(symbols: &mut [u8; $n]) -> i32 {
+                $write(symbols)
+            }
+        }
+    };
+}
+
+symbol_calls!(36, 20, p25_rs_36_20_read, p25_rs_36_20_read_erased, p25_rs_36_20_write);
+
+symbol_calls!(24, 12, p25_rs_24_12_read, p25_rs_24_12_read_erased, p25_rs_24_12_write);
+
+symbol_calls!(24, 16, p25_rs_24_16_read, p25_rs_24_16_read_erased, p25_rs_24_16_write);
+
+// Whether a received word is read so, by the call for erased symbols too, where none is.
+fn is_read<C: SymbolCalls<N>, const N: usize>(received: &str, answer: i32, left: &str) -> bool
+    requires { N ≤ 36 }
+{
+    let (mut symbols, mut again) = (octets_of::<N>(received), octets_of::<N>(received));
+    let left = octets_of::<N>(left);
+    C::read(&mut symbols) == answer
+        && symbols == left
+        && C::read_erased(&mut again, &[false; N]) == answer
+        && again == left
+}
+
+// Whether a word is written again of its information, where its first check symbol and the one at 23 are others.
+fn is_written<C: SymbolCalls<N>, const N: usize>(word: &str, first: usize) -> bool
+    requires { N ≤ 36 }
+{
+    let word = octets_of::<N>(word);
+    let mut symbols = word;
+    for place in [first, 23] {
+        if place < N {
+            symbols[place] = 255;
+        }
+    }
+    C::write(&mut symbols) == 0 && symbols == word
 }
 
 #[test]
@@ -32,21 +93,8 @@ fn words_of_36_20(rt: HostRuntime) {
         ),
     ];
     for (received, answer, left) in rows {
-        let mut symbols = octets_of::<36>(received);
-        assert_eq!(rt; p25_rs_36_20_read(&mut symbols), answer);
-        assert_eq!(rt; symbols, octets_of::<36>(left));
-        let mut symbols = octets_of::<36>(received);
-        assert_eq!(rt;
-            p25_rs_36_20_read_erased(&mut symbols, &[false; 36]),
-            answer
-        );
-        assert_eq!(rt; symbols, octets_of::<36>(left));
-        if answer >= 0 {
-            symbols[20] = 255;
-            symbols[35] = 255;
-            assert_eq!(rt; p25_rs_36_20_write(&mut symbols), 0);
-            assert_eq!(rt; symbols, octets_of::<36>(left));
-        }
+        assert!(rt; is_read::<Rs<36, 20>, 36>(received, answer, left));
+        assert!(rt; answer < 0 || is_written::<Rs<36, 20>, 36>(left, 20));
     }
 }
 
@@ -71,21 +119,8 @@ fn words_of_24_12(rt: HostRuntime) {
         ),
     ];
     for (received, answer, left) in rows {
-        let mut symbols = octets_of::<24>(received);
-        assert_eq!(rt; p25_rs_24_12_read(&mut symbols), answer);
-        assert_eq!(rt; symbols, octets_of::<24>(left));
-        let mut symbols = octets_of::<24>(received);
-        assert_eq!(rt;
-            p25_rs_24_12_read_erased(&mut symbols, &[false; 24]),
-            answer
-        );
-        assert_eq!(rt; symbols, octets_of::<24>(left));
-        if answer >= 0 {
-            symbols[12] = 255;
-            symbols[23] = 255;
-            assert_eq!(rt; p25_rs_24_12_write(&mut symbols), 0);
-            assert_eq!(rt; symbols, octets_of::<24>(left));
-        }
+        assert!(rt; is_read::<Rs<24, 12>, 24>(received, answer, left));
+        assert!(rt; answer < 0 || is_written::<Rs<24, 12>, 24>(left, 12));
     }
 }
 
@@ -110,21 +145,8 @@ fn words_of_24_16(rt: HostRuntime) {
         ),
     ];
     for (received, answer, left) in rows {
-        let mut symbols = octets_of::<24>(received);
-        assert_eq!(rt; p25_rs_24_16_read(&mut symbols), answer);
-        assert_eq!(rt; symbols, octets_of::<24>(left));
-        let mut symbols = octets_of::<24>(received);
-        assert_eq!(rt;
-            p25_rs_24_16_read_erased(&mut symbols, &[false; 24]),
-            answer
-        );
-        assert_eq!(rt; symbols, octets_of::<24>(left));
-        if answer >= 0 {
-            symbols[16] = 255;
-            symbols[23] = 255;
-            assert_eq!(rt; p25_rs_24_16_write(&mut symbols), 0);
-            assert_eq!(rt; symbols, octets_of::<24>(left));
-        }
+        assert!(rt; is_read::<Rs<24, 16>, 24>(received, answer, left));
+        assert!(rt; answer < 0 || is_written::<Rs<24, 16>, 24>(left, 16));
     }
 }
 
@@ -140,12 +162,10 @@ fn erased_symbols(rt: HostRuntime) {
         *symbol = 63;
     }
     let received = symbols;
-    assert_eq!(rt; p25_rs_24_12_read_erased(&mut symbols, &erased), 12);
-    assert_eq!(rt; symbols, [0; 24]);
+    assert!(rt; p25_rs_24_12_read_erased(&mut symbols, &erased) == 12 && symbols == [0; 24]);
     symbols = received;
     erased[11] = false;
-    assert_eq!(rt; p25_rs_24_12_read_erased(&mut symbols, &erased), -1);
-    assert_eq!(rt; symbols, received);
+    assert!(rt; p25_rs_24_12_read_erased(&mut symbols, &erased) == -1 && symbols == received);
 }
 
 // Octets that name no symbol, also where they are erased.
@@ -154,12 +174,10 @@ fn octets_above_63(rt: HostRuntime) {
     let mut symbols = [0; 24];
     symbols[23] = 64;
     let received = symbols;
-    assert_eq!(rt; p25_rs_24_12_read(&mut symbols), -2);
-    assert_eq!(rt; p25_rs_24_16_read_erased(&mut symbols, &[true; 24]), -2);
-    assert_eq!(rt; symbols, received);
+    assert!(rt; p25_rs_24_12_read(&mut symbols) == -2 && symbols == received);
+    assert!(rt; p25_rs_24_16_read_erased(&mut symbols, &[true; 24]) == -2 && symbols == received);
     symbols[11] = 255;
     let received = symbols;
-    assert_eq!(rt; p25_rs_24_12_write(&mut symbols), -2);
-    assert_eq!(rt; p25_rs_24_16_write(&mut symbols), -2);
-    assert_eq!(rt; symbols, received);
+    assert!(rt; p25_rs_24_12_write(&mut symbols) == -2 && symbols == received);
+    assert!(rt; p25_rs_24_16_write(&mut symbols) == -2 && symbols == received);
 }

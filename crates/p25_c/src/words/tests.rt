@@ -5,15 +5,54 @@ use super::*;
 // A received word, the answer, and what is left.
 type Row = (u32, i32, u32);
 
-// What a call does to each received word.
-macro_rules! reads {
-    ($rt:expr, $call:ident, $rows:expr) => {
-        for (received, answer, left) in $rows {
-            let mut word = received;
-            assert_eq!($rt; $call(&mut word), answer, "{received}");
-            assert_eq!($rt; word, left, "{received}");
+// The two calls on words of a code.
+trait WordCalls {
+    fn read(word: &mut u32) -> i32;
+
+    fn write(info: u32) -> u32;
+}
+
+macro_rules! word_calls {
+    ($code:ident, $read:ident, $write:ident) => {
+        impl WordCalls for $code {
+            fn read(word: &mut u32) -> i32 {
+                $read(word)
+            }
+
+            fn write(info: u32) -> u32 {
+                $write(info)
+            }
         }
     };
+}
+
+word_calls!(Golay24, p25_golay24_read, p25_golay24_write);
+
+word_calls!(Golay18, p25_golay18_read, p25_golay18_write);
+
+word_calls!(Hamming10, p25_hamming10_read, p25_hamming10_write);
+
+word_calls!(Lsd16, p25_lsd16_read, p25_lsd16_write);
+
+// Whether each received word is read as its row says.
+fn are_read<C: WordCalls>(rows: &[Row]) -> bool {
+    for (received, answer, left) in rows {
+        let mut word = *received;
+        if C::read(&mut word) != *answer || word != *left {
+            return false;
+        }
+    }
+    true
+}
+
+// Whether each information is written as the word of its row.
+fn are_written<C: WordCalls>(rows: &[(u32, u32)]) -> bool {
+    for (info, word) in rows {
+        if C::write(*info) != *word {
+            return false;
+        }
+    }
+    true
 }
 
 #[test]
@@ -25,20 +64,18 @@ fn golay_words(rt: HostRuntime) {
         (0xF00000, -1, 0xF00000),
         (0x1000000, -2, 0x1000000),
     ];
-    reads!(rt, p25_golay24_read, rows);
+    assert!(rt; are_read::<Golay24>(&rows));
     let rows: [Row; 4] = [
         (0x018EB, 0, 0x018EB),
         (0x206CA, 3, 0x206CD),
         (0x40000, -2, 0x40000),
         (0xFFFFFFFF, -2, 0xFFFFFFFF),
     ];
-    reads!(rt, p25_golay18_read, rows);
-    for (info, word) in [(0x800, 0x800C75), (0x001, 0x0018EB), (0x1000, u32::MAX)] {
-        assert_eq!(rt; p25_golay24_write(info), word);
-    }
-    for (info, word) in [(0x01, 0x018EB), (0x20, 0x206CD), (0x40, u32::MAX)] {
-        assert_eq!(rt; p25_golay18_write(info), word);
-    }
+    assert!(rt; are_read::<Golay18>(&rows));
+    assert!(rt;
+        are_written::<Golay24>(&[(0x800, 0x800C75), (0x001, 0x0018EB), (0x1000, u32::MAX)])
+    );
+    assert!(rt; are_written::<Golay18>(&[(0x01, 0x018EB), (0x20, 0x206CD), (0x40, u32::MAX)]));
 }
 
 #[test]
@@ -49,20 +86,16 @@ fn hamming_and_low_speed_words(rt: HostRuntime) {
         (0x00F, -1, 0x00F),
         (0x400, -2, 0x400),
     ];
-    reads!(rt, p25_hamming10_read, rows);
+    assert!(rt; are_read::<Hamming10>(&rows));
     let rows: [Row; 4] = [
         (0x62DA, 0, 0x62DA),
         (0x1451, 2, 0x9471),
         (0x000B, -1, 0x000B),
         (0x10000, -2, 0x10000),
     ];
-    reads!(rt, p25_lsd16_read, rows);
-    for (info, word) in [(0x20, 0x20E), (0x01, 0x01C), (0x40, u32::MAX)] {
-        assert_eq!(rt; p25_hamming10_write(info), word);
-    }
-    for (info, word) in [(0x01, 0x0139), (0x80, 0x804E), (0x100, u32::MAX)] {
-        assert_eq!(rt; p25_lsd16_write(info), word);
-    }
+    assert!(rt; are_read::<Lsd16>(&rows));
+    assert!(rt; are_written::<Hamming10>(&[(0x20, 0x20E), (0x01, 0x01C), (0x40, u32::MAX)]));
+    assert!(rt; are_written::<Lsd16>(&[(0x01, 0x0139), (0x80, 0x804E), (0x100, u32::MAX)]));
 }
 
 #[test]
@@ -74,23 +107,21 @@ fn identifiers(rt: HostRuntime) {
         (0xFFF, 0xF, 0xFFFF_FFFF_FFFF_FFFE),
     ];
     for (nac, duid, bits) in rows {
-        assert_eq!(rt; p25_nid_write(nac, duid), bits);
+        assert!(rt; p25_nid_write(nac, duid) == bits);
         for (wrong, answer) in [(0, 0), (1, 0), (0x7FF0, 11)] {
-            let (mut read_nac, mut read_duid) = (1, 1);
-            assert_eq!(rt;
-                p25_nid_read(bits ^ wrong, &mut read_nac, &mut read_duid),
-                answer
-            );
-            assert_eq!(rt; (read_nac, read_duid), (nac, duid));
+            assert!(rt; reads_as(bits ^ wrong, answer, nac, duid));
         }
     }
-    let (mut nac, mut duid) = (7, 9);
-    assert_eq!(rt;
-        p25_nid_read(0x0003_682D_4527_4B06, &mut nac, &mut duid),
-        -1
-    );
-    assert_eq!(rt; (nac, duid), (7, 9));
+    assert!(rt; reads_as(0x0003_682D_4527_4B06, -1, 7, 9));
     for (nac, duid) in [(4_096, 0), (0, 16), (65_535, 255)] {
-        assert_eq!(rt; p25_nid_write(nac, duid), u64::MAX);
+        assert!(rt; p25_nid_write(nac, duid) == u64::MAX);
     }
+}
+
+// Whether 64 bits are read with an answer, and leave a NAC and a DUID where 7 and 9 were.
+fn reads_as(bits: u64, answer: i32, nac: u16, duid: u8) -> bool {
+    let (mut read_nac, mut read_duid) = (7, 9);
+    p25_nid_read(bits, &mut read_nac, &mut read_duid) == answer
+        && read_nac == nac
+        && read_duid == duid
 }
