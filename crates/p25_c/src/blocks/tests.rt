@@ -79,23 +79,31 @@ fn three_quarter_rate_goes_both_ways(octets: &[u8; 18], sent: &[u8; 25]) -> bool
     p25_three_quarter_rate_read(&bits, &mut read) == 1 && read == *octets
 }
 
-// The levels of the block of zeros, 49 times 00 and 10, and then two that are nearer to others.
-#[test]
-fn levels_of_zeros(rt: HostRuntime) {
+// The levels of the block of zeros, 49 times 00 and 10, with two that may be others.
+fn levels_with(seventh: i8, eighth: i8) -> [i8; 98] {
     let mut levels = [32; 98];
     for i in 0..49 {
-        assert!(rt; 2 * i + 1 < levels.len());
         levels[2 * i + 1] = -32;
     }
-    let mut halves = [9; 12];
-    assert_eq!(rt; p25_half_rate_read_levels(&levels, &mut halves), 0);
-    assert_eq!(rt; halves, [0; 12]);
-    levels[6] = -1;
-    levels[7] = 0;
+    levels[6] = seventh;
+    levels[7] = eighth;
+    levels
+}
+
+// Whether levels read as zeros at half rate, with a sum of squares.
+fn half_rate_zeros(levels: &[i8; 98], sum: u32) -> bool {
+    let mut octets = [9; 12];
+    p25_half_rate_read_levels(levels, &mut octets) == sum && octets == [0; 12]
+}
+
+// Whether levels read as zeros at three-quarter rate, with a sum of squares.
+fn three_quarter_rate_zeros(levels: &[i8; 98], sum: u32) -> bool {
     let mut octets = [9; 18];
-    assert_eq!(rt;
-        p25_three_quarter_rate_read_levels(&levels, &mut octets),
-        2_113
-    );
-    assert_eq!(rt; octets, [0; 18]);
+    p25_three_quarter_rate_read_levels(levels, &mut octets) == sum && octets == [0; 18]
+}
+
+#[test]
+fn levels_of_zeros(rt: HostRuntime) {
+    assert!(rt; half_rate_zeros(&levels_with(32, -32), 0));
+    assert!(rt; three_quarter_rate_zeros(&levels_with(-1, 0), 2_113));
 }

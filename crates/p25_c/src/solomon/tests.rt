@@ -5,10 +5,15 @@ ghost use Rattle.std.specs.Prelude.{◌≤◌};
 use super::*;
 
 // The octets of a text.
-fn octets_of<const N: usize>(text: &str) -> [u8; N] {
+fn octets_of<const N: usize>(text: &str) -> [u8; N]
+    requires { N ≤ 36 }
+{
+    let digits = text.as_bytes();
     let mut octets = [0; N];
-    for (octet, digits) in octets.iter_mut().zip(text.as_bytes().chunks_exact(2)) {
-        *octet = digits[0] % 8 * 8 + digits[1] % 8;
+    for i in 0..N {
+        if 2 * i + 1 < digits.len() {
+            octets[i] = digits[2 * i] % 8 * 8 + digits[2 * i + 1] % 8;
+        }
     }
     octets
 }
@@ -150,34 +155,54 @@ fn words_of_24_16(rt: HostRuntime) {
     }
 }
 
+// Whether a word of zeros whose first twelve symbols came as 63 is read so, where the first `erased` of them are erased.
+fn zeros_are_read(erased: usize, answer: i32, left: u8) -> bool {
+    let (mut symbols, mut gone, mut word) = ([0; 24], [false; 24], [0; 24]);
+    for i in 0..12 {
+        symbols[i] = 63;
+        gone[i] = i < erased;
+        word[i] = left;
+    }
+    p25_rs_24_12_read_erased(&mut symbols, &gone) == answer && symbols == word
+}
+
 // As many symbols as there are check symbols are erased, and then one fewer where one more is wrong.
 #[test]
 fn erased_symbols(rt: HostRuntime) {
-    let mut erased = [false; 24];
+    assert!(rt; zeros_are_read(12, 12, 0));
+    assert!(rt; zeros_are_read(11, -1, 63));
+}
+
+// Zeros, of which the octet at a place is another.
+fn zeros_but(place: usize, octet: u8) -> [u8; 24] {
     let mut symbols = [0; 24];
-    for gone in erased.iter_mut().take(12) {
-        *gone = true;
+    if place < 24 {
+        symbols[place] = octet;
     }
-    for symbol in symbols.iter_mut().take(12) {
-        *symbol = 63;
-    }
+    symbols
+}
+
+// Whether zeros of which the octet at a place is another are refused and left, by the readers.
+fn readers_refuse(place: usize, octet: u8) -> bool {
+    let mut symbols = zeros_but(place, octet);
     let received = symbols;
-    assert!(rt; p25_rs_24_12_read_erased(&mut symbols, &erased) == 12 && symbols == [0; 24]);
-    symbols = received;
-    erased[11] = false;
-    assert!(rt; p25_rs_24_12_read_erased(&mut symbols, &erased) == -1 && symbols == received);
+    p25_rs_24_12_read(&mut symbols) == -2
+        && p25_rs_24_16_read_erased(&mut symbols, &[true; 24]) == -2
+        && symbols == received
+}
+
+// Whether they are by the writers.
+fn writers_refuse(place: usize, octet: u8) -> bool {
+    let mut symbols = zeros_but(place, octet);
+    let given = symbols;
+    p25_rs_24_12_write(&mut symbols) == -2
+        && p25_rs_24_16_write(&mut symbols) == -2
+        && symbols == given
 }
 
 // Octets that name no symbol, also where they are erased.
 #[test]
 fn octets_above_63(rt: HostRuntime) {
-    let mut symbols = [0; 24];
-    symbols[23] = 64;
-    let received = symbols;
-    assert!(rt; p25_rs_24_12_read(&mut symbols) == -2 && symbols == received);
-    assert!(rt; p25_rs_24_16_read_erased(&mut symbols, &[true; 24]) == -2 && symbols == received);
-    symbols[11] = 255;
-    let received = symbols;
-    assert!(rt; p25_rs_24_12_write(&mut symbols) == -2 && symbols == received);
-    assert!(rt; p25_rs_24_16_write(&mut symbols) == -2 && symbols == received);
+    assert!(rt; readers_refuse(23, 64));
+    assert!(rt; writers_refuse(11, 255));
 }
