@@ -1,9 +1,5 @@
-pub mod Answers
-pub mod Blocks
-pub mod Solomon
 pub mod Rooms
 pub mod Items
 pub mod Calls
 pub mod Building
 pub mod Version
-pub mod Words

@@ -3,17 +3,17 @@
 //! Bits are in the order of sending, the highest bit of the first octet first; so the last octet holds four of them, in its upper half.
 //! There is a level for every two bits, a number from -128 to 127: 96 stands for 01, 32 for 00, -32 for 10 and -96 for 11.
 
-ghost use Rattle.std.specs.Prelude.{◌≡◌, ◌++◌, length};
+ghost use Rattle.std.specs.Prelude.{◌≡◌, ◌++◌};
 ghost use Rattle.p25_bits.specs.Bits.{bits_of, octet_bits};
-ghost use Rattle.p25_trellis.specs.Nearest.{block_from, half_block, half_octets, nearest_distance, nearest_octets, three_quarter_block, three_quarter_octets};
+ghost use Rattle.p25_trellis.specs.Nearest.{half_block, half_octets, nearest_distance, three_quarter_block, three_quarter_octets};
 ghost use Rattle.p25_trellis.specs.Tables.{half_point, three_quarter_point};
 ghost use Rattle.p25_trellis.specs.Trellis.{IsFirstLeastReading};
 ghost use Rattle.p25_soft.specs.SoftPaths.{soft_cost, soft_octets};
-ghost use Rattle.p25_c.specs.Blocks.{block_bits};
+ghost use Rattle.p25_word_calls.specs.Blocks.{block_bits};
 
-use p25_bits::BitBuf;
 use p25_soft::read_soft;
-use p25_trellis::{Half, Rate, ThreeQuarter, encode_block, read_block};
+use p25_trellis::{Half, ThreeQuarter};
+use p25_word_calls::{read_octet_block, write_octet_block};
 
 /// Sets the octets to those of the first nearest path to 196 bits at half rate, and answers in how many bits the two differ: 2
 /// wrong bits are always put right. The last four bits of the last octet are not looked at.
@@ -22,7 +22,7 @@ pub extern "C" fn p25_half_rate_read(bits: &[u8; 25], octets: &mut [u8; 12]) -> 
     ensures octets { octets.new ≡ half_octets (block_bits bits.now) }
     ensures distance { result ≡ nearest_distance 4 half_point (block_bits bits.now) }
 {
-    read_bits::<Half>(bits, octets)
+    read_octet_block::<Half>(bits, octets)
 }
 
 /// Sets the octets to those of the first nearest path to 196 bits at three-quarter rate, and answers in how many bits the two
@@ -32,7 +32,7 @@ pub extern "C" fn p25_three_quarter_rate_read(bits: &[u8; 25], octets: &mut [u8;
     ensures octets { octets.new ≡ three_quarter_octets (block_bits bits.now) }
     ensures distance { result ≡ nearest_distance 8 three_quarter_point (block_bits bits.now) }
 {
-    read_bits::<ThreeQuarter>(bits, octets)
+    read_octet_block::<ThreeQuarter>(bits, octets)
 }
 
 /// Sets the octets to those of the first path at half rate whose nominal levels lie nearest to 98 levels, and answers the sum of
@@ -63,7 +63,7 @@ pub extern "C" fn p25_three_quarter_rate_read_levels(
 pub extern "C" fn p25_half_rate_write(octets: &[u8; 12], bits: &mut [u8; 25])
     ensures { octet_bits bits.new ≡ half_block octets.now ++ bits_of 4 0 }
 {
-    write_bits::<Half>(octets, bits);
+    write_octet_block::<Half>(octets, bits);
 }
 
 /// Sets the bits to the block of 18 octets at three-quarter rate, and the last four to 0.
@@ -71,31 +71,7 @@ pub extern "C" fn p25_half_rate_write(octets: &[u8; 12], bits: &mut [u8; 25])
 pub extern "C" fn p25_three_quarter_rate_write(octets: &[u8; 18], bits: &mut [u8; 25])
     ensures { octet_bits bits.new ≡ three_quarter_block octets.now ++ bits_of 4 0 }
 {
-    write_bits::<ThreeQuarter>(octets, bits);
-}
-
-// Reads the block that octets hold.
-fn read_bits<R: Rate>(bits: &[u8], octets: &mut [u8]) -> u32
-    requires bits { length bits.now ≡ 25 }
-    requires octets { length octets.old ≡ R.OCTETS }
-    ensures octets { octets.new ≡ nearest_octets R.STATES R.BITS_PER_SYMBOL R.point_of (block_bits bits.now) }
-    ensures distance { result ≡ nearest_distance R.STATES R.point_of (block_bits bits.now) }
-{
-    let mut received = BitBuf::new();
-    received.put_numbers(bits, 8);
-    read_block::<R>(&received, 0, octets)
-}
-
-// Puts the block of octets into others.
-fn write_bits<R: Rate>(octets: &[u8], bits: &mut [u8])
-    requires octets { length octets.now ≡ R.OCTETS }
-    requires bits { length bits.old ≡ 25 }
-    ensures { octet_bits bits.new ≡ block_from R.BITS_PER_SYMBOL R.point_of octets.now ++ bits_of 4 0 }
-{
-    let mut block = BitBuf::new();
-    encode_block::<R>(octets, &mut block);
-    block.put_field(0, 4);
-    block.take_numbers(0, 8, bits);
+    write_octet_block::<ThreeQuarter>(octets, bits);
 }
 
 #[cfg(test)]

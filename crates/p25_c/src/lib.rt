@@ -13,7 +13,6 @@
 //! ```
 #![tactic(auto)]
 
-mod answers;
 mod blocks;
 mod building;
 mod checks;

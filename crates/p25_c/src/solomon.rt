@@ -3,17 +3,12 @@
 //! A word is an array of octets from 0 to 63, one for each symbol of six bits, in the order of sending: first those of the
 //! information, then the check symbols.
 
-ghost use Rattle.std.specs.Prelude.{◌≡◌, ◌<◌, ◌≤◌, All, length, map, IsTrue};
+ghost use Rattle.std.specs.Prelude.{◌≡◌};
 ghost use Rattle.p25_code.specs.Erasures.{without_erased};
-ghost use Rattle.p25_gf64.specs.Symbol.{number};
-ghost use Rattle.p25_reed_solomon.specs.Words.{IsCode};
 ghost use Rattle.p25_reed_solomon.specs.RsReadings.{rs_erased_reading_of, rs_reading_of};
-ghost use Rattle.p25_c.specs.Solomon.{IsSymbolReading, IsSymbolWriting};
+ghost use Rattle.p25_word_calls.specs.Symbols.{IsSymbolReading, IsSymbolWriting};
 
-use crate::answers::{OUTSIDE, answer_of};
-use p25_code::{BlockCode, read_received, read_with_erasures};
-use p25_gf64::Sym;
-use p25_reed_solomon::Rs;
+use p25_word_calls::{read_symbols, read_with_erased, write_symbols};
 
 /// Reads a received word of the code (36,20) and answers how many symbols were wrong, at most 8: the octets become those of the
 /// one word that differs in so few. Answers -1 where there is none, and -2 where an octet is above 63; nothing is changed then.
@@ -93,78 +88,3 @@ pub extern "C" fn p25_rs_24_16_write(symbols: &mut [u8; 24]) -> i32
 {
     write_symbols::<24, 16>(symbols)
 }
-
-// Reads the symbols that octets name to the radius.
-fn read_symbols<const N: usize, const K: usize>(octets: &mut [u8]) -> i32
-    requires code { IsCode N K }
-    requires long { length octets.old ≡ N }
-    ensures { IsSymbolReading (rs_reading_of N K) octets.old octets.new result }
-{
-    let mut word = [Sym::default(); N];
-    if !name_symbols(octets, &mut word) {
-        return OUTSIDE;
-    }
-    let reading = read_received::<Rs<N, K>>(&mut word);
-    put_numbers(&word, octets);
-    answer_of(reading)
-}
-
-// Reads the symbols that octets name, of which some are erased.
-fn read_with_erased<const N: usize, const K: usize>(octets: &mut [u8], erased: &[bool]) -> i32
-    requires code { IsCode N K }
-    requires long { length octets.old ≡ N }
-    requires erased { length erased.now ≡ N }
-    ensures { IsSymbolReading (λ received. rs_erased_reading_of N K (without_erased received erased.now)) octets.old octets.new result }
-{
-    let mut word = [Sym::default(); N];
-    if !name_symbols(octets, &mut word) {
-        return OUTSIDE;
-    }
-    let reading = read_with_erasures::<Rs<N, K>>(&mut word, erased);
-    put_numbers(&word, octets);
-    answer_of(reading)
-}
-
-// Sets octets to the word of the symbols that the first K name.
-fn write_symbols<const N: usize, const K: usize>(octets: &mut [u8]) -> i32
-    requires code { IsCode N K }
-    requires long { length octets.old ≡ N }
-    ensures { IsSymbolWriting N K octets.old octets.new result }
-{
-    let mut info = [Sym::default(); K];
-    if !name_symbols(&octets[..K], &mut info) {
-        return OUTSIDE;
-    }
-    let mut word = [Sym::default(); N];
-    Rs::<N, K>::encode(&info, &mut word);
-    put_numbers(&word, octets);
-    0
-}
-
-// Sets the symbols to those that octets name, and answers whether each octet names one.
-fn name_symbols(octets: &[u8], symbols: &mut [Sym]) -> bool
-    requires { length symbols.old ≡ length octets.now }
-    ensures named { IsTrue result → map number symbols.new ≡ octets.now }
-    ensures other { (All (λ octet. octet < 64) octets.now) → IsTrue result }
-{
-    for i in 0..octets.len() {
-        match Sym::new(octets[i]) {
-            Some(symbol) => symbols[i] = symbol,
-            None => return false,
-        }
-    }
-    true
-}
-
-// Sets octets to the numbers of symbols.
-fn put_numbers(symbols: &[Sym], octets: &mut [u8])
-    requires { length symbols.now ≡ length octets.old }
-    ensures { octets.new ≡ map number symbols.now }
-{
-    for i in 0..symbols.len() {
-        octets[i] = symbols[i].value();
-    }
-}
-
-#[cfg(test)]
-mod tests;

@@ -10,13 +10,11 @@ ghost use Rattle.p25_hamming.specs.Hamming10.{IsHamming10};
 ghost use Rattle.p25_hamming.specs.Hamming10Readings.{hamming10_reading_of};
 ghost use Rattle.p25_hamming.specs.Lsd16.{IsLsd16};
 ghost use Rattle.p25_hamming.specs.Lsd16Readings.{lsd16_reading_of};
-ghost use Rattle.p25_c.specs.Words.{IsIdentifierReading, IsIdentifierWriting, IsNumberReading, IsNumberWriting};
+ghost use Rattle.p25_word_calls.specs.Numbers.{IsIdentifierReading, IsIdentifierWriting, IsNumberReading, IsNumberWriting};
 
-use crate::answers::{BEYOND, OUTSIDE};
-use p25_bch_nid::{Nid, nid_bits, nid_distance, read_nid};
-use p25_code::NumberCode;
 use p25_golay::{Golay18, Golay24};
 use p25_hamming::{Hamming10, Lsd16};
+use p25_word_calls::{read_identifier, read_number, write_identifier, write_number};
 
 /// Reads a received word of the Golay code (24,12) and answers how many bits were wrong, at most 3: the number becomes that of the
 /// one word that differs in so few. Answers -1 where there is none, and -2 where the number has more than 24 bits; it stays then.
@@ -90,14 +88,7 @@ pub extern "C" fn p25_lsd16_write(info: u32) -> u32
 pub extern "C" fn p25_nid_read(bits: u64, nac: &mut u16, duid: &mut u8) -> i32
     ensures { IsIdentifierReading (bits_of 64 bits) (nac.old, duid.old) (nac.new, duid.new) result }
 {
-    match read_nid(bits) {
-        Some(nid) => {
-            *nac = nid.nac;
-            *duid = nid.duid;
-            nid_distance(bits, &nid) as i32
-        }
-        None => BEYOND,
-    }
+    read_identifier(bits, nac, duid)
 }
 
 /// Answers the network identifier (NID), 64 bits, that is sent for a NAC, below 4,096, and a DUID, below 16. Answers a number of ones
@@ -106,40 +97,5 @@ pub extern "C" fn p25_nid_read(bits: u64, nac: &mut u16, duid: &mut u8) -> i32
 pub extern "C" fn p25_nid_write(nac: u16, duid: u8) -> u64
     ensures { IsIdentifierWriting nac duid result }
 {
-    match Nid::new(nac, duid) {
-        Some(nid) => nid_bits(&nid),
-        None => u64::MAX,
-    }
+    write_identifier(nac, duid)
 }
-
-// Reads a received word of a code.
-fn read_number<C: NumberCode>(word: &mut u32) -> i32
-    requires { C.HasCode }
-    ensures { IsNumberReading C.N C.reading_is word.old word.new result }
-{
-    let received = *word;
-    if u64::from(received) >> C::N > 0 {
-        return OUTSIDE;
-    }
-    match C::read_number(received) {
-        Some(sent) => {
-            *word = sent;
-            (received ^ sent).count_ones() as i32
-        }
-        None => BEYOND,
-    }
-}
-
-// The word of some information.
-fn write_number<C: NumberCode>(info: u32) -> u32
-    requires { C.HasCode }
-    ensures { IsNumberWriting C.IsWord C.K C.N info result }
-{
-    if u64::from(info) >> C::K > 0 {
-        return u32::MAX;
-    }
-    C::encode_number(info)
-}
-
-#[cfg(test)]
-mod tests;

@@ -1,0 +1,4 @@
+pub mod AnswerSteps
+pub mod BlockSteps
+pub mod NumberSteps
+pub mod SymbolSteps

@@ -1,0 +1,70 @@
+//! Words of the binary codes, and network identifiers (NID), as numbers. The first bit that is sent is the highest of a number.
+
+ghost use Rattle.std.specs.Prelude.{◌≡◌, ℕ, ◌^◌, ◌<◌, ◌≤◌, ◌⊎◌};
+ghost use Rattle.p25_bits.specs.Bits.{bits_of};
+ghost use Rattle.p25_word_calls.specs.Numbers.{IsIdentifierReading, IsIdentifierWriting, IsNumberReading, IsNumberWriting};
+
+use crate::answers::{BEYOND, OUTSIDE};
+use p25_bch_nid::{Nid, nid_bits, nid_distance, read_nid};
+use p25_code::NumberCode;
+
+/// Reads a received word of a code as a number, the first bit highest, and answers how many bits were wrong: the number becomes that
+/// of the one word within the code's radius. Answers -1 where there is none, and -2 where the number has more bits than a word; it
+/// stays then.
+pub fn read_number<C: NumberCode>(word: &mut u32) -> i32
+    requires { C.HasCode }
+    ensures { IsNumberReading C.N C.reading_is word.old word.new result }
+{
+    let received = *word;
+    if u64::from(received) >> C::N > 0 {
+        return OUTSIDE;
+    }
+    match C::read_number(received) {
+        Some(sent) => {
+            *word = sent;
+            (received ^ sent).count_ones() as i32
+        }
+        None => BEYOND,
+    }
+}
+
+/// Answers the word of a code with this information, as a number, the first bit highest. Answers FFFFFFFF hex, which is no word,
+/// where the information has more bits than a word carries.
+pub fn write_number<C: NumberCode>(info: u32) -> u32
+    requires { C.HasCode }
+    ensures { IsNumberWriting C.IsWord C.K C.N info result }
+{
+    if u64::from(info) >> C::K > 0 {
+        return u32::MAX;
+    }
+    C::encode_number(info)
+}
+
+/// Reads a network identifier (NID) of 64 bits, sets its NAC and its DUID, and answers how many of the first 63 bits were wrong, at
+/// most 11. Answers -1 where no word of the code lies so near; the two stay then. The last bit is not looked at.
+pub fn read_identifier(bits: u64, nac: &mut u16, duid: &mut u8) -> i32
+    ensures { IsIdentifierReading (bits_of 64 bits) (nac.old, duid.old) (nac.new, duid.new) result }
+{
+    match read_nid(bits) {
+        Some(nid) => {
+            *nac = nid.nac;
+            *duid = nid.duid;
+            nid_distance(bits, &nid) as i32
+        }
+        None => BEYOND,
+    }
+}
+
+/// Answers the network identifier (NID), 64 bits, that is sent for a NAC, below 4,096, and a DUID, below 16. Answers a number of ones
+/// alone, which is none, where one of the two is above.
+pub fn write_identifier(nac: u16, duid: u8) -> u64
+    ensures { IsIdentifierWriting nac duid result }
+{
+    match Nid::new(nac, duid) {
+        Some(nid) => nid_bits(&nid),
+        None => u64::MAX,
+    }
+}
+
+#[cfg(test)]
+mod tests;
