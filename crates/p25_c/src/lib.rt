@@ -4,6 +4,8 @@
 //! contract says. A call keeps nothing, and takes no memory but its stack. A slice is a pointer and a length in C. What is
 //! written goes into room that the caller gives: where there is too little, nothing is written.
 //!
+//! What the calls on words and blocks do stands in p25_word_calls; this crate gives it names and arrays for C.
+//!
 //! ```c
 //! uint64_t place = 0;
 //! while (p25_next_item(octets, count, 0, place, true, &item, text, sizeof text) == 1) {
