@@ -1,6 +1,6 @@
 //! Voice units (HDU, LDU1, LDU2, TDU and TDULC) as bits.
 
-ghost use Rattle.std.specs.Prelude.{All, ◌≡◌, ◌+◌, ◌*◌, ◌/◌, ◌<◌, ◌≤◌, ◌++◌, Bool, List, Ok, Some, true, length, sum_by};
+ghost use Rattle.std.specs.Prelude.{◌≡◌, ◌+◌, ◌*◌, ◌/◌, ◌<◌, ◌≤◌, ◌++◌, Bool, List, Ok, Some, true, length, sum_by};
 ghost use Rattle.std.specs.List.{list_all};
 ghost use Rattle.p25_coded_fields.specs.Written.{Encodes};
 ghost use Rattle.p25_bits.specs.Bits.{bits_of, octet_bits};
@@ -17,6 +17,7 @@ use crate::unit::VoiceUnit;
 use crate::voice::{Voice, VoiceFrame};
 use p25_bch_nid::Nid;
 use p25_bits::BitBuf;
+use p25_bits::laws::octets_fit;
 use p25_code::{BlockCode, NumberCode};
 use p25_coded_fields::put_coded;
 use p25_gf64::Sym;
@@ -157,25 +158,18 @@ fn put_tdulc(link: &LinkControl, out: &mut BitBuf)
     put_rows::<Golay24>(&TDULC_ROWS, &symbols, &[], &[], out);
 }
 
-// Its contract says that octets fit.
-fn fit(octets: &[u8])
-    ensures { All (λ octet. octet < 256) octets.now }
-{
-    let _ = octets.len();
-}
-
 // Its contract says what a voice frame keeps.
 fn fit_frame(frame: &VoiceFrame)
     ensures { IsVoiceFrame frame.now }
 {
-    fit(&frame.0);
+    octets_fit(&frame.0);
 }
 
 // Its contract says what low speed data (LSD) and voice keep.
 fn fit_speech(low: &[u8; 2], voice: &Voice)
     ensures { IsSpeech low.now voice.now }
 {
-    fit(low);
+    octets_fit(low);
     for frame in voice.frames() {
         fit_frame(frame);
     }

@@ -106,12 +106,10 @@ fn put_call(call: &Option<Call>, out: &mut Line) -> u64
 }
 
 // Appends the last line: how many calls there were.
-#[tactic(auto, using(p25_line::proofs::DecimalLaws::decimal_short))]
 fn put_count(count: u64, out: &mut Line)
     requires { length out.old ≤ 401 }
     ensures { out.new ≡ out.old ++ calls_line count }
 {
-    out.put(b"calls=");
-    out.put_number(count);
+    out.put_labelled(b"calls=", count);
     out.put(b"\n");
 }

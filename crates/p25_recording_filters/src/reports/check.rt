@@ -89,14 +89,11 @@ impl Report for Check {
 }
 
 // Sets `out` to the last line of a check.
-#[tactic(auto, using(p25_line::proofs::DecimalLaws::decimal_short))]
 fn put_check_line(units: u64, faults: u64, out: &mut Line)
     ensures { out.new ≡ check_line units faults }
 {
     out.clear();
-    out.put(b"check units=");
-    out.put_number(units);
-    out.put(b" faults=");
-    out.put_number(faults);
+    out.put_labelled(b"check units=", units);
+    out.put_labelled(b" faults=", faults);
     out.put(b"\n");
 }
