@@ -1,13 +1,15 @@
-//! Lines and texts written by hand by their grammar, and each call once.
+//! Units made by a program apart from this code, lines and texts written by hand by their grammar, and each call once.
 
 mod calls;
 mod fields;
 mod items;
 mod lines;
+mod packets;
 mod refusals;
 mod script_lines;
 mod scripts;
 mod steps;
+mod units;
 
 use p25_line::Line;
 use p25_script::{Step, step_text};

@@ -30,8 +30,6 @@ mod octets;
 mod packet;
 mod read;
 mod slots;
-#[cfg(test)]
-mod tests;
 mod unit;
 mod whole;
 

@@ -28,8 +28,6 @@ mod packets;
 mod read;
 mod scan;
 mod sending;
-#[cfg(test)]
-mod tests;
 mod unit;
 
 pub use begun::Begun;

@@ -1,7 +1,7 @@
 //! Units before their status symbols are woven in, by their words of 64 bits, the most significant bit first, which a program apart
 //! from this code made; and what they need.
 
-use crate::{Field, Need};
+use p25_units::{Field, Need};
 
 // The front of the network access code (NAC) 293 hex and of the packets (PDU) below.
 const FRONT: u64 = 0x5575_F5FF_77FF_293C;
