@@ -7,6 +7,7 @@ mod faults;
 mod order;
 mod packets;
 mod refusals;
+mod reports;
 mod rows;
 mod samples;
 mod size;

@@ -1,8 +1,8 @@
 //! A report, an item after the other.
 
-use super::{Check, Report};
 use p25_bits::BitBuf;
 use p25_line::Line;
+use p25_recording_filters::{Check, Report};
 use p25_units::Item;
 
 #[test]
