@@ -4,6 +4,7 @@ use super::{Row, are_joined, calm, ends, tells};
 use p25_io::SliceSink;
 use p25_line::LineFault;
 use p25_tool::Outcome;
+use std::alloc::Global;
 
 // Fifteen timeouts of each side, and what is written where its message 0 is sent again at each.
 const A_TIMEOUTS: &[u8] =
@@ -145,8 +146,8 @@ const ROWS: [Row; 9] = [
 
 #[test]
 fn duplex_scripts_tell_their_steps(rt: HostRuntime) {
-    for row in ROWS {
-        assert!(rt; tells(rt.alloc(), b"duplex", &row), "{}", row.0);
+    for row in &ROWS {
+        assert!(rt; tells(rt.alloc(), b"duplex", row));
     }
 }
 
@@ -174,17 +175,19 @@ const LINES: [(&[u8], LineFault); 20] = [
     (b"deliver ba 3,3", LineFault::Value),
 ];
 
+// Whether a second line is refused so.
+fn is_refused(alloc: Global, line: &[u8], fault: LineFault) -> bool {
+    let mut room = [0; 256];
+    let mut script = SliceSink::new(&mut room, &[]);
+    let is_room = are_joined(&[b"a send 6162\n", line, b"\nb timeout\n"], &mut script);
+    let refused = Outcome::BadLine { line: 2, fault };
+    let call = calm(b"duplex", script.written(), 7);
+    is_room && ends(alloc, &call, refused, b"a send taken ns=0 blocks=1\n")
+}
+
 #[test]
 fn second_duplex_lines_are_refused(rt: HostRuntime) {
-    for (line, fault) in LINES {
-        let mut room = [0; 256];
-        let mut script = SliceSink::new(&mut room, &[]);
-        assert!(rt; are_joined(&[b"a send 6162\n", line, b"\nb timeout\n"], &mut script));
-        let refused = Outcome::BadLine { line: 2, fault };
-        let call = calm(b"duplex", script.written(), 7);
-        assert!(rt;
-            ends(rt.alloc(), &call, refused, b"a send taken ns=0 blocks=1\n"),
-            "{line:?}"
-        );
+    for (line, fault) in &LINES {
+        assert!(rt; is_refused(rt.alloc(), line, *fault));
     }
 }

@@ -3,11 +3,10 @@
 use p25_delivery::{Offer, Outstanding, Sender, StepKind, Way};
 use p25_duplex::{DuplexEvent, DuplexStep, Side};
 use p25_fragments::{LongEvent, LongMessage, LongStep, Then};
-use p25_messages::{Flips, Message, MessageList};
+use p25_messages::{Flips, Message};
 use p25_stations::{Event, Step};
-use std::alloc::{AllocError, Global};
+use std::alloc::Global;
 use std::fmt::Debug;
-use std::test::Fail;
 
 // Whether a value is equal to its copy and not to another value, and has this text.
 fn is_told<T: Clone + PartialEq + Debug + Drop>(
@@ -15,10 +14,14 @@ fn is_told<T: Clone + PartialEq + Debug + Drop>(
     value: &T,
     other: &T,
     text: &str,
-) -> Result<bool, AllocError> {
-    let copy = value.clone()?;
-    let told = format!(in alloc; "{value:?}")?;
-    Ok(*value == copy && *value != *other && told.as_str() == text)
+) -> bool {
+    let Ok(copy) = value.clone() else {
+        return false;
+    };
+    match format!(in alloc; "{value:?}") {
+        Ok(told) => *value == copy && *value != *other && told.as_str() == text,
+        Err(_) => false,
+    }
 }
 
 // The place 3 alone, or it and another above it.
@@ -35,40 +38,23 @@ fn places(more: Option<u16>) -> Flips {
 }
 
 #[test]
-fn lists_are_empty_until_they_hold_something(rt: HostRuntime) -> Result<(), Fail> {
+fn places_are_empty_until_one_is_put(rt: HostRuntime) {
     assert!(rt; Flips::new().is_empty() && !places(None).is_empty());
-    assert_eq!(rt; places(Some(25_919)).as_slice(), [3, 25_919].as_slice());
-    let mut sent = MessageList::new(rt.alloc());
-    assert!(rt; sent.is_empty());
-    sent.reserve(1)?;
-    sent.push(&Message::new(b"ab").ok_or("two octets")?);
-    assert!(rt; !sent.is_empty());
-    Ok(())
+    assert!(rt; places(Some(25_919)).as_slice() == [3, 25_919].as_slice());
+}
+
+fn are_messages_told(alloc: Global) -> Option<bool> {
+    let (message, other) = (Message::new(b"ab")?, Message::new(b"ac")?);
+    let text = "MessageOf { items: [97, 98] }";
+    Some(is_told(alloc, &message, &other, text))
 }
 
 #[test]
-fn places_and_messages(rt: HostRuntime) -> Result<(), Fail> {
-    let (one, two) = (places(None), places(Some(4)));
-    assert!(rt; is_told(rt.alloc(), &one, &two, "Flips { items: [3] }")?);
-    assert!(rt;
-        is_told(
-            rt.alloc(),
-            &two,
-            &places(Some(5)),
-            "Flips { items: [3, 4] }"
-        )?
-    );
-    let message = Message::new(b"ab").ok_or("two octets")?;
-    let other = Message::new(b"ac").ok_or("two octets")?;
-    assert!(rt;
-        is_told(
-            rt.alloc(),
-            &message,
-            &other,
-            "MessageOf { items: [97, 98] }"
-        )?
-    );
-    Ok(())
+fn places_and_messages(rt: HostRuntime) {
+    let (one, two, three) = (places(None), places(Some(4)), places(Some(5)));
+    assert!(rt; is_told(rt.alloc(), &one, &two, "Flips { items: [3] }"));
+    assert!(rt; is_told(rt.alloc(), &two, &three, "Flips { items: [3, 4] }"));
+    assert!(rt; are_messages_told(rt.alloc()) == Some(true));
 }
 
 fn taken(number: u8, blocks: u8) -> StepKind {
@@ -79,13 +65,15 @@ fn resent(number: u8, tries: u8) -> StepKind {
     StepKind::Resent { number, tries }
 }
 
-fn delivered(number: u8, octets: &[u8]) -> Option<StepKind> {
-    let message = Message::new(octets)?;
-    Some(StepKind::Delivered { number, message })
+fn delivered(number: u8, octets: &[u8]) -> StepKind {
+    match Message::new(octets) {
+        Some(message) => StepKind::Delivered { number, message },
+        None => StepKind::Idle,
+    }
 }
 
 #[test]
-fn kinds_of_steps(rt: HostRuntime) -> Result<(), Fail> {
+fn kinds_of_steps(rt: HostRuntime) {
     let rows = [
         (StepKind::Busy, StepKind::OfferDown, "Busy"),
         (taken(1, 2), taken(1, 3), "Taken { number: 1, blocks: 2 }"),
@@ -101,19 +89,18 @@ fn kinds_of_steps(rt: HostRuntime) -> Result<(), Fail> {
             "Nothing { way: Packets }",
         ),
         (
-            delivered(1, b"a").ok_or("an octet")?,
-            delivered(1, b"b").ok_or("an octet")?,
+            delivered(1, b"a"),
+            delivered(1, b"b"),
             "Delivered { number: 1, message: MessageOf { items: [97] } }",
         ),
     ];
     for (value, other, text) in &rows {
-        assert!(rt; is_told(rt.alloc(), value, other, text)?, "{text}");
+        assert!(rt; is_told(rt.alloc(), value, other, text));
     }
-    Ok(())
 }
 
 #[test]
-fn events(rt: HostRuntime) -> Result<(), Fail> {
+fn events(rt: HostRuntime) {
     let rows = [
         (Event::Timeout, Event::Reopen, "Timeout"),
         (
@@ -128,15 +115,22 @@ fn events(rt: HostRuntime) -> Result<(), Fail> {
         ),
     ];
     for (value, other, text) in &rows {
-        assert!(rt; is_told(rt.alloc(), value, other, text)?, "{text}");
+        assert!(rt; is_told(rt.alloc(), value, other, text));
     }
-    let message = LongMessage::new(b"a").ok_or("an octet")?;
-    let long = LongEvent::Long(message);
+}
+
+fn is_long_event_told(alloc: Global) -> Option<bool> {
+    let long = LongEvent::Long(LongMessage::new(b"a")?);
     let inner = LongEvent::Inner(Event::Timeout);
-    assert!(rt; is_told(rt.alloc(), &long, &inner, "Long(MessageOf { items: [97] })")?);
+    let text = "Long(MessageOf { items: [97] })";
+    Some(is_told(alloc, &long, &inner, text))
+}
+
+#[test]
+fn events_of_the_other_worlds(rt: HostRuntime) {
+    assert!(rt; is_long_event_told(rt.alloc()) == Some(true));
     let (a, b) = (DuplexEvent::Timeout(Side::A), DuplexEvent::Timeout(Side::B));
-    assert!(rt; is_told(rt.alloc(), &a, &b, "Timeout(A)")?);
-    Ok(())
+    assert!(rt; is_told(rt.alloc(), &a, &b, "Timeout(A)"));
 }
 
 fn part(number: u8) -> LongStep {
@@ -144,41 +138,39 @@ fn part(number: u8) -> LongStep {
     LongStep { first: None, then }
 }
 
-#[test]
-fn steps(rt: HostRuntime) -> Result<(), Fail> {
-    let (idle, up) = (Step::quiet(StepKind::Idle), Step::quiet(StepKind::Up));
-    let mut passed = idle.clone()?;
-    passed.false_pass = true;
-    let text = "Step { kind: Idle, false_pass: false }";
-    assert!(rt; is_told(rt.alloc(), &idle, &passed, text)?);
-    assert!(rt; is_told(rt.alloc(), &idle, &up, text)?);
-    let text = "LongStep { first: None, then: Part { number: 1 } }";
-    assert!(rt; is_told(rt.alloc(), &part(1), &part(2), text)?);
-    let step = idle.clone()?;
-    let at_a = DuplexStep {
-        side: Side::A,
-        step: idle,
-    };
-    let at_b = DuplexStep {
-        side: Side::B,
-        step,
-    };
-    let text = "DuplexStep { side: A, step: Step { kind: Idle, false_pass: false } }";
-    assert!(rt; is_told(rt.alloc(), &at_a, &at_b, text)?);
-    Ok(())
+fn at(side: Side) -> DuplexStep {
+    let step = Step::quiet(StepKind::Idle);
+    DuplexStep { side, step }
 }
 
 #[test]
-fn senders_and_their_answers(rt: HostRuntime) -> Result<(), Fail> {
+fn steps(rt: HostRuntime) {
+    let (idle, up) = (Step::quiet(StepKind::Idle), Step::quiet(StepKind::Up));
+    let mut passed = Step::quiet(StepKind::Idle);
+    passed.false_pass = true;
+    let text = "Step { kind: Idle, false_pass: false }";
+    assert!(rt; is_told(rt.alloc(), &idle, &passed, text) && is_told(rt.alloc(), &idle, &up, text));
+    let text = "LongStep { first: None, then: Part { number: 1 } }";
+    assert!(rt; is_told(rt.alloc(), &part(1), &part(2), text));
+    let text = "DuplexStep { side: A, step: Step { kind: Idle, false_pass: false } }";
+    assert!(rt; is_told(rt.alloc(), &at(Side::A), &at(Side::B), text));
+}
+
+// Whether senders that are offered the same are the same and answer the same, and another message has another answer.
+fn are_senders_told(alloc: Global) -> Option<bool> {
     let text = "Sender { next: 0, outstanding: Nothing, tries: 0, down: false }";
     let (mut one, mut two) = (Sender::new(), Sender::new());
-    let message = Message::new(b"ab").ok_or("two octets")?;
+    let (message, other) = (Message::new(b"ab")?, Message::new(b"ac")?);
     let first = one.offer(&message);
-    assert!(rt; is_told(rt.alloc(), &two, &one, text)?);
-    assert!(rt; first == two.offer(&message) && one == two);
-    let third = Sender::new().offer(&Message::new(b"ac").ok_or("two octets")?);
-    assert!(rt; first != third && first != Offer::Busy);
+    let is_new_told = is_told(alloc, &two, &one, text);
+    let is_same = first == two.offer(&message) && one == two;
+    let is_other = first != Sender::new().offer(&other) && first != Offer::Busy;
+    Some(is_new_told && is_same && is_other)
+}
+
+#[test]
+fn senders_and_their_answers(rt: HostRuntime) {
+    assert!(rt; are_senders_told(rt.alloc()) == Some(true));
     let (waits, opens) = (Outstanding::Opening(1), Outstanding::Opening(2));
-    assert!(rt; is_told(rt.alloc(), &waits, &opens, "Opening(1)")?);
-    Ok(())
+    assert!(rt; is_told(rt.alloc(), &waits, &opens, "Opening(1)"));
 }

@@ -27,58 +27,56 @@ fn decided(octets: usize) -> usize
     }
 }
 
-#[test]
-fn each_read_of_a_script_fails_in_turn(rt: HostRuntime) {
-    for read in 1..44_usize {
-        let call = Call {
-            failing_read: read as u64,
-            ..calm(b"stations", SCRIPT, 1)
-        };
-        let text = &TEXT[..decided(read - 1)];
-        assert!(rt;
-            ends(rt.alloc(), &call, Outcome::ReadFault, text),
-            "failing at {read}"
-        );
-    }
-    // No read is made after the end.
+// Whether a read of the script that fails ends it; no read is made after the 43rd, which finds the end.
+fn read_fails(alloc: Global, read: usize) -> bool {
     let call = Call {
-        failing_read: 44,
+        failing_read: read as u64,
         ..calm(b"stations", SCRIPT, 1)
     };
-    assert!(rt; ends(rt.alloc(), &call, Outcome::Done, TEXT));
+    if read > 43 {
+        return ends(alloc, &call, Outcome::Done, TEXT);
+    }
+    let text = &TEXT[..decided(read.saturating_sub(1))];
+    ends(alloc, &call, Outcome::ReadFault, text)
+}
+
+#[test]
+fn each_read_of_a_script_fails_in_turn(rt: HostRuntime) {
+    for read in 1..45 {
+        assert!(rt; read_fails(rt.alloc(), read));
+    }
+}
+
+// Whether the script ends so where a write fails, after so many octets.
+fn write_fails(alloc: Global, write: u64, outcome: Outcome, count: usize) -> bool {
+    let call = Call {
+        failing_write: write,
+        ..calm(b"stations", SCRIPT, 1)
+    };
+    ends(alloc, &call, outcome, &TEXT[..count.min(125)])
 }
 
 #[test]
 fn each_write_of_a_script_fails_in_turn(rt: HostRuntime) {
     for (write, count) in [(1, 0), (2, 25), (3, 58), (4, 83)] {
-        let call = Call {
-            failing_write: write,
-            ..calm(b"stations", SCRIPT, 1)
-        };
-        assert!(rt;
-            ends(rt.alloc(), &call, Outcome::WriteFault, &TEXT[..count]),
-            "failing at {write}"
-        );
+        assert!(rt; write_fails(rt.alloc(), write, Outcome::WriteFault, count));
     }
-    let call = Call {
-        failing_write: 5,
-        ..calm(b"stations", SCRIPT, 1)
-    };
-    assert!(rt; ends(rt.alloc(), &call, Outcome::Done, TEXT));
+    assert!(rt; write_fails(rt.alloc(), 5, Outcome::Done, 125));
 }
 
 // A sink that takes only so many octets takes the first ones.
+fn takes_the_first(alloc: Global, room: usize) -> bool {
+    let call = Call {
+        room,
+        ..calm(b"stations", SCRIPT, 7)
+    };
+    ends(alloc, &call, Outcome::WriteFault, &TEXT[..room.min(125)])
+}
+
 #[test]
 fn a_sink_may_take_less_than_the_text(rt: HostRuntime) {
     for room in 0..125 {
-        let call = Call {
-            room,
-            ..calm(b"stations", SCRIPT, 7)
-        };
-        assert!(rt;
-            ends(rt.alloc(), &call, Outcome::WriteFault, &TEXT[..room]),
-            "room for {room}"
-        );
+        assert!(rt; takes_the_first(rt.alloc(), room));
     }
 }
 
@@ -129,6 +127,6 @@ fn is_cut_off(alloc: Global, octets: usize) -> bool {
 #[test]
 fn a_script_is_cut_off_behind_each_octet(rt: HostRuntime) {
     for octets in 0..43 {
-        assert!(rt; is_cut_off(rt.alloc(), octets), "behind {octets}");
+        assert!(rt; is_cut_off(rt.alloc(), octets));
     }
 }

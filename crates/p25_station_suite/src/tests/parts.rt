@@ -4,7 +4,6 @@ use p25_duplex::{DuplexEvent, DuplexWorld, Side};
 use p25_fragments::{Joined, Joiner, LongList, LongMessage};
 use p25_messages::{Flips, Message, MessageList};
 use p25_stations::{Event, World};
-use std::test::Fail;
 
 // 4,001 octets, of which no two neighbors are the same.
 fn octets() -> [u8; 4001] {
@@ -43,22 +42,31 @@ fn parts_of_a_long_message(rt: HostRuntime) {
         (4000, 8, 501),
     ];
     for (count, parts, size) in rows {
-        assert!(rt; has_parts(&octets[..count], parts, size), "{count}");
+        assert!(rt; has_parts(&octets[..count], parts, size));
     }
     assert!(rt; LongMessage::new(&octets).is_none());
 }
 
+// Puts two long messages into a list, and answers whether they are in it.
+fn are_listed(list: &mut LongList, first: &[u8], second: &[u8]) -> bool {
+    let Some(one) = LongMessage::new(first) else {
+        return false;
+    };
+    let Some(two) = LongMessage::new(second) else {
+        return false;
+    };
+    if list.reserve(16).is_err() {
+        return false;
+    }
+    list.push(&one);
+    list.push(&two);
+    list.len() == 2 && list.get(0) == first && list.get(1) == second
+}
+
 #[test]
-fn long_messages_of_a_list(rt: HostRuntime) -> Result<(), Fail> {
+fn long_messages_of_a_list(rt: HostRuntime) {
     let octets = octets();
-    let mut list = LongList::new(rt.alloc());
-    list.reserve(16)?;
-    list.push(&LongMessage::new(b"").ok_or("no octets")?);
-    list.push(&LongMessage::new(&octets[1..]).ok_or("4,000 octets")?);
-    assert_eq!(rt; list.len(), 2);
-    assert_eq!(rt; list.get(0), b"".as_slice());
-    assert_eq!(rt; list.get(1), &octets[1..]);
-    Ok(())
+    assert!(rt; are_listed(&mut LongList::new(rt.alloc()), b"", &octets[1..]));
 }
 
 // What is done to a joiner: a part comes, by its first octet and the number of octets after it, or one of no octets; or it is set
@@ -136,8 +144,8 @@ const JOINED: [(Act, (char, usize)); 32] = [
 #[test]
 fn answers_of_a_joiner(rt: HostRuntime) {
     let mut joiner = Joiner::new();
-    for (act, expected) in JOINED {
-        assert_eq!(rt; done(&mut joiner, act), expected);
+    for (act, expected) in &JOINED {
+        assert!(rt; done(&mut joiner, *act) == *expected);
     }
 }
 
@@ -146,38 +154,29 @@ fn is_only(list: &MessageList, octets: &[u8]) -> bool {
     list.len() == 1 && list.get(0) == octets
 }
 
-fn happen(world: &mut World, event: &Event) -> Result<(), Fail> {
-    world.step(event)?;
-    Ok(())
+// Whether a message that is sent and delivered is in both lists of a world.
+fn has_lists(world: &mut World) -> Option<bool> {
+    let is_sent = world.step(&Event::Send(Message::new(b"ab")?)).is_ok();
+    let has_come = world.step(&Event::ToReceiver(Flips::new())).is_ok();
+    let are_there = is_only(world.sent(), b"ab") && is_only(world.delivered(), b"ab");
+    Some(is_sent && has_come && are_there)
 }
 
-#[test]
-fn lists_of_a_world(rt: HostRuntime) -> Result<(), Fail> {
-    let mut world = World::new(rt.alloc());
-    let message = Message::new(b"ab").ok_or("two octets")?;
-    happen(&mut world, &Event::Send(message))?;
-    happen(&mut world, &Event::ToReceiver(Flips::new()))?;
-    assert!(rt; is_only(world.sent(), b"ab"));
-    assert!(rt; is_only(world.delivered(), b"ab"));
-    Ok(())
-}
-
-fn happen_between(world: &mut DuplexWorld, event: &DuplexEvent) -> Result<(), Fail> {
-    world.step(event)?;
-    Ok(())
-}
-
-#[test]
-fn lists_of_both_sides(rt: HostRuntime) -> Result<(), Fail> {
-    let mut world = DuplexWorld::new(rt.alloc());
-    let message = Message::new(b"cd").ok_or("two octets")?;
+// Whether a message from B to A is in both lists of B.
+fn has_lists_of_b(world: &mut DuplexWorld) -> Option<bool> {
     let delivery = DuplexEvent::Deliver {
         to: Side::A,
         flips: Flips::new(),
     };
-    happen_between(&mut world, &DuplexEvent::Send(Side::B, message))?;
-    happen_between(&mut world, &delivery)?;
-    assert!(rt; is_only(world.sent(Side::B), b"cd"));
-    assert!(rt; is_only(world.delivered(Side::B), b"cd"));
-    Ok(())
+    let message = Message::new(b"cd")?;
+    let is_sent = world.step(&DuplexEvent::Send(Side::B, message)).is_ok();
+    let has_come = world.step(&delivery).is_ok();
+    let is_listed = is_only(world.sent(Side::B), b"cd");
+    Some(is_sent && has_come && is_listed && is_only(world.delivered(Side::B), b"cd"))
+}
+
+#[test]
+fn lists_of_the_worlds(rt: HostRuntime) {
+    assert!(rt; has_lists(&mut World::new(rt.alloc())) == Some(true));
+    assert!(rt; has_lists_of_b(&mut DuplexWorld::new(rt.alloc())) == Some(true));
 }

@@ -7,7 +7,6 @@ use p25_packet_blocks::{
     Block, Confirmed, Flags, Octets, Packet, PacketHead, Plain, Slot, Slots, flags_make,
 };
 use p25_stations::{Heard, Message, Offer, Receiver, Reopen, Resend, Sender, SenderHeard};
-use std::test::Fail;
 
 // The one block of the message 61 62 hex.
 const BLOCK: [u8; 16] = [
@@ -73,14 +72,21 @@ const RESPONSES: [(u8, u8, u8, Told); 8] = [
     (3, 1, 0, ("ignored", 0, 0)),
 ];
 
+// Whether a sender ignores a response before it is offered a message, and then makes of it what its row says.
+fn is_answered(row: &(u8, u8, u8, Told)) -> bool {
+    let (class, kind, status, expected) = *row;
+    let packet = response(class, kind, status);
+    let mut sender = Sender::new();
+    let before = told(&mut sender, &packet);
+    let offered = offer(&mut sender, b"ab");
+    let after = told(&mut sender, &packet);
+    before == ("ignored", 0, 0) && offered == ("taken", 0, 1) && after == expected
+}
+
 #[test]
 fn answers_to_responses(rt: HostRuntime) {
-    for (class, kind, status, expected) in RESPONSES {
-        let packet = response(class, kind, status);
-        let mut sender = Sender::new();
-        assert_eq!(rt; told(&mut sender, &packet), ("ignored", 0, 0));
-        assert_eq!(rt; offer(&mut sender, b"ab"), ("taken", 0, 1));
-        assert_eq!(rt; told(&mut sender, &packet), expected);
+    for row in &RESPONSES {
+        assert!(rt; is_answered(row));
     }
 }
 
@@ -137,14 +143,19 @@ const RETRIES: [(usize, bool, usize, usize, Option<(usize, u8, bool)>); 9] = [
     (2, false, 1, 64, None),
 ];
 
-#[test]
-fn flags_of_a_selective_retry(rt: HostRuntime) -> Result<(), Fail> {
-    let octets = [0; 2028];
-    for (size, is_long, from, to, expected) in RETRIES {
-        let packet = retry(is_long, from, to).ok_or("flags of one block or of two")?;
-        assert_eq!(rt; sent_again(&octets[..size.min(2028)], &packet), expected);
+fn is_retried(row: &(usize, bool, usize, usize, Option<(usize, u8, bool)>)) -> bool {
+    let (size, is_long, from, to, expected) = *row;
+    match retry(is_long, from, to) {
+        Some(packet) => sent_again(&[0; 2028][..size.min(2028)], &packet) == expected,
+        None => false,
     }
-    Ok(())
+}
+
+#[test]
+fn flags_of_a_selective_retry(rt: HostRuntime) {
+    for row in &RETRIES {
+        assert!(rt; is_retried(row));
+    }
 }
 
 // What is done to a sender; a message is offered, or a response heard by its class, kind and status.
@@ -201,8 +212,8 @@ const SIXTEEN: [(Act, Told); 29] = [
 #[test]
 fn sixteen_transmissions(rt: HostRuntime) {
     let mut sender = Sender::new();
-    for (act, expected) in SIXTEEN {
-        assert_eq!(rt; done(&mut sender, act), expected);
+    for (act, expected) in &SIXTEEN {
+        assert!(rt; done(&mut sender, *act) == *expected);
     }
 }
 
@@ -226,17 +237,24 @@ fn delivered(receiver: &mut Receiver, packet: &Packet) -> Option<Packet> {
     }
 }
 
+// Whether a message is offered under a number, delivered and acknowledged.
+fn is_exchanged(sender: &mut Sender, receiver: &mut Receiver, wanted: u8) -> bool {
+    let Some((packet, number)) = offered(sender) else {
+        return false;
+    };
+    match delivered(receiver, &packet) {
+        Some(answer) => { told(sender, &answer) == ("acknowledged", wanted, 0) && number == wanted }
+        None => false,
+    }
+}
+
 #[test]
-fn numbers_wrap(rt: HostRuntime) -> Result<(), Fail> {
+fn numbers_wrap(rt: HostRuntime) {
     let mut sender = Sender::new();
     let mut receiver = Receiver::new();
     for count in 0..9 {
-        let (packet, number) = offered(&mut sender).ok_or("nothing is outstanding")?;
-        assert_eq!(rt; number, count % 8);
-        let answer = delivered(&mut receiver, &packet).ok_or("the packet is whole")?;
-        assert_eq!(rt; told(&mut sender, &answer), ("acknowledged", number, 0));
+        assert!(rt; is_exchanged(&mut sender, &mut receiver, count % 8));
     }
-    Ok(())
 }
 
 fn answer(receiver: &mut Receiver, packet: &Packet) -> &'static str {
@@ -311,28 +329,31 @@ const PACKETS: [(Data, &str); 9] = [
     ((2, true, 0, 7, Behind::Nothing), "ignored"),
 ];
 
-#[test]
-fn answers_to_packets(rt: HostRuntime) -> Result<(), Fail> {
-    for (row, expected) in PACKETS {
-        let packet = data(row).ok_or("a packet of data")?;
-        assert_eq!(rt; answer(&mut Receiver::new(), &packet), expected);
+// Whether there is a packet (PDU), and a receiver makes this of it.
+fn hears(receiver: &mut Receiver, packet: Option<Packet>, expected: &str) -> bool {
+    match packet {
+        Some(packet) => answer(receiver, &packet) == expected,
+        None => false,
     }
-    let opening = packet(PacketHead::opening(LLID, 1), Slots::new()).ok_or("an opening packet")?;
-    assert_eq!(rt; answer(&mut Receiver::new(), &opening), "opened");
-    assert_eq!(rt; answer(&mut Receiver::new(), &response(0, 1, 0)), "ignored");
-    Ok(())
+}
+
+#[test]
+fn answers_to_packets(rt: HostRuntime) {
+    for (row, expected) in &PACKETS {
+        assert!(rt; hears(&mut Receiver::new(), data(*row), expected));
+    }
+    let opening = packet(PacketHead::opening(LLID, 1), Slots::new());
+    assert!(rt; hears(&mut Receiver::new(), opening, "opened"));
+    assert!(rt; hears(&mut Receiver::new(), Some(response(0, 1, 0)), "ignored"));
 }
 
 // An opening packet has no block to follow; one with a block is ignored, whatever its number.
 #[test]
-fn syn_with_a_block(rt: HostRuntime) -> Result<(), Fail> {
+fn syn_with_a_block(rt: HostRuntime) {
     let head = PacketHead([0x56, 0xC0, 0, 0, 0, 1, 0x81, 0, 0x98, 0]);
-    assert!(rt; head.syn());
-    assert_eq!(rt; head.llid(), LLID);
-    let opening = packet(head, slots(Behind::Block(0, 0x61))).ok_or("a header with one block")?;
+    assert!(rt; head.syn() && head.llid() == LLID);
     let mut receiver = Receiver::new();
-    assert_eq!(rt; answer(&mut receiver, &opening), "ignored");
-    let whole = data(WHOLE).ok_or("a packet of data")?;
-    assert_eq!(rt; answer(&mut receiver, &whole), "delivered");
-    Ok(())
+    let opening = packet(head, slots(Behind::Block(0, 0x61)));
+    assert!(rt; hears(&mut receiver, opening, "ignored"));
+    assert!(rt; hears(&mut receiver, data(WHOLE), "delivered"));
 }

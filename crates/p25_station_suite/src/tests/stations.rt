@@ -237,17 +237,11 @@ fn steps_tell(alloc: Global, row: &Row) -> bool {
     is_room && are_told(alloc, script.written(), &mut told) && told.written() == text.written()
 }
 
+// The command tells of a script what a world does that steps from line to line.
 #[test]
-fn scripts_of_messages(rt: HostRuntime) {
-    for row in ROWS {
-        assert!(rt; tells(rt.alloc(), b"stations", &row), "{}", row.0);
-    }
-}
-
-#[test]
-fn steps_of_a_world(rt: HostRuntime) {
-    for row in ROWS {
-        assert!(rt; steps_tell(rt.alloc(), &row), "{}", row.0);
+fn scripts_of_messages_and_steps_of_a_world(rt: HostRuntime) {
+    for row in &ROWS {
+        assert!(rt; tells(rt.alloc(), b"stations", row) && steps_tell(rt.alloc(), row));
     }
 }
 
@@ -275,13 +269,15 @@ const REFUSED: [Refused; 6] = [
     (b"send -\ntdu nac=000", 2, LineFault::Kind, TAKEN),
 ];
 
+fn is_refused(alloc: Global, row: &Refused) -> bool {
+    let (script, line, fault, steps) = *row;
+    let refused = Outcome::BadLine { line, fault };
+    ends(alloc, &calm(b"stations", script, 7), refused, steps)
+}
+
 #[test]
 fn a_refused_line_ends_a_script(rt: HostRuntime) {
-    for (script, line, fault, steps) in REFUSED {
-        let refused = Outcome::BadLine { line, fault };
-        assert!(rt;
-            ends(rt.alloc(), &calm(b"stations", script, 7), refused, steps),
-            "{script:?}"
-        );
+    for row in &REFUSED {
+        assert!(rt; is_refused(rt.alloc(), row));
     }
 }

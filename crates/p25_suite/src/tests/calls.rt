@@ -6,6 +6,7 @@ ghost use Rattle.std.specs.Prelude.{◌≤◌, ◌<◌, length};
 use super::{Call, build, calm, ends, lines_of, put_named, writes};
 use p25_line::Line;
 use p25_tool::Outcome;
+use std::alloc::Global;
 
 // How many octets the first units of the call have, none of them and all.
 const ENDS: [u16; 5] = [0, 99, 315, 531, 585];
@@ -21,20 +22,21 @@ fn whole_in(octets: usize) -> usize {
     }
 }
 
+// Whether the call is shown, found without a fault and repaired as it is.
+fn is_reported(alloc: Global, call: &[u8]) -> bool {
+    writes(alloc, &[b"show"], call, lines_of(4, true).octets())
+        && writes(alloc, &[b"check"], call, b"check units=4 faults=0\n")
+        && writes(alloc, &[b"repair"], call, call)
+}
+
 #[test]
 fn a_call_is_built_and_reported(rt: HostRuntime) {
     let mut room = [0; 585];
-    let built = build(rt.alloc(), b"1", lines_of(4, false).octets(), &mut room);
-    assert_eq!(rt; built, 585);
-    let call = &room;
-    let shown = lines_of(4, true);
-    assert!(rt; writes(rt.alloc(), &[b"show"], call, shown.octets()));
-    assert!(rt; writes(rt.alloc(), &[b"check"], call, b"check units=4 faults=0\n"));
-    assert!(rt; writes(rt.alloc(), &[b"repair"], call, call));
+    assert!(rt; build(rt.alloc(), b"1", lines_of(4, false).octets(), &mut room) == 585);
+    assert!(rt; is_reported(rt.alloc(), &room));
     let mut other = [0; 585];
-    let rebuilt = build(rt.alloc(), b"2", lines_of(4, false).octets(), &mut other);
-    assert_eq!(rt; rebuilt, 585);
-    assert!(rt; writes(rt.alloc(), &[b"bridge", b"293", b"2"], call, &other));
+    assert!(rt; build(rt.alloc(), b"2", lines_of(4, false).octets(), &mut other) == 585);
+    assert!(rt; writes(rt.alloc(), &[b"bridge", b"293", b"2"], &room, &other));
 }
 
 // The text of the call with its header and without it, and the last line.
@@ -56,22 +58,26 @@ fn both(first: &[u8], second: &[u8]) -> Line {
     text
 }
 
+fn is_one_call(alloc: Global, units: &[u8], text: &[u8]) -> bool {
+    writes(alloc, &[b"calls"], units, both(text, ONE_CALL).octets())
+}
+
 #[test]
 fn units_are_grouped_into_calls(rt: HostRuntime) {
     let mut room = [0; 585];
     build(rt.alloc(), b"1", lines_of(4, false).octets(), &mut room);
-    let whole = both(WITH_HEADER, ONE_CALL);
-    assert!(rt; writes(rt.alloc(), &[b"calls"], &room, whole.octets()));
-    let late = room.get(99..).unwrap_or(&[]);
-    assert!(rt;
-        writes(
-            rt.alloc(),
-            &[b"calls"],
-            late,
-            both(LATE_ENTRY, ONE_CALL).octets()
-        )
-    );
+    assert!(rt; is_one_call(rt.alloc(), &room, WITH_HEADER));
+    assert!(rt; is_one_call(rt.alloc(), room.get(99..).unwrap_or(&[]), LATE_ENTRY));
     assert!(rt; writes(rt.alloc(), &[b"calls"], b"", b"calls=0\n"));
+}
+
+// Whether a read that fails ends `calls`, after such a text.
+fn calls_end_so(alloc: Global, input: &[u8], failing_read: u64, text: &[u8]) -> bool {
+    let call = Call {
+        failing_read,
+        ..calm(&[b"calls"], input, 1)
+    };
+    ends(alloc, &call, Outcome::ReadFault, text)
 }
 
 // A call is written once its terminator is there, and after a read fault neither a call that is open nor the last line.
@@ -81,58 +87,51 @@ fn calls_stand_after_a_read_fault(rt: HostRuntime) {
     build(rt.alloc(), b"1", lines_of(4, false).octets(), &mut room);
     let rows: [(u64, &[u8]); 3] = [(532, b""), (585, b""), (586, WITH_HEADER)];
     for (failing_read, text) in rows {
-        let call = Call {
-            failing_read,
-            ..calm(&[b"calls"], &room, 1)
-        };
-        assert!(rt;
-            ends(rt.alloc(), &call, Outcome::ReadFault, text),
-            "failing at {failing_read}"
-        );
+        assert!(rt; calls_end_so(rt.alloc(), &room, failing_read, text));
     }
+}
+
+// Whether a read of the call that fails ends it; no read is made after the 586th, which finds the end.
+fn read_fails(alloc: Global, input: &[u8], read: usize) -> bool {
+    let call = Call {
+        failing_read: read as u64,
+        ..calm(&[b"show"], input, 1)
+    };
+    if read > 586 {
+        return ends(alloc, &call, Outcome::Done, lines_of(4, true).octets());
+    }
+    let text = lines_of(whole_in(read.saturating_sub(1)), true);
+    ends(alloc, &call, Outcome::ReadFault, text.octets())
 }
 
 #[test]
 fn each_read_fails_in_turn(rt: HostRuntime) {
     let mut room = [0; 585];
     build(rt.alloc(), b"1", lines_of(4, false).octets(), &mut room);
-    for read in 1..588_usize {
-        let call = Call {
-            failing_read: read as u64,
-            ..calm(&[b"show"], &room, 1)
-        };
-        let (outcome, whole) = if read <= 586 {
-            (Outcome::ReadFault, whole_in(read - 1))
-        } else {
-            (Outcome::Done, 4)
-        };
-        let text = lines_of(whole, true);
-        assert!(rt;
-            ends(rt.alloc(), &call, outcome, text.octets()),
-            "failing at {read}"
-        );
+    for read in 1..588 {
+        assert!(rt; read_fails(rt.alloc(), &room, read));
     }
+}
+
+// Whether a write for the call that fails ends it; there are four.
+fn write_fails(alloc: Global, input: &[u8], write: usize) -> bool {
+    let call = Call {
+        failing_write: write as u64,
+        ..calm(&[b"show"], input, 1)
+    };
+    if write > 4 {
+        return ends(alloc, &call, Outcome::Done, lines_of(4, true).octets());
+    }
+    let text = lines_of(write.saturating_sub(1), true);
+    ends(alloc, &call, Outcome::WriteFault, text.octets())
 }
 
 #[test]
 fn each_write_fails_in_turn(rt: HostRuntime) {
     let mut room = [0; 585];
     build(rt.alloc(), b"1", lines_of(4, false).octets(), &mut room);
-    for write in 1..6_usize {
-        let call = Call {
-            failing_write: write as u64,
-            ..calm(&[b"show"], &room, 1)
-        };
-        let outcome = if write <= 4 {
-            Outcome::WriteFault
-        } else {
-            Outcome::Done
-        };
-        let text = lines_of(write - 1, true);
-        assert!(rt;
-            ends(rt.alloc(), &call, outcome, text.octets()),
-            "failing at {write}"
-        );
+    for write in 1..6 {
+        assert!(rt; write_fails(rt.alloc(), &room, write));
     }
 }
 
@@ -153,17 +152,18 @@ fn cut_off(octets: u16) -> Line {
     text
 }
 
+// Whether the call is shown so that is cut off after so many octets.
+fn is_cut_off(alloc: Global, octets: &[u8], size: u16) -> bool {
+    let front = octets.get(..usize::from(size)).unwrap_or(&[]);
+    let call = calm(&[b"show"], front, 64);
+    ends(alloc, &call, Outcome::Done, cut_off(size).octets())
+}
+
 #[test]
 fn the_call_is_cut_off_behind_each_octet(rt: HostRuntime) {
     let mut room = [0; 585];
     build(rt.alloc(), b"1", lines_of(4, false).octets(), &mut room);
-    for size in 0..586_u16 {
-        let front = room.get(..usize::from(size)).unwrap_or(&[]);
-        let call = calm(&[b"show"], front, 64);
-        let text = cut_off(size);
-        assert!(rt;
-            ends(rt.alloc(), &call, Outcome::Done, text.octets()),
-            "cut off behind {size}"
-        );
+    for size in 0..586 {
+        assert!(rt; is_cut_off(rt.alloc(), &room, size));
     }
 }

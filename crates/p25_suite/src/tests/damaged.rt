@@ -59,23 +59,35 @@ const CALL: [AtRadius; 4] = [
     ),
 ];
 
-#[test]
-fn a_call_with_each_unit_at_its_radius(rt: HostRuntime) {
-    let mut room = [0; 585];
-    build(rt.alloc(), b"1", lines_of(4, false).octets(), &mut room);
-    let sent = room;
+// Inverts the bits of a unit.
+fn damage(call: &mut [u8], unit: &AtRadius) {
+    let bits = call.get_mut(unit.0..unit.1).unwrap_or(&mut []);
+    for inverted in FRONT.iter().chain(unit.2) {
+        invert(bits, inverted);
+    }
+}
+
+// What `show` writes of the call.
+fn shown() -> Line {
     let mut text = Line::new();
     for (unit, part) in CALL.iter().zip(PARTS.iter()) {
-        let bits = room.get_mut(unit.0..unit.1).unwrap_or(&mut []);
-        for inverted in FRONT.iter().chain(unit.2) {
-            invert(bits, inverted);
-        }
         put_short(&mut text, unit.3);
         put_short(&mut text, part.0);
         put_short(&mut text, if part.1 { &[b'0'; 324] } else { b"" });
         put_short(&mut text, b"\n");
     }
-    assert!(rt; writes(rt.alloc(), &[b"show"], &room, text.octets()));
+    text
+}
+
+#[test]
+fn a_call_with_each_unit_at_its_radius(rt: HostRuntime) {
+    let mut room = [0; 585];
+    build(rt.alloc(), b"1", lines_of(4, false).octets(), &mut room);
+    let sent = room;
+    for unit in &CALL {
+        damage(&mut room, unit);
+    }
+    assert!(rt; writes(rt.alloc(), &[b"show"], &room, shown().octets()));
     assert!(rt; writes(rt.alloc(), &[b"check"], &room, b"check units=4 faults=0\n"));
     assert!(rt; writes(rt.alloc(), &[b"repair"], &room, &sent));
 }

@@ -297,15 +297,21 @@ fn is_found(alloc: Global, noise: u32, unit: &Drawn) -> bool
         && writes(alloc, &[b"show"], &sent[..size], undamaged.octets())
 }
 
+// Whether drawn units of a kind are found, each after one more bit of noise.
+fn are_found(alloc: Global, kind: &Kind, draw: &mut Draw) -> bool {
+    let mut all = true;
+    for noise in 1..8_u32 {
+        let unit = draw_unit(alloc, kind, true, draw);
+        all = all && unit.size > 0 && is_found(alloc, noise, &unit);
+    }
+    all
+}
+
 #[test]
 fn each_kind_at_its_radius_behind_noise(rt: HostRuntime) {
     let mut draw = Draw::new(25);
-    for kind in KINDS {
-        for noise in 1..8_u32 {
-            let unit = draw_unit(rt.alloc(), &kind, true, &mut draw);
-            assert!(rt; unit.size > 0);
-            assert!(rt; is_found(rt.alloc(), noise, &unit), "{noise}");
-        }
+    for kind in &KINDS {
+        assert!(rt; are_found(rt.alloc(), kind, &mut draw));
     }
 }
 
@@ -346,6 +352,6 @@ fn all_read_back(alloc: Global, seed: u64, count: usize) -> bool {
 #[test]
 fn two_hundred_drawn_units_are_read_back(rt: HostRuntime) {
     for seed in [1, 2, 3, 293, 4_095] {
-        assert!(rt; all_read_back(rt.alloc(), seed, 200), "{seed}");
+        assert!(rt; all_read_back(rt.alloc(), seed, 200));
     }
 }

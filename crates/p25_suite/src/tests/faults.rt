@@ -28,44 +28,41 @@ fn decided(octets: usize) -> usize {
     }
 }
 
-#[test]
-fn each_read_fails_in_turn(rt: HostRuntime) {
-    for read in 1..58_usize {
-        let call = Call {
-            failing_read: read as u64,
-            ..calm(&[b"show"], RECORDING, 1)
-        };
-        let text = &TEXT[..decided(read - 1).min(164)];
-        assert!(rt;
-            ends(rt.alloc(), &call, Outcome::ReadFault, text),
-            "failing at {read}"
-        );
-    }
-    // No read is made after the end.
+// Whether a read of the recording that fails ends the call; no read is made after the 57th, which finds the end.
+fn read_fails(alloc: Global, read: usize) -> bool {
     let call = Call {
-        failing_read: 58,
+        failing_read: read as u64,
         ..calm(&[b"show"], RECORDING, 1)
     };
-    assert!(rt; ends(rt.alloc(), &call, Outcome::Done, TEXT));
+    if read > 57 {
+        return ends(alloc, &call, Outcome::Done, TEXT);
+    }
+    let text = &TEXT[..decided(read.saturating_sub(1)).min(164)];
+    ends(alloc, &call, Outcome::ReadFault, text)
+}
+
+#[test]
+fn each_read_fails_in_turn(rt: HostRuntime) {
+    for read in 1..59 {
+        assert!(rt; read_fails(rt.alloc(), read));
+    }
+}
+
+// Whether the call ends so where a write fails, after so many octets.
+fn write_fails(alloc: Global, write: u64, outcome: Outcome, count: usize) -> bool {
+    let call = Call {
+        failing_write: write,
+        ..calm(&[b"show"], RECORDING, 1)
+    };
+    ends(alloc, &call, outcome, &TEXT[..count.min(164)])
 }
 
 #[test]
 fn each_write_fails_in_turn(rt: HostRuntime) {
     for (write, count) in [(1, 0), (2, 47), (3, 66), (4, 115)] {
-        let call = Call {
-            failing_write: write,
-            ..calm(&[b"show"], RECORDING, 1)
-        };
-        assert!(rt;
-            ends(rt.alloc(), &call, Outcome::WriteFault, &TEXT[..count]),
-            "failing at {write}"
-        );
+        assert!(rt; write_fails(rt.alloc(), write, Outcome::WriteFault, count));
     }
-    let call = Call {
-        failing_write: 5,
-        ..calm(&[b"show"], RECORDING, 1)
-    };
-    assert!(rt; ends(rt.alloc(), &call, Outcome::Done, TEXT));
+    assert!(rt; write_fails(rt.alloc(), 5, Outcome::Done, 164));
 }
 
 // The text of the recording cut off after so many octets.
@@ -107,16 +104,17 @@ fn put_item(label: &[u8], begin: usize, count: usize, out: &mut Line)
     out.put(b"\n");
 }
 
+fn is_cut_off(alloc: Global, octets: usize) -> bool {
+    let call = calm(&[b"show"], &RECORDING[..octets.min(56)], 7);
+    let mut text = Line::new();
+    put_cut_text(octets, &mut text);
+    ends(alloc, &call, Outcome::Done, text.octets())
+}
+
 #[test]
 fn a_recording_is_cut_off_behind_each_octet(rt: HostRuntime) {
     for octets in 0..57 {
-        let call = calm(&[b"show"], &RECORDING[..octets], 7);
-        let mut text = Line::new();
-        put_cut_text(octets, &mut text);
-        assert!(rt;
-            ends(rt.alloc(), &call, Outcome::Done, text.octets()),
-            "behind {octets}"
-        );
+        assert!(rt; is_cut_off(rt.alloc(), octets));
     }
 }
 
@@ -160,7 +158,7 @@ fn is_usage(alloc: Global, words: &[&[u8]]) -> bool {
 
 #[test]
 fn words_without_a_command_touch_nothing(rt: HostRuntime) {
-    for words in NO_COMMANDS {
-        assert!(rt; is_usage(rt.alloc(), words), "{words:?}");
+    for words in &NO_COMMANDS {
+        assert!(rt; is_usage(rt.alloc(), words));
     }
 }

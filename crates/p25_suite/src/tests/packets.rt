@@ -188,17 +188,11 @@ fn holds(alloc: Global, row: &Row) -> bool {
 
 #[test]
 fn packets(rt: HostRuntime) {
-    for row in ROWS {
-        assert!(rt; holds(rt.alloc(), &row), "{}", row.0);
+    for row in &ROWS {
+        assert!(rt; holds(rt.alloc(), row));
     }
-    assert!(rt;
-        writes(
-            rt.alloc(),
-            &[b"show"],
-            &UNKNOWN_FORMAT,
-            b"broken at=0 bits=360 nac=293 duid=c fields=format\n"
-        )
-    );
+    let text = b"broken at=0 bits=360 nac=293 duid=c fields=format\n";
+    assert!(rt; writes(rt.alloc(), &[b"show"], &UNKNOWN_FORMAT, text));
 }
 
 // The line of the largest packet (PDU): 127 blocks of zeros, in order.
@@ -218,11 +212,8 @@ fn largest_line() -> Line {
     line
 }
 
-#[test]
-fn the_largest_packet(rt: HostRuntime) {
-    let line = largest_line();
-    let mut room = [0; 4_096];
-    assert_eq!(rt; build(rt.alloc(), b"0", line.octets(), &mut room), 3_240);
+// What `show` writes of it.
+fn largest_text(line: &Line) -> Line {
     let mut text = Line::new();
     text.put(b"unit at=0 bits=25920 fix=0 status=");
     text.put(&[b'0'; 360]);
@@ -231,6 +222,15 @@ fn the_largest_packet(rt: HostRuntime) {
         text.put(line.octets());
     }
     text.put(b"\n");
+    text
+}
+
+#[test]
+fn the_largest_packet(rt: HostRuntime) {
+    let line = largest_line();
+    let mut room = [0; 4_096];
+    assert!(rt; build(rt.alloc(), b"0", line.octets(), &mut room) == 3_240);
+    let text = largest_text(&line);
     assert!(rt; writes(rt.alloc(), &[b"show"], &room[..3_240], text.octets()));
     assert!(rt; writes(rt.alloc(), &[b"repair"], &room[..3_240], &room[..3_240]));
     // A header whose blocks are not there.
@@ -297,22 +297,24 @@ fn shown(line: &Line, count: u8) -> Line {
     text
 }
 
+// Whether a packet of a format with so many blocks is shown as its line.
+fn is_shown(alloc: Global, confirmed: bool, line_kind: &[u8], count: u8) -> bool {
+    let line = line_of(confirmed, line_kind, count);
+    let mut room = [0; 4_096];
+    let size = build(alloc, b"0", line.octets(), &mut room);
+    let unit = room.get(..size).unwrap_or(&[]);
+    writes(alloc, &[b"show"], unit, shown(&line, count).octets())
+}
+
+fn are_shown(alloc: Global, count: u8) -> bool {
+    is_shown(alloc, true, b"confirmed nac=293 head=56c000000001", count)
+        && is_shown(alloc, false, b"plain nac=293 head=35c000000001", count)
+        && is_shown(alloc, false, b"response nac=293 head=238000000001", count)
+}
+
 #[test]
 fn packets_of_each_number_of_blocks(rt: HostRuntime) {
     for count in [0, 1, 2, 126, 127] {
-        for (confirmed, line_kind) in [
-            (true, b"confirmed nac=293 head=56c000000001".as_slice()),
-            (false, b"plain nac=293 head=35c000000001".as_slice()),
-            (false, b"response nac=293 head=238000000001".as_slice()),
-        ] {
-            let line = line_of(confirmed, line_kind, count);
-            let mut room = [0; 4_096];
-            let size = build(rt.alloc(), b"0", line.octets(), &mut room);
-            let unit = room.get(..size).unwrap_or(&[]);
-            assert!(rt;
-                writes(rt.alloc(), &[b"show"], unit, shown(&line, count).octets()),
-                "{count}"
-            );
-        }
+        assert!(rt; are_shown(rt.alloc(), count));
     }
 }

@@ -3,6 +3,7 @@
 use super::{calm, ends};
 use p25_line::{Line, LineFault};
 use p25_tool::Outcome;
+use std::alloc::Global;
 
 // A terminator (TDU) of NAC 0 with both status symbols 1.
 const TERMINATOR: &[u8] =
@@ -46,17 +47,22 @@ const LINES: [(&[u8], LineFault); 16] = [
     ),
 ];
 
+// Whether a second line is refused so.
+fn is_refused(alloc: Global, line: &[u8], fault: LineFault) -> bool {
+    let mut input = Line::new();
+    input.put(b"tdu nac=000\n");
+    if line.len() <= 200 {
+        input.put(line);
+    }
+    input.put(b"\ntdu nac=000\n");
+    let call = calm(&[b"build", b"1"], input.octets(), 7);
+    let refused = Outcome::BadLine { line: 2, fault };
+    ends(alloc, &call, refused, TERMINATOR)
+}
+
 #[test]
 fn second_lines_are_refused(rt: HostRuntime) {
-    for (line, fault) in LINES {
-        let mut input = Line::new();
-        input.put(b"tdu nac=000\n");
-        if line.len() <= 200 {
-            input.put(line);
-        }
-        input.put(b"\ntdu nac=000\n");
-        let call = calm(&[b"build", b"1"], input.octets(), 7);
-        let refused = Outcome::BadLine { line: 2, fault };
-        assert!(rt; ends(rt.alloc(), &call, refused, TERMINATOR), "{line:?}");
+    for (line, fault) in &LINES {
+        assert!(rt; is_refused(rt.alloc(), line, *fault));
     }
 }

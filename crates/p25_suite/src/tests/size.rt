@@ -7,6 +7,7 @@ ghost use Rattle.p25_io.specs.Octets.{Appended, AppendedBeginning};
 use super::words_of;
 use p25_io::{Failed, Sink, SteadySource};
 use p25_tool::{Outcome, run};
+use std::alloc::Global;
 use std::test::Fail;
 
 // Counts the ends of lines and the octets that are written to it.
@@ -31,26 +32,31 @@ impl Sink for LineCounter {
 }
 
 // How many zeros the input has, how the call ends, and how many lines and octets it writes.
-const SIZES: [(usize, Outcome, u64, u64); 2] = [
+type Row = (usize, Outcome, u64, u64);
+
+const SIZES: [Row; 2] = [
     (16_777_216, Outcome::Done, 32_768, 857_603),
     (16_777_217, Outcome::TooLong, 32_767, 857_576),
 ];
 
+// Whether a recording that is read in such pieces ends and is written as its row says.
+fn holds(alloc: Global, recording: &[u8], piece: usize, row: &Row) -> bool {
+    let mut source = SteadySource::new(recording, piece.max(1));
+    let mut sink = LineCounter {
+        lines: 0,
+        octets: 0,
+    };
+    let outcome = run(alloc, &words_of(&[b"show"]), &mut source, &mut sink);
+    outcome == row.1 && sink.lines == row.2 && sink.octets == row.3
+}
+
 #[test]
 fn the_largest_input_and_one_octet_more(rt: HostRuntime) -> Result<(), Fail> {
-    for (size, want, lines, octets) in SIZES {
-        let recording = vec![in rt.alloc(); 0; size]?;
-        for piece in [1, 7, size] {
-            let mut source = SteadySource::new(&recording, piece.max(1));
-            let mut sink = LineCounter {
-                lines: 0,
-                octets: 0,
-            };
-            let outcome = run(rt.alloc(), &words_of(&[b"show"]), &mut source, &mut sink);
-            assert_eq!(rt; outcome, want, "{size} octets in pieces of {piece}");
-            assert_eq!(rt; sink.lines, lines, "{size} octets in pieces of {piece}");
-            assert_eq!(rt; sink.octets, octets, "{size} octets in pieces of {piece}");
-        }
+    for row in &SIZES {
+        let recording = vec![in rt.alloc(); 0; row.0]?;
+        assert!(rt; holds(rt.alloc(), &recording, 1, row));
+        assert!(rt; holds(rt.alloc(), &recording, 7, row));
+        assert!(rt; holds(rt.alloc(), &recording, row.0, row));
     }
     Ok(())
 }

@@ -206,8 +206,8 @@ fn holds(alloc: Global, row: &Row) -> bool {
 
 #[test]
 fn blocks_and_their_levels(rt: HostRuntime) {
-    for row in ROWS {
-        assert!(rt; holds(rt.alloc(), &row), "{}", row.0);
+    for row in &ROWS {
+        assert!(rt; holds(rt.alloc(), row));
     }
 }
 
@@ -258,9 +258,6 @@ fn a_terminator_and_its_first_levels(rt: HostRuntime) {
 fn a_read_fails(rt: HostRuntime) {
     // Rows: the read that fails, and how many octets are written before.
     for (call, count) in [(1, 0), (71, 0), (72, 0), (73, 18), (75, 18)] {
-        assert!(rt;
-            ends_at_a_fault(rt.alloc(), call, count),
-            "failing at {call}"
-        );
+        assert!(rt; ends_at_a_fault(rt.alloc(), call, count));
     }
 }

@@ -27,8 +27,8 @@ fn ended(alloc: Global, words: &[&[u8]]) -> Outcome {
 
 #[test]
 fn words_name_a_command(rt: HostRuntime) {
-    for (words, outcome) in CALLS {
-        assert_eq!(rt; ended(rt.alloc(), words), outcome, "{words:?}");
+    for (words, outcome) in &CALLS {
+        assert!(rt; ended(rt.alloc(), words) == *outcome);
     }
 }
 
@@ -47,8 +47,8 @@ fn a_script_is_run(rt: HostRuntime) {
 #[test]
 fn words_of_a_bridge(rt: HostRuntime) {
     let (mut from, mut to) = ([0; 18], [0; 18]);
-    assert_eq!(rt; build(rt.alloc(), b"1", b"tdu nac=000", &mut from), 18);
-    assert_eq!(rt; build(rt.alloc(), b"2", b"tdu nac=29a", &mut to), 18);
+    assert!(rt; build(rt.alloc(), b"1", b"tdu nac=000", &mut from) == 18);
+    assert!(rt; build(rt.alloc(), b"2", b"tdu nac=29a", &mut to) == 18);
     assert!(rt; writes(rt.alloc(), &[b"bridge", b"29a", b"2"], &from, &to));
 }
 
@@ -74,9 +74,8 @@ const OUTCOMES: [(Outcome, &[u8], u8); 8] = [
 #[test]
 fn outcomes_have_these_lines_and_statuses(rt: HostRuntime) {
     let mut line = Line::new();
-    for (outcome, text, status) in OUTCOMES {
-        outcome_text(&outcome, &mut line);
-        assert_eq!(rt; line.octets(), text, "{outcome:?}");
-        assert_eq!(rt; outcome_status(&outcome), status, "{outcome:?}");
+    for (outcome, text, status) in &OUTCOMES {
+        outcome_text(outcome, &mut line);
+        assert!(rt; line.octets() == *text && outcome_status(outcome) == *status);
     }
 }
