@@ -56,20 +56,27 @@ const FAILING_CALLS: [(u64, Result<usize, Failed>, usize); 5] = [
     (5, Ok(5), 0),
 ];
 
+// Whether so many octets are gathered, and left, where this call fails.
+fn is_gathered(number: u64, want: Result<usize, Failed>, left: usize) -> bool {
+    let fails = [number];
+    let mut source = MemorySource::new(b"abcde", 2, &fails);
+    let mut room = [0; 8];
+    gather(&mut source, &mut room) == want && source.rest().len() == left
+}
+
 #[test]
 fn sources_in_memory(rt: HostRuntime) {
-    for (number, want, left) in FAILING_CALLS {
-        let fails = [number];
-        let mut source = MemorySource::new(b"abcde", 2, &fails);
-        let mut room = [0; 8];
-        assert_eq!(rt; gather(&mut source, &mut room), want, "failing at {number}");
-        assert_eq!(rt; source.rest().len(), left, "failing at {number}");
+    for (number, want, left) in &FAILING_CALLS {
+        assert!(rt; is_gathered(*number, *want, *left));
     }
+}
+
+#[test]
+fn a_source_that_never_fails(rt: HostRuntime) {
     let mut source = SteadySource::new(b"abcde", 2);
     let mut room = [0; 4];
-    assert_eq!(rt; gather(&mut source, &mut room), Ok(4));
-    assert_eq!(rt; &room, b"abcd");
-    assert_eq!(rt; source.rest(), b"e".as_slice());
+    let count = gather(&mut source, &mut room);
+    assert!(rt; count == Ok(4) && &room == b"abcd" && source.rest() == b"e".as_slice());
 }
 
 // The size of the room, the number of the failing call, whether all is written, and what is written.
@@ -81,21 +88,27 @@ const ROOMS: [(usize, u64, bool, &[u8]); 5] = [
     (5, 1, false, b""),
 ];
 
+// Two pieces of five octets.
+const PIECES: [&[u8]; 2] = [b"ab", b"cde"];
+
+// Whether this is written to a room where this call fails, and whether that is all.
+fn is_put(room: &mut [u8], number: u64, all: bool, want: &[u8]) -> bool {
+    let fails = [number];
+    let mut sink = SliceSink::new(room, &fails);
+    put_all(&mut sink, &PIECES).is_ok() == all && sink.written() == want
+}
+
 #[test]
 fn sinks_in_memory(rt: HostRuntime) {
-    let pieces = [b"ab".as_slice(), b"cde".as_slice()];
-    for (size, number, all, want) in ROOMS {
+    for (size, number, all, want) in &ROOMS {
         let mut room = [0; 8];
-        let fails = [number];
-        let mut sink = SliceSink::new(&mut room[..size.min(8)], &fails);
-        assert_eq!(rt;
-            put_all(&mut sink, &pieces).is_ok(),
-            all,
-            "room {size}, failing at {number}"
-        );
-        assert_eq!(rt; sink.written(), want, "room {size}, failing at {number}");
+        assert!(rt; is_put(&mut room[..(*size).min(8)], *number, *all, want));
     }
+}
+
+#[test]
+fn a_sink_that_counts(rt: HostRuntime) {
     let mut sink = CountSink::new();
-    assert_eq!(rt; put_all(&mut sink, &pieces), Ok(()));
-    assert_eq!(rt; sink.octets(), 5);
+    let all = put_all(&mut sink, &PIECES);
+    assert!(rt; all == Ok(()) && sink.octets() == 5);
 }

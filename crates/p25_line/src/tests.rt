@@ -4,23 +4,22 @@ use super::{
     Line, LineFault, LineWords, WordList, comma_part, hex_value, is_dash, number_value,
     octets_or_dash, words_of,
 };
-use std::process::Abort;
+use std::alloc::Global;
 use std::test::Fail;
 
-#[test]
+// Whether a line that is emptied is written in pieces.
 #[tactic(auto, using(crate::proofs::DecimalLaws::decimal_short))]
-fn line_of_pieces(rt: HostRuntime) {
-    let mut line = Line::new();
-    line.put(b"left over");
+fn pieces_are_put(line: &mut Line) -> bool {
     line.clear();
     line.put(b"nac=");
     line.put_hex(&[0x02, 0x9F]);
     line.put(b" at=");
     line.put_number(18_446_744_073_709_551_615);
-    assert_eq!(rt;
-        line.octets(),
-        b"nac=029f at=18446744073709551615".as_slice()
-    );
+    line.octets() == b"nac=029f at=18446744073709551615".as_slice()
+}
+
+// Whether it is written with labels, three digits and octets.
+fn values_are_put(line: &mut Line) -> bool {
     line.clear();
     line.put_labelled(b"at=", 0);
     line.put_labelled(b" bits=", 18_446_744_073_709_551_615);
@@ -29,10 +28,15 @@ fn line_of_pieces(rt: HostRuntime) {
     line.put_three_digits(0xF293);
     line.put_octets(&[]);
     line.put_octets(&[0x0A, 0xFF]);
-    assert_eq!(rt;
-        line.octets(),
-        b"at=0 bits=18446744073709551615 nac=02a293-0aff".as_slice()
-    );
+    line.octets() == b"at=0 bits=18446744073709551615 nac=02a293-0aff".as_slice()
+}
+
+#[test]
+fn line_of_pieces(rt: HostRuntime) {
+    let mut line = Line::new();
+    line.put(b"left over");
+    assert!(rt; pieces_are_put(&mut line));
+    assert!(rt; values_are_put(&mut line));
 }
 
 #[test]
@@ -45,33 +49,57 @@ fn words_of_a_line_that_is_written(rt: HostRuntime) -> Result<(), Fail> {
     Ok(())
 }
 
+// Whether a line is shown as this text, for users and for programmers.
+fn is_shown(alloc: Global, line: &Line, want: &str) -> bool {
+    match format!(in alloc; "{line} {line:?}") {
+        Ok(text) => text.as_str() == want,
+        Err(_) => false,
+    }
+}
+
+// Whether a line is shown for programmers alone, as this text.
+fn is_no_text(alloc: Global, line: &Line, want: &str) -> bool {
+    match format!(in alloc; "{line:?}") {
+        Ok(text) => text.as_str() == want && line.to_string(alloc).is_err(),
+        Err(_) => false,
+    }
+}
+
+// Whether a copy of a line is another line.
+fn is_copied_as(line: &Line, other: &Line) -> bool {
+    match line.clone() {
+        Ok(copy) => copy == *other,
+        Err(_) => false,
+    }
+}
+
+// A line of one octet, which is no text.
+fn line_of_octet(octet: u8) -> Line {
+    let mut line = Line::new();
+    line.put(&[octet]);
+    line
+}
+
 // A line is shown as its text, or where it is none as its octets; lines are the same where their octets are, whatever stood
 // in them before.
 #[test]
-fn line_as_a_text(rt: HostRuntime) -> Result<(), Fail> {
+fn line_as_a_text(rt: HostRuntime) {
     let mut line = Line::default();
     line.put(b"left over");
     line.clear();
     line.put(b"a=\"");
-    assert_eq!(rt;
-        format!(in rt.alloc(); "{line} {line:?}")?.as_str(),
-        "a=\" \"a=\\\"\""
-    );
+    assert!(rt; is_shown(rt.alloc(), &line, "a=\" \"a=\\\"\""));
     let mut other = Line::new();
     other.put(b"a=\"");
-    assert!(rt; line == other && line.clone()? == other && !line.is_empty());
-    other.clear();
-    other.put(&[0xFF]);
-    assert!(rt; line != other && other.to_string(rt.alloc()).is_err());
-    assert_eq!(rt; format!(in rt.alloc(); "{other:?}")?.as_str(), "[255]");
-    Ok(())
+    assert!(rt; line == other && is_copied_as(&line, &other) && !line.is_empty());
+    let octet = line_of_octet(0xFF);
+    assert!(rt; line != octet && is_no_text(rt.alloc(), &octet, "[255]"));
 }
 
-// A line has so many words, or is refused.
-fn has_words(rt: &impl Abort, line: &[u8], answer: Result<(), LineFault>, count: usize) {
+// Whether a line has so many words, or is refused.
+fn has_words(line: &[u8], answer: Result<(), LineFault>, count: usize) -> bool {
     let mut words = WordList::new();
-    assert_eq!(rt; words_of(line, &mut words), answer);
-    assert_eq!(rt; words.count(), count);
+    words_of(line, &mut words) == answer && words.count() == count
 }
 
 const LINES: [(&[u8], Result<(), LineFault>, usize); 6] = [
@@ -86,28 +114,54 @@ const LINES: [(&[u8], Result<(), LineFault>, usize); 6] = [
 #[test]
 fn words_of_lines(rt: HostRuntime) {
     let long = [b'a'; 8_193];
-    has_words(&rt, &long[..8_192], Ok(()), 1);
-    has_words(&rt, &long, Err(LineFault::Long), 0);
+    assert!(rt; has_words(&long[..8_192], Ok(()), 1));
+    assert!(rt; has_words(&long, Err(LineFault::Long), 0));
     for (line, answer, count) in &LINES {
-        has_words(&rt, line, *answer, *count);
+        assert!(rt; has_words(line, *answer, *count));
+    }
+}
+
+// Whether this word stands at a place of a line.
+fn has_word(words: &LineWords, place: usize, word: &[u8]) -> bool {
+    place < words.count() && place < 16 && words.get(place) == word
+}
+
+// Whether a line is read as so many words, with this one first and this one at a place.
+fn is_read(line: &[u8], count: usize, first: &[u8], place: usize, word: &[u8]) -> bool {
+    match LineWords::read(line) {
+        Ok(words) => {
+            words.count() == count && words.first() == first && has_word(&words, place, word)
+        }
+        Err(_) => false,
     }
 }
 
 #[test]
-fn words_of_a_line_that_is_read(rt: HostRuntime) -> Result<(), Fail> {
-    let words = LineWords::read(b"a b c d e f g h i j k l m n o p q r")?;
-    assert_eq!(rt; words.first(), b"a".as_slice());
-    assert_eq!(rt; words.count(), 18);
-    assert_eq!(rt; words.get(15), b"p".as_slice());
+fn words_of_a_line_that_is_read(rt: HostRuntime) {
+    let line: &[u8] = b"a b c d e f g h i j k l m n o p q r";
+    assert!(rt; is_read(line, 18, b"a", 15, b"p"));
+}
+
+// Whether a line is read as one word.
+fn is_one_word(line: &[u8]) -> bool {
+    match LineWords::read(line) {
+        Ok(words) => words.count() == 1,
+        Err(_) => false,
+    }
+}
+
+// Whether a line is refused for this cause.
+fn is_refused(line: &[u8], fault: LineFault) -> bool {
+    matches!(LineWords::read(line), Err(cause) if cause == fault)
+}
+
+#[test]
+fn long_lines_and_lines_that_are_refused(rt: HostRuntime) {
     let long = [b'a'; 8_193];
-    assert_eq!(rt; LineWords::read(&long[..8_192])?.count(), 1);
-    assert_eq!(rt; LineWords::read(&long).err(), Some(LineFault::Long));
-    assert_eq!(rt; LineWords::read(b"").err(), Some(LineFault::Form));
-    assert_eq!(rt;
-        LineWords::read(b"tdu  nac=293").err(),
-        Some(LineFault::Form)
-    );
-    Ok(())
+    assert!(rt; is_one_word(&long[..8_192]));
+    assert!(rt; is_refused(&long, LineFault::Long));
+    assert!(rt; is_refused(b"", LineFault::Form));
+    assert!(rt; is_refused(b"tdu  nac=293", LineFault::Form));
 }
 
 #[test]
@@ -129,15 +183,23 @@ const NUMBERS: [(&[u8], u64, Option<u64>); 6] = [
     (b"18446744073709551616", 18_446_744_073_709_551_615, None),
 ];
 
+// Whether a word is an octet of hexadecimal, and what stands in the room then, where 7 stood.
+fn is_hex(word: &[u8], answer: bool, octet: u8) -> bool {
+    let mut octets = [7];
+    hex_value(word, &mut octets) == answer && octets == [octet]
+}
+
+// Whether a word is this number, or none.
+fn is_number(word: &[u8], most: u64, number: Option<u64>) -> bool {
+    number_value(word, most) == number
+}
+
 #[test]
 fn values_of_words(rt: HostRuntime) {
-    let mut octets = [7];
-    assert_eq!(rt; hex_value(b"0A", &mut octets), false);
-    assert_eq!(rt; octets, [7]);
-    assert_eq!(rt; hex_value(b"0a", &mut octets), true);
-    assert_eq!(rt; octets, [10]);
+    assert!(rt; is_hex(b"0A", false, 7));
+    assert!(rt; is_hex(b"0a", true, 10));
     for (word, most, number) in &NUMBERS {
-        assert_eq!(rt; number_value(word, *most), *number);
+        assert!(rt; is_number(word, *most, *number));
     }
 }
 
@@ -153,17 +215,20 @@ const OCTETS: [(&[u8], Option<&[u8]>); 8] = [
     (b"--", None),
 ];
 
+// Whether a word is these octets, or none, and the room is then as it was.
+fn are_octets(word: &[u8], octets: Option<&[u8]>) -> bool {
+    let mut room = [7; 2];
+    match (octets_or_dash(word, &mut room), octets) {
+        (Some(count), Some(octets)) => &room[..count] == octets,
+        (None, None) => room == [7; 2],
+        _ => false,
+    }
+}
+
 #[test]
 fn octets_of_words(rt: HostRuntime) {
-    for (word, octets) in OCTETS {
-        let mut room = [7; 2];
-        let count = octets_or_dash(word, &mut room);
-        assert_eq!(rt; count, octets.map(|octets| octets.len()));
-        if let Some(count) = count {
-            assert_eq!(rt; Some(&room[..count]), octets);
-        } else {
-            assert_eq!(rt; room, [7; 2]);
-        }
+    for (word, octets) in &OCTETS {
+        assert!(rt; are_octets(word, *octets));
     }
 }
 
@@ -179,13 +244,19 @@ const PARTS: [(&[u8], usize, &[u8], bool); 8] = [
     (b"--", 0, b"--", false),
 ];
 
+// Whether this part begins at a place of a word, and whether it is `-`.
+fn is_part(word: &[u8], start: usize, part: &[u8], dash: bool) -> bool {
+    if start > word.len() {
+        return false;
+    }
+    let found = comma_part(word, start);
+    found == part && is_dash(found) == dash
+}
+
 #[test]
 fn parts_of_lists(rt: HostRuntime) {
     for (word, start, part, dash) in &PARTS {
-        assert!(rt; *start <= word.len());
-        let found = comma_part(word, *start);
-        assert_eq!(rt; found, *part);
-        assert_eq!(rt; is_dash(found), *dash);
+        assert!(rt; is_part(word, *start, part, *dash));
     }
 }
 
@@ -197,11 +268,17 @@ const FAULTS: [(LineFault, &str); 5] = [
     (LineFault::Value, "value"),
 ];
 
-#[test]
-fn fault_words(rt: HostRuntime) -> Result<(), Fail> {
-    for (fault, word) in &FAULTS {
-        let text = format!(in rt.alloc(); "{fault}")?;
-        assert_eq!(rt; text.as_str(), *word);
+// Whether a fault is shown as this word.
+fn is_fault_shown(alloc: Global, fault: LineFault, word: &str) -> bool {
+    match format!(in alloc; "{fault}") {
+        Ok(text) => text.as_str() == word,
+        Err(_) => false,
     }
-    Ok(())
+}
+
+#[test]
+fn fault_words(rt: HostRuntime) {
+    for (fault, word) in &FAULTS {
+        assert!(rt; is_fault_shown(rt.alloc(), *fault, word));
+    }
 }

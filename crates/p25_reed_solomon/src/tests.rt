@@ -1,5 +1,6 @@
 //! Words that other programs encoded and read. A text gives a symbol by two octal digits.
 
+ghost use Rattle.std.specs.Prelude.{◌-◌, ◌≤◌};
 ghost use Rattle.p25_reed_solomon.specs.Words.{IsCode};
 
 mod words;
@@ -10,7 +11,6 @@ use self::words::{
 use crate::Rs;
 use p25_code::{BlockCode, Reading, encode_then_read, read_received, read_with_erasures};
 use p25_gf64::Sym;
-use std::process::Abort;
 
 #[test]
 fn the_example_of_the_head(rt: HostRuntime) {
@@ -42,79 +42,61 @@ fn symbols_of<const N: usize>(text: &str) -> [Sym; N] {
     symbols
 }
 
-// A word of the code is read.
-fn assert_read<const N: usize, const K: usize>(
-    rt: &impl Abort,
-    received: &str,
-    fixes: u32,
-    sent: &[Sym; N],
-)
+// Whether a received word is read so, and what it is then.
+fn is_read<const N: usize, const K: usize>(
+    received: &[Sym; N],
+    reading: Reading,
+    read: &[Sym; N],
+) -> bool
     requires { IsCode N K }
 {
-    let mut word = symbols_of::<N>(received);
-    assert_eq!(rt;
-        read_received::<Rs<N, K>>(&mut word),
-        Reading::Found { fixes },
-        "{received}"
-    );
-    assert_eq!(rt; word, *sent, "{received}");
+    let mut word = *received;
+    read_received::<Rs<N, K>>(&mut word) == reading && word == *read
 }
 
-// A word of the code is what its information is encoded to.
-fn assert_encoded<const N: usize, const K: usize>(rt: &impl Abort, sent: &[Sym; N])
+// Whether a word of the code is what its information is encoded to.
+fn is_encoded<const N: usize, const K: usize>(sent: &[Sym; N]) -> bool
     requires { IsCode N K }
 {
     let mut word = [Sym::default(); N];
-    assert_eq!(rt;
-        encode_then_read::<Rs<N, K>>(&sent[..K], &mut word),
-        Reading::Found { fixes: 0 }
-    );
-    assert_eq!(rt; word, *sent);
+    encode_then_read::<Rs<N, K>>(&sent[..K], &mut word) == (Reading::Found { fixes: 0 })
+        && word == *sent
 }
 
-// A word of the code is read, and it is what its information is encoded to.
-fn assert_found<const N: usize, const K: usize>(
-    rt: &impl Abort,
-    received: &str,
-    fixes: u32,
-    sent: &str,
-)
+// Whether a word of the code is read, and is what its information is encoded to.
+fn is_found<const N: usize, const K: usize>(row: &(&str, u32, &str)) -> bool
     requires { IsCode N K }
 {
-    let sent = symbols_of::<N>(sent);
-    assert_read::<N, K>(rt, received, fixes, &sent);
-    assert_encoded::<N, K>(rt, &sent);
+    let fixes = row.1;
+    let sent = symbols_of::<N>(row.2);
+    is_read::<N, K>(&symbols_of::<N>(row.0), Reading::Found { fixes }, &sent)
+        && is_encoded::<N, K>(&sent)
 }
 
-// No word of the code is near enough: nothing is changed.
-fn assert_beyond<const N: usize, const K: usize>(rt: &impl Abort, received: &str)
+// Whether no word of the code is near enough: nothing is changed.
+fn is_beyond<const N: usize, const K: usize>(received: &str) -> bool
     requires { IsCode N K }
 {
-    let mut word = symbols_of::<N>(received);
-    assert_eq!(rt;
-        read_received::<Rs<N, K>>(&mut word),
-        Reading::Beyond,
-        "{received}"
-    );
-    assert_eq!(rt; word, symbols_of::<N>(received), "{received}");
+    let received = symbols_of::<N>(received);
+    is_read::<N, K>(&received, Reading::Beyond, &received)
 }
 
-// The word of zeros is read where as many symbols as the radius says are 63.
-fn assert_radius<const N: usize, const K: usize>(rt: &impl Abort, radius: usize)
-    requires { IsCode N K }
-{
-    assert_eq!(rt; Rs::<N, K>::radius(), radius);
+// A word of zeros whose first symbols are 63.
+fn zeros_but_first<const N: usize>(count: usize) -> [Sym; N] {
     let mut word = [Sym::default(); N];
-    for symbol in word.iter_mut().take(radius) {
+    for symbol in word.iter_mut().take(count) {
         *symbol = Sym::new(63).unwrap();
     }
-    assert_eq!(rt;
-        read_received::<Rs<N, K>>(&mut word),
-        Reading::Found {
-            fixes: radius as u32
-        }
-    );
-    assert_eq!(rt; word, [Sym::default(); N]);
+    word
+}
+
+// Whether the word of zeros is read where as many symbols as the radius says are 63.
+fn reads_to<const N: usize, const K: usize>(radius: usize, fixes: u32) -> bool
+    requires { IsCode N K }
+{
+    let received = zeros_but_first::<N>(radius);
+    Rs::<N, K>::radius() == radius
+        && is_read::<N, K>(&received, Reading::Found { fixes }, &[Sym::default(); N])
 }
 
 // A word whose first symbols are other ones.
@@ -129,114 +111,144 @@ fn with_wrong<const N: usize>(sent: &[Sym; N], count: usize) -> [Sym; N] {
 // So many erasures after the first places.
 fn erased_from<const N: usize>(first: usize, count: usize) -> [bool; N] {
     let mut erased = [false; N];
-    for gone in erased.iter_mut().skip(first).take(count) {
-        *gone = true;
+    for i in 0..N {
+        erased[i] = first <= i && i - first < count;
     }
     erased
 }
 
-// A word so many of whose first symbols are wrong is read, some of which are erased.
-fn assert_erased<const N: usize, const K: usize>(
-    rt: &impl Abort,
-    sent: &[Sym; N],
+// Whether a received word is read so where so many symbols are erased after the first places, and what it is then.
+fn is_read_erased<const N: usize, const K: usize>(
+    received: &[Sym; N],
+    first: usize,
     erasures: usize,
-    fixes: u32,
-)
+    reading: Reading,
+    read: &[Sym; N],
+) -> bool
     requires { IsCode N K }
 {
-    let mut word = with_wrong::<N>(sent, fixes as usize);
-    let reading = read_with_erasures::<Rs<N, K>>(&mut word, &erased_from::<N>(0, erasures));
-    assert_eq!(rt; reading, Reading::Found { fixes });
-    assert_eq!(rt; word, *sent);
+    let mut word = *received;
+    let erased = erased_from::<N>(first, erasures);
+    read_with_erasures::<Rs<N, K>>(&mut word, &erased) == reading && word == *read
 }
 
-// A word is read with so many erasures, and as many wrong symbols after them as there may be: each erasure costs one, each wrong symbol
-// two.
-fn assert_erasures<const N: usize, const K: usize>(rt: &impl Abort, sent: &str)
+// Whether a word is read with so many erasures at its beginning, and as many wrong symbols in them and after them as there may be: each
+// erasure costs one, each wrong symbol two.
+fn reads_wrong<const N: usize, const K: usize>(sent: &[Sym; N], erasures: usize) -> bool
+    requires code { IsCode N K }
+    requires few { erasures ≤ N - K }
+{
+    for wrong in 0..(N - K - erasures) / 2 + 1 {
+        let fixes = (erasures + wrong) as u32;
+        let received = with_wrong::<N>(sent, erasures + wrong);
+        if !is_read_erased::<N, K>(&received, 0, erasures, Reading::Found { fixes }, sent) {
+            return false;
+        }
+    }
+    true
+}
+
+// Whether it is with each number of erasures.
+fn reads_with<const N: usize, const K: usize>(sent: &str) -> bool
     requires { IsCode N K }
 {
     let sent = symbols_of::<N>(sent);
     for erasures in 0..N - K + 1 {
-        for wrong in 0..(N - K - erasures) / 2 + 1 {
-            assert_erased::<N, K>(rt, &sent, erasures, (erasures + wrong) as u32);
+        if !reads_wrong::<N, K>(&sent, erasures) {
+            return false;
         }
     }
+    true
+}
+
+// Whether a word is left where fewer than all of its check symbols are erased, and read as the word of zeros where all are.
+fn reads_few<const N: usize, const K: usize>(received: &[Sym; N], erasures: usize) -> bool
+    requires code { IsCode N K }
+    requires few { erasures ≤ N - K }
+{
+    if erasures < N - K {
+        return is_read_erased::<N, K>(received, K, erasures, Reading::Beyond, received);
+    }
+    let fixes = erasures as u32;
+    is_read_erased::<N, K>(
+        received,
+        K,
+        erasures,
+        Reading::Found { fixes },
+        &[Sym::default(); N],
+    )
 }
 
 // The coefficients of (x - α)(x - α^2)..(x - α^(N - K - 1)), which stand in the check symbols, differ from each word of the code in
 // N - K symbols at least. So with fewer erasures than that no word costs so little as is allowed, one too much with one erasure less, and
 // with as many the word is read.
-fn assert_too_few_erasures<const N: usize, const K: usize>(rt: &impl Abort, received: &str)
+fn needs_all<const N: usize, const K: usize>(received: &str) -> bool
     requires { IsCode N K }
 {
     let received = symbols_of::<N>(received);
     for erasures in 0..N - K + 1 {
-        let mut word = received;
-        let reading = read_with_erasures::<Rs<N, K>>(&mut word, &erased_from::<N>(K, erasures));
-        if erasures < N - K {
-            assert_eq!(rt; reading, Reading::Beyond);
-            assert_eq!(rt; word, received);
-        } else {
-            let fixes = erasures as u32;
-            assert_eq!(rt; reading, Reading::Found { fixes });
-            assert_eq!(rt; word, [Sym::default(); N]);
+        if !reads_few::<N, K>(&received, erasures) {
+            return false;
         }
     }
+    true
 }
 
 #[test]
 fn reads_with_erasures(rt: HostRuntime) {
-    assert_erasures::<36, 20>(
-        &rt,
-        "270175232777377521255315260744575571261610414715134206634110723660117725",
+    assert!(rt;
+        reads_with::<36, 20>(
+            "270175232777377521255315260744575571261610414715134206634110723660117725"
+        )
     );
-    assert_erasures::<24, 12>(&rt, "035000476356506273717415466536506351313017440371");
-    assert_erasures::<24, 16>(&rt, "031163745554154624037047554717145530440712313622");
+    assert!(rt; reads_with::<24, 12>("035000476356506273717415466536506351313017440371"));
+    assert!(rt; reads_with::<24, 16>("031163745554154624037047554717145530440712313622"));
 }
 
 #[test]
 fn reads_no_more_than_the_erasures_allow(rt: HostRuntime) {
-    assert_too_few_erasures::<36, 20>(
-        &rt,
-        "000000000000000000000000000000000000000001177110152336315267373505657576",
+    assert!(rt;
+        needs_all::<36, 20>(
+            "000000000000000000000000000000000000000001177110152336315267373505657576"
+        )
     );
-    assert_too_few_erasures::<24, 12>(&rt, "000000000000000000000000017414212573160627644310");
-    assert_too_few_erasures::<24, 16>(&rt, "000000000000000000000000000000000173053132213534");
+    assert!(rt; needs_all::<24, 12>("000000000000000000000000017414212573160627644310"));
+    assert!(rt; needs_all::<24, 16>("000000000000000000000000000000000173053132213534"));
 }
 
 #[test]
 fn reads_to_the_radius(rt: HostRuntime) {
-    assert_radius::<36, 20>(&rt, 8);
-    assert_radius::<24, 12>(&rt, 6);
-    assert_radius::<24, 16>(&rt, 4);
+    assert!(rt; reads_to::<36, 20>(8, 8));
+    assert!(rt; reads_to::<24, 12>(6, 6));
+    assert!(rt; reads_to::<24, 16>(4, 4));
 }
 
 #[test]
 fn words_of_36_20(rt: HostRuntime) {
-    for (received, fixes, sent) in FOUND_36_20 {
-        assert_found::<36, 20>(&rt, received, fixes, sent);
+    for row in &FOUND_36_20 {
+        assert!(rt; is_found::<36, 20>(row));
     }
-    for received in BEYOND_36_20 {
-        assert_beyond::<36, 20>(&rt, received);
+    for received in &BEYOND_36_20 {
+        assert!(rt; is_beyond::<36, 20>(received));
     }
 }
 
 #[test]
 fn words_of_24_12(rt: HostRuntime) {
-    for (received, fixes, sent) in FOUND_24_12 {
-        assert_found::<24, 12>(&rt, received, fixes, sent);
+    for row in &FOUND_24_12 {
+        assert!(rt; is_found::<24, 12>(row));
     }
-    for received in BEYOND_24_12 {
-        assert_beyond::<24, 12>(&rt, received);
+    for received in &BEYOND_24_12 {
+        assert!(rt; is_beyond::<24, 12>(received));
     }
 }
 
 #[test]
 fn words_of_24_16(rt: HostRuntime) {
-    for (received, fixes, sent) in FOUND_24_16 {
-        assert_found::<24, 16>(&rt, received, fixes, sent);
+    for row in &FOUND_24_16 {
+        assert!(rt; is_found::<24, 16>(row));
     }
-    for received in BEYOND_24_16 {
-        assert_beyond::<24, 16>(&rt, received);
+    for received in &BEYOND_24_16 {
+        assert!(rt; is_beyond::<24, 16>(received));
     }
 }
