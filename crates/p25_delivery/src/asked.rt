@@ -9,7 +9,7 @@ use crate::LLID;
 use p25_packet_blocks::{Flags, PacketHead, Plain, RESPONSE_FORMAT, flags_read};
 
 // What a response asks of a sender with a message outstanding.
-#[derive(Clone, Debug, PartialEq, Eq, Drop)]
+#[derive(Drop)]
 pub enum Asked {
     // Nothing, as it is no answer to that message.
     Nothing,
