@@ -18,8 +18,8 @@ use Rattle.p25_delivery.specs.SenderRules.{sending_after, answered, response_hea
 use Rattle.p25_delivery.specs.ReceiverRules.{empty_places, keeping_full, keeping_for, finished, completed, filled, data_heard, receiver_heard}
 use Rattle.p25_delivery.specs.declared.sender.Outstanding.{Outstanding}
 use Rattle.p25_delivery.specs.declared.sender.Outstanding.TheVariants.{Nothing, Message, Opening}
-use Rattle.p25_delivery.specs.declared.sender.SenderHeard.TheVariants.{Acknowledged, Opened as SenderOpened}
-use Rattle.p25_delivery.specs.declared.receiver.Heard.TheVariants.{Delivered, Opened}
+use Rattle.p25_messages.specs.declared.answers.SenderHeard.TheVariants.{Acknowledged, Opened as SenderOpened}
+use Rattle.p25_messages.specs.declared.answers.Heard.TheVariants.{Delivered, Opened}
 use Rattle.p25_delivery.proofs.CarriedLaws.{slots-read_back}
 use Rattle.p25_delivery.specs.Delivery.{Delivery, Session}
 use Rattle.p25_delivery.specs.AtOnce.{DeliversAtOnce, OpensAtOnce}

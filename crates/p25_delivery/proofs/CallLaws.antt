@@ -9,11 +9,11 @@ use Rattle.p25_delivery.specs.Halves.{Sending, Keeping, Receiving}
 use Rattle.p25_delivery.specs.SenderRules.{offered, timed_out, opening_number, reopened, is_opening}
 use Rattle.p25_delivery.specs.declared.sender.Outstanding.{Outstanding}
 use Rattle.p25_delivery.specs.declared.sender.Outstanding.TheVariants.{Message, Opening}
-use Rattle.p25_delivery.specs.declared.sender.Offer.{Offer}
-use Rattle.p25_delivery.specs.declared.sender.Offer.TheVariants.{Busy, Down as OfferDown}
-use Rattle.p25_delivery.specs.declared.sender.Resend.{Resend}
-use Rattle.p25_delivery.specs.declared.sender.Resend.TheVariants.{Sent, Idle, Down as ResendDown}
-use Rattle.p25_delivery.specs.declared.sender.Reopen.{Reopen}
+use Rattle.p25_messages.specs.declared.answers.Offer.{Offer}
+use Rattle.p25_messages.specs.declared.answers.Offer.TheVariants.{Busy, Down as OfferDown}
+use Rattle.p25_messages.specs.declared.answers.Resend.{Resend}
+use Rattle.p25_messages.specs.declared.answers.Resend.TheVariants.{Sent, Idle, Down as ResendDown}
+use Rattle.p25_messages.specs.declared.answers.Reopen.{Reopen}
 use Rattle.p25_delivery.specs.HalfRules.{after_offer, after_timeout, after_reopening}
 use Rattle.p25_delivery.specs.Delivery.{Delivery, Session, present_session, first_number, newest_after, with_outbound}
 use Rattle.p25_delivery.specs.Facts.{IsDataOf, KeepsOf}

@@ -9,15 +9,15 @@ use Rattle.p25_delivery.specs.SenderRules.{offered_beside, offered, timed_out_wi
 use Rattle.p25_delivery.specs.ReceiverRules.{receiver_heard}
 use Rattle.p25_delivery.specs.declared.sender.Outstanding.{Outstanding}
 use Rattle.p25_delivery.specs.declared.sender.Outstanding.TheVariants.{Nothing, Message, Opening}
-use Rattle.p25_delivery.specs.declared.sender.Offer.{Offer}
-use Rattle.p25_delivery.specs.declared.sender.Offer.TheVariants.{Taken, Down as OfferDown}
-use Rattle.p25_delivery.specs.declared.sender.Resend.{Resend}
-use Rattle.p25_delivery.specs.declared.sender.Resend.TheVariants.{Sent, Idle, Down as ResendDown}
-use Rattle.p25_delivery.specs.declared.sender.SenderHeard.{SenderHeard}
-use Rattle.p25_delivery.specs.declared.sender.SenderHeard.TheVariants.{Acknowledged, Opened as SenderOpened, Retry, Repeat, Ignored as SenderIgnored, Down as HeardDown}
-use Rattle.p25_delivery.specs.declared.sender.Reopen.{Reopen}
-use Rattle.p25_delivery.specs.declared.receiver.Heard.{Heard}
-use Rattle.p25_delivery.specs.declared.receiver.Heard.TheVariants.{Delivered, Opened, Again, Kept, RefusedCrc, RefusedOrder, Ignored}
+use Rattle.p25_messages.specs.declared.answers.Offer.{Offer}
+use Rattle.p25_messages.specs.declared.answers.Offer.TheVariants.{Taken, Down as OfferDown}
+use Rattle.p25_messages.specs.declared.answers.Resend.{Resend}
+use Rattle.p25_messages.specs.declared.answers.Resend.TheVariants.{Sent, Idle, Down as ResendDown}
+use Rattle.p25_messages.specs.declared.answers.SenderHeard.{SenderHeard}
+use Rattle.p25_messages.specs.declared.answers.SenderHeard.TheVariants.{Acknowledged, Opened as SenderOpened, Retry, Repeat, Ignored as SenderIgnored, Down as HeardDown}
+use Rattle.p25_messages.specs.declared.answers.Reopen.{Reopen}
+use Rattle.p25_messages.specs.declared.answers.Heard.{Heard}
+use Rattle.p25_messages.specs.declared.answers.Heard.TheVariants.{Delivered, Opened, Again, Kept, RefusedCrc, RefusedOrder, Ignored}
 use Rattle.p25_delivery.specs.HalfRules.{after_offer, after_timeout, after_reopening, after_data, after_answer}
 use Rattle.p25_delivery.specs.Delivery.{Session, Delivery, first_delivery, last_mark, sessions_of, present_session, with_outbound, with_inbound, Happening, Offering, Time_up, Opening_again, Data_heard, Answer_heard, happens, delivery_run}
 use Rattle.p25_delivery.specs.Orderly.{IsCounted, AreCounted}

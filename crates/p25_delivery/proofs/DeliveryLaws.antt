@@ -11,12 +11,12 @@ use Rattle.p25_delivery.specs.Halves.{Sending, Keeping, Receiving, Outgoing}
 use Rattle.p25_delivery.specs.SenderRules.{sending_after, sender_heard, opening_number, is_opening}
 use Rattle.p25_delivery.specs.ReceiverRules.{receiver_heard}
 use Rattle.p25_delivery.specs.declared.sender.Outstanding.TheVariants.{Nothing, Message, Opening}
-use Rattle.p25_delivery.specs.declared.sender.SenderHeard.{SenderHeard}
-use Rattle.p25_delivery.specs.declared.sender.SenderHeard.TheVariants.{Acknowledged, Opened as SenderOpened, Retry, Repeat, Ignored as SenderIgnored, Down as HeardDown}
-use Rattle.p25_delivery.specs.declared.sender.Reopen.{Reopen}
-use Rattle.p25_delivery.specs.declared.sender.Reopen.TheVariants.{Sent as ReopenSent, Up as ReopenUp}
-use Rattle.p25_delivery.specs.declared.receiver.Heard.{Heard}
-use Rattle.p25_delivery.specs.declared.step_kind.StepKind.TheVariants.{Reopened}
+use Rattle.p25_messages.specs.declared.answers.SenderHeard.{SenderHeard}
+use Rattle.p25_messages.specs.declared.answers.SenderHeard.TheVariants.{Acknowledged, Opened as SenderOpened, Retry, Repeat, Ignored as SenderIgnored, Down as HeardDown}
+use Rattle.p25_messages.specs.declared.answers.Reopen.{Reopen}
+use Rattle.p25_messages.specs.declared.answers.Reopen.TheVariants.{Sent as ReopenSent, Up as ReopenUp}
+use Rattle.p25_messages.specs.declared.answers.Heard.{Heard}
+use Rattle.p25_messages.specs.declared.step_kind.StepKind.TheVariants.{Reopened}
 use Rattle.p25_delivery.specs.HalfRules.{after_reopening, after_data, after_answer}
 use Rattle.p25_delivery.specs.Delivery.{Session, Delivery, first_delivery, last_mark, sessions_of, present_session, first_number, newest_after, with_outbound, with_inbound, Happening, Offering, Time_up, Opening_again, Data_heard, Answer_heard, happens, delivery_run}
 use Rattle.p25_delivery.specs.Facts.{IsDataOf, KeepsOf, DeliveryFacts}

@@ -3,16 +3,16 @@ use Rattle.std.proofs.Common.{Bool, true, false, List, ℕ, length}
 use Rattle.p25_delivery.specs.Halves.{Sending, Receiving}
 use Rattle.p25_delivery.specs.SenderRules.{offered, timed_out, sender_heard, reopened, is_opening}
 use Rattle.p25_delivery.specs.ReceiverRules.{receiver_heard}
-use Rattle.p25_delivery.specs.declared.sender.Offer.{Offer}
-use Rattle.p25_delivery.specs.declared.sender.Offer.TheVariants.{Taken, Busy, Down as DownAtOffer}
-use Rattle.p25_delivery.specs.declared.sender.Resend.{Resend}
-use Rattle.p25_delivery.specs.declared.sender.Resend.TheVariants.{Sent, Idle, Down as DownAtTimeout}
-use Rattle.p25_delivery.specs.declared.sender.SenderHeard.{SenderHeard}
-use Rattle.p25_delivery.specs.declared.sender.SenderHeard.TheVariants.{Acknowledged, Opened as SenderOpened, Retry, Repeat, Ignored as SenderIgnored, Down as DownAtAnswer}
-use Rattle.p25_delivery.specs.declared.sender.Reopen.{Reopen}
-use Rattle.p25_delivery.specs.declared.sender.Reopen.TheVariants.{Sent as ReopenSent, Up}
-use Rattle.p25_delivery.specs.declared.receiver.Heard.{Heard}
-use Rattle.p25_delivery.specs.declared.receiver.Heard.TheVariants.{Delivered, Opened, Again, Kept, RefusedCrc, RefusedOrder, Ignored}
+use Rattle.p25_messages.specs.declared.answers.Offer.{Offer}
+use Rattle.p25_messages.specs.declared.answers.Offer.TheVariants.{Taken, Busy, Down as DownAtOffer}
+use Rattle.p25_messages.specs.declared.answers.Resend.{Resend}
+use Rattle.p25_messages.specs.declared.answers.Resend.TheVariants.{Sent, Idle, Down as DownAtTimeout}
+use Rattle.p25_messages.specs.declared.answers.SenderHeard.{SenderHeard}
+use Rattle.p25_messages.specs.declared.answers.SenderHeard.TheVariants.{Acknowledged, Opened as SenderOpened, Retry, Repeat, Ignored as SenderIgnored, Down as DownAtAnswer}
+use Rattle.p25_messages.specs.declared.answers.Reopen.{Reopen}
+use Rattle.p25_messages.specs.declared.answers.Reopen.TheVariants.{Sent as ReopenSent, Up}
+use Rattle.p25_messages.specs.declared.answers.Heard.{Heard}
+use Rattle.p25_messages.specs.declared.answers.Heard.TheVariants.{Delivered, Opened, Again, Kept, RefusedCrc, RefusedOrder, Ignored}
 use Rattle.p25_delivery.specs.HalfRules.{after_offer, after_timeout, after_reopening, after_data, after_answer}
 use Rattle.p25_delivery.specs.Delivery.{Delivery, Session, present_session, with_outbound, with_inbound, Happening, Offering, Time_up, Opening_again, Data_heard, Answer_heard, happens}
 use Rattle.p25_delivery.proofs.SessionLaws.{IsDivided, divided-sent, divided-delivered, divided-acknowledged, divided-marked}

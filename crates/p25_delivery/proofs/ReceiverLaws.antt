@@ -16,8 +16,8 @@ use Rattle.p25_delivery.specs.Places.{put_block, put_slots, all_octets, held_fla
 use Rattle.p25_delivery.specs.SentPackets.{ack_packet, retry_packet}
 use Rattle.p25_delivery.specs.Halves.{Keeping, Receiving}
 use Rattle.p25_delivery.specs.ReceiverRules.{empty_places, keeping_full, keeping_for, finished, completed, filled, opening_heard, data_heard, receiver_heard}
-use Rattle.p25_delivery.specs.declared.receiver.Heard.{Heard}
-use Rattle.p25_delivery.specs.declared.receiver.Heard.TheVariants.{Delivered, Opened, Again, Kept, Ignored}
+use Rattle.p25_messages.specs.declared.answers.Heard.{Heard}
+use Rattle.p25_messages.specs.declared.answers.Heard.TheVariants.{Delivered, Opened, Again, Kept, Ignored}
 use Rattle.p25_delivery.proofs.PlacesLaws.{length-put_block, length-put_slots, all_octets-empty}
 use Rattle.p25_delivery.proofs.CarriedLaws.{put_block-here, put_block-other, places-of_message, message-read_back}
 use Rattle.p25_delivery.specs.Facts.{KeepsOf}

@@ -8,7 +8,7 @@ use Rattle.p25_delivery.specs.MessageBlocks.{unpadded}
 use Rattle.p25_delivery.specs.Places.{put_slots, all_octets}
 use Rattle.p25_delivery.specs.Halves.{Keeping, Receiving}
 use Rattle.p25_delivery.specs.ReceiverRules.{finished, completed, filled}
-use Rattle.p25_delivery.specs.declared.receiver.Heard.{Heard}
+use Rattle.p25_messages.specs.declared.answers.Heard.{Heard}
 
 -- of what was kept before, a message that is finished leaves V(R) alone
 pub finished-last : (r s : Receiving) (number : ℕ) (message : Option (List ℕ)) → s.last ≡ r.last → finished s number message ≡ finished r number message

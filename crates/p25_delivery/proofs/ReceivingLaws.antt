@@ -16,8 +16,8 @@ use Rattle.p25_delivery.specs.Places.{put_slots, all_octets, flag_count, held_fl
 use Rattle.p25_delivery.specs.SentPackets.{station_llid, ack_packet, order_nack_packet}
 use Rattle.p25_delivery.specs.Halves.{Keeping, Receiving}
 use Rattle.p25_delivery.specs.ReceiverRules.{empty_places, keeping_full, keeping_for, finished, completed, filled, opening_heard, data_heard, receiver_heard}
-use Rattle.p25_delivery.specs.declared.receiver.Heard.{Heard}
-use Rattle.p25_delivery.specs.declared.receiver.Heard.TheVariants.{Delivered, Opened, Again, Kept, RefusedCrc, RefusedOrder, Ignored}
+use Rattle.p25_messages.specs.declared.answers.Heard.{Heard}
+use Rattle.p25_messages.specs.declared.answers.Heard.TheVariants.{Delivered, Opened, Again, Kept, RefusedCrc, RefusedOrder, Ignored}
 use Rattle.p25_delivery.proofs.PlacesLaws.{length-put_slots}
 use Rattle.p25_delivery.specs.SoundHalves.{IsReceiving}
 use Rattle.p25_delivery.proofs.HeadLaws.{blocks-few}

@@ -18,13 +18,13 @@ use Rattle.p25_delivery.specs.declared.asked.Asked.{Asked}
 use Rattle.p25_delivery.specs.declared.asked.Asked.TheVariants.{Nothing as NothingAsked, NextMessage, WholeMessage, Blocks}
 use Rattle.p25_delivery.specs.declared.sender.Outstanding.{Outstanding}
 use Rattle.p25_delivery.specs.declared.sender.Outstanding.TheVariants.{Nothing, Message, Opening}
-use Rattle.p25_delivery.specs.declared.sender.Offer.TheVariants.{Taken, Busy, Down as OfferDown}
-use Rattle.p25_delivery.specs.declared.sender.Resend.{Resend}
-use Rattle.p25_delivery.specs.declared.sender.Resend.TheVariants.{Sent, Idle, Down as ResendDown}
-use Rattle.p25_delivery.specs.declared.sender.SenderHeard.{SenderHeard}
-use Rattle.p25_delivery.specs.declared.sender.SenderHeard.TheVariants.{Acknowledged, Opened, Retry, Repeat, Ignored, Down as HeardDown}
-use Rattle.p25_delivery.specs.declared.sender.Reopen.{Reopen}
-use Rattle.p25_delivery.specs.declared.sender.Reopen.TheVariants.{Sent as ReopenSent, Up}
+use Rattle.p25_messages.specs.declared.answers.Offer.TheVariants.{Taken, Busy, Down as OfferDown}
+use Rattle.p25_messages.specs.declared.answers.Resend.{Resend}
+use Rattle.p25_messages.specs.declared.answers.Resend.TheVariants.{Sent, Idle, Down as ResendDown}
+use Rattle.p25_messages.specs.declared.answers.SenderHeard.{SenderHeard}
+use Rattle.p25_messages.specs.declared.answers.SenderHeard.TheVariants.{Acknowledged, Opened, Retry, Repeat, Ignored, Down as HeardDown}
+use Rattle.p25_messages.specs.declared.answers.Reopen.{Reopen}
+use Rattle.p25_messages.specs.declared.answers.Reopen.TheVariants.{Sent as ReopenSent, Up}
 use Rattle.p25_delivery.proofs.HeadLaws.{response_head-status, response_head-class}
 use Rattle.p25_delivery.specs.Facts.{IsDataOf}
 

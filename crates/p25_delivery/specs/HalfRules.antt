@@ -3,14 +3,14 @@
 use Rattle.std.specs.Prelude.{ℕ, ◌+◌, Bool, true, false, List, [], ◌∷◌, ◌++◌, length, Option, Some, None}
 pub use Rattle.p25_packet_blocks.specs.declared.packet.Packet.{Packet}
 use Rattle.p25_delivery.specs.Halves.{Sending, Receiving, Outgoing, Incoming, Mark}
-use Rattle.p25_delivery.specs.declared.sender.Offer.{Offer, TheVariants.{Taken as OfferTaken, Busy as OfferBusy, Down as DownAtOffer}}
-use Rattle.p25_delivery.specs.declared.sender.Resend.{Resend, TheVariants.{Sent, Idle as ResendIdle, Down as DownAtTimeout}}
-use Rattle.p25_delivery.specs.declared.sender.SenderHeard.{SenderHeard, TheVariants.{Acknowledged as HeardAck, Opened as SenderOpened, Retry as HeardRetry, Repeat as HeardRepeat, Ignored as SenderIgnored, Down as DownAtAnswer}}
-use Rattle.p25_delivery.specs.declared.sender.Reopen.{Reopen as ReopenAnswer, TheVariants.{Sent as ReopenSent, Up as ReopenUp}}
-use Rattle.p25_delivery.specs.declared.receiver.Heard.{Heard as HeardAnswer, TheVariants.{Delivered as HeardDelivered, Opened as ReceiverOpened, Again as HeardAgain, Kept as HeardKept, RefusedCrc as HeardCrc, RefusedOrder as HeardOrder, Ignored as ReceiverIgnored}}
-use Rattle.p25_delivery.specs.declared.step_kind.Way.TheVariants.{Packets, Answers}
-pub use Rattle.p25_delivery.specs.declared.step_kind.StepKind.{StepKind}
-use Rattle.p25_delivery.specs.declared.step_kind.StepKind.TheVariants.{Taken, Busy, OfferDown, Resent, Idle, TimeoutDown, Reopened, Up, Ignored, Delivered, SynHeard, Again, Kept, RefusedCrc, RefusedOrder, Acknowledged, LinkOpened, Retry, Repeat, AnswerDown}
+use Rattle.p25_messages.specs.declared.answers.Offer.{Offer, TheVariants.{Taken as OfferTaken, Busy as OfferBusy, Down as DownAtOffer}}
+use Rattle.p25_messages.specs.declared.answers.Resend.{Resend, TheVariants.{Sent, Idle as ResendIdle, Down as DownAtTimeout}}
+use Rattle.p25_messages.specs.declared.answers.SenderHeard.{SenderHeard, TheVariants.{Acknowledged as HeardAck, Opened as SenderOpened, Retry as HeardRetry, Repeat as HeardRepeat, Ignored as SenderIgnored, Down as DownAtAnswer}}
+use Rattle.p25_messages.specs.declared.answers.Reopen.{Reopen as ReopenAnswer, TheVariants.{Sent as ReopenSent, Up as ReopenUp}}
+use Rattle.p25_messages.specs.declared.answers.Heard.{Heard as HeardAnswer, TheVariants.{Delivered as HeardDelivered, Opened as ReceiverOpened, Again as HeardAgain, Kept as HeardKept, RefusedCrc as HeardCrc, RefusedOrder as HeardOrder, Ignored as ReceiverIgnored}}
+use Rattle.p25_messages.specs.declared.step_kind.Way.TheVariants.{Packets, Answers}
+pub use Rattle.p25_messages.specs.declared.step_kind.StepKind.{StepKind}
+use Rattle.p25_messages.specs.declared.step_kind.StepKind.TheVariants.{Taken, Busy, OfferDown, Resent, Idle, TimeoutDown, Reopened, Up, Ignored, Delivered, SynHeard, Again, Kept, RefusedCrc, RefusedOrder, Acknowledged, LinkOpened, Retry, Repeat, AnswerDown}
 
 -- a mark of a sending half of whose messages so many were delivered
 abbrev pub mark_of : Outgoing → ℕ → Mark

@@ -6,7 +6,7 @@ use Rattle.p25_delivery.specs.MessageBlocks.{unpadded}
 use Rattle.p25_delivery.specs.Places.{put_slots, all_octets, held_flags}
 use Rattle.p25_delivery.specs.SentPackets.{station_llid, ack_packet, crc_nack_packet, order_nack_packet, retry_packet, PacketHead, Packet, Confirmed, Plain}
 use Rattle.p25_delivery.specs.Halves.{Keeping, Receiving}
-pub use Rattle.p25_delivery.specs.declared.receiver.Heard.{Heard, TheVariants.{Delivered, Opened, Again, Kept, RefusedCrc, RefusedOrder, Ignored}}
+pub use Rattle.p25_messages.specs.declared.answers.Heard.{Heard, TheVariants.{Delivered, Opened, Again, Kept, RefusedCrc, RefusedOrder, Ignored}}
 
 -- so many empty places, and a pad
 abbrev pub empty_places : ℕ → ℕ → Keeping

@@ -4,10 +4,10 @@ use Rattle.p25_delivery.specs.MessageBlocks.{block_count}
 use Rattle.p25_delivery.specs.SentPackets.{message_packet, blocks_packet, opening_packet, PlainParts, Packet, Confirmed, Plain}
 use Rattle.p25_delivery.specs.Halves.{Sending, Outstanding, Nothing, Message, Opening}
 use Rattle.p25_delivery.specs.Asked.{is_response, is_ack, asked_of, Asked, Nothing as NothingAsked, NextMessage, WholeMessage, Blocks}
-pub use Rattle.p25_delivery.specs.declared.sender.Offer.{Offer, TheVariants.{Taken, Busy, Down as OfferDown}}
-use Rattle.p25_delivery.specs.declared.sender.Resend.{Resend, TheVariants.{Sent, Idle, Down as ResendDown}}
-pub use Rattle.p25_delivery.specs.declared.sender.SenderHeard.{SenderHeard, TheVariants.{Acknowledged, Opened, Retry, Repeat, Ignored, Down as HeardDown}}
-pub use Rattle.p25_delivery.specs.declared.sender.Reopen.{Reopen, TheVariants.{Sent as ReopenSent, Up}}
+pub use Rattle.p25_messages.specs.declared.answers.Offer.{Offer, TheVariants.{Taken, Busy, Down as OfferDown}}
+use Rattle.p25_messages.specs.declared.answers.Resend.{Resend, TheVariants.{Sent, Idle, Down as ResendDown}}
+pub use Rattle.p25_messages.specs.declared.answers.SenderHeard.{SenderHeard, TheVariants.{Acknowledged, Opened, Retry, Repeat, Ignored, Down as HeardDown}}
+pub use Rattle.p25_messages.specs.declared.answers.Reopen.{Reopen, TheVariants.{Sent as ReopenSent, Up}}
 
 -- a sender with nothing outstanding, after the number of what was
 abbrev pub sending_after : ℕ → Sending

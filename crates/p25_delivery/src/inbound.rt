@@ -4,9 +4,8 @@ ghost use Rattle.p25_delivery.specs.Halves.{first_incoming};
 ghost use Rattle.p25_delivery.specs.ReceiverRules.{receiver_heard};
 ghost use Rattle.p25_delivery.specs.HalfRules.{after_data};
 
-use crate::receiver::{Heard, Receiver};
-use crate::step_kind::{StepKind, Way};
-use p25_messages::MessageList;
+use crate::receiver::Receiver;
+use p25_messages::{Heard, MessageList, StepKind, Way};
 use p25_packet_blocks::Packet;
 use std::alloc::{AllocError, Global};
 use std::marker::Model;

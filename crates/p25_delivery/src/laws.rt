@@ -5,7 +5,7 @@ ghost use Rattle.p25_packet_blocks.specs.declared.block.Slot.{Slot};
 ghost use Rattle.p25_delivery.specs.MessageBlocks.{block_count, pad_count, message_octets, unpadded};
 ghost use Rattle.p25_delivery.specs.Places.{CarriesMessage, read_back};
 ghost use Rattle.p25_delivery.specs.Delivery.{Happening, Opening_again, first_delivery, delivery_run, sessions_of, first_number, happens};
-ghost use Rattle.p25_delivery.specs.declared.step_kind.StepKind.TheVariants.{Reopened};
+ghost use Rattle.p25_messages.specs.declared.step_kind.StepKind.TheVariants.{Reopened};
 ghost use Rattle.p25_delivery.specs.Orderly.{IsCleanRun, AreCounted, AreOrderly};
 ghost use Rattle.p25_delivery.specs.Halves.{Sending, IsSending, Receiving, Nothing};
 ghost use Rattle.p25_delivery.specs.AtOnce.{DeliversAtOnce, OpensAtOnce};

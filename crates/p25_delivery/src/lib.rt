@@ -25,13 +25,12 @@ mod outbound;
 mod receiver;
 mod sender;
 mod sent;
-mod step_kind;
 
 pub use inbound::Inbound;
 pub use outbound::{Mark, Outbound};
-pub use receiver::{Heard, Receiver};
-pub use sender::{Offer, Outstanding, Reopen, Resend, Sender, SenderHeard};
-pub use step_kind::{StepKind, Way};
+pub use p25_messages::{Heard, Offer, Reopen, Resend, SenderHeard, StepKind, Way};
+pub use receiver::Receiver;
+pub use sender::{Outstanding, Sender};
 
 /// The network access code (NAC) that both stations use.
 pub const NAC: u16 = 0x293;

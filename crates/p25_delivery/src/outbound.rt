@@ -6,10 +6,9 @@ ghost use Rattle.p25_delivery.specs.Halves.{first_outgoing};
 ghost use Rattle.p25_delivery.specs.SenderRules.{offered, timed_out, sender_heard, reopened, is_opening};
 ghost use Rattle.p25_delivery.specs.HalfRules.{after_offer, after_timeout, after_reopening, after_answer};
 
-use crate::sender::{Offer, Reopen, Resend, Sender, SenderHeard};
-use crate::step_kind::{StepKind, Way};
+use crate::sender::Sender;
 use p25_bits::laws::octets_fit;
-use p25_messages::{Message, MessageList};
+use p25_messages::{Message, MessageList, Offer, Reopen, Resend, SenderHeard, StepKind, Way};
 use p25_packet_blocks::Packet;
 use std::alloc::{AllocError, Global};
 use std::marker::Model;

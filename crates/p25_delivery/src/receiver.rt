@@ -6,48 +6,9 @@ ghost use Rattle.p25_delivery.specs.ReceiverRules.{keeping_for, finished, filled
 
 use crate::kept::Kept;
 use crate::{LLID, sent};
-use p25_messages::Message;
-use p25_packet_blocks::{Confirmed, Flags, Packet, PacketHead};
+use p25_messages::{Heard, Message};
+use p25_packet_blocks::{Confirmed, Packet, PacketHead};
 use std::marker::Model;
-
-/// The answer to a packet (PDU) that a receiver hears; `answer` is the response to send.
-#[derive(Clone, Debug, PartialEq, Eq, Drop)]
-pub enum Heard {
-    /// The message is whole, and delivered.
-    Delivered {
-        number: u8,
-        message: Message,
-        answer: Packet,
-    },
-    /// The session is opened anew, by the opening packet with this number.
-    Opened {
-        number: u8,
-        answer: Packet,
-    },
-    /// The last message came again.
-    Again {
-        number: u8,
-        answer: Packet,
-    },
-    /// Blocks are missing: the flags of those that are held.
-    Kept {
-        number: u8,
-        flags: Flags,
-        answer: Packet,
-    },
-    /// All blocks have come, but the packet CRC does not agree, or the pad is longer than the blocks.
-    RefusedCrc {
-        number: u8,
-        answer: Packet,
-    },
-    /// The number is neither that of the last message nor that of the next one.
-    RefusedOrder {
-        last: u8,
-        answer: Packet,
-    },
-    /// The packet is not confirmed, has another LLID, or tells nothing that can be kept.
-    Ignored,
-}
 
 /// A receiver of messages.
 #[derive(Clone, Debug, PartialEq, Eq, Drop)]

@@ -7,7 +7,7 @@ ghost use Rattle.p25_delivery.specs.SenderRules.{sending_after, tried, fallen, m
 use crate::asked::{Asked, acknowledges, answers, asked_by};
 use crate::message_octets::blocks_for;
 use crate::sent;
-use p25_messages::Message;
+use p25_messages::{Message, Offer, Reopen, Resend, SenderHeard};
 use p25_packet_blocks::{Flags, Packet, Plain};
 use std::marker::Model;
 
@@ -20,75 +20,6 @@ pub enum Outstanding {
     Message(Message),
     /// The packet that opens the session anew, by its number.
     Opening(u8),
-}
-
-/// The answer to a message that is offered.
-#[derive(Clone, Debug, PartialEq, Eq, Drop)]
-pub enum Offer {
-    /// The message is outstanding: its number, the number of its blocks, and the packet to send.
-    Taken {
-        number: u8,
-        blocks: u8,
-        packet: Packet,
-    },
-    /// A message or the opening packet is outstanding.
-    Busy,
-    /// The sender is down.
-    Down,
-}
-
-/// The answer to a timeout.
-#[derive(Clone, Debug, PartialEq, Eq, Drop)]
-pub enum Resend {
-    /// What is outstanding is to be sent again: its number, how often it was sent with this time, and the packet.
-    Sent {
-        number: u8,
-        tries: u8,
-        packet: Packet,
-    },
-    /// Nothing is outstanding.
-    Idle,
-    /// The sender is down, or is down now, as 16 transmissions were made.
-    Down,
-}
-
-/// The answer to a packet (PDU) that a sender hears.
-#[derive(Clone, Debug, PartialEq, Eq, Drop)]
-pub enum SenderHeard {
-    /// The message with this number has come.
-    Acknowledged {
-        number: u8,
-    },
-    /// The session is open again, by the opening packet with this number.
-    Opened {
-        number: u8,
-    },
-    /// The blocks whose flags in `wanted` are true are to be sent again.
-    Retry {
-        number: u8,
-        wanted: Flags,
-        tries: u8,
-        packet: Packet,
-    },
-    /// The whole message is to be sent again.
-    Repeat {
-        number: u8,
-        tries: u8,
-        packet: Packet,
-    },
-    /// The packet is no response, or none to what is outstanding.
-    Ignored,
-    /// The response asks for a transmission, but 16 were made; the sender is down now.
-    Down,
-}
-
-/// The answer where the session is to be opened again.
-#[derive(Clone, Debug, PartialEq, Eq, Drop)]
-pub enum Reopen {
-    /// The opening packet is to be sent.
-    Sent { number: u8, packet: Packet },
-    /// The sender is not down.
-    Up,
 }
 
 /// How often a message or an opening packet is sent at most.

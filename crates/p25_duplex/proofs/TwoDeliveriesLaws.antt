@@ -8,7 +8,7 @@ use Rattle.p25_delivery.specs.SenderRules.{offered, timed_out, sender_heard, reo
 use Rattle.p25_delivery.specs.ReceiverRules.{receiver_heard}
 use Rattle.p25_delivery.specs.Halves.{Outgoing, Incoming}
 use Rattle.p25_delivery.specs.HalfRules.{after_offer, after_timeout, after_reopening, after_data, after_answer}
-use Rattle.p25_delivery.specs.declared.step_kind.StepKind.{StepKind}
+use Rattle.p25_messages.specs.declared.step_kind.StepKind.{StepKind}
 use Rattle.p25_delivery.specs.Delivery.{Delivery, first_delivery, Happening, Offering, Time_up, Opening_again, Data_heard, Answer_heard, newest_after, with_outbound, with_inbound, happens, delivery_run}
 use Rattle.p25_delivery.specs.Orderly.{IsTrueTo, IsHeardOf, IsClean, IsCleanRun}
 use Rattle.p25_delivery.specs.Facts.{DeliveryFacts}
@@ -16,7 +16,7 @@ use Rattle.p25_delivery.proofs.DeliveryLaws.{facts-kept}
 use Rattle.p25_delivery.proofs.RunLaws.{run-append, meet-append}
 use Rattle.p25_stations.specs.declared.air.Carried.{Carried}
 use Rattle.p25_stations.specs.declared.air.Carried.TheVariants.{Lost, Foreign, Heard}
-use Rattle.p25_delivery.specs.declared.step_kind.Way.TheVariants.{Packets}
+use Rattle.p25_messages.specs.declared.step_kind.Way.TheVariants.{Packets}
 use Rattle.p25_stations.specs.Air.{carried_of}
 use Rattle.p25_stations.specs.Steps.{heard_of, delivery_of}
 use Rattle.p25_stations.proofs.AirLaws.{air-true}

@@ -1,5 +1,4 @@
--- The two stations of a duplex world, and what that world keeps: of each a half that sends and a half that receives. And what each
--- event makes of the world, and the step that it is.
+-- The two stations of a duplex world, each with a half that sends and one that receives; what each event makes of them, and its step.
 use Rattle.std.specs.Prelude.{ℕ, List, codes, Option, None, Bool, true, false, ◌==◌, Result, Ok, Err}
 pub use Rattle.p25_duplex.specs.declared.side.Side.{Side, TheVariants.{A, B}}
 pub use Rattle.p25_packet_blocks.specs.declared.packet.Packet.{Packet}
@@ -9,8 +8,7 @@ use Rattle.p25_packet_blocks.specs.Whole.{packet_head}
 use Rattle.p25_packet_blocks.specs.Heads.{head_format}
 use Rattle.p25_stations.specs.declared.step.Step.{Step}
 use Rattle.p25_stations.specs.Steps.{counted_when, Packets, StepKind, delivery_of}
-pub use Rattle.p25_duplex.specs.declared.event.DuplexEvent.{DuplexEvent, TheVariants.{Send, Timeout, Reopen, Deliver}}
-pub use Rattle.p25_duplex.specs.declared.event.DuplexStep.{DuplexStep}
+pub use Rattle.p25_duplex.specs.declared.event.{DuplexEvent.{DuplexEvent, TheVariants.{Send, Timeout, Reopen, Deliver}}, DuplexStep.{DuplexStep}}
 
 -- the other station
 abbrev pub other_side : Side → Side
@@ -51,8 +49,7 @@ abbrev pub with_station : Side → StationState → DuplexState → DuplexState
 with_station A station d = record d { a = station }
 with_station B station d = record d { b = station }
 
--- the delivery of a station's messages to the other: its half that sends, the other's half that receives, and the newest
--- transmission of the direction of each
+-- the delivery of a station's messages: its half that sends, the other's half that receives, and the newest transmission of each
 abbrev pub delivery_between : StationState → StationState → Delivery
 delivery_between own other =
     record { outbound = own.outbound; inbound = other.inbound; packet_sent = own.newest; answer = other.newest }
@@ -61,8 +58,7 @@ delivery_between own other =
 abbrev pub delivery_at : Side → DuplexState → Delivery
 delivery_at side d = delivery_between (station_at side d) (station_at (other_side side) d)
 
--- a station after a call of its half that sends, which happens at the delivery of its own messages: the half after it, and the
--- newest transmission of the station's direction
+-- a station after a call of its half that sends, which happens at the delivery of its own messages
 abbrev pub after_sending : StationState → Delivery × StepKind → StationState × StepKind
 after_sending own (delivery, kind) = (record own { outbound = delivery.outbound; newest = delivery.packet_sent }, kind)
 

@@ -7,8 +7,8 @@ use Rattle.std.proofs.lemmas.Bool.Decides.{nat_tests}
 use Rattle.p25_delivery.specs.declared.outbound.Mark.{Mark}
 use Rattle.p25_delivery.specs.declared.sender.Outstanding.{Outstanding}
 use Rattle.p25_delivery.specs.declared.sender.Outstanding.TheVariants.{Nothing, Message, Opening}
-use Rattle.p25_delivery.specs.declared.step_kind.StepKind.{StepKind}
-use Rattle.p25_delivery.specs.declared.step_kind.StepKind.TheVariants.{Acknowledged, Delivered, SynHeard}
+use Rattle.p25_messages.specs.declared.step_kind.StepKind.{StepKind}
+use Rattle.p25_messages.specs.declared.step_kind.StepKind.TheVariants.{Acknowledged, Delivered, SynHeard}
 use Rattle.p25_delivery.specs.Delivery.{Delivery, Session, present_mark, present_session}
 use Rattle.p25_delivery.specs.Orderly.{IsOrderly, AreOrderly}
 use Rattle.p25_delivery.proofs.SessionLaws.{marked, IsDivided, divided-marked, present-marked}

@@ -4,8 +4,8 @@ use Rattle.std.proofs.Common.{◌≡◌, ℕ, Bool, true, false, cond, List, [],
 use Rattle.std.specs.Prelude.{◌+◌, nat_lt, length}
 use Rattle.p25_messages.specs.LongMessages.{part_count, part_of}
 use Rattle.p25_delivery.specs.Runs.{run_by, steps_by}
-use Rattle.p25_delivery.specs.declared.step_kind.StepKind.{StepKind}
-use Rattle.p25_delivery.specs.declared.step_kind.StepKind.TheVariants.{Acknowledged, Delivered, SynHeard}
+use Rattle.p25_messages.specs.declared.step_kind.StepKind.{StepKind}
+use Rattle.p25_messages.specs.declared.step_kind.StepKind.TheVariants.{Acknowledged, Delivered, SynHeard}
 use Rattle.p25_delivery.proofs.RunLaws.{run-append, steps-append}
 use Rattle.p25_stations.specs.declared.step.Event.{Event}
 use Rattle.p25_stations.specs.declared.step.Event.TheVariants.{Send}

@@ -1,7 +1,7 @@
 -- A step of the inner world that means nothing for the long messages. By its kind.
 use Rattle.std.proofs.Common.{◌≡◌, ℕ, List, refl}
-use Rattle.p25_delivery.specs.declared.step_kind.StepKind.{StepKind}
-use Rattle.p25_delivery.specs.declared.step_kind.StepKind.TheVariants.{Acknowledged, Delivered, SynHeard}
+use Rattle.p25_messages.specs.declared.step_kind.StepKind.{StepKind}
+use Rattle.p25_messages.specs.declared.step_kind.StepKind.TheVariants.{Acknowledged, Delivered, SynHeard}
 use Rattle.p25_fragments.specs.declared.long_step.Then.TheVariants.{Plain}
 use Rattle.p25_fragments.specs.LongState.{LongState}
 use Rattle.p25_fragments.specs.LongSteps.{after_kind}

@@ -3,7 +3,7 @@ use Rattle.std.proofs.Common.{◌≡◌, ◌≢◌, ℕ, ◌≤◌, Bool, false,
 use Rattle.p25_messages.specs.LongMessages.{part_of}
 use Rattle.p25_delivery.specs.Runs.{run_by, steps_by, EachIs}
 use Rattle.p25_delivery.specs.declared.sender.Outstanding.TheVariants.{Nothing, Message}
-use Rattle.p25_delivery.specs.declared.step_kind.StepKind.{StepKind}
+use Rattle.p25_messages.specs.declared.step_kind.StepKind.{StepKind}
 use Rattle.p25_delivery.specs.Delivery.{Delivery, Session, last_mark, Happening, Time_up}
 use Rattle.p25_delivery.specs.Orderly.{IsClean, IsOrderly, AreOrderly}
 use Rattle.p25_delivery.proofs.DeliveryLaws.{happens-kept, first-kept}

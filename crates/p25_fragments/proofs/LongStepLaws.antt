@@ -7,8 +7,8 @@ use Rattle.std.proofs.lemmas.Bool.Decides.{nat_tests}
 use Rattle.std.proofs.lemmas.List.{length-take}
 use Rattle.p25_messages.specs.LongMessages.{part_count, part_of}
 use Rattle.p25_delivery.specs.declared.sender.Outstanding.TheVariants.{Nothing, Message}
-use Rattle.p25_delivery.specs.declared.step_kind.StepKind.{StepKind}
-use Rattle.p25_delivery.specs.declared.step_kind.StepKind.TheVariants.{Acknowledged, Delivered}
+use Rattle.p25_messages.specs.declared.step_kind.StepKind.{StepKind}
+use Rattle.p25_messages.specs.declared.step_kind.StepKind.TheVariants.{Acknowledged, Delivered}
 use Rattle.p25_delivery.specs.Delivery.{Delivery, Session, present_session, first_number, Happening, Offering}
 use Rattle.p25_delivery.specs.Orderly.{IsClean, IsOrderly}
 use Rattle.p25_delivery.proofs.DeliveryLaws.{happens-kept}

@@ -7,10 +7,10 @@ use Rattle.p25_delivery.proofs.RunLaws.{run-keeps_all}
 use Rattle.p25_delivery.specs.Halves.{Sending}
 use Rattle.p25_delivery.specs.SenderRules.{offered}
 use Rattle.p25_delivery.specs.declared.outbound.Mark.{Mark}
-use Rattle.p25_delivery.specs.declared.sender.Offer.{Offer}
-use Rattle.p25_delivery.specs.declared.sender.Offer.TheVariants.{Taken, Busy as OfferBusy, Down as DownAtOffer}
-use Rattle.p25_delivery.specs.declared.step_kind.StepKind.{StepKind}
-use Rattle.p25_delivery.specs.declared.step_kind.StepKind.TheVariants.{Acknowledged, Delivered, SynHeard}
+use Rattle.p25_messages.specs.declared.answers.Offer.{Offer}
+use Rattle.p25_messages.specs.declared.answers.Offer.TheVariants.{Taken, Busy as OfferBusy, Down as DownAtOffer}
+use Rattle.p25_messages.specs.declared.step_kind.StepKind.{StepKind}
+use Rattle.p25_messages.specs.declared.step_kind.StepKind.TheVariants.{Acknowledged, Delivered, SynHeard}
 use Rattle.p25_delivery.specs.HalfRules.{after_offer}
 use Rattle.p25_delivery.specs.Delivery.{Delivery, with_outbound, Happening, Offering, Time_up, Opening_again, Data_heard, Answer_heard, happens, present_mark}
 use Rattle.p25_stations.specs.declared.step.Event.{Event}

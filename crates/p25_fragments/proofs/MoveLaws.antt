@@ -13,16 +13,16 @@ use Rattle.p25_delivery.specs.SenderRules.{timed_out_with, timed_out, sender_hea
 use Rattle.p25_delivery.specs.ReceiverRules.{keeping_for, finished, completed, filled, opening_heard, data_heard, receiver_heard}
 use Rattle.p25_delivery.specs.declared.sender.Outstanding.{Outstanding}
 use Rattle.p25_delivery.specs.declared.sender.Outstanding.TheVariants.{Nothing, Message, Opening}
-use Rattle.p25_delivery.specs.declared.sender.Resend.{Resend}
-use Rattle.p25_delivery.specs.declared.sender.Resend.TheVariants.{Sent, Idle as ResendIdle, Down as DownAtTimeout}
-use Rattle.p25_delivery.specs.declared.sender.SenderHeard.{SenderHeard}
-use Rattle.p25_delivery.specs.declared.sender.SenderHeard.TheVariants.{Acknowledged as HeardAck, Opened as SenderOpened, Retry, Repeat, Ignored as SenderIgnored, Down as DownAtAnswer}
-use Rattle.p25_delivery.specs.declared.sender.Reopen.{Reopen as ReopenAnswer}
-use Rattle.p25_delivery.specs.declared.sender.Reopen.TheVariants.{Sent as ReopenSent, Up as ReopenUp}
-use Rattle.p25_delivery.specs.declared.receiver.Heard.{Heard as HeardAnswer}
-use Rattle.p25_delivery.specs.declared.receiver.Heard.TheVariants.{Opened as ReceiverOpened, Again, RefusedOrder, Ignored as ReceiverIgnored}
-use Rattle.p25_delivery.specs.declared.step_kind.StepKind.{StepKind}
-use Rattle.p25_delivery.specs.declared.step_kind.StepKind.TheVariants.{Acknowledged, Delivered, SynHeard}
+use Rattle.p25_messages.specs.declared.answers.Resend.{Resend}
+use Rattle.p25_messages.specs.declared.answers.Resend.TheVariants.{Sent, Idle as ResendIdle, Down as DownAtTimeout}
+use Rattle.p25_messages.specs.declared.answers.SenderHeard.{SenderHeard}
+use Rattle.p25_messages.specs.declared.answers.SenderHeard.TheVariants.{Acknowledged as HeardAck, Opened as SenderOpened, Retry, Repeat, Ignored as SenderIgnored, Down as DownAtAnswer}
+use Rattle.p25_messages.specs.declared.answers.Reopen.{Reopen as ReopenAnswer}
+use Rattle.p25_messages.specs.declared.answers.Reopen.TheVariants.{Sent as ReopenSent, Up as ReopenUp}
+use Rattle.p25_messages.specs.declared.answers.Heard.{Heard as HeardAnswer}
+use Rattle.p25_messages.specs.declared.answers.Heard.TheVariants.{Opened as ReceiverOpened, Again, RefusedOrder, Ignored as ReceiverIgnored}
+use Rattle.p25_messages.specs.declared.step_kind.StepKind.{StepKind}
+use Rattle.p25_messages.specs.declared.step_kind.StepKind.TheVariants.{Acknowledged, Delivered, SynHeard}
 use Rattle.p25_delivery.specs.HalfRules.{after_timeout, after_reopening, after_data, after_answer}
 use Rattle.p25_delivery.specs.Delivery.{Delivery, first_delivery, newest_after, with_outbound, with_inbound, Happening, Offering, Time_up, Opening_again, Data_heard, Answer_heard, happens}
 use Rattle.p25_delivery.proofs.SenderLaws.{Resends, resent-of, timeout-of, HearsAnswer, goes_on, stays, HearsOpening, opens, waits, RetriesOf, message-answer, opening-answer, quiet-answer}

@@ -8,9 +8,9 @@ use Rattle.p25_delivery.specs.Halves.{Sending}
 use Rattle.p25_delivery.specs.SenderRules.{offered_beside, offered}
 use Rattle.p25_delivery.specs.declared.sender.Outstanding.{Outstanding}
 use Rattle.p25_delivery.specs.declared.sender.Outstanding.TheVariants.{Nothing, Message, Opening}
-use Rattle.p25_delivery.specs.declared.sender.Offer.{Offer}
-use Rattle.p25_delivery.specs.declared.sender.Offer.TheVariants.{Down as DownAtOffer}
-use Rattle.p25_delivery.specs.declared.step_kind.StepKind.TheVariants.{Taken, Busy as BusyAtOffer, OfferDown}
+use Rattle.p25_messages.specs.declared.answers.Offer.{Offer}
+use Rattle.p25_messages.specs.declared.answers.Offer.TheVariants.{Down as DownAtOffer}
+use Rattle.p25_messages.specs.declared.step_kind.StepKind.TheVariants.{Taken, Busy as BusyAtOffer, OfferDown}
 use Rattle.p25_delivery.specs.HalfRules.{after_offer}
 use Rattle.p25_delivery.specs.Delivery.{Delivery, newest_after, with_outbound, happens}
 use Rattle.p25_delivery.proofs.SenderLaws.{offer-quiet}

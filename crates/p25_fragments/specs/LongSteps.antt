@@ -2,7 +2,7 @@
 use Rattle.std.specs.Prelude.{ℕ, ◌+◌, nat_lt, List, [], ◌∷◌, ◌++◌, length, Option, Some, None, if◌then◌else◌}
 use Rattle.p25_messages.specs.LongMessages.{part_count, part_of}
 use Rattle.p25_delivery.specs.declared.sender.Outstanding.{Outstanding, TheVariants.{Nothing}}
-use Rattle.p25_delivery.specs.declared.step_kind.StepKind.{StepKind, TheVariants.{Acknowledged, Delivered, SynHeard}}
+use Rattle.p25_messages.specs.declared.step_kind.StepKind.{StepKind, TheVariants.{Acknowledged, Delivered, SynHeard}}
 use Rattle.p25_delivery.specs.Delivery.{present_mark}
 use Rattle.p25_stations.specs.declared.step.Event.TheVariants.{Send}
 use Rattle.p25_stations.specs.declared.step.Step.{Step}

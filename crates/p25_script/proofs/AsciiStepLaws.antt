@@ -7,10 +7,10 @@ use Rattle.p25_line.specs.Octets.{octets_text}
 use Rattle.p25_line.proofs.AsciiLaws.{ascii-append, ascii-comma_text, ascii-decimal, ascii-encode_lower, ascii-joined, ascii-octets_text, is_ascii}
 use Rattle.p25_text.specs.ItemTexts.{field_name}
 use Rattle.p25_text.proofs.AsciiTextLaws.{ascii-field_name}
-use Rattle.p25_delivery.specs.declared.step_kind.StepKind.{StepKind}
-use Rattle.p25_delivery.specs.declared.step_kind.StepKind.TheVariants.{Taken, Busy, OfferDown, Resent, Idle, TimeoutDown, Reopened, Up, Nothing, Lost, Ignored, Delivered, SynHeard, Again, Kept, RefusedCrc, RefusedOrder, Acknowledged, LinkOpened, Retry, Repeat, AnswerDown}
-use Rattle.p25_delivery.specs.declared.step_kind.Way.{Way}
-use Rattle.p25_delivery.specs.declared.step_kind.Way.TheVariants.{Packets, Answers}
+use Rattle.p25_messages.specs.declared.step_kind.StepKind.{StepKind}
+use Rattle.p25_messages.specs.declared.step_kind.StepKind.TheVariants.{Taken, Busy, OfferDown, Resent, Idle, TimeoutDown, Reopened, Up, Nothing, Lost, Ignored, Delivered, SynHeard, Again, Kept, RefusedCrc, RefusedOrder, Acknowledged, LinkOpened, Retry, Repeat, AnswerDown}
+use Rattle.p25_messages.specs.declared.step_kind.Way.{Way}
+use Rattle.p25_messages.specs.declared.step_kind.Way.TheVariants.{Packets, Answers}
 use Rattle.p25_stations.specs.WorldState.{WorldState}
 use Rattle.p25_stations.specs.declared.step.Step.{Step}
 use Rattle.p25_script.specs.Script.{way_word}

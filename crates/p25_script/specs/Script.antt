@@ -9,8 +9,8 @@ use Rattle.p25_line.specs.declared.fault.LineFault.TheVariants.{Form, Key}
 use Rattle.p25_delivery.specs.SoundHalves.{IsMessage}
 use Rattle.p25_stations.specs.declared.step.Event.{Event}
 use Rattle.p25_stations.specs.declared.step.Event.TheVariants.{Send, Timeout, Reopen, ToReceiver, ToSender}
-use Rattle.p25_delivery.specs.declared.step_kind.Way.{Way}
-use Rattle.p25_delivery.specs.declared.step_kind.Way.TheVariants.{Packets, Answers}
+use Rattle.p25_messages.specs.declared.step_kind.Way.{Way}
+use Rattle.p25_messages.specs.declared.step_kind.Way.TheVariants.{Packets, Answers}
 use Rattle.p25_script.specs.Values.{ArePlaces, message_in, places_in, places_text}
 use Rattle.p25_script.specs.declared.names.EventKind.{EventKind}
 use Rattle.p25_script.specs.declared.names.EventKind.TheVariants.{Send as SendLine, Timeout as TimeoutLine, Reopen as ReopenLine, Deliver as DeliverLine}

@@ -12,16 +12,16 @@ use Rattle.p25_delivery.specs.Halves.{Sending, Receiving}
 use Rattle.p25_delivery.specs.SenderRules.{sending_after, sender_heard, opening_number, reopened, is_opening}
 use Rattle.p25_delivery.specs.ReceiverRules.{receiver_heard}
 use Rattle.p25_delivery.specs.declared.sender.Outstanding.TheVariants.{Nothing, Opening}
-use Rattle.p25_delivery.specs.declared.sender.Offer.{Offer}
-use Rattle.p25_delivery.specs.declared.sender.Offer.TheVariants.{Taken as OfferTaken}
-use Rattle.p25_delivery.specs.declared.sender.SenderHeard.{SenderHeard}
-use Rattle.p25_delivery.specs.declared.sender.SenderHeard.TheVariants.{Acknowledged as HeardAck, Opened as SenderOpened}
-use Rattle.p25_delivery.specs.declared.sender.Reopen.{Reopen as ReopenAnswer}
-use Rattle.p25_delivery.specs.declared.sender.Reopen.TheVariants.{Sent as ReopenSent, Up as ReopenUp}
-use Rattle.p25_delivery.specs.declared.receiver.Heard.{Heard as HeardAnswer}
-use Rattle.p25_delivery.specs.declared.receiver.Heard.TheVariants.{Delivered as HeardDelivered, Opened as ReceiverOpened}
-use Rattle.p25_delivery.specs.declared.step_kind.Way.{Way}
-use Rattle.p25_delivery.specs.declared.step_kind.Way.TheVariants.{Packets, Answers}
+use Rattle.p25_messages.specs.declared.answers.Offer.{Offer}
+use Rattle.p25_messages.specs.declared.answers.Offer.TheVariants.{Taken as OfferTaken}
+use Rattle.p25_messages.specs.declared.answers.SenderHeard.{SenderHeard}
+use Rattle.p25_messages.specs.declared.answers.SenderHeard.TheVariants.{Acknowledged as HeardAck, Opened as SenderOpened}
+use Rattle.p25_messages.specs.declared.answers.Reopen.{Reopen as ReopenAnswer}
+use Rattle.p25_messages.specs.declared.answers.Reopen.TheVariants.{Sent as ReopenSent, Up as ReopenUp}
+use Rattle.p25_messages.specs.declared.answers.Heard.{Heard as HeardAnswer}
+use Rattle.p25_messages.specs.declared.answers.Heard.TheVariants.{Delivered as HeardDelivered, Opened as ReceiverOpened}
+use Rattle.p25_messages.specs.declared.step_kind.Way.{Way}
+use Rattle.p25_messages.specs.declared.step_kind.Way.TheVariants.{Packets, Answers}
 use Rattle.p25_delivery.specs.HalfRules.{after_offer, after_reopening, after_data, after_answer}
 use Rattle.p25_delivery.specs.Delivery.{Delivery, first_delivery, Happening, newest_after, with_outbound, with_inbound, happens, delivery_run}
 use Rattle.p25_delivery.specs.Orderly.{IsCleanRun as IsCleanDelivery}
@@ -31,7 +31,7 @@ use Rattle.p25_delivery.proofs.AtOnceLaws.{opens-down}
 use Rattle.p25_stations.specs.declared.step.Event.{Event}
 use Rattle.p25_stations.specs.declared.step.Event.TheVariants.{Send, Reopen, ToReceiver, ToSender}
 use Rattle.p25_stations.specs.declared.step.Step.{Step}
-use Rattle.p25_delivery.specs.declared.step_kind.StepKind.TheVariants.{Taken, Reopened, Delivered, SynHeard, Acknowledged, LinkOpened}
+use Rattle.p25_messages.specs.declared.step_kind.StepKind.TheVariants.{Taken, Reopened, Delivered, SynHeard, Acknowledged, LinkOpened}
 use Rattle.p25_stations.specs.declared.air.Carried.{Carried}
 use Rattle.p25_stations.specs.Air.{ArrivesWithin}
 use Rattle.p25_stations.specs.WorldState.{WorldState, first_world}

@@ -3,7 +3,7 @@ use Rattle.std.proofs.Common.{Bool, List, length, Option}
 use Rattle.std.specs.Prelude.{IfSome}
 use Rattle.p25_packet_blocks.specs.declared.packet.Packet.{Packet}
 use Rattle.p25_packet_blocks.specs.Sendable.{IsSendable}
-use Rattle.p25_delivery.specs.declared.step_kind.StepKind.{StepKind}
+use Rattle.p25_messages.specs.declared.step_kind.StepKind.{StepKind}
 use Rattle.p25_delivery.specs.Halves.{Outgoing, Incoming}
 use Rattle.p25_delivery.specs.SoundHalves.{IsOutgoing, IsIncoming}
 use Rattle.p25_delivery.specs.Delivery.{Delivery, Happening, with_outbound, with_inbound, happens}

@@ -2,10 +2,10 @@
 use Rattle.std.proofs.Common.{◌≡◌, ℕ, Bool, false, List, Option, Some, None, refl}
 use Rattle.p25_status.specs.declared.fields.Field.{Field}
 use Rattle.p25_packet_blocks.specs.declared.packet.Packet.{Packet}
-use Rattle.p25_delivery.specs.declared.step_kind.Way.{Way}
-use Rattle.p25_delivery.specs.declared.step_kind.Way.TheVariants.{Packets, Answers}
-use Rattle.p25_delivery.specs.declared.step_kind.StepKind.{StepKind}
-use Rattle.p25_delivery.specs.declared.step_kind.StepKind.TheVariants.{Nothing, Lost, Ignored}
+use Rattle.p25_messages.specs.declared.step_kind.Way.{Way}
+use Rattle.p25_messages.specs.declared.step_kind.Way.TheVariants.{Packets, Answers}
+use Rattle.p25_messages.specs.declared.step_kind.StepKind.{StepKind}
+use Rattle.p25_messages.specs.declared.step_kind.StepKind.TheVariants.{Nothing, Lost, Ignored}
 use Rattle.p25_delivery.specs.Delivery.{Delivery, Happening, Offering, Time_up, Opening_again, Data_heard, Answer_heard, happens}
 use Rattle.p25_stations.specs.declared.air.Carried.{Carried}
 use Rattle.p25_stations.specs.declared.air.Carried.TheVariants.{Lost as CarriedLost, Foreign, Heard}

@@ -4,7 +4,7 @@ use Rattle.std.specs.Prelude.{◌≡◌, false, List, ℕ, ◌+◌, ◌≤◌, [
 use Rattle.p25_delivery.specs.SoundHalves.{IsMessage}
 use Rattle.p25_delivery.specs.Runs.{run_by, steps_by, EachIs, MeetAt}
 use Rattle.p25_stations.specs.Steps.{world_step, Event, Send, Step, WorldState, first_world, Packet, ToReceiver, ToSender}
-use Rattle.p25_delivery.specs.declared.step_kind.StepKind.{StepKind, TheVariants.{Taken, Resent, Reopened, Acknowledged, LinkOpened, Retry, Repeat, Delivered}}
+use Rattle.p25_messages.specs.declared.step_kind.StepKind.{StepKind, TheVariants.{Taken, Resent, Reopened, Acknowledged, LinkOpened, Retry, Repeat, Delivered}}
 use Rattle.p25_stations.specs.Air.{ArrivesWithin, places_within}
 
 -- what every event keeps: what is sent is a message of at most 2,028 octets

@@ -1,8 +1,8 @@
 -- What comes of a delivery, whatever world the stations are in; what each event makes of the world, and the step that it is.
 use Rattle.std.specs.Prelude.{ℕ, Bool, List, Option, Some, None, Result, Ok, Err, ◌+◌, ◌-◌, ◌^◌, true, false, min}
 pub use Rattle.p25_packet_blocks.specs.declared.packet.Packet.{Packet}
-pub use Rattle.p25_delivery.specs.declared.step_kind.Way.{Way, TheVariants.{Packets, Answers}}
-pub use Rattle.p25_delivery.specs.declared.step_kind.StepKind.{StepKind, TheVariants.{Nothing, Lost, Ignored}}
+pub use Rattle.p25_messages.specs.declared.step_kind.Way.{Way, TheVariants.{Packets, Answers}}
+pub use Rattle.p25_messages.specs.declared.step_kind.StepKind.{StepKind, TheVariants.{Nothing, Lost, Ignored}}
 use Rattle.p25_stations.specs.declared.air.Carried.{Carried, TheVariants.{Lost as CarriedLost, Foreign, Heard}}
 use Rattle.p25_stations.specs.Air.{carried_of}
 use Rattle.p25_delivery.specs.Delivery.{Delivery, Happening, Offering, Time_up, Opening_again, Data_heard, Answer_heard, happens}

@@ -6,33 +6,34 @@ use super::laws::item_laws;
 use super::{Item, Scanner, bridge_item, repair_item, repair_item_in};
 use p25_bits::BitBuf;
 use p25_units::{Body, Frame, Status, Statuses, Unit, VoiceUnit, frame_length};
-use std::test::Fail;
 
-#[test]
-fn one_octet(rt: HostRuntime) {
-    item_laws();
+// Whether an item is a gap of so many bits at a place.
+fn is_gap(item: &Item, at: u64, long: u32) -> bool {
+    matches!(item, Item::Gap { place, length } if *place == at && *length == long)
+}
+
+// Whether an octet without a sync is held until the end, and is a gap then.
+fn one_octet_is_a_gap() -> bool {
     let mut scanner = Scanner::new();
     let mut raw = BitBuf::new();
     if scanner.is_drained() {
         scanner.push(0x55);
     }
-    assert_eq!(rt; scanner.held(), 8);
-    assert!(rt; scanner.next(&mut raw).is_none());
-    scanner.finish();
-    match scanner.next(&mut raw) {
-        Some(item) => assert!(rt;
-            matches!(
-                item,
-                Item::Gap {
-                    place: 0,
-                    length: 8
-                }
-            )
-        ),
-        None => assert!(rt; false),
+    if scanner.held() != 8 || scanner.next(&mut raw).is_some() {
+        return false;
     }
-    assert_eq!(rt; raw.len(), 8);
-    assert_eq!(rt; scanner.held(), 0);
+    scanner.finish();
+    scanner
+        .next(&mut raw)
+        .is_some_and(|item| is_gap(&item, 0, 8))
+        && raw.len() == 8
+        && scanner.held() == 0
+}
+
+#[test]
+fn one_octet(rt: HostRuntime) {
+    item_laws();
+    assert!(rt; one_octet_is_a_gap());
 }
 
 #[test]
@@ -47,68 +48,66 @@ fn items_as_they_come(rt: HostRuntime) {
     assert_eq!(rt; (raw.len(), scanner.held()), (8, 0));
 }
 
-#[test]
-fn items_without_their_bits(rt: HostRuntime) {
+// Whether an octet without a sync comes as a gap without its bits, once.
+fn gap_comes_without_its_bits() -> bool {
     let mut scanner = Scanner::new();
     if scanner.is_drained() {
         scanner.push(0x55);
     }
-    assert!(rt; scanner.next_item().is_none());
+    if scanner.next_item().is_some() {
+        return false;
+    }
     scanner.finish();
     let mut item = Item::Cut { place: 0, have: 0 };
-    assert!(rt; scanner.next_item_in(&mut item));
-    assert!(rt;
-        matches!(
-            item,
-            Item::Gap {
-                place: 0,
-                length: 8
-            }
-        )
-    );
-    assert_eq!(rt; scanner.held(), 0);
-    assert!(rt; !scanner.next_item_in(&mut item));
-    assert_eq!(rt; item.covered(), 8);
+    scanner.next_item_in(&mut item)
+        && is_gap(&item, 0, 8)
+        && scanner.held() == 0
+        && !scanner.next_item_in(&mut item)
+        && item.covered() == 8
+}
+
+#[test]
+fn items_without_their_bits(rt: HostRuntime) {
+    assert!(rt; gap_comes_without_its_bits());
+}
+
+// Whether the last five bits of an octet, held from bit 11 on, come as a gap with these bits.
+fn five_bits_are_a_gap() -> bool {
+    let mut scanner = Scanner::at(11, 0xA7);
+    let mut raw = BitBuf::new();
+    if scanner.held() != 5 {
+        return false;
+    }
+    scanner.finish();
+    scanner
+        .next(&mut raw)
+        .is_some_and(|item| is_gap(&item, 11, 5))
+        && raw.len() == 5
+        && raw.field(0, 5) == 0x07
 }
 
 #[test]
 fn a_place_within_an_octet(rt: HostRuntime) {
-    let mut scanner = Scanner::at(11, 0xA7);
-    let mut raw = BitBuf::new();
-    assert_eq!(rt; scanner.held(), 5);
-    scanner.finish();
-    match scanner.next(&mut raw) {
-        Some(item) => assert!(rt;
-            matches!(
-                item,
-                Item::Gap {
-                    place: 11,
-                    length: 5
-                }
-            )
-        ),
-        None => assert!(rt; false),
+    assert!(rt; five_bits_are_a_gap());
+}
+
+// Whether eight of nine octets are taken at once, and the ninth then.
+fn nine_octets_are_taken() -> bool {
+    let mut scanner = Scanner::new();
+    let octets = [0; 9];
+    if !scanner.is_drained() {
+        return false;
     }
-    assert_eq!(rt; raw.len(), 5);
-    if raw.len() == 5 {
-        assert_eq!(rt; raw.field(0, 5), 0x07);
+    let taken = scanner.push_some(&octets);
+    if taken != 8 || scanner.held() != 64 || !scanner.is_drained() {
+        return false;
     }
+    scanner.push_some(&octets[8..]) == 1 && scanner.held() == 72
 }
 
 #[test]
 fn octets_as_many_as_there_are(rt: HostRuntime) {
-    let mut scanner = Scanner::new();
-    let octets = [0; 9];
-    let mut taken = 0;
-    if scanner.is_drained() {
-        taken = scanner.push_some(&octets);
-    }
-    assert_eq!(rt; taken, 8);
-    assert_eq!(rt; scanner.held(), 64);
-    if taken < octets.len() && scanner.is_drained() {
-        assert_eq!(rt; scanner.push_some(&octets[taken..]), 1);
-    }
-    assert_eq!(rt; scanner.held(), 72);
+    assert!(rt; nine_octets_are_taken());
 }
 
 // What a terminator (TDU) carries: nothing of it fails.
@@ -119,10 +118,8 @@ fn terminator() -> Body
     Body::Voice(VoiceUnit::End)
 }
 
-#[test]
-fn a_terminator_sent_again(rt: HostRuntime) -> Result<(), Fail> {
-    let one = Status::new(1).ok_or("1 is a status symbol")?;
-    let three = Status::new(3).ok_or("3 is a status symbol")?;
+// Whether a terminator (TDU) is written as it was sent, and under another code (NAC) with other status symbols.
+fn terminator_is_sent_again(one: Status, three: Status) -> bool {
     let mut statuses = Statuses::new();
     statuses.push(one);
     statuses.push(one);
@@ -130,27 +127,40 @@ fn a_terminator_sent_again(rt: HostRuntime) -> Result<(), Fail> {
         unit: Unit::new(0, terminator()),
         statuses,
     };
-    let mut raw = BitBuf::new();
-    let mut room = BitBuf::new();
-    let mut out = BitBuf::new();
-    if frame_length(&frame.unit) == 72 * frame.statuses.len() {
-        let item = Item::Whole {
-            place: 0,
-            frame,
-            fixes: 3,
-        };
-        repair_item_in(&item, &mut room, &mut raw);
-        assert_eq!(rt; raw.len(), 144);
-        assert!(rt; bridge_item(&item, 0x293, three, &mut out));
+    if frame_length(&frame.unit) != 72 * frame.statuses.len() {
+        return false;
     }
-    if out.len() == 144 {
-        assert_eq!(rt; out.field(48, 12), 0x293);
-        assert_eq!(rt; out.field(70, 2), 3);
-        assert_eq!(rt; out.field(142, 2), 3);
-    }
+    let item = Item::Whole {
+        place: 0,
+        frame,
+        fixes: 3,
+    };
+    let (mut raw, mut room, mut out) = (BitBuf::new(), BitBuf::new(), BitBuf::new());
+    repair_item_in(&item, &mut room, &mut raw);
+    raw.len() == 144
+        && bridge_item(&item, 0x293, three, &mut out)
+        && out.len() == 144
+        && out.field(48, 12) == 0x293
+        && out.field(70, 2) == 3
+        && out.field(142, 2) == 3
+}
+
+// Whether the bits of a unit that was cut off stay, and it is not written under another code.
+fn cut_unit_is_left(status: Status) -> bool {
     let cut = Item::Cut { place: 7, have: 48 };
+    let (mut raw, mut out) = (BitBuf::new(), BitBuf::new());
+    raw.put_field(5, 3);
     repair_item(&cut, &mut raw);
-    assert_eq!(rt; raw.len(), 144);
-    assert!(rt; !bridge_item(&cut, 0x293, three, &mut out));
-    Ok(())
+    raw.len() == 3 && !bridge_item(&cut, 0x293, status, &mut out)
+}
+
+#[test]
+fn a_terminator_sent_again(rt: HostRuntime) {
+    match (Status::new(1), Status::new(3)) {
+        (Some(one), Some(three)) => {
+            assert!(rt; terminator_is_sent_again(one, three));
+            assert!(rt; cut_unit_is_left(three));
+        }
+        _ => assert!(rt; false),
+    }
 }

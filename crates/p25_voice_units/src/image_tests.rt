@@ -5,7 +5,6 @@ ghost use Rattle.std.specs.Prelude.{◌<◌, ◌≤◌, length};
 use super::{Voice, VoiceFrame, VoiceUnit, voice_image, voice_length};
 use p25_bits::BitBuf;
 use p25_link::{EncryptionSync, HeaderWord, LinkControl};
-use std::process::Abort;
 
 // A message indicator (MI).
 const MI: [u8; 9] = [0x12, 0x34, 0x56, 0x78, 0x9A, 0xBC, 0xDE, 0xF0, 0x0F];
@@ -172,96 +171,82 @@ fn counted_voice() -> Voice {
     Voice::new(frames)
 }
 
-// Asserts that bits are these words of 64, the last shorter.
-fn assert_bits(rt: &impl Abort, bare: &BitBuf, words: &[u64]) {
-    assert!(rt; bare.len().div_ceil(64) == words.len());
-    for (i, word) in words.iter().enumerate() {
-        assert!(rt; i < 27 && 64 * i < bare.len());
-        let width = (bare.len() - 64 * i).min(64);
-        assert_eq!(rt; bare.field(64 * i, width as u32), *word);
+// Whether bits are these words of 64, the last shorter.
+fn are_bits(bare: &BitBuf, words: &[u64]) -> bool {
+    if bare.len().div_ceil(64) != words.len() {
+        return false;
     }
+    for (i, word) in words.iter().enumerate() {
+        if i >= 27 || 64 * i >= bare.len() {
+            return false;
+        }
+        let width = (bare.len() - 64 * i).min(64);
+        if bare.field(64 * i, width as u32) != *word {
+            return false;
+        }
+    }
+    true
 }
 
-// Asserts that a unit of a NAC has these bits.
-fn assert_image(rt: &impl Abort, nac: u16, unit: &VoiceUnit, words: &[u64]) {
-    assert!(rt; nac < 4096);
+// Whether a unit of a NAC has these bits.
+fn is_image(nac: u16, unit: &VoiceUnit, words: &[u64]) -> bool {
+    if nac >= 4096 {
+        return false;
+    }
     let mut bare = BitBuf::new();
     bare.push(true);
     voice_image(nac, unit, &mut bare);
-    assert_eq!(rt; voice_length(unit.duid()), Some(bare.len()));
-    assert_eq!(rt; unit.length(), bare.len());
-    assert_bits(rt, &bare, words);
+    voice_length(unit.duid()) == Some(bare.len())
+        && unit.length() == bare.len()
+        && are_bits(&bare, words)
+}
+
+// An HDU whose header word has these.
+fn hdu(mi: [u8; 9], mfid: u8, algid: u8, kid: u16, tgid: u16) -> VoiceUnit {
+    VoiceUnit::Header(HeaderWord {
+        mi,
+        mfid,
+        algid,
+        kid,
+        tgid,
+    })
 }
 
 #[test]
 fn hdu_tdu_and_tdulc(rt: HostRuntime) {
-    assert_image(
-        &rt,
-        0x293,
-        &VoiceUnit::Header(HeaderWord {
-            mi: MI,
-            mfid: 0x90,
-            algid: 0x81,
-            kid: 0x1234,
-            tgid: 0xABCD,
-        }),
-        &HDU_BITS,
-    );
-    assert_image(
-        &rt,
-        0x000,
-        &VoiceUnit::Header(HeaderWord {
-            mi: [0; 9],
-            mfid: 0,
-            algid: 0,
-            kid: 0,
-            tgid: 0,
-        }),
-        &EMPTY_HDU_BITS,
-    );
-    assert_image(&rt, 0xFFF, &VoiceUnit::End, &TDU_BITS);
-    assert_image(&rt, 0x123, &VoiceUnit::EndLink { link: LINK }, &TDULC_BITS);
+    let link = VoiceUnit::EndLink { link: LINK };
+    assert!(rt; is_image(0x293, &hdu(MI, 0x90, 0x81, 0x1234, 0xABCD), &HDU_BITS));
+    assert!(rt; is_image(0x000, &hdu([0; 9], 0, 0, 0, 0), &EMPTY_HDU_BITS));
+    assert!(rt; is_image(0xFFF, &VoiceUnit::End, &TDU_BITS));
+    assert!(rt; is_image(0x123, &link, &TDULC_BITS));
 }
 
 #[test]
 fn ldu1(rt: HostRuntime) {
-    assert_image(
-        &rt,
-        0x293,
-        &VoiceUnit::Link1 {
-            link: LINK,
-            low: [0x5A, 0xC3],
-            voice: counted_voice(),
-        },
-        &COUNTED_LDU1_BITS,
-    );
-    assert_image(
-        &rt,
-        0xFFF,
-        &VoiceUnit::Link1 {
-            link: LinkControl([255; 9]),
-            low: [255, 255],
-            voice: even_voice(255),
-        },
-        &ONES_LDU1_BITS,
-    );
+    let counted = VoiceUnit::Link1 {
+        link: LINK,
+        low: [0x5A, 0xC3],
+        voice: counted_voice(),
+    };
+    let ones = VoiceUnit::Link1 {
+        link: LinkControl([255; 9]),
+        low: [255, 255],
+        voice: even_voice(255),
+    };
+    assert!(rt; is_image(0x293, &counted, &COUNTED_LDU1_BITS));
+    assert!(rt; is_image(0xFFF, &ones, &ONES_LDU1_BITS));
 }
 
 #[test]
 fn ldu2(rt: HostRuntime) {
-    let sync = EncryptionSync {
-        mi: MI,
-        algid: 0x81,
-        kid: 0x1234,
-    };
-    assert_image(
-        &rt,
-        0xF7E,
-        &VoiceUnit::Link2 {
-            sync,
-            low: [0x01, 0x80],
-            voice: counted_voice(),
+    let unit = VoiceUnit::Link2 {
+        sync: EncryptionSync {
+            mi: MI,
+            algid: 0x81,
+            kid: 0x1234,
         },
-        &LDU2_BITS,
-    );
+        low: [0x01, 0x80],
+        voice: counted_voice(),
+    };
+    assert!(rt; is_image(0xF7E, &unit, &LDU2_BITS));
 }

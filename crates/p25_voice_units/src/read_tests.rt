@@ -7,7 +7,6 @@ use super::{
 use p25_bits::BitBuf;
 use p25_link::{EncryptionSync, HeaderWord, LinkControl};
 use p25_status::Field;
-use std::process::Abort;
 
 #[test]
 fn the_example_of_the_head(rt: HostRuntime) {
@@ -20,34 +19,8 @@ fn the_example_of_the_head(rt: HostRuntime) {
     assert!(rt; read == Ok(unit) && fixes == 0);
 }
 
-// Bits that are inverted: so many from each of so many places, the first of which is `at`, a step apart.
-#[derive(Clone, Copy)]
-struct Damage {
-    at: usize,
-    step: usize,
-    times: u32,
-    bits: usize,
-}
-
-// The first bits of words, a step apart.
-const fn each(at: usize, step: usize, times: u32, bits: usize) -> Damage {
-    Damage {
-        at,
-        step,
-        times,
-        bits,
-    }
-}
-
-// Bits from one place on.
-const fn run(at: usize, bits: usize) -> Damage {
-    each(at, 0, 1, bits)
-}
-
-// Three bits of a low speed data (LSD) word that bring no word within 2 bits.
-fn low_beyond(at: usize) -> [Damage; 2] {
-    [run(at.saturating_add(12), 1), run(at.saturating_add(14), 2)]
-}
+// Bits that are inverted: the first place, a step, how many places lie such steps apart, and how many bits from each of them on.
+type Damage = (usize, usize, u32, usize);
 
 fn invert(bits: &mut BitBuf, at: usize, count: usize) {
     for place in at..at.saturating_add(count) {
@@ -58,51 +31,63 @@ fn invert(bits: &mut BitBuf, at: usize, count: usize) {
 }
 
 fn spoil(bits: &mut BitBuf, all: &[Damage]) {
-    for one in all {
-        let mut at = one.at;
-        for _word in 0..one.times {
-            invert(bits, at, one.bits);
-            at = at.saturating_add(one.step);
+    for (first, step, times, count) in all {
+        let mut at = *first;
+        for _place in 0..*times {
+            invert(bits, at, *count);
+            at = at.saturating_add(*step);
         }
     }
 }
 
-// A unit is read as another after damage with so many fixes, or where there are fields, exactly these fail.
-fn assert_read_as(
-    rt: &impl Abort,
+// Whether a unit is read as another after damage with so many fixes, or where there are fields, exactly these fail.
+fn is_read_as(
     unit: &VoiceUnit,
     all: &[Damage],
     other: &VoiceUnit,
     fixes: u32,
     fields: &[Field],
-) {
+) -> bool {
     let mut image = BitBuf::new();
     voice_image(0x293, unit, &mut image);
     let mut bare = BitBuf::new();
     bare.append(&image, 0, image.len());
     spoil(&mut bare, all);
-    assert!(rt; bare.len() == image.len());
+    if bare.len() != image.len() {
+        return false;
+    }
     let is_read = matches!(read_voice(unit.duid(), &bare), Ok(_));
-    assert_eq!(rt; is_read, fields.len() == 0);
     let mut counted = 0;
     match read_voice_counted(unit.duid(), &bare, &mut counted) {
         Ok(read) => {
-            assert!(rt; read == *other && fields.len() == 0, "for {fixes} fixes");
-            assert_eq!(rt; counted, fixes);
-            assert_eq!(rt; voice_fixes(unit, &bare, &image), fixes);
+            is_read
+                && fields.len() == 0
+                && read == *other
+                && counted == fixes
+                && voice_fixes(unit, &bare, &image) == fixes
         }
-        Err(failing) => assert_eq!(rt; failing.as_slice(), fields),
+        Err(failing) => !is_read && fields.len() > 0 && failing.as_slice() == fields,
     }
 }
 
-// A unit is read in spite of damage.
-fn assert_read(rt: &impl Abort, unit: &VoiceUnit, all: &[Damage], fixes: u32) {
-    assert_read_as(rt, unit, all, unit, fixes, &[]);
+// Whether a unit is read in spite of the damage of each row, with so many fixes.
+fn are_read(unit: &VoiceUnit, rows: &[(&[Damage], u32)]) -> bool {
+    for (all, fixes) in rows {
+        if !is_read_as(unit, all, unit, *fixes, &[]) {
+            return false;
+        }
+    }
+    true
 }
 
-// A unit is refused after damage, with these fields.
-fn assert_failing(rt: &impl Abort, unit: &VoiceUnit, all: &[Damage], fields: &[Field]) {
-    assert_read_as(rt, unit, all, unit, 0, fields);
+// Whether a unit is refused after the damage of each row, with its fields.
+fn are_failing(unit: &VoiceUnit, rows: &[(&[Damage], &[Field])]) -> bool {
+    for (all, fields) in rows {
+        if !is_read_as(unit, all, unit, 0, fields) {
+            return false;
+        }
+    }
+    true
 }
 
 // An HDU whose header word is made of one octet.
@@ -147,122 +132,169 @@ fn tdulc() -> VoiceUnit {
     }
 }
 
+// An HDU undamaged; its nulls; three bits of each word; eight words inverted and three bits of the others; sixteen words that are not
+// read; fourteen of them, and another word in one place.
+const HDU_READ: [(&[Damage], u32); 6] = [
+    (&[], 0),
+    (&[(760, 0, 1, 10)], 0),
+    (&[(112, 18, 36, 3)], 108),
+    (&[(112, 18, 8, 18), (256, 18, 28, 3)], 228),
+    (&[(112, 18, 16, 4)], 64),
+    (
+        &[
+            (112, 18, 14, 4),
+            (369, 0, 1, 2),
+            (374, 0, 1, 3),
+            (378, 0, 1, 1),
+            (380, 0, 1, 2),
+        ],
+        64,
+    ),
+];
+
+// Seventeen words of an HDU that are not read; sixteen, and another word.
+const HDU_FAILING: [(&[Damage], &[Field]); 2] = [
+    (&[(112, 18, 17, 4)], &[Field::HeaderWord]),
+    (
+        &[
+            (112, 18, 14, 4),
+            (382, 18, 1, 4),
+            (369, 0, 1, 2),
+            (374, 0, 1, 3),
+            (378, 0, 1, 1),
+            (380, 0, 1, 2),
+        ],
+        &[Field::HeaderWord],
+    ),
+];
+
+// Three bits of the first low speed data (LSD) word that bring no word within 2 bits.
+const LOW_1: [Damage; 2] = [(1516, 0, 1, 1), (1518, 0, 1, 2)];
+
+// Three such bits of the second.
+const LOW_2: [Damage; 2] = [(1532, 0, 1, 1), (1534, 0, 1, 2)];
+
+// An LDU1 undamaged; one bit of each Hamming word; two bits of each low speed word; twelve words that are not read.
+const LDU1_READ: [(&[Damage], u32); 4] = [
+    (&[], 0),
+    (
+        &[
+            (400, 10, 4, 1),
+            (584, 10, 4, 1),
+            (768, 10, 4, 1),
+            (952, 10, 4, 1),
+            (1136, 10, 4, 1),
+            (1320, 10, 4, 1),
+        ],
+        24,
+    ),
+    (&[(1504, 16, 2, 2)], 4),
+    (&LINK_WORDS, 120),
+];
+
+// Twelve words of an LDU1 that are not read.
+const LINK_WORDS: [Damage; 3] = [(400, 10, 4, 10), (584, 10, 4, 10), (768, 10, 4, 10)];
+
+// These, and one more.
+const LINK_BEYOND: [Damage; 4] = [
+    (400, 10, 4, 10),
+    (584, 10, 4, 10),
+    (768, 10, 4, 10),
+    (952, 0, 1, 10),
+];
+
+// Each field of an LDU1 beyond by itself, and all together.
+const LDU1_FAILING: [(&[Damage], &[Field]); 4] = [
+    (&LINK_BEYOND, &[Field::LinkControl]),
+    (&LOW_1, &[Field::LowSpeed1]),
+    (&LOW_2, &[Field::LowSpeed2]),
+    (
+        &[
+            (400, 10, 4, 10),
+            (584, 10, 4, 10),
+            (768, 10, 4, 10),
+            (952, 0, 1, 10),
+            (1516, 0, 1, 1),
+            (1518, 0, 1, 2),
+            (1532, 0, 1, 1),
+            (1534, 0, 1, 2),
+        ],
+        &[Field::LinkControl, Field::LowSpeed1, Field::LowSpeed2],
+    ),
+];
+
+// Eight words of an LDU2 that are not read, with two bits of each low speed word.
+const LDU2_READ: [(&[Damage], u32); 2] = [
+    (&[], 0),
+    (
+        &[(1136, 10, 4, 10), (1320, 10, 4, 10), (1504, 16, 2, 2)],
+        84,
+    ),
+];
+
+// Nine words of an LDU2 that are not read.
+const SYNC_BEYOND: [Damage; 3] = [(1136, 10, 4, 10), (1320, 10, 4, 10), (430, 0, 1, 10)];
+
+// Each field of an LDU2 beyond by itself, and all together.
+const LDU2_FAILING: [(&[Damage], &[Field]); 4] = [
+    (&SYNC_BEYOND, &[Field::EncryptionSync]),
+    (&LOW_1, &[Field::LowSpeed1]),
+    (&LOW_2, &[Field::LowSpeed2]),
+    (
+        &[
+            (1136, 10, 4, 10),
+            (1320, 10, 4, 10),
+            (430, 0, 1, 10),
+            (1516, 0, 1, 1),
+            (1518, 0, 1, 2),
+            (1532, 0, 1, 1),
+            (1534, 0, 1, 2),
+        ],
+        &[Field::EncryptionSync, Field::LowSpeed1, Field::LowSpeed2],
+    ),
+];
+
+// A TDULC undamaged; three bits of each word, and the zeros after them; three words inverted to other ones; six words that are not
+// read.
+const TDULC_READ: [(&[Damage], u32); 4] = [
+    (&[], 0),
+    (&[(112, 24, 12, 3), (400, 0, 1, 20)], 36),
+    (&[(112, 24, 3, 24)], 72),
+    (&[(116, 24, 6, 4)], 24),
+];
+
+// Seven words of a TDULC that are not read.
+const TDULC_FAILING: [(&[Damage], &[Field]); 1] = [(&[(116, 24, 7, 4)], &[Field::LinkControl])];
+
 #[test]
 fn damaged_hdu(rt: HostRuntime) {
     for octet in [0, 0xA7] {
-        let unit = hdu(octet);
-        // An HDU undamaged; its nulls; three bits of each word; eight words inverted and three bits of the others.
-        assert_read(&rt, &unit, &[], 0);
-        assert_read(&rt, &unit, &[run(760, 10)], 0);
-        assert_read(&rt, &unit, &[each(112, 18, 36, 3)], 108);
-        assert_read(
-            &rt,
-            &unit,
-            &[each(112, 18, 8, 18), each(256, 18, 28, 3)],
-            228,
-        );
-        // Sixteen words that are not read; fourteen of them, and another word in one place.
-        assert_read(&rt, &unit, &[each(112, 18, 16, 4)], 64);
-        let word = [run(369, 2), run(374, 3), run(378, 1), run(380, 2)];
-        assert_read(
-            &rt,
-            &unit,
-            &[each(112, 18, 14, 4), word[0], word[1], word[2], word[3]],
-            64,
-        );
-        // Seventeen words that are not read; sixteen, and another word.
-        assert_failing(&rt, &unit, &[each(112, 18, 17, 4)], &[Field::HeaderWord]);
-        assert_failing(
-            &rt,
-            &unit,
-            &[
-                each(112, 18, 14, 4),
-                each(382, 18, 1, 4),
-                word[0],
-                word[1],
-                word[2],
-                word[3],
-            ],
-            &[Field::HeaderWord],
-        );
+        assert!(rt; are_read(&hdu(octet), &HDU_READ));
+        assert!(rt; are_failing(&hdu(octet), &HDU_FAILING));
     }
 }
 
 #[test]
 fn damaged_ldu1(rt: HostRuntime) {
-    let unit = ldu1(0x35);
-    // One bit of each Hamming word of an LDU1, two bits of each low speed word, and twelve words that are not read.
-    let one_each = [
-        each(400, 10, 4, 1),
-        each(584, 10, 4, 1),
-        each(768, 10, 4, 1),
-        each(952, 10, 4, 1),
-        each(1136, 10, 4, 1),
-        each(1320, 10, 4, 1),
-    ];
-    assert_read(&rt, &unit, &[], 0);
-    assert_read(&rt, &unit, &one_each, 24);
-    assert_read(&rt, &unit, &[each(1504, 16, 2, 2)], 4);
-    let twelve = [
-        each(400, 10, 4, 10),
-        each(584, 10, 4, 10),
-        each(768, 10, 4, 10),
-    ];
-    assert_read(&rt, &unit, &twelve, 120);
-    // Each field beyond by itself, and all together.
-    let field = [twelve[0], twelve[1], twelve[2], run(952, 10)];
-    let first = low_beyond(1504);
-    let second = low_beyond(1520);
-    assert_failing(&rt, &unit, &field, &[Field::LinkControl]);
-    assert_failing(&rt, &unit, &first, &[Field::LowSpeed1]);
-    assert_failing(&rt, &unit, &second, &[Field::LowSpeed2]);
-    assert_failing(
-        &rt,
-        &unit,
-        &[
-            field[0], field[1], field[2], field[3], first[0], first[1], second[0], second[1],
-        ],
-        &[Field::LinkControl, Field::LowSpeed1, Field::LowSpeed2],
-    );
+    assert!(rt; are_read(&ldu1(0x35), &LDU1_READ));
+    assert!(rt; are_failing(&ldu1(0x35), &LDU1_FAILING));
 }
 
 #[test]
 fn damaged_ldu2(rt: HostRuntime) {
-    let unit = ldu2();
-    // Eight words of an LDU2 that are not read, and one more.
-    let eight = [each(1136, 10, 4, 10), each(1320, 10, 4, 10)];
-    let first = low_beyond(1504);
-    let second = low_beyond(1520);
-    assert_read(&rt, &unit, &[], 0);
-    assert_read(&rt, &unit, &[eight[0], eight[1], each(1504, 16, 2, 2)], 84);
-    let field = [eight[0], eight[1], run(430, 10)];
-    assert_failing(&rt, &unit, &field, &[Field::EncryptionSync]);
-    assert_failing(&rt, &unit, &first, &[Field::LowSpeed1]);
-    assert_failing(&rt, &unit, &second, &[Field::LowSpeed2]);
-    assert_failing(
-        &rt,
-        &unit,
-        &[
-            field[0], field[1], field[2], first[0], first[1], second[0], second[1],
-        ],
-        &[Field::EncryptionSync, Field::LowSpeed1, Field::LowSpeed2],
-    );
+    assert!(rt; are_read(&ldu2(), &LDU2_READ));
+    assert!(rt; are_failing(&ldu2(), &LDU2_FAILING));
 }
 
 #[test]
 fn damaged_tdu_and_tdulc(rt: HostRuntime) {
-    let unit = tdulc();
-    // Three bits of each word of a TDULC; three words inverted to other ones; six words that are not read, and one more.
-    assert_read(&rt, &unit, &[], 0);
-    assert_read(&rt, &unit, &[each(112, 24, 12, 3), run(400, 20)], 36);
-    assert_read(&rt, &unit, &[each(112, 24, 3, 24)], 72);
-    assert_read(&rt, &unit, &[each(116, 24, 6, 4)], 24);
-    assert_failing(&rt, &unit, &[each(116, 24, 7, 4)], &[Field::LinkControl]);
-    assert_read(&rt, &VoiceUnit::End, &[run(0, 140)], 0);
-    assert_eq!(rt; voice_length(7), None);
+    assert!(rt; are_read(&tdulc(), &TDULC_READ));
+    assert!(rt; are_failing(&tdulc(), &TDULC_FAILING));
+    assert!(rt; are_read(&VoiceUnit::End, &[(&[(0, 0, 1, 140)], 0)]));
+    assert!(rt; voice_length(7).is_none());
 }
 
 #[test]
 fn voice_is_answered_as_received(rt: HostRuntime) {
-    assert_read_as(&rt, &ldu1(0x35), &[run(1536, 4)], &ldu1(0xC5), 0, &[]);
+    assert!(rt; is_read_as(&ldu1(0x35), &[(1536, 0, 1, 4)], &ldu1(0xC5), 0, &[]));
 }

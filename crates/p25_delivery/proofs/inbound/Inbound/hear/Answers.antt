@@ -2,9 +2,9 @@ use Rattle.std.proofs.Common.{◌≡◌, sym, subst}
 use Rattle.p25_packet_blocks.specs.declared.packet.Packet.{Packet}
 use Rattle.p25_packet_blocks.specs.Sendable.{IsSendable}
 use Rattle.p25_delivery.specs.ReceiverRules.{receiver_heard}
-use Rattle.p25_delivery.specs.declared.receiver.Heard.{Heard}
-use Rattle.p25_delivery.specs.declared.receiver.Heard.TheVariants.{Delivered, Opened, Again, Kept, RefusedCrc, RefusedOrder}
-use Rattle.p25_delivery.specs.declared.step_kind.StepKind.{StepKind}
+use Rattle.p25_messages.specs.declared.answers.Heard.{Heard}
+use Rattle.p25_messages.specs.declared.answers.Heard.TheVariants.{Delivered, Opened, Again, Kept, RefusedCrc, RefusedOrder}
+use Rattle.p25_messages.specs.declared.step_kind.StepKind.{StepKind}
 use Rattle.p25_delivery.specs.Halves.{Incoming}
 use Rattle.p25_delivery.specs.SoundHalves.{incoming_of, IsIncoming}
 use Rattle.p25_delivery.proofs.HalfLaws.{call-state, call-answer}

@@ -2,8 +2,8 @@ use Rattle.std.proofs.Common.{◌≡◌, ◌≤◌, List, ℕ, length, sym, subs
 use Rattle.p25_packet_blocks.specs.Sendable.{AreOctets}
 use Rattle.p25_delivery.specs.Halves.{Sending, Outgoing}
 use Rattle.p25_delivery.specs.SenderRules.{offered}
-use Rattle.p25_delivery.specs.declared.sender.Offer.{Offer}
-use Rattle.p25_delivery.specs.declared.sender.Offer.TheVariants.{Taken, Busy, Down}
+use Rattle.p25_messages.specs.declared.answers.Offer.{Offer}
+use Rattle.p25_messages.specs.declared.answers.Offer.TheVariants.{Taken, Busy, Down}
 use Rattle.p25_delivery.specs.SoundHalves.{outgoing_of, IsMessage, IsOutgoing}
 use Rattle.p25_delivery.specs.HalfRules.{after_offer}
 use Rattle.p25_delivery.proofs.HalfLaws.{KeepsOutgoing, call-apart, offer-keeps}

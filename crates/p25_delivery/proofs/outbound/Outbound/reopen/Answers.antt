@@ -3,8 +3,8 @@ use Rattle.p25_packet_blocks.specs.declared.packet.Packet.{Packet}
 use Rattle.p25_packet_blocks.specs.Sendable.{IsSendable}
 use Rattle.p25_delivery.specs.Halves.{Sending, Outgoing}
 use Rattle.p25_delivery.specs.SenderRules.{reopened, is_opening}
-use Rattle.p25_delivery.specs.declared.sender.Reopen.{Reopen}
-use Rattle.p25_delivery.specs.declared.sender.Reopen.TheVariants.{Sent, Up}
+use Rattle.p25_messages.specs.declared.answers.Reopen.{Reopen}
+use Rattle.p25_messages.specs.declared.answers.Reopen.TheVariants.{Sent, Up}
 use Rattle.p25_delivery.specs.declared.outbound.Mark.{Mark}
 use Rattle.p25_delivery.specs.SoundHalves.{outgoing_of, IsOutgoing}
 use Rattle.p25_delivery.specs.HalfRules.{after_reopening}

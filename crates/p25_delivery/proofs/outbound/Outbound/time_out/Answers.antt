@@ -4,9 +4,9 @@ use Rattle.p25_packet_blocks.specs.declared.packet.Packet.{Packet}
 use Rattle.p25_packet_blocks.specs.Sendable.{IsSendable}
 use Rattle.p25_delivery.specs.Halves.{Sending, Outgoing}
 use Rattle.p25_delivery.specs.SenderRules.{timed_out}
-use Rattle.p25_delivery.specs.declared.sender.Resend.{Resend}
-use Rattle.p25_delivery.specs.declared.sender.Resend.TheVariants.{Sent, Idle, Down}
-use Rattle.p25_delivery.specs.declared.step_kind.StepKind.{StepKind}
+use Rattle.p25_messages.specs.declared.answers.Resend.{Resend}
+use Rattle.p25_messages.specs.declared.answers.Resend.TheVariants.{Sent, Idle, Down}
+use Rattle.p25_messages.specs.declared.step_kind.StepKind.{StepKind}
 use Rattle.p25_delivery.specs.SoundHalves.{outgoing_of, IsOutgoing}
 use Rattle.p25_delivery.specs.HalfRules.{after_timeout}
 use Rattle.p25_delivery.proofs.HalfLaws.{call-state, KeepsOutgoing, call-apart, timeout-keeps}

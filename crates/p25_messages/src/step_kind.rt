@@ -1,4 +1,4 @@
-use p25_messages::Message;
+use crate::message::Message;
 use p25_packet_blocks::Flags;
 use p25_status::Field;
 
