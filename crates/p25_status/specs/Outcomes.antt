@@ -5,12 +5,12 @@ use Rattle.p25_status.specs.declared.outcome.Outcome.{Outcome}
 use Rattle.p25_status.specs.declared.outcome.Outcome.TheVariants.{Read, Failing}
 
 -- what was read into its place, or exactly the fields that fail
-unfoldable pub read_or : {X : Type 0} → Outcome → X → Result X (List Field)
+abbrev pub read_or : {X : Type 0} → Outcome → X → Result X (List Field)
 read_or (Read wrong) x = Ok x
 read_or (Failing fields) x = Err fields
 
 -- where no field fails, the number of wrong bits is so
-unfoldable pub IfRead : Outcome → (ℕ → Type 0) → Type 0
+abbrev pub IfRead : Outcome → (ℕ → Type 0) → Type 0
 IfRead (Read wrong) P = P wrong
 IfRead (Failing fields) P = Unit {0}
 
