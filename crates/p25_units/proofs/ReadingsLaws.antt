@@ -121,7 +121,7 @@ none_fails (suc n) slots good =
     failing_slots_of-suc n slots
     ∙ ap₂ (λ (xs ys : List Field). xs ++ ys) (none_fails n slots (λ j inside. good j (omega arith))) (good_fails_not n (get_or slots n Bad) (good n (omega arith)))
 
-IsWholePacket-none : (packet : packet_type) → failing_blocks_of packet ≡ [] → IsWholePacket packet
+pub IsWholePacket-none : (packet : packet_type) → failing_blocks_of packet ≡ [] → IsWholePacket packet
 unfolding failing_blocks_of IsWholePacket
 IsWholePacket-none (Confirmed packet) none = record { at = none_bad (length packet.slots) packet.slots none }
 IsWholePacket-none (Plain packet) none = tt

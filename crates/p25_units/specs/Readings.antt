@@ -47,11 +47,6 @@ unfoldable pub packet_body_from : Result packet_type Field → Result Body (List
 packet_body_from (Err field) = Err (field ∷ [])
 packet_body_from (Ok packet) = whole_from packet (failing_blocks_of packet)
 
--- what was read into its place, or exactly the fields that fail
-abbrev pub body_or : Option (List Field) → Body → Result Body (List Field)
-body_or None body = Ok body
-body_or (Some fields) body = Err fields
-
 -- what a unit of a DUID (HDU, LDU1, LDU2, TDU, TDULC or PDU) carries, or exactly the fields that fail
 unfoldable pub body_reading_of : ℕ → List Bool → Result Body (List Field)
 body_reading_of duid bare = if duid == 0xC then packet_body_from (packet_reading_of bare) else body_from (voice_reading_of duid bare)
@@ -63,11 +58,6 @@ frame_from nac statuses (Ok body) =
     let frame : Frame = record { unit = unit; statuses = statuses } in
     Ok frame
 frame_from nac statuses (Err fields) = Err fields
-
--- a frame that was read into its place, or exactly the fields that fail
-abbrev pub frame_or : Option (List Field) → Frame → Result Frame (List Field)
-frame_or None frame = Ok frame
-frame_or (Some fields) frame = Err fields
 
 -- the frame of sent bits by their network identifier (NID)
 unfoldable pub reading_from : Option (ℕ × ℕ) → List Bool → Result Frame (List Field)
