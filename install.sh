@@ -42,6 +42,10 @@ take_away() {
     paths=$(cat -- "$root/$list" && echo "$list")
     printf '%s\n' "$paths" | while IFS= read -r path; do
         rm -f -- "$root/$path"
+        # What Python kept of a module.
+        case $path in
+            *.py) rm -rf -- "$root/${path%/*}/__pycache__" ;;
+        esac
     done
     printf '%s\n' "$paths" | while IFS= read -r path; do
         while [ "$path" != "${path%/*}" ]; do
@@ -59,6 +63,8 @@ fi
 
 "$top/prove"
 mkdir -p -- "$root/share/p25"
+made=$(mktemp)
+trap 'rm -f -- "$made"' EXIT
 : >"$root/$list.new"
 
 # Puts the file $2 at $3 below the folder, with the mode $1.
@@ -85,9 +91,16 @@ echo "installed $1/bin/p25 and $1/share/man/man1/p25.1"
 # Beside it the companion programs, the words for shells to complete, the pages, the samples and the release.
 completions=share/bash-completion/completions
 put 644 "$top/companions/completion.bash" $completions/p25
+if [ -f "$top/companions/completion.zsh" ]; then
+    put 644 "$top/companions/completion.zsh" share/zsh/site-functions/_p25
+fi
 for companion in "$top"/companions/p25-*; do
     put 755 "$companion" "bin/${companion##*/}"
     name_too p25 "$completions/${companion##*/}"
+    if [ -x "$top/companions/page_of" ]; then
+        "$top/companions/page_of" "$companion" >"$made"
+        put 644 "$made" "share/man/man1/${companion##*/}.1"
+    fi
 done
 for page in RECIPES.md FORMATS.md; do
     put 644 "$top/docs/$page" "share/p25/$page"
@@ -101,6 +114,8 @@ done
 for sample in "$top"/samples/*; do
     put 644 "$sample" "share/p25/samples/${sample##*/}"
 done
+# Installed, the commands of the page of the samples run in their folder.
+sed -e 's|\./p25 |p25 |g' -e 's|companions/p25-|p25-|g' -e 's|samples/\([a-z_]*\.\)|\1|g' "$top/samples/README.md" >"$root/share/p25/samples/README.md"
 echo "installed the companions p25-* beside it, and the recipes and samples in $1/share/p25"
 
 # The library, brought up to date, with its header and what pkg-config tells of it.
@@ -109,7 +124,7 @@ if [ -f "$top/out/libp25.a" ]; then
     release=$(sed 's/.* //' "$top/RELEASE")
     put 644 "$top/bindings/p25.h" include/p25.h
     put 644 "$top/out/libp25.a" lib/libp25.a
-    cat >"$top/out/p25.pc" <<END
+    cat >"$made" <<END
 prefix=\${pcfiledir}/../..
 includedir=\${prefix}/include
 libdir=\${prefix}/lib
@@ -120,7 +135,7 @@ Version: $release
 Cflags: -I\${includedir}
 Libs: -L\${libdir} -lp25
 END
-    put 644 "$top/out/p25.pc" lib/pkgconfig/p25.pc
+    put 644 "$made" lib/pkgconfig/p25.pc
     echo "installed the library for C under $1/lib and $1/include"
 fi
 
