@@ -146,7 +146,7 @@ if [ -f "$top/out/libp25.a" ] && [ -f "$top/out/libp25.so" ]; then
     name_too "libp25.so.${release%%.*}" lib/libp25.so
     echo "a program that is linked with -lp25 starts where $1/lib is searched: by LD_LIBRARY_PATH, by -Wl,-rpath, or by ldconfig"
     # Where Python looks under PREFIX; P25_PYTHON names another folder below it.
-    modules=${P25_PYTHON-$(python3 -c 'import sysconfig; print(sysconfig.get_path("purelib", "posix_prefix", {"base": "."})[2:])' 2>/dev/null)} || modules=
+    modules=${P25_PYTHON-$(python3 -c 'import sysconfig; print(sysconfig.get_path("purelib", "posix_prefix", {"base": "/base"})[6:])' 2>/dev/null)} || modules=
     if [ -n "$modules" ]; then
         for file in "$top"/bindings/p25/*.py "$top"/bindings/p25/py.typed; do
             put 644 "$file" "$modules/p25/${file##*/}"
