@@ -1,8 +1,8 @@
 -- What the reading of a packet answers: the blocks that fail are those whose slots are Bad, and where none fails the number of wrong bits
 -- is that of the packet's fixes. By cases of the packet and of the format.
-use Rattle.std.proofs.Common.{◌≡◌, ◌≢◌, ℕ, zero, suc, ◌+◌, ◌*◌, ◌<◌, ◌≤◌, inl, inr, Bool, eqb, List, [], ◌∷◌, ◌++◌, length, get_or, Result, Ok, Err, refl, ap, ap₂, sym, ◌∙◌, subst, arith, add-one}
+use Rattle.std.proofs.Common.{◌≡◌, ◌≢◌, ℕ, zero, suc, ◌+◌, ◌*◌, ◌<◌, ◌≤◌, inl, inr, Bool, List, [], ◌∷◌, ◌++◌, length, get_or, Result, Ok, Err, refl, ap, ap₂, sym, ◌∙◌, subst, arith, add-one}
 use Rattle.std.specs.Prelude.{IfOk}
-use Rattle.std.proofs.lemmas.Bool.{cases_eq, cond-true, eq-eqb}
+use Rattle.std.proofs.lemmas.Bool.{cases_eq}
 use Rattle.p25_bits.proofs.NumbersLaws.{joined_below-zero, joined_below-suc}
 use Rattle.p25_status.specs.declared.fields.Field.{Field}
 use Rattle.p25_status.specs.declared.outcome.Outcome.TheVariants.{Failing}
@@ -16,13 +16,14 @@ use Rattle.p25_packet_blocks.specs.declared.block.Slot.{Slot}
 use Rattle.p25_packet_blocks.specs.declared.block.Slot.TheVariants.{Good, Bad}
 use Rattle.p25_packet_blocks.specs.declared.packet.Packet.{Packet}
 use Rattle.p25_packet_blocks.specs.declared.packet.Packet.TheVariants.{Confirmed, Plain}
-use Rattle.p25_packet_blocks.specs.Heads.{confirmed_format, head_format, head_blocks}
+use Rattle.p25_packet_blocks.specs.Heads.{head_format, head_blocks}
 use Rattle.p25_packet_blocks.specs.Kinds.{IsPlainFormat}
 use Rattle.p25_packet_blocks.specs.Whole.{IsWholePacket}
-use Rattle.p25_packet_blocks.specs.Fixes.{half_distance, three_quarter_distance, packet_fixes_of}
+use Rattle.p25_packet_blocks.specs.Fixes.{half_distance, packet_fixes_of}
 use Rattle.p25_packet_blocks.specs.Outcomes.{failing_slot, failing_slots_of, failing_blocks_of, body_distance, packet_failing, packet_outcome_of}
 use Rattle.p25_packet_blocks.specs.Reading.{header_bits, head_from, head_reading_of, counted_head, read_head_of, packet_of_head}
 use Rattle.p25_packet_blocks.proofs.ReadingLaws.{head_reading_of-is}
+use Rattle.p25_packet_blocks.proofs.FixesLaws.{body_distance-plain}
 use Rattle.p25_packet_blocks.proofs.PacketFixesLaws.{packet_fixes-is}
 
 -- The header.
@@ -131,15 +132,6 @@ failing_blocks_of-none (Plain packet) whole = refl
 
 -- The wrong bits of the blocks, by the format.
 
-pub body_distance-confirmed : (head : PacketHead) (bare : List Bool) → head_format head ≡ confirmed_format → body_distance head bare ≡ three_quarter_distance (head_blocks head) bare
-unfolding body_distance
-body_distance-confirmed head bare is = cond-true (eqb (head_format head) confirmed_format) _ _ (eq-eqb _ _ is)
-
-pub body_distance-plain : (head : PacketHead) (bare : List Bool) → IsPlainFormat (head_format head) → body_distance head bare ≡ half_distance (head_blocks head) bare
-unfolding body_distance
-body_distance-plain head bare (inl is) = rw is refl
-body_distance-plain head bare (inr is) = rw is refl
-
 pub IfOk-plain : (read : ReadHead) (bare : List Bool) → IsPlainFormat (head_format read.head) → (reading : Result ℕ Field) → IfOk reading (λ wrong. wrong ≡ read.wrong + half_distance (head_blocks read.head) bare)
     → IfOk reading (λ wrong. wrong ≡ read.wrong + body_distance read.head bare)
 IfOk-plain read bare format (Ok wrong) counted = counted ∙ ap (λ n. read.wrong + n) (sym (body_distance-plain read.head bare format))
@@ -178,7 +170,6 @@ pub packet_outcome-fixes : (read : ReadHead) (bare : List Bool) (packet : Packet
 unfolding outcome_of
 packet_outcome-fixes read bare packet wrong (field ∷ fields) is there reads counted fail = tt
 packet_outcome-fixes read bare packet wrong [] is there reads counted none = λ nac.
-    let head = IsReadHead-of (header_bits bare) read is in
-    packet_fixes-is nac read.head packet bare wrong read.wrong (head_reading_of-read bare read is) there (sym reads) (IsWholePacket-none packet none) head.wrong
-    (λ format. counted ∙ ap (λ n. read.wrong + n) (body_distance-confirmed read.head bare format))
-    (λ format. counted ∙ ap (λ n. read.wrong + n) (body_distance-plain read.head bare format))
+    counted
+    ∙ ap (λ n. n + body_distance read.head bare) (IsReadHead-of (header_bits bare) read is).wrong
+    ∙ packet_fixes-is nac read.head packet bare (head_reading_of-read bare read is) there (sym reads) (IsWholePacket-none packet none)

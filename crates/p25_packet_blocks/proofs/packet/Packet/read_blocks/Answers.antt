@@ -1,7 +1,8 @@
 use Rattle.std.proofs.Common.{◌≢◌, ◌+◌, Ok, ap, sym, ◌∙◌, arith, inl, inr}
 use Rattle.p25_packet_blocks.specs.Heads.{confirmed_format, plain_format, response_format, head_format}
 use Rattle.p25_packet_blocks.specs.Kinds.{IsPlainFormat}
-use Rattle.p25_packet_blocks.proofs.OutcomeLaws.{body_distance-confirmed, IfOk-plain}
+use Rattle.p25_packet_blocks.proofs.FixesLaws.{body_distance-confirmed}
+use Rattle.p25_packet_blocks.proofs.OutcomeLaws.{IfOk-plain}
 use Rattle.p25_packet_blocks.proofs.ReadingLaws.{packet_of_head-confirmed, packet_of_head-plain, packet_of_head-other}
 use Rattle.p25_packet_blocks.proofs.packet.Packet.read_blocks.Goals as goal
 
