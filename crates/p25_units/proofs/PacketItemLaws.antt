@@ -1,59 +1,21 @@
 -- The frame of a packet that was read: its fixes are those of its front and of its blocks.
-use Rattle.std.proofs.Common.{◌≡◌, ℕ, ◌+◌, ◌≤◌, Bool, List, [], ◌∷◌, length, drop, Some, Result, Ok, Err, ap, sym, ◌∙◌, arith, length-drop, ◌*◌, length-take}
-use Rattle.std.specs.Bool.{beq}
+use Rattle.std.proofs.Common.{◌≡◌, ℕ, ◌+◌, ◌≤◌, Bool, List, length, drop, Some, Result, Ok, ap, sym, ◌∙◌, arith}
 use Rattle.p25_bits.specs.Bits.{part}
-use Rattle.p25_bits.proofs.DistanceLaws.{distance_by-le}
 use Rattle.p25_status.specs.Woven.{bare_of, statuses_of}
 use Rattle.p25_status.specs.declared.fields.Field.{Field}
 use Rattle.p25_status.specs.declared.symbols.Status.{Status}
 use Rattle.p25_unit_front.specs.Front.{front_fixes_of}
-use Rattle.p25_packet_blocks.specs.declared.packet.Packet.{Packet as packet_type}
-use Rattle.p25_packet_blocks.specs.Heads.{head_blocks}
-use Rattle.p25_packet_blocks.specs.Image.{packet_image_of}
-use Rattle.p25_packet_blocks.specs.Reading.{packet_reading_of}
-use Rattle.p25_packet_blocks.specs.Whole.{packet_head}
 use Rattle.p25_units.specs.UnitParts.{UnitParts}
 use Rattle.p25_units.specs.Fixes.{body_fixes_of, fixes_of}
 use Rattle.p25_units.specs.Needs.{kind_need}
-use Rattle.p25_units.specs.Readings.{body_reading_of, failing_blocks_of, packet_body_from, reading_from, whole_from}
+use Rattle.p25_units.specs.Readings.{body_reading_of, reading_from}
 use Rattle.p25_units.specs.Units.{frame_length_of}
 use Rattle.p25_units.specs.declared.frame.Frame.{Frame}
 use Rattle.p25_units.specs.declared.needs.Need.TheVariants.{Length}
-use Rattle.p25_units.specs.declared.unit.Body.{Body}
-use Rattle.p25_units.specs.declared.unit.Body.TheVariants.{Packet}
-use Rattle.p25_units.proofs.FixesLaws.{body_fixes_of-packet}
 use Rattle.p25_units.proofs.FixingLaws.{fixes_in}
 use Rattle.p25_units.proofs.KindsLaws.{IsUnitOf-need}
-use Rattle.p25_units.proofs.ReadingsLaws.{IsFrameOf-reading, body_reading_of-packet}
+use Rattle.p25_units.proofs.ReadingsLaws.{IsFrameOf-reading}
 use Rattle.p25_units.proofs.UnitPlaceLaws.{IsCountAt-kind, frame-is, reading-is}
-
-packet_of_body : (packet : packet_type) (fields : List Field) (body : Body) → whole_from packet fields ≡ Ok body → Packet packet ≡ body
-packet_of_body packet [] body made = cc
-packet_of_body packet (field ∷ fields) body made = absurd (cc)
-
--- it is at most all bits
-pub packet_body-le : (bare : List Bool) (reading : Result packet_type Field) (body : Body) → packet_body_from reading ≡ Ok body → (nac : ℕ)
-    → let unit : UnitParts = record { nac = nac; body = body } in body_fixes_of unit bare ≤ length bare
-unfolding packet_body_from
-packet_body-le bare (Err field) body made nac = absurd (cc)
-packet_body-le bare (Ok packet) body made nac =
-    let make : Body → UnitParts = λ b. record { nac = nac; body = b } in
-    let count = 196 * (1 + head_blocks (packet_head packet)) in
-    let looked = part 112 count bare in
-    let same : Packet packet ≡ body = packet_of_body packet (failing_blocks_of packet) body made in
-    omega (
-      arith,
-      ap (λ b. body_fixes_of (make b) bare) same,
-      body_fixes_of-packet nac packet bare,
-      distance_by-le beq looked (part 112 count (packet_image_of nac packet)),
-      length-take count (drop 112 bare),
-      length-drop 112 bare,
-    )
-
--- what a packet carries, by its bits without status symbols
-pub packet_body-is : (duid : ℕ) (sent bare : List Bool) (reading : Result Body (List Field)) → duid ≡ 0xC → bare ≡ bare_of sent → reading ≡ packet_body_from (packet_reading_of bare) → reading ≡ body_reading_of duid (bare_of sent)
-packet_body-is duid sent bare reading packet same read =
-    read ∙ ap (λ xs. packet_body_from (packet_reading_of xs)) same ∙ sym (body_reading_of-packet (bare_of sent)) ∙ ap (λ k. body_reading_of k (bare_of sent)) (sym packet)
 
 -- the frame of a whole unit by what it carries
 pub whole_frame-is : (nac duid : ℕ) (sent : List Bool) (unit : UnitParts) (statuses : List Status) → unit.nac ≡ nac → statuses ≡ statuses_of sent → Ok unit.body ≡ body_reading_of duid (bare_of sent)

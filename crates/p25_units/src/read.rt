@@ -85,7 +85,7 @@ fn read_body(
         return unit.read_voice(nid, bare);
     }
     match begun.read_head(bits, at) {
-        Ok(head) => unit.read_packet(nid.nac, head, begun.distance(), bare),
-        Err(field) => Outcome::failing(field),
+        Ok(read) => unit.read_packet(nid.nac, read, bare),
+        Err(_) => unreachable!(),
     }
 }

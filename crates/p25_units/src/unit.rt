@@ -4,16 +4,14 @@ ghost use Rattle.std.specs.Prelude.{◌≡◌, ℕ, ◌<◌, ◌≤◌, Ok, Some
 ghost use Rattle.p25_status.specs.Outcomes.{IfRead, read_or};
 ghost use Rattle.p25_voice_units.specs.Lengths.{voice_length_of};
 ghost use Rattle.p25_voice_units.specs.Readings.{voice_reading_of};
-ghost use Rattle.p25_packet_blocks.specs.Fixes.{head_distance};
-ghost use Rattle.p25_packet_blocks.specs.Reading.{head_reading_of, packet_reading_of, HasItsLength};
+ghost use Rattle.p25_packet_blocks.specs.Reading.{header_bits, packet_reading_of, read_head_of, HasItsLength};
 ghost use Rattle.p25_units.specs.Fixes.{body_fixes_of};
 ghost use Rattle.p25_units.specs.Readings.{body_from, packet_body_from};
 ghost use Rattle.p25_units.specs.Units.{body_duid, body_length};
 
-use crate::packets::set_whole_packet;
 use p25_bch_nid::{Nid, PDU};
 use p25_bits::BitBuf;
-use p25_packet_blocks::{Packet, PacketHead, packet_length};
+use p25_packet_blocks::{Packet, ReadHead, packet_length};
 use p25_status::{BARE_BLOCK_LENGTH, Outcome, SENT_BLOCK_LENGTH};
 use p25_voice_units::{VoiceUnit, read_voice_in};
 use std::marker::Model;
@@ -53,26 +51,6 @@ impl Body {
                 let mut voice = VoiceUnit::End;
                 let outcome = read_voice_in(duid, bare, &mut voice);
                 *self = Body::Voice(voice);
-                outcome
-            }
-        }
-    }
-
-    // Becomes the packet (PDU) of a unit without status symbols, by its header, whose block differs in `distance` bits from the
-    // nearest block. Where it was one, no room is moved.
-    fn read_packet(&mut self, head: PacketHead, distance: u32, bare: &BitBuf) -> Outcome
-        requires head { head_reading_of bare.now ≡ Ok head }
-        requires distance { distance ≡ head_distance bare.now }
-        requires there { HasItsLength bare.now }
-        ensures body { read_or result self.new ≡ packet_body_from (packet_reading_of bare.now) }
-        ensures wrong { IfRead result (λ wrong. (nac : ℕ) → wrong ≡ body_fixes_of (record { nac = nac; body = self.new }) bare.now) }
-    {
-        match self {
-            Body::Packet(held) => set_whole_packet(head, distance, bare, held),
-            Body::Voice(_) => {
-                let mut packet = Packet::empty();
-                let outcome = set_whole_packet(head, distance, bare, &mut packet);
-                *self = Body::Packet(packet);
                 outcome
             }
         }
@@ -132,26 +110,28 @@ impl Unit {
         self.body.read_voice(nid.duid, bare)
     }
 
-    // Becomes the packet (PDU) of a unit without status symbols under a network access code (NAC), by its header. A packet takes room,
-    // so it is read apart from voice units.
+    // Becomes the packet (PDU) of a unit without status symbols whose header was read, under a network access code, and answers what
+    // `Packet::read` does. Where it was a packet, no room is moved. A packet takes room, so it is read apart from voice units.
     #[inline(never)]
-    pub(crate) fn read_packet(
-        &mut self,
-        nac: u16,
-        head: PacketHead,
-        distance: u32,
-        bare: &BitBuf,
-    ) -> Outcome
+    pub(crate) fn read_packet(&mut self, nac: u16, read: ReadHead, bare: &BitBuf) -> Outcome
         requires nac { nac < 4096 }
-        requires head { head_reading_of bare.now ≡ Ok head }
-        requires distance { distance ≡ head_distance bare.now }
+        requires head { read_head_of (header_bits bare.now) ≡ Ok read }
         requires there { HasItsLength bare.now }
         ensures nac { self.new.nac ≡ nac }
         ensures body { read_or result self.new.body ≡ packet_body_from (packet_reading_of bare.now) }
         ensures wrong { IfRead result (λ wrong. wrong ≡ body_fixes_of self.new bare.now) }
+        ensures few { IfRead result (λ wrong. wrong ≤ length bare.now) }
     {
         self.nac = nac;
-        self.body.read_packet(head, distance, bare)
+        match &mut self.body {
+            Body::Packet(held) => held.read(read, bare),
+            Body::Voice(_) => {
+                let mut packet = Packet::empty();
+                let outcome = packet.read(read, bare);
+                self.body = Body::Packet(packet);
+                outcome
+            }
+        }
     }
 
     /// Answers the network access code (NAC).

@@ -1,17 +1,14 @@
-use Rattle.std.proofs.Common.{ℕ, ◌≡◌, ◌*◌, ◌/◌, ◌≤◌, Bool, List, refl, ap, sym, ◌∙◌, subst, arith, drop, length, length-drop}
+use Rattle.std.proofs.Common.{ℕ, ◌≡◌, ◌*◌, ◌/◌, ◌≤◌, Bool, List, ap, sym, ◌∙◌, subst, arith, drop, length, length-drop}
 use Rattle.std.proofs.lemmas.List.{length-take-le}
 use Rattle.p25_bits.specs.Bits.{part}
-use Rattle.p25_status.specs.Outcomes.{read_or}
 use Rattle.p25_status.specs.Woven.{bare_of}
 use Rattle.p25_status.proofs.WovenLaws.{length-bare_of}
-use Rattle.p25_packet_blocks.specs.Fixes.{head_distance}
-use Rattle.p25_packet_blocks.specs.Reading.{head_reading_of, HasItsLength}
-use Rattle.p25_packet_blocks.proofs.ReadingLaws.{packet_reading_of-bad}
+use Rattle.p25_packet_blocks.specs.Reading.{header_bits, read_head_of, HasItsLength}
 use Rattle.p25_units.specs.Needs.{kind_need}
-use Rattle.p25_units.specs.Readings.{body_reading_of, packet_body_from}
+use Rattle.p25_units.specs.Readings.{body_reading_of}
 use Rattle.p25_units.specs.declared.needs.Need.TheVariants.{Length}
 use Rattle.p25_units.proofs.OutcomeLaws.{packet-most, voice-most}
-use Rattle.p25_units.proofs.ReadingsLaws.{body_reading_of-packet, body_reading_of-voice, packet_body_from-bad}
+use Rattle.p25_units.proofs.ReadingsLaws.{body_reading_of-packet, body_reading_of-voice}
 use Rattle.p25_units.proofs.UnitPlaceLaws.{IsCountAt-kind, IsPacketAt, IsPacketAt-kind, voice_long}
 use Rattle.p25_units.proofs.read.read_body.Goals as goal
 
@@ -44,40 +41,23 @@ pub read_head-requires-clause-there : goal.read_head-requires-clause-there
 read_head-requires-clause-there c = (packet_at c.args.nid.now.duid c.args.bits.now c.args.at c.args.count c.if-nid-ne-PDU.false c.requires.there c.requires.kind).there
 
 pub read_packet-requires-clause-head : goal.read_packet-requires-clause-head
-read_packet-requires-clause-head c =
-    sym (c.read_head.ensures.value ∙ (packet_at c.args.nid.now.duid c.args.bits.now c.args.at c.args.count c.if-nid-ne-PDU.false c.requires.there c.requires.kind).head ∙ ap head_reading_of (sym c.requires.bare))
-    ∙ c.in-Ok.is
+read_packet-requires-clause-head c = ap (λ (xs : List Bool). read_head_of (header_bits xs)) c.requires.bare ∙ sym (c.in-Ok.ensures.value ∙ (packet_at c.args.nid.now.duid c.args.bits.now c.args.at c.args.count c.if-nid-ne-PDU.false c.requires.there c.requires.kind).head)
 
-pub read_packet-requires-clause-distance : goal.read_packet-requires-clause-distance
-read_packet-requires-clause-distance c =
-    c.distance.ensures
-    ∙ c.in-Ok.ensures.distance c.in-Ok.head refl
-    ∙ (packet_at c.args.nid.now.duid c.args.bits.now c.args.at c.args.count c.if-nid-ne-PDU.false c.requires.there c.requires.kind).distance
-    ∙ ap (λ (bare : List Bool). head_distance bare) (sym c.requires.bare)
+pub unreachable-requires : goal.unreachable-requires
+unreachable-requires c = (packet_at c.args.nid.now.duid c.args.bits.now c.args.at c.args.count c.if-nid-ne-PDU.false c.requires.there c.requires.kind).some _ (sym c.in-Err.ensures.value)
 
 pub read_packet-requires-clause-there : goal.read_packet-requires-clause-there
 read_packet-requires-clause-there c =
     subst HasItsLength (sym c.requires.bare) (packet_at c.args.nid.now.duid c.args.bits.now c.args.at c.args.count c.if-nid-ne-PDU.false c.requires.there c.requires.kind).has
 
-pub returns-in-Ok-clause-body : goal.returns-in-Ok-clause-body
-returns-in-Ok-clause-body c =
+pub returns-clause-body : goal.returns-clause-body
+returns-clause-body c =
     c.read_packet.ensures.body ∙ sym (body_reading_of-packet c.args.bare.now) ∙ ap (λ duid. body_reading_of duid c.args.bare.now) (sym c.if-nid-ne-PDU.false)
 
-pub returns-in-Ok-clause-most : goal.returns-in-Ok-clause-most
-returns-in-Ok-clause-most c =
+pub returns-clause-most : goal.returns-clause-most
+returns-clause-most c =
     let duid = c.args.nid.now.duid in
     let counted = IsCountAt-kind duid c.args.bits.now c.args.at c.args.count c.requires.there c.requires.kind in
     let short : length c.args.bare.now ≤ 25200
     = omega (arith, counted.most, bare_long duid c.args.bits.now c.args.bare.now c.args.at c.args.count c.requires.there c.requires.kind c.requires.bare) in
-    packet-most c.read_packet.result c.args.bare.now c.read_packet.new.self short c.read_packet.ensures.wrong c.read_packet.ensures.body
-
-pub returns-in-Err-clause-body : goal.returns-in-Err-clause-body
-returns-in-Err-clause-body c =
-    let bare = c.args.bare.now in
-    let head = sym (c.read_head.ensures.value ∙ (packet_at c.args.nid.now.duid c.args.bits.now c.args.at c.args.count c.if-nid-ne-PDU.false c.requires.there c.requires.kind).head ∙ ap head_reading_of (sym c.requires.bare))
-    ∙ c.in-Err.is in
-    ap (λ outcome. read_or outcome c.args.unit.now.body) c.failing.ensures
-    ∙ sym (packet_body_from-bad c.in-Err.field)
-    ∙ ap packet_body_from (sym (packet_reading_of-bad bare c.in-Err.field head))
-    ∙ sym (body_reading_of-packet bare)
-    ∙ ap (λ duid. body_reading_of duid bare) (sym c.if-nid-ne-PDU.false)
+    packet-most c.read_packet.result (length c.args.bare.now) short c.read_packet.ensures.few

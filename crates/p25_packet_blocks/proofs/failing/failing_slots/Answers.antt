@@ -2,9 +2,9 @@ use Rattle.std.proofs.Common.{◌++◌, List, ap₂, sym, ◌∙◌, arith}
 use Rattle.std.proofs.lemmas.Option.{get_or_from_slice_get}
 use Rattle.p25_status.specs.declared.fields.Field.{Field}
 use Rattle.p25_packet_blocks.specs.declared.block.Slot.TheVariants.{Bad}
-use Rattle.p25_units.specs.Readings.{failing_slot}
-use Rattle.p25_units.proofs.ReadingsLaws.{failing_slots_of-zero, failing_slots_of-more}
-use Rattle.p25_units.proofs.packets.failing_slots.Goals as goal
+use Rattle.p25_packet_blocks.specs.Outcomes.{failing_slot}
+use Rattle.p25_packet_blocks.proofs.OutcomeLaws.{failing_slots_of-zero, failing_slots_of-more}
+use Rattle.p25_packet_blocks.proofs.failing.failing_slots.Goals as goal
 
 pub loop-j-init : goal.loop-j-init
 loop-j-init c = record { so_far = c.new-fields.ensures ∙ sym (failing_slots_of-zero c.args.slots.now); few = rw c.new-fields.ensures (omega arith) }
