@@ -5,11 +5,14 @@
 #
 # usage: ./install.sh PREFIX
 set -eu
+unset CDPATH
+LC_ALL=C
+export LC_ALL
 if [ $# -ne 1 ]; then
     echo "usage: ./install.sh PREFIX" >&2
     exit 1
 fi
-top=$(CDPATH= cd -- "$(dirname -- "$0")" && pwd)
+top=$(cd -- "$(dirname -- "$0")" && pwd)
 "$top/prove"
 mkdir -p -- "$1/bin" "$1/share/man/man1"
 cp -- "$top/out/p25" "$1/bin/p25"

@@ -1,6 +1,6 @@
 /* Times the calls on words, blocks and checks, and p25_next_item on a recording from a file, for bindings/speed.
 
-   usage: speed                prints a line NAME|CASE|TENTHS OF A NANOSECOND|SUM for each call, as bench/libfec.c does
+   usage: speed                prints a line NAME|CASE|TENTHS OF A NANOSECOND|SUM for each call, as bench/measures/libfec.c does
           speed FILE           prints the user seconds that the items of the file take, and how many there are
 
    Words are 64 of random information, with random wrong letters at random places; the least of 400 rounds counts. */
