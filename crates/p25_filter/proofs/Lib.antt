@@ -7,4 +7,3 @@ pub mod OrdersLaws
 pub mod SameLaws
 pub mod LinesLaws
 pub mod LineFiltersLaws
-pub mod RulesLaws

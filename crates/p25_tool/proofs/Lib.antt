@@ -10,4 +10,3 @@ pub mod RecordedRunsLaws
 pub mod BuiltLaws
 pub mod FoundLaws
 pub mod WrittenLaws
-pub mod DuplexCommandLaws
