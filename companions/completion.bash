@@ -10,7 +10,7 @@ _p25() {
             build:2 | bridge:3) words='0 1 2 3' ;;
         esac
     fi
-    COMPREPLY=($(compgen -W "$words" -- "$word"))
+    mapfile -t COMPREPLY < <(compgen -W "$words" -- "$word")
 }
 complete -o default -F _p25 p25 ./p25
 
@@ -21,6 +21,6 @@ _p25_companion() {
         p25-rate) words='-h -t -g' ;;
         p25-talkers) words='-h -c' ;;
     esac
-    COMPREPLY=($(compgen -W "$words" -- "$word"))
+    mapfile -t COMPREPLY < <(compgen -W "$words" -- "$word")
 }
-complete -o default -F _p25_companion p25-octets p25-guess p25-rate p25-talkers p25-json p25-damage p25-flip p25-split
+complete -o default -F _p25_companion p25-octets p25-guess p25-rate p25-talkers p25-calls p25-watch p25-page p25-json p25-damage p25-flip p25-split
