@@ -72,6 +72,7 @@
       const region = table.closest(".scroll");
       region.before(this.tools);
       region.after(this.more);
+      this.tools.hidden = rows.length < 2;
       this.filter.addEventListener("input", () => { this.most = this.step; this.show(); });
       this.heads = [...table.tHead.rows[0].cells];
       this.heads.forEach((head, column) => {
@@ -83,7 +84,7 @@
     }
     sort(column) {
       // A number is first sorted downwards, and a text upwards.
-      const first = this.heads[column].classList.contains("n") && column > 0;
+      const first = this.heads[column].classList.contains("n") && column > 0; // a number in the first column names the row
       this.down = this.column === column ? !this.down : first;
       this.column = column;
       this.heads.forEach((head, other) => {
@@ -106,8 +107,8 @@
     show() {
       const rows = this.chosen();
       this.body.replaceChildren(...rows.slice(0, this.most).map((row) => (row.element ||= row.make())));
-      this.told.textContent = rows.length === this.rows.length ? `${rows.length.toLocaleString("en")} rows`
-        : `${rows.length.toLocaleString("en")} of ${this.rows.length.toLocaleString("en")} rows`;
+      const all = this.rows.length.toLocaleString("en") + (this.rows.length === 1 ? " row" : " rows");
+      this.told.textContent = rows.length === this.rows.length ? all : `${rows.length.toLocaleString("en")} of ${all}`;
       this.more.replaceChildren();
       if (rows.length > this.most) {
         const more = make("button", { type: "button" }, `Show ${Math.min(this.step, rows.length - this.most)} more`);
@@ -132,7 +133,7 @@
 
   // -- The table of calls.
   const columns = [
-    ["Began", "n"], ["Length", "n"], ["Network", ""], ["From", ""], ["To", ""], ["Encryption", ""],
+    ["Began", "t"], ["Length", "n"], ["Network", ""], ["From", ""], ["To", ""], ["Encryption", ""],
     ["Heard", "n"], ["Lost", "n"], ["Broken", "n"], ["Wrong bits", "n"], ["Notes", ""],
   ];
   const rowOf = (call) => {
