@@ -30,6 +30,7 @@
     return (day ? text.slice(0, 10) + " " : "") + text.slice(11, tenths ? 21 : 19);
   };
   const tickText = (time, step) => {
+    if (data.begin !== null && step >= 86400000) return new Date(data.begin + time).toISOString().slice(5, 10);
     const text = timeText(time);
     return data.begin !== null && step >= 60000 ? text.slice(0, 5) : text;
   };
