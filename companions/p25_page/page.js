@@ -188,8 +188,8 @@
   const NICE = [1, 2, 5, 10, 20, 50, 100];
   const short = (text, room) => (text.length <= room ? text : text.slice(0, Math.max(1, room - 1)) + "…");
 
-  const chart = () => {
-    const width = Math.max(280, at("chart").clientWidth);
+  const chart = (asked) => {
+    const width = asked || Math.max(280, at("chart").clientWidth);
     const left = Math.min(190, Math.floor(width * 0.29));
     const right = width - 8;
     const [from, to] = view;
@@ -365,11 +365,20 @@
     at("time").hidden = true;
   }
 
-  // On paper all rows stand, as far as there is sense in it.
-  let kept = [];
+  // On paper all rows stand, as far as there is sense in it, the chart is as wide as the paper, and the words are explained.
+  const words = document.querySelector("details");
+  let kept = null;
   addEventListener("beforeprint", () => {
-    kept = tables.map((table) => table.most);
+    kept ||= [tables.map((table) => table.most), words.open];
     for (const table of tables) { table.most = 2000; table.show(); }
+    words.open = true;
+    if (calls.length) chart(720);
   });
-  addEventListener("afterprint", () => tables.forEach((table, i) => { table.most = kept[i]; table.show(); }));
+  addEventListener("afterprint", () => {
+    if (!kept) return;
+    tables.forEach((table, i) => { table.most = kept[0][i]; table.show(); });
+    words.open = kept[1];
+    kept = null;
+    if (calls.length) chart();
+  });
 })();
