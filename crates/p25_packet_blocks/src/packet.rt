@@ -55,18 +55,6 @@ impl Confirmed {
         self.head
     }
 
-    // Becomes the packet of a header and of the blocks to follow in its unit, and answers how many bits of the blocks were wrong.
-    fn read(&mut self, head: PacketHead, bare: &BitBuf) -> u32
-        requires format { head_format head ≡ confirmed_format }
-        requires there { 308 + 196 * head_blocks head ≤ length bare.now }
-        ensures parts { self.new ≡ record { head = head; slots = slots_read (head_blocks head) bare.now } }
-        ensures wrong { result ≡ three_quarter_distance (head_blocks head) bare.now }
-        ensures few { result ≤ 25088 }
-    {
-        self.head = head;
-        read_slots(bare, usize::from(head.blocks()), &mut self.slots)
-    }
-
     /// Answers the slots, in the order of sending.
     pub fn slots(&self) -> &Slots
         ensures value { result.now ≡ self.now.slots }
@@ -115,17 +103,6 @@ impl Plain {
         ensures kind { IsPlain self.now }
     {
         self.head
-    }
-
-    // Becomes the packet of a header and its octets.
-    fn set(&mut self, head: PacketHead, octets: &[u8])
-        requires plain { IsPlain (record { head = head; octets = octets.now }) }
-        requires most { length octets.now ≤ 1520 }
-        ensures { self.new ≡ record { head = head; octets = octets.now } }
-    {
-        self.head = head;
-        self.octets.clear();
-        self.octets.extend(octets);
     }
 
     /// Answers the octets before the packet CRC, in order.
@@ -196,7 +173,10 @@ impl Packet {
         ensures few { result ≤ 25088 }
     {
         match self {
-            Packet::Confirmed(held) => held.read(head, bare),
+            Packet::Confirmed(held) => {
+                held.head = head;
+                read_slots(bare, usize::from(head.blocks()), &mut held.slots)
+            }
             Packet::Plain(_) => {
                 let mut slots = Slots::new();
                 let wrong = read_slots(bare, usize::from(head.blocks()), &mut slots);
@@ -235,7 +215,11 @@ impl Packet {
         ensures { self.new ≡ plain_by_parts head octets.now }
     {
         match self {
-            Packet::Plain(held) => held.set(head, octets),
+            Packet::Plain(held) => {
+                held.head = head;
+                held.octets.clear();
+                held.octets.extend(octets);
+            }
             Packet::Confirmed(_) => {
                 let mut carried = Octets::new();
                 carried.extend(octets);
