@@ -54,7 +54,8 @@ IfOk-few block (Ok read) is = read_head_of-few block read (sym is)
 IfOk-few block (Err field) is = tt
 
 -- what a block reads as, by the header that it holds
-pub read_head_of-good : (block : List Bool) (head : PacketHead) → head_from (half_octets block) ≡ Ok head → read_head_of block ≡ Ok (record { head = head; wrong = nearest_distance 4 half_point block })
+pub read_head_of-good : (block : List Bool) (head : PacketHead) → head_from (half_octets block) ≡ Ok head
+    → read_head_of block ≡ Ok (record { head = head; wrong = nearest_distance 4 half_point block })
 unfolding read_head_of counted_head
 read_head_of-good block head is = rw is refl
 
@@ -142,7 +143,8 @@ pub confirmed-wrong : (head : PacketHead) (bare : List Bool) (first wrong n : �
 confirmed-wrong head bare first wrong n format counted is =
     ap (λ k. first + k) (is ∙ ap (λ k. three_quarter_distance k bare) counted ∙ sym (body_distance-confirmed head bare format))
 
-pub IfOk-plain : (read : ReadHead) (bare : List Bool) → IsPlainFormat (head_format read.head) → (reading : Result ℕ Field) → IfOk reading (λ wrong. wrong ≡ read.wrong + half_distance (head_blocks read.head) bare)
+pub IfOk-plain : (read : ReadHead) (bare : List Bool) → IsPlainFormat (head_format read.head) → (reading : Result ℕ Field)
+    → IfOk reading (λ wrong. wrong ≡ read.wrong + half_distance (head_blocks read.head) bare)
     → IfOk reading (λ wrong. wrong ≡ read.wrong + body_distance read.head bare)
 IfOk-plain read bare format (Ok wrong) counted = counted ∙ ap (λ n. read.wrong + n) (sym (body_distance-plain read.head bare format))
 IfOk-plain read bare format (Err field) counted = tt
@@ -174,7 +176,8 @@ IfOk-none packet field (Ok other) is = absurd (cc)
 IfOk-none packet field (Err other) is = tt
 
 -- where no field fails, the wrong bits are the packet's fixes
-pub packet_outcome-fixes : (read : ReadHead) (bare : List Bool) (packet : Packet) (wrong : ℕ) (fields : List Field) → read_head_of (header_bits bare) ≡ Ok read → 308 + 196 * head_blocks read.head ≤ length bare
+pub packet_outcome-fixes : (read : ReadHead) (bare : List Bool) (packet : Packet) (wrong : ℕ) (fields : List Field) → read_head_of (header_bits bare) ≡ Ok read
+    → 308 + 196 * head_blocks read.head ≤ length bare
     → Ok packet ≡ packet_of_head read.head bare → wrong ≡ read.wrong + body_distance read.head bare → failing_blocks_of packet ≡ fields
     → IfRead (outcome_of fields wrong) (λ count. (nac : ℕ) → count ≡ packet_fixes_of nac packet bare)
 unfolding outcome_of

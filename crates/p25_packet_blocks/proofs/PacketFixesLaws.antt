@@ -39,14 +39,16 @@ packet_fixes nac (Confirmed packet) bare read sendable there =
     let n = head_blocks packet.head in
     let sent : (j : ℕ) → j < n → body_block (Confirmed packet) j ≡ three_quarter_block (three_quarter_octets (block_bits bare j))
     = λ j inside. confirmed_sent packet j (block_bits bare j) (read.blocks j inside) in
-    all_fixes 8 three_quarter_point n bare (unit_front nac 12) (packet_nulls n) (half_block (header_octets packet.head)) (body_block (Confirmed packet)) there (length-unit_front nac 12) (ap half_block (sym read.header))
+    all_fixes 8 three_quarter_point n bare (unit_front nac 12) (packet_nulls n) (half_block (header_octets packet.head)) (body_block (Confirmed packet)) there (length-unit_front nac 12)
+    (ap half_block (sym read.header))
     (λ j inside. ap length (sent j inside) ∙ length-three_quarter (block_bits bare j))
     (λ j inside. ap (distance_of (block_bits bare j)) (sent j inside) ∙ three_quarter_fixes (block_bits bare j))
     ∙ ap (λ k. nearest_distance 4 half_point (header_bits bare) + k) (sym (body_distance-confirmed packet.head bare sendable.kind.format))
 packet_fixes nac (Plain packet) bare read sendable there =
     let n = head_blocks packet.head in
     let sent : (j : ℕ) → j < n → body_block (Plain packet) j ≡ half_block (half_octets (block_bits bare j)) = λ j inside. plain_sent packet j (block_bits bare j) (read.blocks j inside) in
-    all_fixes 4 half_point n bare (unit_front nac 12) (packet_nulls n) (half_block (header_octets packet.head)) (body_block (Plain packet)) there (length-unit_front nac 12) (ap half_block (sym read.header))
+    all_fixes 4 half_point n bare (unit_front nac 12) (packet_nulls n) (half_block (header_octets packet.head)) (body_block (Plain packet)) there (length-unit_front nac 12)
+    (ap half_block (sym read.header))
     (λ j inside. ap length (sent j inside) ∙ length-half (block_bits bare j))
     (λ j inside. ap (distance_of (block_bits bare j)) (sent j inside) ∙ half_fixes (block_bits bare j))
     ∙ ap (λ k. nearest_distance 4 half_point (header_bits bare) + k) (sym (body_distance-plain packet.head bare sendable.kind.format))

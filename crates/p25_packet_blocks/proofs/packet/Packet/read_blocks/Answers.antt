@@ -8,19 +8,25 @@ use Rattle.p25_packet_blocks.proofs.ReadingLaws.{packet_of_head-plain, packet_of
 use Rattle.p25_packet_blocks.proofs.packet.Packet.read_blocks.Goals as goal
 
 pub returns-in-Confirmed-clause-packet : goal.returns-in-Confirmed-clause-packet
-returns-in-Confirmed-clause-packet c = confirmed-set c.args.read.head c.args.bare.now c.read_slots.new.slots c.from-blocks.result (sym c.format.ensures.value ∙ c.in-22.is) (c.from-blocks.ensures ∙ c.blocks-in-22.ensures.value) c.read_slots.ensures.list
+returns-in-Confirmed-clause-packet c =
+    confirmed-set c.args.read.head c.args.bare.now c.read_slots.new.slots c.from-blocks.result (sym c.format.ensures.value ∙ c.in-22.is)
+    (c.from-blocks.ensures ∙ c.blocks-in-22.ensures.value) c.read_slots.ensures.list
 
 pub returns-in-Confirmed-clause-wrong : goal.returns-in-Confirmed-clause-wrong
-returns-in-Confirmed-clause-wrong c = confirmed-wrong c.args.read.head c.args.bare.now c.args.read.wrong c.read_slots.result c.from-blocks.result (sym c.format.ensures.value ∙ c.in-22.is) (c.from-blocks.ensures ∙ c.blocks-in-22.ensures.value) c.read_slots.ensures.wrong
+returns-in-Confirmed-clause-wrong c =
+    confirmed-wrong c.args.read.head c.args.bare.now c.args.read.wrong c.read_slots.result c.from-blocks.result (sym c.format.ensures.value ∙ c.in-22.is)
+    (c.from-blocks.ensures ∙ c.blocks-in-22.ensures.value) c.read_slots.ensures.wrong
 
 pub returns-in-Plain-clause-packet : goal.returns-in-Plain-clause-packet
 returns-in-Plain-clause-packet c =
     ap (λ (parts : ConfirmedParts). Ok (Confirmed parts)) c.new.ensures
-    ∙ confirmed-set c.args.read.head c.args.bare.now c.read_slots-wrong.new.slots c.from-blocks.result (sym c.format.ensures.value ∙ c.in-22.is) (c.from-blocks.ensures ∙ c.blocks-in-22.ensures.value) c.read_slots-wrong.ensures.list
+    ∙ confirmed-set c.args.read.head c.args.bare.now c.read_slots-wrong.new.slots c.from-blocks.result (sym c.format.ensures.value ∙ c.in-22.is)
+    (c.from-blocks.ensures ∙ c.blocks-in-22.ensures.value) c.read_slots-wrong.ensures.list
 
 pub returns-in-Plain-clause-wrong : goal.returns-in-Plain-clause-wrong
 returns-in-Plain-clause-wrong c =
-    confirmed-wrong c.args.read.head c.args.bare.now c.args.read.wrong c.read_slots-wrong.result c.from-blocks.result (sym c.format.ensures.value ∙ c.in-22.is) (c.from-blocks.ensures ∙ c.blocks-in-22.ensures.value) c.read_slots-wrong.ensures.wrong
+    confirmed-wrong c.args.read.head c.args.bare.now c.args.read.wrong c.read_slots-wrong.result c.from-blocks.result (sym c.format.ensures.value ∙ c.in-22.is)
+    (c.from-blocks.ensures ∙ c.blocks-in-22.ensures.value) c.read_slots-wrong.ensures.wrong
 
 pub returns-in-21-clause-packet : goal.returns-in-21-clause-packet
 returns-in-21-clause-packet c =
