@@ -2,6 +2,7 @@
 -- this order, and then the packet answer.
 use Rattle.std.specs.Prelude.{ℕ, Bool, List, ◌==◌, nat_le, length, take, ◌++◌, Result, Ok, Err, Option, Some, None, if◌then◌else◌}
 use Rattle.p25_bits.specs.Bits.{part}
+use Rattle.p25_bch_nid.specs.Duids.{duid_pdu}
 use Rattle.p25_status.specs.declared.fields.Field.{Field}
 use Rattle.p25_status.specs.declared.fields.Field.TheVariants.{Sync, Nid, Duid, Length}
 use Rattle.p25_status.specs.Sync.{has_sync}
@@ -45,7 +46,7 @@ with_nac nac (Ok packet) = Ok (nac, packet)
 -- from the network identifier (NID) on
 unfoldable pub identified_packet_of : Option (ℕ × ℕ) → List Bool → Result (ℕ × Packet) Field
 identified_packet_of None sent = Err Nid
-identified_packet_of (Some nid) sent = if nid.1 == 12 then with_nac nid.0 (sent_packet_of sent) else Err Duid
+identified_packet_of (Some nid) sent = if nid.1 == duid_pdu then with_nac nid.0 (sent_packet_of sent) else Err Duid
 
 -- the packet answer of a unit (PDU) as it is sent
 unfoldable pub packet_unit_of : List Bool → Result (ℕ × Packet) Field

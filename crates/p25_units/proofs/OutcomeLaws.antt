@@ -30,10 +30,10 @@ use Rattle.p25_packet_blocks.proofs.ReadingLaws.{packet_reading_of-good, HasItsL
 use Rattle.p25_units.specs.declared.unit.Body.{Body}
 
 -- the wrong bits of a voice unit are those of the body
-pub voice-wrong : (outcome : Outcome) (voice : VoiceUnit) (bare : List Bool) → IfRead outcome (λ wrong. AreFixes voice bare wrong)
-    → IfRead outcome (λ wrong. (nac : ℕ) → let unit : UnitParts = record { nac = nac; body = Voice voice } in wrong ≡ body_fixes_of unit bare)
-voice-wrong (Read wrong) voice bare is = λ nac. is.value nac ∙ sym (body_fixes_of-voice nac voice bare)
-voice-wrong (Failing fields) voice bare is = tt
+pub voice-wrong : (outcome : Outcome) (nac : ℕ) (voice : VoiceUnit) (bare : List Bool) → IfRead outcome (λ wrong. AreFixes voice bare wrong)
+    → IfRead outcome (λ wrong. let unit : UnitParts = record { nac = nac; body = Voice voice } in wrong ≡ body_fixes_of unit bare)
+voice-wrong (Read wrong) nac voice bare is = is.value nac ∙ sym (body_fixes_of-voice nac voice bare)
+voice-wrong (Failing fields) nac voice bare is = tt
 
 -- a unit has the bits that its header asks for
 pub packet_long : (bare : List Bool) (read : ReadHead) → HasItsLength bare → read_head_of (header_bits bare) ≡ Ok read → 308 + 196 * head_blocks read.head ≤ length bare

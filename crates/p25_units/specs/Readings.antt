@@ -4,6 +4,7 @@ use Rattle.p25_status.specs.Woven.{bare_of, statuses_of}
 use Rattle.p25_status.specs.declared.fields.Field.{Field}
 use Rattle.p25_status.specs.declared.fields.Field.TheVariants.{Nid}
 use Rattle.p25_status.specs.declared.symbols.Status.{Status}
+use Rattle.p25_bch_nid.specs.Duids.{duid_pdu}
 use Rattle.p25_unit_front.specs.Front.{identifier_of}
 use Rattle.p25_voice_units.specs.declared.unit.VoiceUnit.{VoiceUnit}
 use Rattle.p25_voice_units.specs.Readings.{voice_reading_of}
@@ -32,7 +33,7 @@ packet_body_from (Ok packet) = whole_from packet (failing_blocks_of packet)
 
 -- what a unit of a DUID (HDU, LDU1, LDU2, TDU, TDULC or PDU) carries, or exactly the fields that fail
 unfoldable pub body_reading_of : ℕ → List Bool → Result Body (List Field)
-body_reading_of duid bare = if duid == 0xC then packet_body_from (packet_reading_of bare) else body_from (voice_reading_of duid bare)
+body_reading_of duid bare = if duid == duid_pdu then packet_body_from (packet_reading_of bare) else body_from (voice_reading_of duid bare)
 
 -- a frame, where what it carries was read
 abbrev pub frame_from : ℕ → List Status → Result Body (List Field) → Result Frame (List Field)

@@ -37,25 +37,6 @@ impl Body {
         }
     }
 
-    // Becomes the voice unit (HDU, LDU1, LDU2, TDU or TDULC) of a DUID that bits without status symbols read as. Where it was one, no
-    // room for a packet is moved.
-    fn read_voice(&mut self, duid: u8, bare: &BitBuf) -> Outcome
-        requires { voice_length_of duid ≡ Some (length bare.now) }
-        ensures body { read_or result self.new ≡ body_from (voice_reading_of duid bare.now) }
-        ensures wrong { IfRead result (λ wrong. (nac : ℕ) → wrong ≡ body_fixes_of (record { nac = nac; body = self.new }) bare.now) }
-        ensures most { IfRead result (λ wrong. wrong ≤ 864) }
-    {
-        match self {
-            Body::Voice(held) => read_voice_in(duid, bare, held),
-            Body::Packet(_) => {
-                let mut voice = VoiceUnit::End;
-                let outcome = read_voice_in(duid, bare, &mut voice);
-                *self = Body::Voice(voice);
-                outcome
-            }
-        }
-    }
-
     // How many bits the unit has without status symbols.
     pub(crate) fn length(&self) -> usize
         ensures value { result ≡ body_length self.now }
@@ -98,7 +79,8 @@ impl Unit {
         Unit { nac, body }
     }
 
-    // Becomes the voice unit (HDU, LDU1, LDU2, TDU or TDULC) of a network identifier (NID) that bits without status symbols read as.
+    // Becomes the voice unit (HDU, LDU1, LDU2, TDU or TDULC) of a network identifier (NID) that bits without status symbols read as. Where
+    // it was one, no room for a packet is moved.
     pub(crate) fn read_voice(&mut self, nid: &Nid, bare: &BitBuf) -> Outcome
         requires { voice_length_of nid.now.duid ≡ Some (length bare.now) }
         ensures nac { self.new.nac ≡ nid.now.nac }
@@ -107,7 +89,15 @@ impl Unit {
         ensures most { IfRead result (λ wrong. wrong ≤ 864) }
     {
         self.nac = nid.nac;
-        self.body.read_voice(nid.duid, bare)
+        match &mut self.body {
+            Body::Voice(held) => read_voice_in(nid.duid, bare, held),
+            Body::Packet(_) => {
+                let mut voice = VoiceUnit::End;
+                let outcome = read_voice_in(nid.duid, bare, &mut voice);
+                self.body = Body::Voice(voice);
+                outcome
+            }
+        }
     }
 
     // Becomes the packet (PDU) of a unit without status symbols whose header was read, under a network access code, and answers what
