@@ -43,7 +43,8 @@ pub blocks_distance-zero : (states : ℕ) (point : ℕ → ℕ → ℕ) (bare : 
 unfolding blocks_distance
 blocks_distance-zero states point bare = refl
 
-pub blocks_distance-more : (states : ℕ) (point : ℕ → ℕ → ℕ) (n : ℕ) (bare : List Bool) → blocks_distance states point (n + 1) bare ≡ blocks_distance states point n bare + nearest_distance states point (block_bits bare n)
+pub blocks_distance-more : (states : ℕ) (point : ℕ → ℕ → ℕ) (n : ℕ) (bare : List Bool)
+    → blocks_distance states point (n + 1) bare ≡ blocks_distance states point n bare + nearest_distance states point (block_bits bare n)
 unfolding blocks_distance
 blocks_distance-more states point n bare = rw add-one refl
 
@@ -75,7 +76,8 @@ blocks_fixes states point (suc n) bare sent there long each =
 pub all_fixes : (states : ℕ) (point : ℕ → ℕ → ℕ) (n : ℕ) (bare front nulls header : List Bool) (sent : ℕ → List Bool) → 308 + 196 * n ≤ length bare → length front ≡ 112
     → header ≡ half_block (half_octets (part 112 196 bare)) → ((j : ℕ) → j < n → length (sent j) ≡ 196)
     → ((j : ℕ) → j < n → distance_of (block_bits bare j) (sent j) ≡ nearest_distance states point (block_bits bare j))
-    → distance_of (part 112 (196 * (1 + n)) bare) (part 112 (196 * (1 + n)) (front ++ header ++ joined_below n sent ++ nulls)) ≡ nearest_distance 4 half_point (part 112 196 bare) + blocks_distance states point n bare
+    → distance_of (part 112 (196 * (1 + n)) bare) (part 112 (196 * (1 + n)) (front ++ header ++ joined_below n sent ++ nulls)) ≡ nearest_distance 4 half_point
+    (part 112 196 bare) + blocks_distance states point n bare
 all_fixes states point n bare front nulls header sent there long_front is long each =
     let body = joined_below n sent in
     let received = part 112 196 bare in
@@ -84,7 +86,8 @@ all_fixes states point n bare front nulls header sent there long_front is long e
     let whole : length (header ++ body) ≡ 196 * (1 + n) = length-append header body ∙ omega (arith, long_header, long_body) in
     let grouped : front ++ header ++ body ++ nulls ≡ front ++ ((header ++ body) ++ nulls)
     = ap (λ (xs : List Bool). xs ++ nulls) (append_assoc front header body) ∙ append_assoc front (header ++ body) nulls in
-    let image : part 112 (196 * (1 + n)) (front ++ header ++ body ++ nulls) ≡ header ++ body = ap (part 112 (196 * (1 + n))) grouped ∙ part_joined 112 (196 * (1 + n)) front (header ++ body) nulls long_front whole in
+    let image : part 112 (196 * (1 + n)) (front ++ header ++ body ++ nulls) ≡ header ++ body = ap (part 112 (196 * (1 + n))) grouped
+    ∙ part_joined 112 (196 * (1 + n)) front (header ++ body) nulls long_front whole in
     let count : 196 + 196 * n ≡ 196 * (1 + n) = omega arith in
     let bits : part 112 (196 * (1 + n)) bare ≡ received ++ joined_below n (block_bits bare)
     = sym (part_add 112 196 (196 * n) bare ∙ ap (λ k. part 112 k bare) count) ∙ ap (λ (xs : List Bool). received ++ xs) (sym (joined_below-parts 308 196 n bare)) in

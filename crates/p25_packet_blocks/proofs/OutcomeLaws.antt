@@ -16,14 +16,14 @@ use Rattle.p25_packet_blocks.specs.declared.block.Slot.{Slot}
 use Rattle.p25_packet_blocks.specs.declared.block.Slot.TheVariants.{Good, Bad}
 use Rattle.p25_packet_blocks.specs.declared.packet.Packet.{Packet}
 use Rattle.p25_packet_blocks.specs.declared.packet.Packet.TheVariants.{Confirmed, Plain}
-use Rattle.p25_packet_blocks.specs.Heads.{head_format, head_blocks}
+use Rattle.p25_packet_blocks.specs.Heads.{confirmed_format, head_format, head_blocks}
 use Rattle.p25_packet_blocks.specs.Kinds.{IsPlainFormat}
 use Rattle.p25_packet_blocks.specs.Whole.{IsWholePacket}
-use Rattle.p25_packet_blocks.specs.Fixes.{half_distance, packet_fixes_of}
+use Rattle.p25_packet_blocks.specs.Fixes.{half_distance, three_quarter_distance, packet_fixes_of}
 use Rattle.p25_packet_blocks.specs.Outcomes.{failing_slot, failing_slots_of, failing_blocks_of, body_distance, packet_failing, packet_outcome_of}
-use Rattle.p25_packet_blocks.specs.Reading.{header_bits, head_from, head_reading_of, counted_head, read_head_of, packet_of_head}
-use Rattle.p25_packet_blocks.proofs.ReadingLaws.{head_reading_of-is}
-use Rattle.p25_packet_blocks.proofs.FixesLaws.{body_distance-plain}
+use Rattle.p25_packet_blocks.specs.Reading.{header_bits, head_from, head_reading_of, counted_head, read_head_of, confirmed_by_parts, slots_read, packet_of_head}
+use Rattle.p25_packet_blocks.proofs.ReadingLaws.{head_reading_of-is, packet_of_head-confirmed}
+use Rattle.p25_packet_blocks.proofs.FixesLaws.{body_distance-confirmed, body_distance-plain}
 use Rattle.p25_packet_blocks.proofs.PacketFixesLaws.{packet_fixes-is}
 
 -- The header.
@@ -54,7 +54,8 @@ IfOk-few block (Ok read) is = read_head_of-few block read (sym is)
 IfOk-few block (Err field) is = tt
 
 -- what a block reads as, by the header that it holds
-pub read_head_of-good : (block : List Bool) (head : PacketHead) → head_from (half_octets block) ≡ Ok head → read_head_of block ≡ Ok (record { head = head; wrong = nearest_distance 4 half_point block })
+pub read_head_of-good : (block : List Bool) (head : PacketHead) → head_from (half_octets block) ≡ Ok head
+    → read_head_of block ≡ Ok (record { head = head; wrong = nearest_distance 4 half_point block })
 unfolding read_head_of counted_head
 read_head_of-good block head is = rw is refl
 
@@ -132,7 +133,18 @@ failing_blocks_of-none (Plain packet) whole = refl
 
 -- The wrong bits of the blocks, by the format.
 
-pub IfOk-plain : (read : ReadHead) (bare : List Bool) → IsPlainFormat (head_format read.head) → (reading : Result ℕ Field) → IfOk reading (λ wrong. wrong ≡ read.wrong + half_distance (head_blocks read.head) bare)
+pub confirmed-set : (head : PacketHead) (bare : List Bool) (slots : List Slot) (n : ℕ) → head_format head ≡ confirmed_format → n ≡ head_blocks head → slots ≡ slots_read n bare
+    → Ok (confirmed_by_parts head slots) ≡ packet_of_head head bare
+confirmed-set head bare slots n format counted read =
+    ap (λ (list : List Slot). Ok (confirmed_by_parts head list)) (read ∙ ap (λ k. slots_read k bare) counted) ∙ sym (packet_of_head-confirmed head bare format)
+
+pub confirmed-wrong : (head : PacketHead) (bare : List Bool) (first wrong n : ℕ) → head_format head ≡ confirmed_format → n ≡ head_blocks head → wrong ≡ three_quarter_distance n bare
+    → first + wrong ≡ first + body_distance head bare
+confirmed-wrong head bare first wrong n format counted is =
+    ap (λ k. first + k) (is ∙ ap (λ k. three_quarter_distance k bare) counted ∙ sym (body_distance-confirmed head bare format))
+
+pub IfOk-plain : (read : ReadHead) (bare : List Bool) → IsPlainFormat (head_format read.head) → (reading : Result ℕ Field)
+    → IfOk reading (λ wrong. wrong ≡ read.wrong + half_distance (head_blocks read.head) bare)
     → IfOk reading (λ wrong. wrong ≡ read.wrong + body_distance read.head bare)
 IfOk-plain read bare format (Ok wrong) counted = counted ∙ ap (λ n. read.wrong + n) (sym (body_distance-plain read.head bare format))
 IfOk-plain read bare format (Err field) counted = tt
@@ -164,7 +176,8 @@ IfOk-none packet field (Ok other) is = absurd (cc)
 IfOk-none packet field (Err other) is = tt
 
 -- where no field fails, the wrong bits are the packet's fixes
-pub packet_outcome-fixes : (read : ReadHead) (bare : List Bool) (packet : Packet) (wrong : ℕ) (fields : List Field) → read_head_of (header_bits bare) ≡ Ok read → 308 + 196 * head_blocks read.head ≤ length bare
+pub packet_outcome-fixes : (read : ReadHead) (bare : List Bool) (packet : Packet) (wrong : ℕ) (fields : List Field) → read_head_of (header_bits bare) ≡ Ok read
+    → 308 + 196 * head_blocks read.head ≤ length bare
     → Ok packet ≡ packet_of_head read.head bare → wrong ≡ read.wrong + body_distance read.head bare → failing_blocks_of packet ≡ fields
     → IfRead (outcome_of fields wrong) (λ count. (nac : ℕ) → count ≡ packet_fixes_of nac packet bare)
 unfolding outcome_of

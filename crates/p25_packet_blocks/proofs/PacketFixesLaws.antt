@@ -4,7 +4,7 @@ use Rattle.std.proofs.Common.{◌≡◌, ℕ, ◌+◌, ◌*◌, ◌<◌, ◌≤�
 use Rattle.p25_bits.specs.Distance.{distance_of}
 use Rattle.p25_unit_front.specs.Front.{unit_front}
 use Rattle.p25_unit_front.proofs.FrontLaws.{length-unit_front}
-use Rattle.p25_trellis.specs.Nearest.{half_octets, three_quarter_octets, half_block, three_quarter_block}
+use Rattle.p25_trellis.specs.Nearest.{nearest_distance, half_octets, three_quarter_octets, half_block, three_quarter_block}
 use Rattle.p25_trellis.specs.Tables.{half_point, three_quarter_point}
 use Rattle.p25_packet_blocks.specs.declared.head.PacketHead.{PacketHead}
 use Rattle.p25_packet_blocks.specs.declared.packet.Packet.{Packet}
@@ -16,8 +16,8 @@ use Rattle.p25_packet_blocks.specs.Whole.{packet_head, IsWholePacket}
 use Rattle.p25_packet_blocks.specs.WholeReading.{IsBlockRead, IsPacketRead}
 use Rattle.p25_packet_blocks.specs.Image.{header_octets, body_block, packet_nulls, packet_image_of}
 use Rattle.p25_packet_blocks.specs.Sendable.{IsSendable}
-use Rattle.p25_packet_blocks.specs.Reading.{block_bits, head_reading_of, packet_of_head}
-use Rattle.p25_packet_blocks.specs.Fixes.{head_distance, packet_fixes_of}
+use Rattle.p25_packet_blocks.specs.Reading.{header_bits, block_bits, head_reading_of, packet_of_head}
+use Rattle.p25_packet_blocks.specs.Fixes.{packet_fixes_of}
 use Rattle.p25_packet_blocks.specs.Outcomes.{body_distance}
 use Rattle.p25_packet_blocks.proofs.ReadingLaws.{packet_reading_of-good}
 use Rattle.p25_packet_blocks.proofs.ImageLaws.{body_block-confirmed, body_block-plain}
@@ -33,30 +33,32 @@ unfolding IsBlockRead
 plain_sent packet j bits read = body_block-plain packet j ∙ ap half_block (sym read)
 
 packet_fixes : (nac : ℕ) (packet : Packet) (bare : List Bool) → IsPacketRead packet bare → IsSendable packet → 308 + 196 * head_blocks (packet_head packet) ≤ length bare
-    → packet_fixes_of nac packet bare ≡ head_distance bare + body_distance (packet_head packet) bare
+    → packet_fixes_of nac packet bare ≡ nearest_distance 4 half_point (header_bits bare) + body_distance (packet_head packet) bare
 unfolding packet_fixes_of packet_image_of IsSendable
 packet_fixes nac (Confirmed packet) bare read sendable there =
     let n = head_blocks packet.head in
     let sent : (j : ℕ) → j < n → body_block (Confirmed packet) j ≡ three_quarter_block (three_quarter_octets (block_bits bare j))
     = λ j inside. confirmed_sent packet j (block_bits bare j) (read.blocks j inside) in
-    all_fixes 8 three_quarter_point n bare (unit_front nac 12) (packet_nulls n) (half_block (header_octets packet.head)) (body_block (Confirmed packet)) there (length-unit_front nac 12) (ap half_block (sym read.header))
+    all_fixes 8 three_quarter_point n bare (unit_front nac 12) (packet_nulls n) (half_block (header_octets packet.head)) (body_block (Confirmed packet)) there (length-unit_front nac 12)
+    (ap half_block (sym read.header))
     (λ j inside. ap length (sent j inside) ∙ length-three_quarter (block_bits bare j))
     (λ j inside. ap (distance_of (block_bits bare j)) (sent j inside) ∙ three_quarter_fixes (block_bits bare j))
-    ∙ ap (λ k. head_distance bare + k) (sym (body_distance-confirmed packet.head bare sendable.kind.format))
+    ∙ ap (λ k. nearest_distance 4 half_point (header_bits bare) + k) (sym (body_distance-confirmed packet.head bare sendable.kind.format))
 packet_fixes nac (Plain packet) bare read sendable there =
     let n = head_blocks packet.head in
     let sent : (j : ℕ) → j < n → body_block (Plain packet) j ≡ half_block (half_octets (block_bits bare j)) = λ j inside. plain_sent packet j (block_bits bare j) (read.blocks j inside) in
-    all_fixes 4 half_point n bare (unit_front nac 12) (packet_nulls n) (half_block (header_octets packet.head)) (body_block (Plain packet)) there (length-unit_front nac 12) (ap half_block (sym read.header))
+    all_fixes 4 half_point n bare (unit_front nac 12) (packet_nulls n) (half_block (header_octets packet.head)) (body_block (Plain packet)) there (length-unit_front nac 12)
+    (ap half_block (sym read.header))
     (λ j inside. ap length (sent j inside) ∙ length-half (block_bits bare j))
     (λ j inside. ap (distance_of (block_bits bare j)) (sent j inside) ∙ half_fixes (block_bits bare j))
-    ∙ ap (λ k. head_distance bare + k) (sym (body_distance-plain packet.head bare sendable.kind.format))
+    ∙ ap (λ k. nearest_distance 4 half_point (header_bits bare) + k) (sym (body_distance-plain packet.head bare sendable.kind.format))
 
 pub packet_fixes-is : (nac : ℕ) (head : PacketHead) (packet : Packet) (bare : List Bool) → head_reading_of bare ≡ Ok head → 308 + 196 * head_blocks head ≤ length bare
-    → packet_of_head head bare ≡ Ok packet → IsWholePacket packet → head_distance bare + body_distance head bare ≡ packet_fixes_of nac packet bare
+    → packet_of_head head bare ≡ Ok packet → IsWholePacket packet → nearest_distance 4 half_point (header_bits bare) + body_distance head bare ≡ packet_fixes_of nac packet bare
 packet_fixes-is nac head packet bare read there is whole =
     let of = IsWholeRead-reading bare packet (packet_reading_of-good bare head read ∙ is) whole in
     let two : Ok (packet_head packet) ≡ Ok head = sym of.head ∙ read in
     let same : packet_head packet ≡ head = cc in
     sym
     (packet_fixes nac packet bare of.read of.sendable (subst (λ (h : PacketHead). 308 + 196 * head_blocks h ≤ length bare) (sym same) there)
-    ∙ ap (λ (h : PacketHead). head_distance bare + body_distance h bare) same)
+    ∙ ap (λ (h : PacketHead). nearest_distance 4 half_point (header_bits bare) + body_distance h bare) same)

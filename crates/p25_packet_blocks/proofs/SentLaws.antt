@@ -95,8 +95,10 @@ module _ (half : HalfNear) (three_quarter : ThreeQuarterNear) (nac : ℕ) (packe
       ∙ ap head_from (head_within half three_quarter nac packet (bare_of received) sendable blocks) ∙ head_again head (IsSendable-head packet sendable) in
       let enough : packet_sent_length (head_blocks head) ≡ length received = omega (arith, long, counted) in
       let all : take (packet_sent_length (head_blocks head)) received ≡ received = take_all (packet_sent_length (head_blocks head)) received (omega (arith, enough)) in
-      packet_unit_of-good received (nac, 12) packet (has_sync-yes received (omega (arith, long, five)) near_sync) (identifier_of-near nac 12 received sending.nac_fits (omega arith) (omega (arith, long, five)) near_identifier) refl
-      (sent_packet_of-whole received head read (omega (arith, enough)) ∙ ap (λ (xs : List Bool). packet_of_head head (bare_of xs)) all ∙ body_within half three_quarter nac packet (bare_of received) sendable blocks)
+      packet_unit_of-good received (nac, 12) packet (has_sync-yes received (omega (arith, long, five)) near_sync)
+      (identifier_of-near nac 12 received sending.nac_fits (omega arith) (omega (arith, long, five)) near_identifier) refl
+      (sent_packet_of-whole received head read (omega (arith, enough)) ∙ ap (λ (xs : List Bool). packet_of_head head (bare_of xs)) all
+      ∙ body_within half three_quarter nac packet (bare_of received) sendable blocks)
 
   none_wrong : (bits : List Bool) (most : ℕ) → distance_of bits bits ≤ most
   none_wrong bits most = omega (arith, distance_of-same bits)

@@ -105,10 +105,12 @@ unfolding identified_packet_of
 identified sent nid some is duid =
     synced sent some ∙ ap (λ nid. identified_packet_of nid sent) is ∙ cond-true (eqb nid.1 12) (with_nac nid.0 (sent_packet_of sent)) (Err Duid) (eq-eqb _ _ duid)
 
-pub packet_unit_of-bad : (sent : List Bool) (nid : ℕ × ℕ) (field : Field) → has_sync sent ≡ true → identifier_of sent ≡ Some nid → nid.1 ≡ 12 → sent_packet_of sent ≡ Err field → packet_unit_of sent ≡ Err field
+pub packet_unit_of-bad : (sent : List Bool) (nid : ℕ × ℕ) (field : Field) → has_sync sent ≡ true → identifier_of sent ≡ Some nid → nid.1 ≡ 12 → sent_packet_of sent ≡ Err field
+    → packet_unit_of sent ≡ Err field
 unfolding with_nac
 packet_unit_of-bad sent nid field some is duid fails = identified sent nid some is duid ∙ ap (with_nac nid.0) fails
 
-pub packet_unit_of-good : (sent : List Bool) (nid : ℕ × ℕ) (packet : Packet) → has_sync sent ≡ true → identifier_of sent ≡ Some nid → nid.1 ≡ 12 → sent_packet_of sent ≡ Ok packet → packet_unit_of sent ≡ Ok (nid.0, packet)
+pub packet_unit_of-good : (sent : List Bool) (nid : ℕ × ℕ) (packet : Packet) → has_sync sent ≡ true → identifier_of sent ≡ Some nid → nid.1 ≡ 12 → sent_packet_of sent ≡ Ok packet
+    → packet_unit_of sent ≡ Ok (nid.0, packet)
 unfolding with_nac
 packet_unit_of-good sent nid packet some is duid reads = identified sent nid some is duid ∙ ap (with_nac nid.0) reads

@@ -55,18 +55,6 @@ impl Confirmed {
         self.head
     }
 
-    // Becomes the packet of a header and of the blocks to follow in its unit, and answers how many bits of the blocks were wrong.
-    fn read(&mut self, head: PacketHead, bare: &BitBuf) -> u32
-        requires format { head_format head ≡ confirmed_format }
-        requires there { 308 + 196 * head_blocks head ≤ length bare.now }
-        ensures parts { self.new ≡ record { head = head; slots = slots_read (head_blocks head) bare.now } }
-        ensures wrong { result ≡ three_quarter_distance (head_blocks head) bare.now }
-        ensures few { result ≤ 25088 }
-    {
-        self.head = head;
-        read_slots(bare, usize::from(head.blocks()), &mut self.slots)
-    }
-
     /// Answers the slots, in the order of sending.
     pub fn slots(&self) -> &Slots
         ensures value { result.now ≡ self.now.slots }
@@ -117,17 +105,6 @@ impl Plain {
         self.head
     }
 
-    // Becomes the packet of a header and its octets.
-    fn set(&mut self, head: PacketHead, octets: &[u8])
-        requires plain { IsPlain (record { head = head; octets = octets.now }) }
-        requires most { length octets.now ≤ 1520 }
-        ensures { self.new ≡ record { head = head; octets = octets.now } }
-    {
-        self.head = head;
-        self.octets.clear();
-        self.octets.extend(octets);
-    }
-
     /// Answers the octets before the packet CRC, in order.
     pub fn octets(&self) -> &Octets
         ensures value { result.now ≡ self.now.octets }
@@ -172,7 +149,7 @@ impl Packet {
     }
 
     // Becomes the packet of a header that was read and of its unit, and answers how many bits were wrong, or for which field there is
-    // no packet: Format or PacketCrc.
+    // no packet: Format or PacketCrc. Where it was such a packet, no room is moved.
     pub(crate) fn read_blocks(&mut self, read: ReadHead, bare: &BitBuf) -> Result<u32, Field>
         requires few { read.wrong ≤ 196 }
         requires there { 308 + 196 * head_blocks read.head ≤ length bare.now }
@@ -180,29 +157,23 @@ impl Packet {
         ensures wrong { IfOk result (λ wrong. wrong ≡ read.wrong + body_distance read.head bare.now) }
     {
         match read.head.format() {
-            CONFIRMED_FORMAT => Ok(read.wrong + self.read_confirmed(read.head, bare)),
+            CONFIRMED_FORMAT => {
+                let blocks = usize::from(read.head.blocks());
+                match self {
+                    Packet::Confirmed(held) => {
+                        held.head = read.head;
+                        Ok(read.wrong + read_slots(bare, blocks, &mut held.slots))
+                    }
+                    Packet::Plain(_) => {
+                        let mut slots = Slots::new();
+                        let wrong = read_slots(bare, blocks, &mut slots);
+                        *self = Packet::Confirmed(Confirmed::new(read.head, slots));
+                        Ok(read.wrong + wrong)
+                    }
+                }
+            }
             PLAIN_FORMAT | RESPONSE_FORMAT => self.read_plain(read, bare),
             _ => Err(Field::Format),
-        }
-    }
-
-    // Becomes the confirmed packet of a header and of the blocks to follow in its unit, and answers how many bits of the blocks were
-    // wrong. Where it was one, no room is moved.
-    fn read_confirmed(&mut self, head: PacketHead, bare: &BitBuf) -> u32
-        requires format { head_format head ≡ confirmed_format }
-        requires there { 308 + 196 * head_blocks head ≤ length bare.now }
-        ensures packet { self.new ≡ confirmed_by_parts head (slots_read (head_blocks head) bare.now) }
-        ensures wrong { result ≡ three_quarter_distance (head_blocks head) bare.now }
-        ensures few { result ≤ 25088 }
-    {
-        match self {
-            Packet::Confirmed(held) => held.read(head, bare),
-            Packet::Plain(_) => {
-                let mut slots = Slots::new();
-                let wrong = read_slots(bare, usize::from(head.blocks()), &mut slots);
-                *self = Packet::Confirmed(Confirmed::new(head, slots));
-                wrong
-            }
         }
     }
 
@@ -235,7 +206,11 @@ impl Packet {
         ensures { self.new ≡ plain_by_parts head octets.now }
     {
         match self {
-            Packet::Plain(held) => held.set(head, octets),
+            Packet::Plain(held) => {
+                held.head = head;
+                held.octets.clear();
+                held.octets.extend(octets);
+            }
             Packet::Confirmed(_) => {
                 let mut carried = Octets::new();
                 carried.extend(octets);

@@ -19,13 +19,15 @@ identifier_read : (read : Option Nid) (bits : List Bool) → 114 ≤ length bits
 identifier_read None bits long is = tt
 identifier_read (Some nid) bits long is = (long, sym is)
 
-pub IsBegun-read : (before begun : Begun) (bits : List Bool) → IsBegun before bits → begun.head ≡ before.head → 114 ≤ length bits → option_map (λ nid. (nid.nac, nid.duid)) begun.nid ≡ identifier_of bits
+pub IsBegun-read : (before begun : Begun) (bits : List Bool) → IsBegun before bits → begun.head ≡ before.head → 114 ≤ length bits
+    → option_map (λ nid. (nid.nac, nid.duid)) begun.nid ≡ identifier_of bits
     → IsBegun begun bits
 unfolding IsBegun
 IsBegun-read before begun bits was same long is = (identifier_read begun.nid bits long is, subst (λ (head : Option ReadHead). IsHeader head bits) (sym same) was.1)
 
 -- a header
-pub IsBegun-headed : (before begun : Begun) (bits : List Bool) (read : ReadHead) → IsBegun before bits → begun.nid ≡ before.nid → begun.head ≡ Some read → 316 ≤ length bits → Ok read ≡ sent_read_of bits → IsBegun begun bits
+pub IsBegun-headed : (before begun : Begun) (bits : List Bool) (read : ReadHead) → IsBegun before bits → begun.nid ≡ before.nid → begun.head ≡ Some read → 316 ≤ length bits
+    → Ok read ≡ sent_read_of bits → IsBegun begun bits
 unfolding IsBegun
 IsBegun-headed before begun bits read was same is long reads =
     (subst (λ (nid : Option Nid). IsIdentifier nid bits) (sym same) was.0, subst (λ (h : Option ReadHead). IsHeader h bits) (sym is) (long, sym reads))

@@ -47,7 +47,8 @@ unfolding outcome_of
 outcome_body packet other [] wrong same = ap (λ p. Ok (Packet p)) same
 outcome_body packet other (field ∷ fields) wrong same = refl
 
-outcome_reading : (packet : packet_type) (reading : Result packet_type Field) (wrong : ℕ) → IfOk reading (λ other. packet ≡ other) → read_or (outcome_of (packet_failing reading) wrong) (Packet packet) ≡ packet_body_from reading
+outcome_reading : (packet : packet_type) (reading : Result packet_type Field) (wrong : ℕ) → IfOk reading (λ other. packet ≡ other)
+    → read_or (outcome_of (packet_failing reading) wrong) (Packet packet) ≡ packet_body_from reading
 unfolding packet_failing outcome_of packet_body_from
 outcome_reading packet (Err field) wrong same = refl
 outcome_reading packet (Ok other) wrong same = outcome_body packet other (failing_blocks_of other) wrong same
@@ -61,7 +62,8 @@ packet_body-is read bare packet outcome head is same =
     ∙ ap packet_body_from (sym (packet_reading_of-good bare read.head (head_reading_of-read bare read head)))
 
 -- its wrong bits are those of what the unit carries
-pub packet_wrong-is : (bare : List Bool) (packet : packet_type) (unit : UnitParts) (outcome : Outcome) → unit.body ≡ Packet packet → IfRead outcome (λ wrong. (nac : ℕ) → wrong ≡ packet_fixes_of nac packet bare)
+pub packet_wrong-is : (bare : List Bool) (packet : packet_type) (unit : UnitParts) (outcome : Outcome) → unit.body ≡ Packet packet
+    → IfRead outcome (λ wrong. (nac : ℕ) → wrong ≡ packet_fixes_of nac packet bare)
     → IfRead outcome (λ wrong. wrong ≡ body_fixes_of unit bare)
 unfolding packet_fixes_of
 packet_wrong-is bare packet unit (Failing fields) is counted = tt
@@ -70,7 +72,8 @@ packet_wrong-is bare packet unit (Read wrong) is counted =
     counted unit.nac ∙ sym (body_fixes_of-packet unit.nac packet bare) ∙ ap (λ b. body_fixes_of (make b) bare) (sym is)
 
 -- they are at most all bits
-pub packet_wrong-le : (bare : List Bool) (packet : packet_type) (outcome : Outcome) → IfRead outcome (λ wrong. (nac : ℕ) → wrong ≡ packet_fixes_of nac packet bare) → IfRead outcome (λ wrong. wrong ≤ length bare)
+pub packet_wrong-le : (bare : List Bool) (packet : packet_type) (outcome : Outcome) → IfRead outcome (λ wrong. (nac : ℕ) → wrong ≡ packet_fixes_of nac packet bare)
+    → IfRead outcome (λ wrong. wrong ≤ length bare)
 unfolding packet_fixes_of
 packet_wrong-le bare packet (Failing fields) counted = tt
 packet_wrong-le bare packet (Read wrong) counted =

@@ -77,7 +77,8 @@ IsCountAt-kind duid bits at count inside e =
     record { there = omega (arith, bounds.3, length-drop at bits); whole = whole; most = bounds.1; enough = omega (arith, some, whole) }
 
 -- an identifier that was read is that one
-pub same_nid : (bits : List Bool) (at count : ℕ) (is : IsUnitAt bits at count) (nid : Identifier) → option_map (λ (n : Identifier). (n.nac, n.duid)) (Some nid) ≡ identifier_of (drop at bits) → (nid.nac, nid.duid) ≡ is.nid
+pub same_nid : (bits : List Bool) (at count : ℕ) (is : IsUnitAt bits at count) (nid : Identifier) → option_map (λ (n : Identifier). (n.nac, n.duid)) (Some nid) ≡ identifier_of (drop at bits)
+    → (nid.nac, nid.duid) ≡ is.nid
 same_nid bits at count is nid e = let two : Some (nid.nac, nid.duid) ≡ Some is.nid = e ∙ is.read in cc
 
 pub some_nid : (bits : List Bool) (at count : ℕ) → IsUnitAt bits at count → option_map (λ (n : Identifier). (n.nac, n.duid)) None ≡ identifier_of (drop at bits) → ⊥
@@ -87,7 +88,8 @@ some_nid bits at count is e = let two : option_map (λ (n : Identifier). (n.nac,
 pub reading_of_unit : (bits : List Bool) (at count : ℕ) (is : IsUnitAt bits at count) → unit_reading_of (part at count bits) ≡ reading_from (Some is.nid) (part at count bits)
 reading_of_unit bits at count is = unit_reading_of-read (part at count bits) (Some is.nid) is.sent
 
-pub item_of_unit : (bits : List Bool) (at count place : ℕ) (is : IsUnitAt bits at count) → unit_item_of place (part at count bits) ≡ item_from place is.nid (part at count bits) (reading_from (Some is.nid) (part at count bits))
+pub item_of_unit : (bits : List Bool) (at count place : ℕ) (is : IsUnitAt bits at count) → unit_item_of place (part at count bits) ≡ item_from place is.nid (part at count bits)
+    (reading_from (Some is.nid) (part at count bits))
 item_of_unit bits at count place is = unit_item_of-some place (part at count bits) is.nid (reading_from (Some is.nid) (part at count bits)) is.sent refl
 
 -- the item by an identifier that was read
@@ -168,7 +170,8 @@ need-short bits at short = sym (need_of-short (drop at bits) (omega (arith, leng
 pub need-cut : (bits : List Bool) (at : ℕ) → length bits - at < 114 → More 114 ≡ synced_need (drop at bits)
 need-cut bits at short = sym (synced_need-short (drop at bits) (omega (arith, length-drop at bits)))
 
-pub need-none : (bits : List Bool) (at : ℕ) → at ≤ length bits → 114 ≤ length bits - at → option_map (λ (n : Identifier). (n.nac, n.duid)) None ≡ identifier_of (drop at bits) → NoLength Nid ≡ synced_need (drop at bits)
+pub need-none : (bits : List Bool) (at : ℕ) → at ≤ length bits → 114 ≤ length bits - at → option_map (λ (n : Identifier). (n.nac, n.duid)) None ≡ identifier_of (drop at bits)
+    → NoLength Nid ≡ synced_need (drop at bits)
 need-none bits at inside long read =
     sym (synced_need-read (drop at bits) None (omega (arith, length-drop at bits)) (sym read) ∙ identified_need-none (drop at bits))
 
@@ -180,7 +183,8 @@ need-some bits at nid inside long read =
 -- a place has a sync or none
 pub need-unsynced : (bits : List Bool) (at : ℕ) → at ≤ length bits → 48 ≤ length bits - at → (distance_of (part at 48 bits) sync_bits ≤ sync_slack → ⊥) → NoSync ≡ need_of (drop at bits)
 need-unsynced bits at inside long far =
-    sym (need_of-unsynced (drop at bits) (omega (arith, length-drop at bits)) (has_sync-no (drop at bits) (elim (cases_lt sync_slack (distance_of (part at 48 bits) sync_bits)) [ inl more ↦ more | inr few ↦ absurd (far few) ])))
+    sym (need_of-unsynced (drop at bits) (omega (arith, length-drop at bits))
+    (has_sync-no (drop at bits) (elim (cases_lt sync_slack (distance_of (part at 48 bits) sync_bits)) [ inl more ↦ more | inr few ↦ absurd (far few) ])))
 
 pub need-synced : (bits : List Bool) (at : ℕ) → at ≤ length bits → 48 ≤ length bits - at → distance_of (part at 48 bits) sync_bits ≤ sync_slack → synced_need (drop at bits) ≡ need_of (drop at bits)
 need-synced bits at inside long near = sym (need_of-synced (drop at bits) (has_sync-yes (drop at bits) (omega (arith, length-drop at bits)) near))

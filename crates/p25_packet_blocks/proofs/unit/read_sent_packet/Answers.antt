@@ -20,7 +20,8 @@ returns-then-len c =
     let short : length c.args.bits.now < packet_sent_length (head_blocks read.head) = omega (arith, c.len.ensures.value, c.packet_length-len.ensures.value, c.if-len.true) in
     sym (sent_packet_of-short c.args.bits.now read.head (sent_head_of-read c.args.bits.now read (sym c.in_ok-read.ensures.read)) short)
 
-whole : (read : ReadHead) (sent bare : List Bool) (count : ℕ) → sent_read_of sent ≡ Ok read → count ≡ packet_sent_length (head_blocks read.head) → count ≤ length sent → bare ≡ bare_of (take count sent)
+whole : (read : ReadHead) (sent bare : List Bool) (count : ℕ) → sent_read_of sent ≡ Ok read → count ≡ packet_sent_length (head_blocks read.head) → count ≤ length sent
+    → bare ≡ bare_of (take count sent)
     → packet_of_head read.head bare ≡ sent_packet_of sent
 whole read sent bare count is counted fits cut =
     ap (packet_of_head read.head) (cut ∙ ap (λ n. bare_of (take n sent)) counted)
@@ -32,9 +33,11 @@ returns-in_err-read_blocks c =
     p.1
     ∙ ap Err p.2
     ∙ c.in_err-read_blocks.ensures.packet
-    ∙ whole c.in_ok-read.read c.args.bits.now c.unweave.new.out c.packet_length-len.result (sym c.in_ok-read.ensures.read) c.packet_length-len.ensures.value (omega (arith, c.len.ensures.value, c.if-len.false)) c.unweave.ensures.bare
+    ∙ whole c.in_ok-read.read c.args.bits.now c.unweave.new.out c.packet_length-len.result (sym c.in_ok-read.ensures.read) c.packet_length-len.ensures.value
+    (omega (arith, c.len.ensures.value, c.if-len.false)) c.unweave.ensures.bare
 
 pub returns : goal.returns
 returns c =
     c.in_ok-read_blocks.ensures.packet
-    ∙ whole c.in_ok-read.read c.args.bits.now c.unweave.new.out c.packet_length-len.result (sym c.in_ok-read.ensures.read) c.packet_length-len.ensures.value (omega (arith, c.len.ensures.value, c.if-len.false)) c.unweave.ensures.bare
+    ∙ whole c.in_ok-read.read c.args.bits.now c.unweave.new.out c.packet_length-len.result (sym c.in_ok-read.ensures.read) c.packet_length-len.ensures.value
+    (omega (arith, c.len.ensures.value, c.if-len.false)) c.unweave.ensures.bare

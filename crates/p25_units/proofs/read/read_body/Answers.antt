@@ -41,7 +41,9 @@ pub read_head-requires-clause-there : goal.read_head-requires-clause-there
 read_head-requires-clause-there c = (packet_at c.args.nid.now.duid c.args.bits.now c.args.at c.args.count c.if-nid-ne-PDU.false c.requires.there c.requires.kind).there
 
 pub read_packet-requires-clause-head : goal.read_packet-requires-clause-head
-read_packet-requires-clause-head c = ap (λ (xs : List Bool). read_head_of (header_bits xs)) c.requires.bare ∙ sym (c.in-Ok.ensures.value ∙ (packet_at c.args.nid.now.duid c.args.bits.now c.args.at c.args.count c.if-nid-ne-PDU.false c.requires.there c.requires.kind).head)
+read_packet-requires-clause-head c =
+    ap (λ (xs : List Bool). read_head_of (header_bits xs)) c.requires.bare
+    ∙ sym (c.in-Ok.ensures.value ∙ (packet_at c.args.nid.now.duid c.args.bits.now c.args.at c.args.count c.if-nid-ne-PDU.false c.requires.there c.requires.kind).head)
 
 pub unreachable-requires : goal.unreachable-requires
 unreachable-requires c = (packet_at c.args.nid.now.duid c.args.bits.now c.args.at c.args.count c.if-nid-ne-PDU.false c.requires.there c.requires.kind).some _ (sym c.in-Err.ensures.value)

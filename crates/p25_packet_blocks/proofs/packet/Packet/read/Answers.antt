@@ -32,4 +32,5 @@ pub returns-in-Ok-clause-wrong : goal.returns-in-Ok-clause-wrong
 returns-in-Ok-clause-wrong c =
     let packet = c.read_blocks.new.self in
     subst (λ (outcome : Outcome). IfRead outcome (λ wrong. (nac : ℕ) → wrong ≡ packet_fixes_of nac packet c.args.bare.now)) (sym c.of.ensures)
-    (packet_outcome-fixes c.args.read c.args.bare.now packet c.in-Ok.wrong c.failing_blocks.result c.requires.head c.requires.there c.in-Ok.ensures.packet c.in-Ok.ensures.wrong (sym c.failing_blocks.ensures))
+    (packet_outcome-fixes c.args.read c.args.bare.now packet c.in-Ok.wrong c.failing_blocks.result c.requires.head c.requires.there c.in-Ok.ensures.packet c.in-Ok.ensures.wrong
+    (sym c.failing_blocks.ensures))

@@ -1,18 +1,32 @@
-use Rattle.std.proofs.Common.{◌≢◌, ◌+◌, Ok, ap, sym, ◌∙◌, arith, inl, inr}
+use Rattle.std.proofs.Common.{◌≢◌, Ok, ap, sym, ◌∙◌, arith, inl, inr}
+use Rattle.p25_packet_blocks.specs.ConfirmedParts.{ConfirmedParts}
+use Rattle.p25_packet_blocks.specs.declared.packet.Packet.TheVariants.{Confirmed}
 use Rattle.p25_packet_blocks.specs.Heads.{confirmed_format, plain_format, response_format, head_format}
 use Rattle.p25_packet_blocks.specs.Kinds.{IsPlainFormat}
-use Rattle.p25_packet_blocks.proofs.FixesLaws.{body_distance-confirmed}
-use Rattle.p25_packet_blocks.proofs.OutcomeLaws.{IfOk-plain}
-use Rattle.p25_packet_blocks.proofs.ReadingLaws.{packet_of_head-confirmed, packet_of_head-plain, packet_of_head-other}
+use Rattle.p25_packet_blocks.proofs.OutcomeLaws.{IfOk-plain, confirmed-set, confirmed-wrong}
+use Rattle.p25_packet_blocks.proofs.ReadingLaws.{packet_of_head-plain, packet_of_head-other}
 use Rattle.p25_packet_blocks.proofs.packet.Packet.read_blocks.Goals as goal
 
-pub returns-in-22-clause-packet : goal.returns-in-22-clause-packet
-returns-in-22-clause-packet c =
-    ap Ok c.read_confirmed.ensures.packet ∙ sym (packet_of_head-confirmed c.args.read.head c.args.bare.now (sym c.format.ensures.value ∙ c.in-22.is))
+pub returns-in-Confirmed-clause-packet : goal.returns-in-Confirmed-clause-packet
+returns-in-Confirmed-clause-packet c =
+    confirmed-set c.args.read.head c.args.bare.now c.read_slots.new.slots c.from-blocks.result (sym c.format.ensures.value ∙ c.in-22.is)
+    (c.from-blocks.ensures ∙ c.blocks-in-22.ensures.value) c.read_slots.ensures.list
 
-pub returns-in-22-clause-wrong : goal.returns-in-22-clause-wrong
-returns-in-22-clause-wrong c =
-    ap (λ n. c.args.read.wrong + n) (c.read_confirmed.ensures.wrong ∙ sym (body_distance-confirmed c.args.read.head c.args.bare.now (sym c.format.ensures.value ∙ c.in-22.is)))
+pub returns-in-Confirmed-clause-wrong : goal.returns-in-Confirmed-clause-wrong
+returns-in-Confirmed-clause-wrong c =
+    confirmed-wrong c.args.read.head c.args.bare.now c.args.read.wrong c.read_slots.result c.from-blocks.result (sym c.format.ensures.value ∙ c.in-22.is)
+    (c.from-blocks.ensures ∙ c.blocks-in-22.ensures.value) c.read_slots.ensures.wrong
+
+pub returns-in-Plain-clause-packet : goal.returns-in-Plain-clause-packet
+returns-in-Plain-clause-packet c =
+    ap (λ (parts : ConfirmedParts). Ok (Confirmed parts)) c.new.ensures
+    ∙ confirmed-set c.args.read.head c.args.bare.now c.read_slots-wrong.new.slots c.from-blocks.result (sym c.format.ensures.value ∙ c.in-22.is)
+    (c.from-blocks.ensures ∙ c.blocks-in-22.ensures.value) c.read_slots-wrong.ensures.list
+
+pub returns-in-Plain-clause-wrong : goal.returns-in-Plain-clause-wrong
+returns-in-Plain-clause-wrong c =
+    confirmed-wrong c.args.read.head c.args.bare.now c.args.read.wrong c.read_slots-wrong.result c.from-blocks.result (sym c.format.ensures.value ∙ c.in-22.is)
+    (c.from-blocks.ensures ∙ c.blocks-in-22.ensures.value) c.read_slots-wrong.ensures.wrong
 
 pub returns-in-21-clause-packet : goal.returns-in-21-clause-packet
 returns-in-21-clause-packet c =

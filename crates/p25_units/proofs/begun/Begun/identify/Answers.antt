@@ -6,4 +6,5 @@ pub returns-in-Some-clause-value : goal.returns-in-Some-clause-value
 returns-in-Some-clause-value c = begun-known c.args.self.now (drop c.args.at c.args.bits.now) c.in-Some.nid c.requires.begun c.in-Some.is
 
 pub returns-in-None-clause-begun : goal.returns-in-None-clause-begun
-returns-in-None-clause-begun c = IsBegun-read c.args.self.now _ (drop c.args.at c.args.bits.now) c.requires.begun refl (omega (arith, length-drop c.args.at c.args.bits.now)) c.read_identifier-read.ensures
+returns-in-None-clause-begun c =
+    IsBegun-read c.args.self.now _ (drop c.args.at c.args.bits.now) c.requires.begun refl (omega (arith, length-drop c.args.at c.args.bits.now)) c.read_identifier-read.ensures
