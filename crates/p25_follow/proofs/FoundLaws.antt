@@ -120,7 +120,7 @@ found-by : (place : ℕ) (nid : ℕ × ℕ) (sent : List Bool) (reading : Result
 found-by place nid sent (Ok body) is = record { name_is = ap (λ (d : ℕ). Some (named nid.0 d)) (IsBodyOf-reading nid.1 (bare_of sent) body is).duid_is; unit = refl }
 found-by place nid sent (Err fields) is = record { name_is = refl; unit = refl }
 
-found-unit : (place : ℕ) (nid : ℕ × ℕ) (sent : List Bool) → identifier_of sent ≡ Some nid → IsFoundAs nid (length sent) (unit_item_of place sent)
+pub found-unit : (place : ℕ) (nid : ℕ × ℕ) (sent : List Bool) → identifier_of sent ≡ Some nid → IsFoundAs nid (length sent) (unit_item_of place sent)
 found-unit place nid sent reads =
     subst (IsFoundAs nid (length sent)) (sym (unit_item_of-some place sent nid (frame_from nid.0 (statuses_of sent) (body_reading_of nid.1 (bare_of sent))) reads (reading_from-some nid sent)))
     (found-by place nid sent (body_reading_of nid.1 (bare_of sent)) refl)

@@ -10,3 +10,5 @@ pub mod LengthLaws
 pub mod TellsLaws
 pub mod FoundLaws
 pub mod UnchangedLaws
+pub mod SameUnitsLaws
+pub mod PlaceLaws

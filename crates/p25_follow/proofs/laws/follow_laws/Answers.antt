@@ -7,6 +7,8 @@ use Rattle.p25_follow.proofs.KindLaws.{IsKind, expected-kinds, is_expected-all}
 use Rattle.p25_follow.proofs.LengthLaws.{length-follow_of}
 use Rattle.p25_follow.proofs.StepLaws.{step_of-append, step_of-there}
 use Rattle.p25_follow.proofs.TellsLaws.{step-near, step-reads}
+use Rattle.p25_follow.proofs.PlaceLaws.{place-few}
+use Rattle.p25_follow.proofs.SameUnitsLaws.{same-units}
 use Rattle.p25_follow.proofs.UnchangedLaws.{follow-untouched, rest-stays, symbol-stays}
 use Rattle.p25_follow.proofs.laws.follow_laws.Goals as goal
 
@@ -47,6 +49,12 @@ returns-clause-found c =
     λ place nac kind bits more nac_fits few kind_fits long.
     let is = written-found place nac kind bits more nac_fits few kind_fits long in
     (is.name_is, is.covers, is.decided)
+
+pub returns-clause-place : goal.returns-clause-place
+returns-clause-place c = place-few
+
+pub returns-clause-same : goal.returns-clause-same
+returns-clause-same c = same-units
 
 pub returns-clause-settled : goal.returns-clause-settled
 returns-clause-settled c = chain-settles
