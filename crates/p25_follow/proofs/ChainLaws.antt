@@ -1,13 +1,13 @@
 -- A chain a step at a time, and what is settled of it: that comes first, and what is left is written after it, whatever bits come. By induction on the bits, which each step makes fewer.
-use Rattle.std.proofs.Common.{◌≡◌, ℕ, zero, suc, ◌+◌, ◌-◌, ◌<◌, ◌≤◌, Bool, true, false, cond, not, ◌&&◌, ◌||◌, inl, inr, List, [], ◌∷◌, ◌++◌, length, take, drop, Option, Some, None, refl, sym, ap, ap₂, subst, ◌∙◌, arith, append_assoc, append-nil, length-append, length-drop}
-use Rattle.std.specs.Prelude.{nat_eq, nat_le, nat_lt}
-use Rattle.std.proofs.lemmas.Bool.{cases_Bool, cases_lt, cond-false, cond-true, le-leb, lt-leb, or_right}
+use Rattle.std.proofs.Common.{◌≡◌, ℕ, zero, suc, ◌<◌, ◌≤◌, Bool, true, false, cond, ◌||◌, inl, inr, List, [], ◌∷◌, ◌++◌, length, take, drop, Option, Some, None, refl, sym, ap, ap₂, ◌∙◌, arith, append_assoc, length-append, length-drop}
+use Rattle.std.specs.Prelude.{nat_le}
+use Rattle.std.proofs.lemmas.Bool.{cases_lt, cond-false, cond-true, le-leb, lt-leb, or_right}
 use Rattle.std.proofs.lemmas.List.{drop-append-le, take-append-le}
 use Rattle.p25_follow.specs.Chains.{chain_by, chain_in, settled_of, with_front, written_step}
 use Rattle.p25_follow.specs.Expected.{kind_length}
-use Rattle.p25_follow.specs.Following.{Follow, follow, fresh_follow, left_in, left_of, left_step}
+use Rattle.p25_follow.specs.Following.{Follow, follow, left_in, left_of, left_step}
 use Rattle.p25_follow.specs.Steps.{step_of}
-use Rattle.p25_follow.proofs.StepLaws.{IsStep, step_of-append, step_of-nil, step_of-there}
+use Rattle.p25_follow.proofs.StepLaws.{step_of-append, step_of-nil, step_of-there}
 
 -- ---- with turns enough for every bit it does not matter how many there are
 
@@ -35,11 +35,13 @@ unfolding chain_in
 chain_in-none more turns whole bits end = refl
 
 chain_in-suc : (turns : ℕ) (whole : Bool) (before : ℕ × ℕ) (bits : List Bool) (end : Option (ℕ × ℕ))
-    → chain_in (suc turns) whole (Some before) bits end ≡ cond (whole || nat_le 6912 (length bits)) (written_step (λ name left. chain_in turns whole (Some name) left end) before bits (step_of before bits end)) []
+    → chain_in (suc turns) whole (Some before) bits end
+    ≡ cond (whole || nat_le 6912 (length bits)) (written_step (λ name left. chain_in turns whole (Some name) left end) before bits (step_of before bits end)) []
 unfolding chain_in
 chain_in-suc turns whole before bits end = refl
 
-none-left : (whole : Bool) (end : Option (ℕ × ℕ)) (before : ℕ × ℕ) → cond (whole || nat_le 6912 0) (written_step (λ (name : ℕ × ℕ) (left : List Bool). chain_by whole (Some name) left end) before [] None) [] ≡ []
+none-left : (whole : Bool) (end : Option (ℕ × ℕ)) (before : ℕ × ℕ)
+    → cond (whole || nat_le 6912 0) (written_step (λ (name : ℕ × ℕ) (left : List Bool). chain_by whole (Some name) left end) before [] None) [] ≡ []
 unfolding written_step
 none-left whole end before = same-both (whole || nat_le 6912 0)
 
@@ -122,8 +124,13 @@ left_step-same f g before bits (Some kind) same = same kind refl
 left_in-enough : (more turns : ℕ) (before : ℕ × ℕ) (bits : List Bool) → length bits ≤ more → length bits ≤ turns → left_in more (Some before) bits ≡ left_in turns (Some before) bits
 unfolding left_in
 left_in-enough zero zero before bits a b = refl
-left_in-enough zero (suc turns) before bits a b = sym (cond-false (nat_le 6912 (length bits)) (left_step (λ name left. left_in turns (Some name) left) before bits (step_of before bits None)) (follow (Some before) bits) (lt-leb 6912 (length bits) (omega arith)))
-left_in-enough (suc more) zero before bits a b = cond-false (nat_le 6912 (length bits)) (left_step (λ name left. left_in more (Some name) left) before bits (step_of before bits None)) (follow (Some before) bits) (lt-leb 6912 (length bits) (omega arith))
+left_in-enough zero (suc turns) before bits a b =
+    sym
+    (cond-false (nat_le 6912 (length bits)) (left_step (λ name left. left_in turns (Some name) left) before bits (step_of before bits None)) (follow (Some before) bits)
+    (lt-leb 6912 (length bits) (omega arith)))
+left_in-enough (suc more) zero before bits a b =
+    cond-false (nat_le 6912 (length bits)) (left_step (λ name left. left_in more (Some name) left) before bits (step_of before bits None)) (follow (Some before) bits)
+    (lt-leb 6912 (length bits) (omega arith))
 left_in-enough (suc more) (suc turns) before bits a b =
     ap (λ (kept : Follow). cond (nat_le 6912 (length bits)) kept (follow (Some before) bits))
     (left_step-same (λ name left. left_in more (Some name) left) (λ name left. left_in turns (Some name) left) before bits (step_of before bits None)
@@ -183,12 +190,14 @@ settles-long : (n : ℕ) (whole : Bool) (before : ℕ × ℕ) (bits more : List 
     → ((name : ℕ × ℕ) (left : List Bool) → length left ≤ n → Settles whole (Some name) left more end) → Settles whole (Some before) bits more end
 settles-long n whole before bits more end long few None is later =
     let goes : nat_le 6912 (length bits) ≡ true = le-leb 6912 (length bits) long in
-    let goes_on : (whole || nat_le 6912 (length (bits ++ more))) ≡ true = or_right whole (nat_le 6912 (length (bits ++ more))) (le-leb 6912 (length (bits ++ more)) (omega (arith, length-append bits more))) in
+    let goes_on : (whole || nat_le 6912 (length (bits ++ more))) ≡ true
+    = or_right whole (nat_le 6912 (length (bits ++ more))) (le-leb 6912 (length (bits ++ more)) (omega (arith, length-append bits more))) in
     settles-as whole (Some before) bits more end bits (follow None []) (chain_by-stop false before bits None goes is) (left_of-stop before bits long is)
     (chain_by-stop whole before (bits ++ more) end goes_on (step_of-append before bits more end None long ∙ is) ∙ ap (λ (rest : List Bool). bits ++ rest) (sym (chain_by-none whole more end)))
 settles-long n whole before bits more end long few (Some kind) is later =
     let goes : nat_le 6912 (length bits) ≡ true = le-leb 6912 (length bits) long in
-    let goes_on : (whole || nat_le 6912 (length (bits ++ more))) ≡ true = or_right whole (nat_le 6912 (length (bits ++ more))) (le-leb 6912 (length (bits ++ more)) (omega (arith, length-append bits more))) in
+    let goes_on : (whole || nat_le 6912 (length (bits ++ more))) ≡ true
+    = or_right whole (nat_le 6912 (length (bits ++ more))) (le-leb 6912 (length (bits ++ more)) (omega (arith, length-append bits more))) in
     let there = step_of-there before bits None kind is in
     let name : ℕ × ℕ = (before.0, kind) in
     let count = kind_length kind in

@@ -29,7 +29,8 @@ module _ (kept : Follow) (item : Item) (raw : List Bool) (before : Option (ℕ �
       ∙ ap (λ (k : Follow). left_of k.before (k.stretch ++ raw)) is_kept
       ∙ sym (cond-true (is_rest item) (left_of kept.before (kept.stretch ++ raw)) (follow (unit_name item) []) rest)
 
-  pub unit-out : (name : Option (ℕ × ℕ)) (cleared out : List Bool) → is_rest item ≡ false → name ≡ unit_name item → cleared ≡ [] → out ≡ cleared ++ chain_by true before stretch name → out ≡ written_before kept item raw
+  pub unit-out : (name : Option (ℕ × ℕ)) (cleared out : List Bool) → is_rest item ≡ false → name ≡ unit_name item → cleared ≡ []
+      → out ≡ cleared ++ chain_by true before stretch name → out ≡ written_before kept item raw
   unfolding written_before
   unit-out name cleared out unit is_name none is =
       is
@@ -42,7 +43,8 @@ module _ (kept : Follow) (item : Item) (raw : List Bool) (before : Option (ℕ �
   unit-behind name bits unit is_name none =
       ap₂ follow is_name none ∙ sym (cond-false (is_rest item) (left_of kept.before (kept.stretch ++ raw)) (follow (unit_name item) []) unit)
 
-pub end-out : (kept : Follow) (before : Option (ℕ × ℕ)) (stretch held cleared out : List Bool) → follow before stretch ≡ kept → held ≡ [] ++ stretch → cleared ≡ [] → out ≡ cleared ++ chain_by true before held None
+pub end-out : (kept : Follow) (before : Option (ℕ × ℕ)) (stretch held cleared out : List Bool) → follow before stretch ≡ kept → held ≡ [] ++ stretch → cleared ≡ []
+    → out ≡ cleared ++ chain_by true before held None
     → out ≡ written_end kept
 unfolding written_end
 end-out kept before stretch held cleared out is_kept is_held none is =

@@ -1,5 +1,5 @@
 -- What a follower writes of items is what follows: what is settled comes first, by induction on the items.
-use Rattle.std.proofs.Common.{◌≡◌, ℕ, zero, suc, ◌+◌, ◌<◌, ◌≤◌, Bool, true, false, cond, inl, inr, List, [], ◌∷◌, ◌++◌, length, take, drop, Option, Some, None, refl, sym, ap, ap₂, subst, ◌∙◌, arith, append_assoc, append-nil, length-append, length-drop}
+use Rattle.std.proofs.Common.{◌≡◌, ℕ, zero, suc, ◌<◌, ◌≤◌, Bool, true, false, cond, inl, inr, List, [], ◌∷◌, ◌++◌, length, take, drop, Option, Some, None, refl, sym, ap, ap₂, subst, ◌∙◌, arith, append_assoc, append-nil, length-drop}
 use Rattle.std.proofs.lemmas.Bool.{cases_Bool, cases_lt, cond-false, cond-true}
 use Rattle.p25_units.specs.Items.{covered}
 use Rattle.p25_units.specs.declared.item.Item.{Item}
@@ -9,7 +9,7 @@ use Rattle.p25_follow.specs.Following.{Follow, IsFollow, behind_item, follow, le
 use Rattle.p25_follow.specs.Expected.{kind_length}
 use Rattle.p25_follow.specs.Steps.{step_of}
 use Rattle.p25_follow.proofs.StepLaws.{step_of-there}
-use Rattle.p25_follow.proofs.ChainLaws.{chain-settles, chain_by-nil, chain_by-none, chain_by-waits, left_of-none, left_of-step, left_of-stop, left_of-waits}
+use Rattle.p25_follow.proofs.ChainLaws.{chain-settles, chain_by-none, chain_by-waits, left_of-none, left_of-step, left_of-stop, left_of-waits}
 
 -- the parts of what follows
 pub followed-end : (ended : Bool) (before : Option (ℕ × ℕ)) (stretch : List Bool) (bits : List Bool) → followed_by ended before stretch [] bits ≡ chain_by ended before stretch None
@@ -46,7 +46,8 @@ followed-settles ended before stretch more (item ∷ items) bits =
           ∙ ap (λ (xs : List Bool). followed_by ended before xs items rest) (append_assoc stretch more raw)
           ∙ followed-settles ended before stretch (more ++ raw) items rest
           ∙ ap (λ (xs : List Bool). settled_of before stretch ++ xs)
-          (ap (λ (xs : List Bool). followed_by ended left.before xs items rest) (sym (append_assoc left.stretch more raw)) ∙ sym (followed-rest ended left.before (left.stretch ++ more) item items bits is))
+          (ap (λ (xs : List Bool). followed_by ended left.before xs items rest) (sym (append_assoc left.stretch more raw))
+          ∙ sym (followed-rest ended left.before (left.stretch ++ more) item items bits is))
       | inr is ↦
           let later = raw ++ followed_by ended (unit_name item) [] items rest in
           followed-unit ended before (stretch ++ more) item items bits is
@@ -117,7 +118,8 @@ before-rest kept item raw is =
     (cond-true (is_rest item) [] raw is)
     ∙ append-nil (settled_of kept.before (kept.stretch ++ raw))
 
-before-unit : (kept : Follow) (item : Item) (raw : List Bool) → is_rest item ≡ false → written_before kept item raw ++ written_item item raw ≡ chain_by true kept.before kept.stretch (unit_name item) ++ raw
+before-unit : (kept : Follow) (item : Item) (raw : List Bool) → is_rest item ≡ false
+    → written_before kept item raw ++ written_item item raw ≡ chain_by true kept.before kept.stretch (unit_name item) ++ raw
 unfolding written_before written_item
 before-unit kept item raw is =
     ap₂ (λ (xs ys : List Bool). xs ++ ys)
@@ -126,7 +128,8 @@ before-unit kept item raw is =
 
 written-more : (ended : Bool) (kept : Follow) (item : Item) (items : List Item) (bits : List Bool)
     → written_by ended kept (item ∷ items) bits
-    ≡ (written_before kept item (take (covered item) bits) ++ written_item item (take (covered item) bits)) ++ written_by ended (behind_item kept item (take (covered item) bits)) items (drop (covered item) bits)
+    ≡ (written_before kept item (take (covered item) bits) ++ written_item item (take (covered item) bits))
+    ++ written_by ended (behind_item kept item (take (covered item) bits)) items (drop (covered item) bits)
 unfolding written_by
 written-more ended kept item items bits =
     let raw = take (covered item) bits in
@@ -151,7 +154,8 @@ written-follows ended kept (item ∷ items) bits is =
           let left = left_of kept.before all in
           written-more ended kept item items bits
           ∙ ap₂ (λ (xs ys : List Bool). xs ++ ys) (before-rest kept item raw none)
-          (later ∙ ap (λ (k : Follow). followed_by ended k.before k.stretch items rest) (behind-rest kept item raw none) ∙ ap (λ (xs : List Bool). followed_by ended left.before xs items rest) (sym (append-nil left.stretch)))
+          (later ∙ ap (λ (k : Follow). followed_by ended k.before k.stretch items rest) (behind-rest kept item raw none)
+          ∙ ap (λ (xs : List Bool). followed_by ended left.before xs items rest) (sym (append-nil left.stretch)))
           ∙ sym (followed-settles ended kept.before all [] items rest)
           ∙ ap (λ (xs : List Bool). followed_by ended kept.before xs items rest) (append-nil all)
           ∙ sym (followed-rest ended kept.before kept.stretch item items bits none)

@@ -8,3 +8,7 @@ pub mod FollowingLaws
 pub mod FollowerSteps
 pub mod LengthLaws
 pub mod TellsLaws
+pub mod FoundLaws
+pub mod UnchangedLaws
+pub mod SameUnitsLaws
+pub mod PlaceLaws

@@ -1,15 +1,15 @@
 -- A step looks at no more bits than its reach: what comes after them changes nothing, nor does the end. By the links, with what is told of the first 114 bits.
-use Rattle.std.proofs.Common.{◌≡◌, ℕ, zero, suc, ◌+◌, ◌-◌, ◌*◌, ◌<◌, ◌≤◌, Bool, true, false, cond, not, ◌&&◌, ◌||◌, inl, inr, List, [], ◌∷◌, ◌++◌, length, take, drop, Option, Some, None, refl, sym, ap, ap₂, subst, ◌∙◌, arith, append-nil, length-append, length-drop}
-use Rattle.std.specs.Prelude.{nat_eq, nat_le, nat_lt}
+use Rattle.std.proofs.Common.{◌≡◌, ℕ, zero, suc, ◌+◌, ◌-◌, ◌*◌, ◌<◌, ◌≤◌, Bool, true, false, cond, ◌&&◌, ◌||◌, inl, inr, List, [], ◌++◌, length, drop, Option, Some, None, refl, sym, ap, ap₂, subst, ◌∙◌, arith, append-nil, length-append, length-drop}
+use Rattle.std.specs.Prelude.{nat_le, nat_lt}
 use Rattle.std.specs.Option.{is_some, option_or}
-use Rattle.std.proofs.lemmas.Bool.{cases_Bool, cases_lt, cond-false, cond-true, le-leb, leb-true, lt-leb, lt-ltb, ltb-true}
+use Rattle.std.proofs.lemmas.Bool.{cases_lt, cond-false, cond-true, le-leb, leb-true, lt-leb, lt-ltb, ltb-true}
 use Rattle.std.proofs.lemmas.List.{drop-append-le, drop-drop}
 use Rattle.p25_follow.specs.declared.told.Told.{Told}
 use Rattle.p25_follow.specs.declared.told.Told.TheVariants.{Expected, Other, Nothing}
 use Rattle.p25_follow.specs.Expected.{kind_length, next_link}
 use Rattle.p25_follow.specs.Steps.{fits_by, fits_of, is_end, is_sure, step_of, true_of}
 use Rattle.p25_follow.specs.Told.{is_nothing, told_of}
-use Rattle.p25_follow.proofs.KindLaws.{IsKind, IsLink, expected-kinds, link-kinds}
+use Rattle.p25_follow.proofs.KindLaws.{IsKind, expected-kinds, link-kinds}
 use Rattle.p25_follow.proofs.ToldLaws.{told_of-append, told_of-expected, told_of-short}
 
 -- ---- what fits
@@ -166,7 +166,8 @@ sure-long (suc links) before bits end some none sure =
     let on : link_on links before bits end ≡ true = sym (ap (λ (fits : Option ℕ). is_some fits || link_on links before bits end) none) ∙ sym (is_sure-suc links before bits end some) ∙ sure in
     leb-true 1728 (length bits) (and_right-true (is_nothing (told_of before bits)) (nat_le 1728 (length bits)) (and_left-true _ _ on))
 
-linked : (before : ℕ × ℕ) (bits : List Bool) (end : Option (ℕ × ℕ)) (kind : ℕ) (ready : Bool) → (ready ≡ true → 1728 ≤ length bits) → cond ready (next_link before.1) None ≡ Some kind → IsStep bits kind
+linked : (before : ℕ × ℕ) (bits : List Bool) (end : Option (ℕ × ℕ)) (kind : ℕ) (ready : Bool) → (ready ≡ true → 1728 ≤ length bits)
+    → cond ready (next_link before.1) None ≡ Some kind → IsStep bits kind
 linked before bits end kind true long is =
     let link = link-kinds before.1 kind is in
     let there = long refl in
@@ -182,7 +183,9 @@ step-by before bits end kind (Some other) fits is =
 step-by before bits end kind None fits is =
     let first = nat_lt 0 (length bits) && is_nothing (told_of before bits) in
     linked before bits end kind (first && is_sure 3 before bits end)
-    (λ ready. sure-long 3 before bits end (ltb-true 0 (length bits) (and_left-true (nat_lt 0 (length bits)) (is_nothing (told_of before bits)) (and_left-true first (is_sure 3 before bits end) ready))) fits
+    (λ ready.
+    sure-long 3 before bits end
+    (ltb-true 0 (length bits) (and_left-true (nat_lt 0 (length bits)) (is_nothing (told_of before bits)) (and_left-true first (is_sure 3 before bits end) ready))) fits
     (and_right-true first (is_sure 3 before bits end) ready)) is
 
 pub step_of-there : (before : ℕ × ℕ) (bits : List Bool) (end : Option (ℕ × ℕ)) (kind : ℕ) → step_of before bits end ≡ Some kind → IsStep bits kind

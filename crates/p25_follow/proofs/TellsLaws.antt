@@ -1,13 +1,11 @@
 -- What a front has to tell where it is written: an identifier that reads is the one that is written, and a unit that may come and whose identifier reads as its own is written.
-use Rattle.std.proofs.Common.{◌≡◌, ℕ, zero, suc, ◌+◌, ◌<◌, ◌≤◌, Bool, true, false, cond, ◌&&◌, inl, inr, List, [], ◌∷◌, ◌++◌, length, take, drop, Option, Some, None, refl, sym, ap, ap₂, subst, ◌∙◌, arith, length-append, length-drop}
-use Rattle.std.specs.Prelude.{nat_eq, nat_le, nat_lt}
+use Rattle.std.proofs.Common.{◌≡◌, ℕ, ◌<◌, ◌≤◌, Bool, true, false, cond, ◌&&◌, inl, inr, List, length, Option, Some, None, refl, sym, ap, subst, ◌∙◌, arith}
+use Rattle.std.specs.Prelude.{nat_eq, nat_lt}
 use Rattle.std.specs.Option.{option_or}
 use Rattle.std.proofs.lemmas.Bool.{and_from, cases_Bool, cond-false, cond-true, eq-eqb, ltb-true}
-use Rattle.std.proofs.lemmas.List.{length-take-le}
 use Rattle.p25_unit_front.specs.Front.{identifier_of}
 use Rattle.p25_unit_front.proofs.FrontLaws.{identifier_of-near}
-use Rattle.p25_follow.specs.declared.told.Told.{Told}
-use Rattle.p25_follow.specs.declared.told.Told.TheVariants.{Expected, Other, Nothing}
+use Rattle.p25_follow.specs.declared.told.Told.TheVariants.{Expected, Other}
 use Rattle.p25_follow.specs.Expected.{is_expected, kind_length, next_link}
 use Rattle.p25_follow.specs.Steps.{fits_by, fits_of, is_sure, step_of}
 use Rattle.p25_follow.specs.Told.{is_nothing, name_errors_of, told_name, told_of}

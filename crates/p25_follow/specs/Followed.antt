@@ -1,5 +1,6 @@
 -- A recording with the fronts of the units written that lie end to end after others.
-use Rattle.std.specs.Prelude.{ℕ, Bool, true, false, if◌then◌else◌, List, [], ◌∷◌, ◌++◌, take, drop, Option, Some, None}
+use Rattle.std.specs.Prelude.{ℕ, Bool, true, false, ◌&&◌, if◌then◌else◌, List, [], ◌∷◌, ◌++◌, take, drop, Option, Some, None}
+use Rattle.std.specs.Option.{is_none}
 use Rattle.p25_units.specs.Items.{covered}
 use Rattle.p25_units.specs.Units.{body_duid}
 use Rattle.p25_units.specs.declared.item.Item.{Item}
@@ -37,3 +38,8 @@ followed_by ended before stretch (item ∷ items) bits =
 -- what is written of a recording
 unfoldable pub follow_of : List Bool → List Bool
 follow_of bits = followed_by true None [] (items_of 0 bits) bits
+
+-- no stretch comes after a unit: after each comes a unit, the bits of one that is cut, or the end
+unfoldable pub has_no_stretch : Option (ℕ × ℕ) → List Item → Bool
+has_no_stretch before [] = true
+has_no_stretch before (item ∷ items) = if is_rest item then is_none before && has_no_stretch before items else has_no_stretch (unit_name item) items

@@ -5,3 +5,4 @@ pub mod Chains
 pub mod Followed
 pub mod Following
 pub mod FollowLaws
+pub mod StretchLaws

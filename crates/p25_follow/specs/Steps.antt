@@ -1,5 +1,5 @@
 -- Which unit lies where bits begin, after a unit with a name. The bits reach to an end: the name of the unit after them, or none.
-use Rattle.std.specs.Prelude.{ℕ, zero, suc, Bool, true, false, ◌&&◌, ◌||◌, if◌then◌else◌, ◌==◌, nat_le, nat_lt, List, length, drop, Option, Some, None}
+use Rattle.std.specs.Prelude.{ℕ, zero, suc, Bool, false, ◌&&◌, ◌||◌, if◌then◌else◌, ◌==◌, nat_le, nat_lt, List, length, drop, Option, Some, None}
 use Rattle.std.specs.Option.{is_some, option_or}
 use Rattle.p25_follow.specs.declared.told.Told.{Told}
 use Rattle.p25_follow.specs.declared.told.Told.TheVariants.{Expected, Other, Nothing}
@@ -44,4 +44,5 @@ is_sure (suc links) before bits end =
 -- and with it, over at most three links, it is sure
 unfoldable pub step_of : ℕ × ℕ → List Bool → Option (ℕ × ℕ) → Option ℕ
 step_of before bits end =
-    option_or (fits_of before bits) (if nat_lt 0 (length bits) && is_nothing (told_of before bits) && is_sure 3 before bits end then next_link before.1 else None)
+    option_or (fits_of before bits)
+    (if nat_lt 0 (length bits) && is_nothing (told_of before bits) && is_sure 3 before bits end then next_link before.1 else None)

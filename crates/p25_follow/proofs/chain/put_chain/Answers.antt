@@ -1,4 +1,4 @@
-use Rattle.std.proofs.Common.{◌≡◌, ◌+◌, ◌<◌, ℕ, Bool, List, Option, Some, None, true, false, [], ◌++◌, ◌||◌, length, take, drop, ap, ap₂, sym, subst, ◌∙◌, refl, arith}
+use Rattle.std.proofs.Common.{◌≡◌, ℕ, Bool, List, Option, Some, None, true, false, ◌++◌, ◌||◌, length, take, ap, ap₂, sym, subst, ◌∙◌, refl, arith}
 use Rattle.std.specs.Prelude.{nat_le}
 use Rattle.std.proofs.Math.Seq.{take-length}
 use Rattle.p25_bch_nid.specs.declared.nid.Nid.{Nid}
@@ -14,7 +14,8 @@ abbrev pair : ℕ → ℕ → ℕ × ℕ
 pair nac kind = (nac, kind)
 
 -- what is still to be written, and what is left, where the unit before is known
-written-at : (whole : Bool) (before now : Option Nid) (bits out all : List Bool) (end : Option (ℕ × ℕ)) → before ≡ now → out ++ chain_by whole (names_of before) bits end ≡ all → out ++ chain_by whole (names_of now) bits end ≡ all
+written-at : (whole : Bool) (before now : Option Nid) (bits out all : List Bool) (end : Option (ℕ × ℕ)) → before ≡ now → out ++ chain_by whole (names_of before) bits end ≡ all
+    → out ++ chain_by whole (names_of now) bits end ≡ all
 written-at whole before now bits out all end same is = subst (λ (o : Option Nid). out ++ chain_by whole (names_of o) bits end ≡ all) same is
 
 left-at : (before now : Option Nid) (bits : List Bool) (kept : Follow) → before ≡ now → left_of (names_of before) bits ≡ kept → left_of (names_of now) bits ≡ kept

@@ -1,4 +1,4 @@
-use Rattle.std.proofs.Common.{◌≡◌, ◌+◌, ◌≤◌, ◌<◌, ℕ, ap₂, sym, ◌∙◌, arith, length}
+use Rattle.std.proofs.Common.{◌+◌, ◌≤◌, ◌<◌, ℕ, ap₂, sym, arith, length}
 use Rattle.p25_follow.specs.Expected.{name_of, names_of}
 use Rattle.p25_follow.proofs.StepLaws.{sure-linked}
 use Rattle.p25_follow.proofs.steps.+is_sure.Goals as goal

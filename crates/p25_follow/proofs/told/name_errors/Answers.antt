@@ -1,5 +1,4 @@
-use Rattle.std.proofs.Common.{◌≡◌, ◌+◌, ◌∙◌, ap, ap₂, sym, arith, take, drop, length-drop}
-use Rattle.p25_follow.specs.Told.{name_errors_of, sync_errors_of}
+use Rattle.std.proofs.Common.{arith, drop, length-drop}
 use Rattle.p25_follow.proofs.ToldLaws.{errors-parts}
 use Rattle.p25_follow.proofs.told.name_errors.Goals as goal
 

@@ -1,4 +1,4 @@
-use Rattle.std.proofs.Common.{◌≡◌, ◌≤◌, Option, None, ℕ, ◌∙◌, sym, arith, drop, length, length-drop}
+use Rattle.std.proofs.Common.{◌≤◌, ◌∙◌, sym, arith, drop, length, length-drop}
 use Rattle.p25_follow.specs.Expected.{name_of}
 use Rattle.p25_follow.proofs.ToldLaws.{read-told, told_of-short, unread-told}
 use Rattle.p25_follow.proofs.told.told_at.Goals as goal

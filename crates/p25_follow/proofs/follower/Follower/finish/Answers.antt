@@ -1,4 +1,4 @@
-use Rattle.std.proofs.Common.{[], List, Bool, ap, ◌∙◌, ◌++◌}
+use Rattle.std.proofs.Common.{List, Bool, ap, ◌∙◌, ◌++◌}
 use Rattle.p25_follow.specs.Expected.{names_of}
 use Rattle.p25_follow.proofs.FollowerSteps.{appended-all, end-out}
 use Rattle.p25_follow.proofs.follower.Follower.finish.Goals as goal

@@ -1,4 +1,4 @@
-use Rattle.std.proofs.Common.{◌≡◌, ◌<◌, ◌++◌, ℕ, List, Bool, length, refl, sym, subst, ◌∙◌}
+use Rattle.std.proofs.Common.{refl, sym, subst, ◌∙◌}
 use Rattle.p25_follow.specs.Expected.{names_of}
 use Rattle.p25_follow.specs.Following.{Follow, IsFollow}
 use Rattle.p25_follow.proofs.FollowingLaws.{IsFollow-left}
@@ -13,7 +13,8 @@ pub returns-then-is_rest-clause-out : goal.returns-then-is_rest-clause-out
 returns-then-is_rest-clause-out c =
     let raw = c.args.raw.now in
     let stretch = c.self.inside.stretch in
-    rest-out c.args.self.now c.args.item.now raw (names_of c.self.inside.before) stretch c.self.view_is c.append.new.self c.clear.new.self c.put_chain-self-inside.new.out (sym c.is_rest.ensures ∙ c.if-is_rest.true)
+    rest-out c.args.self.now c.args.item.now raw (names_of c.self.inside.before) stretch c.self.view_is
+    c.append.new.self c.clear.new.self c.put_chain-self-inside.new.out (sym c.is_rest.ensures ∙ c.if-is_rest.true)
     (appended-all stretch raw c.append.new.self c.len.result c.len.ensures.value c.append.ensures.list) c.clear.ensures c.put_chain-self-inside.ensures.list
 
 pub returns-then-is_rest-clause-behind : goal.returns-then-is_rest-clause-behind
