@@ -44,8 +44,8 @@ impl LineMachine for Build {
         read_line(line)
     }
 
-    fn take(&mut self, unit: Unit, out: &mut Line) -> Result<Option<Line>, AllocError> {
-        put_image(unit, self.status, out);
+    fn take(&mut self, event: Unit, out: &mut Line) -> Result<Option<Line>, AllocError> {
+        put_image(event, self.status, out);
         Ok(None)
     }
 
