@@ -9,13 +9,14 @@
    number that stands for bits the highest is the first.
 
    What the caller owes, which nothing checks:
-   - each pointer leads to as many objects as is said beside it, which may be read, and written where it is no pointer to const;
+   - each pointer is aligned and leads to as many objects as is said beside it, at most PTRDIFF_MAX octets. All of them hold values, also those
+     that a call only writes: room is set before it is given, as by `= {0}`. They may be read, and written where it is no pointer to const;
    - no pointer is NULL, also where its length is 0;
    - what a call writes overlaps nothing else that this call is given;
    - a bool is true or false: as an octet, 1 or 0;
    - while a call runs no thread writes what it reads, and none reads or writes what it writes.
-   A call checks all else itself, and answers by one of the numbers named below. It takes no memory, keeps nothing, and calls
-   nothing but memcpy and memset, so calls from several threads on different octets do not meet.
+   A call checks all else itself, and answers by one of the numbers named below. That it takes no memory, keeps nothing, and calls
+   nothing but memcpy and memset, so that calls from several threads on different octets do not meet, is looked at by a test, and not proved.
 
    Stack, as stack.c measured it on x86-64 over recordings of all kinds of units: p25_build takes up to 46,000 octets,
    p25_next_item, p25_repair and p25_bridge 38,000, and the other calls 13,000. It is measured, and not proved: give a thread 160 KiB or
@@ -76,7 +77,8 @@ enum { P25_TEXT_ROOM = 8192, P25_UNIT_ROOM = 3240, P25_NEEDED = 3241 };
    later one from = item.place + item.bits; octets that end at or before that bit may be dropped.
 
    Where item.text_length < room, text becomes the line of `p25 show`, with a zero in place of the end of the line; else it stays.
-   With ended false an item comes as soon as no octet that may follow can change it. P25_NONE and P25_OUTSIDE leave *item and text as
+   With ended false an item comes once the bits are there by which it is judged, of a gap 48 from each of its places on; what follows then
+   changes nothing in it. P25_NONE and P25_OUTSIDE leave *item and text as
    they are. */
 int32_t p25_next_item(const uint8_t *octets, size_t n, uint64_t begin, uint64_t from, bool ended, p25_item *item, char *text,
                       size_t room);

@@ -22,3 +22,4 @@ pub mod AtOnceLaws
 pub mod FactsLaws
 pub mod DeliveryLaws
 pub mod CountLaws
+pub mod WholeLaws

@@ -39,7 +39,7 @@ pub record IsWithin (limit mark : Mark) : Type 0 where
   pub delivered : mark.delivered ≤ limit.delivered
   pub acknowledged : mark.acknowledged ≤ limit.acknowledged
 
-within-more : (limit more : Mark) → IsWithin more limit → (mark : Mark) → IsWithin limit mark → IsWithin more mark
+pub within-more : (limit more : Mark) → IsWithin more limit → (mark : Mark) → IsWithin limit mark → IsWithin more mark
 within-more limit more l mark h = record { sent = omega (arith, h.sent, l.sent); delivered = omega (arith, h.delivered, l.delivered); acknowledged = omega (arith, h.acknowledged, l.acknowledged) }
 
 abbrev pub IsMarked : Delivery → Type 0
@@ -50,7 +50,7 @@ unfolding last_mark
 last-within limit from [] here all = here
 last-within limit from (mark ∷ marks) here all = last-within limit mark marks (All-head (IsWithin limit) mark marks all) (All-tail (IsWithin limit) mark marks all)
 
-first-within : (limit : Mark) → IsWithin limit first_mark
+pub first-within : (limit : Mark) → IsWithin limit first_mark
 first-within limit = record { sent = omega arith; delivered = omega arith; acknowledged = omega arith }
 
 present-within : (w : Delivery) → IsMarked w → IsWithin (present_mark w) (last_mark first_mark w.outbound.marks)

@@ -1,9 +1,9 @@
 -- Runs in which each packet (PDU) that is heard is true to the one that was sent, and what is promised of each session.
-use Rattle.std.specs.Prelude.{◌≡◌, ◌≤◌, ◌⊎◌, List, [], ◌∷◌, length, Option, Some, ℕ, ◌+◌, ◌++◌}
+use Rattle.std.specs.Prelude.{◌≡◌, ◌≤◌, ◌⊎◌, List, [], ◌∷◌, length, Option, Some, ℕ, ◌+◌, ◌++◌, flat_map, sum_by}
 use Rattle.p25_packet_blocks.specs.declared.block.Slot.{Slot, TheVariants.{Bad}}
 use Rattle.p25_packet_blocks.specs.declared.packet.Packet.{Packet, TheVariants.{Confirmed, Plain}}
 use Rattle.p25_delivery.specs.Runs.{MeetAt, EachIs}
-use Rattle.p25_delivery.specs.Delivery.{Delivery, Happening, Offering, Data_heard, Answer_heard, happens, Session}
+use Rattle.p25_delivery.specs.Delivery.{Delivery, Happening, Offering, Data_heard, Answer_heard, happens, Session, sessions_of}
 
 -- slot by slot Bad, or the one that was sent
 unfoldable pub AreTrueSlots : List Slot → List Slot → Type 0
@@ -53,3 +53,11 @@ pub record IsCounted (session : Session) : Type 0 where
 -- each of a list of sessions has such counts
 abbrev pub AreCounted : List Session → Type 0
 AreCounted sessions = EachIs IsCounted sessions
+
+-- the sessions of a delivery are the whole of its lists: end to end all that was sent and all that was delivered, in their counts all that
+-- were acknowledged, and one more than messages were given up
+pub record AreWhole (w : Delivery) : Type 0 where
+  pub sent : flat_map (λ session. session.sent) (sessions_of w) ≡ w.outbound.sent
+  pub delivered : flat_map (λ session. session.delivered) (sessions_of w) ≡ w.inbound.received
+  pub acknowledged : sum_by (λ session. session.acknowledged) (sessions_of w) ≡ w.outbound.acknowledged
+  pub count : length (sessions_of w) ≡ length w.outbound.marks + 1

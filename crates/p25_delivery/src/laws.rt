@@ -6,7 +6,7 @@ ghost use Rattle.p25_delivery.specs.MessageBlocks.{block_count, pad_count, messa
 ghost use Rattle.p25_delivery.specs.Places.{CarriesMessage, read_back};
 ghost use Rattle.p25_delivery.specs.Delivery.{Happening, Opening_again, first_delivery, delivery_run, sessions_of, first_number, happens};
 ghost use Rattle.p25_messages.specs.declared.step_kind.StepKind.TheVariants.{Reopened};
-ghost use Rattle.p25_delivery.specs.Orderly.{IsCleanRun, AreCounted, AreOrderly};
+ghost use Rattle.p25_delivery.specs.Orderly.{IsCleanRun, AreCounted, AreOrderly, AreWhole};
 ghost use Rattle.p25_delivery.specs.Halves.{Sending, IsSending, Receiving, Nothing};
 ghost use Rattle.p25_delivery.specs.AtOnce.{DeliversAtOnce, OpensAtOnce};
 ghost use Rattle.p25_delivery.specs.Facts.{DeliveryFacts};
@@ -41,6 +41,13 @@ pub fn facts_are_kept()
 /// not acknowledged, and none acknowledged that was not sent.
 pub fn sessions_are_counted()
     ensures { (events : List Happening) → AreCounted (sessions_of (delivery_run first_delivery events)) }
+{}
+
+/// **Theorem.** Its clause says that in every run, whatever is heard, the sessions are the whole of the lists: joined, their messages sent
+/// are all that were sent, and their messages delivered all that were delivered; their counts of acknowledged messages add up to that of the
+/// run; and there is one session more than messages were given up.
+pub fn sessions_are_whole()
+    ensures { (events : List Happening) → AreWhole (delivery_run first_delivery events) }
 {}
 
 /// **Theorem.** Its clauses say what comes of packets that are heard as they were sent. After a clean run, where nothing

@@ -1,1 +1,3 @@
 pub mod OctetsLaws
+pub mod Walks
+pub mod StreamsSteps

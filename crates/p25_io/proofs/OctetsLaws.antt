@@ -1,5 +1,5 @@
 -- Laws for a loop that reads to the end, or that writes piece after piece.
-use Rattle.std.proofs.Common.{ℕ, ◌+◌, ◌≡◌, ◌≤◌, Option, None, Some, List, [], ◌++◌, length, take, min, refl, sym, ap, subst, ◌∙◌, arith, append_assoc, append-nil}
+use Rattle.std.proofs.Common.{ℕ, ◌+◌, ◌-◌, ◌≡◌, ◌≤◌, Option, None, Some, List, [], ◌++◌, length, take, min, refl, sym, ap, subst, ◌∙◌, arith, append_assoc, append-nil, length-append, length-take}
 use Rattle.std.proofs.lemmas.List.{take_min, take-append-le}
 use Rattle.std.proofs.Math.Seq.{take-append-add, take-length}
 use Rattle.std.specs.Prelude.{IfSome}
@@ -74,3 +74,12 @@ AppendedBeginning-longer {xs = xs} ys p =
 -- a count that rose within a run of calls rose over the whole run
 pub Rose-within : (first before now last : ℕ) → first ≤ before → Rose before now → now ≤ last → Rose first last
 Rose-within first before now last earlier rose later = omega arith
+
+-- a beginning of a piece is as long as what is written grew
+pub beginning-grown : (before piece now : List ℕ) (count : ℕ) → count ≡ length now - length before → AppendedBeginning (Some before) piece (Some now)
+    → (count ≤ length piece) × Appended (Some before) (take count piece) (Some now)
+beginning-grown before piece now count grown begun =
+    let same : now ≡ before ++ take begun.count piece = cc begun.beginning.written in
+    let long : count ≡ min begun.count (length piece) =
+    omega (arith, grown, ap length same, length-append before (take begun.count piece), length-take begun.count piece) in
+    (omega (arith, long), Appended-same (sym (ap (λ (n : ℕ). take n piece) long ∙ take_min begun.count piece)) begun.beginning)

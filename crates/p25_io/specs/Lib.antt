@@ -1,12 +1,18 @@
 pub mod Adapters
+pub mod Amounts
+pub mod Asked
 pub mod Events
 pub mod Faults
+pub mod Histories
 pub mod MemorySource
+pub mod Notes
 pub mod Octets
 pub mod Pairs
 pub mod SliceSink
 pub mod SteadySource
+pub mod Streams
 pub mod Tapes
 -- laws of impls: nothing to believe
 pub mod PairLaws
+pub mod StreamsLaws
 pub mod TapeLaws

@@ -1,11 +1,11 @@
 -- No event leads from a pair to itself, and events after events join: by induction on the events, for the source and for the sink.
-use Rattle.std.specs.Prelude.{◌≡◌, ℕ, List, [], ◌∷◌, ◌++◌, Option}
-use Rattle.std.proofs.Common.{refl, sym, ◌∙◌, subst}
+use Rattle.std.specs.Prelude.{ℕ, List, [], ◌∷◌, ◌++◌, Option}
+use Rattle.std.proofs.Common.{refl, ◌∙◌, subst}
 use Rattle.p25_io.specs.declared.pair.Pair.{Pair}
 use Rattle.p25_io.specs.Events.{Event, Read, ReadFailed, Wrote, WriteFailed}
 use Rattle.p25_io.specs.Pairs.{SourceGoes, SinkGoes, PairGoes}
 
-SourceGoes-joins : {S : Type 0} (left : S → Option (List ℕ)) (faults : S → ℕ) (first next last : S) (xs ys : List Event)
+pub SourceGoes-joins : {S : Type 0} (left : S → Option (List ℕ)) (faults : S → ℕ) (first next last : S) (xs ys : List Event)
     → SourceGoes left faults first xs next → SourceGoes left faults next ys last → SourceGoes left faults first (xs ++ ys) last
 SourceGoes-joins left faults first next last [] ys same goes = subst (λ s. SourceGoes left faults s ys last) same goes
 SourceGoes-joins left faults first next last (Read octets ∷ xs) ys went goes =
@@ -15,7 +15,7 @@ SourceGoes-joins left faults first next last (ReadFailed ∷ xs) ys went goes =
 SourceGoes-joins left faults first next last (Wrote piece ∷ xs) ys went goes = SourceGoes-joins left faults first next last xs ys went goes
 SourceGoes-joins left faults first next last (WriteFailed piece count ∷ xs) ys went goes = SourceGoes-joins left faults first next last xs ys went goes
 
-SinkGoes-joins : {K : Type 0} (written : K → Option (List ℕ)) (faults : K → ℕ) (first next last : K) (xs ys : List Event)
+pub SinkGoes-joins : {K : Type 0} (written : K → Option (List ℕ)) (faults : K → ℕ) (first next last : K) (xs ys : List Event)
     → SinkGoes written faults first xs next → SinkGoes written faults next ys last → SinkGoes written faults first (xs ++ ys) last
 SinkGoes-joins written faults first next last [] ys same goes = subst (λ s. SinkGoes written faults s ys last) same goes
 SinkGoes-joins written faults first next last (Read octets ∷ xs) ys went goes = SinkGoes-joins written faults first next last xs ys went goes

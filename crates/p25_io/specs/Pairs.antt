@@ -1,8 +1,8 @@
 -- What a source and a sink went through in some events.
-use Rattle.std.specs.Prelude.{◌≡◌, ℕ, ◌≤◌, List, [], ◌∷◌, ◌++◌, Option, take, IfSome}
+use Rattle.std.specs.Prelude.{◌≡◌, ℕ, ◌≤◌, List, [], ◌∷◌, Option, take, IfSome}
 use Rattle.p25_io.specs.declared.pair.Pair.{Pair}
 use Rattle.p25_io.specs.Events.{Event, Read, ReadFailed, Wrote, WriteFailed}
-use Rattle.p25_io.specs.Faults.{Rose}
+use Rattle.p25_io.specs.Faults.{Rose, counted}
 use Rattle.p25_io.specs.Octets.{Taken, Kept, Appended}
 
 -- a source gave these octets; where it tells what is left, none exactly at its end
@@ -10,23 +10,27 @@ pub record GaveOctets {S : Type 0} (left : S → Option (List ℕ)) (faults : S 
   pub taken : Taken (left before) octets (left now)
   pub ending : octets ≡ [] → IfSome (left before) (λ rest. rest ≡ [])
   pub later : faults before ≤ faults now
+  pub none : faults now ≡ faults before
 
 -- a read of it failed
 pub record FailedToRead {S : Type 0} (left : S → Option (List ℕ)) (faults : S → ℕ) (before now : S) : Type 0 where
   pub kept : Kept (left before) (left now)
   pub later : faults before ≤ faults now
   pub cause : Rose (faults before) (faults now)
+  pub one : faults now ≡ counted (faults before)
 
 -- a sink took these octets
 pub record TookOctets {K : Type 0} (written : K → Option (List ℕ)) (faults : K → ℕ) (before : K) (octets : List ℕ) (now : K) : Type 0 where
   pub appended : Appended (written before) octets (written now)
   pub later : faults before ≤ faults now
+  pub none : faults now ≡ faults before
 
 -- a write to it failed after these octets
 pub record FailedToWrite {K : Type 0} (written : K → Option (List ℕ)) (faults : K → ℕ) (before : K) (octets : List ℕ) (now : K) : Type 0 where
   pub appended : Appended (written before) octets (written now)
   pub later : faults before ≤ faults now
   pub cause : Rose (faults before) (faults now)
+  pub one : faults now ≡ counted (faults before)
 
 -- what a source went through in some events: a read each time, and nothing at the writes
 abbrev pub SourceGoes : {S : Type 0} → (S → Option (List ℕ)) → (S → ℕ) → S → List Event → S → Type 0

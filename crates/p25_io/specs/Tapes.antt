@@ -1,9 +1,10 @@
 -- What a tape tells of the calls that were made on it.
-use Rattle.std.specs.Prelude.{◌≡◌, ℕ, false, List, [], ◌∷◌, ◌++◌, map, Option, Some, None}
+use Rattle.std.specs.Prelude.{◌≡◌, ℕ, Bool, false, List, ◌++◌, map, Option, Some, None}
 use Rattle.p25_io.specs.declared.tape.Call.{Call}
 use Rattle.p25_io.specs.declared.tape.Call.TheVariants.{Read as ReadCall, ReadFailed as ReadFailedCall, Wrote as WroteCall, WriteFailed as WriteFailedCall}
 use Rattle.p25_io.specs.declared.tape.Tape.{Tape}
 use Rattle.p25_io.specs.Events.{Event, Read, ReadFailed, Wrote, WriteFailed}
+use Rattle.p25_io.specs.Pairs.{SourceGoes, SinkGoes}
 
 -- a call, as an event
 abbrev pub event_of : Call → Event
@@ -20,6 +21,15 @@ abbrev pub written_as : List ℕ → Option ℕ → Event
 written_as piece (Some count) = WriteFailed piece count
 written_as piece None = Wrote piece
 
--- unless the tape is torn, these events stand after those before
+-- the calls that a tape tells of, as events, and whether it is torn
+abbrev pub calls_on : Tape → List Event
+calls_on tape = events_of tape.calls.items
+
+abbrev pub is_torn : Tape → Bool
+is_torn tape = tape.torn
+
+-- the source and the sink went through these events, also where the tape is torn; and unless it is, they stand after those before
 pub record TapeGoes (first : Tape) (events : List Event) (last : Tape) : Type 0 where
-  pub told : last.torn ≡ false → (first.torn ≡ false) × (events_of last.calls.items ≡ events_of first.calls.items ++ events)
+  pub source : SourceGoes (λ supply. Some supply.left) (λ supply. supply.faults) first.source events last.source
+  pub sink : SinkGoes (λ storage. Some storage.written) (λ storage. storage.faults) first.sink events last.sink
+  pub told : is_torn last ≡ false → (is_torn first ≡ false) × (calls_on last ≡ calls_on first ++ events)

@@ -21,8 +21,10 @@
 //! - No call takes memory, but for those of [`Tape`].
 #![tactic(auto)]
 
+mod asked;
 mod count_sink;
 mod failed;
+mod history;
 mod memory_source;
 mod pair;
 mod port;
@@ -31,6 +33,8 @@ mod sink;
 mod slice_sink;
 mod source;
 mod steady_source;
+mod streams;
+mod tally;
 mod tape;
 mod write_sink;
 
@@ -44,6 +48,7 @@ pub use sink::Sink;
 pub use slice_sink::SliceSink;
 pub use source::Source;
 pub use steady_source::SteadySource;
+pub use streams::Streams;
 pub use tape::{Call, Tape};
 pub use write_sink::WriteSink;
 

@@ -63,7 +63,9 @@ impl<'a> Tape<'a> {
 
     // Puts a call at the end, or tears the tape.
     fn keep(&mut self, call: Call)
-        ensures { self.new.torn ≡ false → (self.old.torn ≡ false) × (self.new.calls.items ≡ self.old.calls.items ++ call ∷ []) }
+        ensures source { self.new.source ≡ self.old.source }
+        ensures sink { self.new.sink ≡ self.old.sink }
+        ensures told { self.new.torn ≡ false → (self.old.torn ≡ false) × (self.new.calls.items ≡ self.old.calls.items ++ call ∷ []) }
     {
         if self.calls.push(call).is_err() {
             self.torn = true;
@@ -72,7 +74,9 @@ impl<'a> Tape<'a> {
 
     // Keeps a read that gave these octets.
     fn keep_read(&mut self, octets: &[u8])
-        ensures { self.new.torn ≡ false → (self.old.torn ≡ false)
+        ensures source { self.new.source ≡ self.old.source }
+        ensures sink { self.new.sink ≡ self.old.sink }
+        ensures told { self.new.torn ≡ false → (self.old.torn ≡ false)
             × (events_of self.new.calls.items ≡ events_of self.old.calls.items ++ Read octets.now ∷ []) }
     {
         match Vec::from_slice(self.alloc, octets) {
@@ -83,7 +87,9 @@ impl<'a> Tape<'a> {
 
     // Keeps a write of a piece, of which so many octets were written where it failed.
     fn keep_write(&mut self, piece: &[u8], failed: Option<usize>)
-        ensures { self.new.torn ≡ false → (self.old.torn ≡ false)
+        ensures source { self.new.source ≡ self.old.source }
+        ensures sink { self.new.sink ≡ self.old.sink }
+        ensures told { self.new.torn ≡ false → (self.old.torn ≡ false)
             × (events_of self.new.calls.items ≡ events_of self.old.calls.items ++ written_as piece.now failed ∷ []) }
     {
         match Vec::from_slice(self.alloc, piece) {
@@ -116,9 +122,16 @@ impl Port for Tape<'_> {
 
     fn write(&mut self, piece: &[u8]) -> Result<(), Failed> {
         let before = self.sink.written().len();
-        let result = self.sink.write(piece);
-        let count = self.sink.written().len() - before;
-        self.keep_write(piece, if result.is_ok() { None } else { Some(count) });
-        result
+        match self.sink.write(piece) {
+            Ok(()) => {
+                self.keep_write(piece, None);
+                Ok(())
+            }
+            Err(failed) => {
+                let count = self.sink.written().len() - before;
+                self.keep_write(piece, Some(count));
+                Err(failed)
+            }
+        }
     }
 }

@@ -112,3 +112,20 @@ fn a_sink_that_counts(rt: HostRuntime) {
     let all = put_all(&mut sink, &PIECES);
     assert!(rt; all == Ok(()) && sink.octets() == 5);
 }
+
+#[test]
+fn a_reader_and_a_writer(rt: HostRuntime) -> Result<(), Fail> {
+    let mut written = Vec::new(rt.alloc());
+    let mut streams = Streams::new(b"octets".as_slice(), &mut written);
+    let mut buf = [0; 4];
+    let count = streams.read(&mut buf)?;
+    streams.write(&buf[..count])?;
+    let rest = streams.read(&mut buf)?;
+    streams.write(&[])?;
+    streams.write(&buf[..rest])?;
+    let ended = streams.read(&mut buf)?;
+    drop(streams);
+    assert_eq!(rt; written.as_slice(), b"octets".as_slice());
+    assert_eq!(rt; ended, 0);
+    Ok(())
+}

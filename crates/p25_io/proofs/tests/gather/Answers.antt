@@ -24,4 +24,4 @@ loop-held-preserved g c =
     let (within, taken, risen) = c.loop-held.invariant in
     let given = c.in_ok-count.ensures.given in
     let held = take-put_rest _ _ _ _ within given.fits in
-    (put_rest_fits _ _ _ _ within given.fits, Taken-same (sym held) (Taken-trans taken given.octets), omega (arith, c.in_ok-count.ensures.cause.later))
+    (put_rest_fits _ _ _ _ within given.fits, Taken-same (sym held) (Taken-trans taken given.octets), omega (arith, c.in_ok-count.ensures.cause.counts, risen))

@@ -1,0 +1,20 @@
+use Rattle.std.proofs.Common.{◌-◌, length, ap, arith}
+use Rattle.p25_io.proofs.OctetsLaws.{beginning-grown}
+use Rattle.p25_io.proofs.tape.TapePort.write.Goals as goal
+
+pub returns-in-Err-clause-err : goal.returns-in-Err-clause-err
+returns-in-Err-clause-err c =
+    let kept = c.keep_write-in-Err.ensures in
+    let count = length c.written.result.now - length c.written-before.result.now in
+    let grown = beginning-grown _ c.args.piece.now _ count (omega (arith, ap length c.written.ensures, ap length c.written-before.ensures)) c.in-Err.ensures.err in (
+      count,
+      record {
+        source = kept.source;
+        sink = (
+          c.write.new.self,
+          record { appended = grown.1; later = c.in-Err.ensures.cause.later; cause = c.in-Err.ensures.cause.failed; one = c.in-Err.ensures.cause.counts },
+          kept.sink,
+        );
+        told = kept.told;
+      },
+    )

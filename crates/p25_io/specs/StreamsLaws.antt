@@ -1,0 +1,86 @@
+-- No event leads from streams to themselves, and events after events join.
+use Rattle.std.specs.Prelude.{◌≡◌, ℕ, ◌+◌, List, [], ◌∷◌, ◌++◌, Option, Some, None, length, Contains, IfSome}
+use Rattle.std.specs.Io.KnownBytes.{Appends, Consumes, IsAtEnd}
+use Rattle.std.proofs.Common.{sym, ap, subst, ◌∙◌, arith, append_assoc, append-nil, length-append, ◌⊎◌, inl, inr, ◌<◌}
+use Rattle.std.proofs.KnownBytes.{Appends-nil, Appends-trans, Consumes-nil, Consumes-trans}
+use Rattle.std.proofs.lemmas.Grind.{flat_map-append}
+use Rattle.std.proofs.lemmas.List.Elements.{Contains-append_cases}
+use Rattle.p25_io.specs.declared.streams.Streams.{Streams}
+use Rattle.p25_io.specs.Events.{Event, Read, ReadFailed, Wrote, WriteFailed}
+use Rattle.p25_io.specs.Streams.{StreamsGo, events_on, octets_read, octets_written, read_by, reader_in, reads_in, writer_in, writes_in, written_by}
+
+reads_in-append : (xs ys : List Event) → reads_in (xs ++ ys) ≡ reads_in xs + reads_in ys
+reads_in-append [] ys = omega arith
+reads_in-append (Read octets ∷ xs) ys = omega (arith, reads_in-append xs ys)
+reads_in-append (ReadFailed ∷ xs) ys = omega (arith, reads_in-append xs ys)
+reads_in-append (Wrote piece ∷ xs) ys = reads_in-append xs ys
+reads_in-append (WriteFailed piece count ∷ xs) ys = reads_in-append xs ys
+
+writes_in-append : (xs ys : List Event) → writes_in (xs ++ ys) ≡ writes_in xs + writes_in ys
+writes_in-append [] ys = omega arith
+writes_in-append (Read octets ∷ xs) ys = writes_in-append xs ys
+writes_in-append (ReadFailed ∷ xs) ys = writes_in-append xs ys
+writes_in-append (Wrote piece ∷ xs) ys = omega (arith, writes_in-append xs ys)
+writes_in-append (WriteFailed piece count ∷ xs) ys = writes_in-append xs ys
+
+-- no more than what is left is read: nothing where nothing is left
+nothing-left : (now last : Option (List ℕ)) (octets : List ℕ) → Consumes now last octets → IsAtEnd now → IfSome now (λ left. IsAtEnd last)
+nothing-left None last octets read end = tt
+nothing-left (Some left) None octets read end = absurd read
+nothing-left (Some left) (Some rest) octets read end = none octets rest (sym read ∙ end)
+  where
+    none : (xs ys : List ℕ) → xs ++ ys ≡ [] → ys ≡ []
+    none [] ys same = same
+    none (x ∷ xs) ys same = absurd (omega (arith, ap length same))
+
+-- what is told stays told
+ended-on : (first now last : Option (List ℕ)) (before after : List ℕ) → Consumes first now before → Consumes now last after
+    → IfSome first (λ left. IsAtEnd now) → IfSome first (λ left. IsAtEnd last)
+ended-on None now last before after read more end = tt
+ended-on (Some left) None last before after read more end = absurd read
+ended-on (Some left) (Some rest) last before after read more end = nothing-left (Some rest) last after more end
+
+ended-later : (first now last : Option (List ℕ)) (before : List ℕ) → Consumes first now before → IfSome now (λ left. IsAtEnd last)
+    → IfSome first (λ left. IsAtEnd last)
+ended-later None now last before read end = tt
+ended-later (Some left) None last before read end = absurd read
+ended-later (Some left) (Some rest) last before read end = end
+
+none-in : (event : Event) → Contains [] event → ⊥
+none-in event none = let below : none.0 < 0 = none.1 in absurd (omega (arith, below))
+
+module _ {R W : Type 0} (remaining : R → Option (List ℕ)) (contents : W → Option (List ℕ)) where
+  pub StreamsGo-stays : (streams : Streams R W) → StreamsGo remaining contents streams [] streams
+  StreamsGo-stays streams = record {
+    made = sym (append-nil (events_on streams));
+    read = Consumes-nil (remaining (reader_in streams));
+    ending = λ none. absurd (none-in (Read []) none);
+    wrote = Appends-nil (contents (writer_in streams));
+    asked = omega arith;
+    taken = omega arith;
+    flushed = omega arith;
+  }
+
+  pub StreamsGo-joins : (first next last : Streams R W) (xs ys : List Event) → StreamsGo remaining contents first xs next
+      → StreamsGo remaining contents next ys last → StreamsGo remaining contents first (xs ++ ys) last
+  StreamsGo-joins first next last xs ys went goes =
+      let all_read : octets_read (xs ++ ys) ≡ octets_read xs ++ octets_read ys = flat_map-append read_by xs ys in
+      let all_written : octets_written (xs ++ ys) ≡ octets_written xs ++ octets_written ys = flat_map-append written_by xs ys in
+      record {
+        made = goes.made ∙ ap (λ (es : List Event). es ++ ys) went.made ∙ append_assoc (events_on first) xs ys;
+        read =
+            subst (λ (octets : List ℕ). Consumes (remaining (reader_in first)) (remaining (reader_in last)) octets) (sym all_read)
+            (Consumes-trans (remaining (reader_in first)) (remaining (reader_in next)) (remaining (reader_in last)) _ _ went.read goes.read);
+        ending = λ ended. by_place (Contains-append_cases xs ys (Read []) ended);
+        wrote =
+            subst (λ (octets : List ℕ). Appends (contents (writer_in first)) (contents (writer_in last)) octets) (sym all_written)
+            (Appends-trans (contents (writer_in first)) (contents (writer_in next)) (contents (writer_in last)) _ _ went.wrote goes.wrote);
+        asked = omega (arith, went.asked, goes.asked, reads_in-append xs ys);
+        taken = omega (arith, went.taken, goes.taken, ap length all_written, length-append (octets_written xs) (octets_written ys));
+        flushed = omega (arith, went.flushed, goes.flushed, writes_in-append xs ys);
+      }
+    where
+      by_place : Contains xs (Read []) ⊎ Contains ys (Read []) → IfSome (remaining (reader_in first)) (λ left. IsAtEnd (remaining (reader_in last)))
+      by_place (inl before) =
+          ended-on (remaining (reader_in first)) (remaining (reader_in next)) (remaining (reader_in last)) _ _ went.read goes.read (went.ending before)
+      by_place (inr after) = ended-later (remaining (reader_in first)) (remaining (reader_in next)) (remaining (reader_in last)) _ went.read (goes.ending after)
