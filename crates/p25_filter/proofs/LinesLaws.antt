@@ -33,6 +33,7 @@ lines_in-part ended line (octet ∷ octets) more = by_test (nat_eq octet 10) ref
   where
     count : ℕ
     count = octets_before octets
+
     by_test : (is : Bool) → nat_eq octet 10 ≡ is
         → lines_in ended (line ++ octet ∷ []) (take count octets ++ more) ≡ lines_in ended ((line ++ octet ∷ []) ++ take count octets) more
         → lines_in ended line (take (cond (not is) (1 + count) 0) (octet ∷ octets) ++ more) ≡ lines_in ended (line ++ take (cond (not is) (1 + count) 0) (octet ∷ octets)) more
@@ -50,6 +51,7 @@ take-end (octet ∷ octets) there = by_test (nat_eq octet 10) refl there (take-e
   where
     count : ℕ
     count = octets_before octets
+
     by_test : (is : Bool) → nat_eq octet 10 ≡ is → cond (not is) (1 + count) 0 < length (octet ∷ octets)
         → (count < length octets → take (count + 1) octets ≡ take count octets ++ 10 ∷ [])
         → take (cond (not is) (1 + count) 0 + 1) (octet ∷ octets) ≡ take (cond (not is) (1 + count) 0) (octet ∷ octets) ++ 10 ∷ []

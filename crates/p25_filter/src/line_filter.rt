@@ -110,10 +110,16 @@ impl<M: LineMachine> LineFilter<M> {
         ensures given { result ≡ true → (self.old.behind ≡ Some out.new) × (self.new ≡ record self.old { behind = None }) }
         ensures none { result ≡ false → (self.old.behind ≡ None) × (self.new ≡ self.old) }
     {
-        let Some(second) = self.behind.take() else {
-            return false;
-        };
-        *out = second;
+        // A piece is large: it is copied only where there is one.
+        match &self.behind {
+            None => return false,
+            Some(second) => {
+                let _ = second.len();
+                out.clear();
+                out.put(second.octets());
+            }
+        }
+        self.behind = None;
         true
     }
 }
