@@ -492,6 +492,8 @@ class Companion:
         self.name = name
         self.caught = 0    # the signal that asked for an end
         self.number = 0    # the line that was read last
+        if sys.stdout is None:
+            os._exit(4)
         sys.stdout.reconfigure(encoding="utf-8", errors="backslashreplace", newline="\n")
         # A reader that leaves early, as head, ends a companion without a word.
         signal.signal(signal.SIGPIPE, signal.SIG_DFL)
@@ -547,6 +549,8 @@ class Companion:
         An interrupt (ctrl-C) or a wish to end (SIGTERM) ends them: what stands in the pipe by then is read still, until the
         input ends or nothing comes for half a second.
         """
+        if sys.stdin is None:
+            self.fail(3, "the input cannot be read: it is closed")
         wake = self.catch()
         kept = []
         while True:
