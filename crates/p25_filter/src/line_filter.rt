@@ -95,7 +95,7 @@ impl<M: LineMachine> LineFilter<M> {
         };
         match self.machine.take(event, out) {
             Ok(second) => {
-                self.behind = second;
+                hold(&mut self.behind, second);
                 self.line.clear();
                 self.lines += 1;
                 self.phase = phase;
@@ -121,6 +121,16 @@ impl<M: LineMachine> LineFilter<M> {
         }
         self.behind = None;
         true
+    }
+}
+
+// Holds the second piece of a text, where there is one. It is large, and moved only then.
+fn hold(behind: &mut Option<Line>, second: Option<Line>)
+    requires { behind.old ≡ None }
+    ensures { behind.new ≡ second }
+{
+    if second.is_some() {
+        *behind = second;
     }
 }
 
