@@ -8,3 +8,4 @@ pub mod SameLaws
 pub mod LinesLaws
 pub mod LineFiltersLaws
 pub mod RulesLaws
+pub mod StreamsLaws

@@ -11,3 +11,4 @@ pub mod BuiltLaws
 pub mod FoundLaws
 pub mod WrittenLaws
 pub mod DuplexCommandLaws
+pub mod StreamRunsLaws

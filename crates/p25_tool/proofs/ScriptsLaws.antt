@@ -1,6 +1,6 @@
 -- A script whose lines are all read: they are read as its events and none is refused, by induction on the lines; and what stands
 -- when its run is done. For any machine that reads each line by itself.
-use Rattle.std.proofs.Common.{◌≡◌, ℕ, ◌+◌, ◌≤◌, Bool, true, false, cond, nat_lt, List, [], ◌∷◌, ◌++◌, length, map, take, Option, Some, None, Result, Ok, Err, ◌⊎◌, inl, inr, refl, ap, ap₂, sym, ◌∙◌, arith}
+use Rattle.std.proofs.Common.{◌≡◌, ℕ, ◌+◌, ◌≤◌, Bool, true, false, cond, nat_lt, List, [], ◌∷◌, ◌++◌, length, map, take, Option, Some, None, Result, Ok, Err, ◌⊎◌, inl, inr, refl, ap, ap₂, sym, subst, ◌∙◌, arith}
 use Rattle.std.specs.Prelude.{IfSome}
 use Rattle.std.specs.List.{flat_map}
 use Rattle.std.proofs.lemmas.List.{take_all}
@@ -9,16 +9,18 @@ use Rattle.p25_delivery.specs.Runs.{EachIs}
 use Rattle.p25_io.specs.Octets.{Appended}
 use Rattle.p25_io.proofs.OctetsLaws.{Appended-same}
 use Rattle.p25_line.specs.declared.fault.LineFault.{LineFault}
-use Rattle.p25_stations.specs.Runs.{AreEvents, IsEvent, steps_of, world_run}
-use Rattle.p25_stations.specs.WorldState.{first_world}
+use Rattle.p25_stations.specs.Runs.{AreClean, AreEvents, IsEvent, steps_of, world_run}
+use Rattle.p25_stations.specs.WorldState.{WorldState, first_world}
 use Rattle.p25_stations.specs.declared.step.Event.{Event}
 use Rattle.p25_stations.proofs.CleanLaws.{run-orderly}
+use Rattle.p25_stations.proofs.FalsePassLaws.{clean-from_none}
 use Rattle.p25_script.specs.Script.{event_of}
 use Rattle.p25_script.proofs.ScriptLaws.{IsEvent-IsScripted, IsLineOf-event_of}
 use Rattle.p25_fragments.specs.LongState.{first_long}
-use Rattle.p25_fragments.specs.LongRuns.{IsLongEvent, AreLongEvents, long_run, long_steps_of}
+use Rattle.p25_fragments.specs.LongRuns.{IsCleanLongRun, IsLongEvent, AreLongEvents, long_run, long_steps_of}
 use Rattle.p25_fragments.specs.declared.long_step.LongEvent.{LongEvent}
 use Rattle.p25_fragments.specs.declared.long_step.LongEvent.TheVariants.{Long, Inner}
+use Rattle.p25_fragments.proofs.InnerRunLaws.{inner-run}
 use Rattle.p25_fragments.proofs.LongRunLaws.{long-orderly, long-unrefused}
 use Rattle.p25_fragment_script.specs.LongScript.{IsLongScripted, long_event_of}
 use Rattle.p25_fragment_script.specs.LongTexts.{long_step_text_of}
@@ -26,6 +28,7 @@ use Rattle.p25_fragment_script.proofs.LongScriptLaws.{IsLineOf-long_event_of}
 use Rattle.p25_duplex.specs.declared.event.DuplexEvent.{DuplexEvent}
 use Rattle.p25_duplex.specs.DuplexSteps.{first_duplex}
 use Rattle.p25_duplex.specs.DuplexRuns.{AreDuplexEvents, IsDuplexEvent, duplex_run, duplex_steps}
+use Rattle.p25_duplex.proofs.CountLaws.{clean-from_none as duplex-clean}
 use Rattle.p25_duplex.proofs.RunLaws.{run-orderly as duplex-orderly}
 use Rattle.p25_duplex_script.specs.DuplexLines.{duplex_event_of}
 use Rattle.p25_duplex_script.proofs.DuplexLineLaws.{read-event}
@@ -164,9 +167,16 @@ script-run told left first last input events script is_told end outcome same wor
   ended = script-ended event_of Stations stations-text stations-scripted told left first last input events script.short script.lines is_told outcome complete;
   wrote = λ done. wrote-done event_of Stations stations-text stations-scripted told left first last input events script.short script.lines is_told end worked (sym same ∙ done);
   orderly = λ clean. run-orderly events (are-events (lines_in true [] input) events script.lines) clean;
+  counted = clean-from_none events;
 }
 
 -- Scripts of long messages.
+
+-- the inner world counts its false passes
+long-clean : (events : List LongEvent) → (long_run first_long events).inner.false_passes ≡ 0 → IsCleanLongRun events
+long-clean events none =
+    let run = inner-run first_long events in
+    subst AreClean run.steps (clean-from_none run.events (ap (λ (w : WorldState). w.false_passes) run.world ∙ none))
 
 is-long_event : (event : LongEvent) → IsLongScripted event → IsLongEvent event
 unfolding IsLongScripted IsLongEvent
@@ -198,6 +208,7 @@ long-script-run told left first last input events script is_told end outcome sam
       wrote = λ done. wrote-done long_event_of Fragments fragments-text fragments-scripted told left first last input events script.short script.lines is_told end worked (sym same ∙ done);
       unrefused = λ clean. long-unrefused events fit clean;
       orderly = λ clean. long-orderly events fit clean;
+      counted = long-clean events;
     }
 
 -- Scripts of both stations.
@@ -227,4 +238,5 @@ duplex-script-run told left first last input events script is_told end outcome s
   ended = script-ended duplex_event_of Duplex duplex-text duplex-scripted told left first last input events script.short script.lines is_told outcome complete;
   wrote = λ done. wrote-done duplex_event_of Duplex duplex-text duplex-scripted told left first last input events script.short script.lines is_told end worked (sym same ∙ done);
   orderly = λ side clean. duplex-orderly events side (are-duplex_events (lines_in true [] input) events script.lines) clean;
+  counted = duplex-clean events;
 }

@@ -35,11 +35,12 @@ script_text events = flat_map step_line (steps_of first_world events) ++ closing
 
 -- a script was run to its end and all lines that tell of it were written, or memory was wanting; and where no step is a false
 -- pass, each session is orderly: the messages delivered are the first of those sent, those acknowledged were delivered, and one
--- at most was delivered that was not acknowledged
+-- at most was delivered that was not acknowledged. Where the closing line counts no false pass, no step is one
 pub record HasRun (first last : Option (List ℕ)) (events : List Event) (outcome : Outcome) : Type 0 where
   pub ended : (outcome ≡ Done) ⊎ (outcome ≡ Memory)
   pub wrote : outcome ≡ Done → Appended first (script_text events) last
   pub orderly : IsCleanRun events → AreOrderly (sessions_of (world_run first_world events).delivery)
+  pub counted : (world_run first_world events).false_passes ≡ 0 → IsCleanRun events
 
 -- the lines of an input are events of long messages
 pub record IsLongScriptOf (input : List ℕ) (events : List LongEvent) : Type 0 where
@@ -51,12 +52,14 @@ long_script_text events = flat_map long_step_text_of (long_steps_of first_long e
 
 -- the texts of their run are written. Where no step of the inner world is a false pass, no part is refused and each session is
 -- orderly: the long messages whole
--- are the first of those taken, those acknowledged are whole, and one at most is whole that was not acknowledged
+-- are the first of those taken, those acknowledged are whole, and one at most is whole that was not acknowledged. Where the closing line
+-- counts no false pass, no step is one
 pub record HasLongRun (first last : Option (List ℕ)) (events : List LongEvent) (outcome : Outcome) : Type 0 where
   pub ended : (outcome ≡ Done) ⊎ (outcome ≡ Memory)
   pub wrote : outcome ≡ Done → Appended first (long_script_text events) last
   pub unrefused : IsCleanLongRun events → AreUnrefused (long_steps_of first_long events)
   pub orderly : IsCleanLongRun events → AreOrderly (long_sessions_of (long_run first_long events))
+  pub counted : (long_run first_long events).inner.false_passes ≡ 0 → IsCleanLongRun events
 
 -- the lines of an input are events of both stations
 pub record IsDuplexScriptOf (input : List ℕ) (events : List DuplexEvent) : Type 0 where
@@ -68,8 +71,9 @@ abbrev pub duplex_script_text : List DuplexEvent → List ℕ
 duplex_script_text events = flat_map duplex_step_line (duplex_steps first_duplex events) ++ duplex_closing_lines (duplex_run first_duplex events)
 
 -- all lines that tell of their run are written, or memory was wanting. Where no step is a false pass, each session of each side's
--- messages is orderly
+-- messages is orderly. Where the last line counts no false pass, no step is one
 pub record HasDuplexRun (first last : Option (List ℕ)) (events : List DuplexEvent) (outcome : Outcome) : Type 0 where
   pub ended : (outcome ≡ Done) ⊎ (outcome ≡ Memory)
   pub wrote : outcome ≡ Done → Appended first (duplex_script_text events) last
   pub orderly : (side : Side) → IsCleanDuplex events → AreOrderly (sessions_of (delivery_at side (duplex_run first_duplex events)))
+  pub counted : (duplex_run first_duplex events).false_passes ≡ 0 → IsCleanDuplex events
