@@ -1,61 +1,158 @@
 #!/bin/sh
-# Puts the proved program and its man page under a folder: PREFIX/bin/p25 and PREFIX/share/man/man1/p25.1. Where no program
-# stands that is newer than its sources, ./prove makes it first. Where ./prove library has made the library, it is installed too:
-# PREFIX/lib/libp25.a and libp25.so, PREFIX/include/p25.h, PREFIX/lib/pkgconfig/p25.pc, and the module for Python.
+# Puts the proved program under a folder, with its companions, man pages, completions, pages and samples; where ./prove library has made
+# the library too, with that, its header, what pkg-config tells of it, and the module for Python. Where something is not made of the
+# sources that lie here, ./prove makes it first; where all is, neither the kit nor a compiler is needed.
 #
-# usage: ./install.sh PREFIX
+# usage: ./install.sh PREFIX               puts all under PREFIX
+#        ./install.sh --uninstall PREFIX   takes away what an install put there, and the folders that are empty then
+#
+# With DESTDIR in the environment all is put under DESTDIR/PREFIX, as package makers want it. PREFIX/share/p25/installed lists
+# what was put.
 set -eu
 unset CDPATH
 LC_ALL=C
 export LC_ALL
-if [ $# -ne 1 ]; then
-    echo "usage: ./install.sh PREFIX" >&2
+umask 022
+usage() {
+    echo "usage: ./install.sh [--uninstall] PREFIX" >&2
     exit 1
+}
+uninstall=no
+if [ "${1-}" = --uninstall ]; then
+    uninstall=yes
+    shift
 fi
+case $#${1-} in
+    1?*) ;;
+    *) usage ;;
+esac
+case $1 in
+    -*) usage ;;
+esac
 top=$(cd -- "$(dirname -- "$0")" && pwd)
+root=${DESTDIR-}$1
+list=share/p25/installed
+
+# Takes away each file of the list, and then each folder that held one and is empty.
+take_away() {
+    if [ ! -f "$root/$list" ]; then
+        echo "install.sh: nothing to take away: there is no $root/$list" >&2
+        exit 1
+    fi
+    paths=$(cat -- "$root/$list" && echo "$list")
+    printf '%s\n' "$paths" | while IFS= read -r path; do
+        rm -f -- "$root/$path"
+        # What Python kept of a module.
+        case $path in
+            *.py) rm -rf -- "$root/${path%/*}/__pycache__" ;;
+        esac
+    done
+    printf '%s\n' "$paths" | while IFS= read -r path; do
+        while [ "$path" != "${path%/*}" ]; do
+            path=${path%/*}
+            rmdir -- "$root/$path" 2>/dev/null || break
+        done
+    done
+    echo "took away what was installed under $1"
+}
+
+if [ "$uninstall" = yes ]; then
+    take_away "$1"
+    exit
+fi
+
 "$top/prove"
-mkdir -p -- "$1/bin" "$1/share/man/man1"
-cp -- "$top/out/p25" "$1/bin/p25"
-cp -- "$top/docs/p25.1" "$1/share/man/man1/p25.1"
+mkdir -p -- "$root/share/p25"
+made=$(mktemp)
+trap 'rm -f -- "$made"' EXIT
+: >"$root/$list.new"
+
+# Puts the file $2 at $3 below the folder, with the mode $1.
+put() {
+    mkdir -p -- "$root/${3%/*}"
+    cp -- "$2" "$root/$3.new"
+    chmod "$1" "$root/$3.new"
+    mv -f -- "$root/$3.new" "$root/$3"
+    printf '%s\n' "$3" >>"$root/$list.new"
+}
+
+# Makes $2 below the folder a second name, by a symbolic link to $1 beside it.
+name_too() {
+    ln -sf -- "$1" "$root/$2"
+    printf '%s\n' "$2" >>"$root/$list.new"
+}
+
+put 755 "$top/out/p25" bin/p25
+for page in "$top"/docs/*.1; do
+    put 644 "$page" "share/man/man1/${page##*/}"
+done
 echo "installed $1/bin/p25 and $1/share/man/man1/p25.1"
 
-# Beside it the companion programs, the words for bash to complete, the recipes, the samples and the release.
-mkdir -p -- "$1/share/bash-completion/completions" "$1/share/p25/samples"
+# Beside it the companion programs, the words for shells to complete, the pages, the samples and the release.
+completions=share/bash-completion/completions
+put 644 "$top/companions/completion.bash" $completions/p25
+if [ -f "$top/companions/completion.zsh" ]; then
+    put 644 "$top/companions/completion.zsh" share/zsh/site-functions/_p25
+fi
 for companion in "$top"/companions/p25-*; do
-    cp -- "$companion" "$1/bin/"
-    ln -sf p25 "$1/share/bash-completion/completions/${companion##*/}"
+    put 755 "$companion" "bin/${companion##*/}"
+    name_too p25 "$completions/${companion##*/}"
+    if [ -x "$top/companions/page_of" ]; then
+        "$top/companions/page_of" "$companion" >"$made"
+        put 644 "$made" "share/man/man1/${companion##*/}.1"
+    fi
 done
-cp -- "$top/companions/completion.bash" "$1/share/bash-completion/completions/p25"
-cp -- "$top/docs/RECIPES.md" "$top/RELEASE" "$1/share/p25/"
-cp -- "$top"/samples/* "$1/share/p25/samples/"
+for page in RECIPES.md FORMATS.md; do
+    put 644 "$top/docs/$page" "share/p25/$page"
+done
+put 644 "$top/RELEASE" share/p25/RELEASE
+# What companions share, and the parts of the page that p25-page makes.
+put 644 "$top/companions/p25_lines.py" share/p25/p25_lines.py
+for part in "$top"/companions/p25_page/*; do
+    put 644 "$part" "share/p25/p25_page/${part##*/}"
+done
+for sample in "$top"/samples/*; do
+    put 644 "$sample" "share/p25/samples/${sample##*/}"
+done
+# Installed, the commands of the page of the samples run in their folder.
+sed -e 's|\./p25 |p25 |g' -e 's|companions/p25-|p25-|g' -e 's|samples/\([a-z_]*\.\)|\1|g' "$top/samples/README.md" >"$root/share/p25/samples/README.md"
 echo "installed the companions p25-* beside it, and the recipes and samples in $1/share/p25"
 
-# The library, brought up to date, with its header, what pkg-config tells of it, and the Python module where Python looks under PREFIX.
+# The library, brought up to date, with its header and what pkg-config tells of it.
 if [ -f "$top/out/libp25.a" ]; then
     "$top/prove" library
-    mkdir -p -- "$1/include" "$1/lib/pkgconfig"
-    cp -- "$top/bindings/p25.h" "$1/include/"
-    cp -- "$top/out/libp25.a" "$1/lib/"
-    cat >"$1/lib/pkgconfig/p25.pc" <<END
+    release=$(sed 's/.* //' "$top/RELEASE")
+    put 644 "$top/bindings/p25.h" include/p25.h
+    put 644 "$top/out/libp25.a" lib/libp25.a
+    cat >"$made" <<END
 prefix=\${pcfiledir}/../..
 includedir=\${prefix}/include
 libdir=\${prefix}/lib
 
 Name: p25
 Description: the Project 25 Common Air Interface, by a proved library
-Version: $(sed 's/.* //' "$top/RELEASE")
+Version: $release
 Cflags: -I\${includedir}
 Libs: -L\${libdir} -lp25
 END
+    put 644 "$made" lib/pkgconfig/p25.pc
     echo "installed the library for C under $1/lib and $1/include"
 fi
+
+# The shared library, by its whole number, by the name that programs ask for, and by the one that a linker looks for.
 if [ -f "$top/out/libp25.a" ] && [ -f "$top/out/libp25.so" ]; then
-    cp -- "$top/out/libp25.so" "$1/lib/"
-    modules=$(cd -- "$1" && python3 -c 'import os, sysconfig; print(sysconfig.get_path("purelib", "posix_prefix", {"base": os.getcwd()}))') || modules=
+    put 644 "$top/out/libp25.so" "lib/libp25.so.$release"
+    name_too "libp25.so.$release" "lib/libp25.so.${release%%.*}"
+    name_too "libp25.so.${release%%.*}" lib/libp25.so
+    echo "a program that is linked with -lp25 starts where $1/lib is searched: by LD_LIBRARY_PATH, by -Wl,-rpath, or by ldconfig"
+    # Where Python looks under PREFIX; P25_PYTHON names another folder below it.
+    modules=${P25_PYTHON-$(python3 -c 'import sysconfig; print(sysconfig.get_path("purelib", "posix_prefix", {"base": "/base"})[6:])' 2>/dev/null)} || modules=
     if [ -n "$modules" ]; then
-        mkdir -p -- "$modules"
-        cp -- "$top/bindings/p25.py" "$modules/"
-        echo "use the module for Python by: PYTHONPATH=\"$modules\" python3 -m p25 FILE"
+        for file in "$top"/bindings/p25/*.py "$top"/bindings/p25/py.typed; do
+            put 644 "$file" "$modules/p25/${file##*/}"
+        done
+        echo "use the module for Python by: PYTHONPATH=\"$1/$modules\" python3 -m p25 FILE"
     fi
 fi
+mv -f -- "$root/$list.new" "$root/$list"
 echo "read the manual by: man -M $1/share/man p25"

@@ -1,4 +1,4 @@
-"""Makes the calls of p25.py, one kind in a run, so that bindings/test can compare what they answer. The status is 0 where all is as wanted.
+"""Makes the calls of the package p25, one kind in a run, so that bindings/test can compare what they answer. The status is 0 where all is as wanted.
 
 usage: try.py recording FILE SHOWN REPAIRED BRIDGED      what p25 writes of the file; bridged under 123 with status 2
        try.py build LINES UNITS                          the units of the lines with status 3
@@ -6,11 +6,16 @@ usage: try.py recording FILE SHOWN REPAIRED BRIDGED      what p25 writes of the 
        try.py words                                      standard input is lines CODE RECEIVED, as those of words.txt
        try.py codes                                      the other calls on words, blocks and checks
        try.py others                                     refusals, numbers and docstrings
+       try.py types FILE                                 what is taken for octets, and each way to use a stream, on a recording
 """
 
+import array
+import asyncio
 import inspect
+import mmap
 import os
 import sys
+import time
 
 import p25
 
@@ -39,7 +44,7 @@ def in_pieces(octets, size):
     stream, found = p25.Stream(), []
     for place in range(0, len(octets), size):
         found += stream.feed(octets[place : place + size])
-        assert len(stream._octets) < 3241 + size, len(stream._octets)
+        assert len(stream._held) < 3241 + size, len(stream._held)
     return found + list(stream.finish())
 
 
@@ -113,8 +118,74 @@ def try_others():
     assert list(p25.items(b"")) == []
     assert p25.version() == release(), p25.version()
     for name, value in vars(p25).items():
-        if not name.startswith("_") and getattr(value, "__module__", None) == "p25" and callable(value):
+        if not name.startswith("_") and getattr(value, "__module__", "").startswith("p25") and callable(value):
             assert inspect.getdoc(value), name
+
+
+def refused(call, *arguments):
+    """Checks that a call raises TypeError."""
+    try:
+        call(*arguments)
+    except TypeError:
+        return
+    raise AssertionError((call, arguments, "raises no TypeError"))
+
+
+class Reader:
+    """A reader as asyncio has them, over octets."""
+
+    def __init__(self, octets):
+        self._octets = octets
+
+    async def read(self, size):
+        piece, self._octets = self._octets[:size], self._octets[size:]
+        return piece
+
+
+async def taken(reader):
+    return [it async for it in p25.Stream().aread(reader, 999)]
+
+
+def try_types(path):
+    octets = read(path)
+    whole = list(p25.items(octets))
+    for given in (bytearray(octets), memoryview(octets), list(octets), array.array("B", octets)):
+        assert list(p25.items(given)) == whole and p25.repair(given) == p25.repair(octets) and p25.crc32(given) == p25.crc32(octets)
+    with open(path, "rb") as file, mmap.mmap(file.fileno(), 0, access=mmap.ACCESS_READ) as mapped:
+        assert list(p25.items(mapped)) == whole
+        file.seek(0)
+        with p25.Stream() as stream:
+            assert list(stream.read(file, 1000)) == whole
+    assert list(p25.items(memoryview(octets)[::2])) == list(p25.items(octets[::2]))
+    assert asyncio.run(taken(Reader(octets))) == whole
+    for wrong in (5, 1.5, None, "text", array.array("i", [1, 2]), [256], ["a"]):
+        for call in (p25.items, p25.repair, p25.repair_unit, p25.crc16, p25.RS_24_12.read, p25.Stream().feed):
+            try:
+                list(call(wrong)) if call is p25.items else call(wrong)
+            except (TypeError, ValueError):
+                continue
+            raise AssertionError((call, wrong))
+    for call in (p25.repair, p25.crc16, p25.crc32, p25.RS_24_12.read, p25.repair_unit):
+        refused(call, 24)
+        refused(call, "text")
+        refused(call, array.array("q", range(24)))
+    refused(p25.build, "tdu nac=293", 1.0)
+    refused(p25.bridge_unit, octets, 1.5, 0)
+    refused(p25.bridge_unit, octets, None, 0)
+    for item in whole:
+        kind, place, bits, *_, text = item
+        assert item[0] == kind == item.kind and (place, bits, text) == (item.place, item.bits, item.text) and len(item) == 7
+        assert item == tuple(item) and hash(item) == hash(item) and repr(item).startswith(f"Item(kind={kind!r}, place={place},")
+        assert item.kind == item.kind_id.name.lower() and len(item.octets) == (bits + 7) // 8
+        assert item.kind != "unit" or p25.repair_unit(item.octets) and isinstance(item.duid, p25.Duid)
+    # Items that are not taken cost no more than those that are: a feed is as quick with a million octets held as with none.
+    stream, begun = p25.Stream(), time.process_time()
+    for _ in range(4000):
+        stream.feed(bytes(1000))
+    assert time.process_time() - begun < 1, "a feed is linear"
+    error = p25.Error("unit")
+    assert error.cause is p25.Cause.UNIT == "unit" and str(error) == "unit" and isinstance(error, ValueError)
+    assert set(p25.__all__) <= set(vars(p25)) and p25.__version__ == ".".join(map(str, release()))
 
 
 CODES = {
@@ -199,6 +270,7 @@ CALLS = {
     "words": try_words,
     "codes": try_codes,
     "others": try_others,
+    "types": try_types,
 }
 
 if __name__ == "__main__":

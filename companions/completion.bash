@@ -10,17 +10,17 @@ _p25() {
             build:2 | bridge:3) words='0 1 2 3' ;;
         esac
     fi
-    COMPREPLY=($(compgen -W "$words" -- "$word"))
+    mapfile -t COMPREPLY < <(compgen -W "$words" -- "$word")
 }
 complete -o default -F _p25 p25 ./p25
 
+# The options of a companion are those that its help names before its first empty line.
 _p25_companion() {
-    local word=${COMP_WORDS[COMP_CWORD]} words=-h
+    local word=${COMP_WORDS[COMP_CWORD]} words
+    words="-h $("${COMP_WORDS[0]}" -h 2>/dev/null | sed '/^$/q' | grep -Eo -e '[[ ]--?[a-z-]+' | tr -d '[ ' | sort -u)"
     case ${COMP_WORDS[0]##*/} in
-        p25-octets) words='-h -p -s -l dibits digits bits octets floats' ;;
-        p25-rate) words='-h -t -g' ;;
-        p25-talkers) words='-h -c' ;;
+        p25-octets) words="$words dibits digits bits octets floats" ;;
     esac
-    COMPREPLY=($(compgen -W "$words" -- "$word"))
+    mapfile -t COMPREPLY < <(compgen -W "$words" -- "$word")
 }
-complete -o default -F _p25_companion p25-octets p25-guess p25-rate p25-talkers p25-json p25-damage p25-flip p25-split
+complete -o default -F _p25_companion p25-octets p25-guess p25-rate p25-talkers p25-calls p25-watch p25-page p25-json p25-damage p25-flip p25-split

@@ -30,6 +30,7 @@
     return (day ? text.slice(0, 10) + " " : "") + text.slice(11, tenths ? 21 : 19);
   };
   const tickText = (time, step) => {
+    if (data.begin !== null && step >= 86400000) return new Date(data.begin + time).toISOString().slice(5, 10);
     const text = timeText(time);
     return data.begin !== null && step >= 60000 ? text.slice(0, 5) : text;
   };
@@ -72,6 +73,7 @@
       const region = table.closest(".scroll");
       region.before(this.tools);
       region.after(this.more);
+      this.tools.hidden = rows.length < 2;
       this.filter.addEventListener("input", () => { this.most = this.step; this.show(); });
       this.heads = [...table.tHead.rows[0].cells];
       this.heads.forEach((head, column) => {
@@ -83,7 +85,7 @@
     }
     sort(column) {
       // A number is first sorted downwards, and a text upwards.
-      const first = this.heads[column].classList.contains("n") && column > 0;
+      const first = this.heads[column].classList.contains("n") && column > 0; // a number in the first column names the row
       this.down = this.column === column ? !this.down : first;
       this.column = column;
       this.heads.forEach((head, other) => {
@@ -106,8 +108,8 @@
     show() {
       const rows = this.chosen();
       this.body.replaceChildren(...rows.slice(0, this.most).map((row) => (row.element ||= row.make())));
-      this.told.textContent = rows.length === this.rows.length ? `${rows.length.toLocaleString("en")} rows`
-        : `${rows.length.toLocaleString("en")} of ${this.rows.length.toLocaleString("en")} rows`;
+      const all = this.rows.length.toLocaleString("en") + (this.rows.length === 1 ? " row" : " rows");
+      this.told.textContent = rows.length === this.rows.length ? all : `${rows.length.toLocaleString("en")} of ${all}`;
       this.more.replaceChildren();
       if (rows.length > this.most) {
         const more = make("button", { type: "button" }, `Show ${Math.min(this.step, rows.length - this.most)} more`);
@@ -132,7 +134,7 @@
 
   // -- The table of calls.
   const columns = [
-    ["Began", "n"], ["Length", "n"], ["Network", ""], ["From", ""], ["To", ""], ["Encryption", ""],
+    ["Began", "t"], ["Length", "n"], ["Network", ""], ["From", ""], ["To", ""], ["Encryption", ""],
     ["Heard", "n"], ["Lost", "n"], ["Broken", "n"], ["Wrong bits", "n"], ["Notes", ""],
   ];
   const rowOf = (call) => {
@@ -186,8 +188,8 @@
   const NICE = [1, 2, 5, 10, 20, 50, 100];
   const short = (text, room) => (text.length <= room ? text : text.slice(0, Math.max(1, room - 1)) + "…");
 
-  const chart = () => {
-    const width = Math.max(280, at("chart").clientWidth);
+  const chart = (asked) => {
+    const width = asked || Math.max(280, at("chart").clientWidth);
     const left = Math.min(190, Math.floor(width * 0.29));
     const right = width - 8;
     const [from, to] = view;
@@ -363,11 +365,20 @@
     at("time").hidden = true;
   }
 
-  // On paper all rows stand, as far as there is sense in it.
-  let kept = [];
+  // On paper all rows stand, as far as there is sense in it, the chart is as wide as the paper, and the words are explained.
+  const words = document.querySelector("details");
+  let kept = null;
   addEventListener("beforeprint", () => {
-    kept = tables.map((table) => table.most);
+    kept ||= [tables.map((table) => table.most), words.open];
     for (const table of tables) { table.most = 2000; table.show(); }
+    words.open = true;
+    if (calls.length) chart(720);
   });
-  addEventListener("afterprint", () => tables.forEach((table, i) => { table.most = kept[i]; table.show(); }));
+  addEventListener("afterprint", () => {
+    if (!kept) return;
+    tables.forEach((table, i) => { table.most = kept[0][i]; table.show(); });
+    words.open = kept[1];
+    kept = null;
+    if (calls.length) chart();
+  });
 })();

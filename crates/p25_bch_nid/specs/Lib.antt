@@ -1,3 +1,4 @@
+pub mod Duids
 pub mod Nid
 pub mod Bch63
 pub mod Bch63Readings

@@ -1,14 +1,15 @@
 -- Network identifiers (NID) as 64 sent bits: NAC, DUID, 47 check bits and P.
 use Rattle.std.specs.Prelude.{◌≡◌, ℕ, ◌+◌, ◌*◌, ◌/◌, ◌%◌, ◌^◌, ◌<◌, ◌==◌, ◌||◌, if◌then◌else◌}
 use Rattle.p25_bits.specs.Divisible.{IsDivisible}
+use Rattle.p25_bch_nid.specs.Duids.{duid_ldu1, duid_ldu2}
 
 -- the generator of BCH(63,16), octal 6331141367235453, of degree 47
 abbrev pub generator : ℕ
 generator = 0xCD930BDD3B2B
 
--- P by the writer's rule: 1 for DUID 5 (LDU1) and A hex (LDU2), 0 for every other
+-- P by the writer's rule: 1 for an LDU1 and an LDU2, 0 for every other unit
 abbrev pub parity_of : ℕ → ℕ
-parity_of duid = if duid == 5 || duid == 10 then 1 else 0
+parity_of duid = if duid == duid_ldu1 || duid == duid_ldu2 then 1 else 0
 
 -- the 64 bits that a network identifier (NID) is sent as, as a number: a BCH word that begins with NAC and DUID, and P
 pub record IsSent (nac duid bits : ℕ) : Type 0 where

@@ -2,6 +2,7 @@
 use Rattle.std.specs.Prelude.{◌-◌, Bool, true, not, ◌&&◌, if◌then◌else◌, ◌==◌, List, [], ◌∷◌, map, filter, count_by, Option, None}
 use Rattle.std.specs.List.{list_all, list_any}
 use Rattle.std.specs.Option.{option_or}
+use Rattle.p25_bch_nid.specs.Duids.{duid_tdu, duid_tdulc}
 use Rattle.p25_units.specs.declared.item.Item.{Item}
 use Rattle.p25_calls.specs.declared.call.Call.{Call}
 use Rattle.p25_calls.specs.declared.call.CallEnd.{CallEnd}
@@ -12,7 +13,7 @@ use Rattle.p25_calls.specs.Runs.{Run, last_unit, runs_by, units_in}
 
 -- how a call ends by its last unit: with a terminator without or with link control (TDU or TDULC), or with none
 abbrev pub end_of : UnitSeen → CallEnd
-end_of unit = if unit.duid == 3 then Tdu else if unit.duid == 0xF then Tdulc else Open
+end_of unit = if unit.duid == duid_tdu then Tdu else if unit.duid == duid_tdulc then Tdulc else Open
 
 -- what the first unit that has something has
 abbrev pub first_had : {X : Type 0} → (UnitSeen → Option X) → List UnitSeen → Option X

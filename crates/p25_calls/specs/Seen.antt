@@ -1,5 +1,6 @@
 -- The units of a list of items, as a call sees them, and the breaks between them.
 use Rattle.std.specs.Prelude.{ℕ, ◌+◌, Bool, true, false, not, ◌||◌, ◌==◌, nat_lt, List, filter_map, Option, Some, None}
+use Rattle.p25_bch_nid.specs.Duids.{duid_hdu, duid_ldu1, duid_ldu2, duid_tdu, duid_tdulc, duid_pdu}
 use Rattle.p25_link.specs.declared.link_control.LinkControl.{LinkControl}
 use Rattle.p25_voice_units.specs.declared.unit.VoiceUnit.TheVariants.{Header, Link1, Link2, End, EndLink}
 use Rattle.p25_units.specs.Units.{body_duid, frame_length_of}
@@ -58,19 +59,19 @@ units_of items = filter_map unit_of items
 
 -- a voice unit is each unit but a packet (PDU), whose data unit identifier (DUID) is C hex
 abbrev pub is_voice : UnitSeen → Bool
-is_voice unit = not (unit.duid == 0xC)
+is_voice unit = not (unit.duid == duid_pdu)
 
 -- a header (HDU) has the data unit identifier (DUID) 0
 abbrev pub is_header : UnitSeen → Bool
-is_header unit = unit.duid == 0
+is_header unit = unit.duid == duid_hdu
 
 -- a link unit has 5 (LDU1) or A hex (LDU2)
 abbrev pub is_link_unit : UnitSeen → Bool
-is_link_unit unit = unit.duid == 5 || unit.duid == 0xA
+is_link_unit unit = unit.duid == duid_ldu1 || unit.duid == duid_ldu2
 
 -- a terminator has 3 (TDU) or F hex (TDULC)
 abbrev pub is_terminator : UnitSeen → Bool
-is_terminator unit = unit.duid == 3 || unit.duid == 0xF
+is_terminator unit = unit.duid == duid_tdu || unit.duid == duid_tdulc
 
 -- where a unit ends: the place after its last bit
 abbrev pub unit_end : UnitSeen → ℕ

@@ -1,6 +1,7 @@
 //! What a call takes from an item.
 
 ghost use Rattle.std.specs.Prelude.{◌≡◌, ◌+◌, ◌^◌, ◌<◌, ◌≤◌, ◌==◌, IfSome};
+ghost use Rattle.p25_bch_nid.specs.Duids.{duid_tdulc};
 ghost use Rattle.p25_calls.specs.Seen.{algid_in, is_header, is_link_unit, is_terminator, is_voice, link_in, unit_end, unit_of};
 ghost use Rattle.p25_units.specs.Items.{IsSoundItem, covered, place_of};
 
@@ -58,7 +59,7 @@ impl UnitSeen {
 
     /// Answers whether it is a terminator with link control (TDULC).
     pub fn has_tdulc(&self) -> bool
-        ensures { result ≡ (self.now.duid == 15) }
+        ensures { result ≡ (self.now.duid == duid_tdulc) }
     {
         self.duid == TDULC
     }

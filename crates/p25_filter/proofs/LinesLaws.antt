@@ -1,8 +1,12 @@
--- The lines after one octet more, and texts after one more: each by one unfolding or by induction on the texts.
-use Rattle.std.proofs.Common.{◌≡◌, ◌≢◌, ℕ, zero, suc, ◌<◌, Bool, true, false, cond, nat_eq, nat_lt, List, [], ◌∷◌, ◌++◌, refl, subst, arith}
+-- The lines after more octets, texts after one more, and what lines are read as, by what the first is read as: each by one
+-- unfolding, or by induction on the octets or the texts.
+use Rattle.std.proofs.Common.{◌≡◌, ◌≢◌, ℕ, zero, suc, ◌+◌, ◌<◌, Bool, true, false, not, cond, nat_eq, nat_lt, List, [], ◌∷◌, ◌++◌, length, take, Some, None, Result, Ok, Err, refl, ap, sym, subst, ◌∙◌, arith, append_assoc, append-nil}
 use Rattle.std.specs.Prelude.{Contains}
+use Rattle.std.specs.List.{position_or_len}
 use Rattle.std.proofs.lemmas.Bool.Decides.{nat_tests}
-use Rattle.p25_filter.specs.Lines.{each_behind, lines_in}
+use Rattle.p25_line.specs.declared.fault.LineFault.{LineFault}
+use Rattle.p25_filter.specs.declared.ending.Ending.TheVariants.{BadLine}
+use Rattle.p25_filter.specs.Lines.{each_behind, lines_in, read_of, refusal_in}
 
 -- a test that holds chooses the first, and one that does not the second
 pub test_true : {X : Type 0} (test : Bool) (x y : X) → test ≡ true → cond test x y ≡ x
@@ -16,14 +20,54 @@ test_false false x y same = refl
 pub is_more : (m n : ℕ) → m < n → nat_lt m n ≡ true
 is_more m n more = grind (arith, nat_tests)
 
--- the lines after one octet more
-pub lines_in-end : (ended : Bool) (line more : List ℕ) → lines_in ended line (10 ∷ more) ≡ line ∷ lines_in ended [] more
-unfolding lines_in
-lines_in-end ended line more = refl
+-- how many octets are before the first LF
+abbrev pub octets_before : List ℕ → ℕ
+octets_before octets = position_or_len (λ octet. nat_eq octet 10) octets
 
-pub lines_in-octet : (ended : Bool) (line : List ℕ) (octet : ℕ) (more : List ℕ) → octet ≢ 10 → lines_in ended line (octet ∷ more) ≡ lines_in ended (line ++ octet ∷ []) more
+-- octets before the first LF go on with the line
+pub lines_in-part : (ended : Bool) (line octets more : List ℕ)
+    → lines_in ended line (take (octets_before octets) octets ++ more) ≡ lines_in ended (line ++ take (octets_before octets) octets) more
 unfolding lines_in
-lines_in-octet ended line octet more other = test_false (nat_eq octet 10) (line ∷ lines_in ended [] more) (lines_in ended (line ++ octet ∷ []) more) (grind (arith, nat_tests))
+lines_in-part ended line [] more = ap (λ (l : List ℕ). lines_in ended l more) (sym (append-nil line))
+lines_in-part ended line (octet ∷ octets) more = by_test (nat_eq octet 10) refl (lines_in-part ended (line ++ octet ∷ []) octets more)
+  where
+    count : ℕ
+    count = octets_before octets
+    by_test : (is : Bool) → nat_eq octet 10 ≡ is
+        → lines_in ended (line ++ octet ∷ []) (take count octets ++ more) ≡ lines_in ended ((line ++ octet ∷ []) ++ take count octets) more
+        → lines_in ended line (take (cond (not is) (1 + count) 0) (octet ∷ octets) ++ more) ≡ lines_in ended (line ++ take (cond (not is) (1 + count) 0) (octet ∷ octets)) more
+    by_test true same rest = ap (λ (l : List ℕ). lines_in ended l more) (sym (append-nil line))
+    by_test false same rest =
+        let next : suc count ≡ 1 + count = omega arith in
+        subst (λ (n : ℕ). lines_in ended line (take n (octet ∷ octets) ++ more) ≡ lines_in ended (line ++ take n (octet ∷ octets)) more) next
+        (test_false (nat_eq octet 10) (line ∷ lines_in ended [] (take count octets ++ more)) (lines_in ended (line ++ octet ∷ []) (take count octets ++ more)) same
+        ∙ rest ∙ ap (λ (l : List ℕ). lines_in ended l more) (append_assoc line (octet ∷ []) (take count octets)))
+
+-- the first LF ends the line
+take-end : (octets : List ℕ) → octets_before octets < length octets → take (octets_before octets + 1) octets ≡ take (octets_before octets) octets ++ 10 ∷ []
+take-end [] there = absurd (omega arith)
+take-end (octet ∷ octets) there = by_test (nat_eq octet 10) refl there (take-end octets)
+  where
+    count : ℕ
+    count = octets_before octets
+    by_test : (is : Bool) → nat_eq octet 10 ≡ is → cond (not is) (1 + count) 0 < length (octet ∷ octets)
+        → (count < length octets → take (count + 1) octets ≡ take count octets ++ 10 ∷ [])
+        → take (cond (not is) (1 + count) 0 + 1) (octet ∷ octets) ≡ take (cond (not is) (1 + count) 0) (octet ∷ octets) ++ 10 ∷ []
+    by_test true same below rest = let is : octet ≡ 10 = grind (arith, nat_tests, same) in ap (λ (o : ℕ). o ∷ []) is
+    by_test false same below rest =
+        let next : suc count ≡ 1 + count = omega arith in
+        subst (λ (n : ℕ). take (n + 1) (octet ∷ octets) ≡ take n (octet ∷ octets) ++ 10 ∷ []) next
+        (let more : suc count + 1 ≡ suc (count + 1) = omega arith in
+        ap (λ (n : ℕ). take n (octet ∷ octets)) more ∙ ap (λ (os : List ℕ). octet ∷ os) (rest (omega (arith, below))))
+
+pub lines_in-end : (ended : Bool) (line octets more : List ℕ) → octets_before octets < length octets
+    → lines_in ended line (take (octets_before octets + 1) octets ++ more) ≡ (line ++ take (octets_before octets) octets) ∷ lines_in ended [] more
+unfolding lines_in
+lines_in-end ended line octets more there =
+    let part = take (octets_before octets) octets in
+    ap (λ (os : List ℕ). lines_in ended line (os ++ more)) (take-end octets there)
+    ∙ ap (lines_in ended line) (append_assoc part (10 ∷ []) more)
+    ∙ lines_in-part ended line octets (10 ∷ more)
 
 -- what is the first of a list is in it, what is in the rest is, and in none is nothing
 pub Contains-here : {X : Type 0} (x : X) (xs : List X) → Contains (x ∷ xs) x
@@ -52,3 +96,39 @@ each_behind-from text (one ∷ texts) whole (zero, below, is) = (one, Contains-h
 each_behind-from text (one ∷ texts) whole (suc k, below, is) =
     let rest = each_behind-from text texts whole (k, omega (arith, below), is) in
     (rest.0, Contains-later one texts rest.0 rest.1, rest.2)
+
+-- texts after an empty one are those texts
+pub each_behind-none : (texts : List (List ℕ)) → each_behind [] texts ≡ texts
+unfolding each_behind
+each_behind-none [] = refl
+each_behind-none (text ∷ texts) = ap (λ ts. text ∷ ts) (each_behind-none texts)
+
+-- what lines are read as
+module _ {E : Type 0} (read : List ℕ → Result E LineFault) where
+  pub read_of-ok : (line : List ℕ) (lines : List (List ℕ)) (event : E) → read line ≡ Ok event → read_of read (line ∷ lines) ≡ event ∷ read_of read lines
+  unfolding read_of
+  read_of-ok line lines event is = ap (λ (r : Result E LineFault). elim r [ Ok event ↦ event ∷ read_of read lines | Err fault ↦ [] ]) is
+
+  pub read_of-err : (line : List ℕ) (lines : List (List ℕ)) (fault : LineFault) → read line ≡ Err fault → read_of read (line ∷ lines) ≡ []
+  unfolding read_of
+  read_of-err line lines fault is = ap (λ (r : Result E LineFault). elim r [ Ok event ↦ event ∷ read_of read lines | Err fault ↦ [] ]) is
+
+  pub read_of-nil : read_of read [] ≡ []
+  unfolding read_of
+  read_of-nil = refl
+
+  pub refusal_in-ok : (number : ℕ) (line : List ℕ) (lines : List (List ℕ)) (event : E) → read line ≡ Ok event
+      → refusal_in read number (line ∷ lines) ≡ refusal_in read (number + 1) lines
+  unfolding refusal_in
+  refusal_in-ok number line lines event is =
+      ap (λ (r : Result E LineFault). elim r [ Ok event ↦ refusal_in read (number + 1) lines | Err fault ↦ Some (BadLine number fault) ]) is
+
+  pub refusal_in-err : (number : ℕ) (line : List ℕ) (lines : List (List ℕ)) (fault : LineFault) → read line ≡ Err fault
+      → refusal_in read number (line ∷ lines) ≡ Some (BadLine number fault)
+  unfolding refusal_in
+  refusal_in-err number line lines fault is =
+      ap (λ (r : Result E LineFault). elim r [ Ok event ↦ refusal_in read (number + 1) lines | Err fault ↦ Some (BadLine number fault) ]) is
+
+  pub refusal_in-nil : (number : ℕ) → refusal_in read number [] ≡ None
+  unfolding refusal_in
+  refusal_in-nil number = refl

@@ -1,15 +1,14 @@
 -- The work on lines: what it still writes, for any octets that may still come.
-use Rattle.std.specs.Prelude.{◌≡◌, ℕ, ◌+◌, ◌*◌, Bool, true, false, ◌||◌, if◌then◌else◌, List, [], ◌∷◌, ◌++◌, Result, Ok, Err}
+use Rattle.std.specs.Prelude.{◌≡◌, ℕ, ◌+◌, ◌*◌, Bool, true, false, ◌||◌, if◌then◌else◌, List, [], ◌∷◌, ◌++◌, Option, Some, None, Result, Ok, Err}
 use Rattle.p25_line.specs.declared.fault.LineFault.{LineFault}
 use Rattle.p25_filter.specs.declared.ending.Ending.TheVariants.{BadLine}
 use Rattle.p25_filter.specs.declared.ending.Refusal.{Refusal}
-use Rattle.p25_filter.specs.declared.ending.Refusal.TheVariants.{Ended, Memory as NoMemory}
-use Rattle.p25_filter.specs.declared.line_machine.LineRefusal.TheVariants.{Fault, Memory}
+use Rattle.p25_filter.specs.declared.ending.Refusal.TheVariants.{Ended, Memory}
 use Rattle.p25_filter.specs.declared.line_filter.LinePhase.{LinePhase}
 use Rattle.p25_filter.specs.declared.line_filter.LinePhase.TheVariants.{Reading, Ready, ReadyLast, Closing, Closed}
 use Rattle.p25_filter.specs.Futures.{Future}
-use Rattle.p25_filter.specs.Lines.{each_behind, lines_ending, lines_in}
-use Rattle.p25_filter.specs.LineRules.{IsLineRefused, LineRules, lines_before, lines_refusal, lines_written}
+use Rattle.p25_filter.specs.Lines.{each_behind, lines_ending, lines_in, read_of, refusal_in}
+use Rattle.p25_filter.specs.LineRules.{LineRules, both_pieces, written_before, written_for}
 
 -- the machine, the octets kept of the line that has begun or is there, how many lines were taken, the second piece of a text
 -- whose first was given out, and how far the work has come
@@ -17,15 +16,15 @@ pub record LineFiltering (M : Type 0) : Type 0 where
   pub machine : M
   pub line : List ℕ
   pub lines : ℕ
-  pub behind : List ℕ
+  pub behind : Option (List ℕ)
   pub phase : LinePhase
 
-abbrev pub line_filtering : {M : Type 0} → M → List ℕ → ℕ → List ℕ → LinePhase → LineFiltering M
+abbrev pub line_filtering : {M : Type 0} → M → List ℕ → ℕ → Option (List ℕ) → LinePhase → LineFiltering M
 line_filtering machine line lines behind phase = record { machine = machine; line = line; lines = lines; behind = behind; phase = phase }
 
 -- before the first octet
 abbrev pub first_line : {M : Type 0} → M → LineFiltering M
-first_line machine = line_filtering machine [] 0 [] Reading
+first_line machine = line_filtering machine [] 0 None Reading
 
 -- how many lines are there to be taken
 abbrev pub lines_ready : LinePhase → ℕ
@@ -65,25 +64,44 @@ closes_with Closed ended = false
 abbrev pub pieces_of : LinePhase → ℕ
 pieces_of phase = 2 * lines_ready phase + (if closes_with phase false then 1 else 0)
 
--- what is still written, how the call ends, and after which texts memory may be wanting
-unfoldable pub line_future : {M : Type 0} → LineRules M → LineFiltering M → Future
+-- how many pieces a second one is
+abbrev pub piece_behind : Option (List ℕ) → ℕ
+piece_behind None = 0
+piece_behind (Some second) = 1
+
+-- what is still written, how the call ends, and after which texts memory may be wanting, by the lines that are still to be taken
+unfoldable pub line_future : {M E : Type 0} → LineRules M E → LineFiltering M → Future
 line_future rules work = record {
-  writes = λ ended more. work.behind ++ lines_written rules (closes_with work.phase ended) work.machine (lines_left work.phase work.line ended more);
+  writes = λ ended more.
+      let lines = lines_left work.phase work.line ended more in
+      both_pieces [] work.behind
+      ++ written_for rules (closes_with work.phase ended) (refusal_in rules.read (work.lines + 1) lines) work.machine (read_of rules.read lines);
   ends = λ ended more.
-      lines_ending (ends_with work.phase ended) (lines_refusal rules (work.lines + 1) work.machine (lines_left work.phase work.line ended more));
-  pauses = λ ended more. if rules.wants then each_behind work.behind (lines_before rules work.machine (lines_left work.phase work.line ended more)) else [];
+      lines_ending (ends_with work.phase ended) (refusal_in rules.read (work.lines + 1) (lines_left work.phase work.line ended more));
+  pauses = λ ended more.
+      let events = read_of rules.read (lines_left work.phase work.line ended more) in
+      if rules.wants then each_behind (both_pieces [] work.behind) (written_before rules work.machine events) else [];
 }
 
--- a line that is there was taken, and its text given out in two pieces
-pub record IsTextGiven {M : Type 0} (rules : LineRules M) (phase : LinePhase) (before : LineFiltering M) (out : List ℕ) (now : LineFiltering M) : Type 0 where
+-- a line that is there was read as an event, and the text for it given out in one piece or two
+pub record IsTextGiven {M E : Type 0} (rules : LineRules M E) (phase : LinePhase) (before : LineFiltering M) (out : List ℕ) (now : LineFiltering M)
+    : Type 0 where
+  pub event : E
   pub machine : M
-  pub behind : List ℕ
-  pub answer : rules.answer before.machine before.line ≡ Ok (out ++ behind, machine)
+  pub behind : Option (List ℕ)
+  pub read : rules.read before.line ≡ Ok event
+  pub step : rules.step before.machine event ≡ (machine, both_pieces out behind)
   pub now_is : now ≡ line_filtering machine [] (before.lines + 1) behind phase
 
--- or it was not, and all is as it was
-abbrev pub IsLineGiven : {M : Type 0} → LineRules M → LinePhase → LineFiltering M → Result Bool Refusal → List ℕ → LineFiltering M → Type 0
+-- a line that is there is an event, and memory is wanting for it
+pub record IsWanting {M E : Type 0} (rules : LineRules M E) (before : LineFiltering M) : Type 0 where
+  pub wants : rules.wants ≡ true
+  pub event : E
+  pub read : rules.read before.line ≡ Ok event
+
+-- a line that is there was taken, or it was not and all is as it was
+abbrev pub IsLineGiven : {M E : Type 0} → LineRules M E → LinePhase → LineFiltering M → Result Bool Refusal → List ℕ → LineFiltering M → Type 0
 IsLineGiven rules phase before (Ok answer) out now = (answer ≡ true) × IsTextGiven rules phase before out now
-IsLineGiven rules phase before (Err NoMemory) out now = (now ≡ before) × IsLineRefused rules before.machine before.line Memory
+IsLineGiven rules phase before (Err Memory) out now = (now ≡ before) × IsWanting rules before
 IsLineGiven rules phase before (Err (Ended ending)) out now =
-    (now ≡ before) × ((fault : LineFault) × (ending ≡ BadLine (before.lines + 1) fault) × IsLineRefused rules before.machine before.line (Fault fault))
+    (now ≡ before) × ((fault : LineFault) × (ending ≡ BadLine (before.lines + 1) fault) × (rules.read before.line ≡ Err fault))

@@ -26,17 +26,7 @@ pub trait Filter {
     // How large its counts have grown.
     ghost size: { Self → ℕ };
 
-    /// Takes the next octet of the input.
-    fn push(&mut self, octet: u8)
-        requires drained { IsDrained self.old }
-        requires going { is_finished self.old ≡ false }
-        requires few { size self.old < 2 ^ 28 }
-        ensures moved { Progress (future self.old) (octet ∷ []) [] (future self.new) }
-        ensures going { is_finished self.new ≡ false }
-        ensures size { size self.new ≤ size self.old + 8 };
-
-    /// Takes some of the next octets of the input, from the first of these on, and answers how many: at least one, and more
-    /// where that is quicker.
+    /// Takes some of the next octets of the input, from the first of these on, and answers how many: at least one.
     fn push_some(&mut self, octets: &[u8]) -> usize
         requires some { 0 < length octets.now }
         requires drained { IsDrained self.old }
@@ -46,11 +36,7 @@ pub trait Filter {
         ensures there { result ≤ length octets.now }
         ensures moved { Progress (future self.old) (take result octets.now) [] (future self.new) }
         ensures going { is_finished self.new ≡ false }
-        ensures size { size self.new ≤ size self.old + 8 * result }
-    {
-        self.push(octets[0]);
-        1
-    }
+        ensures size { size self.new ≤ size self.old + 8 * result };
 
     /// Is told that the input has ended.
     fn finish(&mut self)

@@ -1,19 +1,16 @@
 //! The work on an input: reading it in pieces, handing its octets to a command, and writing what the command gives.
 
-ghost use Rattle.std.specs.Prelude.{◌≡◌, ℕ, ◌+◌, ◌*◌, ◌^◌, ◌<◌, ◌≤◌, ◌⊎◌, false, true, List, [], ◌∷◌, length, take, Some, OnOk, IfOk, IfErr};
+ghost use Rattle.std.specs.Prelude.{◌≡◌, ℕ, ◌+◌, ◌*◌, ◌^◌, ◌<◌, ◌≤◌, ◌⊎◌, false, true, List, [], ◌∷◌, length, take, OnOk, IfErr};
 ghost use Rattle.p25_io.specs.Events.{Event};
-ghost use Rattle.p25_io.specs.Faults.{Rose};
-ghost use Rattle.p25_io.specs.Pairs.{SourceGoes, SinkGoes};
 ghost use Rattle.p25_filter.specs.Endings.{end_of};
 ghost use Rattle.p25_filter.specs.Futures.{EndsBy, IsIdle, IsStopped, Moved};
-ghost use Rattle.p25_filter.specs.Runs.{Filtered, all_written};
 ghost use Rattle.p25_filter.specs.Traces.{IsRun};
 ghost use Rattle.p25_filter.specs.Writes.{Written, CutShort};
 
 use super::ending::{FilterEnd, Refusal, Stop};
 use super::filter::Filter;
 use super::page::{flush, gather};
-use p25_io::{Pair, Port, Sink, Source};
+use p25_io::Port;
 use p25_line::Line;
 
 // The most octets of an input.
@@ -138,43 +135,4 @@ pub fn run_on<W: Filter, P: Port>(filter: &mut W, port: &mut P) -> FilterEnd
         }
         taken += count;
     }
-}
-
-// The work on the port of a source and a sink: what each went through.
-fn run_between<W: Filter, S: Source, K: Sink>(
-    filter: &mut W,
-    source: &mut S,
-    sink: &mut K,
-) -> FilterEnd
-    requires drained { W.IsDrained filter.old }
-    requires idle { IsIdle false (W.future filter.old) }
-    requires going { W.is_finished filter.old ≡ false }
-    requires few { W.size filter.old ≡ 0 }
-    ensures { (events : List Event) × SourceGoes S.left S.faults source.old events source.new
-        × SinkGoes K.written K.faults sink.old events sink.new × IsRun (W.future filter.old) events result }
-{
-    let mut pair = Pair::new(source, sink);
-    run_on(filter, &mut pair)
-}
-
-/// Reads the source to its end, at most 16,777,216 octets, hands the octets to the command and writes what it gives. All
-/// that the octets taken so far decide is written before the next read. Where there is not enough memory, what came before is
-/// written.
-pub fn run_filter<W: Filter, S: Source, K: Sink>(
-    filter: &mut W,
-    source: &mut S,
-    sink: &mut K,
-) -> FilterEnd
-    requires drained { W.IsDrained filter.old }
-    requires idle { IsIdle false (W.future filter.old) }
-    requires going { W.is_finished filter.old ≡ false }
-    requires few { W.size filter.old ≡ 0 }
-    ensures worked { Filtered (S.left source.old) (S.left source.new) (K.written sink.old) (K.written sink.new) (W.future filter.old) result }
-    ensures untouched { (input : List ℕ) → S.left source.old ≡ Some input → all_written (W.future filter.old) input ≡ [] → sink.new ≡ sink.old }
-    ensures source_later { S.faults source.old ≤ S.faults source.new }
-    ensures sink_later { K.faults sink.old ≤ K.faults sink.new }
-    ensures read_fault { result ≡ FilterEnd.ReadFault → Rose (S.faults source.old) (S.faults source.new) }
-    ensures write_fault { result ≡ FilterEnd.WriteFault → Rose (K.faults sink.old) (K.faults sink.new) }
-{
-    run_between(filter, source, sink)
 }

@@ -6,7 +6,7 @@
 //! let mut room = [0; 64];
 //! let mut sink = SliceSink::new(&mut room, &[]);
 //! let mut lines = LineFilter::new(Echo);
-//! let end = run_filter(&mut lines, &mut source, &mut sink);
+//! let end = run_on(&mut lines, &mut Pair::new(&mut source, &mut sink));
 //! assert_eq!(rt; end, FilterEnd::Ended(Ending::Done));
 //! ```
 //!
@@ -18,10 +18,11 @@
 //! `run_on` does the work on any port, and reads to the end of the input, at most 16,777,216 octets. Its contract says which
 //! reads and writes it makes, and in which order: they are a live run of events (`IsRun`), in which all that the octets read so
 //! far decide is written before the next read, no write is empty, and nothing comes after a fault. `laws::order_laws` says what
-//! this comes to. `run_filter` is that work between a source and a sink; what stands after each way to end is `Filtered`.
+//! this comes to. Between a source and a sink (`Pair`), what stands after each way to end is `Filtered`.
 //!
-//! A command over lines is a `LineMachine`, which answers each line with a text, and `LineFilter` is the filter that it makes.
-//! Contracts see it by its `LineRules`: the text of a line and the machine after it, or the fault of the line.
+//! A command over lines is a `LineMachine`, which reads each line as an event and answers it with a text, and `LineFilter` is the
+//! filter that it makes. Contracts see it by its `LineRules`: the event of a line, or its fault; and the machine after an event and
+//! the text for it.
 #![tactic(auto)]
 
 mod ending;
@@ -34,9 +35,9 @@ mod page;
 
 pub use ending::{Ending, FilterEnd, Refusal};
 pub use filter::Filter;
-pub use input::{run_filter, run_on};
+pub use input::run_on;
 pub use line_filter::LineFilter;
-pub use line_machine::{LineMachine, LineRefusal};
+pub use line_machine::LineMachine;
 
 #[cfg(test)]
 mod tests;

@@ -1,11 +1,12 @@
 //! The work of a command on the lines of its input.
 
-ghost use Rattle.std.specs.Prelude.{◌≡◌, ◌<◌, true, false, [], length};
+ghost use Rattle.std.specs.Prelude.{◌≡◌, ◌+◌, ◌^◌, ◌≤◌, ◌++◌, ◌==◌, true, false, Some, None, length, take};
+ghost use Rattle.std.specs.List.{position_or_len};
 ghost use Rattle.p25_filter.specs.LineFilters.{first_line, lines_ready, IsLineGiven};
 
 use super::ending::{Ending, Refusal};
 use super::filter::Filter;
-use super::line_machine::{LineMachine, LineRefusal};
+use super::line_machine::LineMachine;
 use arrayvec::ArrayVec;
 use p25_line::Line;
 use std::marker::Model;
@@ -36,7 +37,7 @@ pub struct LineFilter<M: LineMachine> {
     line: ArrayVec<u8, 8_193>,
     lines: u64,
     // The second piece of a text whose first was given out.
-    behind: Line,
+    behind: Option<Line>,
     phase: LinePhase,
 }
 
@@ -60,9 +61,19 @@ impl<M: LineMachine> LineFilter<M> {
             machine,
             line: ArrayVec::new(),
             lines: 0,
-            behind: Line::new(),
+            behind: None,
             phase: LinePhase::Reading,
         }
+    }
+
+    // Keeps octets of the line that has begun, as many as are kept of a line, and goes on to a phase.
+    fn keep(&mut self, octets: &[u8], phase: LinePhase)
+        requires { self.old.lines + lines_ready phase ≤ 2 ^ 28 }
+        ensures { self.new ≡ record self.old { line = take 8193 (self.old.line ++ octets.now); phase = phase } }
+    {
+        let fits = octets.len().min(KEPT_MOST - self.line.len());
+        self.line.try_extend_from_slice(&octets[..fits]).unwrap();
+        self.phase = phase;
     }
 
     // Has the machine take the line that is there. Sets `out` to the first piece of its text and goes on to a phase, or
@@ -70,62 +81,78 @@ impl<M: LineMachine> LineFilter<M> {
     fn take_line(&mut self, phase: LinePhase, out: &mut Line) -> Result<bool, Refusal>
         requires ready { lines_ready self.old.phase ≡ 1 }
         requires taken { lines_ready phase ≡ 0 }
-        requires empty { self.old.behind ≡ [] }
+        requires none { self.old.behind ≡ None }
         ensures { IsLineGiven M.rules phase self.old result out.new self.new }
     {
-        match self
-            .machine
-            .take(self.line.as_slice(), out, &mut self.behind)
-        {
-            Ok(()) => {
+        let event = match M::read(self.line.as_slice()) {
+            Ok(event) => event,
+            Err(fault) => {
+                return Err(Refusal::Ended(Ending::BadLine {
+                    line: self.lines + 1,
+                    fault,
+                }));
+            }
+        };
+        match self.machine.take(event, out) {
+            Ok(second) => {
+                self.behind = second;
                 self.line.clear();
                 self.lines += 1;
                 self.phase = phase;
                 Ok(true)
             }
-            Err(LineRefusal::Memory) => Err(Refusal::Memory),
-            Err(LineRefusal::Fault(fault)) => Err(Refusal::Ended(Ending::BadLine {
-                line: self.lines + 1,
-                fault,
-            })),
+            Err(_) => Err(Refusal::Memory),
         }
     }
 
     // Sets `out` to the second piece of a text, where one is there, and answers whether it is.
     fn give_behind(&mut self, out: &mut Line) -> bool
-        ensures given { result ≡ true → (out.new ≡ self.old.behind) × (0 < length self.old.behind) × (self.new ≡ record self.old { behind = [] }) }
-        ensures none { result ≡ false → (self.old.behind ≡ []) × (self.new ≡ self.old) }
+        ensures given { result ≡ true → (self.old.behind ≡ Some out.new) × (self.new ≡ record self.old { behind = None }) }
+        ensures none { result ≡ false → (self.old.behind ≡ None) × (self.new ≡ self.old) }
     {
-        if self.behind.len() == 0 {
+        let Some(second) = self.behind.take() else {
             return false;
-        }
-        out.clear();
-        out.put(self.behind.octets());
-        self.behind.clear();
+        };
+        *out = second;
         true
     }
 }
 
+// The number of octets before the first LF, or of all octets where there is none.
+fn line_length(octets: &[u8]) -> usize
+    ensures value { result ≡ position_or_len (λ octet. octet == 10) octets.now }
+    ensures within { result ≤ length octets.now }
+{
+    for i in 0..octets.len() {
+        if octets[i] == b'\n' {
+            return i;
+        }
+    }
+    octets.len()
+}
+
 impl<M: LineMachine> Filter for LineFilter<M> {
-    ghost use Rattle.std.specs.Prelude.{◌≡◌, ◌+◌, [], length, min};
-    ghost use Rattle.p25_filter.specs.LineFilters.{line_future, is_ended_phase, lines_ready, pieces_of};
+    ghost use Rattle.std.specs.Prelude.{◌≡◌, ◌+◌, None};
+    ghost use Rattle.p25_filter.specs.LineFilters.{line_future, is_ended_phase, lines_ready, pieces_of, piece_behind};
 
     ghost future = { line_future M.rules };
 
     ghost is_finished = { λ s. is_ended_phase s.phase };
 
-    ghost IsDrained = { λ s. (pieces_of s.phase ≡ 0) × (s.behind ≡ []) };
+    ghost IsDrained = { λ s. (pieces_of s.phase ≡ 0) × (s.behind ≡ None) };
 
-    ghost pieces_left = { λ s. pieces_of s.phase + min 1 (length s.behind) };
+    ghost pieces_left = { λ s. pieces_of s.phase + piece_behind s.behind };
 
     ghost size = { λ s. s.lines + lines_ready s.phase };
 
-    fn push(&mut self, octet: u8) {
-        if octet == b'\n' {
-            self.phase = LinePhase::Ready;
-        } else if self.line.len() < KEPT_MOST {
-            self.line.push(octet);
+    fn push_some(&mut self, octets: &[u8]) -> usize {
+        let count = line_length(octets);
+        if count == octets.len() {
+            self.keep(&octets[..count], LinePhase::Reading);
+            return count;
         }
+        self.keep(&octets[..count], LinePhase::Ready);
+        count + 1
     }
 
     fn finish(&mut self) {

@@ -2,8 +2,9 @@
 //! fault of each kind.
 
 use super::*;
-use p25_io::{Call, MemorySource, SliceSink, SteadySource, Tape};
+use p25_io::{Call, MemorySource, Pair, SliceSink, SteadySource, Tape};
 use p25_line::{Line, LineFault};
+use std::alloc::AllocError;
 use std::test::Fail;
 
 // Gives each line back, and refuses an empty one.
@@ -11,21 +12,30 @@ use std::test::Fail;
 struct Echo;
 
 impl LineMachine for Echo {
+    ghost use Rattle.std.specs.Prelude.{⊤};
     ghost use Rattle.p25_filter.specs.Echoes.{echo_rules, echo_long};
+
+    type Event = Line;
 
     ghost rules = { echo_rules };
 
-    fn take(&mut self, line: &[u8], out: &mut Line, behind: &mut Line) -> Result<(), LineRefusal> {
-        let _ = &behind;
+    ghost IsRead = { λ _. ⊤ };
+
+    fn read(line: &[u8]) -> Result<Line, LineFault> {
         if line.len() > 8_192 {
-            return Err(LineRefusal::Fault(LineFault::Long));
+            return Err(LineFault::Long);
         }
         if line.len() == 0 {
-            return Err(LineRefusal::Fault(LineFault::Form));
+            return Err(LineFault::Form);
         }
-        out.clear();
-        out.put(line);
-        Ok(())
+        let mut event = Line::new();
+        event.put(line);
+        Ok(event)
+    }
+
+    fn take(&mut self, event: Line, out: &mut Line) -> Result<Option<Line>, AllocError> {
+        *out = event;
+        Ok(None)
     }
 
     fn close(&self, out: &mut Line) {
@@ -41,8 +51,9 @@ fn lines_given_back(rt: HostRuntime) {
     let mut room = [0; 64];
     let mut sink = SliceSink::new(&mut room, &[]);
     let mut lines = LineFilter::new(Echo);
-    let end = run_filter(&mut lines, &mut source, &mut sink);
+    let end = run_on(&mut lines, &mut Pair::new(&mut source, &mut sink));
     assert_eq!(rt; end, FilterEnd::Ended(Ending::Done));
+    assert_eq!(rt; sink.written(), b"abcd".as_slice());
 }
 
 #[test]
@@ -65,14 +76,6 @@ fn refusals_in_words(rt: HostRuntime) -> Result<(), Fail> {
     assert_eq!(rt;
         FilterEnd::TooLong.to_string(rt.alloc())?.as_str(),
         "input too long"
-    );
-    assert_eq!(rt;
-        LineRefusal::Fault(fault).to_string(rt.alloc())?.as_str(),
-        "value"
-    );
-    assert_eq!(rt;
-        LineRefusal::Memory.to_string(rt.alloc())?.as_str(),
-        "out of memory"
     );
     Ok(())
 }

@@ -13,7 +13,8 @@ octets_from_more octets n value bits is =
     ∙ ap (λ (xs : List ℕ). octets ++ xs) (ap (λ v. octets_from n bits ++ v ∷ []) is ∙ sym (numbers_from-more 8 n bits))
 
 -- one more flag set to a bit
-pub same_flags_more : (flags bits : List Bool) (i : ℕ) (bit : Bool) → i < length flags → i < length bits → slice_get bits i ≡ Some bit → take i flags ≡ take i bits → take (i + 1) (set flags i bit) ≡ take (i + 1) bits
+pub same_flags_more : (flags bits : List Bool) (i : ℕ) (bit : Bool) → i < length flags → i < length bits → slice_get bits i ≡ Some bit → take i flags ≡ take i bits
+    → take (i + 1) (set flags i bit) ≡ take (i + 1) bits
 same_flags_more flags bits i bit inside there is so_far =
     take_more_set flags i bit inside
     ∙ ap₂ (λ (xs : List Bool) b. xs ++ b ∷ []) so_far (sym (get_or_from_slice_get bits i bit false is))

@@ -1,5 +1,5 @@
 -- What the makers of headers need: a flag in front of seven bits, and an LLID as three octets. By remainders.
-use Rattle.std.proofs.Common.{◌≡◌, ℕ, ◌+◌, ◌*◌, ◌/◌, ◌<◌, Bool, true, false, cond, eqb, List, ap, ◌∙◌, arith}
+use Rattle.std.proofs.Common.{◌≡◌, ℕ, ◌+◌, ◌*◌, ◌/◌, ◌<◌, Bool, true, false, cond, eqb, ap, arith}
 use Rattle.p25_bits.specs.Numbers.{triple_at}
 use Rattle.p25_packet_blocks.specs.Heads.{llid_octets}
 
@@ -22,8 +22,5 @@ pub some_flag : (number : ℕ) → number < 8 → eqb ((136 + 16 * number) / 128
 some_flag number small = let one : (136 + 16 * number) / 128 ≡ 1 = omega (arith, small) in ap (λ n. eqb n 1) one
 
 -- the three octets of an LLID write it
-octets_back : (llid : ℕ) → triple_at (llid_octets llid) 0 ≡ llid
+pub octets_back : (llid : ℕ) → triple_at (llid_octets llid) 0 ≡ llid
 octets_back llid = omega arith
-
-pub llid_back : (llid : ℕ) (octets : List ℕ) → octets ≡ llid_octets llid → triple_at octets 0 ≡ llid
-llid_back llid octets are = ap (λ (xs : List ℕ). triple_at xs 0) are ∙ octets_back llid

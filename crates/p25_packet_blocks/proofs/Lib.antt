@@ -15,3 +15,4 @@ pub mod NearLaws
 pub mod WholeLaws
 pub mod FixesLaws
 pub mod PacketFixesLaws
+pub mod OutcomeLaws

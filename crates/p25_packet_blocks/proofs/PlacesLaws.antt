@@ -52,7 +52,8 @@ IsBodyBlock-body_block (Confirmed packet) sendable j inside =
     )
 IsBodyBlock-body_block (Plain packet) sendable j inside =
     let octets = octets_of_block packet sendable j inside in
-    subst (IsBlock 4 2 half_point (part (12 * j) 12 (checked_octets packet.octets))) (sym (body_block-plain packet j)) (IsBlock-half (part (12 * j) 12 (checked_octets packet.octets)) octets.0 octets.1)
+    subst (IsBlock 4 2 half_point (part (12 * j) 12 (checked_octets packet.octets))) (sym (body_block-plain packet j))
+    (IsBlock-half (part (12 * j) 12 (checked_octets packet.octets)) octets.0 octets.1)
 
 -- and no other bits
 pub body_block-only : (packet : Packet) → IsSendable packet → (j : ℕ) → j < head_blocks (packet_head packet) → (bits : List Bool) → IsBodyBlock packet j bits → bits ≡ body_block packet j
@@ -81,7 +82,8 @@ same_element bits i d inside = get_or_from_slice_get bits i (get_or bits i false
 
 -- a list of bits that are all 0
 all_false : (bits : List Bool) (n : ℕ) → length bits ≡ n → ((i : ℕ) → i < length bits → get_or bits i false ≡ false) → bits ≡ replicate n false
-all_false bits n long each = same_lists bits (replicate n false) (long ∙ sym (length-replicate n false)) (λ i d inside. same_element bits i d inside ∙ each i inside ∙ sym (get_or-replicate n i false d (omega arith)))
+all_false bits n long each =
+    same_lists bits (replicate n false) (long ∙ sym (length-replicate n false)) (λ i d inside. same_element bits i d inside ∙ each i inside ∙ sym (get_or-replicate n i false d (omega arith)))
 
 -- The parts of the image.
 
@@ -123,7 +125,8 @@ module _ (nac : ℕ) (packet : Packet) (sendable : IsSendable packet) where
 
   pub image_long : length (packet_image_of nac packet) ≡ packet_bare_length count
   unfolding packet_nulls
-  image_long = ap length grouped ∙ length-append (front ++ header ++ body) (packet_nulls count) ∙ omega (arith, long_bits, filled, length-replicate (packet_bare_length count - packet_bits count) false)
+  image_long =
+      ap length grouped ∙ length-append (front ++ header ++ body) (packet_nulls count) ∙ omega (arith, long_bits, filled, length-replicate (packet_bare_length count - packet_bits count) false)
 
   -- the front
   pub image_front : take 112 (packet_image_of nac packet) ≡ front
@@ -170,10 +173,12 @@ module _ (nac : ℕ) (packet : Packet) (sendable : IsSendable packet) where
       let first = unit_front-only nac 12 (take 112 bits) is.front in
       let second : part 112 196 bits ≡ header = same_block_from 4 2 half_point (header_octets head) (header_bits bits) refl (length-header_octets head keeps) is.header in
       let third : part 308 (196 * count) bits ≡ body
-      = sym (joined_below-parts 308 196 count bits) ∙ joined_below-same count (λ j. part (308 + 196 * j) 196 bits) (body_block packet) (λ j inside. body_block-only packet sendable j inside (block_bits bits j) (is.blocks j inside)) in
+      = sym (joined_below-parts 308 196 count bits) ∙ joined_below-same count (λ j. part (308 + 196 * j) 196 bits) (body_block packet)
+      (λ j inside. body_block-only packet sendable j inside (block_bits bits j) (is.blocks j inside)) in
       let rest : drop (packet_bits count) bits ≡ replicate (packet_bare_length count - packet_bits count) false
       = all_false (drop (packet_bits count) bits) (packet_bare_length count - packet_bits count) (length-drop (packet_bits count) bits ∙ ap (λ k. k - packet_bits count) is.long)
-      (λ i inside. get_or-drop (packet_bits count) bits i false ∙ get_or_from_slice_get bits (packet_bits count + i) false false (is.nulls (packet_bits count + i) (omega arith) (omega (arith, length-drop (packet_bits count) bits)))) in
+      (λ i inside. get_or-drop (packet_bits count) bits i false ∙ get_or_from_slice_get bits (packet_bits count + i) false false
+      (is.nulls (packet_bits count + i) (omega arith) (omega (arith, length-drop (packet_bits count) bits)))) in
       let place : 308 + 196 * count ≡ packet_bits count = omega arith in
       sym (take-append-drop (packet_bits count) bits)
       ∙ ap₂ (λ (xs ys : List Bool). xs ++ ys)

@@ -82,15 +82,19 @@ HalfNear = (octets : List ℕ) (received : List Bool) → length octets ≡ 12 �
 
 -- a three-quarter-rate block with at most one wrong bit reads as sent
 abbrev pub ThreeQuarterNear : Type 0
-ThreeQuarterNear = (octets : List ℕ) (received : List Bool) → length octets ≡ 18 → AreOctets octets → length received ≡ 196 → distance_of (three_quarter_block octets) received ≤ 1 → three_quarter_octets received ≡ octets
+ThreeQuarterNear =
+    (octets : List ℕ) (received : List Bool) → length octets ≡ 18 → AreOctets octets → length received ≡ 196 → distance_of (three_quarter_block octets) received ≤ 1
+    → three_quarter_octets received ≡ octets
 
 module _ (half : HalfNear) (three_quarter : ThreeQuarterNear) (nac : ℕ) where
   -- a block that was received has its length
-  long_block : (packet : Packet) (received : List Bool) → length received ≡ packet_bare_length (head_blocks (packet_head packet)) → (j : ℕ) → j < head_blocks (packet_head packet) → length (block_bits received j) ≡ 196
+  long_block : (packet : Packet) (received : List Bool) → length received ≡ packet_bare_length (head_blocks (packet_head packet)) → (j : ℕ) → j < head_blocks (packet_head packet)
+      → length (block_bits received j) ≡ 196
   long_block packet received long j inside = length-part (308 + 196 * j) 196 received (omega arith)
 
   -- the header
-  pub head_within : (packet : Packet) (received : List Bool) → IsSendable packet → AreBlocksWithin packet (packet_image_of nac packet) received → half_octets (header_bits received) ≡ header_octets (packet_head packet)
+  pub head_within : (packet : Packet) (received : List Bool) → IsSendable packet → AreBlocksWithin packet (packet_image_of nac packet) received
+      → half_octets (header_bits received) ≡ header_octets (packet_head packet)
   head_within packet received sendable within =
       let head = IsSendable-head packet sendable in
       let long : length received ≡ packet_bare_length (head_blocks (packet_head packet)) = within.long ∙ image_long nac packet sendable in
@@ -122,7 +126,8 @@ module _ (half : HalfNear) (three_quarter : ThreeQuarterNear) (nac : ℕ) where
       half (part (12 * j) 12 (checked_octets packet.octets)) (block_bits received j) octets.0 octets.1 long (subst (λ xs. distance_of xs (block_bits received j) ≤ 2) sent (within.blocks j inside))
 
   -- what follows the header
-  pub body_within : (packet : Packet) (received : List Bool) → IsSendable packet → AreBlocksWithin packet (packet_image_of nac packet) received → packet_of_head (packet_head packet) received ≡ Ok packet
+  pub body_within : (packet : Packet) (received : List Bool) → IsSendable packet → AreBlocksWithin packet (packet_image_of nac packet) received
+      → packet_of_head (packet_head packet) received ≡ Ok packet
   unfolding IsSendable slots_read octets_read
   body_within (Confirmed packet) received sendable within =
       let n = head_blocks packet.head in
@@ -151,7 +156,8 @@ module _ (half : HalfNear) (three_quarter : ThreeQuarterNear) (nac : ℕ) where
         | inl none ↦ plain_from-none packet.head (octets_read n received) none
         | inr some ↦
             let all : length checked ≤ 12 * n = omega (arith, length-checked_octets octets) in
-            let last : drop (12 * n - 4) (octets_read n received) ≡ drop (length octets) checked = ap (drop (12 * n - 4)) (read ∙ take_all (12 * n) checked all) ∙ ap (λ k. drop k checked) (sym counted) in
+            let last : drop (12 * n - 4) (octets_read n received) ≡ drop (length octets) checked = ap (drop (12 * n - 4)) (read ∙ take_all (12 * n) checked all)
+            ∙ ap (λ k. drop k checked) (sym counted) in
             plain_from-good packet.head (octets_read n received) (eq-eqb _ _ (ap octets_number last ∙ checked_number octets ∙ ap crc32_of (sym front)))
       ]
       ∙ ap (λ carried. Ok (Plain (make carried))) front
@@ -159,5 +165,6 @@ module _ (half : HalfNear) (three_quarter : ThreeQuarterNear) (nac : ℕ) where
   -- the whole unit, without status symbols
   pub packet_within : (packet : Packet) (received : List Bool) → IsSendable packet → AreBlocksWithin packet (packet_image_of nac packet) received → packet_reading_of received ≡ Ok packet
   packet_within packet received sendable within =
-      packet_reading_of-good received (packet_head packet) (head_reading_of-is received ∙ ap head_from (head_within packet received sendable within) ∙ head_again (packet_head packet) (IsSendable-head packet sendable))
+      packet_reading_of-good received (packet_head packet) (head_reading_of-is received ∙ ap head_from (head_within packet received sendable within)
+      ∙ head_again (packet_head packet) (IsSendable-head packet sendable))
       ∙ body_within packet received sendable within

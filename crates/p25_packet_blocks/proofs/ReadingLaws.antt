@@ -98,15 +98,18 @@ plain_from-good head octets agrees =
     cond-true (eqb (head_blocks head) 0 || eqb (octets_number (drop (12 * head_blocks head - 4) octets)) (crc32_of (take (12 * head_blocks head - 4) octets))) _ _ (or_right _ _ agrees)
 
 -- there is a block to follow, and the packet CRC does not agree
-pub plain_from-bad : (head : PacketHead) (octets : List ℕ) → head_blocks head ≢ 0 → eqb (octets_number (drop (12 * head_blocks head - 4) octets)) (crc32_of (take (12 * head_blocks head - 4) octets)) ≡ false
+pub plain_from-bad : (head : PacketHead) (octets : List ℕ) → head_blocks head ≢ 0 → eqb (octets_number (drop (12 * head_blocks head - 4) octets))
+    (crc32_of (take (12 * head_blocks head - 4) octets)) ≡ false
     → plain_from head octets ≡ Err PacketCrc
 unfolding plain_from
 plain_from-bad head octets some differs =
-    cond-false (eqb (head_blocks head) 0 || eqb (octets_number (drop (12 * head_blocks head - 4) octets)) (crc32_of (take (12 * head_blocks head - 4) octets))) _ _ (or_none _ _ (ne_eqb _ _ some) differs)
+    cond-false (eqb (head_blocks head) 0 || eqb (octets_number (drop (12 * head_blocks head - 4) octets)) (crc32_of (take (12 * head_blocks head - 4) octets))) _ _
+    (or_none _ _ (ne_eqb _ _ some) differs)
 
 -- The packet by its format.
 
-pub packet_of_head-confirmed : (head : PacketHead) (bare : List Bool) → head_format head ≡ 0x16 → packet_of_head head bare ≡ Ok (Confirmed (record { head = head; slots = slots_read (head_blocks head) bare }))
+pub packet_of_head-confirmed : (head : PacketHead) (bare : List Bool) → head_format head ≡ 0x16
+    → packet_of_head head bare ≡ Ok (Confirmed (record { head = head; slots = slots_read (head_blocks head) bare }))
 unfolding packet_of_head
 packet_of_head-confirmed head bare is = cond-true (eqb (head_format head) 0x16) _ _ (eq-eqb _ _ is)
 

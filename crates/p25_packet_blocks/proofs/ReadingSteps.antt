@@ -10,7 +10,8 @@ use Rattle.p25_bits.specs.Numbers.{octets_number, number_after}
 last_two : (octets : List ℕ) (n : ℕ) → length octets ≡ n + 2 → drop n octets ≡ get_or octets n 0 ∷ get_or octets (n + 1) 0 ∷ []
 last_two octets n long =
     drop-cons octets n 0 (omega arith)
-    ∙ ap (λ (xs : List ℕ). get_or octets n 0 ∷ xs) (ap (λ k. drop k octets) (sym (add-one n)) ∙ drop-cons octets (n + 1) 0 (omega arith) ∙ ap (λ (xs : List ℕ). get_or octets (n + 1) 0 ∷ xs) (drop_all (suc (n + 1)) octets (omega arith)))
+    ∙ ap (λ (xs : List ℕ). get_or octets n 0 ∷ xs) (ap (λ k. drop k octets) (sym (add-one n)) ∙ drop-cons octets (n + 1) 0 (omega arith)
+    ∙ ap (λ (xs : List ℕ). get_or octets (n + 1) 0 ∷ xs) (drop_all (suc (n + 1)) octets (omega arith)))
 
 -- the number of the last two octets
 pub number_of_two : (octets : List ℕ) (n : ℕ) → length octets ≡ n + 2 → octets_number (drop n octets) ≡ get_or octets n 0 * 256 + get_or octets (n + 1) 0
@@ -18,7 +19,8 @@ unfolding octets_number number_after
 number_of_two octets n long = ap octets_number (last_two octets n long) ∙ omega arith
 
 -- the number of the last four octets
-pub number_of_four : (octets : List ℕ) (n : ℕ) → length octets ≡ n + 4 → octets_number (drop n octets) ≡ get_or octets n 0 * 16777216 + get_or octets (n + 1) 0 * 65536 + get_or octets (n + 2) 0 * 256 + get_or octets (n + 3) 0
+pub number_of_four : (octets : List ℕ) (n : ℕ) → length octets ≡ n + 4 → octets_number (drop n octets) ≡ get_or octets n 0 * 16777216 + get_or octets (n + 1) 0 * 65536 + get_or octets
+    (n + 2) 0 * 256 + get_or octets (n + 3) 0
 unfolding octets_number number_after
 number_of_four octets n long =
     let two : length octets ≡ (n + 2) + 2 = omega arith in
@@ -32,6 +34,7 @@ number_of_four octets n long =
     ap octets_number first ∙ omega arith
 
 -- one more block of twelve octets written after those before it
-pub octets_put : (octets read block : List ℕ) (j : ℕ) → 12 * j + 12 ≤ length octets → length block ≡ 12 → take (12 * j) octets ≡ read → take (12 * (j + 1)) (put_mid (12 * j) (12 * j + 12 - 12 * j) octets block) ≡ read ++ block
+pub octets_put : (octets read block : List ℕ) (j : ℕ) → 12 * j + 12 ≤ length octets → length block ≡ 12 → take (12 * j) octets ≡ read
+    → take (12 * (j + 1)) (put_mid (12 * j) (12 * j + 12 - 12 * j) octets block) ≡ read ++ block
 octets_put octets read block j there long so_far =
     take-put_mid (12 * j) (12 * j + 12 - 12 * j) octets block (12 * (j + 1)) (omega arith) (omega arith) ∙ ap (λ (xs : List ℕ). xs ++ block) so_far

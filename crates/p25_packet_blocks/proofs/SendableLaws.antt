@@ -19,7 +19,8 @@ IsSendable-head (Confirmed packet) sendable = sendable.head
 IsSendable-head (Plain packet) sendable = sendable.head
 
 -- the twelve octets of a block at half rate
-pub octets_of_block : (packet : PlainParts) → IsSendablePlain packet → (j : ℕ) → j < head_blocks packet.head → (length (part (12 * j) 12 (checked_octets packet.octets)) ≡ 12) × AreOctets (part (12 * j) 12 (checked_octets packet.octets))
+pub octets_of_block : (packet : PlainParts) → IsSendablePlain packet → (j : ℕ) → j < head_blocks packet.head → (length (part (12 * j) 12 (checked_octets packet.octets)) ≡ 12) × AreOctets
+    (part (12 * j) 12 (checked_octets packet.octets))
 octets_of_block packet sendable j inside =
     let there : 12 * j + 12 ≤ length (checked_octets packet.octets) = omega (arith, length-checked_octets packet.octets, sendable.kind.count) in (
       length-part (12 * j) 12 (checked_octets packet.octets) there,

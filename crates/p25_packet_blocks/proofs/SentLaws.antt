@@ -14,18 +14,16 @@ use Rattle.p25_status.proofs.WovenLaws.{length-woven, bare_of-woven, part-bare_o
 use Rattle.p25_bch_nid.specs.NidWord.{nid_word}
 use Rattle.p25_unit_front.specs.Front.{unit_front, front_of, identifier_bits}
 use Rattle.p25_unit_front.proofs.FrontLaws.{front_of-bare_of, front_of-sync, front_of-identifier, identifier_of-near}
-use Rattle.p25_trellis.specs.Tables.{half_point}
-use Rattle.p25_trellis.specs.Nearest.{half_octets, nearest_distance}
+use Rattle.p25_trellis.specs.Nearest.{half_octets}
 use Rattle.p25_packet_blocks.specs.declared.packet.Packet.{Packet}
 use Rattle.p25_packet_blocks.specs.Heads.{head_blocks}
 use Rattle.p25_packet_blocks.specs.Whole.{packet_head}
 use Rattle.p25_packet_blocks.specs.Lengths.{packet_bare_length, packet_sent_length}
-use Rattle.p25_packet_blocks.specs.Reading.{header_bits, block_bits, head_from, head_reading_of, packet_of_head}
+use Rattle.p25_packet_blocks.specs.Reading.{header_bits, block_bits, head_from, read_head_of, head_reading_of, packet_of_head}
 use Rattle.p25_packet_blocks.specs.Image.{packet_image_of}
 use Rattle.p25_packet_blocks.specs.Sendable.{IsSendable}
 use Rattle.p25_packet_blocks.specs.Within.{block_radius, AreBlocksWithin, IsPacketWithin, IsSending, sent_unit}
-use Rattle.p25_packet_blocks.specs.Fixes.{head_distance}
-use Rattle.p25_packet_blocks.specs.UnitReading.{sent_header_bits, sent_head_of, sent_head_distance, packet_unit_of}
+use Rattle.p25_packet_blocks.specs.UnitReading.{sent_header_bits, sent_head_of, sent_read_of, packet_unit_of}
 use Rattle.p25_packet_blocks.proofs.ReadingLaws.{head_reading_of-is}
 use Rattle.p25_packet_blocks.proofs.UnitLaws.{sent_header_bits-is, sent_head_of-is, sent_packet_of-whole, packet_unit_of-good}
 use Rattle.p25_packet_blocks.proofs.SendableLaws.{IsSendable-head}
@@ -52,10 +50,10 @@ pub sent_head_of-bare_of : (blocks : ℕ) (sent : List Bool) → 5 ≤ blocks �
 sent_head_of-bare_of blocks sent five long =
     sent_head_of-is sent ∙ ap (λ xs. head_from (half_octets xs)) (sent_header_bits-bare_of blocks sent five long) ∙ sym (head_reading_of-is (bare_of sent))
 
--- and its distance
-pub sent_head_distance-bare_of : (blocks : ℕ) (sent : List Bool) → 5 ≤ blocks → length sent ≡ 72 * blocks → sent_head_distance sent ≡ head_distance (bare_of sent)
-unfolding sent_head_distance
-sent_head_distance-bare_of blocks sent five long = ap (nearest_distance 4 half_point) (sent_header_bits-bare_of blocks sent five long)
+-- and its wrong bits
+pub sent_read_of-bare_of : (blocks : ℕ) (sent : List Bool) → 5 ≤ blocks → length sent ≡ 72 * blocks → sent_read_of sent ≡ read_head_of (header_bits (bare_of sent))
+unfolding sent_read_of
+sent_read_of-bare_of blocks sent five long = ap read_head_of (sent_header_bits-bare_of blocks sent five long)
 
 module _ (half : HalfNear) (three_quarter : ThreeQuarterNear) (nac : ℕ) (packet : Packet) (statuses : List Status) (sending : IsSending nac packet statuses) where
   sendable : IsSendable packet
@@ -97,8 +95,10 @@ module _ (half : HalfNear) (three_quarter : ThreeQuarterNear) (nac : ℕ) (packe
       ∙ ap head_from (head_within half three_quarter nac packet (bare_of received) sendable blocks) ∙ head_again head (IsSendable-head packet sendable) in
       let enough : packet_sent_length (head_blocks head) ≡ length received = omega (arith, long, counted) in
       let all : take (packet_sent_length (head_blocks head)) received ≡ received = take_all (packet_sent_length (head_blocks head)) received (omega (arith, enough)) in
-      packet_unit_of-good received (nac, 12) packet (has_sync-yes received (omega (arith, long, five)) near_sync) (identifier_of-near nac 12 received sending.nac_fits (omega arith) (omega (arith, long, five)) near_identifier) refl
-      (sent_packet_of-whole received head read (omega (arith, enough)) ∙ ap (λ (xs : List Bool). packet_of_head head (bare_of xs)) all ∙ body_within half three_quarter nac packet (bare_of received) sendable blocks)
+      packet_unit_of-good received (nac, 12) packet (has_sync-yes received (omega (arith, long, five)) near_sync)
+      (identifier_of-near nac 12 received sending.nac_fits (omega arith) (omega (arith, long, five)) near_identifier) refl
+      (sent_packet_of-whole received head read (omega (arith, enough)) ∙ ap (λ (xs : List Bool). packet_of_head head (bare_of xs)) all
+      ∙ body_within half three_quarter nac packet (bare_of received) sendable blocks)
 
   none_wrong : (bits : List Bool) (most : ℕ) → distance_of bits bits ≤ most
   none_wrong bits most = omega (arith, distance_of-same bits)

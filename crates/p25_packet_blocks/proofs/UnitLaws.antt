@@ -9,14 +9,15 @@ use Rattle.p25_status.specs.declared.fields.Field.TheVariants.{Sync, Nid, Duid, 
 use Rattle.p25_status.specs.Sync.{has_sync}
 use Rattle.p25_status.specs.Woven.{bare_of}
 use Rattle.p25_unit_front.specs.Front.{identifier_of}
-use Rattle.p25_trellis.specs.Nearest.{half_octets, nearest_distance}
-use Rattle.p25_trellis.specs.Tables.{half_point}
+use Rattle.p25_trellis.specs.Nearest.{half_octets}
 use Rattle.p25_packet_blocks.specs.declared.head.PacketHead.{PacketHead}
+use Rattle.p25_packet_blocks.specs.declared.head.ReadHead.{ReadHead}
 use Rattle.p25_packet_blocks.specs.declared.packet.Packet.{Packet}
 use Rattle.p25_packet_blocks.specs.Heads.{head_blocks}
 use Rattle.p25_packet_blocks.specs.Lengths.{packet_sent_length}
-use Rattle.p25_packet_blocks.specs.Reading.{head_from, packet_of_head}
-use Rattle.p25_packet_blocks.specs.UnitReading.{sent_header_bits, sent_head_of, sent_head_distance, sent_from, sent_packet_of, with_nac, identified_packet_of, packet_unit_of}
+use Rattle.p25_packet_blocks.specs.Reading.{head_from, read_head_of, packet_of_head}
+use Rattle.p25_packet_blocks.specs.UnitReading.{sent_header_bits, sent_head_of, sent_read_of, sent_from, sent_packet_of, with_nac, identified_packet_of, packet_unit_of}
+use Rattle.p25_packet_blocks.proofs.OutcomeLaws.{IsReadHead-of, head_from-unread}
 
 pub sent_header_bits-is : (sent : List Bool) → sent_header_bits sent ≡ part 114 28 sent ++ part 144 70 sent ++ part 216 70 sent ++ part 288 28 sent
 unfolding sent_header_bits
@@ -43,15 +44,26 @@ pub sent_head_of-append : (sent more : List Bool) → 316 ≤ length sent → se
 sent_head_of-append sent more long =
     sym (sent_head_of-take 316 (sent ++ more) (omega arith)) ∙ ap sent_head_of (take-append-le 316 sent more long) ∙ sent_head_of-take 316 sent (omega arith)
 
--- So does its distance.
+-- So do its wrong bits.
 
-pub sent_head_distance-take : (count : ℕ) (sent : List Bool) → 316 ≤ count → sent_head_distance (take count sent) ≡ sent_head_distance sent
-unfolding sent_head_distance
-sent_head_distance-take count sent long = ap (nearest_distance 4 half_point) (sent_header_bits-take count sent long)
+pub sent_read_of-is : (sent : List Bool) → sent_read_of sent ≡ read_head_of (sent_header_bits sent)
+unfolding sent_read_of
+sent_read_of-is sent = refl
 
-pub sent_head_distance-append : (sent more : List Bool) → 316 ≤ length sent → sent_head_distance (sent ++ more) ≡ sent_head_distance sent
-sent_head_distance-append sent more long =
-    sym (sent_head_distance-take 316 (sent ++ more) (omega arith)) ∙ ap sent_head_distance (take-append-le 316 sent more long) ∙ sent_head_distance-take 316 sent (omega arith)
+pub sent_read_of-take : (count : ℕ) (sent : List Bool) → 316 ≤ count → sent_read_of (take count sent) ≡ sent_read_of sent
+unfolding sent_read_of
+sent_read_of-take count sent long = ap read_head_of (sent_header_bits-take count sent long)
+
+pub sent_read_of-append : (sent more : List Bool) → 316 ≤ length sent → sent_read_of (sent ++ more) ≡ sent_read_of sent
+sent_read_of-append sent more long =
+    sym (sent_read_of-take 316 (sent ++ more) (omega arith)) ∙ ap sent_read_of (take-append-le 316 sent more long) ∙ sent_read_of-take 316 sent (omega arith)
+
+-- the header alone
+pub sent_head_of-read : (sent : List Bool) (read : ReadHead) → sent_read_of sent ≡ Ok read → sent_head_of sent ≡ Ok read.head
+sent_head_of-read sent read e = sent_head_of-is sent ∙ (IsReadHead-of (sent_header_bits sent) read (sym (sent_read_of-is sent) ∙ e)).head
+
+pub sent_head_of-unread : (sent : List Bool) (field : Field) → sent_read_of sent ≡ Err field → sent_head_of sent ≡ Err field
+sent_head_of-unread sent field e = sent_head_of-is sent ∙ head_from-unread (sent_header_bits sent) field (sym (sent_read_of-is sent) ∙ e)
 
 -- From the header on.
 
@@ -93,10 +105,12 @@ unfolding identified_packet_of
 identified sent nid some is duid =
     synced sent some ∙ ap (λ nid. identified_packet_of nid sent) is ∙ cond-true (eqb nid.1 12) (with_nac nid.0 (sent_packet_of sent)) (Err Duid) (eq-eqb _ _ duid)
 
-pub packet_unit_of-bad : (sent : List Bool) (nid : ℕ × ℕ) (field : Field) → has_sync sent ≡ true → identifier_of sent ≡ Some nid → nid.1 ≡ 12 → sent_packet_of sent ≡ Err field → packet_unit_of sent ≡ Err field
+pub packet_unit_of-bad : (sent : List Bool) (nid : ℕ × ℕ) (field : Field) → has_sync sent ≡ true → identifier_of sent ≡ Some nid → nid.1 ≡ 12 → sent_packet_of sent ≡ Err field
+    → packet_unit_of sent ≡ Err field
 unfolding with_nac
 packet_unit_of-bad sent nid field some is duid fails = identified sent nid some is duid ∙ ap (with_nac nid.0) fails
 
-pub packet_unit_of-good : (sent : List Bool) (nid : ℕ × ℕ) (packet : Packet) → has_sync sent ≡ true → identifier_of sent ≡ Some nid → nid.1 ≡ 12 → sent_packet_of sent ≡ Ok packet → packet_unit_of sent ≡ Ok (nid.0, packet)
+pub packet_unit_of-good : (sent : List Bool) (nid : ℕ × ℕ) (packet : Packet) → has_sync sent ≡ true → identifier_of sent ≡ Some nid → nid.1 ≡ 12 → sent_packet_of sent ≡ Ok packet
+    → packet_unit_of sent ≡ Ok (nid.0, packet)
 unfolding with_nac
 packet_unit_of-good sent nid packet some is duid reads = identified sent nid some is duid ∙ ap (with_nac nid.0) reads

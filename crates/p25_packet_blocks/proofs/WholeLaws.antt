@@ -114,7 +114,8 @@ record IsBlockOf (octets : List ℕ) (block : Block) : Type 0 where
   pub is_block : IsDataBlock block
   pub octets_are : octets ≡ confirmed_octets block
 
-IsBlockOf-octets : (a b : ℕ) (rest : List ℕ) → length rest ≡ 16 → AreOctets (a ∷ b ∷ rest) → 256 * (a % 2) + b ≡ crc9_of (a / 2) rest → IsBlockOf (a ∷ b ∷ rest) (record { serial = a / 2; octets = rest })
+IsBlockOf-octets : (a b : ℕ) (rest : List ℕ) → length rest ≡ 16 → AreOctets (a ∷ b ∷ rest) → 256 * (a % 2) + b ≡ crc9_of (a / 2) rest
+    → IsBlockOf (a ∷ b ∷ rest) (record { serial = a / 2; octets = rest })
 IsBlockOf-octets a b rest long small agrees =
     let block : Block = record { serial = a / 2; octets = rest } in
     let first = All-head IsOctet a (b ∷ rest) small in
@@ -174,7 +175,8 @@ module _ (head : PacketHead) (bare : List Bool) where
       let octets = slot_octets j in
       (found.0, found.1, IsBlockOf-from octets found.0 (length-three_quarter_octets (block_bits bare j)) (AreOctets-three_quarter (block_bits bare j)) (sym (slot_is j inside) ∙ found.1))
 
-  IsReadOf-confirmed : IsHead head → head_format head ≡ 0x16 → AreGood (slots_read (head_blocks head) bare) → IsReadOf head bare (Confirmed (record { head = head; slots = slots_read (head_blocks head) bare }))
+  IsReadOf-confirmed : IsHead head → head_format head ≡ 0x16 → AreGood (slots_read (head_blocks head) bare)
+      → IsReadOf head bare (Confirmed (record { head = head; slots = slots_read (head_blocks head) bare }))
   unfolding IsSendable IsBlockRead
   IsReadOf-confirmed is_head format good = record {
     head_is = refl;
@@ -239,7 +241,8 @@ module _ (head : PacketHead) (bare : List Bool) where
         | inl some ↦
             let two : Ok made ≡ Ok packet = sym (cond-true test (Ok made) (Err PacketCrc) some) ∙ is in
             let same : made ≡ packet = cc in
-            subst (IsReadOf head bare) same (IsReadOf-plain is_head format (λ blocks. eqb-true _ _ (right_of (eqb (head_blocks head) 0) agree some (ne_eqb (head_blocks head) 0 (λ zero'. omega arith)))))
+            subst (IsReadOf head bare) same (IsReadOf-plain is_head format
+            (λ blocks. eqb-true _ _ (right_of (eqb (head_blocks head) 0) agree some (ne_eqb (head_blocks head) 0 (λ zero'. omega arith)))))
       ]
     where
       right_of : (a b : Bool) → (a || b) ≡ true → a ≡ false → b ≡ true
@@ -275,7 +278,8 @@ pub record IsWholeRead (bare : List Bool) (packet : Packet) : Type 0 where
   pub sendable : IsSendable packet
   pub read : IsPacketRead packet bare
 
-whole-from : (bare : List Bool) (packet : Packet) (reading : Result PacketHead Field) → head_reading_of bare ≡ reading → packet_from reading bare ≡ Ok packet → IsWholePacket packet → IsWholeRead bare packet
+whole-from : (bare : List Bool) (packet : Packet) (reading : Result PacketHead Field) → head_reading_of bare ≡ reading → packet_from reading bare ≡ Ok packet → IsWholePacket packet
+    → IsWholeRead bare packet
 unfolding packet_from
 whole-from bare packet (Err field) read is whole = absurd (cc)
 whole-from bare packet (Ok head) read is whole =

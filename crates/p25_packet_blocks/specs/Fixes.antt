@@ -7,7 +7,7 @@ use Rattle.p25_trellis.specs.Tables.{half_point, three_quarter_point}
 use Rattle.p25_packet_blocks.specs.declared.packet.Packet.{Packet}
 use Rattle.p25_packet_blocks.specs.Heads.{head_blocks}
 use Rattle.p25_packet_blocks.specs.Whole.{packet_head}
-use Rattle.p25_packet_blocks.specs.Reading.{header_bits, block_bits}
+use Rattle.p25_packet_blocks.specs.Reading.{block_bits}
 use Rattle.p25_packet_blocks.specs.Image.{packet_image_of}
 
 -- in how many of the bits from place 112 on, as many as the header block and the blocks to follow have, the image of a packet
@@ -15,10 +15,6 @@ use Rattle.p25_packet_blocks.specs.Image.{packet_image_of}
 unfoldable pub packet_fixes_of : ℕ → Packet → List Bool → ℕ
 packet_fixes_of nac packet bare =
     let count = 196 * (1 + head_blocks (packet_head packet)) in distance_of (part 112 count bare) (part 112 count (packet_image_of nac packet))
-
--- in how many bits the header block of a unit differs from the nearest block
-abbrev pub head_distance : List Bool → ℕ
-head_distance bare = nearest_distance 4 half_point (header_bits bare)
 
 -- the distances of the nearest paths of n blocks to follow, one to the other
 unfoldable pub blocks_distance : ℕ → (ℕ → ℕ → ℕ) → ℕ → List Bool → ℕ

@@ -3,6 +3,16 @@ use Rattle.std.specs.Prelude.{ℕ, ◌+◌, ◌*◌, ◌/◌, ◌%◌, Bool, if�
 use Rattle.p25_bits.specs.Numbers.{triple_at}
 use Rattle.p25_packet_blocks.specs.declared.head.PacketHead.{PacketHead}
 
+-- the formats: of a confirmed packet, of an unconfirmed one and of a response
+abbrev pub confirmed_format : ℕ
+confirmed_format = 0x16
+
+abbrev pub plain_format : ℕ
+plain_format = 0x15
+
+abbrev pub response_format : ℕ
+response_format = 0x03
+
 -- the format: the last five bits of octet 0
 unfoldable pub head_format : PacketHead → ℕ
 head_format head = slice_index head.0 0 % 32
@@ -47,17 +57,19 @@ response_status head = slice_index head.0 1 % 8
 abbrev pub llid_octets : ℕ → List ℕ
 llid_octets llid = llid / 65536 ∷ llid / 256 % 256 ∷ llid % 256 ∷ []
 
+-- the ten octets of a header, by those before its LLID, its LLID, and those after it
+abbrev pub head_by_octets : (first second : ℕ) → ℕ → (sixth seventh eighth : ℕ) → PacketHead
+head_by_octets first second llid sixth seventh eighth =
+    record { 0 = first ∷ second ∷ 0 ∷ [] ++ llid_octets llid ++ sixth ∷ seventh ∷ eighth ∷ 0 ∷ [] }
+
 -- the header of a confirmed packet, by its LLID, full message flag, blocks to follow, pad count and N(S)
 unfoldable pub confirmed_head : ℕ → Bool → ℕ → ℕ → ℕ → PacketHead
-confirmed_head llid full blocks pad number =
-    record { 0 = 0x56 ∷ 0xC0 ∷ 0 ∷ [] ++ llid_octets llid ++ ((if full then 128 else 0) + blocks) ∷ pad ∷ (16 * number + 8) ∷ 0 ∷ [] }
+confirmed_head llid full blocks pad number = head_by_octets 0x56 0xC0 llid ((if full then 128 else 0) + blocks) pad (16 * number + 8)
 
 -- the header of a response, by its LLID, class, type, status and blocks to follow
 unfoldable pub response_head : ℕ → ℕ → ℕ → ℕ → ℕ → PacketHead
-response_head llid class kind status blocks =
-    record { 0 = 0x23 ∷ (64 * class + 8 * kind + status) ∷ 0 ∷ [] ++ llid_octets llid ++ (128 + blocks) ∷ 0 ∷ 0 ∷ 0 ∷ [] }
+response_head llid class kind status blocks = head_by_octets 0x23 (64 * class + 8 * kind + status) llid (128 + blocks) 0 0
 
 -- the header of the packet that opens a link, by its LLID and number: a confirmed packet of no blocks with Syn
 unfoldable pub opening_head : ℕ → ℕ → PacketHead
-opening_head llid number =
-    record { 0 = 0x56 ∷ 0xC0 ∷ 0 ∷ [] ++ llid_octets llid ++ 0x80 ∷ 0 ∷ (0x88 + 16 * number) ∷ 0 ∷ [] }
+opening_head llid number = head_by_octets 0x56 0xC0 llid 0x80 0 (0x88 + 16 * number)

@@ -2,6 +2,7 @@
 use Rattle.std.specs.Prelude.{ℕ, ◌+◌, ◌-◌, ◌*◌, ◌/◌, ◌%◌, ◌^◌, Bool, false, List, [], ◌∷◌, ◌++◌, replicate, slice_index_or}
 use Rattle.p25_bits.specs.Bits.{part}
 use Rattle.p25_bits.specs.Numbers.{joined_below}
+use Rattle.p25_bch_nid.specs.Duids.{duid_pdu}
 use Rattle.p25_trellis.specs.Nearest.{half_block, three_quarter_block}
 use Rattle.p25_crc.specs.Values.{crc9_of, crc16_of, crc32_of}
 use Rattle.p25_unit_front.specs.Front.{unit_front}
@@ -53,4 +54,4 @@ packet_nulls n = replicate (packet_bare_length n - packet_bits n) false
 unfoldable pub packet_image_of : ℕ → Packet → List Bool
 packet_image_of nac packet =
     let n = head_blocks (packet_head packet) in
-    unit_front nac 12 ++ half_block (header_octets (packet_head packet)) ++ joined_below n (body_block packet) ++ packet_nulls n
+    unit_front nac duid_pdu ++ half_block (header_octets (packet_head packet)) ++ joined_below n (body_block packet) ++ packet_nulls n

@@ -1,17 +1,17 @@
 -- What makes a packet (PDU) confirmed, and what makes it plain.
 use Rattle.std.specs.Prelude.{◌≡◌, ℕ, ◌-◌, ◌*◌, ◌⊎◌, length}
-use Rattle.p25_packet_blocks.specs.Heads.{head_format, head_blocks}
+use Rattle.p25_packet_blocks.specs.Heads.{confirmed_format, plain_format, response_format, head_format, head_blocks}
 use Rattle.p25_packet_blocks.specs.Parts.{PlainParts}
 use Rattle.p25_packet_blocks.specs.ConfirmedParts.{ConfirmedParts}
 
 -- a confirmed packet: format 16 hex, and a slot for each block to follow
 pub record IsConfirmed (packet : ConfirmedParts) : Type 0 where
-  pub format : head_format packet.head ≡ 0x16
+  pub format : head_format packet.head ≡ confirmed_format
   pub count : length packet.slots ≡ head_blocks packet.head
 
 -- the formats of packets that are not confirmed: 15 hex of data and 03 hex of a response
 abbrev pub IsPlainFormat : ℕ → Type 0
-IsPlainFormat format = (format ≡ 0x15) ⊎ (format ≡ 0x03)
+IsPlainFormat format = (format ≡ plain_format) ⊎ (format ≡ response_format)
 
 -- another packet: twelve octets for each block to follow, without the four of the packet CRC, or none where there is no
 -- block to follow

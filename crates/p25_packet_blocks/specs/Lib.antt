@@ -13,3 +13,4 @@ pub mod Places
 pub mod Within
 pub mod UnitReading
 pub mod Fixes
+pub mod Outcomes

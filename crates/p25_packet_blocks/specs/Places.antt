@@ -1,6 +1,7 @@
 -- The image of a packet (PDU) by its places, as the standard says it.
 use Rattle.std.specs.Prelude.{◌≡◌, ℕ, ◌*◌, ◌<◌, ◌≤◌, Bool, false, List, length, take, slice_get, slice_index_or, Some}
 use Rattle.p25_bits.specs.Bits.{part}
+use Rattle.p25_bch_nid.specs.Duids.{duid_pdu}
 use Rattle.p25_trellis.specs.Trellis.{IsBlock}
 use Rattle.p25_trellis.specs.Tables.{half_point, three_quarter_point}
 use Rattle.p25_unit_front.specs.Front.{IsFront}
@@ -25,7 +26,7 @@ IsBodyBlock (Plain packet) j bits = IsBlock 4 2 half_point (part (12 * j) 12 (ch
 -- the 196 bits from 308 + 196·j block j, and every other bit 0
 pub record IsPacketImage (nac : ℕ) (packet : Packet) (bits : List Bool) : Type 0 where
   pub long : length bits ≡ packet_bare_length (head_blocks (packet_head packet))
-  pub front : IsFront nac 12 (take 112 bits)
+  pub front : IsFront nac duid_pdu (take 112 bits)
   pub header : IsBlock 4 2 half_point (header_octets (packet_head packet)) (header_bits bits)
   pub blocks : (j : ℕ) → j < head_blocks (packet_head packet) → IsBodyBlock packet j (block_bits bits j)
   pub nulls : (place : ℕ) → packet_bits (head_blocks (packet_head packet)) ≤ place → place < length bits → slice_get bits place ≡ Some false

@@ -1,18 +1,20 @@
 -- The packet answer: what a unit (PDU) without its status symbols reads as. Each reading is in steps, so that what decides is an
 -- argument of the next step.
-use Rattle.std.specs.Prelude.{◌≡◌, ℕ, ◌+◌, ◌-◌, ◌*◌, ◌/◌, ◌%◌, ◌≤◌, Bool, List, length, ◌==◌, ◌||◌, take, drop, slice_index, Option, Some, None, Result, Ok, Err, if◌then◌else◌}
+use Rattle.std.specs.Prelude.{◌≡◌, ℕ, ◌+◌, ◌-◌, ◌*◌, ◌/◌, ◌%◌, ◌≤◌, Bool, List, length, ◌==◌, ◌||◌, take, drop, slice_index, Result, Ok, Err, if◌then◌else◌}
 use Rattle.p25_bits.specs.Bits.{part}
 use Rattle.p25_bits.specs.Numbers.{octets_number, each_below, joined_below}
 use Rattle.p25_status.specs.declared.fields.Field.{Field}
 use Rattle.p25_status.specs.declared.fields.Field.TheVariants.{PacketHeader, Format, PacketCrc}
-use Rattle.p25_trellis.specs.Nearest.{half_octets, three_quarter_octets}
+use Rattle.p25_trellis.specs.Nearest.{nearest_distance, half_octets, three_quarter_octets}
+use Rattle.p25_trellis.specs.Tables.{half_point}
 use Rattle.p25_crc.specs.Values.{crc9_of, crc16_of, crc32_of}
 use Rattle.p25_packet_blocks.specs.declared.head.PacketHead.{PacketHead}
+use Rattle.p25_packet_blocks.specs.declared.head.ReadHead.{ReadHead}
 use Rattle.p25_packet_blocks.specs.declared.block.Slot.{Slot}
 use Rattle.p25_packet_blocks.specs.declared.block.Slot.TheVariants.{Good, Bad}
 use Rattle.p25_packet_blocks.specs.declared.packet.Packet.{Packet}
 use Rattle.p25_packet_blocks.specs.declared.packet.Packet.TheVariants.{Confirmed, Plain}
-use Rattle.p25_packet_blocks.specs.Heads.{head_format, head_blocks}
+use Rattle.p25_packet_blocks.specs.Heads.{confirmed_format, plain_format, response_format, head_format, head_blocks}
 use Rattle.p25_packet_blocks.specs.Lengths.{packet_bits}
 
 -- the bits of the header block of a unit
@@ -31,6 +33,15 @@ head_from octets =
 -- the header of a unit: what its header block holds
 unfoldable pub head_reading_of : List Bool → Result PacketHead Field
 head_reading_of bare = head_from (half_octets (header_bits bare))
+
+-- a header that was read, and how many bits of its block were wrong
+unfoldable pub counted_head : ℕ → Result PacketHead Field → Result ReadHead Field
+counted_head wrong (Err field) = Err field
+counted_head wrong (Ok head) = Ok (record { head = head; wrong = wrong })
+
+-- what a header block reads as: the header that the nearest block holds, and in how many bits it differs from that block
+unfoldable pub read_head_of : List Bool → Result ReadHead Field
+read_head_of block = counted_head (nearest_distance 4 half_point block) (head_from (half_octets block))
 
 -- the slot that eighteen octets are: seven bits of serial number, nine of CRC-9, and sixteen octets
 unfoldable pub slot_from : List ℕ → Slot
@@ -62,20 +73,15 @@ plain_from head octets =
     let agrees = octets_number (drop count octets) == crc32_of (take count octets) in
     if head_blocks head == 0 || agrees then Ok (plain_by_parts head (take count octets)) else Err PacketCrc
 
--- a packet that was read into its place, or the field that fails
-abbrev pub packet_or : Option Field → Packet → Result Packet Field
-packet_or None packet = Ok packet
-packet_or (Some field) packet = Err field
-
 -- the packet of a header that is not confirmed, and the bits of its unit
 abbrev pub unconfirmed_from : PacketHead → List Bool → Result Packet Field
 unconfirmed_from head bare =
-    if head_format head == 0x15 || head_format head == 0x03 then plain_from head (octets_read (head_blocks head) bare) else Err Format
+    if head_format head == plain_format || head_format head == response_format then plain_from head (octets_read (head_blocks head) bare) else Err Format
 
 -- the packet of a header and the bits of its unit, by the format
 unfoldable pub packet_of_head : PacketHead → List Bool → Result Packet Field
 packet_of_head head bare =
-    if head_format head == 0x16 then Ok (confirmed_by_parts head (slots_read (head_blocks head) bare)) else unconfirmed_from head bare
+    if head_format head == confirmed_format then Ok (confirmed_by_parts head (slots_read (head_blocks head) bare)) else unconfirmed_from head bare
 
 -- the packet answer of a unit (PDU): PacketHeader, Format and PacketCrc are tested in this order
 unfoldable pub packet_from : Result PacketHead Field → List Bool → Result Packet Field

@@ -2,18 +2,19 @@
 -- this order, and then the packet answer.
 use Rattle.std.specs.Prelude.{ℕ, Bool, List, ◌==◌, nat_le, length, take, ◌++◌, Result, Ok, Err, Option, Some, None, if◌then◌else◌}
 use Rattle.p25_bits.specs.Bits.{part}
+use Rattle.p25_bch_nid.specs.Duids.{duid_pdu}
 use Rattle.p25_status.specs.declared.fields.Field.{Field}
 use Rattle.p25_status.specs.declared.fields.Field.TheVariants.{Sync, Nid, Duid, Length}
 use Rattle.p25_status.specs.Sync.{has_sync}
 use Rattle.p25_status.specs.Woven.{bare_of}
 use Rattle.p25_unit_front.specs.Front.{identifier_of}
-use Rattle.p25_trellis.specs.Nearest.{half_octets, nearest_distance}
-use Rattle.p25_trellis.specs.Tables.{half_point}
+use Rattle.p25_trellis.specs.Nearest.{half_octets}
 use Rattle.p25_packet_blocks.specs.declared.head.PacketHead.{PacketHead}
+use Rattle.p25_packet_blocks.specs.declared.head.ReadHead.{ReadHead}
 use Rattle.p25_packet_blocks.specs.declared.packet.Packet.{Packet}
 use Rattle.p25_packet_blocks.specs.Heads.{head_blocks}
 use Rattle.p25_packet_blocks.specs.Lengths.{packet_sent_length}
-use Rattle.p25_packet_blocks.specs.Reading.{head_from, packet_of_head}
+use Rattle.p25_packet_blocks.specs.Reading.{head_from, read_head_of, packet_of_head}
 
 -- the bits of the header block of a unit as it is sent: those without status symbols from place 112 on
 unfoldable pub sent_header_bits : List Bool → List Bool
@@ -23,9 +24,9 @@ sent_header_bits sent = part 114 28 sent ++ part 144 70 sent ++ part 216 70 sent
 unfoldable pub sent_head_of : List Bool → Result PacketHead Field
 sent_head_of sent = head_from (half_octets (sent_header_bits sent))
 
--- in how many bits the header block of a unit as it is sent differs from the nearest block
-unfoldable pub sent_head_distance : List Bool → ℕ
-sent_head_distance sent = nearest_distance 4 half_point (sent_header_bits sent)
+-- the header of a unit as it is sent, and how many bits of its block were wrong
+unfoldable pub sent_read_of : List Bool → Result ReadHead Field
+sent_read_of sent = read_head_of (sent_header_bits sent)
 
 -- the packet of a unit as it is sent, from its header on
 unfoldable pub sent_from : Result PacketHead Field → List Bool → Result Packet Field
@@ -45,7 +46,7 @@ with_nac nac (Ok packet) = Ok (nac, packet)
 -- from the network identifier (NID) on
 unfoldable pub identified_packet_of : Option (ℕ × ℕ) → List Bool → Result (ℕ × Packet) Field
 identified_packet_of None sent = Err Nid
-identified_packet_of (Some nid) sent = if nid.1 == 12 then with_nac nid.0 (sent_packet_of sent) else Err Duid
+identified_packet_of (Some nid) sent = if nid.1 == duid_pdu then with_nac nid.0 (sent_packet_of sent) else Err Duid
 
 -- the packet answer of a unit (PDU) as it is sent
 unfoldable pub packet_unit_of : List Bool → Result (ℕ × Packet) Field

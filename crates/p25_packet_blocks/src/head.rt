@@ -1,5 +1,5 @@
 ghost use Rattle.std.specs.Prelude.{◌≡◌, ◌^◌, ◌<◌, true, false};
-ghost use Rattle.p25_packet_blocks.specs.Heads.{head_format, head_is_full, head_blocks, head_pad, head_llid, head_syn, head_number, response_class, response_kind, response_status, confirmed_head, response_head, opening_head, llid_octets};
+ghost use Rattle.p25_packet_blocks.specs.Heads.{head_format, head_is_full, head_blocks, head_pad, head_llid, head_syn, head_number, response_class, response_kind, response_status, confirmed_head, response_head, opening_head, head_by_octets};
 
 use p25_bits::triple_at;
 
@@ -16,6 +16,15 @@ pub const RESPONSE_FORMAT: u8 = 0x03;
 /// mean something here. TIA-102.BAAA, Packet Data, Header Block.
 #[derive(Clone, Copy, Debug, PartialEq, Eq)]
 pub struct PacketHead(pub [u8; 10]);
+
+/// The header of a packet (PDU) as it was read.
+#[derive(Clone, Copy, Debug, PartialEq, Eq)]
+pub struct ReadHead {
+    /// The header.
+    pub head: PacketHead,
+    /// In how many bits the header block was received otherwise than the nearest block is sent: so many were put right.
+    pub wrong: u32,
+}
 
 impl PacketHead {
     /// Answers the format, five bits: 16 hex of a confirmed packet, 15 hex of an unconfirmed one and 03 hex of a response.
@@ -123,19 +132,8 @@ impl PacketHead {
         ensures syn { head_syn result ≡ false }
         ensures llid { head_llid result ≡ llid }
     {
-        let [high, middle, low] = llid_octets(llid);
-        PacketHead([
-            0x56,
-            0xC0,
-            0,
-            high,
-            middle,
-            low,
-            128 * u8::from(full) + blocks,
-            pad,
-            16 * number + 8,
-            0,
-        ])
+        let sixth = 128 * u8::from(full) + blocks;
+        head_by_octets(0x56, 0xC0, llid, sixth, pad, 16 * number + 8)
     }
 
     /// Answers the header of a response: format 03 hex, with the full message flag.
@@ -154,19 +152,8 @@ impl PacketHead {
         ensures status { response_status result ≡ status }
         ensures llid { head_llid result ≡ llid }
     {
-        let [high, middle, low] = llid_octets(llid);
-        PacketHead([
-            0x23,
-            64 * class + 8 * kind + status,
-            0,
-            high,
-            middle,
-            low,
-            128 + blocks,
-            0,
-            0,
-            0,
-        ])
+        let second = 64 * class + 8 * kind + status;
+        head_by_octets(0x23, second, llid, 128 + blocks, 0, 0)
     }
 
     /// Answers the header of the packet that opens a link anew: a confirmed packet of no blocks with Syn 1.
@@ -182,30 +169,32 @@ impl PacketHead {
         ensures syn { head_syn result ≡ true }
         ensures llid { head_llid result ≡ llid }
     {
-        let [high, middle, low] = llid_octets(llid);
-        PacketHead([
-            0x56,
-            0xC0,
-            0,
-            high,
-            middle,
-            low,
-            0x80,
-            0,
-            0x88 + 16 * number,
-            0,
-        ])
+        head_by_octets(0x56, 0xC0, llid, 0x80, 0, 0x88 + 16 * number)
     }
 }
 
-// The three octets of an LLID, the first highest.
-fn llid_octets(llid: u32) -> [u8; 3]
+// The header of ten octets: two, a 0, the LLID, the highest first, three more, and a 0.
+fn head_by_octets(
+    first: u8,
+    second: u8,
+    llid: u32,
+    sixth: u8,
+    seventh: u8,
+    eighth: u8,
+) -> PacketHead
     requires { llid < 2 ^ 24 }
-    ensures { result ≡ llid_octets llid }
+    ensures { result ≡ head_by_octets first second llid sixth seventh eighth }
 {
-    [
+    PacketHead([
+        first,
+        second,
+        0,
         (llid / 65536) as u8,
         (llid / 256 % 256) as u8,
         (llid % 256) as u8,
-    ]
+        sixth,
+        seventh,
+        eighth,
+        0,
+    ])
 }

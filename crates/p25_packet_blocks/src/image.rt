@@ -2,6 +2,7 @@
 
 ghost use Rattle.std.specs.Prelude.{◌≡◌, ◌+◌, ◌*◌, ◌-◌, ◌<◌, ◌≤◌, ◌++◌, length, replicate, false, Ok};
 ghost use Rattle.p25_bits.specs.Numbers.{joined_below};
+ghost use Rattle.p25_bch_nid.specs.Duids.{duid_pdu};
 ghost use Rattle.p25_unit_front.specs.Front.{unit_front};
 ghost use Rattle.p25_trellis.specs.Nearest.{half_block, three_quarter_block};
 ghost use Rattle.p25_packet_blocks.specs.declared.packet.Packet.TheVariants.{Confirmed as confirmed_packet, Plain as plain_packet};
@@ -50,7 +51,7 @@ fn parts(head: &PacketHead) -> usize
 fn put_packet_front(nac: u16, out: &mut BitBuf)
     requires nac { nac < 4096 }
     requires room { length out.old + 112 ≤ 25928 }
-    ensures list { out.new ≡ out.old ++ unit_front nac 12 }
+    ensures list { out.new ≡ out.old ++ unit_front nac duid_pdu }
     ensures len { length out.new ≡ length out.old + 112 }
 {
     match Nid::new(nac, PDU) {

@@ -22,6 +22,7 @@
 #![tactic(auto)]
 
 mod block;
+mod failing;
 mod flags;
 mod head;
 mod image;
@@ -35,14 +36,11 @@ mod whole;
 
 pub use block::{Block, Slot};
 pub use flags::{Flags, flags_make, flags_read};
-pub use head::{CONFIRMED_FORMAT, PLAIN_FORMAT, PacketHead, RESPONSE_FORMAT};
+pub use head::{CONFIRMED_FORMAT, PLAIN_FORMAT, PacketHead, RESPONSE_FORMAT, ReadHead};
 pub use image::{packet_image, packet_length};
 pub use octets::Octets;
 pub use packet::{Confirmed, Packet, Plain};
-pub use read::{
-    BLOCK_LENGTH, BLOCKS_AT, HEADER_AT, read_head, read_packet, read_packet_counted,
-    read_packet_with, set_packet,
-};
+pub use read::{BLOCK_LENGTH, BLOCKS_AT, HEADER_AT, read_head, read_packet};
 pub use slots::Slots;
-pub use unit::{read_head_at, read_head_at_counted, read_packet_unit};
+pub use unit::{read_head_at, read_packet_unit};
 pub use whole::is_whole;

@@ -1,14 +1,18 @@
-ghost use Rattle.std.specs.Prelude.{◌≡◌, ◌+◌, ◌-◌, ◌*◌, ◌≤◌, [], length};
-ghost use Rattle.p25_packet_blocks.specs.Fixes.{three_quarter_distance};
-ghost use Rattle.p25_packet_blocks.specs.Heads.{head_format, head_blocks, response_head};
+ghost use Rattle.std.specs.Prelude.{◌≡◌, ℕ, ◌+◌, ◌-◌, ◌*◌, ◌≤◌, [], length, Ok, IfOk};
+ghost use Rattle.p25_packet_blocks.specs.Fixes.{half_distance, three_quarter_distance, packet_fixes_of};
+ghost use Rattle.p25_packet_blocks.specs.Heads.{confirmed_format, head_format, head_blocks, response_head};
 ghost use Rattle.p25_packet_blocks.specs.Kinds.{IsPlainFormat};
-ghost use Rattle.p25_packet_blocks.specs.Reading.{slots_read, confirmed_by_parts, plain_by_parts};
+ghost use Rattle.p25_packet_blocks.specs.Outcomes.{body_distance, packet_or, packet_outcome_of};
+ghost use Rattle.p25_packet_blocks.specs.Reading.{header_bits, octets_read, read_head_of, slots_read, confirmed_by_parts, plain_by_parts, packet_of_head, plain_from};
+ghost use Rattle.p25_status.specs.Outcomes.{IfRead};
 
-use crate::head::PacketHead;
+use crate::failing::failing_blocks;
+use crate::head::{CONFIRMED_FORMAT, PLAIN_FORMAT, PacketHead, RESPONSE_FORMAT, ReadHead};
 use crate::octets::Octets;
-use crate::read::read_slots;
+use crate::read::{check_agrees, read_octets, read_slots};
 use crate::slots::Slots;
 use p25_bits::BitBuf;
+use p25_status::{Field, Outcome};
 use std::marker::Model;
 
 /// A confirmed packet (PDU): a header of format 16 hex, and a slot for each block to follow.
@@ -49,18 +53,6 @@ impl Confirmed {
         ensures kind { IsConfirmed self.now }
     {
         self.head
-    }
-
-    // Becomes the packet of a header and of the blocks to follow in its unit. Adds the distances of their nearest paths to `fixes`.
-    fn read(&mut self, head: PacketHead, bare: &BitBuf, fixes: &mut u32)
-        requires format { head_format head ≡ 0x16 }
-        requires there { 308 + 196 * head_blocks head ≤ length bare.now }
-        requires few { fixes.old ≤ 196 }
-        ensures parts { self.new ≡ record { head = head; slots = slots_read (head_blocks head) bare.now } }
-        ensures fixes { fixes.new ≡ fixes.old + three_quarter_distance (head_blocks head) bare.now }
-    {
-        self.head = head;
-        read_slots(bare, usize::from(head.blocks()), &mut self.slots, fixes);
     }
 
     /// Answers the slots, in the order of sending.
@@ -113,17 +105,6 @@ impl Plain {
         self.head
     }
 
-    // Becomes the packet of a header and its octets.
-    fn set(&mut self, head: PacketHead, octets: &[u8])
-        requires plain { IsPlain (record { head = head; octets = octets.now }) }
-        requires most { length octets.now ≤ 1520 }
-        ensures { self.new ≡ record { head = head; octets = octets.now } }
-    {
-        self.head = head;
-        self.octets.clear();
-        self.octets.extend(octets);
-    }
-
     /// Answers the octets before the packet CRC, in order.
     pub fn octets(&self) -> &Octets
         ensures value { result.now ≡ self.now.octets }
@@ -143,41 +124,93 @@ pub enum Packet {
 }
 
 impl Packet {
-    /// Answers a response of no blocks, as the place of a packet that is to be read.
+    /// Answers a response of no blocks: room for a packet that is to be read.
     pub fn empty() -> Packet
         ensures { result ≡ plain_by_parts (response_head 0 0 0 0 0) [] }
     {
         Packet::Plain(Plain::new(PacketHead::response(0, 0, 0, 0, 0), Octets::new()))
     }
 
-    // Becomes the confirmed packet of a header and of the blocks to follow in its unit. Where it was one, no room is moved. Adds the
-    // distances of their nearest paths to `fixes`.
-    pub(crate) fn read_confirmed(&mut self, head: PacketHead, bare: &BitBuf, fixes: &mut u32)
-        requires format { head_format head ≡ 0x16 }
-        requires there { 308 + 196 * head_blocks head ≤ length bare.now }
-        requires few { fixes.old ≤ 196 }
-        ensures packet { self.new ≡ confirmed_by_parts head (slots_read (head_blocks head) bare.now) }
-        ensures fixes { fixes.new ≡ fixes.old + three_quarter_distance (head_blocks head) bare.now }
+    /// Sets the packet (PDU) to that of a unit without status symbols whose header was read, and answers which fields of it fail, or
+    /// how many bits of its header block and its other blocks were put right. Format and PacketCrc come as in `read_packet`, alone;
+    /// else a block fails exactly where its slot is Bad, and the packet is set still. A packet is large: set in place it is not
+    /// moved. TIA-102.BAAA, Packet Data.
+    pub fn read(&mut self, read: ReadHead, bare: &BitBuf) -> Outcome
+        requires head { read_head_of (header_bits bare.now) ≡ Ok read }
+        requires there { 308 + 196 * head_blocks read.head ≤ length bare.now }
+        ensures outcome { result ≡ packet_outcome_of read bare.now }
+        ensures packet { IfOk (packet_of_head read.head bare.now) (λ packet. self.new ≡ packet) }
+        ensures wrong { IfRead result (λ wrong. (nac : ℕ) → wrong ≡ packet_fixes_of nac self.new bare.now) }
     {
-        match self {
-            Packet::Confirmed(held) => held.read(head, bare, fixes),
-            Packet::Plain(_) => {
-                let mut slots = Slots::new();
-                read_slots(bare, usize::from(head.blocks()), &mut slots, fixes);
-                *self = Packet::Confirmed(Confirmed::new(head, slots));
-            }
+        match self.read_blocks(read, bare) {
+            Err(field) => Outcome::failing(field),
+            Ok(wrong) => Outcome::of(failing_blocks(self), wrong),
         }
     }
 
+    // Becomes the packet of a header that was read and of its unit, and answers how many bits were wrong, or for which field there is
+    // no packet: Format or PacketCrc. Where it was such a packet, no room is moved.
+    pub(crate) fn read_blocks(&mut self, read: ReadHead, bare: &BitBuf) -> Result<u32, Field>
+        requires few { read.wrong ≤ 196 }
+        requires there { 308 + 196 * head_blocks read.head ≤ length bare.now }
+        ensures packet { packet_or result self.new ≡ packet_of_head read.head bare.now }
+        ensures wrong { IfOk result (λ wrong. wrong ≡ read.wrong + body_distance read.head bare.now) }
+    {
+        match read.head.format() {
+            CONFIRMED_FORMAT => {
+                let blocks = usize::from(read.head.blocks());
+                match self {
+                    Packet::Confirmed(held) => {
+                        held.head = read.head;
+                        Ok(read.wrong + read_slots(bare, blocks, &mut held.slots))
+                    }
+                    Packet::Plain(_) => {
+                        let mut slots = Slots::new();
+                        let wrong = read_slots(bare, blocks, &mut slots);
+                        *self = Packet::Confirmed(Confirmed::new(read.head, slots));
+                        Ok(read.wrong + wrong)
+                    }
+                }
+            }
+            PLAIN_FORMAT | RESPONSE_FORMAT => self.read_plain(read, bare),
+            _ => Err(Field::Format),
+        }
+    }
+
+    // Becomes the packet of a header that is not confirmed and of the blocks to follow in its unit, as `read_blocks` says. The last four
+    // octets of its blocks are the packet CRC of the others; where there is no block, there is none.
+    fn read_plain(&mut self, read: ReadHead, bare: &BitBuf) -> Result<u32, Field>
+        requires format { IsPlainFormat (head_format read.head) }
+        requires few { read.wrong ≤ 196 }
+        requires there { 308 + 196 * head_blocks read.head ≤ length bare.now }
+        ensures packet { packet_or result self.new ≡ plain_from read.head (octets_read (head_blocks read.head) bare.now) }
+        ensures wrong { IfOk result (λ wrong. wrong ≡ read.wrong + half_distance (head_blocks read.head) bare.now) }
+    {
+        let blocks = usize::from(read.head.blocks());
+        let count = (12 * blocks).saturating_sub(4);
+        let mut room = [0; 1524];
+        let octets = &mut room[..12 * blocks];
+        let wrong = read_octets(bare, blocks, octets);
+        if blocks > 0 && !check_agrees(octets, count) {
+            return Err(Field::PacketCrc);
+        }
+        self.set_plain(read.head, &octets[..count]);
+        Ok(read.wrong + wrong)
+    }
+
     // Becomes the packet of a header that is not confirmed and its octets. Where it was one, no room is moved.
-    pub(crate) fn set_plain(&mut self, head: PacketHead, octets: &[u8])
+    fn set_plain(&mut self, head: PacketHead, octets: &[u8])
         requires format { IsPlainFormat (head_format head) }
         requires count { length octets.now ≡ 12 * head_blocks head - 4 }
         requires most { length octets.now ≤ 1520 }
         ensures { self.new ≡ plain_by_parts head octets.now }
     {
         match self {
-            Packet::Plain(held) => held.set(head, octets),
+            Packet::Plain(held) => {
+                held.head = head;
+                held.octets.clear();
+                held.octets.extend(octets);
+            }
             Packet::Confirmed(_) => {
                 let mut carried = Octets::new();
                 carried.extend(octets);

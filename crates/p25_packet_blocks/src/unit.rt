@@ -1,16 +1,15 @@
 //! Units of packets (PDU) read as they are sent, with their status symbols.
 
-ghost use Rattle.std.specs.Prelude.{◌≡◌, ◌+◌, ◌*◌, ◌≤◌, length, drop};
-ghost use Rattle.p25_packet_blocks.specs.UnitReading.{sent_header_bits, sent_head_of, sent_head_distance, sent_packet_of, packet_unit_of};
+ghost use Rattle.std.specs.Prelude.{◌≡◌, ◌+◌, ◌*◌, ◌≤◌, length, drop, IfOk};
+ghost use Rattle.p25_packet_blocks.specs.UnitReading.{sent_header_bits, sent_read_of, sent_packet_of, packet_unit_of};
 
-use crate::head::PacketHead;
+use crate::head::ReadHead;
 use crate::image::packet_length;
 use crate::packet::Packet;
-use crate::read::{head_in, read_packet_with};
+use crate::read::read_header;
 use p25_bch_nid::PDU;
 use p25_bits::BitBuf;
 use p25_status::{BARE_BLOCK_LENGTH, Field, SENT_BLOCK_LENGTH, Statuses, is_sync, unweave};
-use p25_trellis::{Half, read_block};
 use p25_unit_front::read_identifier;
 
 // Sets `header` to the bits of the header block of the unit of a packet (PDU) whose sent bits begin at a place.
@@ -28,32 +27,17 @@ fn take_header(bits: &BitBuf, at: usize, header: &mut BitBuf)
     header.append(bits, at + 4 * SENT_BLOCK_LENGTH, 28);
 }
 
-/// Answers the header of the packet (PDU) whose unit as it is sent begins at place `at`. The 316 bits with its front and its
-/// header block are there. PacketHeader comes exactly where the last two octets of the block are not the header CRC of the
-/// others. TIA-102.BAAA, Packet Data, Header Block.
-pub fn read_head_at(bits: &BitBuf, at: usize) -> Result<PacketHead, Field>
+/// Answers the header of the packet (PDU) whose unit as it is sent begins at place `at`, and how many bits of its block were wrong. The
+/// 316 bits with its front and its header block are there. PacketHeader comes exactly where the last two octets of the block are
+/// not the header CRC of the others. TIA-102.BAAA, Packet Data, Header Block.
+pub fn read_head_at(bits: &BitBuf, at: usize) -> Result<ReadHead, Field>
     requires { at + 316 ≤ length bits.now }
-    ensures { result ≡ sent_head_of (drop at bits.now) }
-{
-    read_head_at_counted(bits, at, &mut 0)
-}
-
-/// Answers the header of a packet (PDU) as `read_head_at` does. Sets `distance` to the number of bits in which the header block
-/// was received otherwise than the nearest block is sent, also where its CRC does not agree.
-pub fn read_head_at_counted(
-    bits: &BitBuf,
-    at: usize,
-    distance: &mut u32,
-) -> Result<PacketHead, Field>
-    requires { at + 316 ≤ length bits.now }
-    ensures head { result ≡ sent_head_of (drop at bits.now) }
-    ensures distance { distance.new ≡ sent_head_distance (drop at bits.now) }
+    ensures read { result ≡ sent_read_of (drop at bits.now) }
+    ensures few { IfOk result (λ read. read.wrong ≤ 196) }
 {
     let mut header = BitBuf::new();
     take_header(bits, at, &mut header);
-    let mut octets = [0; 12];
-    *distance = read_block::<Half>(&header, 0, &mut octets);
-    head_in(&octets)
+    read_header(&header, 0)
 }
 
 // The packet (PDU) of a unit as it is sent, from its header on.
@@ -61,14 +45,16 @@ fn read_sent_packet(bits: &BitBuf) -> Result<Packet, Field>
     requires { 316 ≤ length bits.now }
     ensures { result ≡ sent_packet_of bits.now }
 {
-    let head = read_head_at(bits, 0)?;
-    let len = packet_length(&head);
+    let read = read_head_at(bits, 0)?;
+    let len = packet_length(&read.head);
     if bits.len() < len {
         return Err(Field::Length);
     }
     let mut bare = BitBuf::new();
     unweave(bits, 0, len, &mut bare, &mut Statuses::new());
-    read_packet_with(head, &bare)
+    let mut packet = Packet::empty();
+    packet.read_blocks(read, &bare)?;
+    Ok(packet)
 }
 
 /// Answers the network access code (NAC) and the packet (PDU) of the unit that begins at place 0, as it is sent, with its status

@@ -117,3 +117,132 @@ fn keys(rt: HostRuntime) {
     let key = key_solve(&[Sym::ZERO; 22]);
     assert!(rt; key.locator != Poly::zero() && key.evaluator == Poly::zero());
 }
+
+// A polynomial of at most eight coefficients, the lowest first.
+fn poly(values: &[u8]) -> Poly {
+    let mut symbols = [Sym::ZERO; 8];
+    for i in 0..values.len().min(8) {
+        symbols[i] = Sym::new(values[i]).unwrap_or(Sym::ZERO);
+    }
+    Poly::from_symbols(&symbols)
+}
+
+// Two polynomials and their product.
+const PRODUCTS: [(&[u8], &[u8], &[u8]); 3] = [
+    (&[1, 2, 3], &[4, 5], &[4, 13, 6, 15]),
+    (&[7, 0, 33, 9], &[60, 1, 2], &[50, 7, 16, 52, 8, 18]),
+    (&[0, 0, 1], &[0, 63], &[0, 0, 0, 63]),
+];
+
+// Whether the product of two polynomials is a third, which both divide; one more leaves a rest of 1.
+fn is_product(one: &Poly, other: &Poly, product: &Poly) -> bool {
+    let (Some(first), Some(second)) = (one.degree(), other.degree()) else {
+        return false;
+    };
+    if first + second > 7 {
+        return false;
+    }
+    let more = product.add(&poly(&[1]));
+    one.mul(other) == *product
+        && product.divide(other) == (*one, Poly::zero())
+        && more.divide(one) == (*other, poly(&[1]))
+}
+
+#[test]
+fn products(rt: HostRuntime) {
+    for (one, other, product) in PRODUCTS {
+        assert!(rt; is_product(&poly(one), &poly(other), &poly(product)));
+    }
+}
+
+// A polynomial, a symbol, and its value there.
+const VALUES: [(&[u8], u8, u8); 4] = [
+    (&[7, 0, 33, 9], 5, 14),
+    (&[1, 2, 3], 2, 9),
+    (&[7, 0, 33, 9], 0, 7),
+    (&[0, 0, 1], 63, 42),
+];
+
+#[test]
+fn values(rt: HostRuntime) {
+    for (of, at, value) in VALUES {
+        let x = Sym::new(at).unwrap_or(Sym::ZERO);
+        assert_eq!(rt; poly(of).eval(x).value(), value);
+    }
+}
+
+// The syndromes of one, two and three wrong symbols, and a locator and an evaluator for them.
+const KEYS: [(&[u8], &[u8], &[u8]); 3] = [
+    (&[40, 15], &[1, 8], &[40]),
+    (&[18, 26, 26, 9], &[1, 56, 10], &[18, 59]),
+    (&[21, 0, 40, 41, 34, 42], &[1, 54, 23, 32], &[21, 28, 31]),
+];
+
+// Whether a key is a locator and an evaluator, both times the same symbol.
+fn is_key(key: &Key, locator: &Poly, evaluator: &Poly) -> bool {
+    let scale = key.locator.coefficient(0);
+    let multiple = Poly::from_symbols(&[scale]);
+    let (Some(first), Some(second), Some(none)) = (
+        locator.degree(),
+        evaluator.degree(),
+        multiple.degree(),
+    ) else {
+        return false;
+    };
+    if first + none > 7 || second + none > 7 {
+        return false;
+    }
+    key.locator == locator.mul(&multiple) && key.evaluator == evaluator.mul(&multiple)
+}
+
+#[test]
+fn keys_of_wrong_symbols(rt: HostRuntime) {
+    for (syndromes, locator, evaluator) in KEYS {
+        let series = poly(syndromes);
+        let symbols = [
+            series.coefficient(0),
+            series.coefficient(1),
+            series.coefficient(2),
+            series.coefficient(3),
+            series.coefficient(4),
+            series.coefficient(5),
+        ];
+        let key = match syndromes.len() {
+            2 => key_solve(&symbols[..2]),
+            4 => key_solve(&symbols[..4]),
+            _ => key_solve(&symbols),
+        };
+        assert!(rt; is_key(&key, &poly(locator), &poly(evaluator)));
+    }
+}
+
+// The four entries of a matrix, row by row, the two right sides, and the one solution, or none.
+const SYSTEMS: [([u8; 4], [u8; 2], Option<(u8, u8)>); 3] = [
+    ([0, 2, 3, 0], [4, 6], Some((2, 2))),
+    ([1, 2, 3, 4], [5, 6], Some((12, 37))),
+    ([1, 2, 2, 4], [5, 6], None),
+];
+
+#[test]
+fn systems_of_two(rt: HostRuntime) {
+    for (entries, sides, wanted) in SYSTEMS {
+        let (of, right) = (poly(&entries), poly(&sides));
+        let mut matrix = Matrix::new(2, 2);
+        matrix.set(0, 0, of.coefficient(0));
+        matrix.set(0, 1, of.coefficient(1));
+        matrix.set(1, 0, of.coefficient(2));
+        matrix.set(1, 1, of.coefficient(3));
+        let mut found = [Sym::ZERO; 2];
+        let is_solved = solve(
+            &matrix,
+            &[right.coefficient(0), right.coefficient(1)],
+            &mut found,
+        );
+        let solution = if is_solved {
+            Some((found[0].value(), found[1].value()))
+        } else {
+            None
+        };
+        assert_eq!(rt; solution, wanted);
+    }
+}

@@ -1,6 +1,7 @@
 -- The work of `soft`: what it still writes, for any levels that may still come.
 use Rattle.std.specs.Prelude.{◌≡◌, ℕ, ◌+◌, ◌-◌, ◌*◌, ◌/◌, ◌%◌, ◌≤◌, Bool, true, false, ◌&&◌, if◌then◌else◌, ◌==◌, List, [], ◌++◌, length, drop, map, ℤ, Some, None}
 use Rattle.p25_bits.specs.Bits.{part}
+use Rattle.p25_bch_nid.specs.Duids.{duid_pdu}
 use Rattle.p25_units.specs.Items.{covered, place_of}
 use Rattle.p25_units.specs.declared.item.Item.{Item}
 use Rattle.p25_units.specs.declared.item.Item.TheVariants.{Whole, Broken, NoUnit, Gap, Cut}
@@ -59,7 +60,7 @@ pub record IsHolding (scan : Scan) (levels : List ℤ) : Type 0 where
 
 -- an item is a broken packet (PDU) that begins at an even place
 abbrev pub is_even_packet : Item → Bool
-is_even_packet (Broken place count nac duid fields) = duid == 0xC && place % 2 == 0
+is_even_packet (Broken place count nac duid fields) = duid == duid_pdu && place % 2 == 0
 is_even_packet (Whole place frame fixes) = false
 is_even_packet (NoUnit place field) = false
 is_even_packet (Gap place count) = false

@@ -14,7 +14,7 @@
 //! assert_eq!(rt; out.octets(), b"check units=0 faults=1\n".as_slice());
 //! ```
 //!
-//! `Recording::new(Check::new())` is the filter that takes octets, and `run_filter` of p25_filter the work of it.
+//! `Recording::new(Check::new())` is the filter that takes octets, and `run_on` of p25_filter the work of it.
 #![tactic(auto)]
 
 mod held_levels;

@@ -185,9 +185,10 @@ impl Filter for Soft {
 
     ghost size = { λ s. first_level s.scan.place + length s.levels };
 
-    fn push(&mut self, octet: u8) {
+    fn push_some(&mut self, octets: &[u8]) -> usize {
         let _ = &self.kept;
-        hear(&mut self.levels, octet.cast_signed(), &mut self.scanner);
+        hear(&mut self.levels, octets[0].cast_signed(), &mut self.scanner);
+        1
     }
 
     fn finish(&mut self) {

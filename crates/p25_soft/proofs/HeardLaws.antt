@@ -1,5 +1,5 @@
 -- What is known of a broken packet that its bits are divided into: its header was read, and it has the length that it tells. And what is made of each item.
-use Rattle.std.proofs.Common.{◌≡◌, ◌≢◌, ℕ, ◌*◌, ◌≤◌, inl, inr, Bool, true, List, length, take, refl, ap, sym, subst, ◌∙◌, arith, ℤ, Some, Result, Ok, Err, eq-eqb}
+use Rattle.std.proofs.Common.{◌≡◌, ◌≢◌, ℕ, ◌≤◌, inl, inr, Bool, true, List, length, take, refl, ap, sym, subst, ◌∙◌, arith, ℤ, Some, Result, Ok, Err, eq-eqb}
 use Rattle.std.specs.Prelude.{nat_eq}
 use Rattle.std.proofs.lemmas.Bool.{cases_lt, cond-true, cond-false, ne_eqb}
 use Rattle.std.proofs.lemmas.List.{length-take-le, take_all}

@@ -5,6 +5,7 @@ use Rattle.p25_bits.specs.Numbers.{each_below, joined_below}
 use Rattle.p25_status.specs.Woven.{woven, bare_of, statuses_of}
 use Rattle.p25_status.specs.declared.fields.Field.{Field}
 use Rattle.p25_status.specs.declared.fields.Field.TheVariants.{PacketCrc, Block}
+use Rattle.p25_bch_nid.specs.Duids.{duid_pdu}
 use Rattle.p25_trellis.specs.Tables.{half_point, three_quarter_point}
 use Rattle.p25_packet_blocks.specs.declared.head.PacketHead.{PacketHead}
 use Rattle.p25_packet_blocks.specs.Heads.{head_blocks}
@@ -76,7 +77,7 @@ softened_packet fields levels sent = woven (softened_bare fields levels (blocks_
 
 -- the bits of an item, the blocks of a broken packet (PDU) replaced
 unfoldable pub softened : Item → List ℤ → List Bool → List Bool
-softened (Broken place count nac duid fields) levels sent = if duid == 0xC then softened_packet fields levels sent else sent
+softened (Broken place count nac duid fields) levels sent = if duid == duid_pdu then softened_packet fields levels sent else sent
 softened (Whole place frame fixes) levels sent = sent
 softened (NoUnit place field) levels sent = sent
 softened (Gap place count) levels sent = sent
@@ -84,7 +85,7 @@ softened (Cut place have) levels sent = sent
 
 -- how many blocks of an item are replaced
 unfoldable pub softened_count : Item → List Bool → ℕ
-softened_count (Broken place count nac duid fields) sent = if duid == 0xC then blocks_replaced fields (blocks_to_follow sent) else 0
+softened_count (Broken place count nac duid fields) sent = if duid == duid_pdu then blocks_replaced fields (blocks_to_follow sent) else 0
 softened_count (Whole place frame fixes) sent = 0
 softened_count (NoUnit place field) sent = 0
 softened_count (Gap place count) sent = 0

@@ -24,7 +24,7 @@ fn told_blocks(sent: &BitBuf) -> usize
     ensures most { result ≤ 127 }
 {
     match read_head_at(sent, 0) {
-        Ok(head) => usize::from(head.blocks()),
+        Ok(read) => usize::from(read.head.blocks()),
         Err(_) => 0,
     }
 }

@@ -35,10 +35,7 @@ pub fn transmit(packet: &Packet, out: &mut BitBuf)
 {
     let mut bare = BitBuf::new();
     packet_image(NAC, packet, &mut bare);
-    let mut statuses = Statuses::new();
-    for _block in 0..bare.len() / BARE_BLOCK_LENGTH {
-        statuses.push(Status::default());
-    }
+    let statuses = Statuses::filled(Status::default(), bare.len() / BARE_BLOCK_LENGTH);
     weave(&bare, &statuses, out);
 }
 

@@ -1,3 +1,4 @@
 pub mod Sync
 pub mod Status
 pub mod Woven
+pub mod Outcomes

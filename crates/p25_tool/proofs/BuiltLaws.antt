@@ -26,7 +26,7 @@ use Rattle.p25_stream.specs.Arrivals.{Arrival, IsNearArrival, whole_of, wholes_o
 use Rattle.p25_stream.proofs.ArrivalLaws.{wholes_of-cons, wholes_of-nil}
 use Rattle.p25_filter.specs.declared.ending.Ending.{Ending}
 use Rattle.p25_filter.specs.Lines.{closing_by, lines_in, refusal_in}
-use Rattle.p25_filter.proofs.RulesLaws.{read_of-err, read_of-nil, read_of-ok}
+use Rattle.p25_filter.proofs.LinesLaws.{read_of-err, read_of-nil, read_of-ok}
 use Rattle.p25_tool.specs.Built.{AcceptedAreRead, BuildsUnits, LinesAreTexts, bits_built, units_of, wholes_built}
 use Rattle.p25_tool.specs.declared.command.Command.TheVariants.{Build}
 use Rattle.p25_tool.specs.Outputs.{output_by}

@@ -1,44 +1,92 @@
--- What the work on a script writes is what the steps of its events tell, and what closes them: for every machine whose steps tell
--- something. By recursion on the events.
-use Rattle.std.proofs.Common.{◌≡◌, ℕ, Bool, true, List, [], ◌∷◌, ◌++◌, map, Result, refl, ap, ap₂, ◌∙◌}
+-- What the work on lines writes from the first octet on is what the command is defined to write: the texts of what its steps tell,
+-- and what closes them. By recursion on the events.
+use Rattle.std.proofs.Common.{◌≡◌, ℕ, Bool, true, false, cond, List, [], ◌∷◌, ◌++◌, map, Option, Result, refl, ap, ap₂, ◌∙◌}
 use Rattle.std.specs.List.{concat, flat_map}
 use Rattle.p25_line.specs.declared.fault.LineFault.{LineFault}
+use Rattle.p25_status.specs.declared.symbols.Status.{Status}
+use Rattle.p25_text.specs.Grammar.{read_line_of}
+use Rattle.p25_units.specs.UnitParts.{UnitParts}
+use Rattle.p25_units.specs.Units.{image_octets}
 use Rattle.p25_delivery.specs.Runs.{run_by, steps_by}
-use Rattle.p25_filter.specs.Futures.{Future}
-use Rattle.p25_filter.specs.Lines.{closing_by, lines_in, read_of, refusal_in, texts_before}
-use Rattle.p25_filter.specs.LineRules.{machine_behind, rules_by, texts_of, told_by}
+use Rattle.p25_stations.specs.Steps.{world_step}
+use Rattle.p25_stations.specs.WorldState.{first_world}
+use Rattle.p25_script.specs.Script.{event_of}
+use Rattle.p25_fragments.specs.LongState.{first_long}
+use Rattle.p25_fragments.specs.LongSteps.{long_step}
+use Rattle.p25_fragment_script.specs.LongScript.{long_event_of}
+use Rattle.p25_fragment_script.specs.LongTexts.{long_step_text_of}
+use Rattle.p25_duplex.specs.DuplexSteps.{first_duplex, duplex_step}
+use Rattle.p25_duplex_script.specs.DuplexLines.{duplex_event_of}
+use Rattle.p25_filter.specs.Lines.{closing_by, lines_future, lines_in, read_of, refusal_in, texts_before}
+use Rattle.p25_filter.specs.LineRules.{machine_after, texts_of, told_by, written_before, written_for}
 use Rattle.p25_filter.specs.LineFilters.{first_line, line_future}
-use Rattle.p25_filter.proofs.RulesLaws.{first_line-pauses, first_line-writes}
+use Rattle.p25_filter.proofs.LinesLaws.{each_behind-none}
+use Rattle.p25_filter.proofs.SameLaws.{AreAlike}
+use Rattle.p25_tool.specs.declared.build.Build.{Build}
+use Rattle.p25_tool.specs.declared.command.Command.TheVariants.{Build as BuildIt, Stations, Fragments, Duplex}
+use Rattle.p25_tool.specs.Machines.{build_rules, duplex_rules, fragment_rules, station_rules}
+use Rattle.p25_tool.specs.Outputs.{closing_line, command_future, duplex_closing_lines, duplex_step_line, long_closing_line, step_line}
 
-told : {W E S : Type 0} (step : W → E → W × S) (line : S → List ℕ) (events : List E) (w : W) → texts_of (told_by step line) w events ≡ map line (steps_by step w events)
-unfolding texts_of steps_by
-told step line [] w = refl
-told step line (event ∷ events) w = ap (λ (ts : List (List ℕ)). line (step w event).1 ∷ ts) (told step line events (step w event).0)
+module _ {W E S : Type 0} (read : List ℕ → Result E LineFault) (step : W → E → W × S) (text : S → List ℕ) (closing : W → List ℕ) (wants : Bool) where
+  told : (events : List E) (w : W) → texts_of (told_by step text) w events ≡ map text (steps_by step w events)
+  unfolding texts_of steps_by
+  told [] w = refl
+  told (event ∷ events) w = ap (λ (ts : List (List ℕ)). text (step w event).1 ∷ ts) (told events (step w event).0)
 
-run_behind : {W E S : Type 0} (step : W → E → W × S) (line : S → List ℕ) (events : List E) (w : W) → machine_behind (told_by step line) w events ≡ run_by step w events
-unfolding machine_behind run_by
-run_behind step line [] w = refl
-run_behind step line (event ∷ events) w = run_behind step line events (step w event).0
+  run_behind : (events : List E) (w : W) → machine_after (told_by step text) w events ≡ run_by step w events
+  unfolding machine_after run_by
+  run_behind [] w = refl
+  run_behind (event ∷ events) w = run_behind events (step w event).0
 
-concat_lines : {S : Type 0} (line : S → List ℕ) (steps : List S) → concat (map line steps) ≡ flat_map line steps
-concat_lines line [] = refl
-concat_lines line (step ∷ steps) = ap (λ (zs : List ℕ). line step ++ zs) (concat_lines line steps)
+  concat_texts : (steps : List S) → concat (map text steps) ≡ flat_map text steps
+  concat_texts [] = refl
+  concat_texts (step ∷ steps) = ap (λ (zs : List ℕ). text step ++ zs) (concat_texts steps)
 
--- the rules of a script, by what reads a line, what a step makes and tells, the text of a step, and what closes the run
-abbrev pub script_future : {W E S : Type 0} → (List ℕ → Result E LineFault) → (W → E → W × S) → (S → List ℕ) → (W → List ℕ) → W → Future
-script_future read step line closing first = line_future (rules_by read (told_by step line) closing true) (first_line first)
+  script-alike : (first : W) → AreAlike (line_future (record { read = read; step = told_by step text; closing = closing; wants = wants }) (first_line first))
+      (lines_future read (steps_by step first) text (λ events. closing (run_by step first events)) wants)
+  unfolding line_future written_for written_before
+  script-alike first = record {
+    writes = λ is octets.
+        let lines = lines_in is [] octets in
+        let events = read_of read lines in
+        ap₂ (λ (zs : List ℕ) (w : W). zs ++ closing_by is (refusal_in read 1 lines) (closing w))
+        (ap concat (told events first) ∙ concat_texts (steps_by step first events)) (run_behind events first);
+    ends = λ is octets. refl;
+    pauses = λ is octets.
+        let events = read_of read (lines_in is [] octets) in
+        ap (λ (ts : List (List ℕ)). cond wants ts [])
+        (each_behind-none (texts_before (texts_of (told_by step text) first events)) ∙ ap texts_before (told events first));
+  }
 
-pub script-writes : {W E S : Type 0} (read : List ℕ → Result E LineFault) (step : W → E → W × S) (line : S → List ℕ) (closing : W → List ℕ) (first : W) (is : Bool) (octets : List ℕ) →
-    (script_future read step line closing first).writes is octets ≡
-    flat_map line (steps_by step first (read_of read (lines_in is [] octets))) ++ closing_by is (refusal_in read 1 (lines_in is [] octets)) (closing (run_by step first (read_of read (lines_in is [] octets))))
-script-writes {W} {E} {S} read step line closing first is octets =
-    let lines = lines_in is [] octets in
-    let events = read_of read lines in
-    first_line-writes read (told_by step line) closing true first is octets
-    ∙ ap₂ (λ (zs : List ℕ) (w : W). zs ++ closing_by is (refusal_in read 1 lines) (closing w))
-    (ap concat (told step line events first) ∙ concat_lines line (steps_by step first events)) (run_behind step line events first)
+pub stations-alike : AreAlike (line_future station_rules (first_line first_world)) (command_future Stations)
+stations-alike = script-alike event_of world_step step_line closing_line true first_world
 
-pub script-pauses : {W E S : Type 0} (read : List ℕ → Result E LineFault) (step : W → E → W × S) (line : S → List ℕ) (closing : W → List ℕ) (first : W) (is : Bool) (octets : List ℕ) →
-    (script_future read step line closing first).pauses is octets ≡ texts_before (map line (steps_by step first (read_of read (lines_in is [] octets))))
-script-pauses read step line closing first is octets =
-    first_line-pauses read (told_by step line) closing true first is octets ∙ ap texts_before (told step line (read_of read (lines_in is [] octets)) first)
+pub fragments-alike : AreAlike (line_future fragment_rules (first_line first_long)) (command_future Fragments)
+fragments-alike = script-alike long_event_of long_step long_step_text_of long_closing_line true first_long
+
+pub duplex-alike : AreAlike (line_future duplex_rules (first_line first_duplex)) (command_future Duplex)
+duplex-alike = script-alike duplex_event_of duplex_step duplex_step_line duplex_closing_lines true first_duplex
+
+-- a step of `build` tells the unit and the status symbol
+building : Build → UnitParts → Build × (Status × UnitParts)
+building build unit = (build, (build.status, unit))
+
+image_told : Status × UnitParts → List ℕ
+image_told told = image_octets told.0 told.1
+
+images : (status : Status) (units : List UnitParts) → flat_map image_told (steps_by building (record { status = status }) units) ≡ flat_map (image_octets status) units
+unfolding steps_by building image_told
+images status [] = refl
+images status (unit ∷ units) = ap (λ (zs : List ℕ). image_octets status unit ++ zs) (images status units)
+
+pub build-alike : (status : Status) → AreAlike (line_future build_rules (first_line (record { status = status }))) (command_future (BuildIt status))
+unfolding building image_told
+build-alike status =
+    let alike = script-alike read_line_of building image_told (λ build. []) false (record { status = status }) in
+    record {
+      writes = λ is octets.
+          let lines = lines_in is [] octets in
+          alike.writes is octets ∙ ap (λ (zs : List ℕ). zs ++ closing_by is (refusal_in read_line_of 1 lines) []) (images status (read_of read_line_of lines));
+      ends = alike.ends;
+      pauses = alike.pauses;
+    }

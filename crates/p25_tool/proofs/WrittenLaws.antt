@@ -9,7 +9,7 @@ use Rattle.p25_text.specs.Grammar.{read_line_of}
 use Rattle.p25_script.specs.Script.{event_of}
 use Rattle.p25_fragment_script.specs.LongScript.{long_event_of}
 use Rattle.p25_filter.specs.Lines.{lines_ending, lines_in, refusal_in}
-use Rattle.p25_filter.proofs.RulesLaws.{refusal_in-err, refusal_in-nil, refusal_in-ok}
+use Rattle.p25_filter.proofs.LinesLaws.{refusal_in-err, refusal_in-nil, refusal_in-ok}
 use Rattle.p25_filter.specs.Runs.{IsFinal, Filtered, input_most}
 use Rattle.p25_filter.proofs.RunsLaws.{ended-input}
 use Rattle.p25_filter.specs.declared.ending.Ending.{Ending}

@@ -1,10 +1,7 @@
 pub mod Words
 pub mod Outcomes
 pub mod Outputs
-pub mod Buildings
-pub mod StationRules
-pub mod DuplexRules
-pub mod FragmentRules
+pub mod Machines
 pub mod Scripts
 pub mod LongLines
 pub mod Runs

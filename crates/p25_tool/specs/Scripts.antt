@@ -1,7 +1,8 @@
 -- What a call makes of a script whose lines are all read.
-use Rattle.std.specs.Prelude.{◌≡◌, ℕ, ◌≤◌, ◌⊎◌, true, List, [], ◌++◌, length, map, Option, Ok}
+use Rattle.std.specs.Prelude.{◌≡◌, ℕ, ◌≤◌, ◌⊎◌, true, List, [], ◌++◌, length, map, Option, Result, Ok}
 use Rattle.std.specs.List.{flat_map}
 use Rattle.p25_io.specs.Octets.{Appended}
+use Rattle.p25_line.specs.declared.fault.LineFault.{LineFault}
 use Rattle.p25_delivery.specs.Orderly.{AreOrderly}
 use Rattle.p25_delivery.specs.Delivery.{sessions_of}
 use Rattle.p25_stations.specs.Runs.{IsCleanRun, steps_of, world_run}
@@ -25,55 +26,56 @@ use Rattle.p25_tool.specs.declared.outcome.Outcome.TheVariants.{Done, Memory}
 use Rattle.p25_tool.specs.Outputs.{closing_line, duplex_closing_lines, duplex_step_line, long_closing_line, step_line}
 
 -- an input is a script of events: it is not too long, and each of its lines is read as the event at its place
-pub record IsScriptOf (input : List ℕ) (events : List Event) : Type 0 where
+pub record IsScript {E : Type 0} (read : List ℕ → Result E LineFault) (input : List ℕ) (events : List E) : Type 0 where
   pub short : length input ≤ input_most
-  pub lines : map event_of (lines_in true [] input) ≡ map (λ event. Ok event) events
+  pub lines : map read (lines_in true [] input) ≡ map (λ event. Ok event) events
 
--- the lines that tell of a run: its steps, and the world after them
+-- a script was run to its end and all lines that tell of it were written, or memory was wanting; where the run is clean it is orderly, and
+-- where the number of false passes that its closing line tells is 0 it is clean
+pub record IsRunOf {E : Type 0} (text : List E → List ℕ) (passes : List E → ℕ) (IsClean IsOrderlyRun : List E → Type 0) (first last : Option (List ℕ))
+    (events : List E) (outcome : Outcome) : Type 0 where
+  pub ended : (outcome ≡ Done) ⊎ (outcome ≡ Memory)
+  pub wrote : outcome ≡ Done → Appended first (text events) last
+  pub orderly : IsClean events → IsOrderlyRun events
+  pub counted : passes events ≡ 0 → IsClean events
+
+-- `stations`: the lines that tell of a run are its steps, and the world after them. Where no step is a false pass, each session is
+-- orderly: the messages delivered are the first of those sent, those acknowledged were delivered, and one at most was delivered
+-- that was not acknowledged
+abbrev pub IsScriptOf : List ℕ → List Event → Type 0
+IsScriptOf input events = IsScript event_of input events
+
 abbrev pub script_text : List Event → List ℕ
 script_text events = flat_map step_line (steps_of first_world events) ++ closing_line (world_run first_world events)
 
--- a script was run to its end and all lines that tell of it were written, or memory was wanting; and where no step is a false
--- pass, each session is orderly: the messages delivered are the first of those sent, those acknowledged were delivered, and one
--- at most was delivered that was not acknowledged. Where the closing line counts no false pass, no step is one
-pub record HasRun (first last : Option (List ℕ)) (events : List Event) (outcome : Outcome) : Type 0 where
-  pub ended : (outcome ≡ Done) ⊎ (outcome ≡ Memory)
-  pub wrote : outcome ≡ Done → Appended first (script_text events) last
-  pub orderly : IsCleanRun events → AreOrderly (sessions_of (world_run first_world events).delivery)
-  pub counted : (world_run first_world events).false_passes ≡ 0 → IsCleanRun events
+abbrev pub HasRun : Option (List ℕ) → Option (List ℕ) → List Event → Outcome → Type 0
+HasRun first last events outcome =
+    IsRunOf script_text (λ events. (world_run first_world events).false_passes) IsCleanRun
+    (λ events. AreOrderly (sessions_of (world_run first_world events).delivery)) first last events outcome
 
--- the lines of an input are events of long messages
-pub record IsLongScriptOf (input : List ℕ) (events : List LongEvent) : Type 0 where
-  pub short : length input ≤ input_most
-  pub lines : map long_event_of (lines_in true [] input) ≡ map (λ event. Ok event) events
+-- `fragments`: where no step of the inner world is a false pass, no part is refused and each session is orderly: the long messages
+-- whole are the first of those taken, those acknowledged are whole, and one at most is whole that was not acknowledged
+abbrev pub IsLongScriptOf : List ℕ → List LongEvent → Type 0
+IsLongScriptOf input events = IsScript long_event_of input events
 
 abbrev pub long_script_text : List LongEvent → List ℕ
 long_script_text events = flat_map long_step_text_of (long_steps_of first_long events) ++ long_closing_line (long_run first_long events)
 
--- the texts of their run are written. Where no step of the inner world is a false pass, no part is refused and each session is
--- orderly: the long messages whole
--- are the first of those taken, those acknowledged are whole, and one at most is whole that was not acknowledged. Where the closing line
--- counts no false pass, no step is one
-pub record HasLongRun (first last : Option (List ℕ)) (events : List LongEvent) (outcome : Outcome) : Type 0 where
-  pub ended : (outcome ≡ Done) ⊎ (outcome ≡ Memory)
-  pub wrote : outcome ≡ Done → Appended first (long_script_text events) last
-  pub unrefused : IsCleanLongRun events → AreUnrefused (long_steps_of first_long events)
-  pub orderly : IsCleanLongRun events → AreOrderly (long_sessions_of (long_run first_long events))
-  pub counted : (long_run first_long events).inner.false_passes ≡ 0 → IsCleanLongRun events
+abbrev pub IsOrderlyLongRun : List LongEvent → Type 0
+IsOrderlyLongRun events = AreUnrefused (long_steps_of first_long events) × AreOrderly (long_sessions_of (long_run first_long events))
 
--- the lines of an input are events of both stations
-pub record IsDuplexScriptOf (input : List ℕ) (events : List DuplexEvent) : Type 0 where
-  pub short : length input ≤ input_most
-  pub lines : map duplex_event_of (lines_in true [] input) ≡ map (λ event. Ok event) events
+abbrev pub HasLongRun : Option (List ℕ) → Option (List ℕ) → List LongEvent → Outcome → Type 0
+HasLongRun first last events outcome =
+    IsRunOf long_script_text (λ events. (long_run first_long events).inner.false_passes) IsCleanLongRun IsOrderlyLongRun first last events outcome
 
--- the lines that tell of their run: its steps, and the lines that close it
+-- `duplex`: where no step is a false pass, each session of each side's messages is orderly
+abbrev pub IsDuplexScriptOf : List ℕ → List DuplexEvent → Type 0
+IsDuplexScriptOf input events = IsScript duplex_event_of input events
+
 abbrev pub duplex_script_text : List DuplexEvent → List ℕ
 duplex_script_text events = flat_map duplex_step_line (duplex_steps first_duplex events) ++ duplex_closing_lines (duplex_run first_duplex events)
 
--- all lines that tell of their run are written, or memory was wanting. Where no step is a false pass, each session of each side's
--- messages is orderly. Where the last line counts no false pass, no step is one
-pub record HasDuplexRun (first last : Option (List ℕ)) (events : List DuplexEvent) (outcome : Outcome) : Type 0 where
-  pub ended : (outcome ≡ Done) ⊎ (outcome ≡ Memory)
-  pub wrote : outcome ≡ Done → Appended first (duplex_script_text events) last
-  pub orderly : (side : Side) → IsCleanDuplex events → AreOrderly (sessions_of (delivery_at side (duplex_run first_duplex events)))
-  pub counted : (duplex_run first_duplex events).false_passes ≡ 0 → IsCleanDuplex events
+abbrev pub HasDuplexRun : Option (List ℕ) → Option (List ℕ) → List DuplexEvent → Outcome → Type 0
+HasDuplexRun first last events outcome =
+    IsRunOf duplex_script_text (λ events. (duplex_run first_duplex events).false_passes) IsCleanDuplex
+    (λ events. (side : Side) → AreOrderly (sessions_of (delivery_at side (duplex_run first_duplex events)))) first last events outcome

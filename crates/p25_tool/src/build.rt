@@ -4,12 +4,13 @@ ghost use Rattle.std.specs.Prelude.{◌≡◌};
 ghost use Rattle.p25_units.specs.Units.{IsSendableBody, image_octets};
 
 use p25_bits::BitBuf;
-use p25_filter::{LineMachine, LineRefusal};
-use p25_line::Line;
+use p25_filter::LineMachine;
+use p25_line::{Line, LineFault};
 use p25_recording_filters::parts::put_octets;
 use p25_status::Status;
 use p25_text::read_line;
 use p25_units::{Frame, Unit, image};
+use std::alloc::AllocError;
 
 // The units that the lines of an input describe, with one status symbol everywhere.
 #[derive(Drop)]
@@ -27,23 +28,25 @@ impl Build {
 }
 
 impl LineMachine for Build {
-    ghost use Rattle.p25_tool.specs.Buildings.{build_rules};
+    ghost use Rattle.p25_units.specs.Units.{IsSendableBody};
+    ghost use Rattle.p25_tool.specs.Machines.{build_rules};
     ghost use Rattle.p25_tool.specs.LongLines.{build_long};
+
+    type Event = Unit;
 
     ghost rules = { build_rules };
 
+    ghost IsRead = { λ unit. IsSendableBody unit.body };
+
     ghost long = { build_long };
 
-    fn take(&mut self, line: &[u8], out: &mut Line, behind: &mut Line) -> Result<(), LineRefusal> {
-        // A unit's image is one piece.
-        let _ = behind.len();
-        match read_line(line) {
-            Ok(unit) => {
-                put_image(unit, self.status, out);
-                Ok(())
-            }
-            Err(fault) => Err(LineRefusal::Fault(fault)),
-        }
+    fn read(line: &[u8]) -> Result<Unit, LineFault> {
+        read_line(line)
+    }
+
+    fn take(&mut self, event: Unit, out: &mut Line) -> Result<Option<Line>, AllocError> {
+        put_image(event, self.status, out);
+        Ok(None)
     }
 
     fn close(&self, out: &mut Line) {

@@ -1,14 +1,14 @@
 //! The work of `duplex`: each line of the input as the event of both stations that it tells of.
 
-ghost use Rattle.std.specs.Prelude.{◌≡◌, ◌≤◌, length};
+ghost use Rattle.std.specs.Prelude.{◌≡◌};
 ghost use Rattle.p25_duplex.specs.DuplexSteps.{first_duplex};
-ghost use Rattle.p25_tool.specs.Outputs.{duplex_closing_lines, duplex_step_line};
+ghost use Rattle.p25_tool.specs.Outputs.{duplex_closing_lines};
 
-use p25_duplex::{DuplexStep, DuplexWorld, Side};
+use p25_duplex::{DuplexEvent, DuplexWorld, Side};
 use p25_duplex_script::{duplex_closing, duplex_step_text, read_duplex_event};
-use p25_filter::{LineMachine, LineRefusal};
-use p25_line::Line;
-use std::alloc::Global;
+use p25_filter::LineMachine;
+use p25_line::{Line, LineFault};
+use std::alloc::{AllocError, Global};
 use std::marker::Model;
 
 // The world in which the events of a script of both stations happen.
@@ -37,39 +37,32 @@ impl Duplex {
 }
 
 impl LineMachine for Duplex {
-    ghost use Rattle.p25_tool.specs.DuplexRules.{duplex_rules};
+    ghost use Rattle.std.specs.Prelude.{⊤};
+    ghost use Rattle.p25_tool.specs.Machines.{duplex_rules};
     ghost use Rattle.p25_tool.specs.LongLines.{duplex_long};
+
+    type Event = DuplexEvent;
 
     ghost rules = { duplex_rules };
 
+    ghost IsRead = { λ _. ⊤ };
+
     ghost long = { duplex_long };
 
-    fn take(&mut self, line: &[u8], out: &mut Line, behind: &mut Line) -> Result<(), LineRefusal> {
-        // A step's text is one piece.
-        let _ = behind.len();
-        match read_duplex_event(line) {
-            Ok(event) => {
-                let Ok(step) = self.world.step(&event) else {
-                    return Err(LineRefusal::Memory);
-                };
-                put_duplex_line(&step, out);
-                Ok(())
-            }
-            Err(fault) => Err(LineRefusal::Fault(fault)),
-        }
+    fn read(line: &[u8]) -> Result<DuplexEvent, LineFault> {
+        read_duplex_event(line)
+    }
+
+    fn take(&mut self, event: DuplexEvent, out: &mut Line) -> Result<Option<Line>, AllocError> {
+        let step = self.world.step(&event)?;
+        duplex_step_text(&step, out);
+        out.put(b"\n");
+        Ok(None)
     }
 
     fn close(&self, out: &mut Line) {
         put_closing_lines(&self.world, out);
     }
-}
-
-// Sets `out` to the text of a step and the end of its line.
-fn put_duplex_line(step: &DuplexStep, out: &mut Line)
-    ensures { out.new ≡ duplex_step_line step.now }
-{
-    duplex_step_text(step, out);
-    out.put(b"\n");
 }
 
 // Sets `out` to the lines that close a run: one of each side, and one with the number of false passes.

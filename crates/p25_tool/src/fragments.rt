@@ -3,11 +3,11 @@
 ghost use Rattle.std.specs.Prelude.{◌≡◌};
 ghost use Rattle.p25_fragments.specs.LongState.{first_long};
 
-use p25_filter::{LineMachine, LineRefusal};
+use p25_filter::LineMachine;
 use p25_fragment_script::{long_closing_text, long_step_text, read_long_event};
-use p25_fragments::LongWorld;
-use p25_line::Line;
-use std::alloc::Global;
+use p25_fragments::{LongEvent, LongWorld};
+use p25_line::{Line, LineFault};
+use std::alloc::{AllocError, Global};
 use std::marker::Model;
 
 // The world in which the events of a script of long messages happen.
@@ -36,25 +36,27 @@ impl Fragments {
 }
 
 impl LineMachine for Fragments {
-    ghost use Rattle.p25_tool.specs.FragmentRules.{fragment_rules};
+    ghost use Rattle.std.specs.Prelude.{⊤};
+    ghost use Rattle.p25_tool.specs.Machines.{fragment_rules};
     ghost use Rattle.p25_tool.specs.LongLines.{fragment_long};
+
+    type Event = LongEvent;
 
     ghost rules = { fragment_rules };
 
+    ghost IsRead = { λ _. ⊤ };
+
     ghost long = { fragment_long };
 
-    fn take(&mut self, line: &[u8], out: &mut Line, behind: &mut Line) -> Result<(), LineRefusal> {
-        match read_long_event(line) {
-            Ok(event) => {
-                // Memory is taken before anything happens.
-                let Ok(()) = self.world.reserve(1) else {
-                    return Err(LineRefusal::Memory);
-                };
-                long_step_text(&self.world.step_ready(&event), out, behind);
-                Ok(())
-            }
-            Err(fault) => Err(LineRefusal::Fault(fault)),
-        }
+    fn read(line: &[u8]) -> Result<LongEvent, LineFault> {
+        read_long_event(line)
+    }
+
+    fn take(&mut self, event: LongEvent, out: &mut Line) -> Result<Option<Line>, AllocError> {
+        let step = self.world.step(&event)?;
+        let mut behind = Line::new();
+        long_step_text(&step, out, &mut behind);
+        Ok(Some(behind))
     }
 
     fn close(&self, out: &mut Line) {

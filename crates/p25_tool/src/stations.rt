@@ -2,12 +2,11 @@
 
 ghost use Rattle.std.specs.Prelude.{◌≡◌};
 ghost use Rattle.p25_stations.specs.WorldState.{first_world};
-ghost use Rattle.p25_tool.specs.Outputs.{step_line};
 
-use p25_filter::{LineMachine, LineRefusal};
-use p25_line::Line;
-use p25_script::{Step, World, closing_text, read_event, step_text};
-use std::alloc::Global;
+use p25_filter::LineMachine;
+use p25_line::{Line, LineFault};
+use p25_script::{Event, World, closing_text, read_event, step_text};
+use std::alloc::{AllocError, Global};
 use std::marker::Model;
 
 // The world in which the events of a script happen.
@@ -36,39 +35,31 @@ impl Stations {
 }
 
 impl LineMachine for Stations {
-    ghost use Rattle.p25_tool.specs.StationRules.{station_rules};
+    ghost use Rattle.std.specs.Prelude.{⊤};
+    ghost use Rattle.p25_tool.specs.Machines.{station_rules};
     ghost use Rattle.p25_tool.specs.LongLines.{station_long};
+
+    type Event = Event;
 
     ghost rules = { station_rules };
 
+    ghost IsRead = { λ _. ⊤ };
+
     ghost long = { station_long };
 
-    fn take(&mut self, line: &[u8], out: &mut Line, behind: &mut Line) -> Result<(), LineRefusal> {
-        // A step's text is one piece.
-        let _ = behind.len();
-        match read_event(line) {
-            Ok(event) => {
-                // Memory is taken before anything happens.
-                let Ok(()) = self.world.reserve(1) else {
-                    return Err(LineRefusal::Memory);
-                };
-                put_step_line(&self.world.step_ready(&event), out);
-                Ok(())
-            }
-            Err(fault) => Err(LineRefusal::Fault(fault)),
-        }
+    fn read(line: &[u8]) -> Result<Event, LineFault> {
+        read_event(line)
+    }
+
+    fn take(&mut self, event: Event, out: &mut Line) -> Result<Option<Line>, AllocError> {
+        let step = self.world.step(&event)?;
+        step_text(&step, out);
+        out.put(b"\n");
+        Ok(None)
     }
 
     fn close(&self, out: &mut Line) {
         closing_text(&self.world, out);
         out.put(b"\n");
     }
-}
-
-// Sets `out` to the text of a step and the end of its line.
-fn put_step_line(step: &Step, out: &mut Line)
-    ensures { out.new ≡ step_line step.now }
-{
-    step_text(step, out);
-    out.put(b"\n");
 }

@@ -1,59 +1,55 @@
 -- What was read of a unit is true of its bits, and stays so.
-use Rattle.std.proofs.Common.{◌≡◌, ℕ, ◌≤◌, Bool, List, ◌++◌, length, Option, Some, None, Ok, option_map, sym, ◌∙◌, subst, arith, length-append}
+use Rattle.std.proofs.Common.{◌≡◌, ◌≤◌, Bool, List, ◌++◌, length, Option, Some, None, Ok, option_map, sym, ◌∙◌, subst, arith, length-append}
 use Rattle.p25_bch_nid.specs.declared.nid.Nid.{Nid}
 use Rattle.p25_unit_front.specs.Front.{identifier_of}
 use Rattle.p25_unit_front.proofs.FrontLaws.{identifier_of-append}
-use Rattle.p25_packet_blocks.specs.declared.head.PacketHead.{PacketHead}
-use Rattle.p25_packet_blocks.specs.UnitReading.{sent_head_of, sent_head_distance}
-use Rattle.p25_packet_blocks.proofs.UnitLaws.{sent_head_of-append, sent_head_distance-append}
+use Rattle.p25_packet_blocks.specs.declared.head.ReadHead.{ReadHead}
+use Rattle.p25_packet_blocks.specs.UnitReading.{sent_read_of}
+use Rattle.p25_packet_blocks.proofs.UnitLaws.{sent_read_of-append}
 use Rattle.p25_units.specs.Begins.{IsIdentifier, IsHeader, IsBegun}
 use Rattle.p25_units.specs.declared.begun.Begun.{Begun}
 
 -- nothing
 pub IsBegun-none : (begun : Begun) (bits : List Bool) → begun.nid ≡ None → begun.head ≡ None → IsBegun begun bits
 unfolding IsBegun
-IsBegun-none begun bits no_nid no_head = (subst (λ (nid : Option Nid). IsIdentifier nid bits) (sym no_nid) tt, subst (λ (head : Option PacketHead). IsHeader head begun.distance bits) (sym no_head) tt)
+IsBegun-none begun bits no_nid no_head = (subst (λ (nid : Option Nid). IsIdentifier nid bits) (sym no_nid) tt, subst (λ (head : Option ReadHead). IsHeader head bits) (sym no_head) tt)
 
 -- an identifier, or that none can be read
 identifier_read : (read : Option Nid) (bits : List Bool) → 114 ≤ length bits → option_map (λ nid. (nid.nac, nid.duid)) read ≡ identifier_of bits → IsIdentifier read bits
 identifier_read None bits long is = tt
 identifier_read (Some nid) bits long is = (long, sym is)
 
-pub IsBegun-read : (before begun : Begun) (bits : List Bool) → IsBegun before bits → begun.head ≡ before.head → begun.distance ≡ before.distance → 114 ≤ length bits
-    → option_map (λ nid. (nid.nac, nid.duid)) begun.nid ≡ identifier_of bits → IsBegun begun bits
+pub IsBegun-read : (before begun : Begun) (bits : List Bool) → IsBegun before bits → begun.head ≡ before.head → 114 ≤ length bits
+    → option_map (λ nid. (nid.nac, nid.duid)) begun.nid ≡ identifier_of bits
+    → IsBegun begun bits
 unfolding IsBegun
-IsBegun-read before begun bits was same counted long is =
-    (identifier_read begun.nid bits long is, subst (λ (head : Option PacketHead). IsHeader head begun.distance bits) (sym same) (subst (λ (n : ℕ). IsHeader before.head n bits) (sym counted) was.1))
+IsBegun-read before begun bits was same long is = (identifier_read begun.nid bits long is, subst (λ (head : Option ReadHead). IsHeader head bits) (sym same) was.1)
 
 -- a header
-pub IsBegun-headed : (before begun : Begun) (bits : List Bool) (head : PacketHead) → IsBegun before bits → begun.nid ≡ before.nid → begun.head ≡ Some head → 316 ≤ length bits
-    → Ok head ≡ sent_head_of bits → begun.distance ≡ sent_head_distance bits → IsBegun begun bits
+pub IsBegun-headed : (before begun : Begun) (bits : List Bool) (read : ReadHead) → IsBegun before bits → begun.nid ≡ before.nid → begun.head ≡ Some read → 316 ≤ length bits
+    → Ok read ≡ sent_read_of bits → IsBegun begun bits
 unfolding IsBegun
-IsBegun-headed before begun bits head was same is long read counted =
-    (subst (λ (nid : Option Nid). IsIdentifier nid bits) (sym same) was.0, subst (λ (h : Option PacketHead). IsHeader h begun.distance bits) (sym is) (long, sym read, counted))
+IsBegun-headed before begun bits read was same is long reads =
+    (subst (λ (nid : Option Nid). IsIdentifier nid bits) (sym same) was.0, subst (λ (h : Option ReadHead). IsHeader h bits) (sym is) (long, sym reads))
 
 -- what was read
 pub begun-known : (begun : Begun) (bits : List Bool) (nid : Nid) → IsBegun begun bits → begun.nid ≡ Some nid → option_map (λ (n : Nid). (n.nac, n.duid)) (Some nid) ≡ identifier_of bits
 unfolding IsBegun
 begun-known begun bits nid is same = let known = subst (λ (n : Option Nid). IsIdentifier n bits) same is.0 in sym known.1
 
-pub begun-headed : (begun : Begun) (bits : List Bool) (head : PacketHead) → IsBegun begun bits → begun.head ≡ Some head → Ok head ≡ sent_head_of bits
+pub begun-headed : (begun : Begun) (bits : List Bool) (read : ReadHead) → IsBegun begun bits → begun.head ≡ Some read → Ok read ≡ sent_read_of bits
 unfolding IsBegun
-begun-headed begun bits head is same = let known = subst (λ (h : Option PacketHead). IsHeader h begun.distance bits) same is.1 in sym known.1
-
-pub begun-distance : (begun : Begun) (bits : List Bool) (head : PacketHead) → IsBegun begun bits → begun.head ≡ Some head → begun.distance ≡ sent_head_distance bits
-unfolding IsBegun
-begun-distance begun bits head is same = let known = subst (λ (h : Option PacketHead). IsHeader h begun.distance bits) same is.1 in known.2
+begun-headed begun bits read is same = let known = subst (λ (h : Option ReadHead). IsHeader h bits) same is.1 in sym known.1
 
 -- it stays
 identifier_stays : (read : Option Nid) (bits more : List Bool) → IsIdentifier read bits → IsIdentifier read (bits ++ more)
 identifier_stays None bits more is = tt
 identifier_stays (Some nid) bits more is = (omega (arith, length-append bits more, is.0), identifier_of-append bits more is.0 ∙ is.1)
 
-header_stays : (read : Option PacketHead) (distance : ℕ) (bits more : List Bool) → IsHeader read distance bits → IsHeader read distance (bits ++ more)
-header_stays None distance bits more is = tt
-header_stays (Some head) distance bits more is = (omega (arith, length-append bits more, is.0), sent_head_of-append bits more is.0 ∙ is.1, is.2 ∙ sym (sent_head_distance-append bits more is.0))
+header_stays : (read : Option ReadHead) (bits more : List Bool) → IsHeader read bits → IsHeader read (bits ++ more)
+header_stays None bits more is = tt
+header_stays (Some read) bits more is = (omega (arith, length-append bits more, is.0), sent_read_of-append bits more is.0 ∙ is.1)
 
 pub IsBegun-append : (begun : Begun) (bits more : List Bool) → IsBegun begun bits → IsBegun begun (bits ++ more)
 unfolding IsBegun
-IsBegun-append begun bits more is = (identifier_stays begun.nid bits more is.0, header_stays begun.head begun.distance bits more is.1)
+IsBegun-append begun bits more is = (identifier_stays begun.nid bits more is.0, header_stays begun.head bits more is.1)

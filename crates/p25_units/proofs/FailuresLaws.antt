@@ -9,9 +9,10 @@ use Rattle.p25_voice_units.specs.declared.unit.VoiceUnit.{VoiceUnit}
 use Rattle.p25_voice_units.specs.Readings.{voice_reading_of}
 use Rattle.p25_voice_units.proofs.FailuresLaws.{first_fails, voice_fails}
 use Rattle.p25_packet_blocks.specs.declared.packet.Packet.{Packet as packet_type}
+use Rattle.p25_packet_blocks.specs.Outcomes.{failing_blocks_of}
 use Rattle.p25_packet_blocks.specs.Reading.{packet_reading_of}
 use Rattle.p25_units.specs.Needs.{need_of}
-use Rattle.p25_units.specs.Readings.{body_from, failing_blocks_of, whole_from, packet_body_from, body_reading_of, frame_from, unit_reading_of}
+use Rattle.p25_units.specs.Readings.{body_from, whole_from, packet_body_from, body_reading_of, frame_from, unit_reading_of}
 use Rattle.p25_units.specs.declared.unit.Body.{Body}
 use Rattle.p25_units.specs.declared.frame.Frame.{Frame}
 use Rattle.p25_units.specs.declared.needs.Need.TheVariants.{Length}

@@ -14,4 +14,5 @@ pub mod UnitPlaceLaws
 pub mod FixingLaws
 pub mod ItemSteps
 pub mod PacketNeedLaws
+mod OutcomeLaws
 pub mod PacketItemLaws

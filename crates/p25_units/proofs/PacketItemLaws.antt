@@ -1,87 +1,21 @@
 -- The frame of a packet that was read: its fixes are those of its front and of its blocks.
-use Rattle.std.proofs.Common.{◌≡◌, ℕ, ◌+◌, ◌≤◌, Bool, List, [], ◌∷◌, length, drop, Option, None, Some, Result, Ok, Err, refl, ap, sym, subst, ◌∙◌, arith, length-drop, ◌*◌, length-take}
-use Rattle.std.specs.Bool.{beq}
+use Rattle.std.proofs.Common.{◌≡◌, ℕ, ◌+◌, ◌≤◌, Bool, List, length, drop, Some, Result, Ok, ap, sym, ◌∙◌, arith}
 use Rattle.p25_bits.specs.Bits.{part}
-use Rattle.p25_bits.proofs.DistanceLaws.{distance_by-le}
 use Rattle.p25_status.specs.Woven.{bare_of, statuses_of}
 use Rattle.p25_status.specs.declared.fields.Field.{Field}
 use Rattle.p25_status.specs.declared.symbols.Status.{Status}
 use Rattle.p25_unit_front.specs.Front.{front_fixes_of}
-use Rattle.p25_packet_blocks.specs.declared.packet.Packet.{Packet as packet_type}
-use Rattle.p25_packet_blocks.specs.Fixes.{packet_fixes_of}
-use Rattle.p25_packet_blocks.specs.Heads.{head_blocks}
-use Rattle.p25_packet_blocks.specs.Image.{packet_image_of}
-use Rattle.p25_packet_blocks.specs.Reading.{packet_reading_of}
-use Rattle.p25_packet_blocks.specs.Whole.{IsWholePacket, packet_head}
 use Rattle.p25_units.specs.UnitParts.{UnitParts}
 use Rattle.p25_units.specs.Fixes.{body_fixes_of, fixes_of}
 use Rattle.p25_units.specs.Needs.{kind_need}
-use Rattle.p25_units.specs.Readings.{body_or, body_reading_of, failing_blocks_of, packet_body_from, reading_from, whole_from}
-use Rattle.p25_units.specs.Units.{IsWholeBody, frame_length_of}
+use Rattle.p25_units.specs.Readings.{body_reading_of, reading_from}
+use Rattle.p25_units.specs.Units.{frame_length_of}
 use Rattle.p25_units.specs.declared.frame.Frame.{Frame}
 use Rattle.p25_units.specs.declared.needs.Need.TheVariants.{Length}
-use Rattle.p25_units.specs.declared.unit.Body.{Body}
-use Rattle.p25_units.specs.declared.unit.Body.TheVariants.{Packet}
-use Rattle.p25_units.proofs.FixesLaws.{body_fixes_of-packet}
 use Rattle.p25_units.proofs.FixingLaws.{fixes_in}
 use Rattle.p25_units.proofs.KindsLaws.{IsUnitOf-need}
-use Rattle.p25_units.proofs.ReadingsLaws.{IsBodyOf-reading, IsFrameOf-reading, body_reading_of-packet}
+use Rattle.p25_units.proofs.ReadingsLaws.{IsFrameOf-reading}
 use Rattle.p25_units.proofs.UnitPlaceLaws.{IsCountAt-kind, frame-is, reading-is}
-
-packet_of_body : (packet : packet_type) (fields : List Field) (body : Body) → whole_from packet fields ≡ Ok body → Packet packet ≡ body
-packet_of_body packet [] body made = cc
-packet_of_body packet (field ∷ fields) body made = absurd (cc)
-
--- the count of a packet's blocks is that of the body that it is read as
-pub packet_body-fixes : (bare : List Bool) (reading : Result packet_type Field) (body : Body) (fixes : ℕ) → reading ≡ packet_reading_of bare → packet_body_from reading ≡ Ok body
-    → ((nac : ℕ) (packet : packet_type) → reading ≡ Ok packet → IsWholePacket packet → fixes ≡ packet_fixes_of nac packet bare)
-    → (nac : ℕ) → let unit : UnitParts = record { nac = nac; body = body } in fixes ≡ body_fixes_of unit bare
-unfolding packet_body_from packet_fixes_of IsWholeBody
-packet_body-fixes bare (Err field) body fixes is made counted nac = absurd (cc)
-packet_body-fixes bare (Ok packet) body fixes is made counted nac =
-    let make : Body → UnitParts = λ b. record { nac = nac; body = b } in
-    let same : Packet packet ≡ body = packet_of_body packet (failing_blocks_of packet) body made in
-    let read : body_reading_of 0xC bare ≡ Ok body = body_reading_of-packet bare ∙ ap packet_body_from (sym is) ∙ made in
-    let whole : IsWholePacket packet = subst IsWholeBody (sym same) (IsBodyOf-reading 0xC bare body read).whole in
-    counted nac packet refl whole ∙ sym (body_fixes_of-packet nac packet bare) ∙ ap (λ b. body_fixes_of (make b) bare) same
-
--- it is at most all bits
-pub packet_body-le : (bare : List Bool) (reading : Result packet_type Field) (body : Body) → packet_body_from reading ≡ Ok body → (nac : ℕ)
-    → let unit : UnitParts = record { nac = nac; body = body } in body_fixes_of unit bare ≤ length bare
-unfolding packet_body_from
-packet_body-le bare (Err field) body made nac = absurd (cc)
-packet_body-le bare (Ok packet) body made nac =
-    let make : Body → UnitParts = λ b. record { nac = nac; body = b } in
-    let count = 196 * (1 + head_blocks (packet_head packet)) in
-    let looked = part 112 count bare in
-    let same : Packet packet ≡ body = packet_of_body packet (failing_blocks_of packet) body made in
-    omega (
-      arith,
-      ap (λ b. body_fixes_of (make b) bare) same,
-      body_fixes_of-packet nac packet bare,
-      distance_by-le beq looked (part 112 count (packet_image_of nac packet)),
-      length-take count (drop 112 bare),
-      length-drop 112 bare,
-    )
-
-same_packet : (packet other : packet_type) → (let first : Result packet_type Field = Ok packet in let second : Result packet_type Field = Ok other in first ≡ second) → packet ≡ other
-same_packet packet other is = cc
-
--- the count where the packet was read into its place and no field fails
-pub packet_place-fixes : (bare : List Bool) (packet : packet_type) (failing : Option (List Field)) (fixes : ℕ) → Ok packet ≡ packet_reading_of bare → body_or failing (Packet packet) ≡ packet_body_from (packet_reading_of bare)
-    → failing ≡ None → ((nac : ℕ) → IsWholePacket packet → fixes ≡ packet_fixes_of nac packet bare)
-    → (nac : ℕ) → let unit : UnitParts = record { nac = nac; body = Packet packet } in fixes ≡ body_fixes_of unit bare
-packet_place-fixes bare packet failing fixes read body none counted nac =
-    let made : packet_body_from (Ok packet) ≡ Ok (Packet packet) = ap packet_body_from read ∙ sym body ∙ ap (λ f. body_or f (Packet packet)) none in
-    let each : (nac : ℕ) (other : packet_type) → Ok packet ≡ Ok other → IsWholePacket other → fixes ≡ packet_fixes_of nac other bare
-    = λ n other is whole. let same : packet ≡ other = same_packet packet other is in
-    subst (λ (p : packet_type). fixes ≡ packet_fixes_of n p bare) same (counted n (subst IsWholePacket (sym same) whole)) in
-    packet_body-fixes bare (Ok packet) (Packet packet) fixes read made each nac
-
--- what a packet carries, by its bits without status symbols
-pub packet_body-is : (duid : ℕ) (sent bare : List Bool) (reading : Result Body (List Field)) → duid ≡ 0xC → bare ≡ bare_of sent → reading ≡ packet_body_from (packet_reading_of bare) → reading ≡ body_reading_of duid (bare_of sent)
-packet_body-is duid sent bare reading packet same read =
-    read ∙ ap (λ xs. packet_body_from (packet_reading_of xs)) same ∙ sym (body_reading_of-packet (bare_of sent)) ∙ ap (λ k. body_reading_of k (bare_of sent)) (sym packet)
 
 -- the frame of a whole unit by what it carries
 pub whole_frame-is : (nac duid : ℕ) (sent : List Bool) (unit : UnitParts) (statuses : List Status) → unit.nac ≡ nac → statuses ≡ statuses_of sent → Ok unit.body ≡ body_reading_of duid (bare_of sent)

@@ -1,9 +1,8 @@
 -- What units are read as: a frame that was read is sound, can be sent and is as long as its bits, and bits that have few wrong
 -- ones read as the frame. By cases of what it carries.
-use Rattle.std.proofs.Common.{◌≡◌, ◌≢◌, ℕ, zero, suc, ◌+◌, ◌*◌, ◌<◌, inl, inr, Bool, eqb, List, [], ◌∷◌, ◌++◌, length, get_or, Option, Some, None, Result, Ok, Err, refl, ap, ap₂, sym, ◌∙◌, subst, arith, add-one}
+use Rattle.std.proofs.Common.{◌≡◌, ◌≢◌, ℕ, ◌*◌, inl, inr, Bool, eqb, List, [], ◌∷◌, length, Option, Some, None, Result, Ok, Err, refl, ap, sym, ◌∙◌, subst, arith}
 use Rattle.std.specs.Option.{unwrap_or}
 use Rattle.std.proofs.lemmas.Bool.{cases_eq, cond-false, ne_eqb}
-use Rattle.p25_bits.proofs.NumbersLaws.{joined_below-zero, joined_below-suc}
 use Rattle.p25_status.specs.Woven.{bare_of, statuses_of}
 use Rattle.p25_status.proofs.WovenLaws.{length-statuses_of}
 use Rattle.p25_status.specs.declared.fields.Field.{Field}
@@ -28,15 +27,17 @@ use Rattle.p25_packet_blocks.specs.declared.packet.Packet.{Packet as packet_type
 use Rattle.p25_packet_blocks.specs.declared.packet.Packet.TheVariants.{Confirmed, Plain}
 use Rattle.p25_packet_blocks.specs.Heads.{head_blocks}
 use Rattle.p25_packet_blocks.specs.Lengths.{packet_sent_length}
+use Rattle.p25_packet_blocks.specs.Outcomes.{failing_blocks_of}
 use Rattle.p25_packet_blocks.specs.Reading.{head_reading_of, packet_reading_of}
 use Rattle.p25_packet_blocks.specs.Sendable.{IsSendable}
 use Rattle.p25_packet_blocks.specs.Whole.{packet_head, IsWholePacket}
 use Rattle.p25_packet_blocks.proofs.NearLaws.{half_near, three_quarter_near}
+use Rattle.p25_packet_blocks.proofs.OutcomeLaws.{IsWholePacket-none, failing_blocks_of-none}
 use Rattle.p25_packet_blocks.proofs.RadiusLaws.{packet_within}
 use Rattle.p25_packet_blocks.proofs.WholeLaws.{IsWholeRead-reading}
 use Rattle.p25_units.specs.UnitParts.{UnitParts}
 use Rattle.p25_units.specs.Units.{body_duid, body_length, body_image_of, unit_image_of, sent_length, frame_length_of, IsWholeBody, IsSoundFrame, IsSendableBody}
-use Rattle.p25_units.specs.Readings.{body_from, failing_slot, failing_slots_of, failing_blocks_of, whole_from, packet_body_from, body_reading_of, frame_from, reading_from, unit_reading_of}
+use Rattle.p25_units.specs.Readings.{body_from, whole_from, packet_body_from, body_reading_of, frame_from, reading_from, unit_reading_of}
 use Rattle.p25_units.specs.WholeLaws.{IsBodyRead}
 use Rattle.p25_units.specs.WithinRadius.{IsBodyWithin, received_body}
 use Rattle.p25_units.specs.declared.unit.Body.{Body}
@@ -78,58 +79,6 @@ packet_body_from-read packet = refl
 pub body_reading_of-voice : (duid : ℕ) (bare : List Bool) → duid ≢ 0xC → body_reading_of duid bare ≡ body_from (voice_reading_of duid bare)
 unfolding body_reading_of
 body_reading_of-voice duid bare other = cond-false (eqb duid 0xC) (packet_body_from (packet_reading_of bare)) (body_from (voice_reading_of duid bare)) (ne_eqb duid 0xC other)
-
--- The fields that fail of a packet.
-
-pub failing_slots_of-zero : (slots : List Slot) → failing_slots_of 0 slots ≡ []
-unfolding failing_slots_of
-failing_slots_of-zero slots = joined_below-zero (λ j. failing_slot j (get_or slots j Bad))
-
-pub failing_slots_of-suc : (n : ℕ) (slots : List Slot) → failing_slots_of (suc n) slots ≡ failing_slots_of n slots ++ failing_slot n (get_or slots n Bad)
-unfolding failing_slots_of
-failing_slots_of-suc n slots = joined_below-suc n (λ j. failing_slot j (get_or slots j Bad))
-
-pub failing_slots_of-more : (n : ℕ) (slots : List Slot) → failing_slots_of (n + 1) slots ≡ failing_slots_of n slots ++ failing_slot n (get_or slots n Bad)
-failing_slots_of-more n slots = ap (λ k. failing_slots_of k slots) (add-one n) ∙ failing_slots_of-suc n slots
-
-no_fields : (xs ys : List Field) → xs ++ ys ≡ [] → (xs ≡ []) × (ys ≡ [])
-no_fields [] ys none = (refl, none)
-no_fields (x ∷ xs) ys none = absurd (cc)
-
-bad_fails : (j : ℕ) (slot : Slot) → failing_slot j slot ≡ [] → slot ≢ Bad
-bad_fails j (Good block) none = λ bad. absurd (cc)
-bad_fails j Bad none = absurd (cc)
-
-good_fails_not : (j : ℕ) (slot : Slot) → slot ≢ Bad → failing_slot j slot ≡ []
-good_fails_not j (Good block) good = refl
-good_fails_not j Bad good = absurd (good refl)
-
--- where none fails, no slot is Bad
-none_bad : (n : ℕ) (slots : List Slot) → failing_slots_of n slots ≡ [] → (j : ℕ) → j < n → get_or slots j Bad ≢ Bad
-none_bad zero slots none j inside = absurd (omega arith)
-none_bad (suc n) slots none j inside =
-    let two = no_fields (failing_slots_of n slots) (failing_slot n (get_or slots n Bad)) (sym (failing_slots_of-suc n slots) ∙ none) in
-    elim (cases_eq j n) [
-      | inl last ↦ subst (λ (i : ℕ). get_or slots i Bad ≢ Bad) (sym last) (bad_fails n (get_or slots n Bad) two.1)
-      | inr other ↦ none_bad n slots two.0 j (omega (arith, inside, other))
-    ]
-
--- and the other way round
-none_fails : (n : ℕ) (slots : List Slot) → ((j : ℕ) → j < n → get_or slots j Bad ≢ Bad) → failing_slots_of n slots ≡ []
-none_fails zero slots good = failing_slots_of-zero slots
-none_fails (suc n) slots good =
-    failing_slots_of-suc n slots
-    ∙ ap₂ (λ (xs ys : List Field). xs ++ ys) (none_fails n slots (λ j inside. good j (omega arith))) (good_fails_not n (get_or slots n Bad) (good n (omega arith)))
-
-IsWholePacket-none : (packet : packet_type) → failing_blocks_of packet ≡ [] → IsWholePacket packet
-unfolding failing_blocks_of IsWholePacket
-IsWholePacket-none (Confirmed packet) none = record { at = none_bad (length packet.slots) packet.slots none }
-IsWholePacket-none (Plain packet) none = tt
-
-pub failing_blocks_of-none : (packet : packet_type) → IsWholePacket packet → failing_blocks_of packet ≡ []
-unfolding failing_blocks_of IsWholePacket
-failing_blocks_of-none (Confirmed packet) whole = none_fails (length packet.slots) packet.slots whole.at
-failing_blocks_of-none (Plain packet) whole = refl
 
 -- a packet that can be sent is whole
 some_good : (slot : Slot) (good : Slot) → slot ≡ good → good ≢ Bad → slot ≢ Bad

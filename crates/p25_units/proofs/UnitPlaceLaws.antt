@@ -1,6 +1,6 @@
 -- What the readers of units answer: the bits of a unit among others, its kind by its length, and each answer as a case of
 -- the reading.
-use Rattle.std.proofs.Common.{◌≡◌, ◌≢◌, ℕ, ◌+◌, ◌-◌, ◌*◌, ◌/◌, ◌%◌, inl, inr, ◌<◌, ◌≤◌, Bool, List, length, drop, Some, None, option_map, Result, Ok, refl, ap, ap₂, sym, ◌∙◌, arith, length-drop}
+use Rattle.std.proofs.Common.{◌≡◌, ◌≢◌, ℕ, ◌+◌, ◌-◌, ◌*◌, ◌/◌, ◌%◌, inl, inr, ◌<◌, ◌≤◌, Bool, List, length, drop, Some, None, option_map, Result, Ok, Err, refl, ap, ap₂, sym, ◌∙◌, arith, length-drop}
 use Rattle.std.proofs.lemmas.List.{length-take-le}
 use Rattle.std.proofs.lemmas.Bool.{cases_lt}
 use Rattle.p25_bits.specs.Bits.{part}
@@ -17,11 +17,11 @@ use Rattle.p25_unit_front.specs.Front.{identifier_of}
 use Rattle.p25_unit_front.proofs.FrontLaws.{identifier_of-take}
 use Rattle.p25_voice_units.specs.Lengths.{voice_length_of}
 use Rattle.p25_packet_blocks.specs.Heads.{head_blocks}
-use Rattle.p25_packet_blocks.specs.Reading.{head_reading_of, HasItsLength}
-use Rattle.p25_packet_blocks.specs.Fixes.{head_distance}
-use Rattle.p25_packet_blocks.specs.UnitReading.{sent_head_of, sent_head_distance}
-use Rattle.p25_packet_blocks.proofs.SentLaws.{sent_head_of-bare_of, sent_head_distance-bare_of}
-use Rattle.p25_packet_blocks.proofs.UnitLaws.{sent_head_of-take, sent_head_distance-take}
+use Rattle.p25_packet_blocks.specs.Reading.{header_bits, read_head_of, HasItsLength}
+use Rattle.p25_packet_blocks.specs.UnitReading.{sent_read_of}
+use Rattle.p25_packet_blocks.proofs.OutcomeLaws.{head_reading_of-unread}
+use Rattle.p25_packet_blocks.proofs.SentLaws.{sent_read_of-bare_of}
+use Rattle.p25_packet_blocks.proofs.UnitLaws.{sent_read_of-take}
 use Rattle.p25_units.specs.Units.{frame_length_of, IsSoundFrame}
 use Rattle.p25_units.specs.Items.{item_from, unit_item_of}
 use Rattle.p25_units.specs.Needs.{need_of, synced_need, kind_need}
@@ -77,7 +77,8 @@ IsCountAt-kind duid bits at count inside e =
     record { there = omega (arith, bounds.3, length-drop at bits); whole = whole; most = bounds.1; enough = omega (arith, some, whole) }
 
 -- an identifier that was read is that one
-pub same_nid : (bits : List Bool) (at count : ℕ) (is : IsUnitAt bits at count) (nid : Identifier) → option_map (λ (n : Identifier). (n.nac, n.duid)) (Some nid) ≡ identifier_of (drop at bits) → (nid.nac, nid.duid) ≡ is.nid
+pub same_nid : (bits : List Bool) (at count : ℕ) (is : IsUnitAt bits at count) (nid : Identifier) → option_map (λ (n : Identifier). (n.nac, n.duid)) (Some nid) ≡ identifier_of (drop at bits)
+    → (nid.nac, nid.duid) ≡ is.nid
 same_nid bits at count is nid e = let two : Some (nid.nac, nid.duid) ≡ Some is.nid = e ∙ is.read in cc
 
 pub some_nid : (bits : List Bool) (at count : ℕ) → IsUnitAt bits at count → option_map (λ (n : Identifier). (n.nac, n.duid)) None ≡ identifier_of (drop at bits) → ⊥
@@ -87,7 +88,8 @@ some_nid bits at count is e = let two : option_map (λ (n : Identifier). (n.nac,
 pub reading_of_unit : (bits : List Bool) (at count : ℕ) (is : IsUnitAt bits at count) → unit_reading_of (part at count bits) ≡ reading_from (Some is.nid) (part at count bits)
 reading_of_unit bits at count is = unit_reading_of-read (part at count bits) (Some is.nid) is.sent
 
-pub item_of_unit : (bits : List Bool) (at count place : ℕ) (is : IsUnitAt bits at count) → unit_item_of place (part at count bits) ≡ item_from place is.nid (part at count bits) (reading_from (Some is.nid) (part at count bits))
+pub item_of_unit : (bits : List Bool) (at count place : ℕ) (is : IsUnitAt bits at count) → unit_item_of place (part at count bits) ≡ item_from place is.nid (part at count bits)
+    (reading_from (Some is.nid) (part at count bits))
 item_of_unit bits at count place is = unit_item_of-some place (part at count bits) is.nid (reading_from (Some is.nid) (part at count bits)) is.sent refl
 
 -- the item by an identifier that was read
@@ -131,8 +133,8 @@ voice_long duid bits at count bare other kind whole long there =
 -- a packet has a header that was read, and the length that it tells
 pub record IsPacketAt (bits : List Bool) (at count : ℕ) : Type 0 where
   pub there : at + 316 ≤ length bits
-  pub head : sent_head_of (drop at bits) ≡ head_reading_of (bare_of (part at count bits))
-  pub distance : sent_head_distance (drop at bits) ≡ head_distance (bare_of (part at count bits))
+  pub head : sent_read_of (drop at bits) ≡ read_head_of (header_bits (bare_of (part at count bits)))
+  pub some : (field : Field) → sent_read_of (drop at bits) ≡ Err field → ⊥
   pub has : HasItsLength (bare_of (part at count bits))
 
 pub IsPacketAt-kind : (bits : List Bool) (at count : ℕ) → at ≤ length bits → kind_need 0xC (drop at bits) ≡ Length count → IsPacketAt bits at count
@@ -149,10 +151,11 @@ IsPacketAt-kind bits at count inside kind =
           let n = head_blocks packet.head in
           let five : 5 ≤ unit.blocks = omega (arith, packet.is, unit.long) in
           let many : 316 ≤ count = omega (arith, packet.is, long) in
+          let read : sent_read_of rest ≡ read_head_of (header_bits (bare_of sent)) = sym (sent_read_of-take count rest many) ∙ sent_read_of-bare_of unit.blocks sent five unit.long in
           record {
             there = omega (arith, counted.there, many);
-            head = sym (sent_head_of-take count rest many) ∙ sent_head_of-bare_of unit.blocks sent five unit.long;
-            distance = sym (sent_head_distance-take count rest many) ∙ sent_head_distance-bare_of unit.blocks sent five unit.long;
+            head = read;
+            some = λ field fails. let two : Ok packet.head ≡ Err field = sym packet.read ∙ head_reading_of-unread (bare_of sent) field (sym read ∙ fails) in cc;
             has = λ head read.
                 let two : Ok head ≡ Ok packet.head = sym read ∙ packet.read in
                 let same : head_blocks head ≡ n = ap head_blocks (let h : head ≡ packet.head = cc in h) in
@@ -167,7 +170,8 @@ need-short bits at short = sym (need_of-short (drop at bits) (omega (arith, leng
 pub need-cut : (bits : List Bool) (at : ℕ) → length bits - at < 114 → More 114 ≡ synced_need (drop at bits)
 need-cut bits at short = sym (synced_need-short (drop at bits) (omega (arith, length-drop at bits)))
 
-pub need-none : (bits : List Bool) (at : ℕ) → at ≤ length bits → 114 ≤ length bits - at → option_map (λ (n : Identifier). (n.nac, n.duid)) None ≡ identifier_of (drop at bits) → NoLength Nid ≡ synced_need (drop at bits)
+pub need-none : (bits : List Bool) (at : ℕ) → at ≤ length bits → 114 ≤ length bits - at → option_map (λ (n : Identifier). (n.nac, n.duid)) None ≡ identifier_of (drop at bits)
+    → NoLength Nid ≡ synced_need (drop at bits)
 need-none bits at inside long read =
     sym (synced_need-read (drop at bits) None (omega (arith, length-drop at bits)) (sym read) ∙ identified_need-none (drop at bits))
 
@@ -179,7 +183,8 @@ need-some bits at nid inside long read =
 -- a place has a sync or none
 pub need-unsynced : (bits : List Bool) (at : ℕ) → at ≤ length bits → 48 ≤ length bits - at → (distance_of (part at 48 bits) sync_bits ≤ sync_slack → ⊥) → NoSync ≡ need_of (drop at bits)
 need-unsynced bits at inside long far =
-    sym (need_of-unsynced (drop at bits) (omega (arith, length-drop at bits)) (has_sync-no (drop at bits) (elim (cases_lt sync_slack (distance_of (part at 48 bits) sync_bits)) [ inl more ↦ more | inr few ↦ absurd (far few) ])))
+    sym (need_of-unsynced (drop at bits) (omega (arith, length-drop at bits))
+    (has_sync-no (drop at bits) (elim (cases_lt sync_slack (distance_of (part at 48 bits) sync_bits)) [ inl more ↦ more | inr few ↦ absurd (far few) ])))
 
 pub need-synced : (bits : List Bool) (at : ℕ) → at ≤ length bits → 48 ≤ length bits - at → distance_of (part at 48 bits) sync_bits ≤ sync_slack → synced_need (drop at bits) ≡ need_of (drop at bits)
 need-synced bits at inside long near = sym (need_of-synced (drop at bits) (has_sync-yes (drop at bits) (omega (arith, length-drop at bits)) near))

@@ -2,14 +2,10 @@
 use Rattle.std.specs.Prelude.{ℕ, ◌<◌, Bool, List, Option, Some, None, Result, Ok, Err, length}
 use Rattle.p25_status.specs.declared.fields.Field.{Field}
 use Rattle.p25_status.specs.declared.fields.Field.TheVariants.{Nid}
-use Rattle.p25_status.specs.declared.symbols.Status.{Status}
 use Rattle.p25_unit_front.specs.Front.{identifier_of}
-use Rattle.p25_voice_units.specs.declared.unit.VoiceUnit.{VoiceUnit}
 use Rattle.p25_units.specs.Fixes.{fixes_of}
 use Rattle.p25_units.specs.Readings.{reading_from}
-use Rattle.p25_units.specs.UnitParts.{UnitParts}
 use Rattle.p25_units.specs.Units.{IsSoundFrame, frame_length_of}
-use Rattle.p25_units.specs.declared.unit.Body.TheVariants.{Voice}
 use Rattle.p25_units.specs.declared.frame.Frame.{Frame}
 use Rattle.p25_units.specs.declared.item.Item.{Item}
 use Rattle.p25_units.specs.declared.item.Item.TheVariants.{Whole, Broken, NoUnit, Gap, Cut}
@@ -47,13 +43,6 @@ IsSoundItem (Cut place have) = Unit {0}
 abbrev pub item_from : ℕ → ℕ × ℕ → List Bool → Result Frame (List Field) → Item
 item_from place nid sent (Ok frame) = Whole place frame (fixes_of frame sent)
 item_from place nid sent (Err fields) = Broken place (length sent) nid.0 nid.1 fields
-
--- the item of a whole voice unit (HDU, LDU1, LDU2, TDU or TDULC) by its parts
-abbrev pub whole_voice : ℕ → ℕ → VoiceUnit → List Status → ℕ → Item
-whole_voice place nac voice statuses fixes =
-    let unit : UnitParts = record { nac = nac; body = Voice voice } in
-    let frame : Frame = record { unit = unit; statuses = statuses } in
-    Whole place frame fixes
 
 -- the item of sent bits by their network identifier (NID)
 abbrev pub identified_item : ℕ → List Bool → Option (ℕ × ℕ) → Item

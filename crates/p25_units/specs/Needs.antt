@@ -4,6 +4,7 @@ use Rattle.std.specs.Prelude.{ℕ, Bool, true, false, if◌then◌else◌, ◌==
 use Rattle.p25_status.specs.Sync.{has_sync}
 use Rattle.p25_status.specs.declared.fields.Field.{Field}
 use Rattle.p25_status.specs.declared.fields.Field.TheVariants.{Nid, Duid}
+use Rattle.p25_bch_nid.specs.Duids.{duid_pdu}
 use Rattle.p25_unit_front.specs.Front.{identifier_of}
 use Rattle.p25_voice_units.specs.Lengths.{voice_length_of}
 use Rattle.p25_packet_blocks.specs.declared.head.PacketHead.{PacketHead}
@@ -35,7 +36,7 @@ packet_need bits = if nat_lt (length bits) 316 then More 316 else head_need (sen
 
 -- what the unit of a DUID (HDU, LDU1, LDU2, TDU, TDULC or PDU) needs
 unfoldable pub kind_need : ℕ → List Bool → Need
-kind_need duid bits = if duid == 0xC then packet_need bits else voice_need (voice_length_of duid) (length bits)
+kind_need duid bits = if duid == duid_pdu then packet_need bits else voice_need (voice_length_of duid) (length bits)
 
 -- what is needed after a network identifier (NID) that was read, or none
 unfoldable pub identified_need : Option (ℕ × ℕ) → List Bool → Need

@@ -1,17 +1,15 @@
 -- What the sent bits of a unit read as.
-use Rattle.std.specs.Prelude.{ℕ, Bool, if◌then◌else◌, ◌==◌, List, [], ◌∷◌, length, slice_index_or, Option, Some, None, Result, Ok, Err}
-use Rattle.p25_bits.specs.Numbers.{joined_below}
+use Rattle.std.specs.Prelude.{ℕ, Bool, if◌then◌else◌, ◌==◌, List, [], ◌∷◌, Option, Some, None, Result, Ok, Err}
 use Rattle.p25_status.specs.Woven.{bare_of, statuses_of}
 use Rattle.p25_status.specs.declared.fields.Field.{Field}
-use Rattle.p25_status.specs.declared.fields.Field.TheVariants.{Nid, Block}
+use Rattle.p25_status.specs.declared.fields.Field.TheVariants.{Nid}
 use Rattle.p25_status.specs.declared.symbols.Status.{Status}
+use Rattle.p25_bch_nid.specs.Duids.{duid_pdu}
 use Rattle.p25_unit_front.specs.Front.{identifier_of}
 use Rattle.p25_voice_units.specs.declared.unit.VoiceUnit.{VoiceUnit}
 use Rattle.p25_voice_units.specs.Readings.{voice_reading_of}
-use Rattle.p25_packet_blocks.specs.declared.block.Slot.{Slot}
-use Rattle.p25_packet_blocks.specs.declared.block.Slot.TheVariants.{Good, Bad}
 use Rattle.p25_packet_blocks.specs.declared.packet.Packet.{Packet as packet_type}
-use Rattle.p25_packet_blocks.specs.declared.packet.Packet.TheVariants.{Confirmed, Plain}
+use Rattle.p25_packet_blocks.specs.Outcomes.{failing_blocks_of}
 use Rattle.p25_packet_blocks.specs.Reading.{packet_reading_of}
 use Rattle.p25_units.specs.UnitParts.{UnitParts}
 use Rattle.p25_units.specs.declared.unit.Body.{Body}
@@ -23,20 +21,6 @@ abbrev pub body_from : Result VoiceUnit (List Field) → Result Body (List Field
 body_from (Ok voice) = Ok (Voice voice)
 body_from (Err fields) = Err fields
 
--- the field that fails where the slot at a place is Bad
-abbrev pub failing_slot : ℕ → Slot → List Field
-failing_slot j (Good block) = []
-failing_slot j Bad = Block j ∷ []
-
--- the fields that fail of the first n slots, in order
-unfoldable pub failing_slots_of : ℕ → List Slot → List Field
-failing_slots_of n slots = joined_below n (λ j. failing_slot j (slice_index_or slots j Bad))
-
--- the fields that fail of a packet (PDU): a block for each slot that is Bad
-unfoldable pub failing_blocks_of : packet_type → List Field
-failing_blocks_of (Confirmed packet) = failing_slots_of (length packet.slots) packet.slots
-failing_blocks_of (Plain packet) = []
-
 -- a packet (PDU) as what a unit carries, where no field of it fails
 abbrev pub whole_from : packet_type → List Field → Result Body (List Field)
 whole_from packet [] = Ok (Packet packet)
@@ -47,14 +31,9 @@ unfoldable pub packet_body_from : Result packet_type Field → Result Body (List
 packet_body_from (Err field) = Err (field ∷ [])
 packet_body_from (Ok packet) = whole_from packet (failing_blocks_of packet)
 
--- what was read into its place, or exactly the fields that fail
-abbrev pub body_or : Option (List Field) → Body → Result Body (List Field)
-body_or None body = Ok body
-body_or (Some fields) body = Err fields
-
 -- what a unit of a DUID (HDU, LDU1, LDU2, TDU, TDULC or PDU) carries, or exactly the fields that fail
 unfoldable pub body_reading_of : ℕ → List Bool → Result Body (List Field)
-body_reading_of duid bare = if duid == 0xC then packet_body_from (packet_reading_of bare) else body_from (voice_reading_of duid bare)
+body_reading_of duid bare = if duid == duid_pdu then packet_body_from (packet_reading_of bare) else body_from (voice_reading_of duid bare)
 
 -- a frame, where what it carries was read
 abbrev pub frame_from : ℕ → List Status → Result Body (List Field) → Result Frame (List Field)
@@ -63,11 +42,6 @@ frame_from nac statuses (Ok body) =
     let frame : Frame = record { unit = unit; statuses = statuses } in
     Ok frame
 frame_from nac statuses (Err fields) = Err fields
-
--- a frame that was read into its place, or exactly the fields that fail
-abbrev pub frame_or : Option (List Field) → Frame → Result Frame (List Field)
-frame_or None frame = Ok frame
-frame_or (Some fields) frame = Err fields
 
 -- the frame of sent bits by their network identifier (NID)
 unfoldable pub reading_from : Option (ℕ × ℕ) → List Bool → Result Frame (List Field)

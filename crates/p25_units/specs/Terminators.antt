@@ -4,6 +4,7 @@ use Rattle.p25_bits.specs.Distance.{distance_of}
 use Rattle.p25_status.specs.Sync.{sync_bits}
 use Rattle.p25_status.specs.Woven.{woven}
 use Rattle.p25_status.specs.declared.symbols.Status.{Status}
+use Rattle.p25_bch_nid.specs.Duids.{duid_tdu}
 use Rattle.p25_bch_nid.specs.NidWord.{nid_word}
 use Rattle.p25_unit_front.specs.Front.{identifier_bits}
 use Rattle.p25_voice_units.specs.declared.unit.VoiceUnit.TheVariants.{End}
@@ -19,10 +20,10 @@ terminator nac statuses =
     let unit : UnitParts = record { nac = nac; body = Voice End } in
     record { unit = unit; statuses = statuses }
 
--- the bits that are sent for it: the sync, the network identifier (NID) with the data unit identifier (DUID) 3, 28 nulls, and the
+-- the bits that are sent for it: the sync, the network identifier (NID) with the data unit identifier (DUID) of a terminator, 28 nulls, and the
 -- status symbols
 abbrev pub terminator_bits : ℕ → List Status → List Bool
-terminator_bits nac statuses = woven ((sync_bits ++ nid_word nac 3) ++ replicate 28 false) statuses
+terminator_bits nac statuses = woven ((sync_bits ++ nid_word nac duid_tdu) ++ replicate 28 false) statuses
 
 -- in how many bits of its sync some bits are wrong
 abbrev pub sync_errors : List Bool → ℕ
@@ -30,7 +31,7 @@ sync_errors bits = distance_of (take 48 bits) sync_bits
 
 -- in how many of the first 63 bits of its network identifier (NID) they differ from those of a terminator with a network access code
 abbrev pub identifier_errors : ℕ → List Bool → ℕ
-identifier_errors nac bits = distance_of (take 63 (identifier_bits bits)) (take 63 (nid_word nac 3))
+identifier_errors nac bits = distance_of (take 63 (identifier_bits bits)) (take 63 (nid_word nac duid_tdu))
 
 -- bits begin with a terminator (TDU) with a network access code of 12 bits, damaged or not: 144 are there, at most 4 are wrong in
 -- the sync, and at most 11 among the first 63 of the identifier

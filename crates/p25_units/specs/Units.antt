@@ -4,6 +4,7 @@ use Rattle.std.specs.Option.{unwrap_or}
 use Rattle.p25_bits.specs.Numbers.{octets_from}
 use Rattle.p25_status.specs.Woven.{woven}
 use Rattle.p25_status.specs.declared.symbols.Status.{Status}
+use Rattle.p25_bch_nid.specs.Duids.{duid_pdu}
 use Rattle.p25_voice_units.specs.Images.{voice_image_of}
 use Rattle.p25_voice_units.specs.Lengths.{voice_duid, voice_length_of}
 use Rattle.p25_voice_units.specs.Sendable.{IsSendableVoice}
@@ -17,10 +18,10 @@ use Rattle.p25_units.specs.declared.unit.Body.{Body}
 use Rattle.p25_units.specs.declared.unit.Body.TheVariants.{Voice, Packet}
 use Rattle.p25_units.specs.declared.frame.Frame.{Frame}
 
--- the data unit identifier (DUID) of what a unit carries: C hex of a packet (PDU)
+-- the data unit identifier (DUID) of what a unit carries
 abbrev pub body_duid : Body → ℕ
 body_duid (Voice voice) = voice_duid voice
-body_duid (Packet packet) = 0xC
+body_duid (Packet packet) = duid_pdu
 
 -- how many bits a unit has without status symbols, by what it carries
 abbrev pub body_length : Body → ℕ

@@ -1,24 +1,20 @@
 //! What a stream is divided into.
 
-ghost use Rattle.std.specs.Prelude.{◌≡◌, ◌≢◌, ◌^◌, ◌<◌, ◌≤◌, None, Some, length, drop};
+ghost use Rattle.std.specs.Prelude.{◌≡◌, ◌^◌, ◌<◌, ◌≤◌, Some, length, drop};
 ghost use Rattle.p25_bits.specs.Bits.{part};
 ghost use Rattle.p25_units.specs.Begins.{IsBegun};
-ghost use Rattle.p25_units.specs.Items.{IsSoundItem, covered, item_from, place_of, unit_item_of, whole_voice};
+ghost use Rattle.p25_units.specs.Items.{IsSoundItem, covered, item_from, place_of, unit_item_of};
 ghost use Rattle.p25_units.specs.Needs.{kind_need, need_of};
 ghost use Rattle.p25_units.specs.declared.item.Item.TheVariants.{Broken};
 ghost use Rattle.p25_units.specs.declared.needs.Need.TheVariants.{Length};
-ghost use Rattle.p25_units.specs.Fixes.{fixes_of};
-ghost use Rattle.p25_units.specs.Readings.{frame_or, reading_from};
+ghost use Rattle.p25_units.specs.Readings.{reading_from};
 
 use crate::begun::Begun;
 use crate::frame::{Frame, frame_length};
-use crate::unit::{Body, Unit};
-use p25_bch_nid::{Nid, PDU};
+use crate::read::read_frame;
+use p25_bch_nid::Nid;
 use p25_bits::BitBuf;
-use p25_packet_blocks::Packet;
-use p25_status::{Field, FieldList, Statuses, unweave};
-use p25_unit_front::front_fixes;
-use p25_voice_units::{VoiceUnit, read_voice_counted};
+use p25_status::{Field, FieldList, Outcome};
 
 /// A stretch of a stream. Places count bits from the beginning of the stream.
 #[derive(Clone, Debug, Drop, PartialEq, Eq)]
@@ -82,35 +78,6 @@ impl Item {
             Item::Cut { place, .. } => *place,
         }
     }
-
-    // Becomes a whole voice unit (HDU, LDU1, LDU2, TDU or TDULC). Where it was one, no room for a packet is moved.
-    fn set_voice(&mut self, place: u64, nac: u16, voice: VoiceUnit, statuses: Statuses, fixes: u32)
-        requires { nac < 4096 }
-        ensures { self.new ≡ whole_voice place nac voice statuses fixes }
-    {
-        match self {
-            Item::Whole {
-                place: held_place,
-                frame,
-                fixes: held_fixes,
-            } => {
-                frame.unit.set_voice(nac, voice);
-                frame.statuses = statuses;
-                *held_place = place;
-                *held_fixes = fixes;
-            }
-            _ => {
-                *self = Item::Whole {
-                    place,
-                    frame: Frame {
-                        unit: Unit::new(nac, Body::Voice(voice)),
-                        statuses,
-                    },
-                    fixes,
-                };
-            }
-        }
-    }
 }
 
 /// Answers the item of the unit whose `count` sent bits begin at place `at`, where `need` answers that length there and
@@ -155,47 +122,13 @@ pub fn unit_item_in(
             };
         }
         Some(nid) => {
-            if nid.duid == PDU {
-                set_packet_item(bits, at, count, &nid, &mut begun, place, room, item);
-            } else {
-                set_voice_item(bits, at, count, &nid, place, room, item);
-            }
+            set_item(bits, at, count, &nid, &mut begun, place, room, item);
         }
     }
 }
 
-// Sets `item` to that of a voice unit (HDU, LDU1, LDU2, TDU or TDULC) whose network identifier (NID) was read.
-fn set_voice_item(
-    bits: &BitBuf,
-    at: usize,
-    count: usize,
-    nid: &Nid,
-    place: u64,
-    room: &mut BitBuf,
-    item: &mut Item,
-)
-    requires there { at ≤ length bits.now }
-    requires kind { kind_need nid.now.duid (drop at bits.now) ≡ Length count }
-    requires voice { nid.now.duid ≢ 0xC }
-    ensures { item.new ≡ item_from place (nid.now.nac, nid.now.duid) (part at count bits.now)
-        (reading_from (Some (nid.now.nac, nid.now.duid)) (part at count bits.now)) }
-{
-    let mut statuses = Statuses::new();
-    unweave(bits, at, count, room, &mut statuses);
-    let mut coded = 0;
-    match read_voice_counted(nid.duid, room, &mut coded) {
-        Ok(voice) => {
-            let fixes = front_fixes(bits, at, nid) + coded;
-            item.set_voice(place, nid.nac, voice, statuses, fixes);
-        }
-        Err(fields) => *item = broken_item(place, count, nid, fields),
-    }
-}
-
-// Sets `item` to that of a packet (PDU) whose network identifier (NID) was read. A packet takes room, so it is read apart from voice
-// units.
-#[inline(never)]
-fn set_packet_item(
+// Sets `item` to that of a unit whose network identifier (NID) was read. Where it is a whole unit, no room is moved.
+fn set_item(
     bits: &BitBuf,
     at: usize,
     count: usize,
@@ -207,78 +140,51 @@ fn set_packet_item(
 )
     requires there { at ≤ length bits.now }
     requires kind { kind_need nid.now.duid (drop at bits.now) ≡ Length count }
-    requires packet { nid.now.duid ≡ 0xC }
     requires begun { IsBegun begun.old (drop at bits.now) }
     ensures { item.new ≡ item_from place (nid.now.nac, nid.now.duid) (part at count bits.now)
         (reading_from (Some (nid.now.nac, nid.now.duid)) (part at count bits.now)) }
 {
-    let failing = match item {
+    match item {
         Item::Whole {
             place: held_place,
             frame,
             fixes,
         } => {
             *held_place = place;
-            read_packet_frame(bits, at, count, nid, begun, room, frame, fixes)
+            match read_frame(bits, at, count, nid, begun, room, frame) {
+                Outcome::Read { wrong } => *fixes = wrong,
+                Outcome::Failing { fields } => *item = broken_item(place, count, nid, fields),
+            }
         }
-        _ => {
-            let mut frame = Frame {
-                unit: Unit::new(0, Body::Packet(Packet::empty())),
-                statuses: Statuses::new(),
-            };
-            let mut fixes = 0;
-            let failing = read_packet_frame(
-                bits, at, count, nid, begun, room, &mut frame, &mut fixes,
-            );
-            *item = Item::Whole {
-                place,
-                frame,
-                fixes,
-            };
-            failing
-        }
-    };
-    match failing {
-        None => {}
-        Some(fields) => *item = broken_item(place, count, nid, fields),
+        _ => *item = new_item(bits, at, count, nid, begun, place, room),
     }
 }
 
-// Sets `frame` to that of a packet (PDU) whose network identifier (NID) was read, or answers the fields that fail. Sets `fixes`,
-// where none fails, to those of the frame.
-fn read_packet_frame(
+// The item of a unit whose network identifier (NID) was read. An item takes room, so it is made apart from its caller.
+#[inline(never)]
+fn new_item(
     bits: &BitBuf,
     at: usize,
     count: usize,
     nid: &Nid,
     begun: &mut Begun,
+    place: u64,
     room: &mut BitBuf,
-    frame: &mut Frame,
-    fixes: &mut u32,
-) -> Option<FieldList>
+) -> Item
     requires there { at ≤ length bits.now }
     requires kind { kind_need nid.now.duid (drop at bits.now) ≡ Length count }
-    requires packet { nid.now.duid ≡ 0xC }
     requires begun { IsBegun begun.old (drop at bits.now) }
-    ensures frame { frame_or result frame.new ≡ reading_from (Some (nid.now.nac, nid.now.duid)) (part at count bits.now) }
-    ensures fixes { result ≡ None → fixes.new ≡ fixes_of frame.new (part at count bits.now) }
+    ensures { result ≡ item_from place (nid.now.nac, nid.now.duid) (part at count bits.now)
+        (reading_from (Some (nid.now.nac, nid.now.duid)) (part at count bits.now)) }
 {
-    unweave(bits, at, count, room, &mut frame.statuses);
-    match begun.read_head(bits, at) {
-        Err(field) => Some(FieldList::one(field)),
-        Ok(head) => {
-            let mut wrong = 0;
-            match frame
-                .unit
-                .read_packet(nid.nac, head, begun.distance(), room, &mut wrong)
-            {
-                Some(fields) => Some(fields),
-                None => {
-                    *fixes = front_fixes(bits, at, nid) + wrong;
-                    None
-                }
-            }
-        }
+    let mut frame = Frame::blank();
+    match read_frame(bits, at, count, nid, begun, room, &mut frame) {
+        Outcome::Read { wrong } => Item::Whole {
+            place,
+            frame,
+            fixes: wrong,
+        },
+        Outcome::Failing { fields } => broken_item(place, count, nid, fields),
     }
 }
 

@@ -24,7 +24,6 @@ mod frame;
 mod item;
 pub mod laws;
 mod needs;
-mod packets;
 mod read;
 mod scan;
 mod sending;

@@ -111,7 +111,7 @@ fn need_of_packet(bits: &BitBuf, at: usize, begun: &mut Begun) -> Need
     }
     match begun.read_head(bits, at) {
         Err(field) => Need::NoLength(field),
-        Ok(head) => need_of_length(packet_length(&head), have),
+        Ok(read) => need_of_length(packet_length(&read.head), have),
     }
 }
 

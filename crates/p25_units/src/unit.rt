@@ -1,19 +1,19 @@
 //! A unit: whose it is, and what it carries.
 
-ghost use Rattle.std.specs.Prelude.{◌≡◌, ℕ, ◌<◌, ◌≤◌, None, Ok};
-ghost use Rattle.p25_packet_blocks.specs.Fixes.{head_distance};
-ghost use Rattle.p25_packet_blocks.specs.Reading.{head_reading_of, packet_reading_of, HasItsLength};
+ghost use Rattle.std.specs.Prelude.{◌≡◌, ℕ, ◌<◌, ◌≤◌, Ok, Some, length};
+ghost use Rattle.p25_status.specs.Outcomes.{IfRead, read_or};
+ghost use Rattle.p25_voice_units.specs.Lengths.{voice_length_of};
+ghost use Rattle.p25_voice_units.specs.Readings.{voice_reading_of};
+ghost use Rattle.p25_packet_blocks.specs.Reading.{header_bits, packet_reading_of, read_head_of, HasItsLength};
 ghost use Rattle.p25_units.specs.Fixes.{body_fixes_of};
-ghost use Rattle.p25_units.specs.Readings.{body_or, packet_body_from};
+ghost use Rattle.p25_units.specs.Readings.{body_from, packet_body_from};
 ghost use Rattle.p25_units.specs.Units.{body_duid, body_length};
-ghost use Rattle.p25_units.specs.declared.unit.Body.TheVariants.{Voice as voice_in};
 
-use crate::packets::set_whole_packet;
 use p25_bch_nid::{Nid, PDU};
 use p25_bits::BitBuf;
-use p25_packet_blocks::{Packet, PacketHead, packet_length};
-use p25_status::{BARE_BLOCK_LENGTH, FieldList, SENT_BLOCK_LENGTH};
-use p25_voice_units::VoiceUnit;
+use p25_packet_blocks::{Packet, ReadHead, packet_length};
+use p25_status::{BARE_BLOCK_LENGTH, Outcome, SENT_BLOCK_LENGTH};
+use p25_voice_units::{VoiceUnit, read_voice_in};
 use std::marker::Model;
 
 /// What a unit carries, by its kind.
@@ -34,42 +34,6 @@ impl Body {
         match self {
             Body::Voice(voice) => voice.duid(),
             Body::Packet(_) => PDU,
-        }
-    }
-
-    // Becomes a voice unit. Where it was one, no room for a packet is moved.
-    fn set_voice(&mut self, voice: VoiceUnit)
-        ensures { self.new ≡ voice_in voice }
-    {
-        match self {
-            Body::Voice(held) => *held = voice,
-            Body::Packet(_) => *self = Body::Voice(voice),
-        }
-    }
-
-    // Becomes the packet (PDU) of a unit without status symbols, by its header, or answers the fields that fail. Where it was one,
-    // no room is moved. Sets `fixes`, where none fails, to the number of wrong bits of its blocks.
-    fn read_packet(
-        &mut self,
-        head: PacketHead,
-        distance: u32,
-        bare: &BitBuf,
-        fixes: &mut u32,
-    ) -> Option<FieldList>
-        requires head { head_reading_of bare.now ≡ Ok head }
-        requires distance { distance ≡ head_distance bare.now }
-        requires there { HasItsLength bare.now }
-        ensures body { body_or result self.new ≡ packet_body_from (packet_reading_of bare.now) }
-        ensures fixes { (nac : ℕ) → result ≡ None → fixes.new ≡ body_fixes_of (record { nac = nac; body = self.new }) bare.now }
-    {
-        match self {
-            Body::Packet(held) => set_whole_packet(head, distance, bare, held, fixes),
-            Body::Voice(_) => {
-                let mut packet = Packet::empty();
-                let failing = set_whole_packet(head, distance, bare, &mut packet, fixes);
-                *self = Body::Packet(packet);
-                failing
-            }
         }
     }
 
@@ -115,35 +79,49 @@ impl Unit {
         Unit { nac, body }
     }
 
-    // Becomes a voice unit of a network access code.
-    pub(crate) fn set_voice(&mut self, nac: u16, voice: VoiceUnit)
-        requires { nac < 4096 }
-        ensures { self.new ≡ record { nac = nac; body = voice_in voice } }
+    // Becomes the voice unit (HDU, LDU1, LDU2, TDU or TDULC) of a network identifier (NID) that bits without status symbols read as. Where
+    // it was one, no room for a packet is moved.
+    pub(crate) fn read_voice(&mut self, nid: &Nid, bare: &BitBuf) -> Outcome
+        requires { voice_length_of nid.now.duid ≡ Some (length bare.now) }
+        ensures nac { self.new.nac ≡ nid.now.nac }
+        ensures body { read_or result self.new.body ≡ body_from (voice_reading_of nid.now.duid bare.now) }
+        ensures wrong { IfRead result (λ wrong. wrong ≡ body_fixes_of self.new bare.now) }
+        ensures most { IfRead result (λ wrong. wrong ≤ 864) }
     {
-        self.nac = nac;
-        self.body.set_voice(voice);
+        self.nac = nid.nac;
+        match &mut self.body {
+            Body::Voice(held) => read_voice_in(nid.duid, bare, held),
+            Body::Packet(_) => {
+                let mut voice = VoiceUnit::End;
+                let outcome = read_voice_in(nid.duid, bare, &mut voice);
+                self.body = Body::Voice(voice);
+                outcome
+            }
+        }
     }
 
-    // Becomes the packet (PDU) of a unit without status symbols under a network access code, or answers the fields that fail, as
-    // `read_packet` of what it carries does.
-    pub(crate) fn read_packet(
-        &mut self,
-        nac: u16,
-        head: PacketHead,
-        distance: u32,
-        bare: &BitBuf,
-        fixes: &mut u32,
-    ) -> Option<FieldList>
+    // Becomes the packet (PDU) of a unit without status symbols whose header was read, under a network access code, and answers what
+    // `Packet::read` does. Where it was a packet, no room is moved. A packet takes room, so it is read apart from voice units.
+    #[inline(never)]
+    pub(crate) fn read_packet(&mut self, nac: u16, read: ReadHead, bare: &BitBuf) -> Outcome
         requires nac { nac < 4096 }
-        requires head { head_reading_of bare.now ≡ Ok head }
-        requires distance { distance ≡ head_distance bare.now }
+        requires head { read_head_of (header_bits bare.now) ≡ Ok read }
         requires there { HasItsLength bare.now }
         ensures nac { self.new.nac ≡ nac }
-        ensures body { body_or result self.new.body ≡ packet_body_from (packet_reading_of bare.now) }
-        ensures fixes { result ≡ None → fixes.new ≡ body_fixes_of self.new bare.now }
+        ensures body { read_or result self.new.body ≡ packet_body_from (packet_reading_of bare.now) }
+        ensures wrong { IfRead result (λ wrong. wrong ≡ body_fixes_of self.new bare.now) }
+        ensures few { IfRead result (λ wrong. wrong ≤ length bare.now) }
     {
         self.nac = nac;
-        self.body.read_packet(head, distance, bare, fixes)
+        match &mut self.body {
+            Body::Packet(held) => held.read(read, bare),
+            Body::Voice(_) => {
+                let mut packet = Packet::empty();
+                let outcome = packet.read(read, bare);
+                self.body = Body::Packet(packet);
+                outcome
+            }
+        }
     }
 
     /// Answers the network access code (NAC).

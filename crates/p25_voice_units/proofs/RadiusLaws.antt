@@ -27,11 +27,11 @@ use Rattle.p25_voice_units.specs.FieldLayouts.{link_layout}
 use Rattle.p25_voice_units.specs.Images.{frame_at}
 use Rattle.p25_voice_units.specs.Lengths.{voice_duid}
 use Rattle.p25_voice_units.specs.Places.{HasPiece, IsLaidOut, IsVoiceImage}
-use Rattle.p25_voice_units.specs.Readings.{frame_places, low_places, frame_in, voice_in, low_in, header_in, link_in, sync_in, header_from, tdulc_from, voice_reading_of}
+use Rattle.p25_voice_units.specs.Readings.{ldu1_in, ldu2_in, frame_places, low_places, frame_in, voice_in, low_in, header_in, link_in, sync_in, header_from, tdulc_from, voice_reading_of}
 use Rattle.p25_voice_units.specs.Sendable.{IsVoiceFrame, IsSpeech, IsSendableVoice}
 use Rattle.p25_voice_units.specs.WithinRadius.{AreLowWithin, IsVoiceWithin, received_voice, IsVoiceWithinByWords}
 use Rattle.p25_status.specs.declared.fields.Field.TheVariants.{LinkControl as LinkField, EncryptionSync as SyncField}
-use Rattle.p25_voice_units.proofs.KindsLaws.{reading-header, reading-end, reading-ldu1, reading-ldu2, reading-tdulc, ldu_whole, ldu1_parts, ldu2_parts}
+use Rattle.p25_voice_units.proofs.KindsLaws.{reading-header, reading-end, reading-ldu1, reading-ldu2, reading-tdulc, ldu_whole}
 use Rattle.p25_voice_units.proofs.ReadLaws.{nine_frames}
 use Rattle.p25_voice_units.proofs.FieldCodesLaws.{header_codes, link_codes, sync_codes, tdulc_codes, header_there, link_there, tdulc_there}
 
@@ -69,7 +69,7 @@ low_second low voice sent received keeps pieces long near =
 -- a unit within radius is read as sent, with its voice as received
 pub voice_within : (nac : ℕ) (unit : VoiceUnit) (sent received : List Bool) → IsSendableVoice unit → IsVoiceImage nac unit sent → length received ≡ length sent → IsVoiceWithin unit sent received
     → voice_reading_of (voice_duid unit) received ≡ Ok (received_voice unit received)
-unfolding IsSendableVoice IsVoiceImage IsVoiceWithin header_in link_in sync_in header_from tdulc_from
+unfolding IsSendableVoice IsVoiceImage IsVoiceWithin header_in link_in sync_in header_from tdulc_from ldu1_in ldu2_in
 voice_within nac (Header word) sent received keeps is long near =
     reading-header received
     ∙ ap header_from (ap (option_map header_of_symbols) (field_within header_codes (header_symbols word) sent received is.1 near) ∙ ap Some (header_back word keeps))
@@ -77,7 +77,6 @@ voice_within nac (Link1 link low voice) sent received keeps is long near =
     let field = ap (option_map link_of_symbols) (field_within link_codes (link_symbols link) sent received is.1 near.field) ∙ ap Some (link_back link keeps.word) in
     let whole : length received ≡ 1680 = long ∙ is.0.long in
     reading-ldu1 received
-    ∙ sym (ldu1_parts received (voice_in received) (link_in link_layout received) (low_in 0 received) (low_in 1 received) refl refl refl refl)
     ∙ ldu_whole LinkField (λ link low. Link1 link low (voice_in received)) (link_in link_layout received) (low_in 0 received) (low_in 1 received) link (slice_index low 0) (slice_index low 1) field
     (low_first low voice sent received keeps.speech is.0.pieces whole near.low)
     (low_second low voice sent received keeps.speech is.0.pieces whole near.low)
@@ -86,7 +85,6 @@ voice_within nac (Link2 sync low voice) sent received keeps is long near =
     let field = ap (option_map sync_of_symbols) (field_within sync_codes (sync_symbols sync) sent received is.1 near.field) ∙ ap Some (sync_back sync keeps.word) in
     let whole : length received ≡ 1680 = long ∙ is.0.long in
     reading-ldu2 received
-    ∙ sym (ldu2_parts received (voice_in received) (sync_in received) (low_in 0 received) (low_in 1 received) refl refl refl refl)
     ∙ ldu_whole SyncField (λ sync low. Link2 sync low (voice_in received)) (sync_in received) (low_in 0 received) (low_in 1 received) sync (slice_index low 0) (slice_index low 1) field
     (low_first low voice sent received keeps.speech is.0.pieces whole near.low)
     (low_second low voice sent received keeps.speech is.0.pieces whole near.low)

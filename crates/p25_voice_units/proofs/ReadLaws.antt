@@ -27,6 +27,11 @@ part_some f answer value symbols word some is made = ap Some made ∙ ap (option
 pub part_none : {S W : Type 0} (f : S → W) (answer value : Option S) → answer ≡ None → answer ≡ value → None ≡ option_map f value
 part_none f answer value none is = ap (option_map f) (sym none ∙ is)
 
+-- and so where only how many bits of it were put right is answered beside the symbols
+pub part_counted : {S W : Type 0} (f : S → W) (answer : Option ℕ) (value : Option S) (symbols : S) (word : W) → option_map (λ n. symbols) answer ≡ value → word ≡ f symbols → option_map (λ n. word) answer ≡ option_map f value
+part_counted f None value symbols word is made = ap (option_map f) is
+part_counted f (Some n) value symbols word is made = ap Some made ∙ ap (option_map f) is
+
 -- what is said of a part, where it was read
 pub some_at : {X : Type 0} (P : X → Type 0) (answer : Option X) (x : X) → IfSome answer P → answer ≡ Some x → P x
 some_at P answer x is some = subst (λ a. IfSome a P) some is

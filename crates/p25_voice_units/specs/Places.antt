@@ -1,6 +1,7 @@
 -- The bits of voice units (HDU, LDU1, LDU2, TDU and TDULC) by their places, as the standard has it.
 use Rattle.std.specs.Prelude.{◌≡◌, ℕ, Bool, false, List, [], length, take, replicate, slice_index, All}
 use Rattle.p25_bits.specs.Bits.{bits_of, octet_bits, part}
+use Rattle.p25_bch_nid.specs.Duids.{duid_hdu, duid_tdu, duid_ldu1, duid_ldu2, duid_tdulc}
 use Rattle.p25_code.specs.Words.{IsEncoding}
 use Rattle.p25_hamming.specs.Hamming10.{IsHamming10}
 use Rattle.p25_hamming.specs.Lsd16.{IsLsd16}
@@ -36,11 +37,11 @@ pub record IsLaidOut (nac duid count : ℕ) (rows : List (ℕ × Piece)) (low : 
 -- bits are a voice unit (HDU, LDU1, LDU2, TDU or TDULC): they are laid out as its kind is, and carry its coded field
 unfoldable pub IsVoiceImage : ℕ → VoiceUnit → List Bool → Type 0
 IsVoiceImage nac (Header word) bare =
-    IsLaidOut nac 0 770 hdu_rows [] [] bare × HasField IsGolay18 (IsWord 36 20) header_layout (header_symbols word) bare
+    IsLaidOut nac duid_hdu 770 hdu_rows [] [] bare × HasField IsGolay18 (IsWord 36 20) header_layout (header_symbols word) bare
 IsVoiceImage nac (Link1 link low voice) bare =
-    IsLaidOut nac 5 1680 ldu_rows low voice bare × HasField IsHamming10 (IsWord 24 12) link_layout (link_symbols link) bare
+    IsLaidOut nac duid_ldu1 1680 ldu_rows low voice bare × HasField IsHamming10 (IsWord 24 12) link_layout (link_symbols link) bare
 IsVoiceImage nac (Link2 sync low voice) bare =
-    IsLaidOut nac 10 1680 ldu_rows low voice bare × HasField IsHamming10 (IsWord 24 16) sync_layout (sync_symbols sync) bare
-IsVoiceImage nac End bare = IsLaidOut nac 3 140 tdu_rows [] [] bare
+    IsLaidOut nac duid_ldu2 1680 ldu_rows low voice bare × HasField IsHamming10 (IsWord 24 16) sync_layout (sync_symbols sync) bare
+IsVoiceImage nac End bare = IsLaidOut nac duid_tdu 140 tdu_rows [] [] bare
 IsVoiceImage nac (EndLink link) bare =
-    IsLaidOut nac 15 420 tdulc_rows [] [] bare × HasField IsGolay24 (IsWord 24 12) tdulc_layout (link_symbols link) bare
+    IsLaidOut nac duid_tdulc 420 tdulc_rows [] [] bare × HasField IsGolay24 (IsWord 24 12) tdulc_layout (link_symbols link) bare

@@ -11,6 +11,7 @@ use Rattle.p25_link.specs.declared.link_control.LinkControl.{LinkControl}
 use Rattle.p25_coded_fields.specs.Layouts.{Layout, field_reading_of}
 use Rattle.p25_status.specs.declared.fields.Field.{Field}
 use Rattle.p25_status.specs.declared.fields.Field.TheVariants.{HeaderWord as HeaderField, LinkControl as LinkField, EncryptionSync as SyncField, LowSpeed1, LowSpeed2}
+use Rattle.p25_bch_nid.specs.Duids.{duid_hdu, duid_tdu, duid_ldu1, duid_ldu2, duid_tdulc}
 use Rattle.p25_voice_units.specs.declared.layout.Piece.{Piece}
 use Rattle.p25_voice_units.specs.declared.layout.Piece.TheVariants.{Words, Frame, LowSpeed, Nulls}
 use Rattle.p25_voice_units.specs.declared.voice.VoiceFrame.{VoiceFrame}
@@ -101,9 +102,9 @@ ldu2_in bare = ldu_from SyncField (λ sync low. Link2 sync low (voice_in bare)) 
 -- DUIDs of no voice unit are not read
 unfoldable pub voice_reading_of : ℕ → List Bool → Result VoiceUnit (List Field)
 voice_reading_of duid bare =
-    if duid == 0 then header_from (header_in bare)
-    else if duid == 3 then Ok End
-    else if duid == 5 then ldu1_in bare
-    else if duid == 10 then ldu2_in bare
-    else if duid == 15 then tdulc_from (link_in tdulc_layout bare)
+    if duid == duid_hdu then header_from (header_in bare)
+    else if duid == duid_tdu then Ok End
+    else if duid == duid_ldu1 then ldu1_in bare
+    else if duid == duid_ldu2 then ldu2_in bare
+    else if duid == duid_tdulc then tdulc_from (link_in tdulc_layout bare)
     else Err []

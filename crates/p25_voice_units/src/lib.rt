@@ -20,9 +20,9 @@
 //! let unit = VoiceUnit::EndLink { link };
 //! let mut bare = BitBuf::new();
 //! voice_image(0x293, &unit, &mut bare);
-//! let mut fixes = 0;
-//! let read = read_voice_counted(unit.duid(), &bare, &mut fixes);
-//! assert!(rt; read == Ok(unit) && fixes == 0);
+//! let mut read = VoiceUnit::End;
+//! let outcome = read_voice_in(unit.duid(), &bare, &mut read);
+//! assert!(rt; read == unit && outcome == Outcome::Read { wrong: 0 });
 //! ```
 //!
 //! Contracts see a unit's bits as `voice_image_of` and what is read as `voice_reading_of`. `image_laws` says that these bits
@@ -47,6 +47,6 @@ pub use fixes::voice_fixes;
 pub use image::voice_image;
 pub use layout::{HDU_ROWS, LDU_ROWS, Piece, TDU_ROWS, TDULC_ROWS};
 pub use places::{HDU_WORDS, LDU_WORDS, LOW_WORDS, TDULC_WORDS};
-pub use read::{read_voice, read_voice_counted};
+pub use read::{read_voice, read_voice_in};
 pub use unit::{VoiceUnit, voice_length};
 pub use voice::{Voice, VoiceFrame};

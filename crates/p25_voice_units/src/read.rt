@@ -1,6 +1,6 @@
 //! Voice units (HDU, LDU1, LDU2, TDU and TDULC) read from bits.
 
-ghost use Rattle.std.specs.Prelude.{◌≡◌, ◌+◌, ◌*◌, ◌/◌, ◌<◌, ◌≤◌, [], ◌∷◌, ◌++◌, All, Bool, List, Some, IfErr, IfOk, IfSome, length};
+ghost use Rattle.std.specs.Prelude.{◌≡◌, ◌+◌, ◌*◌, ◌/◌, ◌<◌, ◌≤◌, [], ◌∷◌, ◌++◌, All, Bool, List, Some, IfErr, IfSome, Ok, length, option_map, ℕ};
 ghost use Rattle.p25_reed_solomon.specs.Encoding.{rs_word};
 ghost use Rattle.p25_reed_solomon.specs.Words.{IsCode};
 ghost use Rattle.p25_reed_solomon.specs.RsReadings.{rs_erased_reading_of};
@@ -13,7 +13,10 @@ ghost use Rattle.p25_voice_units.specs.Fixes.{AreFixes, low_fixes_of};
 ghost use Rattle.p25_voice_units.specs.Images.{golay18_word, golay24_word, hamming10_word};
 ghost use Rattle.p25_voice_units.specs.Layouts.{hdu_rows, ldu_rows, tdulc_rows};
 ghost use Rattle.p25_voice_units.specs.Lengths.{voice_length_of};
-ghost use Rattle.p25_voice_units.specs.Readings.{frame_in, voice_in, low_places, low_in, header_in, link_in, sync_in, missing, failing, header_from, ldu1_in, ldu2_in, tdulc_from, voice_reading_of};
+ghost use Rattle.p25_voice_units.specs.Readings.{frame_in, voice_in, low_places, low_in, header_in, link_in, sync_in, missing, failing, header_from, ldu_from, ldu1_in, ldu2_in, tdulc_from, voice_reading_of};
+ghost use Rattle.p25_status.specs.Outcomes.{read_or, IfRead};
+ghost use Rattle.p25_voice_units.specs.declared.unit.VoiceUnit.{VoiceUnit as voice_unit};
+ghost use Rattle.p25_voice_units.specs.declared.unit.VoiceUnit.TheVariants.{End as tdu_unit};
 
 use crate::places::{FRAMES, HDU_WORDS, LDU_WORDS, LOW_WORDS, TDULC_WORDS};
 use crate::unit::VoiceUnit;
@@ -27,117 +30,54 @@ use p25_golay::{Golay18, Golay24};
 use p25_hamming::{Hamming10, Lsd16};
 use p25_link::{EncryptionSync, HeaderWord, LinkControl};
 use p25_reed_solomon::Rs;
-use p25_status::{Field, FieldList};
+use p25_status::{Field, FieldList, Outcome};
 
-// The information of a coded field, whose inner words stand at the places. None comes exactly where the field fails; else the
-// wrong bits of its inner words are added to `fixes`.
+// Reads a coded field, whose inner words stand at the places, into the symbols of its information. Answers how many bits of its inner
+// words were put right; None comes exactly where the field fails.
 fn read_symbols<I: NumberCode, const N: usize, const K: usize>(
     bare: &BitBuf,
     places: &[usize],
-    fixes: &mut u32,
-) -> Option<[Sym; K]>
+    symbols: &mut [Sym],
+) -> Option<u32>
     requires code { I.HasCode }
     requires outer { IsCode N K }
     requires small { I.N ≤ 24 }
     requires sixes { 6 * (I.K / 6) ≡ I.K }
     requires some { 0 < I.K }
     requires short { N ≤ 36 }
-    requires many { length places.now ≤ 36 }
     requires places { length places.now * (I.K / 6) ≡ N }
     requires there { All (λ at. at + I.N ≤ length bare.now) places.now }
-    requires few { fixes.old ≤ 1000 }
-    ensures value { result ≡ field_reading_of (field_layout places.now I.N (I.K / 6) I.reading_is (rs_erased_reading_of N K) K) bare.now }
-    ensures fixes { IfSome result (λ symbols. (encoding : List Bool → List Bool) → Encodes I.IsWord I.K encoding
-        → fixes.new ≡ fixes.old + field_fixes_of encoding I.N (I.K / 6) places.now (rs_word N K symbols) bare.now) }
-    ensures most { fixes.new ≤ fixes.old + 24 * length places.now }
+    requires room { length symbols.old ≡ K }
+    ensures value { option_map (λ wrong. symbols.new) result
+        ≡ field_reading_of (field_layout places.now I.N (I.K / 6) I.reading_is (rs_erased_reading_of N K) K) bare.now }
+    ensures wrong { IfSome result (λ wrong. (encoding : List Bool → List Bool) → Encodes I.IsWord I.K encoding
+        → wrong ≡ field_fixes_of encoding I.N (I.K / 6) places.now (rs_word N K symbols.new) bare.now) }
+    ensures most { IfSome result (λ wrong. wrong ≤ 24 * length places.now) }
 {
     let mut word = [Sym::ZERO; N];
     match read_field::<I, Rs<N, K>>(bare, places, &mut word) {
-        Reading::Found { fixes: wrong } => {
-            *fixes += wrong;
-            let mut symbols = [Sym::ZERO; K];
+        Reading::Found { fixes } => {
             symbols.copy_from_slice(&word[..K]);
-            Some(symbols)
+            Some(fixes)
         }
         Reading::Beyond => None,
     }
 }
 
-// The header word of an HDU. Where it is read its wrong bits are added to `fixes`.
-fn read_header_word(bare: &BitBuf, fixes: &mut u32) -> Option<HeaderWord>
-    requires there { 770 ≤ length bare.now }
-    requires few { fixes.old ≤ 1000 }
-    ensures value { result ≡ header_in bare.now }
-    ensures fixes { IfSome result (λ word. fixes.new ≡ fixes.old
-        + field_fixes_of golay18_word 18 1 (word_places 18 hdu_rows) (rs_word 36 20 (header_symbols word)) bare.now) }
-    ensures most { fixes.new ≤ fixes.old + 864 }
-{
-    match read_symbols::<Golay18, 36, 20>(bare, &HDU_WORDS, fixes) {
-        Some(symbols) => Some(HeaderWord::from_symbols(&symbols)),
-        None => None,
-    }
-}
-
-// The link control (LC) of an LDU1. Where it is read its wrong bits are added to `fixes`.
-fn read_ldu1_link_control(bare: &BitBuf, fixes: &mut u32) -> Option<LinkControl>
-    requires there { 1680 ≤ length bare.now }
-    requires few { fixes.old ≤ 1000 }
-    ensures value { result ≡ link_in link_layout bare.now }
-    ensures fixes { IfSome result (λ link. fixes.new ≡ fixes.old
-        + field_fixes_of hamming10_word 10 1 (word_places 10 ldu_rows) (rs_word 24 12 (link_symbols link)) bare.now) }
-    ensures most { fixes.new ≤ fixes.old + 576 }
-{
-    match read_symbols::<Hamming10, 24, 12>(bare, &LDU_WORDS, fixes) {
-        Some(symbols) => Some(LinkControl::from_symbols(&symbols)),
-        None => None,
-    }
-}
-
-// The encryption sync (ES) of an LDU2. Where it is read its wrong bits are added to `fixes`.
-fn read_encryption_sync(bare: &BitBuf, fixes: &mut u32) -> Option<EncryptionSync>
-    requires there { 1680 ≤ length bare.now }
-    requires few { fixes.old ≤ 1000 }
-    ensures value { result ≡ sync_in bare.now }
-    ensures fixes { IfSome result (λ sync. fixes.new ≡ fixes.old
-        + field_fixes_of hamming10_word 10 1 (word_places 10 ldu_rows) (rs_word 24 16 (sync_symbols sync)) bare.now) }
-    ensures most { fixes.new ≤ fixes.old + 576 }
-{
-    match read_symbols::<Hamming10, 24, 16>(bare, &LDU_WORDS, fixes) {
-        Some(symbols) => Some(EncryptionSync::from_symbols(&symbols)),
-        None => None,
-    }
-}
-
-// The link control (LC) of a TDULC. Where it is read its wrong bits are added to `fixes`.
-fn read_tdulc_link_control(bare: &BitBuf, fixes: &mut u32) -> Option<LinkControl>
-    requires there { 420 ≤ length bare.now }
-    requires few { fixes.old ≤ 1000 }
-    ensures value { result ≡ link_in tdulc_layout bare.now }
-    ensures fixes { IfSome result (λ link. fixes.new ≡ fixes.old
-        + field_fixes_of golay24_word 24 2 (word_places 24 tdulc_rows) (rs_word 24 12 (link_symbols link)) bare.now) }
-    ensures most { fixes.new ≤ fixes.old + 288 }
-{
-    match read_symbols::<Golay24, 24, 12>(bare, &TDULC_WORDS, fixes) {
-        Some(symbols) => Some(LinkControl::from_symbols(&symbols)),
-        None => None,
-    }
-}
-
-// The octet of a low speed data (LSD) word of an LDU1 or an LDU2, by its number. Where it is read its wrong bits are added to
-// `fixes`.
-fn read_low(bare: &BitBuf, i: usize, fixes: &mut u32) -> Option<u8>
+// Reads the low speed data (LSD) word of a number of an LDU1 or an LDU2 into its octet. Answers how many of its bits were put right;
+// None comes exactly where no word lies within 2 bits.
+fn read_low(bare: &BitBuf, i: usize, octet: &mut u8) -> Option<u32>
     requires i { i < 2 }
     requires there { 1680 ≤ length bare.now }
-    requires few { fixes.old ≤ 1000 }
-    ensures value { result ≡ low_in i bare.now }
-    ensures fixes { IfSome result (λ octet. fixes.new ≡ fixes.old + low_fixes_of i octet bare.now) }
-    ensures most { fixes.new ≤ fixes.old + 16 }
+    ensures value { option_map (λ wrong. octet.new) result ≡ low_in i bare.now }
+    ensures wrong { IfSome result (λ wrong. wrong ≡ low_fixes_of i octet.new bare.now) }
+    ensures most { IfSome result (λ wrong. wrong ≤ 16) }
 {
     let received = bare.field(LOW_WORDS[i], 16) as u32;
     match Lsd16::read_number(received) {
         Some(sent) => {
-            *fixes += (received ^ sent).count_ones();
-            Some((sent >> 8) as u8)
+            *octet = (sent >> 8) as u8;
+            Some((received ^ sent).count_ones())
         }
         None => None,
     }
@@ -166,9 +106,9 @@ fn read_frames(bare: &BitBuf) -> Voice
 }
 
 // Appends a field, if it was not read.
-fn note<T>(fields: &mut FieldList, field: Field, part: &Option<T>)
+fn note(fields: &mut FieldList, field: Field, part: Option<u32>)
     requires { length fields.old < 127 }
-    ensures list { fields.new ≡ fields.old ++ missing field part.now }
+    ensures list { fields.new ≡ fields.old ++ missing field part }
     ensures len { length fields.new ≤ length fields.old + 1 }
 {
     if part.is_none() {
@@ -177,13 +117,8 @@ fn note<T>(fields: &mut FieldList, field: Field, part: &Option<T>)
 }
 
 // The failing fields of an LDU1 or an LDU2, in order.
-fn failing_of<T>(
-    field: Field,
-    word: &Option<T>,
-    first: &Option<u8>,
-    second: &Option<u8>,
-) -> FieldList
-    ensures { result ≡ failing field word.now first.now second.now }
+fn failing_of(field: Field, word: Option<u32>, first: Option<u32>, second: Option<u32>) -> FieldList
+    ensures { result ≡ failing field word first second }
 {
     let mut fields = FieldList::new();
     note(&mut fields, field, word);
@@ -192,89 +127,119 @@ fn failing_of<T>(
     fields
 }
 
-// An HDU, a header. Where it is read `fixes` becomes the number of its wrong bits.
-fn read_hdu(bare: &BitBuf, fixes: &mut u32) -> Result<VoiceUnit, FieldList>
-    requires there { 770 ≤ length bare.now }
-    requires none { fixes.old ≡ 0 }
-    ensures value { result ≡ header_from (header_in bare.now) }
-    ensures fixes { IfOk result (λ unit. AreFixes unit bare.now fixes.new) }
-    ensures most { fixes.new ≤ 864 }
+// The outcome of an LDU1 or an LDU2 by how many bits of its word and of its low speed data (LSD) words were put right, where each was
+// read.
+fn ldu_outcome(field: Field, word: Option<u32>, first: Option<u32>, second: Option<u32>) -> Outcome
+    requires word { IfSome word (λ wrong. wrong ≤ 576) }
+    requires first { IfSome first (λ wrong. wrong ≤ 16) }
+    requires second { IfSome second (λ wrong. wrong ≤ 16) }
+    ensures value { (unit : voice_unit) → read_or result unit ≡ ldu_from field (λ word low. unit) word first second }
+    ensures wrong { IfRead result (λ wrong. (a b c : ℕ) → word ≡ Some a → first ≡ Some b → second ≡ Some c → wrong ≡ a + (b + c)) }
+    ensures most { IfRead result (λ wrong. wrong ≤ 608) }
 {
-    match read_header_word(bare, fixes) {
-        Some(word) => Ok(VoiceUnit::Header(word)),
-        None => Err(FieldList::one(Field::HeaderWord)),
+    match (word, first, second) {
+        (Some(word), Some(first), Some(second)) => Outcome::Read {
+            wrong: word + first + second,
+        },
+        _ => Outcome::Failing {
+            fields: failing_of(field, word, first, second),
+        },
     }
 }
 
-// An LDU1, voice with link control. Where it is read `fixes` becomes the number of its wrong bits.
-fn read_ldu1(bare: &BitBuf, fixes: &mut u32) -> Result<VoiceUnit, FieldList>
-    requires there { 1680 ≤ length bare.now }
-    requires none { fixes.old ≡ 0 }
-    ensures value { result ≡ ldu1_in bare.now }
-    ensures fixes { IfOk result (λ unit. AreFixes unit bare.now fixes.new) }
-    ensures most { fixes.new ≤ 864 }
+// Sets `unit` to an HDU, a header.
+fn read_hdu(bare: &BitBuf, unit: &mut VoiceUnit) -> Outcome
+    requires { 770 ≤ length bare.now }
+    ensures value { read_or result unit.new ≡ header_from (header_in bare.now) }
+    ensures wrong { IfRead result (λ wrong. AreFixes unit.new bare.now wrong) }
+    ensures most { IfRead result (λ wrong. wrong ≤ 864) }
 {
-    let link = read_ldu1_link_control(bare, fixes);
-    let first = read_low(bare, 0, fixes);
-    let second = read_low(bare, 1, fixes);
-    let fields = failing_of(Field::LinkControl, &link, &first, &second);
-    let voice = read_frames(bare);
-    let Some(link) = link else {
-        return Err(fields);
-    };
-    let Some(first) = first else {
-        return Err(fields);
-    };
-    let Some(second) = second else {
-        return Err(fields);
-    };
-    Ok(VoiceUnit::Link1 {
-        link,
-        low: [first, second],
-        voice,
-    })
+    let mut symbols = [Sym::ZERO; 20];
+    match read_symbols::<Golay18, 36, 20>(bare, &HDU_WORDS, &mut symbols) {
+        Some(wrong) => {
+            *unit = VoiceUnit::Header(HeaderWord::from_symbols(&symbols));
+            Outcome::Read { wrong }
+        }
+        None => Outcome::failing(Field::HeaderWord),
+    }
 }
 
-// An LDU2, voice with encryption sync. Where it is read `fixes` becomes the number of its wrong bits.
-fn read_ldu2(bare: &BitBuf, fixes: &mut u32) -> Result<VoiceUnit, FieldList>
-    requires there { 1680 ≤ length bare.now }
-    requires none { fixes.old ≡ 0 }
-    ensures value { result ≡ ldu2_in bare.now }
-    ensures fixes { IfOk result (λ unit. AreFixes unit bare.now fixes.new) }
-    ensures most { fixes.new ≤ 864 }
+// Sets `unit` to an LDU1, voice with link control (LC).
+fn read_ldu1(bare: &BitBuf, unit: &mut VoiceUnit) -> Outcome
+    requires { 1680 ≤ length bare.now }
+    ensures value { read_or result unit.new ≡ ldu1_in bare.now }
+    ensures wrong { IfRead result (λ wrong. AreFixes unit.new bare.now wrong) }
+    ensures most { IfRead result (λ wrong. wrong ≤ 864) }
 {
-    let sync = read_encryption_sync(bare, fixes);
-    let first = read_low(bare, 0, fixes);
-    let second = read_low(bare, 1, fixes);
-    let fields = failing_of(Field::EncryptionSync, &sync, &first, &second);
-    let voice = read_frames(bare);
-    let Some(sync) = sync else {
-        return Err(fields);
-    };
-    let Some(first) = first else {
-        return Err(fields);
-    };
-    let Some(second) = second else {
-        return Err(fields);
-    };
-    Ok(VoiceUnit::Link2 {
-        sync,
-        low: [first, second],
-        voice,
-    })
+    let mut symbols = [Sym::ZERO; 12];
+    let (mut first, mut second) = (0, 0);
+    let word = read_symbols::<Hamming10, 24, 12>(bare, &LDU_WORDS, &mut symbols);
+    let low1 = read_low(bare, 0, &mut first);
+    let low2 = read_low(bare, 1, &mut second);
+    match ldu_outcome(Field::LinkControl, word, low1, low2) {
+        Outcome::Read { wrong } => {
+            *unit = VoiceUnit::Link1 {
+                link: LinkControl::from_symbols(&symbols),
+                low: [first, second],
+                voice: read_frames(bare),
+            };
+            Outcome::Read { wrong }
+        }
+        Outcome::Failing { fields } => Outcome::Failing { fields },
+    }
 }
 
-// A TDULC, a terminator with link control. Where it is read `fixes` becomes the number of its wrong bits.
-fn read_tdulc(bare: &BitBuf, fixes: &mut u32) -> Result<VoiceUnit, FieldList>
-    requires there { 420 ≤ length bare.now }
-    requires none { fixes.old ≡ 0 }
-    ensures value { result ≡ tdulc_from (link_in tdulc_layout bare.now) }
-    ensures fixes { IfOk result (λ unit. AreFixes unit bare.now fixes.new) }
-    ensures most { fixes.new ≤ 864 }
+// Sets `unit` to an LDU2, voice with encryption sync (ES).
+fn read_ldu2(bare: &BitBuf, unit: &mut VoiceUnit) -> Outcome
+    requires { 1680 ≤ length bare.now }
+    ensures value { read_or result unit.new ≡ ldu2_in bare.now }
+    ensures wrong { IfRead result (λ wrong. AreFixes unit.new bare.now wrong) }
+    ensures most { IfRead result (λ wrong. wrong ≤ 864) }
 {
-    match read_tdulc_link_control(bare, fixes) {
-        Some(link) => Ok(VoiceUnit::EndLink { link }),
-        None => Err(FieldList::one(Field::LinkControl)),
+    let mut symbols = [Sym::ZERO; 16];
+    let (mut first, mut second) = (0, 0);
+    let word = read_symbols::<Hamming10, 24, 16>(bare, &LDU_WORDS, &mut symbols);
+    let low1 = read_low(bare, 0, &mut first);
+    let low2 = read_low(bare, 1, &mut second);
+    match ldu_outcome(Field::EncryptionSync, word, low1, low2) {
+        Outcome::Read { wrong } => {
+            *unit = VoiceUnit::Link2 {
+                sync: EncryptionSync::from_symbols(&symbols),
+                low: [first, second],
+                voice: read_frames(bare),
+            };
+            Outcome::Read { wrong }
+        }
+        Outcome::Failing { fields } => Outcome::Failing { fields },
+    }
+}
+
+// Sets `unit` to a TDU, a terminator, in which nothing fails.
+fn read_tdu(bare: &BitBuf, unit: &mut VoiceUnit) -> Outcome
+    ensures value { read_or result unit.new ≡ Ok tdu_unit }
+    ensures wrong { IfRead result (λ wrong. AreFixes unit.new bare.now wrong) }
+    ensures most { IfRead result (λ wrong. wrong ≤ 864) }
+{
+    *unit = VoiceUnit::End;
+    Outcome::Read { wrong: 0 }
+}
+
+// Sets `unit` to a TDULC, a terminator with link control (LC).
+fn read_tdulc(bare: &BitBuf, unit: &mut VoiceUnit) -> Outcome
+    requires { 420 ≤ length bare.now }
+    ensures value { read_or result unit.new ≡ tdulc_from (link_in tdulc_layout bare.now) }
+    ensures wrong { IfRead result (λ wrong. AreFixes unit.new bare.now wrong) }
+    ensures most { IfRead result (λ wrong. wrong ≤ 864) }
+{
+    let mut symbols = [Sym::ZERO; 12];
+    match read_symbols::<Golay24, 24, 12>(bare, &TDULC_WORDS, &mut symbols) {
+        Some(wrong) => {
+            *unit = VoiceUnit::EndLink {
+                link: LinkControl::from_symbols(&symbols),
+            };
+            Outcome::Read { wrong }
+        }
+        None => Outcome::failing(Field::LinkControl),
     }
 }
 
@@ -291,25 +256,30 @@ pub fn read_voice(duid: u8, bare: &BitBuf) -> Result<VoiceUnit, FieldList>
     ensures reading { result ≡ voice_reading_of duid bare.now }
     ensures some { IfErr result (λ fields. 0 < length fields) }
 {
-    let mut fixes = 0;
-    read_voice_counted(duid, bare, &mut fixes)
+    let mut unit = VoiceUnit::End;
+    match read_voice_in(duid, bare, &mut unit) {
+        Outcome::Read { .. } => Ok(unit),
+        Outcome::Failing { fields } => Err(fields),
+    }
 }
 
-/// Answers what `read_voice` answers. Where it is a unit, sets `fixes` to what `voice_fixes` answers for it, whatever network
-/// access code its image has: the number of wrong bits in its inner words and its low speed words. No image is made.
-pub fn read_voice_counted(duid: u8, bare: &BitBuf, fixes: &mut u32) -> Result<VoiceUnit, FieldList>
+/// Sets `unit` to the voice unit that `read_voice` answers. The outcome is `Failing` exactly where that refuses, with the same
+/// fields; else it is `Read` with what `voice_fixes` answers for the unit, whatever network access code its image has: the
+/// number of wrong bits in its inner words and its low speed words. No image is made.
+pub fn read_voice_in(duid: u8, bare: &BitBuf, unit: &mut VoiceUnit) -> Outcome
     requires { voice_length_of duid ≡ Some (length bare.now) }
-    ensures value { result ≡ voice_reading_of duid bare.now }
-    ensures fixes { IfOk result (λ unit. AreFixes unit bare.now fixes.new) }
-    ensures most { fixes.new ≤ 864 }
+    ensures value { read_or result unit.new ≡ voice_reading_of duid bare.now }
+    ensures wrong { IfRead result (λ wrong. AreFixes unit.new bare.now wrong) }
+    ensures most { IfRead result (λ wrong. wrong ≤ 864) }
 {
-    *fixes = 0;
     match duid {
-        HDU => read_hdu(bare, fixes),
-        TDU => Ok(VoiceUnit::End),
-        LDU1 => read_ldu1(bare, fixes),
-        LDU2 => read_ldu2(bare, fixes),
-        TDULC => read_tdulc(bare, fixes),
-        _ => Err(FieldList::new()),
+        HDU => read_hdu(bare, unit),
+        TDU => read_tdu(bare, unit),
+        LDU1 => read_ldu1(bare, unit),
+        LDU2 => read_ldu2(bare, unit),
+        TDULC => read_tdulc(bare, unit),
+        _ => Outcome::Failing {
+            fields: FieldList::new(),
+        },
     }
 }

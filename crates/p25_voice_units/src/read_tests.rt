@@ -1,12 +1,11 @@
 //! Units of each kind, HDU, LDU1, LDU2, TDU and TDULC, with damage: read with so many fixes, or refused with the fields that fail.
 
 use super::{
-    Voice, VoiceFrame, VoiceUnit, read_voice, read_voice_counted, voice_fixes, voice_image,
-    voice_length,
+    Voice, VoiceFrame, VoiceUnit, read_voice, read_voice_in, voice_fixes, voice_image, voice_length,
 };
 use p25_bits::BitBuf;
 use p25_link::{EncryptionSync, HeaderWord, LinkControl};
-use p25_status::Field;
+use p25_status::{Field, Outcome};
 
 #[test]
 fn the_example_of_the_head(rt: HostRuntime) {
@@ -14,9 +13,9 @@ fn the_example_of_the_head(rt: HostRuntime) {
     let unit = VoiceUnit::EndLink { link };
     let mut bare = BitBuf::new();
     voice_image(0x293, &unit, &mut bare);
-    let mut fixes = 0;
-    let read = read_voice_counted(unit.duid(), &bare, &mut fixes);
-    assert!(rt; read == Ok(unit) && fixes == 0);
+    let mut read = VoiceUnit::End;
+    let outcome = read_voice_in(unit.duid(), &bare, &mut read);
+    assert!(rt; read == unit && outcome == Outcome::Read { wrong: 0 });
 }
 
 // Bits that are inverted: the first place, a step, how many places lie such steps apart, and how many bits from each of them on.
@@ -57,16 +56,18 @@ fn is_read_as(
         return false;
     }
     let is_read = matches!(read_voice(unit.duid(), &bare), Ok(_));
-    let mut counted = 0;
-    match read_voice_counted(unit.duid(), &bare, &mut counted) {
-        Ok(read) => {
+    let mut read = VoiceUnit::End;
+    match read_voice_in(unit.duid(), &bare, &mut read) {
+        Outcome::Read { wrong } => {
             is_read
                 && fields.len() == 0
                 && read == *other
-                && counted == fixes
+                && wrong == fixes
                 && voice_fixes(unit, &bare, &image) == fixes
         }
-        Err(failing) => !is_read && fields.len() > 0 && failing.as_slice() == fields,
+        Outcome::Failing { fields: failing } => !is_read
+            && fields.len() > 0
+            && failing.as_slice() == fields,
     }
 }
 

@@ -78,7 +78,7 @@ fn assert_written(rt: &impl Abort, nac: u16, packet: &Packet, bare: &BitBuf) {
 fn assert_unit(rt: &impl Abort, nac: u16, head: PacketHead, bits: &BitBuf) {
     assert!(rt; bits.len() >= 360);
     match read_head_at(bits, 0) {
-        Ok(sent_head) => assert!(rt; sent_head == head),
+        Ok(read) => assert!(rt; read.head == head),
         Err(_) => assert!(rt; false),
     }
     match read_packet_unit(bits) {

@@ -16,12 +16,15 @@ loop-j-preserved c =
     let packet = c.args.packet.now in
     let j = c.loop-j.j in
     let carried = c.octets-carried.ensures.value ∙ c.octets.ensures.value in
-    let check = c.to_be_bytes.ensures ∙ ap (λ n. n / 16777216 % 256 ∷ n / 65536 % 256 ∷ n / 256 % 256 ∷ n % 256 ∷ []) (c.crc32.ensures.value ∙ ap crc32_of carried) ∙ put_four (crc32_of packet.octets) (crc32_of-lt packet.octets) in
-    let octets = c.as_slice-octets.ensures.value ∙ c.append-2.ensures ∙ ap₂ (λ (xs ys : List ℕ). xs ++ ys) (c.append.ensures ∙ ap₂ (λ (xs ys : List ℕ). xs ++ ys) c.new-octets.ensures carried) check ∙ sym (checked_octets-is packet.octets) in
+    let check = c.to_be_bytes.ensures ∙ ap (λ n. n / 16777216 % 256 ∷ n / 65536 % 256 ∷ n / 256 % 256 ∷ n % 256 ∷ []) (c.crc32.ensures.value ∙ ap crc32_of carried)
+    ∙ put_four (crc32_of packet.octets) (crc32_of-lt packet.octets) in
+    let octets = c.as_slice-octets.ensures.value ∙ c.append-2.ensures
+    ∙ ap₂ (λ (xs ys : List ℕ). xs ++ ys) (c.append.ensures ∙ ap₂ (λ (xs ys : List ℕ). xs ++ ys) c.new-octets.ensures carried) check ∙ sym (checked_octets-is packet.octets) in
     let twelve : 12 * j + 12 - 12 * j ≡ 12 = omega arith in
     record {
       list =
           c.encode_block.ensures.value
-          ∙ put_more c.args.out.now c.loop-j.out _ (body_block (Plain packet)) j c.loop-j.invariant.list (ap₂ (λ n (xs : List ℕ). half_block (take n (drop (12 * j) xs))) twelve octets ∙ sym (body_block-plain packet j));
+          ∙ put_more c.args.out.now c.loop-j.out _ (body_block (Plain packet)) j c.loop-j.invariant.list
+          (ap₂ (λ n (xs : List ℕ). half_block (take n (drop (12 * j) xs))) twelve octets ∙ sym (body_block-plain packet j));
       len = omega arith;
     }

@@ -8,25 +8,27 @@ use Rattle.p25_packet_blocks.proofs.ReadingLaws.{slots_read-zero, slots_read-mor
 use Rattle.p25_packet_blocks.proofs.read.read_slots.Goals as goal
 
 pub loop-j-init : goal.loop-j-init
-loop-j-init c = record { so_far = c.clear.ensures ∙ sym (slots_read-zero c.args.bare.now); len = rw c.clear.ensures refl; counted = omega (arith, blocks_distance-zero 8 three_quarter_point c.args.bare.now) }
+loop-j-init c = record { so_far = c.clear.ensures ∙ sym (slots_read-zero c.args.bare.now); len = rw c.clear.ensures refl; counted = sym (blocks_distance-zero 8 three_quarter_point c.args.bare.now) }
 
 pub loop-j-preserved : goal.loop-j-preserved
 loop-j-preserved c = record {
   so_far =
       c.push.ensures.list
-      ∙ ap₂ (λ (xs : List Slot) x. xs ++ x ∷ []) c.loop-j.invariant.so_far (c.slot_in.ensures ∙ ap slot_from c.read_block.ensures.octets)
+      ∙ ap₂ (λ (xs : List Slot) x. xs ++ x ∷ []) c.loop-j.invariant.so_far (c.slot_in.ensures ∙ ap slot_from c.read_block-wrong.ensures.octets)
       ∙ sym (slots_read-more c.loop-j.j c.args.bare.now);
   len = omega arith;
-  counted = omega (arith, c.loop-j.invariant.counted, c.read_block.ensures.distance, blocks_distance-more 8 three_quarter_point c.loop-j.j c.args.bare.now);
+  counted = omega (arith, c.loop-j.invariant.counted, c.read_block-wrong.ensures.distance, blocks_distance-more 8 three_quarter_point c.loop-j.j c.args.bare.now);
 }
 
-pub overflow_add-fixes : goal.overflow_add-fixes
-overflow_add-fixes c =
+pub overflow_add-wrong : goal.overflow_add-wrong
+overflow_add-wrong c =
     omega (
       arith,
-      c.requires.few,
       c.loop-j.invariant.counted,
-      c.read_block.ensures.distance,
+      c.read_block-wrong.ensures.distance,
       three_quarter_distance-le c.loop-j.j c.args.bare.now,
       nearest_distance-le 8 3 three_quarter_point (block_bits c.args.bare.now c.loop-j.j) (omega arith),
     )
+
+pub returns-clause-few : goal.returns-clause-few
+returns-clause-few c = omega (arith, c.loop-j.invariant.counted, three_quarter_distance-le c.loop-j.j c.args.bare.now)

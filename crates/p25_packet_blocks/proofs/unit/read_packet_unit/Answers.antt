@@ -32,4 +32,5 @@ returns-in_err-packet c =
 pub returns : goal.returns
 returns c =
     let near : distance_of (take 48 c.args.bits.now) sync_bits ≤ sync_slack = grind (arith, c.if-not-is_sync.ensures) in
-    sym (packet_unit_of-good c.args.bits.now (c.in-Some.nid.nac, c.in-Some.nid.duid) c.in_ok-packet.packet (has_sync-yes c.args.bits.now (omega arith) near) (sym c.in-Some.ensures) c.if-nid-ne-PDU.false (sym c.in_ok-packet.ensures))
+    sym (packet_unit_of-good c.args.bits.now (c.in-Some.nid.nac, c.in-Some.nid.duid) c.in_ok-packet.packet (has_sync-yes c.args.bits.now (omega arith) near)
+    (sym c.in-Some.ensures) c.if-nid-ne-PDU.false (sym c.in_ok-packet.ensures))

@@ -7,14 +7,11 @@ use Rattle.p25_filter.proofs.SameLaws.{AreAlike}
 use Rattle.p25_filter.specs.Traces.{IsRun}
 use Rattle.p25_filter.specs.LineRules.{LineRules}
 use Rattle.p25_filter.specs.LineFilters.{first_line, line_future}
-use Rattle.p25_tool.specs.Buildings.{build_rules}
-use Rattle.p25_tool.specs.StationRules.{station_rules}
-use Rattle.p25_tool.specs.DuplexRules.{duplex_rules}
+use Rattle.p25_tool.specs.Machines.{build_rules, duplex_rules, fragment_rules, station_rules}
 use Rattle.p25_recording_filters.specs.Recordings.{fresh, recording_future}
 use Rattle.p25_tool.specs.Outputs.{command_future}
-use Rattle.p25_tool.proofs.CommandsLaws.{bridge-alike, build-alike, check-alike, repair-alike, show-alike, stations-alike, calls-alike, fragments-alike, soft-alike}
-use Rattle.p25_tool.proofs.DuplexCommandLaws.{duplex-alike}
-use Rattle.p25_tool.specs.FragmentRules.{fragment_rules}
+use Rattle.p25_tool.proofs.CommandsLaws.{bridge-alike, check-alike, repair-alike, show-alike, calls-alike, soft-alike}
+use Rattle.p25_tool.proofs.ScriptRunsLaws.{build-alike, duplex-alike, fragments-alike, stations-alike}
 use Rattle.p25_tool.proofs.CallRunsLaws.{alike-run}
 use Rattle.p25_tool.proofs.command_run.run_command.Goals as goal
 
@@ -28,7 +25,7 @@ changed-alike made named command asked same is alike =
     subst (λ (x : ChangedParts). AreAlike (recording_future changed_reporting (fresh x)) (command_future asked)) (sym same) (alike-to (recording_future changed_reporting (fresh named)) command asked is alike)
 
 -- what is said of the rules of a machine is said of those of one that is named otherwise
-lines-alike : {M : Type 0} (rules : LineRules M) (made named : M) (command asked : Command) → made ≡ named → asked ≡ command → AreAlike (line_future rules (first_line named)) (command_future command)
+lines-alike : {M E : Type 0} (rules : LineRules M E) (made named : M) (command asked : Command) → made ≡ named → asked ≡ command → AreAlike (line_future rules (first_line named)) (command_future command)
     → AreAlike (line_future rules (first_line made)) (command_future asked)
 lines-alike rules made named command asked same is alike =
     subst (λ (x : _). AreAlike (line_future rules (first_line x)) (command_future asked)) (sym same) (alike-to (line_future rules (first_line named)) command asked is alike)

@@ -1,41 +1,45 @@
-use Rattle.std.proofs.Common.{sym, ◌∙◌, arith, subst}
-use Rattle.p25_units.specs.Units.{IsSendableBody, IsWholeBody}
-use Rattle.p25_units.specs.declared.unit.Body.TheVariants.{Packet, Voice}
-use Rattle.p25_units.proofs.FixingLaws.{body_fixes-is, frame_length_of-packet, frame_length_of-voice}
+use Rattle.std.proofs.Common.{◌+◌, ◌*◌, Some, ap, sym, ◌∙◌}
+use Rattle.p25_bits.specs.Bits.{part}
+use Rattle.p25_bits.specs.Distance.{distance_of}
+use Rattle.p25_packet_blocks.specs.Heads.{head_blocks}
+use Rattle.p25_packet_blocks.specs.Whole.{packet_head}
+use Rattle.p25_voice_units.specs.Fixes.{voice_fixes_of}
+use Rattle.p25_units.specs.Fixes.{body_fixes_of}
+use Rattle.p25_units.specs.UnitParts.{UnitParts}
+use Rattle.p25_units.specs.Units.{body_length, unit_image_of}
+use Rattle.p25_units.specs.declared.unit.Body.{Body}
+use Rattle.p25_units.proofs.FixesLaws.{body_fixes_of-packet, body_fixes_of-voice}
+use Rattle.p25_units.proofs.UnitsLaws.{body_length-known}
 use Rattle.p25_units.proofs.fixing.body_fixes.Goals as goal
 
-pub voice_unit_fixes-requires-clause-there : goal.voice_unit_fixes-requires-clause-there
-voice_unit_fixes-requires-clause-there c = omega (arith, c.requires.there, frame_length_of-voice c.args.unit.now c.in-Voice.voice (sym c.body.ensures ∙ c.in-Voice.is))
+pub voice_fixes-requires-clause-received : goal.voice_fixes-requires-clause-received
+voice_fixes-requires-clause-received c =
+    body_length-known c.in-Voice.voice ∙ ap Some (sym (c.requires.long ∙ c.requires.whole ∙ ap body_length (sym c.body.ensures ∙ c.in-Voice.is)))
 
-pub packet_fixes-requires-clause-there : goal.packet_fixes-requires-clause-there
-packet_fixes-requires-clause-there c = omega (arith, c.requires.there, frame_length_of-packet c.args.unit.now c.in-Packet.packet (sym c.body.ensures ∙ c.in-Packet.is))
-
-pub packet_fixes-requires-clause-whole : goal.packet_fixes-requires-clause-whole
-unfolding IsWholeBody
-packet_fixes-requires-clause-whole c = subst IsWholeBody (sym c.body.ensures ∙ c.in-Packet.is) c.requires.whole
+pub voice_fixes-requires-clause-image : goal.voice_fixes-requires-clause-image
+voice_fixes-requires-clause-image c = body_length-known c.in-Voice.voice ∙ ap Some (sym (c.requires.whole ∙ ap body_length (sym c.body.ensures ∙ c.in-Voice.is)))
 
 pub returns-in-Voice-clause-value : goal.returns-in-Voice-clause-value
+unfolding unit_image_of
 returns-in-Voice-clause-value c =
+    let nac = c.args.unit.now.nac in
+    let make : Body → UnitParts = λ body. record { nac = nac; body = body } in
     let is = sym c.body.ensures ∙ c.in-Voice.is in
-    c.voice_unit_fixes.ensures.value
-    ∙ body_fixes-is c.args.unit.now (Voice c.in-Voice.voice) c.nac-nac.result _ c.args.at c.args.bits.now is c.nac-nac.ensures.value (frame_length_of-voice c.args.unit.now c.in-Voice.voice is)
+    c.voice_fixes.ensures.value
+    ∙ ap (voice_fixes_of c.in-Voice.voice c.args.bare.now) (c.requires.image ∙ ap (λ body. unit_image_of (make body)) is)
+    ∙ sym (ap (λ body. body_fixes_of (make body) c.args.bare.now) is ∙ body_fixes_of-voice nac c.in-Voice.voice c.args.bare.now)
 
 pub returns-in-Packet-clause-value : goal.returns-in-Packet-clause-value
+unfolding unit_image_of
 returns-in-Packet-clause-value c =
+    let nac = c.args.unit.now.nac in
+    let packet = c.in-Packet.packet in
+    let bare = c.args.bare.now in
+    let n = head_blocks (packet_head packet) in
+    let make : Body → UnitParts = λ body. record { nac = nac; body = body } in
     let is = sym c.body.ensures ∙ c.in-Packet.is in
-    c.packet_fixes.ensures.value
-    ∙ body_fixes-is c.args.unit.now (Packet c.in-Packet.packet) c.nac-nac.result _ c.args.at c.args.bits.now is c.nac-nac.ensures.value (frame_length_of-packet c.args.unit.now c.in-Packet.packet is)
-
-pub returns-in-Voice-clause-sendable : goal.returns-in-Voice-clause-sendable
-unfolding IsSendableBody
-returns-in-Voice-clause-sendable c = record {
-  nac_fits = omega (arith, c.nac-nac.ensures.fits, c.nac-nac.ensures.value);
-  body = subst IsSendableBody (sym (sym c.body.ensures ∙ c.in-Voice.is)) c.voice_unit_fixes.ensures.sendable;
-}
-
-pub returns-in-Packet-clause-sendable : goal.returns-in-Packet-clause-sendable
-unfolding IsSendableBody
-returns-in-Packet-clause-sendable c = record {
-  nac_fits = omega (arith, c.nac-nac.ensures.fits, c.nac-nac.ensures.value);
-  body = subst IsSendableBody (sym (sym c.body.ensures ∙ c.in-Packet.is)) c.packet_fixes.ensures.sendable;
-}
+    let blocks = c.from.ensures ∙ c.blocks-in-Packet.ensures.value ∙ ap head_blocks c.head.ensures in
+    c.part_distance.ensures.value
+    ∙ ap (λ k. distance_of (part 112 (196 * (1 + k)) bare) (part 112 (196 * (1 + k)) c.args.image.now)) blocks
+    ∙ ap (λ xs. distance_of (part 112 (196 * (1 + n)) bare) (part 112 (196 * (1 + n)) xs)) (c.requires.image ∙ ap (λ body. unit_image_of (make body)) is)
+    ∙ sym (ap (λ body. body_fixes_of (make body) bare) is ∙ body_fixes_of-packet nac packet bare)

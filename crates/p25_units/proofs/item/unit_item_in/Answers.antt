@@ -10,12 +10,8 @@ identify-requires-clause-there c =
     let is = IsUnitAt-from c.args.bits.now c.args.at c.args.count c.requires.there c.requires.needed in
     omega (arith, is.there, is.enough)
 
-pub set_packet_item-requires-clause-kind : goal.set_packet_item-requires-clause-kind
-set_packet_item-requires-clause-kind c =
-    kind-is c.args.bits.now c.args.at c.args.count (IsUnitAt-from c.args.bits.now c.args.at c.args.count c.requires.there c.requires.needed) c.in-Some.nid c.in-Some.ensures.value
-
-pub set_voice_item-requires-clause-kind : goal.set_voice_item-requires-clause-kind
-set_voice_item-requires-clause-kind c =
+pub set_item-requires-clause-kind : goal.set_item-requires-clause-kind
+set_item-requires-clause-kind c =
     kind-is c.args.bits.now c.args.at c.args.count (IsUnitAt-from c.args.bits.now c.args.at c.args.count c.requires.there c.requires.needed) c.in-Some.nid c.in-Some.ensures.value
 
 pub returns-in-None-clause-item : goal.returns-in-None-clause-item
@@ -23,20 +19,11 @@ returns-in-None-clause-item c =
     let is = IsUnitAt-from c.args.bits.now c.args.at c.args.count c.requires.there c.requires.needed in
     absurd (some_nid c.args.bits.now c.args.at c.args.count is c.in-None.ensures.value)
 
-pub returns-then-nid-eq-PDU-clause-item : goal.returns-then-nid-eq-PDU-clause-item
-returns-then-nid-eq-PDU-clause-item c =
+pub returns-in-Some-clause-item : goal.returns-in-Some-clause-item
+returns-in-Some-clause-item c =
     let is = IsUnitAt-from c.args.bits.now c.args.at c.args.count c.requires.there c.requires.needed in
-    item-is c.args.bits.now c.args.at c.args.count c.args.place is c.in-Some.nid c.in-Some.ensures.value c.set_packet_item.new.item c.set_packet_item.ensures
+    item-is c.args.bits.now c.args.at c.args.count c.args.place is c.in-Some.nid c.in-Some.ensures.value c.set_item.new.item c.set_item.ensures
 
-pub returns-else-nid-eq-PDU-clause-item : goal.returns-else-nid-eq-PDU-clause-item
-returns-else-nid-eq-PDU-clause-item c =
-    let is = IsUnitAt-from c.args.bits.now c.args.at c.args.count c.requires.there c.requires.needed in
-    item-is c.args.bits.now c.args.at c.args.count c.args.place is c.in-Some.nid c.in-Some.ensures.value c.set_voice_item.new.item c.set_voice_item.ensures
-
-pub returns-then-nid-eq-PDU-clause-sound : goal.returns-then-nid-eq-PDU-clause-sound
-returns-then-nid-eq-PDU-clause-sound c =
-    subst (λ (item : Item). IsSoundItem item) (sym (returns-then-nid-eq-PDU-clause-item c)) (IsSoundItem-unit_item_of c.args.place (drop c.args.at c.args.bits.now) c.args.count c.requires.needed)
-
-pub returns-else-nid-eq-PDU-clause-sound : goal.returns-else-nid-eq-PDU-clause-sound
-returns-else-nid-eq-PDU-clause-sound c =
-    subst (λ (item : Item). IsSoundItem item) (sym (returns-else-nid-eq-PDU-clause-item c)) (IsSoundItem-unit_item_of c.args.place (drop c.args.at c.args.bits.now) c.args.count c.requires.needed)
+pub returns-in-Some-clause-sound : goal.returns-in-Some-clause-sound
+returns-in-Some-clause-sound c =
+    subst (λ (item : Item). IsSoundItem item) (sym (returns-in-Some-clause-item c)) (IsSoundItem-unit_item_of c.args.place (drop c.args.at c.args.bits.now) c.args.count c.requires.needed)

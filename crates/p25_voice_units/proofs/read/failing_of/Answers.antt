@@ -6,8 +6,8 @@ use Rattle.p25_voice_units.proofs.read.failing_of.Goals as goal
 
 pub returns : goal.returns
 unfolding failing
-returns g c =
+returns c =
     let behind : List Field → List Field → List Field = λ more fields. fields ++ more in
     c.note-3.ensures.list
-    ∙ ap (behind (missing LowSpeed2 c.args.second.now))
-    (c.note-2.ensures.list ∙ ap (behind (missing LowSpeed1 c.args.first.now)) (c.note.ensures.list ∙ ap (behind (missing c.args.field c.args.word.now)) c.new-fields.ensures))
+    ∙ ap (behind (missing LowSpeed2 c.args.second))
+    (c.note-2.ensures.list ∙ ap (behind (missing LowSpeed1 c.args.first)) (c.note.ensures.list ∙ ap (behind (missing c.args.field c.args.word)) c.new-fields.ensures))

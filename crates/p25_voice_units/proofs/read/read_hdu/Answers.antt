@@ -1,18 +1,34 @@
-use Rattle.std.proofs.Common.{Err, sym, ap, ◌∙◌, arith}
-use Rattle.p25_voice_units.specs.Readings.{header_from}
+use Rattle.std.proofs.Common.{Some, option_map, length, refl, ap, sym, ◌∙◌}
+use Rattle.p25_coded_fields.specs.Fixes.{field_fixes_of}
+use Rattle.p25_coded_fields.specs.Layouts.{field_reading_of, places_from}
+use Rattle.p25_coded_fields.proofs.CodesLaws.{all_end}
+use Rattle.p25_link.specs.Words.{header_of_symbols}
+use Rattle.p25_reed_solomon.specs.Encoding.{rs_word}
+use Rattle.p25_status.specs.Outcomes.{read_or}
+use Rattle.p25_voice_units.specs.FieldLayouts.{word_places, header_layout}
+use Rattle.p25_voice_units.specs.Images.{golay18_word}
+use Rattle.p25_voice_units.specs.Layouts.{hdu_rows}
+use Rattle.p25_voice_units.specs.Readings.{header_in, header_from}
+use Rattle.p25_voice_units.proofs.CodesLaws.{golay18_encodes}
 use Rattle.p25_voice_units.proofs.CountedLaws.{header_fixes}
-use Rattle.p25_voice_units.proofs.ReadLaws.{some_at}
+use Rattle.p25_voice_units.proofs.ReadLaws.{part_counted}
 use Rattle.p25_voice_units.proofs.read.read_hdu.Goals as goal
 
-pub returns-in-Some-clause-value : goal.returns-in-Some-clause-value
-unfolding header_from
-returns-in-Some-clause-value c = ap header_from (sym c.in-Some.is ∙ c.read_header_word.ensures.value)
+pub read_symbols-requires-clause-there : goal.read_symbols-requires-clause-there
+unfolding word_places places_from
+read_symbols-requires-clause-there c = all_end 18 770 (length c.args.bare.now) (word_places 18 hdu_rows) refl c.requires
 
-pub returns-in-Some-clause-fixes : goal.returns-in-Some-clause-fixes
-returns-in-Some-clause-fixes c =
-    let counted = some_at _ c.read_header_word.result c.in-Some.word c.read_header_word.ensures.fixes c.in-Some.is in
-    header_fixes c.in-Some.word c.args.bare.now c.read_header_word.new.fixes (omega (arith, counted, c.requires.none))
+pub returns-in-Some-clause-value : goal.returns-in-Some-clause-value
+unfolding header_in header_from word_places places_from
+returns-in-Some-clause-value c =
+    ap header_from (part_counted header_of_symbols (Some c.in-Some.wrong) (field_reading_of header_layout c.args.bare.now) c.read_symbols.new.symbols c.from_symbols.result c.in-Some.ensures.value c.from_symbols.ensures.value)
+
+pub returns-in-Some-clause-wrong : goal.returns-in-Some-clause-wrong
+unfolding word_places places_from
+returns-in-Some-clause-wrong c =
+    header_fixes c.from_symbols.result c.args.bare.now c.in-Some.wrong
+    (c.in-Some.ensures.wrong golay18_word golay18_encodes ∙ ap (λ symbols. field_fixes_of golay18_word 18 1 (word_places 18 hdu_rows) (rs_word 36 20 symbols) c.args.bare.now) (sym c.from_symbols.ensures.back))
 
 pub returns-in-None-clause-value : goal.returns-in-None-clause-value
-unfolding header_from
-returns-in-None-clause-value c = ap Err c.one.ensures ∙ ap header_from (sym c.in-None.is ∙ c.read_header_word.ensures.value)
+unfolding header_in header_from word_places places_from
+returns-in-None-clause-value c = ap (λ outcome. read_or outcome c.args.unit.now) c.failing.ensures ∙ ap header_from (ap (option_map header_of_symbols) c.in-None.ensures.value)

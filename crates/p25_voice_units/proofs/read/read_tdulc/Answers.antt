@@ -1,18 +1,29 @@
-use Rattle.std.proofs.Common.{Err, sym, ap, ◌∙◌, arith}
-use Rattle.p25_voice_units.specs.Readings.{tdulc_from}
+use Rattle.std.proofs.Common.{Some, option_map, ap, sym, ◌∙◌}
+use Rattle.p25_coded_fields.specs.Fixes.{field_fixes_of}
+use Rattle.p25_coded_fields.specs.Layouts.{field_reading_of, places_from}
+use Rattle.p25_link.specs.Words.{link_of_symbols}
+use Rattle.p25_reed_solomon.specs.Encoding.{rs_word}
+use Rattle.p25_status.specs.Outcomes.{read_or}
+use Rattle.p25_voice_units.specs.FieldLayouts.{word_places, tdulc_layout}
+use Rattle.p25_voice_units.specs.Images.{golay24_word}
+use Rattle.p25_voice_units.specs.Layouts.{tdulc_rows}
+use Rattle.p25_voice_units.specs.Readings.{link_in, tdulc_from}
+use Rattle.p25_voice_units.proofs.CodesLaws.{golay24_encodes}
 use Rattle.p25_voice_units.proofs.CountedLaws.{tdulc_fixes}
-use Rattle.p25_voice_units.proofs.ReadLaws.{some_at}
+use Rattle.p25_voice_units.proofs.ReadLaws.{part_counted}
 use Rattle.p25_voice_units.proofs.read.read_tdulc.Goals as goal
 
 pub returns-in-Some-clause-value : goal.returns-in-Some-clause-value
-unfolding tdulc_from
-returns-in-Some-clause-value c = ap tdulc_from (sym c.in-Some.is ∙ c.read_tdulc_link_control.ensures.value)
+unfolding link_in tdulc_from word_places places_from
+returns-in-Some-clause-value c =
+    ap tdulc_from (part_counted link_of_symbols (Some c.in-Some.wrong) (field_reading_of tdulc_layout c.args.bare.now) c.read_symbols.new.symbols c.from_symbols.result c.in-Some.ensures.value c.from_symbols.ensures.value)
 
-pub returns-in-Some-clause-fixes : goal.returns-in-Some-clause-fixes
-returns-in-Some-clause-fixes c =
-    let counted = some_at _ c.read_tdulc_link_control.result c.in-Some.link c.read_tdulc_link_control.ensures.fixes c.in-Some.is in
-    tdulc_fixes c.in-Some.link c.args.bare.now c.read_tdulc_link_control.new.fixes (omega (arith, counted, c.requires.none))
+pub returns-in-Some-clause-wrong : goal.returns-in-Some-clause-wrong
+unfolding word_places places_from
+returns-in-Some-clause-wrong c =
+    tdulc_fixes c.from_symbols.result c.args.bare.now c.in-Some.wrong
+    (c.in-Some.ensures.wrong golay24_word golay24_encodes ∙ ap (λ symbols. field_fixes_of golay24_word 24 2 (word_places 24 tdulc_rows) (rs_word 24 12 symbols) c.args.bare.now) (sym c.from_symbols.ensures.back))
 
 pub returns-in-None-clause-value : goal.returns-in-None-clause-value
-unfolding tdulc_from
-returns-in-None-clause-value c = ap Err c.one.ensures ∙ ap tdulc_from (sym c.in-None.is ∙ c.read_tdulc_link_control.ensures.value)
+unfolding link_in tdulc_from word_places places_from
+returns-in-None-clause-value c = ap (λ outcome. read_or outcome c.args.unit.now) c.failing.ensures ∙ ap tdulc_from (ap (option_map link_of_symbols) c.in-None.ensures.value)

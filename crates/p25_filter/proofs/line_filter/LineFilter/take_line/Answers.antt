@@ -1,11 +1,11 @@
-use Rattle.std.proofs.Common.{refl}
+use Rattle.std.proofs.Common.{refl, sym, ◌∙◌}
 use Rattle.p25_filter.proofs.LineFiltersLaws.{text-taken}
 use Rattle.p25_filter.proofs.line_filter.LineFilter.take_line.Goals as goal
 
-pub returns-in-Ok : goal.returns-in-Ok
-returns-in-Ok g c =
+pub returns-in-Ok-take : goal.returns-in-Ok-take
+returns-in-Ok-take g c =
     let s = c.self.inside in (
       refl,
-      text-taken g.M.LineMachine.rules c.args.self.now s.machine c.take.new.self _ s.line.items _ s.lines s.behind c.take.new.out c.take.new.behind s.phase c.args.phase
-          c.self.view_is c.as_slice.ensures.value c.clear.ensures c.in-Ok.ensures.taken,
+      text-taken g.M.LineMachine.rules c.args.self.now s.machine c.take.new.self _ s.line.items _ s.lines s.behind c.in-Ok-take.second c.take.new.out s.phase c.args.phase
+          c.in-Ok.event c.self.view_is c.as_slice.ensures.value c.clear.ensures (sym c.read.ensures.read ∙ c.in-Ok.is) c.in-Ok-take.ensures.taken,
     )

@@ -1,4 +1,4 @@
-use Rattle.std.proofs.Common.{◌≡◌, true, [], Ok, ap, sym, subst, ◌∙◌}
+use Rattle.std.proofs.Common.{◌≡◌, true, None, Ok, ap, sym, subst, ◌∙◌}
 use Rattle.p25_filter.specs.declared.line_filter.LinePhase.TheVariants.{Closed}
 use Rattle.p25_filter.specs.Futures.{NextPiece}
 use Rattle.p25_filter.specs.LineFilters.{LineFiltering, line_future, pieces_of}
@@ -6,13 +6,13 @@ use Rattle.p25_filter.proofs.LineFiltersLaws.{step-behind, step-close, step-idle
 use Rattle.p25_filter.proofs.line_filter.LineFilterFilter.next.Goals as goal
 
 -- with no second piece the work is as it was
-unchanged : {M : Type 0} (was before : LineFiltering M) (P : LineFiltering M → Type 0) → (was.behind ≡ []) × (before ≡ was) → (before.behind ≡ [] → P before) → P was
+unchanged : {M : Type 0} (was before : LineFiltering M) (P : LineFiltering M → Type 0) → (was.behind ≡ None) × (before ≡ was) → (before.behind ≡ None → P before) → P was
 unchanged was before P (none, same) holds = subst P same (holds (ap (λ w. w.behind) same ∙ none))
 
 pub returns-then-give_behind-clause-piece : goal.returns-then-give_behind-clause-piece
 returns-then-give_behind-clause-piece g c =
     let given = c.give_behind.ensures.given c.if-give_behind.true in
-    step-behind g.M.LineMachine.rules c.args.self.now c.give_behind.new.self c.give_behind.new.out given.0 given.2
+    step-behind g.M.LineMachine.rules c.args.self.now c.give_behind.new.self c.give_behind.new.out given.0 given.1
 
 pub returns-in-Reading-clause-piece : goal.returns-in-Reading-clause-piece
 returns-in-Reading-clause-piece g c = step-none g.M.LineMachine.rules _ _ _ (c.give_behind.ensures.none c.if-give_behind.false).1
@@ -40,8 +40,8 @@ returns-in-Ready-clause-piece g c =
     let before = c.give_behind.new.self in
     unchanged c.args.self.now before (λ w. NextPiece (line_future rules w) c.take_line.result c.take_line.new.out (line_future rules c.take_line.new.self))
     (c.give_behind.ensures.none c.if-give_behind.false)
-    (λ none. step-line rules before c.take_line.new.self c.take_line.result c.take_line.new.out
-    (ap (λ (w : LineFiltering g.row.M.Denot). w.phase) (sym c.self.view_is) ∙ c.in-Ready.is) none c.take_line.ensures)
+    (λ none. step-line rules before c.take_line.new.self c.take_line.result c.take_line.new.out none
+    (ap (λ (w : LineFiltering g.row.M.Denot). w.phase) (sym c.self.view_is) ∙ c.in-Ready.is) c.take_line.ensures)
 
 pub returns-in-ReadyLast-clause-piece : goal.returns-in-ReadyLast-clause-piece
 returns-in-ReadyLast-clause-piece g c =
@@ -50,8 +50,8 @@ returns-in-ReadyLast-clause-piece g c =
     let taken = c.take_line-in-ReadyLast in
     unchanged c.args.self.now before (λ w. NextPiece (line_future rules w) taken.result taken.new.out (line_future rules taken.new.self))
     (c.give_behind.ensures.none c.if-give_behind.false)
-    (λ none. step-last rules before taken.new.self taken.result taken.new.out
-    (ap (λ (w : LineFiltering g.row.M.Denot). w.phase) (sym c.self.view_is) ∙ c.in-ReadyLast.is) none taken.ensures)
+    (λ none. step-last rules before taken.new.self taken.result taken.new.out none
+    (ap (λ (w : LineFiltering g.row.M.Denot). w.phase) (sym c.self.view_is) ∙ c.in-ReadyLast.is) taken.ensures)
 
 pub returns-in-Closing-clause-piece : goal.returns-in-Closing-clause-piece
 returns-in-Closing-clause-piece g c =

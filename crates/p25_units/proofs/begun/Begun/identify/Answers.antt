@@ -7,4 +7,4 @@ returns-in-Some-clause-value c = begun-known c.args.self.now (drop c.args.at c.a
 
 pub returns-in-None-clause-begun : goal.returns-in-None-clause-begun
 returns-in-None-clause-begun c =
-    IsBegun-read c.args.self.now _ (drop c.args.at c.args.bits.now) c.requires.begun refl refl (omega (arith, length-drop c.args.at c.args.bits.now)) c.read_identifier-read.ensures
+    IsBegun-read c.args.self.now _ (drop c.args.at c.args.bits.now) c.requires.begun refl (omega (arith, length-drop c.args.at c.args.bits.now)) c.read_identifier-read.ensures

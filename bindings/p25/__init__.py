@@ -1,0 +1,93 @@
+"""Project 25 radio traffic (Phase 1, TIA-102.BAAA) in Python: recordings item by item, units built, repaired and bridged, and words.
+
+    for item in p25.items(open("call.bin", "rb").read()):
+        print(item.place, item.kind, item.value("nac"), item.text)
+
+    python3 -m p25 FILE        prints what `p25 show < FILE` prints; of standard input, where there is no FILE
+
+The work is done by the shared library libp25.so, each call of which is proved to meet its contract; this package, which calls it by
+ctypes, is not proved. Recordings are octets, each octet's most significant bit first, and places count bits from the first one.
+
+Where octets are asked for, bytes, a bytearray, a memoryview, an array of octets (as of mmap or numpy, dtype uint8), or a list of numbers
+below 256 will do. A number, a text, and an array of wider items raise TypeError. A call that gives no answer raises `Error`, a
+ValueError, whose `cause` says why.
+
+Threads: a call takes about a millionth of a second and keeps the interpreter's lock, so threads make nothing quicker; processes do.
+"""
+
+from ._library import Cause, Error, version
+from ._recording import (
+    FAULTS,
+    KINDS,
+    TEXT_ROOM,
+    UNIT_ROOM,
+    Duid,
+    Item,
+    Kind,
+    Stream,
+    bridge,
+    bridge_unit,
+    build,
+    items,
+    main,
+    repair,
+    repair_unit,
+)
+from ._words import (
+    GOLAY_18,
+    GOLAY_24,
+    HALF_RATE,
+    HAMMING_10,
+    LSD_16,
+    RS_24_12,
+    RS_24_16,
+    RS_36_20,
+    THREE_QUARTER_RATE,
+    BlockCode,
+    NumberCode,
+    SymbolCode,
+    crc9,
+    crc16,
+    crc32,
+    read_nid,
+    write_nid,
+)
+
+__version__ = "{}.{}.{}".format(*version())
+__all__ = [
+    "FAULTS",
+    "GOLAY_18",
+    "GOLAY_24",
+    "HALF_RATE",
+    "HAMMING_10",
+    "KINDS",
+    "LSD_16",
+    "RS_24_12",
+    "RS_24_16",
+    "RS_36_20",
+    "TEXT_ROOM",
+    "THREE_QUARTER_RATE",
+    "UNIT_ROOM",
+    "BlockCode",
+    "Cause",
+    "Duid",
+    "Error",
+    "Item",
+    "Kind",
+    "NumberCode",
+    "Stream",
+    "SymbolCode",
+    "bridge",
+    "bridge_unit",
+    "build",
+    "crc9",
+    "crc16",
+    "crc32",
+    "items",
+    "main",
+    "read_nid",
+    "repair",
+    "repair_unit",
+    "version",
+    "write_nid",
+]

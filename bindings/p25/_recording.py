@@ -1,0 +1,351 @@
+"""Recordings item by item, and units built, repaired and bridged."""
+
+import ctypes
+import enum
+import sys
+from types import TracebackType
+from typing import TYPE_CHECKING, Any, AsyncIterator, BinaryIO, Iterator, Optional, Tuple, Type, Union
+
+from ._library import CAUSES, I32, READ, SIZE, U8, U16, U32, U64, WRITE, Cause, Error, View, call, number_of, octets_of
+
+if TYPE_CHECKING:
+    from ._library import Octets
+
+KINDS = ("", "unit", "broken", "nounit", "gap", "cut")
+FAULTS = {number: cause.value for number, cause in CAUSES.items() if number <= -11}
+TEXT_ROOM = 8192
+UNIT_ROOM = 3240
+
+
+class Kind(enum.IntEnum):
+    """What an item is."""
+
+    UNIT = 1
+    """A whole unit."""
+    BROKEN = 2
+    """A unit of which some fields fail."""
+    NOUNIT = 3
+    """A sync after which no unit is read; one bit."""
+    GAP = 4
+    """Bits with which no sync begins, at most 4,096."""
+    CUT = 5
+    """A sync with too few bits after it, at the end."""
+
+
+class Duid(enum.IntEnum):
+    """The data unit identifiers (DUID) that are read."""
+
+    HDU = 0
+    """A header."""
+    TDU = 3
+    """A terminator."""
+    LDU1 = 5
+    """Voice with link control (LC)."""
+    LDU2 = 10
+    """Voice with encryption sync (ES)."""
+    PDU = 12
+    """A packet of data."""
+    TDULC = 15
+    """A terminator with link control (LC)."""
+
+
+_KIND = (None, Kind.UNIT, Kind.BROKEN, Kind.NOUNIT, Kind.GAP, Kind.CUT)
+_DUID = tuple(Duid(it) if it in set(Duid) else it for it in range(16))
+
+
+class _Parts(ctypes.Structure):
+    # p25_item of p25.h
+    _fields_ = (
+        ("place", U64),
+        ("bits", U32),
+        ("fixes", U32),
+        ("text_length", U32),
+        ("nac", U16),
+        ("duid", U8),
+        ("kind", U8),
+    )
+
+
+_next_item = call("p25_next_item", I32, WRITE, SIZE, U64, U64, ctypes.c_bool, ctypes.POINTER(_Parts), WRITE, SIZE)
+_build = call("p25_build", I32, READ, SIZE, U8, WRITE, SIZE)
+_repair = call("p25_repair", I32, READ, SIZE, WRITE, SIZE)
+_bridge = call("p25_bridge", I32, READ, SIZE, U16, U8, WRITE, SIZE)
+
+
+class Item:
+    """A stretch of a recording: a whole unit, or what else stands there. Items lie end to end and cover every bit.
+
+    As a tuple it is (kind, place, bits, fixes, nac, duid, text).
+    """
+
+    __slots__ = ("_octets", "_text", "bits", "duid", "fixes", "kind_id", "nac", "place")
+
+    kind_id: Kind
+    """What it is, as a number with a name."""
+    place: int
+    """The bit of the recording at which it begins."""
+    bits: int
+    """How many bits it covers, at least 1."""
+    fixes: int
+    """Of a unit how many of the bits that are looked at were wrong; else 0."""
+    nac: Optional[int]
+    """Of a unit or a broken one the network access code (NAC), 0 to 4095; else None."""
+    duid: Optional[int]
+    """Of a unit or a broken one the data unit identifier (DUID), 0 to 15, a Duid where it is one that is read; else None."""
+    _octets: bytes
+    _text: Optional[str]
+
+    @property
+    def kind(self) -> str:
+        """What it is, the first word of its text: unit, broken, nounit, gap or cut."""
+        return KINDS[self.kind_id]
+
+    @property
+    def text(self) -> str:
+        """The line of `p25 show`, without its end. It is made when it is asked for first."""
+        if self._text is None:
+            self._text = _text_of(self._octets, self.place)
+        return self._text
+
+    @property
+    def octets(self) -> bytes:
+        """Its bits as octets, the first bit highest, with zeros after the last where they fill no octet; what `repair_unit` and
+        `bridge_unit` take."""
+        return _cut(self._octets, self.place % 8, self.bits)
+
+    def value(self, key: str) -> Optional[str]:
+        """Answers the text of the value that stands in the line after KEY=, as item.value("lc"), or None."""
+        for word in self.text.split(" "):
+            if word.startswith(f"{key}="):
+                return word[len(key) + 1 :]
+        return None
+
+    def _tuple(self) -> Tuple[str, int, int, int, Optional[int], Optional[int], str]:
+        return self.kind, self.place, self.bits, self.fixes, self.nac, self.duid, self.text
+
+    def __iter__(self) -> Iterator[Any]:
+        return iter(self._tuple())
+
+    def __len__(self) -> int:
+        return 7
+
+    def __getitem__(self, i: Any) -> Any:
+        return self._tuple()[i]
+
+    def __eq__(self, other: object) -> bool:
+        if not isinstance(other, (Item, tuple)):
+            return NotImplemented
+        return self._tuple() == (other._tuple() if isinstance(other, Item) else other)
+
+    def __hash__(self) -> int:
+        return hash(self._tuple())
+
+    def __repr__(self) -> str:
+        return "Item(kind={!r}, place={}, bits={}, fixes={}, nac={}, duid={}, text={!r})".format(*self._tuple())
+
+
+def _text_of(octets: bytes, place: int) -> str:
+    """Answers the text of the item at a place, by the octets that hold its bits and those that decide it."""
+    parts, text = _Parts(), ctypes.create_string_buffer(TEXT_ROOM)
+    address = ctypes.cast(ctypes.c_char_p(octets), ctypes.c_void_p)
+    _next_item(address, len(octets), place - place % 8, place, True, ctypes.byref(parts), text, TEXT_ROOM)
+    return ctypes.string_at(text, parts.text_length).decode("ascii")
+
+
+class _Reader:
+    """Tells items of octets at an address, one call of the library each, and makes them values."""
+
+    def __init__(self) -> None:
+        self._parts, self._text = _Parts(), ctypes.create_string_buffer(TEXT_ROOM)
+        self._item = ctypes.byref(self._parts)
+
+    def next(self, address: Optional[int], length: int, begin: int, place: int, ended: bool) -> Optional[Item]:
+        """Answers the item at a place of the octets at an address, the first of which stands at `begin`, or None where none is decided."""
+        parts = self._parts
+        answer = _next_item(address, length, begin, place, ended, self._item, self._text, TEXT_ROOM)
+        if answer != 1:
+            if answer < 0:
+                raise ValueError("outside")
+            return None
+        item = Item.__new__(Item)
+        kind = parts.kind
+        item.kind_id, item.place, item.bits, item.fixes = _KIND[kind], parts.place, parts.bits, parts.fixes  # type: ignore[assignment]
+        first = (place - begin) // 8
+        last = (place + item.bits - begin + 7) // 8
+        item._octets = ctypes.string_at((address or 0) + first, last - first)
+        if kind < 3:
+            item.nac, item.duid, item._text = parts.nac, _DUID[parts.duid], None
+        else:
+            # Further octets decide these, so the text is taken while they are there. It is short.
+            item.nac = item.duid = None
+            item._text = ctypes.string_at(self._text, parts.text_length).decode("ascii")
+        return item
+
+
+class Stream:
+    """A recording that comes piece by piece.
+
+    `feed` takes the next octets, and `finish` says that none follow. Each yields the items that are decided then, as the library
+    decides them: a unit as soon as its last bit is there. Items that a caller does not take come with the next call. What no item needs any
+    more is not kept. In a `with`, the end of the block finishes it.
+
+    One stream is for one thread at a time; streams of their own in several threads do not meet.
+    """
+
+    def __init__(self) -> None:
+        self._held, self._begin, self._from, self._ended = bytearray(), 0, 0, False
+        self._reader = _Reader()
+
+    def feed(self, octets: "Octets") -> Iterator[Item]:
+        """Takes octets, of any number, and answers an iterator over the items that are decided. Error(finished) after `finish`."""
+        if self._ended:
+            raise Error(Cause.FINISHED)
+        past = (self._from - self._begin) // 8
+        del self._held[:past]
+        self._begin += 8 * past
+        self._held += octets if isinstance(octets, (bytes, bytearray)) else octets_of(octets)
+        return self._items()
+
+    def finish(self) -> Iterator[Item]:
+        """Answers an iterator over all items that are left, the last of which ends where the recording does."""
+        self._ended = True
+        return self._items()
+
+    def _items(self) -> Iterator[Item]:
+        reader, one = self._reader.next, ctypes.c_char
+        while True:
+            held = self._held
+            # Between two items the octets may move, so their address is asked for anew.
+            address = ctypes.addressof(one.from_buffer(held)) if held else None
+            item = reader(address, len(held), self._begin, self._from, self._ended) if held else None
+            if item is None:
+                return
+            self._from = item.place + item.bits
+            yield item
+
+    def read(self, file: BinaryIO, size: int = 65536) -> Iterator[Item]:
+        """Yields the items of an open file of octets as they are decided, up to its end, and finishes the stream."""
+        for piece in iter(lambda: file.read(size), b""):
+            yield from self.feed(piece)
+        yield from self.finish()
+
+    async def aread(self, reader: Any, size: int = 65536) -> AsyncIterator[Item]:
+        """Yields the items of what comes from a reader with an asynchronous `read(size)`, as asyncio.StreamReader, up to its end, and
+        finishes the stream."""
+        while True:
+            piece = await reader.read(size)
+            if not piece:
+                break
+            for item in self.feed(piece):
+                yield item
+        for item in self.finish():
+            yield item
+
+    def __enter__(self) -> "Stream":
+        return self
+
+    def __exit__(self, kind: Optional[Type[BaseException]], error: Optional[BaseException], trace: Optional[TracebackType]) -> None:
+        self._ended = True
+
+    def __repr__(self) -> str:
+        return f"<p25.Stream at bit {self._from}, {len(self._held)} octets held{', finished' if self._ended else ''}>"
+
+
+def items(octets: "Octets") -> Iterator[Item]:
+    """Yields the items of a whole recording, from the first bit to the last. A buffer, as of mmap or numpy, is not copied."""
+    view, reader, place = View(octets), _Reader(), 0
+    while True:
+        item = reader.next(view.address, view.length, 0, place, True) if view.length else None
+        if item is None:
+            return
+        place = item.place + item.bits
+        yield item
+
+
+def _unit(function: Any, *arguments: Any) -> bytes:
+    """Answers the octets of the unit that a call of the library writes."""
+    unit = ctypes.create_string_buffer(UNIT_ROOM)
+    answer = function(*arguments, unit, UNIT_ROOM)
+    if answer < 0:
+        raise Error(CAUSES[answer])
+    return unit.raw[:answer]
+
+
+def build(line: "Union[str, Octets]", status: int = 0) -> bytes:
+    """Answers the octets of the unit of a line, as `p25 build STATUS` reads it, a str or octets without an end of the line.
+
+    The status symbol, 0 to 3, stands everywhere in it. Error has the cause, as `p25 build` prints it: long, form, kind, key or value; or
+    status, where the status symbol is none.
+    """
+    octets = line.encode("utf-8", "surrogateescape") if isinstance(line, str) else octets_of(line)
+    return _unit(_build, octets, len(octets), number_of(status, 3, Cause.STATUS))
+
+
+def repair_unit(octets: "Octets") -> bytes:
+    """Answers the unit with which the octets begin as it was sent. Error(unit) where they begin with no whole unit."""
+    given = octets_of(octets)
+    return _unit(_repair, given, len(given))
+
+
+def bridge_unit(octets: "Octets", nac: int, status: int) -> bytes:
+    """Answers the unit with which the octets begin, under a network access code (NAC), 0 to 4095, and with a status symbol, 0 to 3,
+    everywhere.
+
+    Error has the cause nac, status, or unit where they begin with no whole unit.
+    """
+    given, nac, status = octets_of(octets), number_of(nac, 4095, Cause.NAC), number_of(status, 3, Cause.STATUS)
+    return _unit(_bridge, given, len(given), nac, status)
+
+
+def _cut(octets: bytes, place: int, bits: int) -> bytes:
+    """Answers the bits from a place on as octets, with zeros after them where they fill no octet."""
+    first, last = place // 8, (place + bits + 7) // 8
+    number = int.from_bytes(octets[first:last], "big") >> (8 * last - place - bits) & ((1 << bits) - 1)
+    return (number << -bits % 8).to_bytes((bits + 7) // 8, "big")
+
+
+def _put(octets: bytearray, place: int, unit: bytes, bits: int) -> None:
+    """Puts so many bits of a unit into octets at a place."""
+    first, last = place // 8, (place + bits + 7) // 8
+    after = 8 * last - place - bits
+    mask = ((1 << bits) - 1) << after
+    number = int.from_bytes(octets[first:last], "big") & ~mask | int.from_bytes(unit, "big") >> -bits % 8 << after
+    octets[first:last] = number.to_bytes(last - first, "big")
+
+
+def repair(octets: "Octets") -> bytes:
+    """Answers the recording in which each whole unit is as it was sent, as `p25 repair` writes it. All other bits stay."""
+    given = octets_of(octets)
+    repaired = bytearray(given)
+    for item in items(given):
+        if item.kind_id == Kind.UNIT:
+            _put(repaired, item.place, repair_unit(item.octets), item.bits)
+    return bytes(repaired)
+
+
+def bridge(octets: "Octets", nac: int, status: int) -> bytes:
+    """Answers the whole units of a recording one after the other, under a network access code (NAC), 0 to 4095, and with a status
+    symbol, 0 to 3, everywhere, as `p25 bridge NAC STATUS` writes them. Error has the cause nac or status."""
+    given, nac, status = octets_of(octets), number_of(nac, 4095, Cause.NAC), number_of(status, 3, Cause.STATUS)
+    return b"".join(bridge_unit(it.octets, nac, status) for it in items(given) if it.kind_id == Kind.UNIT)
+
+
+def main(words: "list[str]") -> int:
+    """Prints what `p25 show` prints of a file or of standard input, and answers the status."""
+    if len(words) > 1 or words[:1] in (["-h"], ["--help"]):
+        print("usage: python3 -m p25 [FILE]", file=sys.stderr)
+        return 1
+    try:
+        with open(words[0] if words and words[0] != "-" else 0, "rb", buffering=0) as file:
+            stream = Stream()
+            for piece in iter(lambda: file.read(65536), b""):
+                for item in stream.feed(piece):
+                    print(item.text)
+                sys.stdout.flush()
+            for item in stream.finish():
+                print(item.text)
+            sys.stdout.flush()
+    except OSError as error:
+        print(f"p25: {error}", file=sys.stderr)
+        return 1
+    return 0

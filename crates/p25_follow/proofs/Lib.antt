@@ -1,0 +1,14 @@
+pub mod KindLaws
+pub mod ToldLaws
+pub mod FrontSteps
+pub mod StepLaws
+pub mod ChainLaws
+pub mod ChainSteps
+pub mod FollowingLaws
+pub mod FollowerSteps
+pub mod LengthLaws
+pub mod TellsLaws
+pub mod FoundLaws
+pub mod UnchangedLaws
+pub mod SameUnitsLaws
+pub mod PlaceLaws

@@ -1,0 +1,202 @@
+-- Wherever in a stretch the scan begins, it comes to the same units after it: at none of the stretch's places does a unit begin, and no gap reaches past a sync. By induction on the
+-- places that are left, and on the items of the stretch.
+use Rattle.std.proofs.Common.{◌≡◌, ℕ, zero, suc, ◌+◌, ◌-◌, ◌*◌, ◌%◌, ◌<◌, ◌≤◌, Bool, true, false, cond, ◌&&◌, inl, inr, ◌⊎◌, List, [], ◌∷◌, ◌++◌, length, take, drop, Option, Some, None, refl, sym, ap, ap₂, subst, ◌∙◌, add_assoc, arith, min, length-drop}
+use Rattle.std.proofs.lemmas.Bool.{cases_Bool, cases_lt, cond-false, cond-true}
+use Rattle.std.proofs.Math.Nat.{add-zero}
+use Rattle.std.proofs.lemmas.List.{drop-drop}
+use Rattle.p25_status.specs.Sync.{has_sync}
+use Rattle.p25_unit_front.proofs.FrontLaws.{identifier_of-take}
+use Rattle.p25_units.specs.Items.{covered, unit_item_of}
+use Rattle.p25_units.specs.Needs.{need_of}
+use Rattle.p25_units.specs.declared.item.Item.{Item}
+use Rattle.p25_units.specs.declared.needs.Need.TheVariants.{Length, More, NoLength}
+use Rattle.p25_units.proofs.NeedsLaws.{IsIdentified-from, need_of-there}
+use Rattle.p25_stream.specs.Items.{first_item, gap_of, items_by, items_of, sync_place}
+use Rattle.p25_stream.proofs.ItemsLaws.{covered-first_item, first_item-cases, first_item-gap, first_item-synced, items_by-first, items_by-more, items_by-nil}
+use Rattle.p25_stream.proofs.SyncPlaceLaws.{has_sync-before, sync_place-le}
+use Rattle.p25_follow.specs.Followed.{is_rest}
+use Rattle.p25_follow.specs.StretchLaws.{all_rest, begins_rest, bits_in, units_among}
+use Rattle.p25_follow.proofs.FoundLaws.{found-unit}
+use Rattle.p25_follow.proofs.StepLaws.{and_left-true, and_right-true}
+
+-- ---- what an item is hangs on its bits alone
+
+-- the item of a unit of a known length is a unit
+pub unit-there : (at count : ℕ) (bits : List Bool) → need_of bits ≡ Length count → is_rest (unit_item_of at (take count bits)) ≡ false
+unit-there at count bits need =
+    let there = need_of-there bits count need in
+    let known = IsIdentified-from bits count need in
+    let enough : 114 ≤ count = omega (arith, there.0, there.2) in
+    (found-unit at known.nid (take count bits) (identifier_of-take count bits enough ∙ known.read)).unit
+
+true-false : (b : Bool) → b ≡ true → b ≡ false → ⊥
+true-false true yes' no' = absurd (cc)
+true-false false yes' no' = absurd (cc)
+
+pub no_sync-rest : (at : ℕ) (bits : List Bool) → has_sync bits ≡ false → is_rest (first_item at bits) ≡ true
+no_sync-rest at bits no' = ap is_rest (first_item-gap at bits no')
+
+-- whether a unit begins is the same wherever the stream begins
+rest-at : (at other : ℕ) (bits : List Bool) → is_rest (first_item at bits) ≡ true → is_rest (first_item other bits) ≡ true
+rest-at at other bits rest =
+    first_item-cases (λ item. is_rest (first_item at bits) ≡ true → is_rest item ≡ true) other bits
+    (λ no' here. refl)
+    (λ count yes' need here.
+    absurd (true-false (is_rest (first_item at bits)) here (ap is_rest (first_item-synced at bits (More count) yes' need))))
+    (λ count yes' need here.
+    absurd (true-false (is_rest (first_item at bits)) here (ap is_rest (first_item-synced at bits (Length count) yes' need) ∙ unit-there at count bits need)))
+    (λ field yes' need here. refl)
+    rest
+
+-- ---- how far a stretch reaches
+
+-- no unit begins at the first places of some bits, so many
+abbrev RestPlaces : ℕ → List Bool → Type 0
+RestPlaces count bits = (place : ℕ) → place < count → is_rest (first_item 0 (drop place bits)) ≡ true
+
+-- and then comes one, or the end
+abbrev Ends : ℕ → List Bool → Type 0
+Ends count bits = (count ≡ length bits) ⊎ (is_rest (first_item 0 (drop count bits)) ≡ false)
+
+synced-end : (count : ℕ) (bits : List Bool) → is_rest (first_item 0 (drop count bits)) ≡ false → sync_place bits ≤ count
+synced-end count bits unit =
+    elim (cases_lt count (sync_place bits)) [
+      | inl before ↦ absurd (true-false (is_rest (first_item 0 (drop count bits))) (no_sync-rest 0 (drop count bits) (has_sync-before bits count before)) unit)
+      | inr behind ↦ behind
+    ]
+
+sync-within : (count : ℕ) (bits : List Bool) → Ends count bits → sync_place bits ≤ count
+sync-within count bits (inl all) = omega (arith, all, sync_place-le bits)
+sync-within count bits (inr unit) = synced-end count bits unit
+
+covers-within : (at count : ℕ) (bits : List Bool) → 0 < count → Ends count bits → is_rest (first_item at bits) ≡ true → covered (first_item at bits) ≤ count
+covers-within at count bits some ends =
+    first_item-cases (λ item. is_rest item ≡ true → covered item ≤ count) at bits
+    (λ no' rest. omega (arith, sync-within count bits ends))
+    (λ n yes' need rest. absurd (cc))
+    (λ n yes' need rest. absurd (true-false (is_rest (unit_item_of at (take n bits))) rest (unit-there at n bits need)))
+    (λ field yes' need rest. omega arith)
+
+-- ---- the units after it
+
+among-rest : (item : Item) (items : List Item) → is_rest item ≡ true → units_among (item ∷ items) ≡ units_among items
+unfolding units_among
+among-rest item items rest = cond-true (is_rest item) (units_among items) (item ∷ units_among items) rest
+
+-- the end is the same, seen from a later place
+ends-later : (count c : ℕ) (bits left : List Bool) (less : ℕ) → less + length bits ≡ count + length left → drop less left ≡ drop count bits → Ends count bits → Ends less left
+ends-later count c bits left less long same (inl all) = inl (omega (arith, all, long))
+ends-later count c bits left less long same (inr unit) = inr (ap (λ (xs : List Bool). is_rest (first_item 0 xs)) same ∙ unit)
+
+same_units-in : (n at count : ℕ) (bits : List Bool) → count ≤ n → count ≤ length bits → RestPlaces count bits → Ends count bits
+    → units_among (items_of at bits) ≡ units_among (items_of (at + count) (drop count bits))
+same_units-in n at zero bits few there rests ends = ap (λ (p : ℕ). units_among (items_of p bits)) (sym (add-zero at))
+same_units-in zero at (suc count) bits few there rests ends = absurd (omega arith)
+same_units-in (suc n) at (suc more) bits few there rests ends =
+    let count = suc more in
+    let some : 0 < length bits = omega arith in
+    let rest : is_rest (first_item at bits) ≡ true = rest-at 0 at bits (rests 0 (omega arith)) in
+    let item = first_item at bits in
+    let c = covered item in
+    let fits = covered-first_item at bits some in
+    let within : c ≤ count = covers-within at count bits (omega arith) ends rest in
+    let left = drop c bits in
+    let less = count - c in
+    let place : at + c + less ≡ at + count = omega arith in
+    let moved : (p : ℕ) → drop p left ≡ drop (c + p) bits = λ p. drop-drop p c bits in
+    let to_end : drop less left ≡ drop count bits = moved less ∙ ap (λ (k : ℕ). drop k bits) (let same : c + less ≡ count = omega arith in same) in
+    ap units_among (items_by-more true at bits some refl)
+    ∙ among-rest item (items_of (at + c) left) rest
+    ∙ same_units-in n (at + c) less left (omega (arith, fits.0)) (omega (arith, length-drop c bits))
+    (λ p before. ap (λ (xs : List Bool). is_rest (first_item 0 xs)) (moved p) ∙ rests (c + p) (omega arith))
+    (ends-later count c bits left less (omega (arith, length-drop c bits)) to_end ends)
+    ∙ ap₂ (λ (p : ℕ) (xs : List Bool). units_among (items_of p xs)) place to_end
+
+-- ---- from the items of a stretch
+
+pub record IsStretch (at : ℕ) (bits : List Bool) (count : ℕ) (after : List Item) : Type 0 where
+  pub there : count ≤ length bits
+  pub rests : RestPlaces count bits
+  pub left : items_of (at + count) (drop count bits) ≡ after
+
+-- no unit begins at any place of an item that is none
+places-of : (at : ℕ) (bits : List Bool) → is_rest (first_item at bits) ≡ true → RestPlaces (covered (first_item at bits)) bits
+places-of at bits =
+    first_item-cases (λ item. is_rest item ≡ true → RestPlaces (covered item) bits) at bits
+    (λ no' rest place before. no_sync-rest 0 (drop place bits) (has_sync-before bits place (omega (arith, before))))
+    (λ n yes' need rest. absurd (cc))
+    (λ n yes' need rest. absurd (true-false (is_rest (unit_item_of at (take n bits))) rest (unit-there at n bits need)))
+    (λ field yes' need rest place before.
+    let first : place ≡ 0 = omega arith in
+    ap (λ (p : ℕ). is_rest (first_item 0 (drop p bits))) first ∙ ap is_rest (first_item-synced 0 bits (NoLength field) yes' need))
+
+stretch-from : (at : ℕ) (bits : List Bool) (stretch after : List Item) → items_of at bits ≡ stretch ++ after → all_rest stretch ≡ true → IsStretch at bits (bits_in stretch) after
+unfolding bits_in all_rest
+stretch-from at bits [] after is all = record {
+  there = omega arith;
+  rests = λ place before. absurd (omega arith);
+  left = ap (λ (p : ℕ). items_of p bits) (add-zero at) ∙ is;
+}
+stretch-from at bits (item ∷ stretch) after is all =
+    let parts = items_by-first true at bits item (stretch ++ after) is in
+    let rest : is_rest item ≡ true = and_left-true (is_rest item) (all_rest stretch) all in
+    let c = covered item in
+    let left = drop c bits in
+    let later = stretch-from (at + c) left stretch after (sym parts.2) (and_right-true (is_rest item) (all_rest stretch) all) in
+    let fits : c ≤ length bits = subst (λ (i : Item). covered i ≤ length bits) (sym parts.1) (covered-first_item at bits parts.0).1 in
+    let here : RestPlaces c bits = subst (λ (i : Item). RestPlaces (covered i) bits) (sym parts.1) (places-of at bits (ap is_rest (sym parts.1) ∙ rest)) in
+    let count = bits_in stretch in
+    record {
+      there = omega (arith, later.there, length-drop c bits, fits);
+      rests = λ place before.
+          elim (cases_lt place c) [
+            | inl first ↦ here place first
+            | inr behind ↦
+                let split : c + (place - c) ≡ place = omega arith in
+                ap (λ (xs : List Bool). is_rest (first_item 0 xs)) (ap (λ (k : ℕ). drop k bits) (sym split) ∙ sym (drop-drop (place - c) c bits)) ∙ later.rests (place - c) (omega arith)
+          ];
+      left =
+          ap₂ (λ (p : ℕ) (xs : List Bool). items_of p xs) (sym (add_assoc at c count)) (sym (drop-drop count c bits)) ∙ later.left;
+    }
+
+-- no item is there only where no bit is
+none-left : (count at : ℕ) (bits : List Bool) → count ≤ length bits → items_of at (drop count bits) ≡ [] → count ≡ length bits
+none-left count at bits there none =
+    elim (cases_lt count (length bits)) [
+      | inl before ↦
+          let some : 0 < length (drop count bits) = omega (arith, length-drop count bits) in
+          absurd (let wrong : first_item at (drop count bits) ∷ items_of (at + covered (first_item at (drop count bits))) (drop (covered (first_item at (drop count bits))) (drop count bits)) ≡ []
+          = sym (items_by-more true at (drop count bits) some refl) ∙ none in cc)
+      | inr behind ↦ omega arith
+    ]
+
+unit-at : (at : ℕ) (bits : List Bool) → is_rest (first_item at bits) ≡ false → is_rest (first_item 0 bits) ≡ false
+unit-at at bits unit =
+    elim (cases_Bool (is_rest (first_item 0 bits))) [
+      | inl rest ↦ absurd (true-false (is_rest (first_item at bits)) (rest-at 0 at bits rest) unit)
+      | inr no' ↦ no'
+    ]
+
+-- what begins after it, where something does, is no part of it
+ends-before : (at count : ℕ) (bits : List Bool) (after : List Item) → count ≤ length bits → items_of (at + count) (drop count bits) ≡ after → begins_rest after ≡ false → Ends count bits
+ends-before at count bits [] there is no' = inl (none-left count (at + count) bits there is)
+ends-before at count bits (item ∷ items) there is no' =
+    let parts = items_by-first true (at + count) (drop count bits) item items is in
+    inr (unit-at (at + count) (drop count bits) (ap is_rest (sym parts.1) ∙ no'))
+
+pub same-units : (at place : ℕ) (bits : List Bool) (stretch after : List Item) → items_of at bits ≡ stretch ++ after → all_rest stretch ≡ true → begins_rest after ≡ false → place ≤ bits_in stretch
+    → units_among (items_of (at + place) (drop place bits)) ≡ units_among after
+same-units at place bits stretch after is all no' within =
+    let whole = stretch-from at bits stretch after is all in
+    let count = bits_in stretch in
+    let ends = ends-before at count bits after whole.there whole.left no' in
+    let left = drop place bits in
+    let less = count - place in
+    let moved : (p : ℕ) → drop p left ≡ drop (place + p) bits = λ p. drop-drop p place bits in
+    let to_end : drop less left ≡ drop count bits = moved less ∙ ap (λ (k : ℕ). drop k bits) (let same : place + less ≡ count = omega arith in same) in
+    let at_end : at + place + less ≡ at + count = omega arith in
+    same_units-in less (at + place) less left (omega arith) (omega (arith, length-drop place bits, whole.there))
+    (λ p before. ap (λ (xs : List Bool). is_rest (first_item 0 xs)) (moved p) ∙ whole.rests (place + p) (omega arith))
+    (ends-later count place bits left less (omega (arith, length-drop place bits, whole.there)) to_end ends)
+    ∙ ap₂ (λ (p : ℕ) (xs : List Bool). units_among (items_of p xs)) at_end to_end
+    ∙ ap units_among whole.left

@@ -1,0 +1,48 @@
+-- Which unit lies where bits begin, after a unit with a name. The bits reach to an end: the name of the unit after them, or none.
+use Rattle.std.specs.Prelude.{ℕ, zero, suc, Bool, false, ◌&&◌, ◌||◌, if◌then◌else◌, ◌==◌, nat_le, nat_lt, List, length, drop, Option, Some, None}
+use Rattle.std.specs.Option.{is_some, option_or}
+use Rattle.p25_follow.specs.declared.told.Told.{Told}
+use Rattle.p25_follow.specs.declared.told.Told.TheVariants.{Expected, Other, Nothing}
+use Rattle.p25_follow.specs.Expected.{is_expected, kind_length, next_link}
+use Rattle.p25_follow.specs.Told.{is_nothing, told_of}
+
+-- how many bits are sent for a logical link unit (LDU1 or LDU2)
+abbrev pub link_length : ℕ
+link_length = 1728
+
+-- a kind that is told, where the bits of such a unit are there
+unfoldable pub fits_by : List Bool → Told → Option ℕ
+fits_by bits (Expected kind) = if nat_le (kind_length kind) (length bits) then Some kind else None
+fits_by bits Other = None
+fits_by bits Nothing = None
+
+unfoldable pub fits_of : ℕ × ℕ → List Bool → Option ℕ
+fits_of before bits = fits_by bits (told_of before bits)
+
+-- a unit ends bits that may come after one with a name
+unfoldable pub is_end : ℕ × ℕ → Option (ℕ × ℕ) → Bool
+is_end before None = false
+is_end before (Some end) = before.0 == end.0 && is_expected before.1 end.1
+
+-- what is true of a kind, where there is one
+abbrev pub true_of : (ℕ → Bool) → Option ℕ → Bool
+true_of test None = false
+true_of test (Some kind) = test kind
+
+-- it is sure that units lie end to end after a unit with a name, over at most so many logical link units of which nothing is
+-- told: where no bits are left the unit after them may come, or a unit that is told fits, or after one link it is sure again
+unfoldable pub is_sure : ℕ → ℕ × ℕ → List Bool → Option (ℕ × ℕ) → Bool
+is_sure zero before bits end = if nat_lt 0 (length bits) then is_some (fits_of before bits) else is_end before end
+is_sure (suc links) before bits end =
+    if nat_lt 0 (length bits) then
+    is_some (fits_of before bits)
+    || (is_nothing (told_of before bits) && nat_le link_length (length bits)
+    && true_of (λ kind. is_sure links (before.0, kind) (drop link_length bits) end) (next_link before.1))
+    else is_end before end
+
+-- the kind of the unit that bits begin with: the one that is told and fits, or the next logical link unit, where nothing is told
+-- and with it, over at most three links, it is sure
+unfoldable pub step_of : ℕ × ℕ → List Bool → Option (ℕ × ℕ) → Option ℕ
+step_of before bits end =
+    option_or (fits_of before bits)
+    (if nat_lt 0 (length bits) && is_nothing (told_of before bits) && is_sure 3 before bits end then next_link before.1 else None)

@@ -1,0 +1,73 @@
+//! What may come after a unit, by kind.
+
+ghost use Rattle.std.specs.Prelude.{◌≡◌, ◌≤◌, IfSome, MatchOption, [], ◌∷◌};
+ghost use Rattle.p25_follow.specs.Expected.{expected_after, is_expected, kind_length, next_link};
+
+use p25_bch_nid::{HDU, LDU1, LDU2, TDU, TDULC};
+
+/// Answers how many bits are sent for a voice unit of a kind (HDU, LDU1, LDU2, TDU or TDULC): none where it is another kind.
+#[tactic(auto, unfolding(crate::specs::Expected::kind_length, p25_voice_units::specs::Lengths::voice_length_of))]
+pub fn kind_length(kind: u8) -> usize
+    ensures value { result ≡ kind_length kind }
+    ensures most { result ≤ 1728 }
+{
+    if kind == HDU {
+        792
+    } else if kind == TDU {
+        144
+    } else if kind == LDU1 || kind == LDU2 {
+        1728
+    } else if kind == TDULC {
+        432
+    } else {
+        0
+    }
+}
+
+/// Answers the kind that is tried first after a unit of a kind; a TDULC and a TDU are tried after it. `None` comes exactly where no
+/// kind is expected.
+#[tactic(auto, unfolding(crate::specs::Expected::expected_after))]
+pub fn first_expected(before: u8) -> Option<u8>
+    ensures list { MatchOption result (expected_after before ≡ []) (λ kind. expected_after before ≡ kind ∷ 0xF ∷ 0x3 ∷ []) }
+    ensures fits { IfSome result (λ kind. kind ≤ 15) }
+{
+    if before == HDU {
+        Some(LDU1)
+    } else if before == LDU1 {
+        Some(LDU2)
+    } else if before == LDU2 {
+        Some(LDU1)
+    } else if before == TDULC {
+        Some(HDU)
+    } else {
+        None
+    }
+}
+
+/// Answers whether a kind may come after a unit of a kind.
+#[tactic(auto, unfolding(crate::specs::Expected::is_expected))]
+pub fn is_expected(before: u8, kind: u8) -> bool
+    ensures { result ≡ is_expected before kind }
+{
+    match first_expected(before) {
+        None => false,
+        Some(first) => first == kind || kind == TDULC || kind == TDU,
+    }
+}
+
+/// Answers the logical link unit (LDU1 or LDU2) that comes next after a unit of a kind. `None` comes exactly where none does.
+#[tactic(auto, unfolding(crate::specs::Expected::next_link))]
+pub fn next_link(kind: u8) -> Option<u8>
+    ensures value { result ≡ next_link kind }
+    ensures fits { IfSome result (λ next. next ≤ 15) }
+{
+    if kind == HDU {
+        Some(LDU1)
+    } else if kind == LDU1 {
+        Some(LDU2)
+    } else if kind == LDU2 {
+        Some(LDU1)
+    } else {
+        None
+    }
+}

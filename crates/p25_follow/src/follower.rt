@@ -1,0 +1,108 @@
+//! A follower of the items of a stream.
+
+ghost use Rattle.std.specs.Prelude.{◌≡◌, ◌+◌, ◌≤◌, ◌<◌, [], None, true, length};
+ghost use Rattle.p25_units.specs.Items.{IsSoundItem};
+ghost use Rattle.p25_follow.specs.Expected.{names_of};
+ghost use Rattle.p25_follow.specs.Followed.{is_rest, unit_name};
+ghost use Rattle.p25_follow.specs.Following.{behind_item, fresh_follow, written_before, written_end};
+
+use crate::chain::put_chain;
+use p25_bch_nid::Nid;
+use p25_bits::BitBuf;
+use p25_units::Item;
+use std::marker::Model;
+
+/// What is kept between the items of a stream: the name of the last unit, and the bits of the stretch after it of which nothing is
+/// settled, fewer than 6,912.
+#[derive(Drop)]
+pub struct Follower {
+    before: Option<Nid>,
+    stretch: BitBuf,
+}
+
+impl Model for Follower {
+    ghost use Rattle.p25_follow.specs.Expected.{names_of};
+    ghost use Rattle.p25_follow.specs.Following.{Follow, IsFollow, follow};
+
+    ghost Value = { Follow };
+
+    ghost view = { λ s. follow (names_of s.before) s.stretch };
+
+    ghost invariant = { λ s. IsFollow (follow (names_of s.before) s.stretch) };
+}
+
+/// The follower that no item was taken by.
+impl Default for Follower {
+    ghost is_default = { λ follower. follower ≡ fresh_follow };
+
+    fn default() -> Follower {
+        Follower::new()
+    }
+}
+
+impl Follower {
+    /// Answers a follower that no item was taken by.
+    pub fn new() -> Follower
+        ensures { result ≡ fresh_follow }
+    {
+        Follower {
+            before: None,
+            stretch: BitBuf::new(),
+        }
+    }
+
+    /// Takes an item and the bits that it covers. Sets `out` to the bits that are to be written before the item's own: where a unit
+    /// comes, or a sync with too few bits after it (`Cut`), all that is left of the stretch before it, and else what is settled of the
+    /// stretch with the item's bits. The item's own bits are to be written after them where it is a unit or `Cut`, and else not.
+    ///
+    /// An item that is neither covers at most 4,096 bits.
+    pub fn take(&mut self, item: &Item, raw: &BitBuf, out: &mut BitBuf)
+        requires sound { IsSoundItem item.now }
+        requires short { is_rest item.now ≡ true → length raw.now ≤ 4096 }
+        ensures out { out.new ≡ written_before self.old item.now raw.now }
+        ensures behind { self.new ≡ behind_item self.old item.now raw.now }
+        ensures few { length self.new.stretch < 6912 }
+    {
+        out.clear();
+        if is_rest(item) {
+            self.stretch.append(raw, 0, raw.len());
+            self.before = put_chain(false, self.before, &mut self.stretch, &None, out);
+        } else {
+            let name = unit_name(item);
+            put_chain(true, self.before, &mut self.stretch, &name, out);
+            self.before = name;
+        }
+    }
+
+    /// Sets `out` to the bits that are to be written at the end of the stream: all that is left of a stretch there.
+    pub fn finish(&self, out: &mut BitBuf)
+        ensures { out.new ≡ written_end self.now }
+    {
+        out.clear();
+        let mut stretch = BitBuf::new();
+        stretch.append(&self.stretch, 0, self.stretch.len());
+        put_chain(true, self.before, &mut stretch, &None, out);
+    }
+}
+
+// Whether an item belongs to a stretch: no unit is there.
+fn is_rest(item: &Item) -> bool
+    ensures { result ≡ is_rest item.now }
+{
+    match item {
+        Item::NoUnit { .. } | Item::Gap { .. } => true,
+        Item::Whole { .. } | Item::Broken { .. } | Item::Cut { .. } => false,
+    }
+}
+
+// The name of a unit, whole or broken.
+fn unit_name(item: &Item) -> Option<Nid>
+    requires { IsSoundItem item.now }
+    ensures { names_of result ≡ unit_name item.now }
+{
+    match item {
+        Item::Whole { frame, .. } => Nid::new(frame.unit.nac(), frame.unit.body().duid()),
+        Item::Broken { nac, duid, .. } => Nid::new(*nac, *duid),
+        Item::NoUnit { .. } | Item::Gap { .. } | Item::Cut { .. } => None,
+    }
+}

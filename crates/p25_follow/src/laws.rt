@@ -1,0 +1,37 @@
+//! The laws of what follows. The body is empty: the function states what is proved.
+
+ghost use Rattle.p25_follow.specs.FollowLaws.{ChainsUnfold, FollowerWrites, FrontAlone, LengthIsKept, NameStays, NearIsWritten, NoStretchNoChange, SettledStays, StepIsThere, StepLooksAtFew, WrittenIsFound};
+ghost use Rattle.p25_follow.specs.StretchLaws.{PlaceLooksAtFew, SameUnitsAfter};
+
+/// **Theorem.** What is written of a recording, over all bits.
+///
+/// - `length`: as many bits as are there.
+/// - `recursion`: a chain is, where a unit is known, that unit with its front written and the chain after it, and else the bits as
+///   they are.
+/// - `there`, `few`: the bits of a unit that is written are there; a step looks at no more than 6,912 bits, so that neither the bits
+///   after them nor the end of their stretch change it.
+/// - `front`: of a unit that is written the front alone is: the status symbol within it stays, and all that comes after it.
+/// - `unchanged`: where no stretch comes after a unit, all bits come as they are.
+/// - `name`: a network identifier (NID) that reads is not replaced by another.
+/// - `complete`: after a unit that is found or written, a unit of its network, of a kind that may come, at most 11 of the bits of
+///   whose identifier are wrong, comes out with its front, whatever its sync is.
+/// - `found`: where a front is written and an item begins, that item is a unit of this name and this length, whatever bits follow.
+/// - `place`: whether a unit, whole, broken or cut, begins at a place hangs on the 316 bits from there alone.
+/// - `same`: wherever in a stretch the scan begins, the units that it finds are those after the stretch.
+/// - `settled`: what is settled of a stretch comes first, whatever bits come.
+/// - `follower`: what a follower writes of items, and at the end, is what is written of a recording.
+pub fn follow_laws()
+    ensures length { LengthIsKept }
+    ensures recursion { ChainsUnfold }
+    ensures there { StepIsThere }
+    ensures few { StepLooksAtFew }
+    ensures front { FrontAlone }
+    ensures unchanged { NoStretchNoChange }
+    ensures name { NameStays }
+    ensures complete { NearIsWritten }
+    ensures found { WrittenIsFound }
+    ensures place { PlaceLooksAtFew }
+    ensures same { SameUnitsAfter }
+    ensures settled { SettledStays }
+    ensures follower { FollowerWrites }
+{}

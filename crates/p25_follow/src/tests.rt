@@ -1,0 +1,292 @@
+//! Recordings with fronts that the scan does not find, and what comes out.
+
+ghost use Rattle.std.specs.Prelude.{◌≤◌};
+ghost use Rattle.p25_units.specs.Units.{IsWholeBody};
+
+use super::Follower;
+use p25_bits::{BITS_MOST, BitBuf};
+use p25_link::{EncryptionSync, HeaderWord, LinkControl};
+use p25_stream::{Item, find_item};
+use p25_units::{Body, Frame, Status, Statuses, Unit, VoiceUnit, frame_length, image};
+use p25_voice_units::{Voice, VoiceFrame};
+
+// A terminator with link control (TDULC) of NAC 0, and a terminator (TDU), with the status symbol 1.
+const TDULC: [u8; 54] = [
+    0x55, 0x75, 0xF5, 0xFF, 0x77, 0xFF, 0x00, 0x0F, 0xED, 0xDF, 0x24, 0xA9, 0xD7, 0x87, 0x00, 0x00,
+    0x00, 0x01, 0x00, 0x00, 0x00, 0x00, 0x00, 0x00, 0x00, 0x00, 0x01, 0x00, 0x00, 0x00, 0x00, 0x00,
+    0x00, 0x00, 0x00, 0x01, 0x00, 0x00, 0x00, 0x00, 0x00, 0x00, 0x00, 0x00, 0x01, 0x00, 0x00, 0x00,
+    0x00, 0x00, 0x00, 0x00, 0x00, 0x01,
+];
+
+const TDU: [u8; 18] = [
+    0x55, 0x75, 0xF5, 0xFF, 0x77, 0xFF, 0x00, 0x03, 0x35, 0x93, 0x0B, 0xDD, 0x3B, 0x2B, 0x00, 0x00,
+    0x00, 0x01,
+];
+
+// The terminator with five wrong bits in its sync.
+const FIVE_WRONG: [u8; 18] = [
+    0xAD, 0x75, 0xF5, 0xFF, 0x77, 0xFF, 0x00, 0x03, 0x35, 0x93, 0x0B, 0xDD, 0x3B, 0x2B, 0x00, 0x00,
+    0x00, 0x01,
+];
+
+// Appends the bits of octets, where there is room.
+fn put_octets(octets: &[u8], bits: &mut BitBuf) {
+    for octet in octets {
+        if bits.len() < BITS_MOST - 8 {
+            bits.put_field(u64::from(*octet), 8);
+        }
+    }
+}
+
+// Appends bits, where there is room.
+fn put_bits(more: &BitBuf, bits: &mut BitBuf) {
+    if bits.len() + more.len() <= BITS_MOST {
+        bits.append(more, 0, more.len());
+    }
+}
+
+// What a follower writes of the items of some octets.
+fn followed(octets: &[u8]) -> BitBuf {
+    let mut bits = BitBuf::new();
+    put_octets(octets, &mut bits);
+    let mut follower = Follower::new();
+    let mut item = Item::Cut { place: 0, have: 0 };
+    let mut raw = BitBuf::new();
+    let mut out = BitBuf::new();
+    let mut all = BitBuf::new();
+    let mut at = 0;
+    for _ in 0..BITS_MOST {
+        if !find_item(octets, at, at as u64, true, &mut item) {
+            break;
+        }
+        let count = item.covered() as usize;
+        if count > 4_096 || at > bits.len() || count > bits.len() - at {
+            break;
+        }
+        raw.clear();
+        raw.append(&bits, at, count);
+        at += count;
+        follower.take(&item, &raw, &mut out);
+        put_bits(&out, &mut all);
+        if !matches!(item, Item::NoUnit { .. } | Item::Gap { .. }) {
+            put_bits(&raw, &mut all);
+        }
+    }
+    follower.finish(&mut out);
+    put_bits(&out, &mut all);
+    all
+}
+
+// What comes of octets after a terminator with link control (TDULC), so many of them, are those of the second list after it.
+fn comes_out(after: &[u8; 18], count: usize, written: &[u8; 18]) -> bool
+    requires { count ≤ 18 }
+{
+    let mut octets = [0; 72];
+    octets[..54].copy_from_slice(&TDULC);
+    octets[54..].copy_from_slice(after);
+    let mut expected = BitBuf::new();
+    put_octets(&TDULC, &mut expected);
+    put_octets(&written[..count], &mut expected);
+    followed(&octets[..54 + count]) == expected
+}
+
+#[test]
+fn fronts_after_a_terminator_with_link_control(rt: HostRuntime) {
+    // Rows: the octets after it, and what comes out.
+    let rows: [([u8; 18], [u8; 18]); 6] = [
+        (FIVE_WRONG, TDU),
+        // All 48 bits of the sync are wrong.
+        (
+            [
+                0xAA, 0x8A, 0x0A, 0x00, 0x88, 0x00, 0x00, 0x03, 0x35, 0x93, 0x0B, 0xDD, 0x3B, 0x2B,
+                0x00, 0x00, 0x00, 0x01,
+            ],
+            TDU,
+        ),
+        // Of the sync 14, and of the identifier 16.
+        (
+            [
+                0xAA, 0x89, 0xF5, 0xFF, 0x77, 0xFF, 0xAA, 0xA9, 0x9D, 0x1B, 0x83, 0x5D, 0x3B, 0x2B,
+                0x00, 0x00, 0x00, 0x01,
+            ],
+            TDU,
+        ),
+        // Of the sync 15, and of the identifier 16.
+        (
+            [
+                0xAA, 0x8B, 0xF5, 0xFF, 0x77, 0xFF, 0xAA, 0xA9, 0x9D, 0x1B, 0x83, 0x5D, 0x3B, 0x2B,
+                0x00, 0x00, 0x00, 0x01,
+            ],
+            [
+                0xAA, 0x8B, 0xF5, 0xFF, 0x77, 0xFF, 0xAA, 0xA9, 0x9D, 0x1B, 0x83, 0x5D, 0x3B, 0x2B,
+                0x00, 0x00, 0x00, 0x01,
+            ],
+        ),
+        // Of the sync 5, and of the identifier 17.
+        (
+            [
+                0xAD, 0x75, 0xF5, 0xFF, 0x77, 0xFF, 0xAA, 0xA9, 0x9D, 0x1B, 0x83, 0x55, 0x3B, 0x2B,
+                0x00, 0x00, 0x00, 0x01,
+            ],
+            [
+                0xAD, 0x75, 0xF5, 0xFF, 0x77, 0xFF, 0xAA, 0xA9, 0x9D, 0x1B, 0x83, 0x55, 0x3B, 0x2B,
+                0x00, 0x00, 0x00, 0x01,
+            ],
+        ),
+        // Five of the sync, of another network.
+        (
+            [
+                0xAD, 0x75, 0xF5, 0xFF, 0x77, 0xFF, 0x00, 0x13, 0x05, 0xF2, 0x66, 0x27, 0x43, 0xA2,
+                0x00, 0x00, 0x00, 0x01,
+            ],
+            [
+                0xAD, 0x75, 0xF5, 0xFF, 0x77, 0xFF, 0x00, 0x13, 0x05, 0xF2, 0x66, 0x27, 0x43, 0xA2,
+                0x00, 0x00, 0x00, 0x01,
+            ],
+        ),
+    ];
+    for (after, written) in rows {
+        assert!(rt; comes_out(&after, 18, &written));
+    }
+}
+
+#[test]
+fn a_terminator_that_is_not_all_there(rt: HostRuntime) {
+    assert!(rt; comes_out(&FIVE_WRONG, 17, &FIVE_WRONG));
+}
+
+#[test]
+fn nothing_is_expected_after_a_terminator(rt: HostRuntime) {
+    let mut octets = [0; 36];
+    octets[..18].copy_from_slice(&TDU);
+    octets[18..].copy_from_slice(&FIVE_WRONG);
+    let mut expected = BitBuf::new();
+    put_octets(&octets, &mut expected);
+    assert!(rt; followed(&octets) == expected);
+}
+
+// What a voice unit carries: nothing of it fails.
+#[tactic(auto, unfolding(p25_units::specs::Units::IsWholeBody))]
+fn carried(voice: VoiceUnit) -> Body
+    ensures { IsWholeBody result }
+{
+    Body::Voice(voice)
+}
+
+// Appends the bits of a voice unit of NAC 0 as it is sent, so many of 72, with the status symbol 1.
+fn put_unit(voice: VoiceUnit, blocks: usize, bits: &mut BitBuf)
+    requires { blocks ≤ 24 }
+{
+    let frame = Frame {
+        unit: Unit::new(0, carried(voice)),
+        statuses: Statuses::filled(Status::new(1).unwrap_or_default(), blocks),
+    };
+    if frame_length(&frame.unit) == 72 * frame.statuses.len() {
+        let mut sent = BitBuf::new();
+        image(&frame, &mut sent);
+        put_bits(&sent, bits);
+    }
+}
+
+fn ldu1() -> VoiceUnit {
+    VoiceUnit::Link1 {
+        link: LinkControl([0; 9]),
+        low: [0; 2],
+        voice: Voice::new([VoiceFrame([0; 18]); 9]),
+    }
+}
+
+fn ldu2() -> VoiceUnit {
+    VoiceUnit::Link2 {
+        sync: EncryptionSync {
+            mi: [0; 9],
+            algid: 0x80,
+            kid: 0,
+        },
+        low: [0; 2],
+        voice: Voice::new([VoiceFrame([0; 18]); 9]),
+    }
+}
+
+// How many octets a header, two of each logical link unit and a terminator with link control are.
+const CALL_OCTETS: usize = 1_017;
+
+// The octets of a call of NAC 0: a header, an LDU1, an LDU2, an LDU1, an LDU2 and a TDULC, all of zeros.
+fn call_octets() -> [u8; CALL_OCTETS] {
+    let mut bits = BitBuf::new();
+    put_unit(
+        VoiceUnit::Header(HeaderWord {
+            mi: [0; 9],
+            mfid: 0,
+            algid: 0x80,
+            kid: 0,
+            tgid: 1,
+        }),
+        11,
+        &mut bits,
+    );
+    put_unit(ldu1(), 24, &mut bits);
+    put_unit(ldu2(), 24, &mut bits);
+    put_unit(ldu1(), 24, &mut bits);
+    put_unit(ldu2(), 24, &mut bits);
+    put_unit(
+        VoiceUnit::EndLink {
+            link: LinkControl([0; 9]),
+        },
+        6,
+        &mut bits,
+    );
+    let mut octets = [0; CALL_OCTETS];
+    for i in 0..CALL_OCTETS {
+        if 8 * i + 8 <= bits.len() {
+            octets[i] = bits.field(8 * i, 8) as u8;
+        }
+    }
+    octets
+}
+
+// The octets of a call in which the fronts of the first logical link units are lost, so many.
+fn lost(octets: &[u8; CALL_OCTETS], count: usize) -> [u8; CALL_OCTETS]
+    requires { count ≤ 4 }
+{
+    // The front of an LDU1 or an LDU2 with 24 wrong bits of its sync and all of its identifier.
+    let fronts: [[u8; 10]; 2] = [
+        [0xAA, 0x8A, 0x0A, 0x00, 0x88, 0xFF, 0xFF, 0xFA, 0xA5, 0x4A],
+        [0xAA, 0x8A, 0x0A, 0x00, 0x88, 0xFF, 0xFF, 0xF5, 0x49, 0x95],
+    ];
+    let mut octets = *octets;
+    for k in 0..count {
+        for i in 0..10 {
+            octets[99 + 216 * k + i] = fronts[k % 2][i];
+        }
+    }
+    octets
+}
+
+// Whether what follows from the first octets of a list, so many, are those of another.
+fn comes_out_as(octets: &[u8; CALL_OCTETS], written: &[u8; CALL_OCTETS], count: usize) -> bool
+    requires { count ≤ 1017 }
+{
+    let mut expected = BitBuf::new();
+    put_octets(&written[..count], &mut expected);
+    followed(&octets[..count]) == expected
+}
+
+#[test]
+fn fronts_of_links(rt: HostRuntime) {
+    let call = call_octets();
+    let end = &call[963..];
+    assert!(rt; end == TDULC.as_slice());
+    assert!(rt; comes_out_as(&call, &call, CALL_OCTETS));
+    assert!(rt; comes_out_as(&lost(&call, 1), &call, CALL_OCTETS));
+    assert!(rt; comes_out_as(&lost(&call, 2), &call, CALL_OCTETS));
+    assert!(rt; comes_out_as(&lost(&call, 3), &call, CALL_OCTETS));
+    let four = lost(&call, 4);
+    assert!(rt; comes_out_as(&four, &four, CALL_OCTETS));
+}
+
+#[test]
+fn a_link_before_a_unit_of_a_call_that_is_cut(rt: HostRuntime) {
+    let call = call_octets();
+    assert!(rt; comes_out_as(&lost(&call, 1), &call, 950));
+}

@@ -1,0 +1,36 @@
+use Rattle.std.proofs.Common.{◌≡◌, ℕ, ap, sym, subst, ◌∙◌}
+use Rattle.p25_status.specs.Outcomes.{IfRead, outcome_of}
+use Rattle.p25_status.specs.declared.outcome.Outcome.{Outcome}
+use Rattle.p25_packet_blocks.specs.Fixes.{packet_fixes_of}
+use Rattle.p25_packet_blocks.specs.Reading.{packet_of_head}
+use Rattle.p25_packet_blocks.proofs.OutcomeLaws.{read_head_of-few, packet_outcome-bad, packet_outcome-good, packet_outcome-fixes, IfOk-same, IfOk-none}
+use Rattle.p25_packet_blocks.specs.Reading.{header_bits}
+use Rattle.p25_packet_blocks.proofs.packet.Packet.read.Goals as goal
+
+pub read_blocks-requires-clause-few : goal.read_blocks-requires-clause-few
+read_blocks-requires-clause-few c = read_head_of-few (header_bits c.args.bare.now) c.args.read c.requires.head
+
+pub returns-in-Err-clause-outcome : goal.returns-in-Err-clause-outcome
+returns-in-Err-clause-outcome c = c.failing.ensures ∙ packet_outcome-bad c.args.read c.args.bare.now c.in-Err.field c.in-Err.ensures.packet
+
+pub returns-in-Err-clause-packet : goal.returns-in-Err-clause-packet
+returns-in-Err-clause-packet c = IfOk-none c.read_blocks.new.self c.in-Err.field (packet_of_head c.args.read.head c.args.bare.now) c.in-Err.ensures.packet
+
+pub returns-in-Err-clause-wrong : goal.returns-in-Err-clause-wrong
+returns-in-Err-clause-wrong c = rw c.failing.ensures tt
+
+pub returns-in-Ok-clause-outcome : goal.returns-in-Ok-clause-outcome
+returns-in-Ok-clause-outcome c =
+    c.of.ensures
+    ∙ ap (λ fields. outcome_of fields c.in-Ok.wrong) c.failing_blocks.ensures
+    ∙ packet_outcome-good c.args.read c.args.bare.now c.read_blocks.new.self c.in-Ok.wrong c.in-Ok.ensures.packet c.in-Ok.ensures.wrong
+
+pub returns-in-Ok-clause-packet : goal.returns-in-Ok-clause-packet
+returns-in-Ok-clause-packet c = IfOk-same c.read_blocks.new.self (packet_of_head c.args.read.head c.args.bare.now) c.in-Ok.ensures.packet
+
+pub returns-in-Ok-clause-wrong : goal.returns-in-Ok-clause-wrong
+returns-in-Ok-clause-wrong c =
+    let packet = c.read_blocks.new.self in
+    subst (λ (outcome : Outcome). IfRead outcome (λ wrong. (nac : ℕ) → wrong ≡ packet_fixes_of nac packet c.args.bare.now)) (sym c.of.ensures)
+    (packet_outcome-fixes c.args.read c.args.bare.now packet c.in-Ok.wrong c.failing_blocks.result c.requires.head c.requires.there c.in-Ok.ensures.packet c.in-Ok.ensures.wrong
+    (sym c.failing_blocks.ensures))

@@ -1,0 +1,39 @@
+//! What a reading of a unit answers beside the value that it sets in place.
+
+ghost use Rattle.std.specs.Prelude.{◌≡◌, [], ◌∷◌};
+ghost use Rattle.p25_status.specs.Outcomes.{outcome_of};
+ghost use Rattle.p25_status.specs.declared.outcome.Outcome.TheVariants.{Failing};
+
+use crate::fields::{Field, FieldList};
+
+/// What a reading of a unit, or of a part of it, answers beside the value that it sets in place.
+#[derive(Clone, Debug, Drop, PartialEq, Eq)]
+pub enum Outcome {
+    /// No field fails, and the value is what was read. `wrong` is the number of looked-at bits that were received otherwise than
+    /// they are sent for it: so many were put right.
+    Read { wrong: u32 },
+    /// Exactly these fields fail, in their order, and there is one at least. The value means nothing.
+    Failing { fields: FieldList },
+}
+
+impl Outcome {
+    /// Answers that one field fails.
+    pub fn failing(field: Field) -> Outcome
+        ensures { result ≡ Failing (field ∷ []) }
+    {
+        Outcome::Failing {
+            fields: FieldList::one(field),
+        }
+    }
+
+    /// Answers `Read` with so many wrong bits where no field fails, else `Failing` with the fields.
+    pub fn of(fields: FieldList, wrong: u32) -> Outcome
+        ensures { result ≡ outcome_of fields wrong }
+    {
+        if fields.is_empty() {
+            Outcome::Read { wrong }
+        } else {
+            Outcome::Failing { fields }
+        }
+    }
+}
