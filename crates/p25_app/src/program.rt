@@ -1,8 +1,8 @@
 //! One call of the program.
 
-ghost use Rattle.std.specs.Prelude.{◌≡◌, List};
+ghost use Rattle.std.specs.Prelude.{◌≡◌, List, []};
 ghost use Rattle.p25_io.specs.Events.{Event};
-ghost use Rattle.p25_io.specs.Pairs.{SinkGoes, SourceGoes};
+ghost use Rattle.p25_io.specs.Streams.{StreamsGo, events_on};
 ghost use Rattle.p25_app.specs.Calls.{IsOneCall, IsRunOf, words_given};
 
 mod ended;
@@ -10,33 +10,34 @@ mod ended;
 use super::arguments::words_of;
 use super::error_line::{ErrorSink, tell};
 pub use ended::Ended;
-use p25_io::{Pair, Port, Sink, Source};
+use p25_io::{Port, Streams};
 use p25_tool::{Outcome, outcome_status, run_on};
 use std::alloc::Global;
 use std::env::Args;
 use std::io;
+use std::io::{Read, Write};
 
 /// Makes one call of the program, and answers its end.
 ///
-/// The words are the arguments but the first. What is read from the source and written to the sink is that of one run of these words,
-/// as `run` of p25_tool has it; where there was not enough memory for the arguments it is nothing. The line of its outcome is written
-/// to `errors`, or a beginning of it where that fails, and the end has the status of the outcome.
-pub fn call<S: Source, K: Sink, E: ErrorSink>(
+/// The words are the arguments but the first. The events that stand on the streams afterwards, in their order and with nothing beside
+/// them, are those of one run of these words, as `run_on` of p25_tool has it; where there was not enough memory for the arguments there
+/// are none. What they come to is `stream_laws` of p25_tool. The line of the outcome is written to `errors`, or a beginning of it where
+/// that fails, and the end has the status of the outcome. No event was made on the streams before.
+pub fn call<R: Read, W: Write, E: ErrorSink>(
     alloc: Global,
     arguments: io::Result<Args>,
-    source: &mut S,
-    sink: &mut K,
+    streams: &mut Streams<R, W>,
     errors: &mut E,
 ) -> Ended
-    ensures { (events : List Event) × SourceGoes S.left S.faults source.old events source.new
-        × SinkGoes K.written K.faults sink.old events sink.new
-        × IsOneCall (words_given arguments) events (E.written errors.old) (E.written errors.new) (E.faults errors.old) (E.faults errors.new) result }
+    requires blank { events_on streams.old ≡ [] }
+    ensures went { StreamsGo R.remaining W.contents streams.old (events_on streams.new) streams.new }
+    ensures called { IsOneCall (words_given arguments) (events_on streams.new) (E.written errors.old) (E.written errors.new) (E.faults errors.old)
+        (E.faults errors.new) result }
 {
-    let mut pair = Pair::new(source, sink);
-    call_on(alloc, arguments, &mut pair, errors)
+    call_on(alloc, arguments, streams, errors)
 }
 
-/// Makes one call of the program on any port: `call` is this on the port of a source and a sink.
+/// Makes one call of the program on any port: `call` is this on streams.
 ///
 /// The contract says which reads and writes are made, and in which order: those of one `run_on` of p25_tool.
 pub fn call_on<P: Port, E: ErrorSink>(

@@ -7,3 +7,4 @@ pub mod OrdersLaws
 pub mod SameLaws
 pub mod LinesLaws
 pub mod LineFiltersLaws
+pub mod StreamsLaws

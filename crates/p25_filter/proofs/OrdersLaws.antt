@@ -15,7 +15,7 @@ no_read-ahead future before after first second live =
     sym parts.1.1.0.0.wrote ∙ parts.1.0.0.wrote
 
 -- once the input is over no read comes
-no-more_reads : (future : Future) (at : Standing) (between after : List Event) (octets : List ℕ) → (at.phase ≡ Going → ⊥)
+pub no-more_reads : (future : Future) (at : Standing) (between after : List Event) (octets : List ℕ) → (at.phase ≡ Going → ⊥)
     → IsLive future at (between ++ Read octets ∷ after) → ⊥
 no-more_reads future at [] after octets not live = not live.0.0.going
 no-more_reads future at (Read other ∷ between) after octets not live = not live.0.0.going
@@ -36,7 +36,7 @@ broken-last future octets text [] live = refl
 broken-last future octets text (Read other ∷ after) live = let going : Broken ≡ Going = live.0.0.going in cc
 broken-last future octets text (ReadFailed ∷ after) live = let going : Broken ≡ Going = live.0.going in cc
 broken-last future octets text (Wrote piece ∷ after) live = absurd live.0.decided
-broken-last future octets text (WriteFailed piece count ∷ after) live = absurd live.0.decided
+broken-last future octets text (WriteFailed piece count ∷ after) live = absurd live.0.0.decided
 
 pub nothing-after_read_fault : (future : Future) (before after : List Event) → IsLive future at_first (before ++ ReadFailed ∷ after) → after ≡ []
 nothing-after_read_fault future before after live =

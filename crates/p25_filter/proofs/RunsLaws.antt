@@ -296,7 +296,7 @@ module _ {S K : Type 0} (left : S → Option (List ℕ)) (source_faults : S → 
       (source-before before piece count source (subst (λ (es : List Event). SourceGoes left source_faults source es source_now) same read))
       (Reached-first (left source)) in
       subst (λ (s : Standing). IsWriteFault (left source_now) (written sink) (written sink_now) future s.octets) (sym last)
-      (write-meets (left source) (left source_now) (written sink) (written sink_now) future at piece count reached live.1.0.decided
+      (write-meets (left source) (left source_now) (written sink) (written sink_now) future at piece count reached live.1.0.0.decided
       (Appended-same (ap (λ (s : Standing). s.text) last)
       (text-appended written sink_faults (written sink) at_first sink sink_now events wrote (Appended-none (written sink)))))
     where
@@ -346,7 +346,7 @@ module _ {S K : Type 0} (left : S → Option (List ℕ)) (source_faults : S → 
       (Reached-broken (left source) (left s) (left read.0) at at.text reached read.1.kept)
   untouched-by input told none at (Wrote piece ∷ events) s k live read wrote reached = absurd (due-some input at s piece told none reached live.0.some live.0.decided)
   untouched-by input told none at (WriteFailed piece count ∷ events) s k live read wrote reached =
-      absurd (due-some input at s piece told none reached live.0.some live.0.decided)
+      absurd (due-some input at s piece told none reached live.0.0.some live.0.0.decided)
 
   pub run-untouched : (events : List Event) (end : FilterEnd) → IsRun future events end → SourceGoes left source_faults source events source_now
       → SinkGoes written sink_faults sink events sink_now → (input : List ℕ) → left source ≡ Some input → all_written future input ≡ [] → sink_now ≡ sink

@@ -74,7 +74,8 @@ module _ (f g : Future) (alike : AreAlike f g) where
   MayCome-same at (Read octets) may = (IsSettled-same at may.0, may.1)
   MayCome-same at ReadFailed may = IsSettled-same at may
   MayCome-same at (Wrote piece) due = record { some = due.some; decided = IsDecided-same at.phase at.octets (at.text ++ piece) due.decided }
-  MayCome-same at (WriteFailed piece count) due = record { some = due.some; decided = IsDecided-same at.phase at.octets (at.text ++ piece) due.decided }
+  MayCome-same at (WriteFailed piece count) due =
+      (record { some = due.0.some; decided = IsDecided-same at.phase at.octets (at.text ++ piece) due.0.decided }, due.1)
 
   IsLive-same : (at : Standing) (events : List Event) → IsLive f at events → IsLive g at events
   IsLive-same at [] live = tt

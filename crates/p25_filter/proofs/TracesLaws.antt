@@ -267,7 +267,7 @@ module _ {P : Type 0} (moves : P → List Event → P → Type 0) (stays : (port
       subst (λ (zs : List ℕ). IsDecided future phase octets zs)
       (ap (λ (zs : List ℕ). text ++ zs) (sym cut.whole) ∙ sym (append_assoc text (joined cut.pieces) cut.piece)) decided in
       let live = live_writes future at cut.pieces cut.some (IsDecided-part future phase octets (text ++ joined cut.pieces) cut.piece whole) in
-      let due : IsLive future (standing_at phase octets (text ++ joined cut.pieces)) failed = (record { some = cut.last_some; decided = whole }, tt) in
+      let due : IsLive future (standing_at phase octets (text ++ joined cut.pieces)) failed = ((record { some = cut.last_some; decided = whole }, cut.fits), tt) in
       Came-after at last next (writes_of cut.pieces ++ failed) WriteFault so_far cut.moved
       (IsLive-append future at (writes_of cut.pieces) failed live
       (subst (λ (s : Standing). IsLive future s failed) (sym (after_writes at cut.pieces)) due))

@@ -1,5 +1,5 @@
 -- Texts that are written in pieces: one after the other, and up to a write that fails.
-use Rattle.std.proofs.Common.{◌≡◌, ℕ, ◌<◌, List, [], ◌∷◌, ◌++◌, length, refl, ap, sym, subst, ◌∙◌, append_assoc, append-nil}
+use Rattle.std.proofs.Common.{◌≡◌, ℕ, ◌<◌, ◌≤◌, List, [], ◌∷◌, ◌++◌, length, refl, ap, sym, subst, ◌∙◌, append_assoc, append-nil}
 use Rattle.p25_io.specs.Events.{Event, Wrote, WriteFailed}
 use Rattle.p25_filter.specs.Writes.{AreSome, Begins, CutShort, Written, joined, writes_of}
 
@@ -39,10 +39,10 @@ module _ {P : Type 0} (moves : P → List Event → P → Type 0) (stays : (port
   pub Written-one : (first last : P) (piece : List ℕ) → 0 < length piece → moves first (Wrote piece ∷ []) last → Written moves first piece last
   Written-one first last piece some moved = record { pieces = piece ∷ []; moved = moved; some = (some, tt); whole = append-nil piece }
 
-  pub CutShort-one : (first last : P) (piece : List ℕ) (count : ℕ) → 0 < length piece → moves first (WriteFailed piece count ∷ []) last
+  pub CutShort-one : (first last : P) (piece : List ℕ) (count : ℕ) → 0 < length piece → count ≤ length piece → moves first (WriteFailed piece count ∷ []) last
       → CutShort moves first piece last
-  CutShort-one first last piece count some moved =
-      record { pieces = []; piece = piece; count = count; moved = moved; some = tt; last_some = some; whole = refl }
+  CutShort-one first last piece count some fits moved =
+      record { pieces = []; piece = piece; count = count; moved = moved; some = tt; last_some = some; fits = fits; whole = refl }
 
   -- a text is written after another
   pub Written-trans : (first second third : P) (xs ys : List ℕ) → Written moves first xs second → Written moves second ys third
@@ -73,6 +73,7 @@ module _ {P : Type 0} (moves : P → List Event → P → Type 0) (stays : (port
         (joins first second third (writes_of one.pieces) (writes_of cut.pieces ++ WriteFailed cut.piece cut.count ∷ []) one.moved cut.moved);
     some = AreSome-append one.pieces cut.pieces one.some cut.some;
     last_some = cut.last_some;
+    fits = cut.fits;
     whole =
         ap (λ (zs : List ℕ). zs ++ cut.piece) (joined-append one.pieces cut.pieces)
         ∙ append_assoc (joined one.pieces) (joined cut.pieces) cut.piece

@@ -67,7 +67,7 @@ abbrev pub MayCome : Future → Standing → Event → Type 0
 MayCome future at (Read octets) = IsSettled future at × (length octets ≤ read_most)
 MayCome future at ReadFailed = IsSettled future at
 MayCome future at (Wrote piece) = IsDue future at piece
-MayCome future at (WriteFailed piece count) = IsDue future at piece
+MayCome future at (WriteFailed piece count) = IsDue future at piece × (count ≤ length piece)
 
 -- each event of a list may come after those before it
 abbrev pub IsLive : Future → Standing → List Event → Type 0
@@ -98,6 +98,21 @@ IsMemoryAt future Broken octets text = ⊥
 -- the last event is this one
 abbrev pub EndsWith : List Event → Event → Type 0
 EndsWith events last = (before : List Event) × (events ≡ before ++ last ∷ [])
+
+-- a read failed in these events, or a write
+abbrev pub HasReadFault : List Event → Type 0
+HasReadFault [] = ⊥
+HasReadFault (Read octets ∷ events) = HasReadFault events
+HasReadFault (ReadFailed ∷ events) = Unit {0}
+HasReadFault (Wrote piece ∷ events) = HasReadFault events
+HasReadFault (WriteFailed piece count ∷ events) = HasReadFault events
+
+abbrev pub HasWriteFault : List Event → Type 0
+HasWriteFault [] = ⊥
+HasWriteFault (Read octets ∷ events) = HasWriteFault events
+HasWriteFault (ReadFailed ∷ events) = HasWriteFault events
+HasWriteFault (Wrote piece ∷ events) = HasWriteFault events
+HasWriteFault (WriteFailed piece count ∷ events) = Unit {0}
 
 -- what an end says of the events, and of what was read and written
 abbrev pub EndsAs : Future → List Event → Standing → FilterEnd → Type 0

@@ -1,5 +1,5 @@
 -- Texts that are written to a port, piece after piece.
-use Rattle.std.specs.Prelude.{◌≡◌, ℕ, ◌<◌, List, [], ◌∷◌, ◌++◌, length}
+use Rattle.std.specs.Prelude.{◌≡◌, ℕ, ◌<◌, ◌≤◌, List, [], ◌∷◌, ◌++◌, length}
 use Rattle.p25_io.specs.Events.{Event, Wrote, WriteFailed}
 
 -- a text is the beginning of a whole
@@ -27,7 +27,7 @@ pub record Written {P : Type 0} (moves : P → List Event → P → Type 0) (fir
   pub some : AreSome pieces
   pub whole : joined pieces ≡ text
 
--- the write of its last piece failed
+-- the write of its last piece failed, of which no more octets were written than it has
 pub record CutShort {P : Type 0} (moves : P → List Event → P → Type 0) (first : P) (text : List ℕ) (last : P) : Type 0 where
   pub pieces : List (List ℕ)
   pub piece : List ℕ
@@ -35,4 +35,5 @@ pub record CutShort {P : Type 0} (moves : P → List Event → P → Type 0) (fi
   pub moved : moves first (writes_of pieces ++ WriteFailed piece count ∷ []) last
   pub some : AreSome pieces
   pub last_some : 0 < length piece
+  pub fits : count ≤ length piece
   pub whole : joined pieces ++ piece ≡ text

@@ -14,8 +14,12 @@ TapeGoes-stays tape = record { source = refl; sink = refl; told = λ whole. (who
 
 pub TapeGoes-joins : (first next last : Tape) (xs ys : List Event) → TapeGoes first xs next → TapeGoes next ys last → TapeGoes first (xs ++ ys) last
 TapeGoes-joins first next last xs ys went goes = record {
-  source = SourceGoes-joins (λ (supply : Supply). Some supply.left) (λ (supply : Supply). supply.faults) first.source next.source last.source xs ys went.source goes.source;
-  sink = SinkGoes-joins (λ (storage : Storage). Some storage.written) (λ (storage : Storage). storage.faults) first.sink next.sink last.sink xs ys went.sink goes.sink;
+  source =
+      SourceGoes-joins (λ (supply : Supply). Some supply.left) (λ (supply : Supply). supply.faults)
+      first.source next.source last.source xs ys went.source goes.source;
+  sink =
+      SinkGoes-joins (λ (storage : Storage). Some storage.written) (λ (storage : Storage). storage.faults)
+      first.sink next.sink last.sink xs ys went.sink goes.sink;
   told = λ whole.
       let later = goes.told whole in
       let earlier = went.told later.0 in

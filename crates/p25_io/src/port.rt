@@ -24,7 +24,7 @@ pub trait Port {
     /// Writes the whole piece. `Failed` comes where the write failed, and then a beginning of the piece was written.
     fn write(&mut self, piece: &[u8]) -> Result<(), Failed>
         ensures ok { OnOk result (moves self.old (Wrote piece.now ∷ []) self.new) }
-        ensures err { OnErr result ((count : ℕ) × moves self.old (WriteFailed piece.now count ∷ []) self.new) };
+        ensures err { OnErr result ((count : ℕ) × (count ≤ length piece.now) × moves self.old (WriteFailed piece.now count ∷ []) self.new) };
 
     // No event leads from a state to itself, and events after events join.
     ghost stays: { (port : Self) → moves port [] port };

@@ -17,6 +17,7 @@ use Rattle.p25_filter.proofs.SameLaws.{AreAlike, IsRun-same}
 use Rattle.p25_stations.specs.declared.step.Event.{Event as StationsEvent}
 use Rattle.p25_fragments.specs.declared.long_step.LongEvent.{LongEvent}
 use Rattle.p25_duplex.specs.declared.event.DuplexEvent.{DuplexEvent}
+use Rattle.p25_tool.specs.CallClauses.{CallSays}
 use Rattle.p25_tool.specs.CallRuns.{AreWrites, IsCallRun, IsCommandRun}
 use Rattle.p25_tool.specs.declared.command.Command.{Command}
 use Rattle.p25_tool.specs.declared.command.Command.TheVariants.{Duplex, Fragments, Sample, Stations}
@@ -243,3 +244,24 @@ module _ {S K : Type 0} (left : S → Option (List ℕ)) (source_faults : S → 
       units-run arrivals input recorded command (left source) (left source_now) (written sink) (written sink_now)
       (λ nac status is. command-fit nac status words (same ∙ ap (λ (c : Command). Some c) is)) units few told run.end outcome run.outcome_is
       (command-filtered command run) (command-complete command run input told no_read no_write)
+
+  -- all of these
+  pub call-says : (words : List (List ℕ)) → IsCallRun (command_of words) events outcome
+      → CallSays (command_of words) (left source) (left source_now) (written sink) (written sink_now) (Rose (source_faults source) (source_faults source_now))
+      (Rose (sink_faults sink) (sink_faults sink_now)) (source_now ≡ source) (sink_now ≡ sink) outcome
+  call-says words call = record {
+    usage = call-usage (command_of words) events outcome call;
+    untouched = call-untouched (command_of words) call;
+    ran = call-ran (command_of words) call;
+    unread = call-unread (command_of words) call;
+    quiet = call-quiet (command_of words) call;
+    complete = call-complete (command_of words) call;
+    sampled = call-sampled (command_of words) call;
+    stations = call-stations (command_of words) call;
+    fragments = call-fragments (command_of words) call;
+    duplex = call-duplex (command_of words) call;
+    recorded = call-recorded words call;
+    read_fault = call-read_fault (command_of words) call;
+    write_fault = call-write_fault (command_of words) call;
+    memory = call-memory (command_of words) call;
+  }

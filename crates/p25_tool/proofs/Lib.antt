@@ -10,3 +10,4 @@ pub mod RecordedRunsLaws
 pub mod BuiltLaws
 pub mod FoundLaws
 pub mod WrittenLaws
+pub mod StreamRunsLaws

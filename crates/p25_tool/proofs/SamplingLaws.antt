@@ -1,5 +1,5 @@
 -- The work of `sample`: the write of its line is a live run, whatever input there is.
-use Rattle.std.proofs.Common.{◌≡◌, ℕ, ◌<◌, List, [], ◌∷◌, length, refl, sym, arith, append-nil}
+use Rattle.std.proofs.Common.{◌≡◌, ℕ, ◌<◌, ◌≤◌, List, [], ◌∷◌, length, refl, sym, arith, append-nil}
 use Rattle.p25_io.specs.Events.{Wrote, WriteFailed}
 use Rattle.p25_filter.specs.Traces.{IsDue, IsRun, at_first}
 use Rattle.p25_filter.specs.declared.ending.Ending.TheVariants.{Done}
@@ -20,5 +20,6 @@ sample-due count = record {
 pub sample-wrote : (count : ℕ) → IsRun (command_future (Sample count)) (Wrote (sample_line count) ∷ []) (Ended Done)
 sample-wrote count = record { live = (sample-due count, tt); ends = (λ is more. refl, λ is more. refl) }
 
-pub sample-failed : (count so_many : ℕ) → IsRun (command_future (Sample count)) (WriteFailed (sample_line count) so_many ∷ []) WriteFault
-sample-failed count so_many = record { live = (sample-due count, tt); ends = (sample_line count, so_many, ([], refl)) }
+pub sample-failed : (count so_many : ℕ) → so_many ≤ length (sample_line count)
+    → IsRun (command_future (Sample count)) (WriteFailed (sample_line count) so_many ∷ []) WriteFault
+sample-failed count so_many fits = record { live = ((sample-due count, fits), tt); ends = (sample_line count, so_many, ([], refl)) }

@@ -1,6 +1,6 @@
 -- A script whose lines are all read: they are read as its events and none is refused, by induction on the lines; and what stands
 -- when its run is done. For any machine that reads each line by itself.
-use Rattle.std.proofs.Common.{◌≡◌, ℕ, ◌+◌, ◌≤◌, Bool, true, false, cond, nat_lt, List, [], ◌∷◌, ◌++◌, length, map, take, Option, Some, None, Result, Ok, Err, ◌⊎◌, inl, inr, refl, ap, ap₂, sym, ◌∙◌, arith}
+use Rattle.std.proofs.Common.{◌≡◌, ℕ, ◌+◌, ◌≤◌, Bool, true, false, cond, nat_lt, List, [], ◌∷◌, ◌++◌, length, map, take, Option, Some, None, Result, Ok, Err, ◌⊎◌, inl, inr, refl, ap, ap₂, sym, subst, ◌∙◌, arith}
 use Rattle.std.specs.Prelude.{IfSome}
 use Rattle.std.specs.List.{flat_map}
 use Rattle.std.proofs.lemmas.List.{take_all}
@@ -9,16 +9,18 @@ use Rattle.p25_delivery.specs.Runs.{EachIs}
 use Rattle.p25_io.specs.Octets.{Appended}
 use Rattle.p25_io.proofs.OctetsLaws.{Appended-same}
 use Rattle.p25_line.specs.declared.fault.LineFault.{LineFault}
-use Rattle.p25_stations.specs.Runs.{IsCleanRun, IsEvent, steps_of, world_run}
-use Rattle.p25_stations.specs.WorldState.{first_world}
+use Rattle.p25_stations.specs.Runs.{AreClean, IsCleanRun, IsEvent, steps_of, world_run}
+use Rattle.p25_stations.specs.WorldState.{WorldState, first_world}
 use Rattle.p25_stations.specs.declared.step.Event.{Event}
 use Rattle.p25_stations.proofs.CleanLaws.{run-orderly}
+use Rattle.p25_stations.proofs.FalsePassLaws.{clean-from_none}
 use Rattle.p25_script.specs.Script.{event_of}
 use Rattle.p25_script.proofs.ScriptLaws.{IsEvent-IsScripted, IsLineOf-event_of}
 use Rattle.p25_fragments.specs.LongState.{first_long}
 use Rattle.p25_fragments.specs.LongRuns.{IsCleanLongRun, IsLongEvent, long_run, long_steps_of}
 use Rattle.p25_fragments.specs.declared.long_step.LongEvent.{LongEvent}
 use Rattle.p25_fragments.specs.declared.long_step.LongEvent.TheVariants.{Long, Inner}
+use Rattle.p25_fragments.proofs.InnerRunLaws.{inner-run}
 use Rattle.p25_fragments.proofs.LongRunLaws.{long-orderly, long-unrefused}
 use Rattle.p25_fragment_script.specs.LongScript.{IsLongScripted, long_event_of}
 use Rattle.p25_fragment_script.specs.LongTexts.{long_step_text_of}
@@ -26,6 +28,7 @@ use Rattle.p25_fragment_script.proofs.LongScriptLaws.{IsLineOf-long_event_of}
 use Rattle.p25_duplex.specs.declared.event.DuplexEvent.{DuplexEvent}
 use Rattle.p25_duplex.specs.DuplexSteps.{first_duplex}
 use Rattle.p25_duplex.specs.DuplexRuns.{IsCleanDuplex, IsDuplexEvent, duplex_run, duplex_steps}
+use Rattle.p25_duplex.proofs.CountLaws.{clean-from_none as duplex-clean}
 use Rattle.p25_duplex.proofs.RunLaws.{run-orderly as duplex-orderly}
 use Rattle.p25_duplex_script.specs.DuplexLines.{duplex_event_of}
 use Rattle.p25_duplex_script.proofs.DuplexLineLaws.{read-event}
@@ -153,14 +156,15 @@ module _ {E S : Type 0} (read : Reading E) (steps : List E → List S) (line : S
   script-ended outcome (inl same) = inl (same ∙ answer-done)
   script-ended outcome (inr wanting) = inr wanting.0
 
-  run-of : (IsClean IsOrderlyRun : List E → Type 0) → (IsClean events → IsOrderlyRun events) → (end : FilterEnd) (outcome : Outcome) → outcome ≡ filter_outcome end
+  run-of : (passes : List E → ℕ) (IsClean IsOrderlyRun : List E → Type 0) → (passes events ≡ 0 → IsClean events) → (IsClean events → IsOrderlyRun events) → (end : FilterEnd) (outcome : Outcome) → outcome ≡ filter_outcome end
       → Filtered told left first last (command_future command) end → (outcome ≡ answer_of command input) ⊎ ((outcome ≡ Memory) × CanWantMemory command)
-      → IsRunOf (λ all. flat_map line (steps all) ++ closing all) IsClean IsOrderlyRun first last events outcome
+      → IsRunOf (λ all. flat_map line (steps all) ++ closing all) passes IsClean IsOrderlyRun first last events outcome
   unfolding text
-  run-of IsClean IsOrderlyRun orderly end outcome same worked complete = record {
+  run-of passes IsClean IsOrderlyRun counted orderly end outcome same worked complete = record {
     ended = script-ended outcome complete;
     wrote = λ done. wrote-done end worked (sym same ∙ done);
     orderly = orderly;
+    counted = counted;
   }
 
 -- Scripts of the stations.
@@ -171,10 +175,16 @@ is_event line event same = IsEvent-IsScripted event (IsLineOf-event_of line even
 pub script-run : (told left first last : Option (List ℕ)) (input : List ℕ) (events : List Event) → IsScriptOf input events → told ≡ Some input → (end : FilterEnd) (outcome : Outcome) → outcome ≡ filter_outcome end
     → Filtered told left first last (command_future Stations) end → (outcome ≡ answer_of Stations input) ⊎ ((outcome ≡ Memory) × CanWantMemory Stations) → HasRun first last events outcome
 script-run told left first last input events script is_told =
-    run-of event_of (steps_of first_world) step_line (λ all. closing_line (world_run first_world all)) Stations refl told left first last input events script is_told IsCleanRun _
-    (run-orderly events (each-read event_of IsEvent is_event (lines_in true [] input) events script.lines))
+    run-of event_of (steps_of first_world) step_line (λ all. closing_line (world_run first_world all)) Stations refl told left first last input events script is_told
+    (λ all. (world_run first_world all).false_passes) IsCleanRun _ (clean-from_none events) (run-orderly events (each-read event_of IsEvent is_event (lines_in true [] input) events script.lines))
 
 -- Scripts of long messages.
+
+-- the inner world counts its false passes
+long-clean : (events : List LongEvent) → (long_run first_long events).inner.false_passes ≡ 0 → IsCleanLongRun events
+long-clean events none =
+    let run = inner-run first_long events in
+    subst AreClean run.steps (clean-from_none run.events (ap (λ (w : WorldState). w.false_passes) run.world ∙ none))
 
 is-long_event : (line : List ℕ) (event : LongEvent) → long_event_of line ≡ Ok event → IsLongEvent event
 unfolding IsLongScripted IsLongEvent
@@ -189,7 +199,7 @@ pub long-script-run : (told left first last : Option (List ℕ)) (input : List �
 long-script-run told left first last input events script is_told =
     let fit = each-read long_event_of IsLongEvent is-long_event (lines_in true [] input) events script.lines in
     run-of long_event_of (long_steps_of first_long) long_step_text_of (λ all. long_closing_line (long_run first_long all)) Fragments refl told left first last input events script is_told
-    IsCleanLongRun IsOrderlyLongRun (λ clean. (long-unrefused events fit clean, long-orderly events fit clean))
+    (λ all. (long_run first_long all).inner.false_passes) IsCleanLongRun IsOrderlyLongRun (long-clean events) (λ clean. (long-unrefused events fit clean, long-orderly events fit clean))
 
 -- Scripts of both stations.
 
@@ -201,4 +211,4 @@ pub duplex-script-run : (told left first last : Option (List ℕ)) (input : List
 duplex-script-run told left first last input events script is_told =
     let fit = each-read duplex_event_of IsDuplexEvent is-duplex_event (lines_in true [] input) events script.lines in
     run-of duplex_event_of (duplex_steps first_duplex) duplex_step_line (λ all. duplex_closing_lines (duplex_run first_duplex all)) Duplex refl told left first last input events script is_told
-    IsCleanDuplex _ (λ clean side. duplex-orderly events side fit clean)
+    (λ all. (duplex_run first_duplex all).false_passes) IsCleanDuplex _ (duplex-clean events) (λ clean side. duplex-orderly events side fit clean)

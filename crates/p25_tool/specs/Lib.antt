@@ -6,6 +6,7 @@ pub mod Scripts
 pub mod LongLines
 pub mod Runs
 pub mod CallRuns
+pub mod CallClauses
 pub mod Recorded
 pub mod RecordedRuns
 pub mod Built

@@ -30,13 +30,14 @@ pub record IsScript {E : Type 0} (read : List ℕ → Result E LineFault) (input
   pub short : length input ≤ input_most
   pub lines : map read (lines_in true [] input) ≡ map (λ event. Ok event) events
 
--- a script was run to its end and all lines that tell of it were written, or memory was wanting; and where the run is clean it is
--- orderly
-pub record IsRunOf {E : Type 0} (text : List E → List ℕ) (IsClean IsOrderlyRun : List E → Type 0) (first last : Option (List ℕ)) (events : List E)
-    (outcome : Outcome) : Type 0 where
+-- a script was run to its end and all lines that tell of it were written, or memory was wanting; where the run is clean it is orderly, and
+-- where the number of false passes that its closing line tells is 0 it is clean
+pub record IsRunOf {E : Type 0} (text : List E → List ℕ) (passes : List E → ℕ) (IsClean IsOrderlyRun : List E → Type 0) (first last : Option (List ℕ))
+    (events : List E) (outcome : Outcome) : Type 0 where
   pub ended : (outcome ≡ Done) ⊎ (outcome ≡ Memory)
   pub wrote : outcome ≡ Done → Appended first (text events) last
   pub orderly : IsClean events → IsOrderlyRun events
+  pub counted : passes events ≡ 0 → IsClean events
 
 -- `stations`: the lines that tell of a run are its steps, and the world after them. Where no step is a false pass, each session is
 -- orderly: the messages delivered are the first of those sent, those acknowledged were delivered, and one at most was delivered
@@ -49,7 +50,8 @@ script_text events = flat_map step_line (steps_of first_world events) ++ closing
 
 abbrev pub HasRun : Option (List ℕ) → Option (List ℕ) → List Event → Outcome → Type 0
 HasRun first last events outcome =
-    IsRunOf script_text IsCleanRun (λ events. AreOrderly (sessions_of (world_run first_world events).delivery)) first last events outcome
+    IsRunOf script_text (λ events. (world_run first_world events).false_passes) IsCleanRun
+    (λ events. AreOrderly (sessions_of (world_run first_world events).delivery)) first last events outcome
 
 -- `fragments`: where no step of the inner world is a false pass, no part is refused and each session is orderly: the long messages
 -- whole are the first of those taken, those acknowledged are whole, and one at most is whole that was not acknowledged
@@ -63,7 +65,8 @@ abbrev pub IsOrderlyLongRun : List LongEvent → Type 0
 IsOrderlyLongRun events = AreUnrefused (long_steps_of first_long events) × AreOrderly (long_sessions_of (long_run first_long events))
 
 abbrev pub HasLongRun : Option (List ℕ) → Option (List ℕ) → List LongEvent → Outcome → Type 0
-HasLongRun first last events outcome = IsRunOf long_script_text IsCleanLongRun IsOrderlyLongRun first last events outcome
+HasLongRun first last events outcome =
+    IsRunOf long_script_text (λ events. (long_run first_long events).inner.false_passes) IsCleanLongRun IsOrderlyLongRun first last events outcome
 
 -- `duplex`: where no step is a false pass, each session of each side's messages is orderly
 abbrev pub IsDuplexScriptOf : List ℕ → List DuplexEvent → Type 0
@@ -74,5 +77,5 @@ duplex_script_text events = flat_map duplex_step_line (duplex_steps first_duplex
 
 abbrev pub HasDuplexRun : Option (List ℕ) → Option (List ℕ) → List DuplexEvent → Outcome → Type 0
 HasDuplexRun first last events outcome =
-    IsRunOf duplex_script_text IsCleanDuplex (λ events. (side : Side) → AreOrderly (sessions_of (delivery_at side (duplex_run first_duplex events))))
-    first last events outcome
+    IsRunOf duplex_script_text (λ events. (duplex_run first_duplex events).false_passes) IsCleanDuplex
+    (λ events. (side : Side) → AreOrderly (sessions_of (delivery_at side (duplex_run first_duplex events)))) first last events outcome

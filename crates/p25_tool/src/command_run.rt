@@ -1,26 +1,19 @@
 //! The call that the program makes.
 
-ghost use Rattle.std.specs.Prelude.{◌≡◌, ℕ, ◌≤◌, ◌↔◌, ◌⊎◌, List, [], length, None, Some, IfSome};
+ghost use Rattle.std.specs.Prelude.{◌≡◌, ℕ, ◌≤◌, ◌↔◌, false, List, [], None};
 ghost use Rattle.p25_io.specs.Events.{Event};
 ghost use Rattle.p25_io.specs.Faults.{Rose};
 ghost use Rattle.p25_io.specs.Pairs.{SinkGoes, SourceGoes};
-ghost use Rattle.p25_filter.specs.Runs.{all_written, input_most};
+ghost use Rattle.p25_io.specs.Tapes.{calls_on, is_torn};
 ghost use Rattle.p25_filter.specs.Traces.{IsRun};
 ghost use Rattle.p25_filter.specs.LineFilters.{first_line, line_future};
-ghost use Rattle.p25_tool.specs.Outputs.{CanWantMemory, command_future};
+ghost use Rattle.p25_tool.specs.Outputs.{command_future};
 ghost use Rattle.p25_recording_filters.specs.Recordings.{fresh, recording_future};
 ghost use Rattle.p25_recording_filters.specs.Softs.{fresh_soft, soft_future};
+ghost use Rattle.p25_tool.specs.CallClauses.{CallSays};
 ghost use Rattle.p25_tool.specs.CallRuns.{AreWrites, IsCallRun};
-ghost use Rattle.p25_tool.specs.Runs.{Ran, answer_of};
-ghost use Rattle.p25_tool.specs.Recorded.{IsRecording};
-ghost use Rattle.p25_tool.specs.RecordedRuns.{HasWrittenUnits, IsUnitCommand};
-ghost use Rattle.p25_tool.specs.Scripts.{HasDuplexRun, HasLongRun, HasRun, IsDuplexScriptOf, IsLongScriptOf, IsScriptOf};
 ghost use Rattle.p25_tool.specs.Words.{IsSoundCommand, command_of};
 ghost use Rattle.p25_tool.specs.declared.command.Command.{Command};
-ghost use Rattle.p25_stream.specs.Arrivals.{Arrival};
-ghost use Rattle.p25_stations.specs.declared.step.Event.{Event as event_type};
-ghost use Rattle.p25_fragments.specs.declared.long_step.LongEvent.{LongEvent as long_event_type};
-ghost use Rattle.p25_duplex.specs.declared.event.DuplexEvent.{DuplexEvent as duplex_event_type};
 
 use super::build::Build;
 use super::command::Command;
@@ -31,7 +24,7 @@ use super::sampling::run_sample;
 use super::stations::Stations;
 use super::words::Words;
 use p25_filter::{FilterEnd, LineFilter, LineMachine};
-use p25_io::{Pair, Port, Sink, Source};
+use p25_io::{Pair, Port, Sink, Source, Tape};
 use p25_recording_filters::{Calls, Change, Changed, Check, Recording, Report, Show, Soft};
 use std::alloc::Global;
 
@@ -57,48 +50,14 @@ pub fn run<S: Source, K: Sink>(
     source: &mut S,
     sink: &mut K,
 ) -> Outcome
-    ensures usage { (result ≡ Outcome.Usage) ↔ (command_of words.now ≡ None) }
-    ensures untouched { result ≡ Outcome.Usage → (source.new ≡ source.old) × (sink.new ≡ sink.old) }
+    // What was taken and written, how it ended, and what comes of a script and of a recording of units within radius.
+    ensures says { CallSays (command_of words.now) (S.left source.old) (S.left source.new) (K.written sink.old) (K.written sink.new)
+        (Rose (S.faults source.old) (S.faults source.new)) (Rose (K.faults sink.old) (K.faults sink.new)) (source.new ≡ source.old)
+        (sink.new ≡ sink.old) result }
 
-    // What was taken and written, and how it ended.
-    ensures ran { IfSome (command_of words.now)
-        (λ command. Ran (S.left source.old) (S.left source.new) (K.written sink.old) (K.written sink.new) command result) }
-    ensures unread { (count : ℕ) → command_of words.now ≡ Some (Command.Sample count) → source.new ≡ source.old }
-    ensures quiet { (command : Command) (input : List ℕ) → command_of words.now ≡ Some command → S.left source.old ≡ Some input
-        → all_written (command_future command) input ≡ [] → sink.new ≡ sink.old }
-    ensures complete { (command : Command) (input : List ℕ) → command_of words.now ≡ Some command → S.left source.old ≡ Some input
-        → ¬ Rose (S.faults source.old) (S.faults source.new) → ¬ Rose (K.faults sink.old) (K.faults sink.new)
-        → (result ≡ answer_of command input) ⊎ ((result ≡ Outcome.Memory) × CanWantMemory command) }
-    ensures sampled { (count : ℕ) → command_of words.now ≡ Some (Command.Sample count) → ¬ Rose (K.faults sink.old) (K.faults sink.new)
-        → result ≡ Outcome.Done }
-
-    // What comes of a script of the stations.
-    ensures stations { (input : List ℕ) (events : List event_type) → command_of words.now ≡ Some Command.Stations → S.left source.old ≡ Some input
-        → IsScriptOf input events → ¬ Rose (S.faults source.old) (S.faults source.new) → ¬ Rose (K.faults sink.old) (K.faults sink.new)
-        → HasRun (K.written sink.old) (K.written sink.new) events result }
-
-    // What comes of a script of long messages.
-    ensures fragments { (input : List ℕ) (events : List long_event_type) → command_of words.now ≡ Some Command.Fragments
-        → S.left source.old ≡ Some input → IsLongScriptOf input events → ¬ Rose (S.faults source.old) (S.faults source.new)
-        → ¬ Rose (K.faults sink.old) (K.faults sink.new) → HasLongRun (K.written sink.old) (K.written sink.new) events result }
-
-    // What comes of a script of both stations.
-    ensures duplex { (input : List ℕ) (events : List duplex_event_type) → command_of words.now ≡ Some Command.Duplex
-        → S.left source.old ≡ Some input → IsDuplexScriptOf input events → ¬ Rose (S.faults source.old) (S.faults source.new)
-        → ¬ Rose (K.faults sink.old) (K.faults sink.new) → HasDuplexRun (K.written sink.old) (K.written sink.new) events result }
-
-    // What comes of a recording of units within radius.
-    ensures recorded { (command : Command) (arrivals : List Arrival) (input : List ℕ) → command_of words.now ≡ Some command → IsUnitCommand command
-        → S.left source.old ≡ Some input → IsRecording arrivals input → length input ≤ input_most
-        → ¬ Rose (S.faults source.old) (S.faults source.new) → ¬ Rose (K.faults sink.old) (K.faults sink.new)
-        → HasWrittenUnits (K.written sink.old) (K.written sink.new) command arrivals result }
-
-    // Why it was refused.
+    // Counts of faults never fall.
     ensures source_later { S.faults source.old ≤ S.faults source.new }
     ensures sink_later { K.faults sink.old ≤ K.faults sink.new }
-    ensures read_fault { result ≡ Outcome.ReadFault → Rose (S.faults source.old) (S.faults source.new) }
-    ensures write_fault { result ≡ Outcome.WriteFault → Rose (K.faults sink.old) (K.faults sink.new) }
-    ensures memory { result ≡ Outcome.Memory → IfSome (command_of words.now) CanWantMemory }
 {
     run_between(alloc, words, source, sink)
 }
@@ -131,6 +90,16 @@ pub fn run_on<P: Port>(alloc: Global, words: &Words, port: &mut P) -> Outcome
         None => Outcome::Usage,
         Some(command) => outcome_of(run_command(alloc, command, port)),
     }
+}
+
+/// Does what the words say on a tape without a call.
+///
+/// Unless the tape is torn, the calls that it tells of are those of `run_on`.
+pub fn run_on_tape(alloc: Global, words: &Words, tape: &mut Tape<'_>) -> Outcome
+    requires blank { calls_on tape.old ≡ [] }
+    ensures called { is_torn tape.new ≡ false → IsCallRun (command_of words.now) (calls_on tape.new) result }
+{
+    run_on(alloc, words, tape)
 }
 
 // The work of a command.

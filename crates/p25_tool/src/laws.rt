@@ -1,45 +1,51 @@
 //! What the commands make of units: laws of their outputs; and what a call comes to by its events. The bodies are empty: each
 //! function states what is proved.
 
-ghost use Rattle.std.specs.Prelude.{◌≡◌, ◌⊎◌, ℕ, List, Some, IfSome};
+ghost use Rattle.std.specs.Prelude.{◌≡◌, ℕ, true, List, ◌++◌, Some, IfSome};
 ghost use Rattle.p25_io.specs.Events.{Event};
 ghost use Rattle.p25_io.specs.Faults.{Rose};
 ghost use Rattle.p25_io.specs.Pairs.{SinkGoes, SourceGoes};
+ghost use Rattle.p25_io.specs.Streams.{StreamsGo, reader_in, writer_in};
+ghost use Rattle.p25_io.specs.declared.streams.Streams.{Streams};
+ghost use Rattle.p25_filter.specs.Traces.{HasReadFault, HasWriteFault};
+ghost use Rattle.p25_tool.specs.CallClauses.{CallSays};
 ghost use Rattle.p25_tool.specs.CallRuns.{IsCallRun};
-ghost use Rattle.p25_tool.specs.Outputs.{CanWantMemory};
-ghost use Rattle.p25_tool.specs.Runs.{Ran, answer_of};
+ghost use Rattle.p25_tool.specs.Outputs.{output_by};
 ghost use Rattle.p25_tool.specs.Words.{command_of};
-ghost use Rattle.p25_tool.specs.declared.command.Command.{Command};
 ghost use Rattle.p25_tool.specs.declared.outcome.Outcome.{Outcome};
 ghost use Rattle.p25_tool.specs.Built.{AcceptedAreRead, BuildsUnits, LinesAreTexts};
 ghost use Rattle.p25_tool.specs.Recorded.{BridgesUnits, ChecksUnits, RepairKeepsLength, RepairedIsRecorded, RepairsEachUnit, RepairsUnits, ShowsEachUnit, ShowsUnits, UnitsAreRecorded};
-ghost use Rattle.p25_tool.specs.Written.{AllIsWritten};
+ghost use Rattle.p25_tool.specs.Written.{AllIsWritten, HasEnded};
 
 use p25_io::{Sink, Source};
+use std::io::{Read, Write};
 
-/// **Theorem.** What `run` says of a call follows from the events of the call, which `run_on` tells. So it holds wherever a source
-/// and a sink went through the events of a call, as in the program.
-///
-/// - `ran`: what was taken and written, and how it ended.
-/// - `complete`: its answer where no read and no write fails.
-/// - `read_fault`, `write_fault`: a fault has its cause.
+/// **Theorem.** All that `run` says of a call follows from the events of the call, which `run_on` tells. So it holds wherever a source
+/// and a sink went through the events of a call.
 pub fn run_laws<S: Source, K: Sink>()
-    ensures ran { (words : List (List ℕ)) (events : List Event) (outcome : Outcome) (source source_now : S) (sink sink_now : K)
+    ensures { (words : List (List ℕ)) (events : List Event) (outcome : Outcome) (source source_now : S) (sink sink_now : K)
         → SourceGoes S.left S.faults source events source_now → SinkGoes K.written K.faults sink events sink_now
         → IsCallRun (command_of words) events outcome
-        → IfSome (command_of words) (λ command. Ran (S.left source) (S.left source_now) (K.written sink) (K.written sink_now) command outcome) }
-    ensures complete { (words : List (List ℕ)) (events : List Event) (outcome : Outcome) (source source_now : S) (sink sink_now : K)
-        → SourceGoes S.left S.faults source events source_now → SinkGoes K.written K.faults sink events sink_now
-        → IsCallRun (command_of words) events outcome
-        → (command : Command) (input : List ℕ) → command_of words ≡ Some command → S.left source ≡ Some input
-        → ¬ Rose (S.faults source) (S.faults source_now) → ¬ Rose (K.faults sink) (K.faults sink_now)
-        → (outcome ≡ answer_of command input) ⊎ ((outcome ≡ Outcome.Memory) × CanWantMemory command) }
-    ensures read_fault { (words : List (List ℕ)) (events : List Event) (outcome : Outcome) (source source_now : S) (sink sink_now : K)
-        → SourceGoes S.left S.faults source events source_now → SinkGoes K.written K.faults sink events sink_now
-        → IsCallRun (command_of words) events outcome → outcome ≡ Outcome.ReadFault → Rose (S.faults source) (S.faults source_now) }
-    ensures write_fault { (words : List (List ℕ)) (events : List Event) (outcome : Outcome) (source source_now : S) (sink sink_now : K)
-        → SourceGoes S.left S.faults source events source_now → SinkGoes K.written K.faults sink events sink_now
-        → IsCallRun (command_of words) events outcome → outcome ≡ Outcome.WriteFault → Rose (K.faults sink) (K.faults sink_now) }
+        → CallSays (command_of words) (S.left source) (S.left source_now) (K.written sink) (K.written sink_now)
+        (Rose (S.faults source) (S.faults source_now)) (Rose (K.faults sink) (K.faults sink_now)) (source_now ≡ source) (sink_now ≡ sink) outcome }
+{}
+
+/// **Theorem.** What a call comes to on streams, by the events that were made on them: the program's own call says these events.
+///
+/// The reader tells what is left in it, as a slice and a cursor do, and the writer what it holds, as a `Vec` does.
+///
+/// - `says`: all that `run` says, where a fault is a read or a write of the events that failed.
+/// - `ended`: a call that came to the end of its input wrote all of its output, after what stood there before.
+pub fn stream_laws<R: Read, W: Write>()
+    ensures says { (words : List (List ℕ)) (events : List Event) (outcome : Outcome) (first last : Streams R W) (input held : List ℕ)
+        → StreamsGo R.remaining W.contents first events last → IsCallRun (command_of words) events outcome
+        → R.remaining (reader_in first) ≡ Some input → W.contents (writer_in first) ≡ Some held
+        → CallSays (command_of words) (Some input) (R.remaining (reader_in last)) (Some held) (W.contents (writer_in last)) (HasReadFault events)
+        (HasWriteFault events) (R.remaining (reader_in last) ≡ Some input) (W.contents (writer_in last) ≡ Some held) outcome }
+    ensures ended { (words : List (List ℕ)) (events : List Event) (outcome : Outcome) (first last : Streams R W) (input held : List ℕ)
+        → StreamsGo R.remaining W.contents first events last → IsCallRun (command_of words) events outcome
+        → R.remaining (reader_in first) ≡ Some input → W.contents (writer_in first) ≡ Some held → HasEnded outcome
+        → IfSome (command_of words) (λ command. W.contents (writer_in last) ≡ Some (held ++ output_by command true input)) }
 {}
 
 /// **Theorem.** A call of `run` that came to the end of its input wrote all of `output_by` of all that the

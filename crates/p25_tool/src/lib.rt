@@ -32,7 +32,7 @@ mod stations;
 mod words;
 
 pub use command::Command;
-pub use command_run::{run, run_on};
+pub use command_run::{run, run_on, run_on_tape};
 pub use outcome::{Outcome, outcome_status, outcome_text};
 pub use p25_duplex_script::read_duplex_event;
 pub use p25_fragment_script::read_long_event;

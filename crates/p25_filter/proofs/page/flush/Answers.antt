@@ -16,7 +16,7 @@ returns-in_err-write-clause-err g c =
     let some : 0 < length piece = omega (arith, c.len.ensures.value, c.if-len-eq0.false, ap length c.octets.ensures) in
     at-error c.from_residual.result (CutShort g.P.Port.moves c.args.port.now c.args.page.now c.write.new.self)
     (subst (λ (zs : List ℕ). CutShort g.P.Port.moves c.args.port.now zs c.write.new.self) c.octets.ensures
-    (CutShort-one g.P.Port.moves g.met.P.Port.stays g.met.P.Port.joins c.args.port.now c.write.new.self piece err.0 some err.1))
+    (CutShort-one g.P.Port.moves g.met.P.Port.stays g.met.P.Port.joins c.args.port.now c.write.new.self piece err.0 some err.1 err.2))
 
 pub returns-clause-ok : goal.returns-clause-ok
 returns-clause-ok g c =

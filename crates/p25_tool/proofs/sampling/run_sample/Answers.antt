@@ -1,4 +1,4 @@
-use Rattle.std.proofs.Common.{◌≡◌, ℕ, List, [], ◌∷◌, ap, subst, ◌∙◌}
+use Rattle.std.proofs.Common.{◌≡◌, ◌≤◌, ℕ, List, [], ◌∷◌, length, ap, subst, ◌∙◌}
 use Rattle.p25_io.specs.Events.{Event, Wrote, WriteFailed}
 use Rattle.p25_tool.specs.Outputs.{sample_line}
 use Rattle.p25_tool.proofs.SamplingLaws.{sample-failed, sample-wrote}
@@ -22,7 +22,7 @@ returns-in-Err g c =
     let err = c.in-Err.ensures.err in
     let same : c.octets.result.now ≡ sample_line count = c.octets.ensures ∙ c.put_sample_line.ensures ∙ ap sample_line c.sample.ensures.units in (
       WriteFailed (sample_line count) err.0 ∷ [],
-      subst (λ (zs : List ℕ). moves c.args.port.now (WriteFailed zs err.0 ∷ []) c.write.new.self) same err.1,
-      sample-failed count err.0,
+      subst (λ (zs : List ℕ). moves c.args.port.now (WriteFailed zs err.0 ∷ []) c.write.new.self) same err.2,
+      sample-failed count err.0 (subst (λ (zs : List ℕ). err.0 ≤ length zs) same err.1),
       tt,
     )

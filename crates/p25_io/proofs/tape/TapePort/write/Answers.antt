@@ -8,6 +8,7 @@ returns-in-Err-clause-err c =
     let count = length c.written.result.now - length c.written-before.result.now in
     let grown = beginning-grown _ c.args.piece.now _ count (omega (arith, ap length c.written.ensures, ap length c.written-before.ensures)) c.in-Err.ensures.err in (
       count,
+      grown.0,
       record {
         source = kept.source;
         sink = (
