@@ -12,3 +12,5 @@ pub mod FoundLaws
 pub mod UnchangedLaws
 pub mod SameUnitsLaws
 pub mod PlaceLaws
+pub mod AlikeLaws
+pub mod AfterUnitLaws
