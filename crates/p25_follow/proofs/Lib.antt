@@ -14,3 +14,5 @@ pub mod SameUnitsLaws
 pub mod PlaceLaws
 pub mod AlikeLaws
 pub mod AfterUnitLaws
+pub mod WrittenUnitsLaws
+pub mod NeverWorseLaws

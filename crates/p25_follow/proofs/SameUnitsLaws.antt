@@ -79,7 +79,7 @@ covers-within at count bits some ends =
 
 -- ---- the units after it
 
-among-rest : (item : Item) (items : List Item) → is_rest item ≡ true → units_among (item ∷ items) ≡ units_among items
+pub among-rest : (item : Item) (items : List Item) → is_rest item ≡ true → units_among (item ∷ items) ≡ units_among items
 unfolding units_among
 among-rest item items rest = cond-true (is_rest item) (units_among items) (item ∷ units_among items) rest
 

@@ -1,5 +1,5 @@
 -- The units of a recording with the fronts written: those that the scan finds in it, and those whose fronts are written.
-use Rattle.std.specs.Prelude.{ℕ, zero, suc, ◌+◌, if◌then◌else◌, List, [], ◌∷◌, ◌++◌, Bool, length, take, drop, Option, Some, None}
+use Rattle.std.specs.Prelude.{◌≡◌, ℕ, zero, suc, ◌+◌, ◌⊎◌, if◌then◌else◌, List, [], ◌∷◌, ◌++◌, Bool, length, take, drop, Option, Some, None}
 use Rattle.p25_units.specs.Items.{covered, unit_item_of}
 use Rattle.p25_units.specs.declared.item.Item.{Item}
 use Rattle.p25_follow.specs.Chains.{with_front}
@@ -34,3 +34,8 @@ units_by at before stretch (item ∷ items) bits =
     if is_rest item
     then units_by at before (stretch ++ raw) items rest
     else written_units at before stretch (unit_name item) ++ (item ∷ units_by (at + length stretch + covered item) (unit_name item) [] items rest)
+
+-- some items stand among others, in the same order
+unfoldable pub Among : List Item → List Item → Type 0
+Among items [] = items ≡ []
+Among items (other ∷ others) = ((rest : List Item) × (items ≡ other ∷ rest) × Among rest others) ⊎ Among items others

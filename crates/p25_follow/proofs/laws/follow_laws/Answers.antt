@@ -7,6 +7,7 @@ use Rattle.p25_follow.proofs.KindLaws.{IsKind, expected-kinds, is_expected-all}
 use Rattle.p25_follow.proofs.LengthLaws.{length-follow_of}
 use Rattle.p25_follow.proofs.StepLaws.{step_of-append, step_of-there}
 use Rattle.p25_follow.proofs.TellsLaws.{step-near, step-reads}
+use Rattle.p25_follow.proofs.NeverWorseLaws.{never-worse, second-nothing}
 use Rattle.p25_follow.proofs.PlaceLaws.{place-few}
 use Rattle.p25_follow.proofs.SameUnitsLaws.{same-units}
 use Rattle.p25_follow.proofs.UnchangedLaws.{follow-untouched, rest-stays, symbol-stays}
@@ -55,6 +56,12 @@ returns-clause-place c = place-few
 
 pub returns-clause-same : goal.returns-clause-same
 returns-clause-same c = same-units
+
+pub returns-clause-never_worse : goal.returns-clause-never_worse
+returns-clause-never_worse c = never-worse
+
+pub returns-clause-second : goal.returns-clause-second
+returns-clause-second c = second-nothing
 
 pub returns-clause-settled : goal.returns-clause-settled
 returns-clause-settled c = chain-settles
