@@ -16,3 +16,6 @@ pub mod AlikeLaws
 pub mod AfterUnitLaws
 pub mod WrittenUnitsLaws
 pub mod NeverWorseLaws
+pub mod FrontBitsLaws
+pub mod StretchesLaws
+pub mod CompleteLaws

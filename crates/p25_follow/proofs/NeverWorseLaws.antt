@@ -11,7 +11,7 @@ use Rattle.p25_follow.specs.Chains.{chain_by, with_front}
 use Rattle.p25_follow.specs.Expected.{kind_length}
 use Rattle.p25_follow.specs.Followed.{follow_of, followed_by, is_rest, unit_name}
 use Rattle.p25_follow.specs.FollowedUnits.{Among, units_by, written_units}
-use Rattle.p25_follow.specs.NeverWorseLaws.{NeverWorse, SecondChangesNothing}
+use Rattle.p25_follow.specs.RecordingLaws.{NeverWorse, SecondChangesNothing}
 use Rattle.p25_follow.specs.Steps.{step_of}
 use Rattle.p25_follow.specs.StretchLaws.{units_among}
 use Rattle.p25_follow.proofs.AfterUnitLaws.{Sound, agree-after, none-sound, some-sound, sound-some, unit-sound}

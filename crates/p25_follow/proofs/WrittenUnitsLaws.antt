@@ -121,7 +121,7 @@ among-nil = refl
 
 -- ---- bits in which no unit begins are a stretch
 
-append-take : (c less : ℕ) (bits : List Bool) → c ≤ length bits → take c bits ++ take less (drop c bits) ≡ take (c + less) bits
+pub append-take : (c less : ℕ) (bits : List Bool) → c ≤ length bits → take c bits ++ take less (drop c bits) ≡ take (c + less) bits
 append-take c less bits fits =
     let first = take c bits in
     let rest = drop c bits in

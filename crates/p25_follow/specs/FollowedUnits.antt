@@ -1,6 +1,6 @@
 -- The units of a recording with the fronts written: those that the scan finds in it, and those whose fronts are written.
-use Rattle.std.specs.Prelude.{◌≡◌, ℕ, zero, suc, ◌+◌, ◌⊎◌, if◌then◌else◌, List, [], ◌∷◌, ◌++◌, Bool, length, take, drop, Option, Some, None}
-use Rattle.p25_units.specs.Items.{covered, unit_item_of}
+use Rattle.std.specs.Prelude.{◌≡◌, ℕ, zero, suc, ◌+◌, ◌-◌, ◌<◌, ◌≤◌, ◌⊎◌, true, if◌then◌else◌, List, [], ◌∷◌, ◌++◌, Bool, length, take, drop, Option, Some, None}
+use Rattle.p25_units.specs.Items.{covered, place_of, unit_item_of}
 use Rattle.p25_units.specs.declared.item.Item.{Item}
 use Rattle.p25_follow.specs.Chains.{with_front}
 use Rattle.p25_follow.specs.Expected.{kind_length}
@@ -39,3 +39,40 @@ units_by at before stretch (item ∷ items) bits =
 unfoldable pub Among : List Item → List Item → Type 0
 Among items [] = items ≡ []
 Among items (other ∷ others) = ((rest : List Item) × (items ≡ other ∷ rest) × Among rest others) ⊎ Among items others
+
+-- of these the units whose fronts are written alone
+unfoldable pub fronts_by : ℕ → Option (ℕ × ℕ) → List Bool → List Item → List Bool → List Item
+fronts_by at before stretch [] bits = written_units at before stretch None
+fronts_by at before stretch (item ∷ items) bits =
+    let raw = take (covered item) bits in
+    let rest = drop (covered item) bits in
+    if is_rest item
+    then fronts_by at before (stretch ++ raw) items rest
+    else written_units at before stretch (unit_name item) ++ fronts_by (at + length stretch + covered item) (unit_name item) [] items rest
+
+-- a place is that of a front bit of one of some units: of the 70 before the status symbol within its front, or of the 42 after it
+unfoldable pub IsFrontBit : ℕ → List Item → Type 0
+IsFrontBit place [] = ⊥
+IsFrontBit place (unit ∷ units) =
+    ((place_of unit ≤ place) × ((place < place_of unit + 70) ⊎ ((place_of unit + 72 ≤ place) × (place < place_of unit + 114))))
+    ⊎ IsFrontBit place units
+
+-- a place is that of a bit of a stretch, among items that lie end to end from a place on
+unfoldable pub IsInStretch : ℕ → ℕ → List Item → Type 0
+IsInStretch place at [] = ⊥
+IsInStretch place at (item ∷ items) =
+    ((is_rest item ≡ true) × (at ≤ place) × (place < at + covered item)) ⊎ IsInStretch place (at + covered item) items
+
+-- the name of the unit that some items begin with, or none
+abbrev pub end_name : List Item → Option (ℕ × ℕ)
+end_name [] = None
+end_name (item ∷ items) = unit_name item
+
+-- from the beginning of bits up to a place, after a unit with a name, lie units of these kinds whose fronts are written, end to end, and
+-- the last unit before the place, one of them or the one before the bits, has this name
+unfoldable pub IsWrittenUpTo : List ℕ → ℕ × ℕ → List Bool → Option (ℕ × ℕ) → ℕ → ℕ × ℕ → Type 0
+IsWrittenUpTo [] before bits end place name = (place ≡ 0) × (before ≡ name)
+IsWrittenUpTo (kind ∷ kinds) before bits end place name =
+    (step_of before bits end ≡ Some kind)
+    × (kind_length kind ≤ place)
+    × IsWrittenUpTo kinds (before.0, kind) (drop (kind_length kind) bits) end (place - kind_length kind) name

@@ -7,4 +7,4 @@ pub mod Following
 pub mod FollowLaws
 pub mod StretchLaws
 pub mod FollowedUnits
-pub mod NeverWorseLaws
+pub mod RecordingLaws
