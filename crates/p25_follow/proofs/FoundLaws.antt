@@ -125,14 +125,15 @@ found-unit place nid sent reads =
     subst (IsFoundAs nid (length sent)) (sym (unit_item_of-some place sent nid (frame_from nid.0 (statuses_of sent) (body_reading_of nid.1 (bare_of sent))) reads (reading_from-some nid sent)))
     (found-by place nid sent (body_reading_of nid.1 (bare_of sent)) refl)
 
-pub record IsWrittenUnit (place nac kind : ℕ) (all : List Bool) : Type 0 where
+pub record IsWrittenUnit (place nac kind : ℕ) (unit all : List Bool) : Type 0 where
+  pub item_is : first_item place all ≡ unit_item_of place unit
   pub name_is : unit_name (first_item place all) ≡ Some (nac, kind)
-  pub unit : is_rest (first_item place all) ≡ false
+  pub is_unit : is_rest (first_item place all) ≡ false
   pub covers : covered (first_item place all) ≡ kind_length kind
   pub decided : is_decided all ≡ true
 
 pub written-found : (place nac kind : ℕ) (bits more : List Bool) → nac < 4096 → 144 ≤ kind_length kind → kind < 16 → length bits ≡ kind_length kind
-    → IsWrittenUnit place nac kind (with_front (nac, kind) bits ++ more)
+    → IsWrittenUnit place nac kind (with_front (nac, kind) bits) (with_front (nac, kind) bits ++ more)
 written-found place nac kind bits more nac_fits few kind_fits long =
     let enough : 114 ≤ length bits = omega (arith, few, long) in
     let unit = with_front (nac, kind) bits in
@@ -154,8 +155,9 @@ written-found place nac kind bits more nac_fits few kind_fits long =
     let found = found-unit place (nac, kind) unit reads in
     let same : first_item place all ≡ unit_item_of place unit = item ∙ ap (unit_item_of place) own in
     record {
+      item_is = same;
       name_is = ap unit_name same ∙ found.name_is;
-      unit = ap is_rest same ∙ found.unit;
+      is_unit = ap is_rest same ∙ found.unit;
       covers = ap covered item ∙ covered-unit_item_of place all count need;
       decided = is_decided-synced all (Length count) synced need;
     }

@@ -12,3 +12,10 @@ pub mod FoundLaws
 pub mod UnchangedLaws
 pub mod SameUnitsLaws
 pub mod PlaceLaws
+pub mod AlikeLaws
+pub mod AfterUnitLaws
+pub mod WrittenUnitsLaws
+pub mod NeverWorseLaws
+pub mod FrontBitsLaws
+pub mod StretchesLaws
+pub mod CompleteLaws

@@ -29,7 +29,7 @@ unit-there at count bits need =
     let enough : 114 ≤ count = omega (arith, there.0, there.2) in
     (found-unit at known.nid (take count bits) (identifier_of-take count bits enough ∙ known.read)).unit
 
-true-false : (b : Bool) → b ≡ true → b ≡ false → ⊥
+pub true-false : (b : Bool) → b ≡ true → b ≡ false → ⊥
 true-false true yes' no' = absurd (cc)
 true-false false yes' no' = absurd (cc)
 
@@ -37,7 +37,7 @@ pub no_sync-rest : (at : ℕ) (bits : List Bool) → has_sync bits ≡ false →
 no_sync-rest at bits no' = ap is_rest (first_item-gap at bits no')
 
 -- whether a unit begins is the same wherever the stream begins
-rest-at : (at other : ℕ) (bits : List Bool) → is_rest (first_item at bits) ≡ true → is_rest (first_item other bits) ≡ true
+pub rest-at : (at other : ℕ) (bits : List Bool) → is_rest (first_item at bits) ≡ true → is_rest (first_item other bits) ≡ true
 rest-at at other bits rest =
     first_item-cases (λ item. is_rest (first_item at bits) ≡ true → is_rest item ≡ true) other bits
     (λ no' here. refl)
@@ -51,11 +51,11 @@ rest-at at other bits rest =
 -- ---- how far a stretch reaches
 
 -- no unit begins at the first places of some bits, so many
-abbrev RestPlaces : ℕ → List Bool → Type 0
+abbrev pub RestPlaces : ℕ → List Bool → Type 0
 RestPlaces count bits = (place : ℕ) → place < count → is_rest (first_item 0 (drop place bits)) ≡ true
 
 -- and then comes one, or the end
-abbrev Ends : ℕ → List Bool → Type 0
+abbrev pub Ends : ℕ → List Bool → Type 0
 Ends count bits = (count ≡ length bits) ⊎ (is_rest (first_item 0 (drop count bits)) ≡ false)
 
 synced-end : (count : ℕ) (bits : List Bool) → is_rest (first_item 0 (drop count bits)) ≡ false → sync_place bits ≤ count
@@ -69,7 +69,7 @@ sync-within : (count : ℕ) (bits : List Bool) → Ends count bits → sync_plac
 sync-within count bits (inl all) = omega (arith, all, sync_place-le bits)
 sync-within count bits (inr unit) = synced-end count bits unit
 
-covers-within : (at count : ℕ) (bits : List Bool) → 0 < count → Ends count bits → is_rest (first_item at bits) ≡ true → covered (first_item at bits) ≤ count
+pub covers-within : (at count : ℕ) (bits : List Bool) → 0 < count → Ends count bits → is_rest (first_item at bits) ≡ true → covered (first_item at bits) ≤ count
 covers-within at count bits some ends =
     first_item-cases (λ item. is_rest item ≡ true → covered item ≤ count) at bits
     (λ no' rest. omega (arith, sync-within count bits ends))
@@ -79,16 +79,16 @@ covers-within at count bits some ends =
 
 -- ---- the units after it
 
-among-rest : (item : Item) (items : List Item) → is_rest item ≡ true → units_among (item ∷ items) ≡ units_among items
+pub among-rest : (item : Item) (items : List Item) → is_rest item ≡ true → units_among (item ∷ items) ≡ units_among items
 unfolding units_among
 among-rest item items rest = cond-true (is_rest item) (units_among items) (item ∷ units_among items) rest
 
 -- the end is the same, seen from a later place
-ends-later : (count c : ℕ) (bits left : List Bool) (less : ℕ) → less + length bits ≡ count + length left → drop less left ≡ drop count bits → Ends count bits → Ends less left
+pub ends-later : (count c : ℕ) (bits left : List Bool) (less : ℕ) → less + length bits ≡ count + length left → drop less left ≡ drop count bits → Ends count bits → Ends less left
 ends-later count c bits left less long same (inl all) = inl (omega (arith, all, long))
 ends-later count c bits left less long same (inr unit) = inr (ap (λ (xs : List Bool). is_rest (first_item 0 xs)) same ∙ unit)
 
-same_units-in : (n at count : ℕ) (bits : List Bool) → count ≤ n → count ≤ length bits → RestPlaces count bits → Ends count bits
+pub same_units-in : (n at count : ℕ) (bits : List Bool) → count ≤ n → count ≤ length bits → RestPlaces count bits → Ends count bits
     → units_among (items_of at bits) ≡ units_among (items_of (at + count) (drop count bits))
 same_units-in n at zero bits few there rests ends = ap (λ (p : ℕ). units_among (items_of p bits)) (sym (add-zero at))
 same_units-in zero at (suc count) bits few there rests ends = absurd (omega arith)
@@ -120,7 +120,7 @@ pub record IsStretch (at : ℕ) (bits : List Bool) (count : ℕ) (after : List I
   pub left : items_of (at + count) (drop count bits) ≡ after
 
 -- no unit begins at any place of an item that is none
-places-of : (at : ℕ) (bits : List Bool) → is_rest (first_item at bits) ≡ true → RestPlaces (covered (first_item at bits)) bits
+pub places-of : (at : ℕ) (bits : List Bool) → is_rest (first_item at bits) ≡ true → RestPlaces (covered (first_item at bits)) bits
 places-of at bits =
     first_item-cases (λ item. is_rest item ≡ true → RestPlaces (covered item) bits) at bits
     (λ no' rest place before. no_sync-rest 0 (drop place bits) (has_sync-before bits place (omega (arith, before))))
@@ -170,7 +170,7 @@ none-left count at bits there none =
       | inr behind ↦ omega arith
     ]
 
-unit-at : (at : ℕ) (bits : List Bool) → is_rest (first_item at bits) ≡ false → is_rest (first_item 0 bits) ≡ false
+pub unit-at : (at : ℕ) (bits : List Bool) → is_rest (first_item at bits) ≡ false → is_rest (first_item 0 bits) ≡ false
 unit-at at bits unit =
     elim (cases_Bool (is_rest (first_item 0 bits))) [
       | inl rest ↦ absurd (true-false (is_rest (first_item at bits)) (rest-at 0 at bits rest) unit)

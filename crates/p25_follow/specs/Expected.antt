@@ -1,8 +1,9 @@
--- What may come after a unit, by kind. A kind is a data unit identifier (DUID): 0 of an HDU, 3 of a TDU, 5 of an LDU1, A hex of an LDU2, C hex of
--- a packet (PDU) and F hex of a TDULC. A name is the network access code (NAC) of a unit and its kind.
+-- What may come after a unit, by kind. A kind is a data unit identifier (DUID). A name is the network access code (NAC) of a unit and its
+-- kind.
 use Rattle.std.specs.Prelude.{ℕ, Bool, if◌then◌else◌, ◌==◌, List, [], ◌∷◌, Option, Some, None}
 use Rattle.std.specs.List.{list_any}
 use Rattle.std.specs.Option.{option_map, unwrap_or}
+use Rattle.p25_bch_nid.specs.Duids.{duid_hdu, duid_ldu1, duid_ldu2, duid_tdu, duid_tdulc}
 use Rattle.p25_bch_nid.specs.declared.nid.Nid.{Nid}
 use Rattle.p25_voice_units.specs.Lengths.{voice_length_of}
 use Rattle.p25_units.specs.Units.{sent_length}
@@ -21,10 +22,10 @@ kind_length kind = sent_length (unwrap_or (voice_length_of kind) 0)
 -- the kinds that may come after a unit of a kind, in the order in which they are tried
 unfoldable pub expected_after : ℕ → List ℕ
 expected_after kind =
-    if kind == 0x0 then 0x5 ∷ 0xF ∷ 0x3 ∷ []
-    else if kind == 0x5 then 0xA ∷ 0xF ∷ 0x3 ∷ []
-    else if kind == 0xA then 0x5 ∷ 0xF ∷ 0x3 ∷ []
-    else if kind == 0xF then 0x0 ∷ 0xF ∷ 0x3 ∷ []
+    if kind == duid_hdu then duid_ldu1 ∷ duid_tdulc ∷ duid_tdu ∷ []
+    else if kind == duid_ldu1 then duid_ldu2 ∷ duid_tdulc ∷ duid_tdu ∷ []
+    else if kind == duid_ldu2 then duid_ldu1 ∷ duid_tdulc ∷ duid_tdu ∷ []
+    else if kind == duid_tdulc then duid_hdu ∷ duid_tdulc ∷ duid_tdu ∷ []
     else []
 
 -- whether a kind may come after a unit of a kind
@@ -33,4 +34,8 @@ is_expected before kind = list_any (λ next. next == kind) (expected_after befor
 
 -- the logical link unit (LDU1 or LDU2) that comes next after a unit of a kind
 unfoldable pub next_link : ℕ → Option ℕ
-next_link kind = if kind == 0x0 then Some 0x5 else if kind == 0x5 then Some 0xA else if kind == 0xA then Some 0x5 else None
+next_link kind =
+    if kind == duid_hdu then Some duid_ldu1
+    else if kind == duid_ldu1 then Some duid_ldu2
+    else if kind == duid_ldu2 then Some duid_ldu1
+    else None

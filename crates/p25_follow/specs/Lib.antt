@@ -6,3 +6,5 @@ pub mod Followed
 pub mod Following
 pub mod FollowLaws
 pub mod StretchLaws
+pub mod FollowedUnits
+pub mod RecordingLaws

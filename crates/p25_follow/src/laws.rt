@@ -1,6 +1,7 @@
 //! The laws of what follows. The body is empty: the function states what is proved.
 
 ghost use Rattle.p25_follow.specs.FollowLaws.{ChainsUnfold, FollowerWrites, FrontAlone, LengthIsKept, NameStays, NearIsWritten, NoStretchNoChange, SettledStays, StepIsThere, StepLooksAtFew, WrittenIsFound};
+ghost use Rattle.p25_follow.specs.RecordingLaws.{CompleteInStretches, FrontBitsAlone, NeverWorse, SecondChangesNothing, StretchByStretch};
 ghost use Rattle.p25_follow.specs.StretchLaws.{PlaceLooksAtFew, SameUnitsAfter};
 
 /// **Theorem.** What is written of a recording, over all bits.
@@ -18,6 +19,13 @@ ghost use Rattle.p25_follow.specs.StretchLaws.{PlaceLooksAtFew, SameUnitsAfter};
 /// - `found`: where a front is written and an item begins, that item is a unit of this name and this length, whatever bits follow.
 /// - `place`: whether a unit, whole, broken or cut, begins at a place hangs on the 316 bits from there alone.
 /// - `same`: wherever in a stretch the scan begins, the units that it finds are those after the stretch.
+/// - `stretches`: of a recording the bits of each unit come as they are, and those of a stretch after it as its chain.
+/// - `complete_in`: in a stretch of a recording, directly after the unit before it or one whose front is written, a unit of its
+///   network, of a kind that may come, at most 11 of the bits of whose identifier are wrong, comes out with its front.
+/// - `places`: where what is written differs from the recording, that is a front bit of a unit whose front is written, in a stretch.
+/// - `never_worse`: the units that the scan finds in what is written are those of the recording, the same item for item and at the
+///   same places, and one more for each front that is written.
+/// - `second`: what is written of what is written is the same.
 /// - `settled`: what is settled of a stretch comes first, whatever bits come.
 /// - `follower`: what a follower writes of items, and at the end, is what is written of a recording.
 pub fn follow_laws()
@@ -32,6 +40,11 @@ pub fn follow_laws()
     ensures found { WrittenIsFound }
     ensures place { PlaceLooksAtFew }
     ensures same { SameUnitsAfter }
+    ensures stretches { StretchByStretch }
+    ensures complete_in { CompleteInStretches }
+    ensures places { FrontBitsAlone }
+    ensures never_worse { NeverWorse }
+    ensures second { SecondChangesNothing }
     ensures settled { SettledStays }
     ensures follower { FollowerWrites }
 {}

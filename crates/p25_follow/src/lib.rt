@@ -8,14 +8,26 @@
 //!
 //! ```text
 //! let mut follower = Follower::new();
-//! let mut raw = BitBuf::new();
 //! let mut out = BitBuf::new();
-//! while let Some(item) = scanner.next(&mut raw) {
-//!     follower.take(&item, &raw, &mut out);
-//!     // First the bits in `out`, and then, where the item is a unit or one that is cut, those in `raw`.
-//! }
+//! let unit = Item::Broken {
+//!     place: 0,
+//!     length: 432,
+//!     nac: 0,
+//!     duid: 0xF,
+//!     fields: FieldList::new(),
+//! };
+//! follower.take(&unit, &sent, &mut out);
+//! let gap = Item::Gap {
+//!     place: 432,
+//!     length: 144,
+//! };
+//! follower.take(&gap, &lost, &mut out);
 //! follower.finish(&mut out);
+//! assert!(rt; out == terminator);
 //! ```
+//!
+//! Here `lost` are the bits of a terminator with five wrong bits in its sync, and `terminator` those that were sent. `take` sets `out`
+//! to the bits that come before the item's own; these are to be written after them where the item is a unit, or one that is cut.
 //!
 //! The first bit of a list is the first that is sent. Contracts see a stretch, bits between units in which the scan finds none, as
 //! what is written of it: `chain_of`. `follow_of` is what is written of a whole recording. `follow_laws` says what is true of it, and

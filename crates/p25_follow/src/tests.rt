@@ -7,7 +7,7 @@ use super::Follower;
 use p25_bits::{BITS_MOST, BitBuf};
 use p25_link::{EncryptionSync, HeaderWord, LinkControl};
 use p25_stream::{Item, find_item};
-use p25_units::{Body, Frame, Status, Statuses, Unit, VoiceUnit, frame_length, image};
+use p25_units::{Body, FieldList, Frame, Status, Statuses, Unit, VoiceUnit, frame_length, image};
 use p25_voice_units::{Voice, VoiceFrame};
 
 // A terminator with link control (TDULC) of NAC 0, and a terminator (TDU), with the status symbol 1.
@@ -148,6 +148,34 @@ fn fronts_after_a_terminator_with_link_control(rt: HostRuntime) {
     for (after, written) in rows {
         assert!(rt; comes_out(&after, 18, &written));
     }
+}
+
+#[test]
+fn a_terminator_after_a_broken_unit(rt: HostRuntime) {
+    let mut sent = BitBuf::new();
+    put_octets(&TDULC, &mut sent);
+    let mut lost = BitBuf::new();
+    put_octets(&FIVE_WRONG, &mut lost);
+    let mut terminator = BitBuf::new();
+    put_octets(&TDU, &mut terminator);
+    assert!(rt; lost.len() == 144);
+    let mut follower = Follower::new();
+    let mut out = BitBuf::new();
+    let unit = Item::Broken {
+        place: 0,
+        length: 432,
+        nac: 0,
+        duid: 0xF,
+        fields: FieldList::new(),
+    };
+    follower.take(&unit, &sent, &mut out);
+    let gap = Item::Gap {
+        place: 432,
+        length: 144,
+    };
+    follower.take(&gap, &lost, &mut out);
+    follower.finish(&mut out);
+    assert!(rt; out == terminator);
 }
 
 #[test]

@@ -1,12 +1,16 @@
 use Rattle.std.proofs.Common.{◌≤◌, true, refl, arith}
 use Rattle.p25_follow.specs.Expected.{kind_length}
 use Rattle.p25_follow.proofs.ChainLaws.{chain-settles, chain_by-none, chain_by-step, chain_by-stop}
+use Rattle.p25_follow.proofs.CompleteLaws.{complete-in}
 use Rattle.p25_follow.proofs.FollowingLaws.{written-follows}
 use Rattle.p25_follow.proofs.FoundLaws.{written-found}
+use Rattle.p25_follow.proofs.FrontBitsLaws.{front-bits}
 use Rattle.p25_follow.proofs.KindLaws.{IsKind, expected-kinds, is_expected-all}
 use Rattle.p25_follow.proofs.LengthLaws.{length-follow_of}
 use Rattle.p25_follow.proofs.StepLaws.{step_of-append, step_of-there}
+use Rattle.p25_follow.proofs.StretchesLaws.{by-stretches}
 use Rattle.p25_follow.proofs.TellsLaws.{step-near, step-reads}
+use Rattle.p25_follow.proofs.NeverWorseLaws.{never-worse, second-nothing}
 use Rattle.p25_follow.proofs.PlaceLaws.{place-few}
 use Rattle.p25_follow.proofs.SameUnitsLaws.{same-units}
 use Rattle.p25_follow.proofs.UnchangedLaws.{follow-untouched, rest-stays, symbol-stays}
@@ -55,6 +59,21 @@ returns-clause-place c = place-few
 
 pub returns-clause-same : goal.returns-clause-same
 returns-clause-same c = same-units
+
+pub returns-clause-stretches : goal.returns-clause-stretches
+returns-clause-stretches c = by-stretches
+
+pub returns-clause-complete_in : goal.returns-clause-complete_in
+returns-clause-complete_in c = complete-in
+
+pub returns-clause-places : goal.returns-clause-places
+returns-clause-places c = front-bits
+
+pub returns-clause-never_worse : goal.returns-clause-never_worse
+returns-clause-never_worse c = never-worse
+
+pub returns-clause-second : goal.returns-clause-second
+returns-clause-second c = second-nothing
 
 pub returns-clause-settled : goal.returns-clause-settled
 returns-clause-settled c = chain-settles

@@ -1,0 +1,78 @@
+-- The units of a recording with the fronts written: those that the scan finds in it, and those whose fronts are written.
+use Rattle.std.specs.Prelude.{◌≡◌, ℕ, zero, suc, ◌+◌, ◌-◌, ◌<◌, ◌≤◌, ◌⊎◌, true, if◌then◌else◌, List, [], ◌∷◌, ◌++◌, Bool, length, take, drop, Option, Some, None}
+use Rattle.p25_units.specs.Items.{covered, place_of, unit_item_of}
+use Rattle.p25_units.specs.declared.item.Item.{Item}
+use Rattle.p25_follow.specs.Chains.{with_front}
+use Rattle.p25_follow.specs.Expected.{kind_length}
+use Rattle.p25_follow.specs.Followed.{is_rest, unit_name}
+use Rattle.p25_follow.specs.Steps.{step_of}
+
+-- the unit of a kind that bits begin with at a place, as its bits with the front written read, and the units after it; none where none begins
+unfoldable pub units_step : (ℕ → ℕ × ℕ → List Bool → List Item) → ℕ → ℕ × ℕ → List Bool → Option ℕ → List Item
+units_step rest at before bits None = []
+units_step rest at before bits (Some kind) =
+    unit_item_of at (with_front (before.0, kind) (take (kind_length kind) bits)) ∷ rest (at + kind_length kind) (before.0, kind) (drop (kind_length kind) bits)
+
+-- the units whose fronts are written in bits that begin at a place, after a unit with a name, in at most so many steps
+unfoldable pub written_units_in : ℕ → ℕ → Option (ℕ × ℕ) → List Bool → Option (ℕ × ℕ) → List Item
+written_units_in zero at before bits end = []
+written_units_in (suc turns) at None bits end = []
+written_units_in (suc turns) at (Some before) bits end =
+    units_step (λ place name left. written_units_in turns place (Some name) left end) at before bits (step_of before bits end)
+
+-- the units whose fronts are written in bits that begin at a place, after a unit with a name, or none, and reach to an end
+unfoldable pub written_units : ℕ → Option (ℕ × ℕ) → List Bool → Option (ℕ × ℕ) → List Item
+written_units at before bits end = written_units_in (length bits) at before bits end
+
+-- the units of a stretch that begins at a place, after a unit with a name or after none, and of the items after it, which lie end to
+-- end over some bits: each unit, and a unit that is cut, as it is, and before it those whose fronts are written
+unfoldable pub units_by : ℕ → Option (ℕ × ℕ) → List Bool → List Item → List Bool → List Item
+units_by at before stretch [] bits = written_units at before stretch None
+units_by at before stretch (item ∷ items) bits =
+    let raw = take (covered item) bits in
+    let rest = drop (covered item) bits in
+    if is_rest item
+    then units_by at before (stretch ++ raw) items rest
+    else written_units at before stretch (unit_name item) ++ (item ∷ units_by (at + length stretch + covered item) (unit_name item) [] items rest)
+
+-- some items stand among others, in the same order
+unfoldable pub Among : List Item → List Item → Type 0
+Among items [] = items ≡ []
+Among items (other ∷ others) = ((rest : List Item) × (items ≡ other ∷ rest) × Among rest others) ⊎ Among items others
+
+-- of these the units whose fronts are written alone
+unfoldable pub fronts_by : ℕ → Option (ℕ × ℕ) → List Bool → List Item → List Bool → List Item
+fronts_by at before stretch [] bits = written_units at before stretch None
+fronts_by at before stretch (item ∷ items) bits =
+    let raw = take (covered item) bits in
+    let rest = drop (covered item) bits in
+    if is_rest item
+    then fronts_by at before (stretch ++ raw) items rest
+    else written_units at before stretch (unit_name item) ++ fronts_by (at + length stretch + covered item) (unit_name item) [] items rest
+
+-- a place is that of a front bit of one of some units: of the 70 before the status symbol within its front, or of the 42 after it
+unfoldable pub IsFrontBit : ℕ → List Item → Type 0
+IsFrontBit place [] = ⊥
+IsFrontBit place (unit ∷ units) =
+    ((place_of unit ≤ place) × ((place < place_of unit + 70) ⊎ ((place_of unit + 72 ≤ place) × (place < place_of unit + 114))))
+    ⊎ IsFrontBit place units
+
+-- a place is that of a bit of a stretch, among items that lie end to end from a place on
+unfoldable pub IsInStretch : ℕ → ℕ → List Item → Type 0
+IsInStretch place at [] = ⊥
+IsInStretch place at (item ∷ items) =
+    ((is_rest item ≡ true) × (at ≤ place) × (place < at + covered item)) ⊎ IsInStretch place (at + covered item) items
+
+-- the name of the unit that some items begin with, or none
+abbrev pub end_name : List Item → Option (ℕ × ℕ)
+end_name [] = None
+end_name (item ∷ items) = unit_name item
+
+-- from the beginning of bits up to a place, after a unit with a name, lie units of these kinds whose fronts are written, end to end, and
+-- the last unit before the place, one of them or the one before the bits, has this name
+unfoldable pub IsWrittenUpTo : List ℕ → ℕ × ℕ → List Bool → Option (ℕ × ℕ) → ℕ → ℕ × ℕ → Type 0
+IsWrittenUpTo [] before bits end place name = (place ≡ 0) × (before ≡ name)
+IsWrittenUpTo (kind ∷ kinds) before bits end place name =
+    (step_of before bits end ≡ Some kind)
+    × (kind_length kind ≤ place)
+    × IsWrittenUpTo kinds (before.0, kind) (drop (kind_length kind) bits) end (place - kind_length kind) name

@@ -1,0 +1,54 @@
+-- What is true of what is written of a whole recording.
+use Rattle.std.specs.Prelude.{◌≡◌, ℕ, ◌+◌, ◌<◌, ◌≤◌, ◌⊎◌, Bool, true, false, List, [], ◌∷◌, ◌++◌, drop, Some, None}
+use Rattle.p25_bits.specs.Bits.{part}
+use Rattle.p25_units.specs.Items.{covered}
+use Rattle.p25_units.specs.declared.item.Item.{Item}
+use Rattle.p25_stream.specs.Items.{items_of}
+use Rattle.p25_follow.specs.Chains.{chain_of, with_front}
+use Rattle.p25_follow.specs.Expected.{is_expected, kind_length}
+use Rattle.p25_follow.specs.Followed.{follow_of, is_rest, unit_name}
+use Rattle.p25_follow.specs.FollowedUnits.{Among, IsFrontBit, IsInStretch, IsWrittenUpTo, end_name, fronts_by, units_by}
+use Rattle.p25_follow.specs.StretchLaws.{all_rest, begins_rest, bits_in, units_among}
+use Rattle.p25_follow.specs.Told.{name_errors_of}
+
+-- the units that the scan finds in what is written, a unit that is cut among them, are those that it finds in the recording, the same
+-- item for item and at the same places, and one more for each front that is written
+abbrev pub NeverWorse : Type 0
+NeverWorse =
+    (bits : List Bool)
+    → (units_among (items_of 0 (follow_of bits)) ≡ units_by 0 None [] (items_of 0 bits) bits)
+    × Among (units_among (items_of 0 bits)) (units_by 0 None [] (items_of 0 bits) bits)
+
+-- what is written of what is written is the same
+abbrev pub SecondChangesNothing : Type 0
+SecondChangesNothing = (bits : List Bool) → follow_of (follow_of bits) ≡ follow_of bits
+
+-- where what is written differs from the recording, at a place, that is a front bit of a unit whose front is written, in a stretch
+abbrev pub FrontBitsAlone : Type 0
+FrontBitsAlone =
+    (bits : List Bool) (place : ℕ)
+    → (part place 1 (follow_of bits) ≡ part place 1 bits)
+    ⊎ (IsFrontBit place (fronts_by 0 None [] (items_of 0 bits) bits) × IsInStretch place 0 (items_of 0 bits))
+
+-- of a recording the bits of each unit, and of a unit that is cut, come as they are, and those of a stretch after it as its chain, which
+-- reaches to the unit after it, or to the end
+abbrev pub StretchByStretch : Type 0
+StretchByStretch =
+    (bits : List Bool) (first : List Item) (unit : Item) (stretch after : List Item)
+    → items_of 0 bits ≡ first ++ (unit ∷ (stretch ++ after)) → is_rest unit ≡ false → all_rest stretch ≡ true → begins_rest after ≡ false
+    → (part (bits_in first) (covered unit) (follow_of bits) ≡ part (bits_in first) (covered unit) bits)
+    × (part (bits_in first + covered unit) (bits_in stretch) (follow_of bits)
+    ≡ chain_of (unit_name unit) (part (bits_in first + covered unit) (bits_in stretch) bits) (end_name after))
+
+-- in a stretch of a recording, directly after the unit before it or one whose front is written, a unit of its network, of a kind that
+-- may come, at most 11 of the bits of whose identifier are wrong, comes out with its front, whatever its sync is
+abbrev pub CompleteInStretches : Type 0
+CompleteInStretches =
+    (bits : List Bool) (first : List Item) (unit : Item) (stretch after : List Item)
+    → items_of 0 bits ≡ first ++ (unit ∷ (stretch ++ after)) → is_rest unit ≡ false → all_rest stretch ≡ true → begins_rest after ≡ false
+    → (kinds : List ℕ) (name : ℕ × ℕ) (place nac last kind : ℕ) → unit_name unit ≡ Some name
+    → IsWrittenUpTo kinds name (part (bits_in first + covered unit) (bits_in stretch) bits) (end_name after) place (nac, last)
+    → nac < 4096 → is_expected last kind ≡ true → place + kind_length kind ≤ bits_in stretch
+    → name_errors_of (nac, kind) (drop place (part (bits_in first + covered unit) (bits_in stretch) bits)) ≤ 11
+    → part (bits_in first + covered unit + place) (kind_length kind) (follow_of bits)
+    ≡ with_front (nac, kind) (part (bits_in first + covered unit + place) (kind_length kind) bits)
