@@ -1,0 +1,306 @@
+"""The packet stations and their scripts."""
+import re
+import codes
+import recordings
+from codes import bits_of, crc_32, cut_up, number_of
+from recordings import Fault, binary, hexadecimal, lines_of, words_of
+
+NAC = 0x293
+ADDRESS = '000001'
+TRIES = 16
+LARGEST = 2028
+PART = 500
+
+
+def pairs(octets):
+    return octets.hex() or '-'
+
+
+class Sender:
+    """Sends one message after the other, each until it is acknowledged."""
+
+    def __init__(self):
+        self.number = 0
+        self.outstanding = None
+        self.down = False
+        self.sessions = 1
+
+    def send(self, message):
+        if self.down:
+            return 'send down', None
+        if self.outstanding:
+            return 'send busy', None
+        padded = message + bytes(-(len(message) + 4) % 16)
+        whole = padded + crc_32(bits_of(int.from_bytes(padded, 'big'), 8 * len(padded))).to_bytes(4, 'big')
+        self.outstanding = (cut_up(whole.hex(), 32), len(padded) - len(message))
+        self.tries = 1
+        return 'send taken ns=%d blocks=%d' % (self.number, len(self.outstanding[0])), self.packet()
+
+    def packet(self, serials=None):
+        """The packet of what is outstanding, or of some of its blocks."""
+        blocks, pad = self.outstanding
+        opening = not blocks
+        listed = list(range(len(blocks))) if serials is None else serials
+        head = '56c000%s%02x%02x%02x00' % (ADDRESS, (128 if serials is None else 0) | len(listed), pad, 128 * opening | self.number << 4 | 8)
+        return 'confirmed', ['%03x' % NAC, head, ','.join('%02x:%s' % (serial, blocks[serial]) for serial in listed) or '-']
+
+    def again(self):
+        """Whether one more transmission may be made; where not, the sender gives up."""
+        if self.tries == TRIES:
+            self.down, self.outstanding = True, None
+            return False
+        self.tries += 1
+        return True
+
+    def timeout(self):
+        if self.down:
+            return 'timeout down', None
+        if not self.outstanding:
+            return 'timeout idle', None
+        if not self.again():
+            return 'timeout down', None
+        return 'timeout sent ns=%d try=%d' % (self.number, self.tries), self.packet()
+
+    def reopen(self):
+        if not self.down:
+            return 'reopen up', None
+        self.down, self.tries = False, 1
+        self.number = (self.number + 4) % 8
+        self.outstanding = ([], 0)
+        return 'reopen sent ns=%d' % self.number, self.packet()
+
+    def hear(self, packet):
+        """The step at an answer, and the packet that is sent."""
+        if packet.kind != 'response' or packet.nac != NAC or packet.head[6:12] != ADDRESS or not self.outstanding:
+            return 'answer ignored', None
+        word = int(packet.head[2:4], 16)
+        if word & 7 != self.number:
+            return 'answer ignored', None
+        blocks = self.outstanding[0]
+        if word >> 3 == 1:
+            opening = not blocks
+            step = 'answer %s ns=%d' % ('opened' if opening else 'acknowledged', self.number)
+            self.sessions += opening
+            self.outstanding = None
+            self.number = (self.number + 1) % 8
+            return step, None
+        if word >> 3 in (9, 13):
+            if not self.again():
+                return 'answer down', None
+            return 'answer repeat ns=%d try=%d' % (self.number, self.tries), self.packet()
+        if word >> 3 == 16:
+            flags = binary(packet.octets)
+            missing = [serial for serial in range(len(blocks)) if flags[serial:serial + 1] != '1']
+            if not missing:
+                return 'answer ignored', None
+            if not self.again():
+                return 'answer down', None
+            return 'answer retry ns=%d blocks=%s try=%d' % (self.number, ','.join(map(str, missing)), self.tries), self.packet(missing)
+        return 'answer ignored', None
+
+
+class Receiver:
+    """Takes messages in their order, and keeps the blocks of the one that is not whole."""
+
+    def __init__(self):
+        self.last = 7
+        self.held = {}
+        self.count = self.pad = 0
+
+    def answer(self, word, number, octets='-'):
+        blocks = 0 if octets == '-' else (len(octets) + 8) // 24
+        return 'response', ['%03x' % NAC, '23%02x00%s%02x000000' % (word + number, ADDRESS, 128 | blocks), octets]
+
+    def hear(self, packet):
+        """The step at a packet, and the answer that is sent; the message too, where it came whole."""
+        if packet.kind != 'confirmed' or packet.nac != NAC or packet.head[6:12] != ADDRESS:
+            return 'data ignored', None, None
+        head = binary(packet.head)
+        opening, number = head[64] == '1', number_of(head[65:68])
+        if opening:
+            self.last, self.held = number, {}
+            return 'data opened ns=%d' % number, self.answer(0x08, number), None
+        if number == self.last:
+            return 'data again ack=%d' % number, self.answer(0x08, number), None
+        if number != (self.last + 1) % 8:
+            return 'data refused order vr=%d' % self.last, self.answer(0x68, number), None
+        if head[48] == '1':
+            self.count, self.pad = recordings.blocks_of(head), number_of(head[59:64])
+        for block in packet.blocks:
+            if block:
+                self.held[block[0]] = block[1]
+        if any(serial not in self.held for serial in range(self.count)):
+            width = 64 if self.count <= 64 else 128
+            flags = hexadecimal(''.join('01'[serial in self.held and serial < self.count] for serial in range(width)))
+            octets = flags if width == 64 else flags + '00000000'
+            return 'data kept ns=%d flags=%s' % (number, flags), self.answer(0x80, number, octets), None
+        whole = ''.join(self.held[serial] for serial in range(self.count))
+        self.held = {}
+        if crc_32(binary(whole[:-8])) != int(whole[-8:], 16):
+            return 'data refused crc ns=%d' % number, self.answer(0x48, number), None
+        self.last = number
+        message = bytes.fromhex(whole[:-8])
+        message = message[:len(message) - self.pad]
+        return 'data delivered ns=%d message=%s' % (number, pairs(message)), self.answer(0x08, number), message
+
+
+class Packet:
+    """What is read of a packet: its kind, access code, head, and blocks (None where the check fails) or octets."""
+
+    def __init__(self, kind, nac, head):
+        self.kind, self.nac, self.head = kind, nac, head
+        self.blocks, self.octets = [], ''
+
+
+def heard(bits):
+    """The packet of a transmission, or the name of the field for which it is not read."""
+    payload = recordings.without_status(bits)
+    if codes.distance(int(payload[:48], 2), codes.SYNC) > 4:
+        return 'sync'
+    data = codes.bch_nearest(int(payload[48:111], 2))
+    if data is None:
+        return 'nid'
+    if data & 15 != 12:
+        return 'duid'
+    head = recordings.head_of(payload)
+    if head is None:
+        return 'packet_header'
+    if recordings.length_for(308 + 196 * recordings.blocks_of(head)) > len(bits):
+        return 'length'
+    kind = recordings.FORMATS.get(number_of(head[3:8]))
+    if kind is None:
+        return 'format'
+    packet = Packet(kind, data >> 4, hexadecimal(head))
+    if kind == 'confirmed':
+        for block in cut_up(payload[308:308 + 196 * recordings.blocks_of(head)], 196):
+            block = codes.trellis_nearest(True, block)
+            fits = codes.crc_9(block[:7] + block[16:]) == int(block[7:16], 2)
+            packet.blocks.append((int(block[:7], 2), hexadecimal(block[16:])) if fits else None)
+        return packet
+    unit, faults = recordings.read_packet(payload, '%03x' % packet.nac, head)
+    if faults:
+        return faults[0]
+    packet.octets = '' if unit[1][2] == '-' else unit[1][2]
+    return packet
+
+
+def delivered(unit, places):
+    """What is heard of a unit that is sent, with wrong bits at some places; and whether it is another one."""
+    bits = recordings.unit_bits(unit, 0)
+    turned = list(bits)
+    for place in places:
+        if place < len(bits):
+            turned[place] = '10'[int(bits[place])]
+    packet = heard(''.join(turned))
+    return packet, not isinstance(packet, str) and differs(packet, unit)
+
+
+def differs(packet, unit):
+    """Whether what is read of a packet is not what was sent."""
+    if (packet.kind, '%03x' % packet.nac, packet.head) != (unit[0], unit[1][0], unit[1][1]):
+        return True
+    if packet.kind == 'confirmed':
+        return any(block and block != sent for block, sent in zip(packet.blocks, recordings.listed_blocks(unit[1][2])))
+    return packet.octets != unit[1][2].replace('-', '')
+
+
+class Link:
+    """A sender and a receiver, and what each sent last."""
+
+    def __init__(self):
+        self.sender, self.receiver = Sender(), Receiver()
+        self.sent = {'data': None, 'answer': None}
+        self.counts = dict.fromkeys(('sent', 'delivered', 'acknowledged', 'false'), 0)
+        self.message = None
+
+    def act(self, event):
+        """The step of an event: its words, of which the last is an octet string or a list of places."""
+        step, packet = {'send': lambda: self.sender.send(event[1]), 'timeout': self.sender.timeout, 'reopen': self.sender.reopen}[event[0]]()
+        if packet:
+            self.sent['data'] = packet
+        self.counts['sent'] += step.startswith('send taken')
+        return step
+
+    def deliver(self, way, places):
+        self.message = None
+        if not self.sent[way]:
+            return way + ' none'
+        packet, other = delivered(self.sent[way], places)
+        if isinstance(packet, str):
+            return '%s lost %s' % (way, packet)
+        if way == 'data':
+            step, answer, self.message = self.receiver.hear(packet)
+            if answer:
+                self.sent['answer'] = answer
+        else:
+            step, packet = self.sender.hear(packet)
+            if packet:
+                self.sent['data'] = packet
+        self.counts['delivered'] += step.startswith('data delivered')
+        self.counts['acknowledged'] += step.startswith('answer acknowledged')
+        if other and not step.endswith('ignored'):
+            self.counts['false'] += 1
+            step += ' false'
+        return step
+
+
+def event_of(line, command):
+    """The event of a line of a script."""
+    given = words_of(line)
+    kinds = {'stations': {'send': 1, 'timeout': 0, 'reopen': 0, 'deliver': 2}, 'fragments': {'long': 1, 'timeout': 0, 'reopen': 0, 'deliver': 2}}[command]
+    if given[0] not in kinds:
+        raise Fault('kind')
+    if len(given) - 1 != kinds[given[0]] or given[0] == 'deliver' and given[1] not in ('data', 'answer'):
+        raise Fault('key')
+    if given[0] in ('send', 'long'):
+        given[1] = message_of(given[1], LARGEST if given[0] == 'send' else 4000)
+    if given[0] == 'deliver':
+        given[2] = places_of(given[2])
+    return given
+
+
+def message_of(text, most):
+    if text == '-':
+        return b''
+    if not re.fullmatch('([0-9a-f]{2})+', text) or len(text) > 2 * most:
+        raise Fault('value')
+    return bytes.fromhex(text)
+
+
+def places_of(text):
+    if text == '-':
+        return []
+    if not re.fullmatch('(0|[1-9][0-9]*)(,[1-9][0-9]*)*', text):
+        raise Fault('value')
+    places = [int(place) for place in text.split(',')]
+    if places[-1] >= 25920 or any(one >= other for one, other in zip(places, places[1:])):
+        raise Fault('value')
+    return places
+
+
+class Stations(Link):
+    """A script of `stations`."""
+
+    def step(self, event):
+        return self.deliver(*event[1:]) if event[0] == 'deliver' else self.act(event)
+
+    def last(self):
+        return ' '.join('%s=%d' % pair for pair in self.counts.items()) + sessions(self.sender.sessions)
+
+
+def sessions(count):
+    return ' sessions=%d' % count if count > 1 else ''
+
+
+PLAYS = {'stations': Stations}
+
+
+def run(text, command):
+    play, written = PLAYS[command](), []
+    for number, line in enumerate(lines_of(text), 1):
+        try:
+            event = event_of(line, command)
+        except Fault as fault:
+            return ''.join(written).encode(), 2, 'line %d: %s\n' % (number, fault)
+        written.append(play.step(event) + '\n')
+    return (''.join(written) + play.last() + '\n').encode(), 0, ''
