@@ -65,6 +65,7 @@ class Sender:
         if not self.down:
             return 'reopen up', None
         self.down, self.tries = False, 1
+        self.sessions += 1
         self.number = (self.number + 4) % 8
         self.outstanding = ([], 0)
         return 'reopen sent ns=%d' % self.number, self.packet()
@@ -80,18 +81,17 @@ class Sender:
         if word >> 3 == 1:
             opening = not blocks
             step = 'answer %s ns=%d' % ('opened' if opening else 'acknowledged', self.number)
-            self.sessions += opening
             self.outstanding = None
             self.number = (self.number + 1) % 8
             return step, None
-        if word >> 3 in (9, 13):
+        if word >> 3 == 9:
             if not self.again():
                 return 'answer down', None
             return 'answer repeat ns=%d try=%d' % (self.number, self.tries), self.packet()
         if word >> 3 == 16:
-            flags = binary(packet.octets)
+            flags = binary(packet.octets) if packet.octets else ''
             missing = [serial for serial in range(len(blocks)) if flags[serial:serial + 1] != '1']
-            if not missing:
+            if not flags or not missing:
                 return 'answer ignored', None
             if not self.again():
                 return 'answer down', None
@@ -117,15 +117,20 @@ class Receiver:
             return 'data ignored', None, None
         head = binary(packet.head)
         opening, number = head[64] == '1', number_of(head[65:68])
+        full, count = head[48] == '1', recordings.blocks_of(head)
+        if opening and count:
+            return 'data ignored', None, None
         if opening:
-            self.last, self.held = number, {}
+            self.last, self.held, self.count = number, {}, 0
             return 'data opened ns=%d' % number, self.answer(0x08, number), None
         if number == self.last:
             return 'data again ack=%d' % number, self.answer(0x08, number), None
         if number != (self.last + 1) % 8:
             return 'data refused order vr=%d' % self.last, self.answer(0x68, number), None
-        if head[48] == '1':
-            self.count, self.pad = recordings.blocks_of(head), number_of(head[59:64])
+        if not count or not full and not self.count:
+            return 'data ignored', None, None
+        if full:
+            self.count, self.pad = count, number_of(head[59:64])
         for block in packet.blocks:
             if block:
                 self.held[block[0]] = block[1]
@@ -135,8 +140,8 @@ class Receiver:
             octets = flags if width == 64 else flags + '00000000'
             return 'data kept ns=%d flags=%s' % (number, flags), self.answer(0x80, number, octets), None
         whole = ''.join(self.held[serial] for serial in range(self.count))
-        self.held = {}
-        if crc_32(binary(whole[:-8])) != int(whole[-8:], 16):
+        self.held, self.count = {}, 0
+        if self.pad > len(whole) // 2 - 4 or crc_32(binary(whole[:-8])) != int(whole[-8:], 16):
             return 'data refused crc ns=%d' % number, self.answer(0x48, number), None
         self.last = number
         message = bytes.fromhex(whole[:-8])
@@ -192,12 +197,12 @@ def delivered(unit, places):
         if place < len(bits):
             turned[place] = '10'[int(bits[place])]
     packet = heard(''.join(turned))
-    return packet, not isinstance(packet, str) and differs(packet, unit)
+    return packet, not isinstance(packet, str) and packet.nac == NAC and differs(packet, unit)
 
 
 def differs(packet, unit):
     """Whether what is read of a packet is not what was sent."""
-    if (packet.kind, '%03x' % packet.nac, packet.head) != (unit[0], unit[1][0], unit[1][1]):
+    if (packet.kind, packet.head) != (unit[0], unit[1][1]):
         return True
     if packet.kind == 'confirmed':
         return any(block and block != sent for block, sent in zip(packet.blocks, recordings.listed_blocks(unit[1][2])))
@@ -238,7 +243,7 @@ class Link:
                 self.sent['data'] = packet
         self.counts['delivered'] += step.startswith('data delivered')
         self.counts['acknowledged'] += step.startswith('answer acknowledged')
-        if other and not step.endswith('ignored'):
+        if other:
             self.counts['false'] += 1
             step += ' false'
         return step
