@@ -254,6 +254,11 @@ def other_blocks(lot, blocks):
             whole = digits(lot, 32 * len(known) - 8)
             check = '%08x' % codes.crc_32(recordings.binary(whole))
             blocks = list(zip([serial for serial, _ in known], cut_up(whole + check, 32)))
+        elif chance < 0.9:
+            # The same message, but with another first octet and the check of it.
+            whole = ''.join(data for _, data in blocks)[2:-8]
+            whole = '%02x' % (lot.choice([0, 0, 128]) + lot.choice([0, 1, 2, 3, 9, lot.randrange(128)])) + whole
+            blocks = list(enumerate(cut_up(whole + '%08x' % codes.crc_32(recordings.binary(whole)), 32)))
         else:
             del blocks[place]
             if not blocks:

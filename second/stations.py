@@ -10,6 +10,7 @@ ADDRESS = '000001'
 TRIES = 16
 LARGEST = 2028
 PART = 500
+PARTS = 8
 
 
 def pairs(octets):
@@ -22,8 +23,8 @@ class Sender:
     def __init__(self):
         self.number = 0
         self.outstanding = None
-        self.down = False
-        self.sessions = 1
+        self.down = self.lost_message = False
+        self.tries = self.sessions = 1
 
     def send(self, message):
         if self.down:
@@ -47,7 +48,7 @@ class Sender:
     def again(self):
         """Whether one more transmission may be made; where not, the sender gives up."""
         if self.tries == TRIES:
-            self.down, self.outstanding = True, None
+            self.down, self.lost_message, self.outstanding = True, bool(self.outstanding[0]), None
             return False
         self.tries += 1
         return True
@@ -65,8 +66,9 @@ class Sender:
         if not self.down:
             return 'reopen up', None
         self.down, self.tries = False, 1
-        self.sessions += 1
-        self.number = (self.number + 4) % 8
+        if self.lost_message:
+            self.sessions += 1
+            self.number = (self.number + 4) % 8
         self.outstanding = ([], 0)
         return 'reopen sent ns=%d' % self.number, self.packet()
 
@@ -99,6 +101,11 @@ class Sender:
         return 'answer ignored', None
 
 
+    def more(self):
+        """The end of the last line."""
+        return ' sessions=%d' % self.sessions if self.sessions > 1 else ''
+
+
 class Receiver:
     """Takes messages in their order, and keeps the blocks of the one that is not whole."""
 
@@ -117,7 +124,7 @@ class Receiver:
             return 'data ignored', None, None
         head = binary(packet.head)
         opening, number = head[64] == '1', number_of(head[65:68])
-        full, count = head[48] == '1', recordings.blocks_of(head)
+        full, count, pad = head[48] == '1', recordings.blocks_of(head), number_of(head[59:64])
         if opening and count:
             return 'data ignored', None, None
         if opening:
@@ -127,10 +134,10 @@ class Receiver:
             return 'data again ack=%d' % number, self.answer(0x08, number), None
         if number != (self.last + 1) % 8:
             return 'data refused order vr=%d' % self.last, self.answer(0x68, number), None
-        if not count or not full and not self.count:
+        if not (count if full else self.count):
             return 'data ignored', None, None
-        if full:
-            self.count, self.pad = count, number_of(head[59:64])
+        if full and (count, pad) != (self.count, self.pad):
+            self.count, self.pad, self.held = count, pad, {}
         for block in packet.blocks:
             if block:
                 self.held[block[0]] = block[1]
@@ -252,15 +259,20 @@ class Link:
 def event_of(line, command):
     """The event of a line of a script."""
     given = words_of(line)
-    kinds = {'stations': {'send': 1, 'timeout': 0, 'reopen': 0, 'deliver': 2}, 'fragments': {'long': 1, 'timeout': 0, 'reopen': 0, 'deliver': 2}}[command]
+    offer = 'long' if command == 'fragments' else 'send'
+    alone = {offer: 1, 'timeout': 0, 'reopen': 0}
+    kinds, at, ways = (['deliver', 'a', 'b'], 1, ('ab', 'ba')) if command == 'duplex' else (['deliver', *alone], 0, ('data', 'answer'))
     if given[0] not in kinds:
         raise Fault('kind')
-    if len(given) - 1 != kinds[given[0]] or given[0] == 'deliver' and given[1] not in ('data', 'answer'):
-        raise Fault('key')
-    if given[0] in ('send', 'long'):
-        given[1] = message_of(given[1], LARGEST if given[0] == 'send' else 4000)
     if given[0] == 'deliver':
+        if len(given) != 3 or given[1] not in ways:
+            raise Fault('key')
         given[2] = places_of(given[2])
+        return given
+    if len(given) <= at or given[at] not in alone or len(given) != at + 1 + alone[given[at]]:
+        raise Fault('key')
+    if given[at] == offer:
+        given[-1] = message_of(given[-1], 4000 if offer == 'long' else LARGEST)
     return given
 
 
@@ -275,7 +287,7 @@ def message_of(text, most):
 def places_of(text):
     if text == '-':
         return []
-    if not re.fullmatch('(0|[1-9][0-9]*)(,[1-9][0-9]*)*', text):
+    if not re.fullmatch('(0|[1-9][0-9]{0,4})(,[1-9][0-9]{0,4})*', text):
         raise Fault('value')
     places = [int(place) for place in text.split(',')]
     if places[-1] >= 25920 or any(one >= other for one, other in zip(places, places[1:])):
@@ -290,14 +302,108 @@ class Stations(Link):
         return self.deliver(*event[1:]) if event[0] == 'deliver' else self.act(event)
 
     def last(self):
-        return ' '.join('%s=%d' % pair for pair in self.counts.items()) + sessions(self.sender.sessions)
+        return ' '.join('%s=%d' % pair for pair in self.counts.items()) + self.sender.more()
 
 
-def sessions(count):
-    return ' sessions=%d' % count if count > 1 else ''
+class Fragments(Link):
+    """A script of `fragments`: messages that are sent in parts."""
+
+    def __init__(self):
+        super().__init__()
+        self.parts, self.begun, self.next = [], b'', 0
+        self.longs = dict.fromkeys(('taken', 'whole', 'acknowledged'), 0)
+
+    def step(self, event):
+        if event[0] == 'long':
+            return self.offer(event[1])
+        if event[0] != 'deliver':
+            return self.act(event)
+        step = self.deliver(*event[1:])
+        if self.message is not None:
+            return step + '\n' + self.joined(self.message)
+        if step.startswith('data opened'):
+            self.begun, self.next = b'', 0
+        if step.startswith('answer acknowledged'):
+            self.parts.pop(0)
+            if self.parts:
+                return step + '\n' + self.act(('send', self.parts[0]))
+            self.longs['acknowledged'] += 1
+            step += '\nlong acknowledged'
+        return step
+
+    def offer(self, message):
+        if self.sender.down:
+            return 'long down'
+        if self.sender.outstanding:
+            return 'long busy'
+        pieces = cut_up(message, PART) or [b'']
+        self.parts = [bytes([number]) + piece for number, piece in enumerate(pieces)]
+        self.parts[-1] = bytes([128 | self.parts[-1][0]]) + self.parts[-1][1:]
+        self.longs['taken'] += 1
+        return 'long taken parts=%d\n' % len(pieces) + self.act(('send', self.parts[0]))
+
+    def joined(self, part):
+        """The step at a part that came: all but the last have 500 octets, and one that does not go on lets all before it go."""
+        last = part and part[0] > 127
+        fits = part and part[0] & 127 == self.next and (len(part) <= PART + 1 if last else len(part) == PART + 1 and part[0] < PARTS - 1)
+        if not fits:
+            self.begun, self.next = b'', 0
+            return 'part refused'
+        self.begun += part[1:]
+        self.next += 1
+        if not last:
+            return 'part %d' % part[0]
+        whole, self.begun, self.next = self.begun, b'', 0
+        self.longs['whole'] += 1
+        return 'whole message=' + pairs(whole)
+
+    def last(self):
+        return ' '.join('%s=%d' % pair for pair in self.longs.items()) + ' false=%d' % self.counts['false'] + self.sender.more()
 
 
-PLAYS = {'stations': Stations}
+class Duplex:
+    """A script of `duplex`: two stations that both send."""
+
+    def __init__(self):
+        self.stations = {'a': Link(), 'b': Link()}
+        self.sent = {'ab': None, 'ba': None}
+        self.false = 0
+
+    def step(self, event):
+        if event[0] != 'deliver':
+            link = self.stations[event[0]]
+            link.sent['data'] = None
+            step = link.act(event[1:])
+            if link.sent['data']:
+                self.sent['ab' if event[0] == 'a' else 'ba'] = link.sent['data']
+            return event[0] + ' ' + step
+        way, places = event[1:]
+        link, sent = self.stations[way[1]], self.sent[way]
+        heard_as = 'data'
+        if sent:
+            packet, _ = delivered(sent, places)
+            if not isinstance(packet, str) and packet.kind == 'response' and packet.nac == NAC:
+                heard_as = 'answer'
+        before = link.counts['false']
+        link.sent = {heard_as: sent}
+        step = link.deliver(heard_as, places)
+        answer = link.sent.get('answer' if heard_as == 'data' else 'data')
+        if answer:
+            self.sent[way[::-1]] = answer
+        self.false += link.counts['false'] - before
+        return way[1] + ' ' + step
+
+    def last(self):
+        lines = []
+        for name, other in ('ab', 'ba'):
+            link = self.stations[name]
+            # What one station sends is delivered at the other.
+            lines.append('%s sent=%d delivered=%d acknowledged=%d' % (
+                name, link.counts['sent'], self.stations[other].counts['delivered'], link.counts['acknowledged']) + link.sender.more())
+        return '\n'.join(lines) + '\nfalse=%d' % self.false
+
+
+PLAYS = {'stations': Stations, 'fragments': Fragments, 'duplex': Duplex}
 
 
 def run(text, command):
