@@ -91,9 +91,9 @@ class Sender:
                 return 'answer down', None
             return 'answer repeat ns=%d try=%d' % (self.number, self.tries), self.packet()
         if word >> 3 == 16:
-            flags = binary(packet.octets) if packet.octets else ''
-            missing = [serial for serial in range(len(blocks)) if flags[serial:serial + 1] != '1']
-            if not flags or not missing:
+            flags = binary(packet.octets)
+            missing = [serial for serial, flag in zip(range(len(blocks)), flags) if flag == '0']
+            if len(flags) < len(blocks) or not missing:
                 return 'answer ignored', None
             if not self.again():
                 return 'answer down', None
@@ -133,7 +133,7 @@ class Receiver:
         if number == self.last:
             return 'data again ack=%d' % number, self.answer(0x08, number), None
         if number != (self.last + 1) % 8:
-            return 'data refused order vr=%d' % self.last, self.answer(0x68, number), None
+            return 'data refused order vr=%d' % self.last, self.answer(0x68, self.last), None
         if not (count if full else self.count):
             return 'data ignored', None, None
         if full and (count, pad) != (self.count, self.pad):
