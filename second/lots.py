@@ -1,0 +1,345 @@
+"""Inputs by lot: recordings, unit lines and scripts. Each call takes the source of numbers, a random.Random."""
+import codes
+import recordings
+import stations
+from codes import bits_of, cut_up
+
+RATES = [0, 0, 0.0005, 0.002, 0.005, 0.01, 0.02, 0.03, 0.05, 0.07, 0.09, 0.12, 0.2]
+
+
+def digits(lot, count):
+    fill = lot.choice(['0123456789abcdef', '0123456789abcdef', '0', '01', 'f'])
+    return ''.join(lot.choice(fill) for _ in range(count))
+
+
+def noise(lot, count):
+    return bits_of(lot.getrandbits(count), count) if count else ''
+
+
+def some_blocks(lot):
+    return lot.choice([0, 1, 1, 2, 2, 3, 4, 5, 8, lot.randrange(20), lot.randrange(128) if lot.random() < 0.1 else 3])
+
+
+def head(lot, form, blocks):
+    octets = [lot.randrange(256) for _ in range(10)]
+    octets[0] = octets[0] & 0xE0 | form
+    octets[6] = octets[6] & 0x80 | blocks
+    return ''.join('%02x' % octet for octet in octets)
+
+
+def unit(lot, nac=None):
+    """A unit of any kind."""
+    nac = nac or digits(lot, 3)
+    kind = lot.choice(['hdu', 'ldu1', 'ldu1', 'ldu2', 'ldu2', 'tdu', 'tdulc', 'confirmed', 'plain', 'response'])
+    if kind not in recordings.FORMATS.values():
+        return kind, [nac] + [digits(lot, width) for _, width in recordings.KEYS[kind][1:]]
+    blocks = some_blocks(lot)
+    form = {name: form for form, name in recordings.FORMATS.items()}[kind]
+    data = '-'
+    if blocks and kind == 'confirmed':
+        data = ','.join('%02x:%s' % (lot.randrange(128), digits(lot, 32)) for _ in range(blocks))
+    elif blocks:
+        data = digits(lot, 24 * blocks - 8)
+    return kind, [nac, head(lot, form, blocks), data]
+
+
+def flipped(bits, places):
+    bits = list(bits)
+    for place in places:
+        if place < len(bits):
+            bits[place] = '10'[int(bits[place])]
+    return ''.join(bits)
+
+
+def some_of(lot, start, size, most):
+    """Up to so many places among those of a stretch."""
+    return [start + place for place in lot.sample(range(size), min(size, lot.randrange(most + 1)))]
+
+
+def word_places(lot, start, width, count, border):
+    """Places within words, of which about a border of words have more wrong bits than their code undoes."""
+    bad = lot.sample(range(count), min(count, max(0, border + lot.randrange(-2, 3))))
+    places = []
+    for word in bad:
+        places += [start(word) + bit for bit in lot.sample(range(width), lot.randrange(1, width // 2 + 1))]
+    return places
+
+
+def strained(lot, kind, payload):
+    """The bits of a unit, damaged near what its codes undo."""
+    places = []
+    if lot.random() < 0.4:
+        places += [bit for bit in lot.sample(range(48), lot.choice([1, 3, 4, 4, 5]))]
+    if lot.random() < 0.4:
+        places += [48 + bit for bit in lot.sample(range(64), lot.choice([1, 5, 9, 10, 11, 11, 12, 13]))]
+    if kind == 'hdu':
+        places += word_places(lot, lambda word: 112 + 18 * word, 18, 36, lot.choice([4, 8, 10, 12, 16]))
+    elif kind == 'tdulc':
+        places += word_places(lot, lambda word: 112 + 24 * word, 24, 12, lot.choice([2, 3, 4, 5, 6]))
+    elif kind in ('ldu1', 'ldu2'):
+        places += word_places(lot, lambda word: recordings.LINKS[word], 10, 24, lot.choice([3, 4, 5, 6, 7, 8]))
+        places += some_of(lot, 1504, 16, 3) + some_of(lot, 1520, 16, 3)
+    else:
+        for start in range(112, len(payload) - 195, 196):
+            places += some_of(lot, start, 196, lot.choice([0, 2, 4, 6, 8]))
+    return flipped(payload, places)
+
+
+def raw_packet(lot, form, blocks, bodies):
+    """A packet whose header names a format and blocks, and that carries blocks of the two rates, right or wrong."""
+    nac = lot.randrange(4096)
+    bits = bits_of(codes.SYNC, 48) + recordings.identifier(nac, 12)
+    top = recordings.binary(head(lot, form, blocks))
+    check = codes.crc_16(top) ^ (lot.random() < 0.1)
+    bits += codes.trellis_word(codes.HALF, top + bits_of(check, 16))
+    for _ in range(bodies):
+        body = lot.randrange(4)
+        if body == 0:
+            bits += codes.trellis_word(codes.HALF, noise(lot, 96))
+        elif body == 1:
+            bits += codes.trellis_word(codes.THREE_QUARTERS, noise(lot, 144))
+        elif body == 2:
+            checked = noise(lot, 135)
+            bits += codes.trellis_word(codes.THREE_QUARTERS, checked[:7] + bits_of(codes.crc_9(checked), 9) + checked[7:])
+        else:
+            bits += noise(lot, 196)
+    return bits + '0' * (-len(bits) % 70)
+
+
+def statuses(lot, payload):
+    count = len(payload) // 70 + 1
+    same = lot.randrange(4)
+    return [lot.randrange(4) for _ in range(count)] if lot.random() < 0.5 else [same] * count
+
+
+def piece(lot, nac, rate):
+    """A part of a recording."""
+    chance = lot.random()
+    if chance < 0.62:
+        made = unit(lot, nac if lot.random() < 0.8 else None)
+        payload = recordings.payload_of(made)
+        if lot.random() < 0.35:
+            payload = strained(lot, made[0], payload)
+        return worn(lot, recordings.with_status(payload, statuses(lot, payload)), rate)
+    if chance < 0.70:
+        return noise(lot, lot.choice([1, 3, 17, 60, 144, 500, 3000, 5000, lot.randrange(12000)]))
+    if chance < 0.76:
+        length = lot.choice([2, 72, 100, 1728, 3455, 3456, 3457, 4095, 4096, 4097, lot.randrange(9000)])
+        return lot.choice(['0', '1', '01', '0011']) * (length // 2)
+    if chance < 0.84:
+        payload = raw_packet(lot, lot.choice([0x16, 0x15, 0x03, lot.randrange(32)]), lot.choice([0, 1, 2, 127, lot.randrange(128)]), lot.randrange(5))
+        return worn(lot, recordings.with_status(payload, statuses(lot, payload)), rate)
+    if chance < 0.92:
+        return crowd(lot)
+    # A sync with an identifier of any data unit, and noise.
+    payload = bits_of(codes.SYNC, 48) + recordings.identifier(lot.randrange(4096), lot.randrange(16))
+    payload = flipped(payload, [48 + bit for bit in lot.sample(range(64), lot.randrange(14))])
+    return recordings.with_status(payload, statuses(lot, payload)) + noise(lot, lot.choice([0, 30, 200, 400]))
+
+
+def crowd(lot):
+    """Many syncs, near one another and one over the other."""
+    parts = []
+    for _ in range(lot.randrange(1, 25)):
+        sync = flipped(bits_of(codes.SYNC, 48), lot.sample(range(48), lot.choice([0, 0, 1, 4, 5])))
+        parts.append(sync[:lot.choice([48, 48, 48, 30, 47])] + noise(lot, lot.choice([0, 0, 1, 20, 66, 68, 100])))
+    return ''.join(parts)
+
+
+def worn(lot, bits, rate):
+    """Bits with wrong ones at a rate, and by chance a fade, a slip or an end that is missing."""
+    bits = flipped(bits, [place for place in range(len(bits)) if lot.random() < rate]) if rate else bits
+    chance = lot.random()
+    if chance < 0.08:
+        start, size = lot.randrange(len(bits)), lot.choice([10, 40, 80, 200, 600])
+        bits = bits[:start] + noise(lot, min(size, len(bits) - start)) + bits[start + size:]
+    elif chance < 0.14:
+        place = lot.randrange(len(bits))
+        bits = bits[:place] + lot.choice([noise(lot, lot.randrange(1, 6)) + bits[place:], bits[place + lot.randrange(1, 6):]])
+    elif chance < 0.17:
+        bits = bits[:lot.randrange(len(bits))]
+    return bits
+
+
+def recording(lot):
+    nac = digits(lot, 3)
+    rate = lot.choice(RATES)
+    bits = noise(lot, lot.choice([0, 0, 1, 5, 11]))
+    for _ in range(lot.choice([0, 1, 1, 2, 3, 5, 8])):
+        bits += piece(lot, nac, rate if lot.random() < 0.7 else lot.choice(RATES))
+    if lot.random() < 0.3:
+        bits = bits[:max(0, len(bits) - lot.randrange(1, 2000))]
+    if lot.random() < 0.2:
+        # The end falls just around what an identifier or a header takes.
+        bits += recordings.unit_bits(unit(lot, nac), 1)[:lot.choice([47, 48, 49, 112, 113, 114, 115, 143, 144, 315, 316, 317, 359, 360])]
+    bits = bits[:len(bits) - len(bits) % 8] if lot.random() < 0.5 else bits
+    return recordings.octets_of(bits)
+
+
+def lines(lot):
+    """Unit lines, of which one may be wrong."""
+    made = [recordings.line_of(unit(lot)).encode() for _ in range(lot.choice([0, 1, 2, 4, 7]))]
+    if made and lot.random() < 0.7:
+        place = lot.randrange(len(made))
+        made[place] = spoiled(lot, made[place])
+    return b'\n'.join(made) + (b'\n' if lot.random() < 0.8 else b'')
+
+
+def spoiled(lot, line):
+    """A line with some faults of form."""
+    for _ in range(lot.choice([1, 1, 2])):
+        place = lot.randrange(len(line) + 1)
+        spaces = [at for at, octet in enumerate(line) if octet == 32] or [0]
+        chance = lot.randrange(9)
+        if chance == 0:
+            line = line[:place] + bytes([lot.choice([0, 9, 13, 31, 32, 33, 126, 127, 128, 255])]) + line[place:]
+        elif chance == 1:
+            line = line[:place] + line[place + lot.randrange(1, 4):]
+        elif chance == 2:
+            line = line[:place] + bytes([lot.choice(b'0123456789abcdefABCg:,-=8')]) + line[place + 1:]
+        elif chance == 3:
+            line = line.upper()
+        elif chance == 4:
+            line += lot.choice([b' ', b' x=1', b'0', b',', b'-', b' ' + line, b'\r'])
+        elif chance == 5:
+            at = lot.choice(spaces)
+            line = line[:at] + lot.choice([b'', b'  ', b'=']) + line[at + 1:]
+        elif chance == 6:
+            line += b'0' * max(0, lot.choice([8191, 8192, 8193, 9000]) - len(line))
+        elif chance == 7:
+            at = lot.choice(spaces)
+            line = lot.choice([line[:at], line[at:], line[at + 1:], b''])
+        else:
+            words = line.split(b' ')
+            lot.shuffle(words)
+            line = b' '.join(words)
+    return line
+
+
+# Scripts: the second reading runs beside, so that a delivery may turn what was sent into something else.
+
+def message(lot, most):
+    return lot.randbytes(lot.choice([0, 1, 2, 11, 12, 13, 28, 60, 200, lot.randrange(300), lot.randrange(most + 1) if lot.random() < 0.1 else 5]))
+
+
+def other_head(lot, top):
+    """A head with some octet in another form."""
+    octets = bytearray.fromhex(top)
+    for _ in range(lot.choice([1, 1, 2])):
+        place = lot.choice([0, 1, 1, 1, 2, 5, 6, 6, 7, 7, 8, 8, 8, 8, 9])
+        if place == 1 and lot.random() < 0.8:
+            octets[1] = lot.choice([0x08, 0x48, 0x68, 0x80, 0x10, 0x50, 0x60, 0x88, 0xC0]) | lot.choice([octets[1] & 7, lot.randrange(8)])
+        elif place == 8:
+            octets[8] = octets[8] & 0x8F | lot.randrange(8) << 4 if lot.random() < 0.7 else octets[8] ^ lot.choice([128, 8, 1])
+        elif place == 6:
+            octets[6] = lot.choice([octets[6] ^ 128, octets[6] & 128 | lot.randrange(max(1, (octets[6] & 127) + 2))])
+        elif place == 0:
+            octets[0] = lot.choice([0x56, 0x16, 0x36, 0x76, 0x23, 0x03, 0x35, 0x15, octets[0] & 0xE0 | lot.randrange(32)])
+        else:
+            octets[place] = lot.choice([0, 1, octets[place] ^ 1, lot.randrange(256)])
+    return octets.hex()
+
+
+def other_blocks(lot, blocks):
+    """Blocks of a confirmed packet in another form."""
+    for _ in range(lot.choice([1, 1, 2, 4])):
+        place = lot.randrange(len(blocks))
+        chance = lot.random()
+        if chance < 0.3:
+            blocks[place] = lot.choice([lot.randrange(128), lot.randrange(len(blocks) + 2), 0]), blocks[place][1]
+        elif chance < 0.6:
+            blocks[place] = blocks[place][0], digits(lot, 32)
+        elif chance < 0.8:
+            known = sorted(blocks)
+            whole = digits(lot, 32 * len(known) - 8)
+            check = '%08x' % codes.crc_32(recordings.binary(whole))
+            blocks = list(zip([serial for serial, _ in known], cut_up(whole + check, 32)))
+        elif chance < 0.9:
+            # The same message, but with another first octet and the check of it.
+            whole = ''.join(data for _, data in blocks)[2:-8]
+            whole = '%02x' % (lot.choice([0, 0, 128]) + lot.choice([0, 1, 2, 3, 9, lot.randrange(128)])) + whole
+            blocks = list(enumerate(cut_up(whole + '%08x' % codes.crc_32(recordings.binary(whole)), 32)))
+        else:
+            del blocks[place]
+            if not blocks:
+                return blocks
+    return blocks
+
+
+def other_unit(lot, sent):
+    """A packet like one that is sent."""
+    kind, (nac, top, data) = sent
+    chance = lot.random()
+    if chance < 0.1:
+        return kind, [digits(lot, 3), top, data]
+    if chance < 0.6 or data == '-':
+        top = other_head(lot, top)
+    if kind == 'confirmed' and data != '-' and chance > 0.4:
+        blocks = other_blocks(lot, recordings.listed_blocks(data))
+        data = ','.join('%02x:%s' % block for block in blocks) or '-'
+        if lot.random() < 0.8:
+            top = '%s%02x%s' % (top[:12], int(top[12:14], 16) & 128 | len(blocks), top[14:])
+    if kind == 'response' and lot.random() < 0.5:
+        count = lot.choice([0, 1, 1, 2])
+        data = digits(lot, 24 * count - 8) if count else '-'
+        top = '%s%02x%s' % (top[:12], 128 | count, top[14:])
+    return kind, [nac, top, data]
+
+
+def turned_places(lot, sent):
+    """The places of wrong bits of a delivery of a unit, or of nothing."""
+    if not sent:
+        return some_of(lot, 0, 360, 3)
+    size = len(recordings.unit_bits(sent, 0))
+    chance = lot.random()
+    if chance < 0.4:
+        return []
+    if chance < 0.7:
+        one, other = recordings.unit_bits(sent, 0), recordings.unit_bits(other_unit(lot, sent), 0)
+        return [place for place, (here, there) in enumerate(zip(one, other)) if here != there]
+    if chance < 0.78:
+        return lot.sample(range(48), lot.choice([3, 4, 5])) + lot.sample(range(48, 70), lot.choice([0, 3, 10, 11, 12]))
+    if chance < 0.95 and size > 360:
+        # Some of the blocks come damaged.
+        places = []
+        for block in range((size * 70 // 72 - 308) // 196):
+            if lot.random() < 0.4:
+                places += [place + place // 70 * 2 for place in some_of(lot, 308 + 196 * block, 196, 12)]
+        return places
+    return [place for place in range(size + 10) if lot.random() < lot.choice([0.003, 0.01, 0.05])]
+
+
+def place_list(places):
+    text = ''
+    for place in sorted(set(places)):
+        if len(text) > 8100:
+            break
+        text += ',%d' % place
+    return text[1:] or '-'
+
+
+def script(lot, command):
+    """A script of one of the commands, in which one line may be wrong."""
+    play, made, skew = stations.PLAYS[command](), [], lot.choice([0, 0, 1, 2])
+    for _ in range(lot.choice([3, 10, 30, 60])):
+        line = script_line(lot, command, play, skew)
+        made.append(line.encode())
+        play.step(stations.event_of(made[-1], command))
+    if made and lot.random() < 0.2:
+        place = lot.randrange(len(made))
+        made[place] = spoiled(lot, made[place])
+    return b'\n'.join(made) + (b'\n' if lot.random() < 0.8 else b'')
+
+
+def script_line(lot, command, play, skew):
+    station = lot.choice('ab') + ' ' if command == 'duplex' else ''
+    chance = lot.random()
+    if chance < 0.25:
+        offer = message(lot, 4000 if command == 'fragments' else 2028)
+        return '%s%s %s' % (station, 'long' if command == 'fragments' else 'send', offer.hex() or '-')
+    if chance < (0.35, 0.6, 0.9)[skew]:
+        return station + 'timeout'
+    if chance < (0.36, 0.65, 0.95)[skew]:
+        return station + 'reopen'
+    way = lot.choice(('ab', 'ba') if command == 'duplex' else ('data', 'answer'))
+    return 'deliver %s %s' % (way, place_list(turned_places(lot, play.sent[way])))
