@@ -3,7 +3,7 @@ use Rattle.std.proofs.Common.{◌≡◌, ℕ, zero, suc, ◌+◌, ◌-◌, ◌<�
 use Rattle.std.proofs.lemmas.Bool.{cases_Bool, cases_lt}
 use Rattle.std.proofs.lemmas.List.{drop-append-le, drop-drop, drop_at, length-take-le, take-append-drop, take_at}
 use Rattle.std.proofs.Math.Seq.{drop-append-add, drop-append_seam, take-append_seam}
-use Rattle.p25_units.specs.Items.{covered, unit_item_of}
+use Rattle.p25_units.specs.Items.{covered}
 use Rattle.p25_units.specs.declared.item.Item.{Item}
 use Rattle.p25_stream.specs.Items.{first_item, items_of}
 use Rattle.p25_stream.proofs.ItemsLaws.{covered-first_item, items_by-more, items_by-nil}
@@ -14,7 +14,7 @@ use Rattle.p25_follow.specs.FollowedUnits.{Among, units_by, written_units}
 use Rattle.p25_follow.specs.RecordingLaws.{NeverWorse, SecondChangesNothing}
 use Rattle.p25_follow.specs.Steps.{step_of}
 use Rattle.p25_follow.specs.StretchLaws.{units_among}
-use Rattle.p25_follow.proofs.AfterUnitLaws.{Sound, agree-after, none-sound, some-sound, sound-some, unit-sound}
+use Rattle.p25_follow.proofs.AfterUnitLaws.{Sound, agree-after, none-sound, sound-some, unit-sound}
 use Rattle.p25_follow.proofs.AlikeLaws.{Agree, Alike, agree-append, agree-less, rest-begins, unit-alike}
 use Rattle.p25_follow.proofs.ChainLaws.{chain_by-nil, chain_by-none, chain_by-step, chain_by-stop}
 use Rattle.p25_follow.proofs.FollowingLaws.{followed-end, followed-rest, followed-unit}
