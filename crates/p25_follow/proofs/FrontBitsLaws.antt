@@ -132,17 +132,17 @@ chain-point at i (Some before) stretch end = chain-in (length stretch) at i befo
 
 -- ---- the bits of a stretch that has begun, and of the items after it
 
-fronts-end : (at : ℕ) (before : Option (ℕ × ℕ)) (stretch bits : List Bool) → fronts_by at before stretch [] bits ≡ written_units at before stretch None
+pub fronts-end : (at : ℕ) (before : Option (ℕ × ℕ)) (stretch bits : List Bool) → fronts_by at before stretch [] bits ≡ written_units at before stretch None
 unfolding fronts_by
 fronts-end at before stretch bits = refl
 
-fronts-rest : (at : ℕ) (before : Option (ℕ × ℕ)) (stretch : List Bool) (item : Item) (items : List Item) (bits : List Bool) → is_rest item ≡ true
+pub fronts-rest : (at : ℕ) (before : Option (ℕ × ℕ)) (stretch : List Bool) (item : Item) (items : List Item) (bits : List Bool) → is_rest item ≡ true
     → fronts_by at before stretch (item ∷ items) bits ≡ fronts_by at before (stretch ++ take (covered item) bits) items (drop (covered item) bits)
 unfolding fronts_by
 fronts-rest at before stretch item items bits rest = cond-true (is_rest item) (fronts_by at before (stretch ++ take (covered item) bits) items (drop (covered item) bits))
     (written_units at before stretch (unit_name item) ++ fronts_by (at + length stretch + covered item) (unit_name item) [] items (drop (covered item) bits)) rest
 
-fronts-unit : (at : ℕ) (before : Option (ℕ × ℕ)) (stretch : List Bool) (item : Item) (items : List Item) (bits : List Bool) → is_rest item ≡ false
+pub fronts-unit : (at : ℕ) (before : Option (ℕ × ℕ)) (stretch : List Bool) (item : Item) (items : List Item) (bits : List Bool) → is_rest item ≡ false
     → fronts_by at before stretch (item ∷ items) bits
     ≡ written_units at before stretch (unit_name item) ++ fronts_by (at + length stretch + covered item) (unit_name item) [] items (drop (covered item) bits)
 unfolding fronts_by
