@@ -1,16 +1,27 @@
 -- Where a repair leaves the items, it changes nothing of what comes after it: the stretches are the same, and so is what is written of them. By induction on the items of both recordings.
-use Rattle.std.proofs.Common.{◌≡◌, ℕ, zero, suc, ◌+◌, ◌-◌, ◌<◌, ◌≤◌, Bool, true, false, inl, inr, ◌⊎◌, List, [], ◌∷◌, ◌++◌, length, take, drop, Option, Some, None, refl, sym, ap, ap₂, subst, ◌∙◌, arith, append_assoc, append-nil, length-append, length-drop}
+use Rattle.std.proofs.Common.{◌≡◌, ℕ, zero, suc, ◌+◌, ◌-◌, ◌<◌, ◌≤◌, Bool, true, false, inl, inr, List, [], ◌∷◌, ◌++◌, length, take, drop, Option, Some, None, Result, Ok, Err, refl, sym, ap, ap₂, subst, ◌∙◌, arith, append_assoc, length-append, length-drop}
 use Rattle.std.proofs.lemmas.Bool.{cases_Bool}
 use Rattle.std.proofs.lemmas.List.{drop-drop, drop_at, length-take-le, take_at}
 use Rattle.std.proofs.Math.Nat.{add-zero}
 use Rattle.std.proofs.Math.Seq.{drop-append_seam, take-append_seam}
-use Rattle.p25_units.specs.Items.{covered, unit_item_of}
+use Rattle.p25_status.specs.declared.fields.Field.{Field}
+use Rattle.p25_unit_front.proofs.FrontLaws.{identifier_of-fits, identifier_of-take}
+use Rattle.p25_units.specs.Items.{covered, item_from, unit_item_of}
+use Rattle.p25_units.specs.Needs.{need_of}
+use Rattle.p25_units.specs.Readings.{reading_from}
 use Rattle.p25_units.specs.Units.{image_of}
+use Rattle.p25_units.specs.declared.frame.Frame.{Frame}
 use Rattle.p25_units.specs.declared.item.Item.{Item}
 use Rattle.p25_units.specs.declared.item.Item.TheVariants.{Whole, Broken, NoUnit, Gap, Cut}
+use Rattle.p25_units.specs.declared.needs.Need.TheVariants.{Length}
+use Rattle.p25_units.proofs.ItemsLaws.{unit_item_of-some}
+use Rattle.p25_units.proofs.KindsLaws.{IsUnitOf, IsUnitOf-need}
+use Rattle.p25_units.proofs.NeedsLaws.{IsIdentified-from, need_of-there}
+use Rattle.p25_units.proofs.ReadingsLaws.{IsFrameOf-reading}
+use Rattle.p25_units.proofs.UnitsLaws.{length-image_of}
 use Rattle.p25_stream.specs.Items.{first_item, items_of}
 use Rattle.p25_stream.specs.Repeats.{repaired}
-use Rattle.p25_stream.proofs.ItemsLaws.{covered-first_item, items_by-more, items_by-nil}
+use Rattle.p25_stream.proofs.ItemsLaws.{covered-first_item, first_item-cases, items_by-more, items_by-nil}
 use Rattle.p25_follow.specs.Chains.{chain_by, with_front}
 use Rattle.p25_follow.specs.Expected.{kind_length}
 use Rattle.p25_follow.specs.Followed.{follow_of, followed_by, is_rest, unit_name}
@@ -24,7 +35,7 @@ use Rattle.p25_follow.proofs.FoundLaws.{written-found}
 use Rattle.p25_follow.proofs.LengthLaws.{length-with_front}
 use Rattle.p25_follow.proofs.NeverWorseLaws.{Begins, ends-at, next_of, rests-later, rests-more, unit-tail}
 use Rattle.p25_follow.proofs.SameUnitsLaws.{Ends, RestPlaces, covers-within, ends-later, rest-at}
-use Rattle.p25_follow.proofs.StepLaws.{step_of-nil, step_of-there}
+use Rattle.p25_follow.proofs.StepLaws.{step_of-there}
 use Rattle.p25_follow.proofs.WrittenUnitsLaws.{append-take}
 
 -- ---- what a repair writes
@@ -165,7 +176,7 @@ both-stepped n at place before stretch first second end few is_place sound a b (
     let unit = with_front name (take count stretch) in
     let written = repaired (unit_item_of at unit) unit in
     let rest = later (at + count) name left (omega (arith, long, there.few, there.there, few)) (omega (arith, long, there.there, is_place)) sound
-        (after-later count stretch first there.there a) (after-later count stretch second there.there b) in
+    (after-later count stretch first there.there a) (after-later count stretch second there.there b) in
     record {
       part = written ++ rest.part;
       one = chain-steps at before stretch first end kind sound is ∙ ap (λ (xs : List Bool). written ++ xs) rest.one ∙ sym (append_assoc written rest.part (repaired_from place first));
@@ -188,13 +199,41 @@ both-any at place None stretch first second end is_place sound a b =
 both-any at place (Some before) stretch first second end is_place sound a b =
     both-in (length stretch) place first second end at before stretch (omega arith) is_place (sound-some before sound) a b
 
+-- ---- what a repair writes of an item is as long as the item
+
+long-by : (at : ℕ) (nid : ℕ × ℕ) (sent raw : List Bool) (reading : Result Frame (List Field)) → reading_from (Some nid) sent ≡ reading → IsUnitOf nid.1 sent → nid.0 < 4096
+    → length raw ≡ covered (item_from at nid sent reading) → length (repaired (item_from at nid sent reading) raw) ≡ covered (item_from at nid sent reading)
+long-by at nid sent raw (Ok frame) is unit nac_fits long =
+    let read = IsFrameOf-reading nid sent frame unit is in
+    length-image_of frame read.sound record { nac_fits = omega (arith, read.nac, nac_fits); body = read.sendable }
+long-by at nid sent raw (Err fields) is unit nac_fits long = long
+
+unit-long : (at count : ℕ) (bits raw : List Bool) → need_of bits ≡ Length count
+    → length raw ≡ covered (unit_item_of at (take count bits)) → length (repaired (unit_item_of at (take count bits)) raw) ≡ covered (unit_item_of at (take count bits))
+unit-long at count bits raw need =
+    let sent = take count bits in
+    let known = IsIdentified-from bits count need in
+    let there = need_of-there bits count need in
+    let enough : 114 ≤ count = omega (arith, there.0, there.2) in
+    let reads = identifier_of-take count bits enough ∙ known.read in
+    let item = unit_item_of-some at sent known.nid (reading_from (Some known.nid) sent) reads refl in
+    subst (λ (i : Item). length raw ≡ covered i → length (repaired i raw) ≡ covered i) (sym item)
+    (long-by at known.nid sent raw (reading_from (Some known.nid) sent) refl (IsUnitOf-need count bits known.nid.1 known.kind) (identifier_of-fits sent known.nid reads).0)
+
+repaired-long : (at : ℕ) (bits raw : List Bool) → length raw ≡ covered (first_item at bits) → length (repaired (first_item at bits) raw) ≡ covered (first_item at bits)
+repaired-long at bits raw =
+    first_item-cases (λ item. length raw ≡ covered item → length (repaired item raw) ≡ covered item) at bits
+    (λ no' long. long)
+    (λ count yes' need long. long)
+    (λ count yes' need. unit-long at count bits raw need)
+    (λ field yes' need long. long)
+
 -- ---- an item that is found again
 
 record SameItem (item other : Item) (raw : List Bool) : Type 0 where
   rest : is_rest other ≡ is_rest item
   covers : covered other ≡ covered item
   name : unit_name other ≡ unit_name item
-  long : length raw ≡ covered item → length (repaired item raw) ≡ covered item
   again : repaired other (repaired item raw) ≡ repaired item raw
 
 same-item : (item other : Item) (raw : List Bool) → IsFoundAgain item other → SameItem item other raw
@@ -203,13 +242,12 @@ same-item (Whole place frame fixes) other raw is = record {
   rest = ap is_rest is.1;
   covers = ap covered is.1;
   name = ap unit_name is.1;
-  long = λ l. is.2;
   again = ap (λ (o : Item). repaired o (image_of frame)) is.1;
 }
-same-item (Broken place count nac duid fields) other raw is = record { rest = ap is_rest is; covers = ap covered is; name = ap unit_name is; long = λ l. l; again = ap (λ (o : Item). repaired o raw) is }
-same-item (NoUnit place field) other raw is = record { rest = ap is_rest is; covers = ap covered is; name = ap unit_name is; long = λ l. l; again = ap (λ (o : Item). repaired o raw) is }
-same-item (Gap place count) other raw is = record { rest = ap is_rest is; covers = ap covered is; name = ap unit_name is; long = λ l. l; again = ap (λ (o : Item). repaired o raw) is }
-same-item (Cut place have) other raw is = record { rest = ap is_rest is; covers = ap covered is; name = ap unit_name is; long = λ l. l; again = ap (λ (o : Item). repaired o raw) is }
+same-item (Broken place count nac duid fields) other raw is = record { rest = ap is_rest is; covers = ap covered is; name = ap unit_name is; again = ap (λ (o : Item). repaired o raw) is }
+same-item (NoUnit place field) other raw is = record { rest = ap is_rest is; covers = ap covered is; name = ap unit_name is; again = ap (λ (o : Item). repaired o raw) is }
+same-item (Gap place count) other raw is = record { rest = ap is_rest is; covers = ap covered is; name = ap unit_name is; again = ap (λ (o : Item). repaired o raw) is }
+same-item (Cut place have) other raw is = record { rest = ap is_rest is; covers = ap covered is; name = ap unit_name is; again = ap (λ (o : Item). repaired o raw) is }
 
 again-parts : (item other : Item) (items others : List Item) → AreFoundAgain (item ∷ items) (other ∷ others) → IsFoundAgain item other × AreFoundAgain items others
 unfolding AreFoundAgain
@@ -251,11 +289,11 @@ twin place bits others some also same is =
     let items = items_of (place + c) left in
     let rest = items_of (place + co) (drop co others) in
     let both = again-parts item other items rest
-        (subst (λ (found : List Item). AreFoundAgain found (other ∷ rest)) (items_by-more true place bits some refl) (subst (AreFoundAgain (items_of place bits)) (items_by-more true place others also refl) same)) in
+    (subst (λ (found : List Item). AreFoundAgain found (other ∷ rest)) (items_by-more true place bits some refl) (subst (AreFoundAgain (items_of place bits)) (items_by-more true place others also refl) same)) in
     let parts = same-item item other raw both.0 in
     let fits = covered-first_item place bits some in
     let written = repaired item raw in
-    let long : length written ≡ co = parts.long (length-take-le c bits fits.1) ∙ sym parts.covers in
+    let long : length written ≡ co = repaired-long place bits raw (length-take-le c bits fits.1) ∙ sym parts.covers in
     let whole : others ≡ written ++ repaired_from (place + c) left = is ∙ from-first place bits some in
     record {
       parts = parts;
@@ -313,7 +351,7 @@ twice-unit n at place before stretch bits others few some also is_place sound re
     let tail = unit-tail place stretch bits some rests unit in
     let tail_other = unit-tail place stretch others also rests_other unit_other in
     let both = both-any at place before stretch more more_other name is_place sound
-        record { rests = tail.rests; begins = tail.begins } record { rests = tail_other.rests; begins = tail_other.begins } in
+    record { rests = tail.rests; begins = tail.begins } record { rests = tail_other.rests; begins = tail_other.begins } in
     let one : followed_at before stretch place bits ≡ chain_by true before stretch name ++ more
     = ap (λ (items : List Item). followed_by true before stretch items bits) (items_by-more true place bits some refl)
     ∙ followed-unit true before stretch item (items_of (place + c) left) bits unit in

@@ -1,7 +1,6 @@
 -- A recording that is repaired, and the items of it before and after.
-use Rattle.std.specs.Prelude.{◌≡◌, ℕ, Bool, List, [], ◌∷◌, ◌++◌, length, take, drop}
+use Rattle.std.specs.Prelude.{◌≡◌, ℕ, Bool, List, [], ◌∷◌, ◌++◌, take, drop}
 use Rattle.p25_units.specs.Items.{covered}
-use Rattle.p25_units.specs.Units.{frame_length_of, image_of}
 use Rattle.p25_units.specs.declared.item.Item.{Item}
 use Rattle.p25_units.specs.declared.item.Item.TheVariants.{Whole, Broken, NoUnit, Gap, Cut}
 use Rattle.p25_stream.specs.Items.{items_of}
@@ -20,9 +19,9 @@ repaired_from at bits = repaired_by (items_of at bits) bits
 abbrev pub repair_of : List Bool → List Bool
 repair_of = repaired_from 0
 
--- an item is found again after a repair: a whole unit, whose bits are as many as before, with any fixes, and each other item as it is
+-- an item is found again after a repair: a whole unit with any fixes, and each other item as it is
 unfoldable pub IsFoundAgain : Item → Item → Type 0
-IsFoundAgain (Whole place frame fixes) other = (left : ℕ) × (other ≡ Whole place frame left) × (length (image_of frame) ≡ frame_length_of frame.unit)
+IsFoundAgain (Whole place frame fixes) other = (left : ℕ) × (other ≡ Whole place frame left)
 IsFoundAgain (Broken place count nac duid fields) other = other ≡ Broken place count nac duid fields
 IsFoundAgain (NoUnit place field) other = other ≡ NoUnit place field
 IsFoundAgain (Gap place count) other = other ≡ Gap place count
