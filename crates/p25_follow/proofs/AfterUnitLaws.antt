@@ -1,5 +1,5 @@
 -- After a unit of fewer than 316 bits nothing is expected, since it is a TDU or a unit that is cut: so the 316 bits from where a unit begins come out as they are. By induction on the items.
-use Rattle.std.proofs.Common.{◌≡◌, ◌≢◌, ℕ, zero, suc, ◌+◌, ◌<◌, ◌≤◌, Bool, true, false, cond, ◌&&◌, inl, inr, List, [], ◌∷◌, ◌++◌, length, take, drop, Option, Some, None, Result, Ok, Err, refl, sym, ap, ap₂, subst, ◌∙◌, arith, append_assoc, append-nil, length-append, length-drop}
+use Rattle.std.proofs.Common.{◌≡◌, ◌≢◌, ℕ, zero, suc, ◌+◌, ◌<◌, ◌≤◌, Bool, true, false, cond, ◌&&◌, inl, inr, List, [], ◌∷◌, ◌++◌, length, take, drop, Option, Some, None, Result, Ok, Err, refl, sym, ap, subst, ◌∙◌, arith, append_assoc, append-nil, length-append, length-drop}
 use Rattle.std.specs.Prelude.{nat_eq, nat_lt}
 use Rattle.std.specs.Option.{option_or}
 use Rattle.std.proofs.lemmas.Bool.{cases_Bool, cases_eq, cases_lt, ne_eqb}
@@ -12,10 +12,9 @@ use Rattle.p25_packet_blocks.specs.Heads.{head_blocks}
 use Rattle.p25_packet_blocks.specs.Lengths.{packet_sent_length}
 use Rattle.p25_packet_blocks.specs.UnitReading.{sent_head_of}
 use Rattle.p25_units.specs.Items.{covered, unit_item_of}
-use Rattle.p25_units.specs.Needs.{head_need, kind_need, length_need, need_of, voice_need}
+use Rattle.p25_units.specs.Needs.{head_need, kind_need, length_need, voice_need}
 use Rattle.p25_units.specs.Units.{sent_length}
 use Rattle.p25_units.specs.declared.item.Item.{Item}
-use Rattle.p25_units.specs.declared.needs.Need.{Need}
 use Rattle.p25_units.specs.declared.needs.Need.TheVariants.{Length, More, NoLength}
 use Rattle.p25_units.proofs.ItemsLaws.{covered-unit_item_of}
 use Rattle.p25_units.proofs.NeedsLaws.{IsIdentified-from, head_need-bad, head_need-good, kind_need-packet, kind_need-unpacked, length_need-cases, need_of-there, packet_need-long, packet_need-short, voice_need-none, voice_need-some}

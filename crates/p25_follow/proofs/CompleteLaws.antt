@@ -1,17 +1,14 @@
 -- In a stretch, directly after a unit that is found or whose front is written, a unit that may come and whose identifier is near comes out with its front. By the units that are written before it.
-use Rattle.std.proofs.Common.{◌≡◌, ℕ, ◌+◌, ◌-◌, ◌<◌, ◌≤◌, Bool, true, false, List, [], ◌∷◌, ◌++◌, length, take, drop, Option, Some, None, refl, sym, ap, subst, ◌∙◌, arith, length-drop}
+use Rattle.std.proofs.Common.{◌≡◌, ℕ, ◌+◌, ◌-◌, ◌<◌, ◌≤◌, Bool, true, List, [], ◌∷◌, ◌++◌, length, take, drop, Option, Some, refl, sym, ap, subst, ◌∙◌, arith, length-drop}
 use Rattle.std.proofs.lemmas.List.{drop-drop, length-take-le, take_at}
 use Rattle.p25_bits.specs.Bits.{part}
 use Rattle.p25_bits.proofs.PartLaws.{length-part, part-drop, part-part, part_right}
 use Rattle.p25_units.specs.Items.{covered}
-use Rattle.p25_units.specs.declared.item.Item.{Item}
-use Rattle.p25_stream.specs.Items.{items_of}
 use Rattle.p25_follow.specs.Chains.{chain_by, with_front}
 use Rattle.p25_follow.specs.Expected.{is_expected, kind_length}
-use Rattle.p25_follow.specs.Followed.{follow_of, is_rest, unit_name}
+use Rattle.p25_follow.specs.Followed.{follow_of}
 use Rattle.p25_follow.specs.FollowedUnits.{IsWrittenUpTo, end_name}
 use Rattle.p25_follow.specs.RecordingLaws.{CompleteInStretches}
-use Rattle.p25_follow.specs.Steps.{step_of}
 use Rattle.p25_follow.specs.StretchLaws.{bits_in}
 use Rattle.p25_follow.specs.Told.{name_errors_of}
 use Rattle.p25_follow.proofs.ChainLaws.{chain_by-step}

@@ -132,17 +132,17 @@ chain-point at i (Some before) stretch end = chain-in (length stretch) at i befo
 
 -- ---- the bits of a stretch that has begun, and of the items after it
 
-fronts-end : (at : ℕ) (before : Option (ℕ × ℕ)) (stretch bits : List Bool) → fronts_by at before stretch [] bits ≡ written_units at before stretch None
+pub fronts-end : (at : ℕ) (before : Option (ℕ × ℕ)) (stretch bits : List Bool) → fronts_by at before stretch [] bits ≡ written_units at before stretch None
 unfolding fronts_by
 fronts-end at before stretch bits = refl
 
-fronts-rest : (at : ℕ) (before : Option (ℕ × ℕ)) (stretch : List Bool) (item : Item) (items : List Item) (bits : List Bool) → is_rest item ≡ true
+pub fronts-rest : (at : ℕ) (before : Option (ℕ × ℕ)) (stretch : List Bool) (item : Item) (items : List Item) (bits : List Bool) → is_rest item ≡ true
     → fronts_by at before stretch (item ∷ items) bits ≡ fronts_by at before (stretch ++ take (covered item) bits) items (drop (covered item) bits)
 unfolding fronts_by
 fronts-rest at before stretch item items bits rest = cond-true (is_rest item) (fronts_by at before (stretch ++ take (covered item) bits) items (drop (covered item) bits))
     (written_units at before stretch (unit_name item) ++ fronts_by (at + length stretch + covered item) (unit_name item) [] items (drop (covered item) bits)) rest
 
-fronts-unit : (at : ℕ) (before : Option (ℕ × ℕ)) (stretch : List Bool) (item : Item) (items : List Item) (bits : List Bool) → is_rest item ≡ false
+pub fronts-unit : (at : ℕ) (before : Option (ℕ × ℕ)) (stretch : List Bool) (item : Item) (items : List Item) (bits : List Bool) → is_rest item ≡ false
     → fronts_by at before stretch (item ∷ items) bits
     ≡ written_units at before stretch (unit_name item) ++ fronts_by (at + length stretch + covered item) (unit_name item) [] items (drop (covered item) bits)
 unfolding fronts_by
@@ -200,9 +200,10 @@ point-rest at place i before stretch bits item items fits is_place rest point =
     elim point [
       | inl same ↦ inl (out ∙ same ∙ ap (part i 1) whole)
       | inr found ↦
-          inr
-          (subst (IsFrontBit (at + i)) (sym (fronts-rest at before stretch item items bits rest)) found.0,
-          where-rest at place i count stretch raw item items is_place refl (length-take-le count bits fits) rest found.1)
+          inr (
+            subst (IsFrontBit (at + i)) (sym (fronts-rest at before stretch item items bits rest)) found.0,
+            where-rest at place i count stretch raw item items is_place refl (length-take-le count bits fits) rest found.1,
+          )
     ]
 
 where-unit : (at place i k c : ℕ) (stretch : List Bool) (item : Item) (items : List Item) → covered item ≡ c → place + c + k ≡ at + i
@@ -250,11 +251,12 @@ point-unit at place i before stretch bits item items fits is_place unit point =
                   | inl same ↦ inl (own ∙ later ∙ same ∙ there ∙ sym here)
                   | inr found ↦
                       let moved : place + count ≡ at + length stretch + count = omega (arith, is_place) in
-                      inr
-                      (subst (IsFrontBit (at + i)) (sym fronts)
-                      (front-right (at + i) written (fronts_by (at + length stretch + count) name [] items left)
-                      (subst (λ (p : ℕ). IsFrontBit (at + i) (fronts_by p name [] items left)) moved (subst (λ (p : ℕ). IsFrontBit p (fronts_by (place + count) name [] items left)) same_place found.0))),
-                      where-unit at place i k count stretch item items refl same_place found.1)
+                      inr (
+                        subst (IsFrontBit (at + i)) (sym fronts)
+                            (front-right (at + i) written (fronts_by (at + length stretch + count) name [] items left)
+                            (subst (λ (p : ℕ). IsFrontBit (at + i) (fronts_by p name [] items left)) moved (subst (λ (p : ℕ). IsFrontBit p (fronts_by (place + count) name [] items left)) same_place found.0))),
+                        where-unit at place i k count stretch item items refl same_place found.1,
+                      )
                 ]
           ]
     ]

@@ -19,3 +19,4 @@ pub mod NeverWorseLaws
 pub mod FrontBitsLaws
 pub mod StretchesLaws
 pub mod CompleteLaws
+pub mod RepairLaws

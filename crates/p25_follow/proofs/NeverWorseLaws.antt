@@ -3,22 +3,23 @@ use Rattle.std.proofs.Common.{◌≡◌, ℕ, zero, suc, ◌+◌, ◌-◌, ◌<�
 use Rattle.std.proofs.lemmas.Bool.{cases_Bool, cases_lt}
 use Rattle.std.proofs.lemmas.List.{drop-append-le, drop-drop, drop_at, length-take-le, take-append-drop, take_at}
 use Rattle.std.proofs.Math.Seq.{drop-append-add, drop-append_seam, take-append_seam}
-use Rattle.p25_units.specs.Items.{covered, unit_item_of}
+use Rattle.p25_units.specs.Items.{covered}
 use Rattle.p25_units.specs.declared.item.Item.{Item}
 use Rattle.p25_stream.specs.Items.{first_item, items_of}
 use Rattle.p25_stream.proofs.ItemsLaws.{covered-first_item, items_by-more, items_by-nil}
 use Rattle.p25_follow.specs.Chains.{chain_by, with_front}
 use Rattle.p25_follow.specs.Expected.{kind_length}
 use Rattle.p25_follow.specs.Followed.{follow_of, followed_by, is_rest, unit_name}
-use Rattle.p25_follow.specs.FollowedUnits.{Among, units_by, written_units}
+use Rattle.p25_follow.specs.FollowedUnits.{IsMerged, fronts_by, units_by, written_units}
 use Rattle.p25_follow.specs.RecordingLaws.{NeverWorse, SecondChangesNothing}
 use Rattle.p25_follow.specs.Steps.{step_of}
 use Rattle.p25_follow.specs.StretchLaws.{units_among}
-use Rattle.p25_follow.proofs.AfterUnitLaws.{Sound, agree-after, none-sound, some-sound, sound-some, unit-sound}
+use Rattle.p25_follow.proofs.AfterUnitLaws.{Sound, agree-after, none-sound, sound-some, unit-sound}
 use Rattle.p25_follow.proofs.AlikeLaws.{Agree, Alike, agree-append, agree-less, rest-begins, unit-alike}
 use Rattle.p25_follow.proofs.ChainLaws.{chain_by-nil, chain_by-none, chain_by-step, chain_by-stop}
 use Rattle.p25_follow.proofs.FollowingLaws.{followed-end, followed-rest, followed-unit}
 use Rattle.p25_follow.proofs.FoundLaws.{written-found}
+use Rattle.p25_follow.proofs.FrontBitsLaws.{fronts-end, fronts-rest, fronts-unit}
 use Rattle.p25_follow.proofs.LengthLaws.{length-followed, length-with_front}
 use Rattle.p25_follow.proofs.SameUnitsLaws.{Ends, RestPlaces, among-rest, places-of, same_units-in, unit-at}
 use Rattle.p25_follow.proofs.StepLaws.{step_of-nil, step_of-there}
@@ -27,7 +28,7 @@ use Rattle.p25_follow.proofs.WrittenUnitsLaws.{among-nil, among-unit, stretch-fo
 -- ---- what is written of a stretch, and bits after it
 
 -- bits are none, or a unit begins with them
-abbrev Begins : List Bool → Type 0
+abbrev pub Begins : List Bool → Type 0
 Begins bits = (bits ≡ []) ⊎ (is_rest (first_item 0 bits) ≡ false)
 
 -- bits after a stretch at a place come out again as they are, where the stretch does
@@ -40,7 +41,7 @@ record IsChain (at place : ℕ) (before : Option (ℕ × ℕ)) (stretch more : L
   units : units_among (items_of at (chain_by true before stretch end ++ more)) ≡ written_units at before stretch end ++ units_among (items_of place more)
   again : followed_by true before [] (items_of at (chain_by true before stretch end ++ more)) (chain_by true before stretch end ++ more) ≡ chain_by true before stretch end ++ more
 
-ends-at : (stretch more : List Bool) → Begins more → Ends (length stretch) (stretch ++ more)
+pub ends-at : (stretch more : List Bool) → Begins more → Ends (length stretch) (stretch ++ more)
 ends-at stretch more (inl none) = inl (omega (arith, length-append stretch more, ap length none))
 ends-at stretch more (inr unit) = inr (ap (λ (xs : List Bool). is_rest (first_item 0 xs)) (drop-append_seam stretch more) ∙ unit)
 
@@ -109,7 +110,7 @@ chain-steps at place nac before stretch more end kind same nac_fits is later =
           ∙ sym steps;
     }
 
-rests-later : (count : ℕ) (stretch more : List Bool) → count ≤ length stretch → RestPlaces (length stretch) (stretch ++ more) → RestPlaces (length (drop count stretch)) (drop count stretch ++ more)
+pub rests-later : (count : ℕ) (stretch more : List Bool) → count ≤ length stretch → RestPlaces (length stretch) (stretch ++ more) → RestPlaces (length (drop count stretch)) (drop count stretch ++ more)
 rests-later count stretch more fits rests place before =
     ap (λ (xs : List Bool). is_rest (first_item 0 xs)) (ap (drop place) (sym (drop-append-le count stretch more fits)) ∙ drop-drop place count (stretch ++ more))
     ∙ rests (count + place) (omega (arith, before, length-drop count stretch))
@@ -168,7 +169,7 @@ out-end at place before stretch is_place sound rests =
       again = ap (λ (xs : List Bool). followed_by true before [] (items_of at xs) xs) out ∙ whole.again ∙ sym out;
     }
 
-rests-more : (place : ℕ) (stretch bits : List Bool) → 0 < length bits → RestPlaces (length stretch) (stretch ++ bits) → is_rest (first_item place bits) ≡ true
+pub rests-more : (place : ℕ) (stretch bits : List Bool) → 0 < length bits → RestPlaces (length stretch) (stretch ++ bits) → is_rest (first_item place bits) ≡ true
     → RestPlaces (length (stretch ++ take (covered (first_item place bits)) bits)) ((stretch ++ take (covered (first_item place bits)) bits) ++ drop (covered (first_item place bits)) bits)
 rests-more place stretch bits some rests rest p before =
     let count = covered (first_item place bits) in
@@ -195,6 +196,59 @@ out-rest at place before stretch bits items rest later =
       again = ap (λ (xs : List Bool). followed_by true before [] (items_of at xs) xs) out ∙ later.again ∙ sym out;
     }
 
+-- what is written after the unit that bits begin with
+abbrev pub next_of : ℕ → List Bool → List Bool
+next_of place bits =
+    followed_by true (unit_name (first_item place bits)) [] (items_of (place + covered (first_item place bits)) (drop (covered (first_item place bits)) bits))
+    (drop (covered (first_item place bits)) bits)
+
+-- bits after a stretch that begin with the same unit as others, and no unit begins at a place of the stretch
+pub record IsTail (place : ℕ) (stretch bits more : List Bool) : Type 0 where
+  pub own : take (covered (first_item place bits)) more ≡ take (covered (first_item place bits)) bits
+  pub behind : drop (covered (first_item place bits)) more ≡ next_of place bits
+  pub items_are : items_of place more ≡ first_item place bits ∷ items_of (place + covered (first_item place bits)) (next_of place bits)
+  pub begins : Begins more
+  pub rests : RestPlaces (length stretch) (stretch ++ more)
+
+pub unit-tail : (place : ℕ) (stretch bits : List Bool) → 0 < length bits → RestPlaces (length stretch) (stretch ++ bits) → is_rest (first_item place bits) ≡ false
+    → IsTail place stretch bits (take (covered (first_item place bits)) bits ++ next_of place bits)
+unit-tail place stretch bits some rests unit =
+    let item = first_item place bits in
+    let name = unit_name item in
+    let count = covered item in
+    let fits = covered-first_item place bits some in
+    let raw = take count bits in
+    let left = drop count bits in
+    let next = next_of place bits in
+    let more = raw ++ next in
+    let raw_long : length raw ≡ count = length-take-le count bits fits.1 in
+    let next_long : length next ≡ length left = length-followed (length left) (place + count) name [] left (omega arith) ∙ omega arith in
+    let long : length bits ≡ length more = omega (arith, length-append raw next, raw_long, next_long, length-drop count bits, fits.1) in
+    let agrees : Agree 316 bits more = agree-after place bits some unit in
+    let alike : Alike bits more = record { long = long; same = agrees } in
+    let own : take count more ≡ raw = take_at raw next count raw_long in
+    let behind : drop count more ≡ next = drop_at raw next count raw_long in
+    let same : first_item place more ≡ item = unit-alike place bits more alike unit (sym own) in
+    let is_more : items_of place more ≡ item ∷ items_of (place + count) next
+    = items_by-more true place more (omega (arith, long, some)) refl
+    ∙ ap (λ (i : Item). i ∷ items_of (place + covered i) (drop (covered i) more)) same
+    ∙ ap (λ (xs : List Bool). item ∷ items_of (place + count) xs) behind in
+    let begins : Begins more = inr (unit-at place more (ap is_rest same ∙ unit)) in
+    let rests_out : RestPlaces (length stretch) (stretch ++ more)
+    = λ p first.
+    let before_p = length-drop p stretch in
+    let here : (xs : List Bool) → drop p (stretch ++ xs) ≡ drop p stretch ++ xs = λ xs. drop-append-le p stretch xs (omega (arith, first)) in
+    let like : Alike (drop p stretch ++ bits) (drop p stretch ++ more)
+    = record {
+      long = omega (arith, length-append (drop p stretch) bits, length-append (drop p stretch) more, long);
+      same = agree-less 316 (length (drop p stretch) + 316) (drop p stretch ++ bits) (drop p stretch ++ more) (omega arith) (agree-append 316 (drop p stretch) bits more agrees);
+    } in
+    ap (λ (xs : List Bool). is_rest (first_item 0 xs)) (here more)
+    ∙ sym (rest-begins 0 (drop p stretch ++ bits) (drop p stretch ++ more) like)
+    ∙ ap (λ (xs : List Bool). is_rest (first_item 0 xs)) (sym (here bits))
+    ∙ rests p first in
+    record { own = own; behind = behind; items_are = is_more; begins = begins; rests = rests_out }
+
 out-unit : (at place : ℕ) (before : Option (ℕ × ℕ)) (stretch bits : List Bool) → 0 < length bits → at + length stretch ≡ place → Sound before → RestPlaces (length stretch) (stretch ++ bits)
     → is_rest (first_item place bits) ≡ false
     → IsOut (place + covered (first_item place bits)) (unit_name (first_item place bits)) []
@@ -210,19 +264,12 @@ out-unit at place before stretch bits some is_place sound rests unit later =
     let items = items_of (place + count) left in
     let next = followed_by true name [] items left in
     let more = raw ++ next in
-    let raw_long : length raw ≡ count = length-take-le count bits fits.1 in
-    let next_long : length next ≡ length left = length-followed (length left) (place + count) name [] left (omega arith) ∙ omega arith in
-    let long : length bits ≡ length more = omega (arith, length-append raw next, raw_long, next_long, length-drop count bits, fits.1) in
-    let agrees : Agree 316 bits more = agree-after place bits some unit in
-    let alike : Alike bits more = record { long = long; same = agrees } in
-    let own : take count more ≡ raw = take_at raw next count raw_long in
-    let behind : drop count more ≡ next = drop_at raw next count raw_long in
-    let same : first_item place more ≡ item = unit-alike place bits more alike unit (sym own) in
-    let is_more : items_of place more ≡ item ∷ items_of (place + count) next
-    = items_by-more true place more (omega (arith, long, some)) refl
-    ∙ ap (λ (i : Item). i ∷ items_of (place + covered i) (drop (covered i) more)) same
-    ∙ ap (λ (xs : List Bool). item ∷ items_of (place + count) xs) behind in
-    let begins : Begins more = inr (unit-at place more (ap is_rest same ∙ unit)) in
+    let tail = unit-tail place stretch bits some rests unit in
+    let own = tail.own in
+    let behind = tail.behind in
+    let is_more = tail.items_are in
+    let begins = tail.begins in
+    let rests_out = tail.rests in
     let again : Again place more name
     = λ b s stays.
     ap (λ (found : List Item). followed_by true b s found more) is_more
@@ -230,19 +277,6 @@ out-unit at place before stretch bits some is_place sound rests unit later =
     ∙ ap₂ (λ (xs ys : List Bool). xs ++ (ys ++ followed_by true name [] (items_of (place + count) next) (drop count more))) stays own
     ∙ ap (λ (xs : List Bool). s ++ (raw ++ followed_by true name [] (items_of (place + count) next) xs)) behind
     ∙ ap (λ (xs : List Bool). s ++ (raw ++ xs)) later.again in
-    let rests_out : RestPlaces (length stretch) (stretch ++ more)
-    = λ p first.
-    let before_p = length-drop p stretch in
-    let here : (xs : List Bool) → drop p (stretch ++ xs) ≡ drop p stretch ++ xs = λ xs. drop-append-le p stretch xs (omega (arith, first)) in
-    let like : Alike (drop p stretch ++ bits) (drop p stretch ++ more)
-    = record {
-      long = omega (arith, length-append (drop p stretch) bits, length-append (drop p stretch) more, long);
-      same = agree-less 316 (length (drop p stretch) + 316) (drop p stretch ++ bits) (drop p stretch ++ more) (omega arith) (agree-append 316 (drop p stretch) bits more agrees);
-    } in
-    ap (λ (xs : List Bool). is_rest (first_item 0 xs)) (here more)
-    ∙ sym (rest-begins 0 (drop p stretch ++ bits) (drop p stretch ++ more) like)
-    ∙ ap (λ (xs : List Bool). is_rest (first_item 0 xs)) (sym (here bits))
-    ∙ rests p first in
     let whole = chain-any at place before stretch more name is_place sound rests_out begins again in
     let out = followed-unit true before stretch item items bits unit in
     record {
@@ -283,41 +317,54 @@ out-in (suc n) at place before stretch (bit ∷ rest) few is_place sound rests =
 out-all : (bits : List Bool) → IsOut 0 None [] (items_of 0 bits) bits
 out-all bits = out-in (length bits) 0 0 None [] bits (omega arith) (omega arith) none-sound (λ p none. absurd (omega (arith, none)))
 
--- ---- the units of the recording are among them
+-- ---- they are those of the recording, and those whose fronts are written
 
-among-none : (items : List Item) → Among [] items
-unfolding Among
-among-none [] = refl
-among-none (item ∷ items) = inr (among-none items)
+merged-none : (items : List Item) → IsMerged [] items items
+unfolding IsMerged
+merged-none [] = (refl, refl)
+merged-none (item ∷ items) = inr (items, refl, merged-none items)
 
-among-append : (items first others : List Item) → Among items others → Among items (first ++ others)
-unfolding Among
-among-append items [] others among = among
-among-append items (item ∷ first) others among = inr (among-append items first others among)
+merged-first : (first old more all : List Item) → IsMerged old more all → IsMerged old (first ++ more) (first ++ all)
+unfolding IsMerged
+merged-first [] old more all merged = merged
+merged-first (item ∷ first) old more all merged = inr (first ++ more, refl, merged-first first old more all merged)
 
-among-more : (item : Item) (items others : List Item) → Among items others → Among (item ∷ items) (item ∷ others)
-unfolding Among
-among-more item items others among = inl (items, refl, among)
+merged-more : (item : Item) (old more all : List Item) → IsMerged old more all → IsMerged (item ∷ old) more (item ∷ all)
+unfolding IsMerged
+merged-more item old more all merged = inl (old, refl, merged)
 
-pub units-stay : (at : ℕ) (before : Option (ℕ × ℕ)) (stretch : List Bool) (items : List Item) (bits : List Bool) → Among (units_among items) (units_by at before stretch items bits)
-units-stay at before stretch [] bits = subst (λ (found : List Item). Among found (units_by at before stretch [] bits)) (sym among-nil) (among-none (units_by at before stretch [] bits))
-units-stay at before stretch (item ∷ items) bits =
+merged-same : (old more all others fronts units : List Item) → old ≡ others → more ≡ fronts → all ≡ units → IsMerged others fronts units → IsMerged old more all
+merged-same old more all others fronts units a b c merged =
+    subst (λ (xs : List Item). IsMerged xs more all) (sym a) (subst (λ (xs : List Item). IsMerged others xs all) (sym b) (subst (IsMerged others fronts) (sym c) merged))
+
+units-merged : (at : ℕ) (before : Option (ℕ × ℕ)) (stretch : List Bool) (items : List Item) (bits : List Bool)
+    → IsMerged (units_among items) (fronts_by at before stretch items bits) (units_by at before stretch items bits)
+units-merged at before stretch [] bits =
+    let written = written_units at before stretch None in
+    merged-same (units_among []) (fronts_by at before stretch [] bits) (units_by at before stretch [] bits) [] written written among-nil (fronts-end at before stretch bits)
+    (units-end at before stretch bits) (merged-none written)
+units-merged at before stretch (item ∷ items) bits =
     let left = drop (covered item) bits in
+    let taken = stretch ++ take (covered item) bits in
+    let all = item ∷ items in
     elim (cases_Bool (is_rest item)) [
       | inl rest ↦
-          subst (λ (found : List Item). Among found (units_by at before stretch (item ∷ items) bits)) (sym (among-rest item items rest))
-          (subst (Among (units_among items)) (sym (units-rest at before stretch item items bits rest)) (units-stay at before (stretch ++ take (covered item) bits) items left))
+          merged-same (units_among all) (fronts_by at before stretch all bits) (units_by at before stretch all bits) (units_among items) (fronts_by at before taken items left)
+          (units_by at before taken items left) (among-rest item items rest) (fronts-rest at before stretch item items bits rest) (units-rest at before stretch item items bits rest)
+          (units-merged at before taken items left)
       | inr unit ↦
-          let later = units_by (at + length stretch + covered item) (unit_name item) [] items left in
-          subst (λ (found : List Item). Among found (units_by at before stretch (item ∷ items) bits)) (sym (among-unit item items unit))
-          (subst (Among (item ∷ units_among items)) (sym (units-unit at before stretch item items bits unit))
-          (among-append (item ∷ units_among items) (written_units at before stretch (unit_name item)) (item ∷ later)
-          (among-more item (units_among items) later (units-stay (at + length stretch + covered item) (unit_name item) [] items left))))
+          let place = at + length stretch + covered item in
+          let written = written_units at before stretch (unit_name item) in
+          let fronts = fronts_by place (unit_name item) [] items left in
+          let units = units_by place (unit_name item) [] items left in
+          merged-same (units_among all) (fronts_by at before stretch all bits) (units_by at before stretch all bits) (item ∷ units_among items) (written ++ fronts) (written ++ (item ∷ units))
+          (among-unit item items unit) (fronts-unit at before stretch item items bits unit) (units-unit at before stretch item items bits unit)
+          (merged-first written (item ∷ units_among items) fronts (item ∷ units) (merged-more item (units_among items) fronts units (units-merged place (unit_name item) [] items left)))
     ]
 
 pub never-worse : NeverWorse
 unfolding follow_of
-never-worse bits = ((out-all bits).units, units-stay 0 None [] (items_of 0 bits) bits)
+never-worse bits = ((out-all bits).units, units-merged 0 None [] (items_of 0 bits) bits)
 
 pub second-nothing : SecondChangesNothing
 unfolding follow_of

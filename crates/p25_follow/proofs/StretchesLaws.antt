@@ -1,15 +1,12 @@
 -- What comes out of a recording, stretch by stretch: the bits of a unit as they are, and those of a stretch after it as its chain. By induction on the items before them.
-use Rattle.std.proofs.Common.{◌≡◌, ℕ, zero, suc, ◌+◌, ◌-◌, ◌<◌, ◌≤◌, Bool, true, false, inl, inr, ◌⊎◌, List, [], ◌∷◌, ◌++◌, length, take, drop, Option, Some, None, refl, sym, ap, ap₂, subst, ◌∙◌, arith, append_assoc, append-nil, length-append, length-drop}
+use Rattle.std.proofs.Common.{◌≡◌, ℕ, ◌+◌, ◌≤◌, Bool, true, false, inl, inr, List, [], ◌∷◌, ◌++◌, length, take, drop, Option, None, refl, sym, ap, ap₂, subst, ◌∙◌, arith, append_assoc, append-nil, length-append, length-drop}
 use Rattle.std.proofs.lemmas.Bool.{cases_Bool}
 use Rattle.std.proofs.lemmas.List.{drop-drop, drop_at, length-take-le, take_at}
-use Rattle.p25_bits.specs.Bits.{part}
-use Rattle.p25_bits.proofs.PartLaws.{part-drop, part_right}
-use Rattle.p25_units.specs.Items.{covered, place_of, unit_item_of}
+use Rattle.p25_units.specs.Items.{covered}
 use Rattle.p25_units.specs.declared.item.Item.{Item}
-use Rattle.p25_stream.specs.Items.{first_item, items_of}
+use Rattle.p25_stream.specs.Items.{items_of}
 use Rattle.p25_stream.proofs.ItemsLaws.{covered-first_item, items_by-first}
-use Rattle.p25_follow.specs.Chains.{chain_by, chain_of, with_front}
-use Rattle.p25_follow.specs.Expected.{is_expected, kind_length}
+use Rattle.p25_follow.specs.Chains.{chain_by}
 use Rattle.p25_follow.specs.Followed.{follow_of, followed_by, is_rest, unit_name}
 use Rattle.p25_follow.specs.FollowedUnits.{end_name}
 use Rattle.p25_follow.specs.RecordingLaws.{StretchByStretch}
@@ -142,10 +139,9 @@ by-stretches bits first unit stretch after is is_unit all no' =
     let from : drop at out ≡ raw ++ next
     = ap₂ (λ (k : ℕ) (items : List Item). drop k (followed_by true None [] items bits)) (let same : at ≡ 0 + at = omega arith in same) is
     ∙ from-unit None [] first unit (stretch ++ after) bits is_unit there in
-    let behind : drop (at + count) out ≡ next = sym (drop-drop count at out) ∙ ap (drop count) from ∙ drop_at raw next count raw_long in
-    (
+    let behind : drop (at + count) out ≡ next = sym (drop-drop count at out) ∙ ap (drop count) from ∙ drop_at raw next count raw_long in (
       ap (take count) from ∙ take_at raw next count raw_long,
       ap (take n) behind
-      ∙ ap (λ (k : ℕ). take k next) (let same : n ≡ 0 + n = omega arith in same)
-      ∙ of-stretch (unit_name unit) [] stretch after left all no' (omega (arith, fits, parts, length-drop (at + count) bits)),
+          ∙ ap (λ (k : ℕ). take k next) (let same : n ≡ 0 + n = omega arith in same)
+          ∙ of-stretch (unit_name unit) [] stretch after left all no' (omega (arith, fits, parts, length-drop (at + count) bits)),
     )

@@ -1,20 +1,19 @@
 -- The units whose fronts are written, a step at a time, and what lies before and after a stretch in which no unit begins. By induction on the bits, which each step makes fewer.
-use Rattle.std.proofs.Common.{◌≡◌, ℕ, zero, suc, ◌+◌, ◌-◌, ◌<◌, ◌≤◌, Bool, true, false, inl, inr, ◌⊎◌, List, [], ◌∷◌, ◌++◌, length, take, drop, Option, Some, None, refl, sym, ap, ap₂, ◌∙◌, add_assoc, arith, append_assoc, append-nil, length-append, length-drop}
-use Rattle.std.proofs.lemmas.Bool.{cases_Bool, cond-false, cond-true}
-use Rattle.std.proofs.lemmas.List.{drop-append-le, drop-drop, length-take-le, take-append-drop}
-use Rattle.std.proofs.Math.Seq.{drop-append_seam, take-append_seam, take-append-add}
+use Rattle.std.proofs.Common.{◌≡◌, ℕ, zero, suc, ◌+◌, ◌-◌, ◌<◌, ◌≤◌, Bool, true, false, List, [], ◌∷◌, ◌++◌, length, take, drop, Option, Some, None, refl, sym, ap, ap₂, ◌∙◌, arith, append_assoc, append-nil, length-drop}
+use Rattle.std.proofs.lemmas.Bool.{cond-false, cond-true}
+use Rattle.std.proofs.lemmas.List.{drop-drop, length-take-le, take-append-drop}
+use Rattle.std.proofs.Math.Seq.{take-append-add}
 use Rattle.std.proofs.Math.Nat.{add-zero}
 use Rattle.p25_units.specs.Items.{covered, unit_item_of}
 use Rattle.p25_units.specs.declared.item.Item.{Item}
 use Rattle.p25_stream.specs.Items.{first_item, items_of}
-use Rattle.p25_stream.proofs.ItemsLaws.{covered-first_item, items_by-more, items_by-nil}
-use Rattle.p25_follow.specs.Chains.{chain_by, with_front}
+use Rattle.p25_stream.proofs.ItemsLaws.{covered-first_item, items_by-more}
+use Rattle.p25_follow.specs.Chains.{with_front}
 use Rattle.p25_follow.specs.Expected.{kind_length}
 use Rattle.p25_follow.specs.Followed.{followed_by, is_rest, unit_name}
 use Rattle.p25_follow.specs.FollowedUnits.{units_by, units_step, written_units, written_units_in}
 use Rattle.p25_follow.specs.Steps.{step_of}
 use Rattle.p25_follow.specs.StretchLaws.{units_among}
-use Rattle.p25_follow.proofs.ChainLaws.{chain_by-nil, chain_by-none, chain_by-step, chain_by-stop}
 use Rattle.p25_follow.proofs.FollowingLaws.{followed-rest}
 use Rattle.p25_follow.proofs.SameUnitsLaws.{Ends, RestPlaces, covers-within, ends-later, rest-at}
 use Rattle.p25_follow.proofs.StepLaws.{step_of-nil, step_of-there}

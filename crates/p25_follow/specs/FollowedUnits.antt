@@ -35,10 +35,12 @@ units_by at before stretch (item ∷ items) bits =
     then units_by at before (stretch ++ raw) items rest
     else written_units at before stretch (unit_name item) ++ (item ∷ units_by (at + length stretch + covered item) (unit_name item) [] items rest)
 
--- some items stand among others, in the same order
-unfoldable pub Among : List Item → List Item → Type 0
-Among items [] = items ≡ []
-Among items (other ∷ others) = ((rest : List Item) × (items ≡ other ∷ rest) × Among rest others) ⊎ Among items others
+-- some items are those of two lists, one between the other, each in its order
+unfoldable pub IsMerged : List Item → List Item → List Item → Type 0
+IsMerged first second [] = (first ≡ []) × (second ≡ [])
+IsMerged first second (item ∷ items) =
+    ((rest : List Item) × (first ≡ item ∷ rest) × IsMerged rest second items)
+    ⊎ ((rest : List Item) × (second ≡ item ∷ rest) × IsMerged first rest items)
 
 -- of these the units whose fronts are written alone
 unfoldable pub fronts_by : ℕ → Option (ℕ × ℕ) → List Bool → List Item → List Bool → List Item

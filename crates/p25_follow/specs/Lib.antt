@@ -8,3 +8,4 @@ pub mod FollowLaws
 pub mod StretchLaws
 pub mod FollowedUnits
 pub mod RecordingLaws
+pub mod Repaired

@@ -7,7 +7,8 @@ use Rattle.p25_stream.specs.Items.{items_of}
 use Rattle.p25_follow.specs.Chains.{chain_of, with_front}
 use Rattle.p25_follow.specs.Expected.{is_expected, kind_length}
 use Rattle.p25_follow.specs.Followed.{follow_of, is_rest, unit_name}
-use Rattle.p25_follow.specs.FollowedUnits.{Among, IsFrontBit, IsInStretch, IsWrittenUpTo, end_name, fronts_by, units_by}
+use Rattle.p25_follow.specs.FollowedUnits.{IsFrontBit, IsInStretch, IsMerged, IsWrittenUpTo, end_name, fronts_by, units_by}
+use Rattle.p25_follow.specs.Repaired.{AreFoundAgain, repair_of}
 use Rattle.p25_follow.specs.StretchLaws.{all_rest, begins_rest, bits_in, units_among}
 use Rattle.p25_follow.specs.Told.{name_errors_of}
 
@@ -17,7 +18,7 @@ abbrev pub NeverWorse : Type 0
 NeverWorse =
     (bits : List Bool)
     → (units_among (items_of 0 (follow_of bits)) ≡ units_by 0 None [] (items_of 0 bits) bits)
-    × Among (units_among (items_of 0 bits)) (units_by 0 None [] (items_of 0 bits) bits)
+    × IsMerged (units_among (items_of 0 bits)) (fronts_by 0 None [] (items_of 0 bits) bits) (units_by 0 None [] (items_of 0 bits) bits)
 
 -- what is written of what is written is the same
 abbrev pub SecondChangesNothing : Type 0
@@ -52,3 +53,8 @@ CompleteInStretches =
     → name_errors_of (nac, kind) (drop place (part (bits_in first + covered unit) (bits_in stretch) bits)) ≤ 11
     → part (bits_in first + covered unit + place) (kind_length kind) (follow_of bits)
     ≡ with_front (nac, kind) (part (bits_in first + covered unit + place) (kind_length kind) bits)
+
+-- where the scan finds in a recording that was repaired the same items, a repair before comes to the same as one after alone
+abbrev pub RepairBefore : Type 0
+RepairBefore =
+    (bits : List Bool) → AreFoundAgain (items_of 0 bits) (items_of 0 (repair_of bits)) → repair_of (follow_of (repair_of bits)) ≡ repair_of (follow_of bits)

@@ -1,7 +1,7 @@
 //! The laws of what follows. The body is empty: the function states what is proved.
 
 ghost use Rattle.p25_follow.specs.FollowLaws.{ChainsUnfold, FollowerWrites, FrontAlone, LengthIsKept, NameStays, NearIsWritten, NoStretchNoChange, SettledStays, StepIsThere, StepLooksAtFew, WrittenIsFound};
-ghost use Rattle.p25_follow.specs.RecordingLaws.{CompleteInStretches, FrontBitsAlone, NeverWorse, SecondChangesNothing, StretchByStretch};
+ghost use Rattle.p25_follow.specs.RecordingLaws.{CompleteInStretches, FrontBitsAlone, NeverWorse, RepairBefore, SecondChangesNothing, StretchByStretch};
 ghost use Rattle.p25_follow.specs.StretchLaws.{PlaceLooksAtFew, SameUnitsAfter};
 
 /// **Theorem.** What is written of a recording, over all bits.
@@ -26,6 +26,8 @@ ghost use Rattle.p25_follow.specs.StretchLaws.{PlaceLooksAtFew, SameUnitsAfter};
 /// - `never_worse`: the units that the scan finds in what is written are those of the recording, the same item for item and at the
 ///   same places, and one more for each front that is written.
 /// - `second`: what is written of what is written is the same.
+/// - `repair`: where the scan finds in a recording that was repaired the same items, a repair before comes to the same as one after
+///   alone.
 /// - `settled`: what is settled of a stretch comes first, whatever bits come.
 /// - `follower`: what a follower writes of items, and at the end, is what is written of a recording.
 pub fn follow_laws()
@@ -45,6 +47,7 @@ pub fn follow_laws()
     ensures places { FrontBitsAlone }
     ensures never_worse { NeverWorse }
     ensures second { SecondChangesNothing }
+    ensures repair { RepairBefore }
     ensures settled { SettledStays }
     ensures follower { FollowerWrites }
 {}

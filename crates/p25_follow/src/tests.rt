@@ -6,7 +6,7 @@ ghost use Rattle.p25_units.specs.Units.{IsWholeBody};
 use super::Follower;
 use p25_bits::{BITS_MOST, BitBuf};
 use p25_link::{EncryptionSync, HeaderWord, LinkControl};
-use p25_stream::{Item, find_item};
+use p25_stream::{Item, find_item, repair_item};
 use p25_units::{Body, FieldList, Frame, Status, Statuses, Unit, VoiceUnit, frame_length, image};
 use p25_voice_units::{Voice, VoiceFrame};
 
@@ -317,4 +317,72 @@ fn fronts_of_links(rt: HostRuntime) {
 fn a_link_before_a_unit_of_a_call_that_is_cut(rt: HostRuntime) {
     let call = call_octets();
     assert!(rt; comes_out_as(&lost(&call, 1), &call, 950));
+}
+
+// The octets of a stretch, of a terminator with link control and of a terminator.
+const AFTER_PACKET: usize = 110;
+
+// The first 304 bits of a packet (PDU) of NAC 0, which are all but the last 12 of its header.
+const PACKET_BEGUN: [u8; 38] = [
+    0x55, 0x75, 0xF5, 0xFF, 0x77, 0xFF, 0x00, 0x0C, 0xD9, 0x4C, 0x2F, 0x74, 0xEC, 0xAC, 0x08, 0xC8,
+    0x6B, 0x05, 0xE2, 0x2F, 0xF9, 0xF5, 0x29, 0x7D, 0x92, 0x22, 0x59, 0x2C, 0x88, 0xB6, 0x88, 0x88,
+    0x86, 0x00, 0x88, 0x65, 0x9C, 0x22,
+];
+
+// What a repair writes of the items of some octets.
+fn repaired(octets: &[u8]) -> BitBuf {
+    let mut bits = BitBuf::new();
+    put_octets(octets, &mut bits);
+    let mut item = Item::Cut { place: 0, have: 0 };
+    let mut raw = BitBuf::new();
+    let mut all = BitBuf::new();
+    let mut at = 0;
+    for _ in 0..BITS_MOST {
+        if !find_item(octets, at, at as u64, true, &mut item) {
+            break;
+        }
+        let count = item.covered() as usize;
+        if count > 4_096 || at > bits.len() || count > bits.len() - at {
+            break;
+        }
+        raw.clear();
+        raw.append(&bits, at, count);
+        at += count;
+        repair_item(&item, &mut raw);
+        put_bits(&raw, &mut all);
+    }
+    all
+}
+
+// The octets of bits.
+fn octets_of(bits: &BitBuf) -> [u8; AFTER_PACKET] {
+    let mut octets = [0; AFTER_PACKET];
+    for i in 0..AFTER_PACKET {
+        if 8 * i + 8 <= bits.len() {
+            octets[i] = bits.field(8 * i, 8) as u8;
+        }
+    }
+    octets
+}
+
+#[test]
+fn a_repair_can_take_the_unit_before(rt: HostRuntime) {
+    // The terminator with link control has four wrong bits in its sync: with them the header of the packet does not read.
+    let mut octets = [0; AFTER_PACKET];
+    octets[..38].copy_from_slice(&PACKET_BEGUN);
+    octets[38..92].copy_from_slice(&TDULC);
+    octets[38] = 0xD6;
+    octets[39] = 0xF5;
+    octets[92..].copy_from_slice(&FIVE_WRONG);
+    let mut clean = octets;
+    clean[38..92].copy_from_slice(&TDULC);
+    let mut lost = BitBuf::new();
+    put_octets(&clean, &mut lost);
+    clean[92..].copy_from_slice(&TDU);
+    let mut found = BitBuf::new();
+    put_octets(&clean, &mut found);
+    assert!(rt; repaired(&octets_of(&followed(&octets))) == found);
+    // After a repair it reads, and the packet covers the unit after which the terminator would be expected.
+    let first = octets_of(&repaired(&octets));
+    assert!(rt; repaired(&octets_of(&followed(&first))) == lost);
 }

@@ -12,6 +12,7 @@ use Rattle.p25_follow.proofs.StretchesLaws.{by-stretches}
 use Rattle.p25_follow.proofs.TellsLaws.{step-near, step-reads}
 use Rattle.p25_follow.proofs.NeverWorseLaws.{never-worse, second-nothing}
 use Rattle.p25_follow.proofs.PlaceLaws.{place-few}
+use Rattle.p25_follow.proofs.RepairLaws.{repair-before}
 use Rattle.p25_follow.proofs.SameUnitsLaws.{same-units}
 use Rattle.p25_follow.proofs.UnchangedLaws.{follow-untouched, rest-stays, symbol-stays}
 use Rattle.p25_follow.proofs.laws.follow_laws.Goals as goal
@@ -74,6 +75,9 @@ returns-clause-never_worse c = never-worse
 
 pub returns-clause-second : goal.returns-clause-second
 returns-clause-second c = second-nothing
+
+pub returns-clause-repair : goal.returns-clause-repair
+returns-clause-repair c = repair-before
 
 pub returns-clause-settled : goal.returns-clause-settled
 returns-clause-settled c = chain-settles
