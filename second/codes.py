@@ -110,24 +110,11 @@ def near(words, word, most):
     return None
 
 
-@lru_cache(maxsize=100000)
-def golay_24(word):
-    return near(GOLAY_24, word, 3)
+def reader(words, most):
+    return lru_cache(maxsize=100000)(lambda word: near(words, word, most))
 
 
-@lru_cache(maxsize=100000)
-def golay_18(word):
-    return near(GOLAY_18, word, 3)
-
-
-@lru_cache(maxsize=1024)
-def hamming_10(word):
-    return near(HAMMING_10, word, 1)
-
-
-@lru_cache(maxsize=65536)
-def low_speed_16(word):
-    return near(LOW_SPEED, word, 2)
+golay_24, golay_18, hamming_10, low_speed_16 = reader(GOLAY_24, 3), reader(GOLAY_18, 3), reader(HAMMING_10, 1), reader(LOW_SPEED, 2)
 
 
 # GF(64) by x^6 + x + 1.

@@ -56,13 +56,25 @@ def some_of(lot, start, size, most):
     return [start + place for place in lot.sample(range(size), min(size, lot.randrange(most + 1)))]
 
 
-def word_places(lot, start, width, count, border):
-    """Places within words, of which about a border of words have more wrong bits than their code undoes."""
-    bad = lot.sample(range(count), min(count, max(0, border + lot.randrange(-2, 3))))
-    places = []
-    for word in bad:
-        places += [start(word) + bit for bit in lot.sample(range(width), lot.randrange(1, width // 2 + 1))]
-    return places
+# Of a kind with words: where they lie, their bits, how one is read, all of them, how many wrong bits each undoes, and how many may be lost.
+WORDS = {'hdu': (range(112, 760, 18), 18, codes.golay_18, codes.GOLAY_18, 3, 16),
+         'tdulc': (range(112, 400, 24), 24, codes.golay_24, codes.GOLAY_24, 3, 6),
+         'ldu1': (recordings.LINKS, 10, codes.hamming_10, codes.HAMMING_10, 1, 12),
+         'ldu2': (recordings.LINKS, 10, codes.hamming_10, codes.HAMMING_10, 1, 8)}
+
+
+def bordered(lot, kind, payload):
+    """The bits of a unit of which about as many words are lost and wrong as its code undoes."""
+    places, width, read, table, most, room = WORDS[kind]
+    lost = lot.randrange(room + 1)
+    wrong = max(0, (room - lost) // 2 + lot.choice([-1, 0, 0, 0, 1]))
+    chosen = lot.sample(places, lost + wrong + lot.choice([0, 0, 0, 1]))
+    for number, place in enumerate(chosen):
+        word = lot.getrandbits(width) if number < lost else lot.choice(table) ^ lot.choice([0, 1, 1 << width - 1])
+        while number < lost and read(word) is not None:
+            word = lot.getrandbits(width)
+        payload = payload[:place] + bits_of(word, width) + payload[place + width:]
+    return flipped(payload, [place + bit for place in places if place not in chosen for bit in some_of(lot, 0, width, lot.randrange(most + 1))])
 
 
 def strained(lot, kind, payload):
@@ -72,14 +84,11 @@ def strained(lot, kind, payload):
         places += [bit for bit in lot.sample(range(48), lot.choice([1, 3, 4, 4, 5]))]
     if lot.random() < 0.4:
         places += [48 + bit for bit in lot.sample(range(64), lot.choice([1, 5, 9, 10, 11, 11, 12, 13]))]
-    if kind == 'hdu':
-        places += word_places(lot, lambda word: 112 + 18 * word, 18, 36, lot.choice([4, 8, 10, 12, 16]))
-    elif kind == 'tdulc':
-        places += word_places(lot, lambda word: 112 + 24 * word, 24, 12, lot.choice([2, 3, 4, 5, 6]))
-    elif kind in ('ldu1', 'ldu2'):
-        places += word_places(lot, lambda word: recordings.LINKS[word], 10, 24, lot.choice([3, 4, 5, 6, 7, 8]))
+    if kind in WORDS:
+        payload = bordered(lot, kind, payload)
+    if kind in ('ldu1', 'ldu2'):
         places += some_of(lot, 1504, 16, 3) + some_of(lot, 1520, 16, 3)
-    else:
+    if kind in recordings.FORMATS.values():
         for start in range(112, len(payload) - 195, 196):
             places += some_of(lot, start, 196, lot.choice([0, 2, 4, 6, 8]))
     return flipped(payload, places)
@@ -171,7 +180,8 @@ def recording(lot):
         bits = bits[:max(0, len(bits) - lot.randrange(1, 2000))]
     if lot.random() < 0.2:
         # The end falls just around what an identifier or a header takes.
-        bits += recordings.unit_bits(unit(lot, nac), 1)[:lot.choice([47, 48, 49, 112, 113, 114, 115, 143, 144, 315, 316, 317, 359, 360])]
+        last = recordings.unit_bits(unit(lot, nac), 1)
+        bits += flipped(last, some_of(lot, 48, 300, lot.choice([0, 0, 50])))[:lot.choice([47, 48, 49, 112, 113, 114, 115, 143, 144, 315, 316, 317, 359, 360])]
     bits = bits[:len(bits) - len(bits) % 8] if lot.random() < 0.5 else bits
     return recordings.octets_of(bits)
 

@@ -26,11 +26,7 @@ def hexadecimal(bits):
 
 
 def binary(digits):
-    return bits_of(number_of_hexadecimal(digits), 4 * len(digits))
-
-
-def number_of_hexadecimal(digits):
-    return int(digits, 16) if digits else 0
+    return bits_of(int(digits or '0', 16), 4 * len(digits))
 
 
 def length_for(payload):
@@ -190,17 +186,23 @@ def read_voice(payload, nac, kind):
     return (kind, [nac] + fields + ['%02x%02x' % tuple(low), voice]), []
 
 
+def confirmed_blocks(data):
+    """The serial number and the digits of each block of a confirmed packet, or None where its check does not agree."""
+    blocks = [trellis_nearest(True, block) for block in data]
+    return [(int(block[:7], 2), hexadecimal(block[16:])) if crc_9(block[:7] + block[16:]) == int(block[7:16], 2) else None for block in blocks]
+
+
 def read_packet(payload, nac, head):
     kind = FORMATS.get(number_of(head[3:8]))
     if kind is None:
         return None, ['format']
     bare = hexadecimal(head)
     data = cut_up(payload[308:308 + 196 * blocks_of(head)], 196)
-    blocks = [trellis_nearest(kind == 'confirmed', block) for block in data]
     if kind == 'confirmed':
-        faults = ['block.%d' % place for place, block in enumerate(blocks) if crc_9(block[:7] + block[16:]) != int(block[7:16], 2)]
-        listed = ['%02x:%s' % (int(block[:7], 2), hexadecimal(block[16:])) for block in blocks]
-        return (None, faults) if faults else ((kind, [nac, bare, ','.join(listed) or '-']), [])
+        blocks = confirmed_blocks(data)
+        faults = ['block.%d' % place for place, block in enumerate(blocks) if block is None]
+        return (None, faults) if faults else ((kind, [nac, bare, ','.join('%02x:%s' % block for block in blocks) or '-']), [])
+    blocks = [trellis_nearest(False, block) for block in data]
     octets = ''.join(blocks)
     if octets and crc_32(octets[:-32]) != int(octets[-32:], 2):
         return None, ['packet_crc']

@@ -54,11 +54,9 @@ class Sender:
         return True
 
     def timeout(self):
-        if self.down:
-            return 'timeout down', None
-        if not self.outstanding:
+        if not self.down and not self.outstanding:
             return 'timeout idle', None
-        if not self.again():
+        if self.down or not self.again():
             return 'timeout down', None
         return 'timeout sent ns=%d try=%d' % (self.number, self.tries), self.packet()
 
@@ -74,32 +72,23 @@ class Sender:
 
     def hear(self, packet):
         """The step at an answer, and the packet that is sent."""
-        if packet.kind != 'response' or packet.nac != NAC or packet.head[6:12] != ADDRESS or not self.outstanding:
-            return 'answer ignored', None
         word = int(packet.head[2:4], 16)
-        if word & 7 != self.number:
+        ours = packet.kind == 'response' and packet.nac == NAC and packet.head[6:12] == ADDRESS
+        if not ours or not self.outstanding or word & 7 != self.number:
             return 'answer ignored', None
-        blocks = self.outstanding[0]
+        blocks, number, missing = self.outstanding[0], self.number, None
         if word >> 3 == 1:
-            opening = not blocks
-            step = 'answer %s ns=%d' % ('opened' if opening else 'acknowledged', self.number)
             self.outstanding = None
-            self.number = (self.number + 1) % 8
-            return step, None
-        if word >> 3 == 9:
-            if not self.again():
-                return 'answer down', None
-            return 'answer repeat ns=%d try=%d' % (self.number, self.tries), self.packet()
+            self.number = (number + 1) % 8
+            return 'answer %s ns=%d' % ('acknowledged' if blocks else 'opened', number), None
         if word >> 3 == 16:
-            flags = binary(packet.octets)
-            missing = [serial for serial, flag in zip(range(len(blocks)), flags) if flag == '0']
-            if len(flags) < len(blocks) or not missing:
-                return 'answer ignored', None
-            if not self.again():
-                return 'answer down', None
-            return 'answer retry ns=%d blocks=%s try=%d' % (self.number, ','.join(map(str, missing)), self.tries), self.packet(missing)
-        return 'answer ignored', None
-
+            missing = [serial for serial, flag in zip(range(len(blocks)), binary(packet.octets)) if flag == '0']
+        if word >> 3 not in (9, 16) or word >> 3 == 16 and (4 * len(packet.octets) < len(blocks) or not missing):
+            return 'answer ignored', None
+        if not self.again():
+            return 'answer down', None
+        step = 'retry ns=%d blocks=%s' % (number, ','.join(map(str, missing))) if missing else 'repeat ns=%d' % number
+        return 'answer %s try=%d' % (step, self.tries), self.packet(missing)
 
     def more(self):
         """The end of the last line."""
@@ -184,10 +173,7 @@ def heard(bits):
         return 'format'
     packet = Packet(kind, data >> 4, hexadecimal(head))
     if kind == 'confirmed':
-        for block in cut_up(payload[308:308 + 196 * recordings.blocks_of(head)], 196):
-            block = codes.trellis_nearest(True, block)
-            fits = codes.crc_9(block[:7] + block[16:]) == int(block[7:16], 2)
-            packet.blocks.append((int(block[:7], 2), hexadecimal(block[16:])) if fits else None)
+        packet.blocks = recordings.confirmed_blocks(cut_up(payload[308:308 + 196 * recordings.blocks_of(head)], 196))
         return packet
     unit, faults = recordings.read_packet(payload, '%03x' % packet.nac, head)
     if faults:
