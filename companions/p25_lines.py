@@ -622,6 +622,12 @@ def words_of(companion, help_text, flags, values):
     return options, others
 
 
+def no_others(companion, others):
+    """Ends with a word on where the lines come from, if there are words that are no options: a name of a file mostly."""
+    if others:
+        companion.fail(2, f"'{others[0]}' is no option: the lines come on standard input, as in p25 show < FILE | {companion.name}")
+
+
 def clock_of(companion, options):
     """The clock that `--begin` asks for, or None."""
     if "begin" not in options:
