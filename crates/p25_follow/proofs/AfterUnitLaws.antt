@@ -98,7 +98,8 @@ quiet-3 : IsQuiet 0x3
 unfolding expected_after next_link
 quiet-3 = record { none = refl; no_link = refl }
 
-quiet-by : (before : ℕ × ℕ) (bits : List Bool) (kind : ℕ) (fits : Option ℕ) (ready : Bool) → IsQuiet before.1 → fits_of before bits ≡ fits → option_or fits (cond ready (next_link before.1) None) ≡ Some kind → ⊥
+quiet-by : (before : ℕ × ℕ) (bits : List Bool) (kind : ℕ) (fits : Option ℕ) (ready : Bool) → IsQuiet before.1 → fits_of before bits ≡ fits
+    → option_or fits (cond ready (next_link before.1) None) ≡ Some kind → ⊥
 quiet-by before bits kind (Some other) ready quiet fits is =
     (told_of-expected (λ k. ⊥) before bits other (subst (Each (λ k. ⊥)) (sym quiet.none) tt) (fits_of-kind before bits other fits).told).1
 quiet-by before bits kind None true quiet fits is = let wrong : None ≡ Some kind = sym quiet.no_link ∙ is in cc
@@ -207,7 +208,8 @@ agree-quiet (suc n) place before stretch (bit ∷ rest) few quiet =
       | inl none ↦
           ap (λ (xs : List Bool). take (length stretch + 316) (stretch ++ xs)) (sym (take-append-drop count bits))
           ∙ ap (take (length stretch + 316)) (sym (append_assoc stretch raw left))
-          ∙ agree-less (length stretch + 316) (length (stretch ++ raw) + 316) ((stretch ++ raw) ++ left) (followed_by true before (stretch ++ raw) items left) (omega (arith, length-append stretch raw))
+          ∙ agree-less (length stretch + 316) (length (stretch ++ raw) + 316) ((stretch ++ raw) ++ left) (followed_by true before (stretch ++ raw) items left)
+          (omega (arith, length-append stretch raw))
           (agree-quiet n (place + count) before (stretch ++ raw) left (omega (arith, length-drop count bits, fits.0, fits.1)) quiet)
           ∙ ap (take (length stretch + 316)) (sym (unfolds ∙ followed-rest true before stretch item items bits none))
       | inr unit ↦

@@ -110,7 +110,8 @@ rest-begins at bits others alike =
 -- ---- the unit there
 
 -- a unit is the same where its bits are, and what begins there is alike
-pub unit-alike : (at : ℕ) (bits others : List Bool) → Alike bits others → is_rest (first_item at bits) ≡ false → Agree (covered (first_item at bits)) bits others → first_item at others ≡ first_item at bits
+pub unit-alike : (at : ℕ) (bits others : List Bool) → Alike bits others → is_rest (first_item at bits) ≡ false → Agree (covered (first_item at bits)) bits others
+    → first_item at others ≡ first_item at bits
 unit-alike at bits others alike =
     let there = same-there bits others alike in
     first_item-cases (λ item. is_rest item ≡ false → Agree (covered item) bits others → first_item at others ≡ item) at bits
@@ -119,5 +120,7 @@ unit-alike at bits others alike =
     first_item-synced at others (More count) (sym there.sync ∙ yes') (sym (there.need yes') ∙ need) ∙ ap (Cut at) (sym alike.long))
     (λ count yes' need unit own.
     first_item-synced at others (Length count) (sym there.sync ∙ yes') (sym (there.need yes') ∙ need)
-    ∙ ap (unit_item_of at) (sym (let same : Agree count bits others = ap (λ (n : ℕ). take n bits) (sym (covered-unit_item_of at bits count need)) ∙ own ∙ ap (λ (n : ℕ). take n others) (covered-unit_item_of at bits count need) in same)))
+    ∙ ap (unit_item_of at)
+    (sym (let same : Agree count bits others
+    = ap (λ (n : ℕ). take n bits) (sym (covered-unit_item_of at bits count need)) ∙ own ∙ ap (λ (n : ℕ). take n others) (covered-unit_item_of at bits count need) in same)))
     (λ field yes' need unit own. absurd (cc))

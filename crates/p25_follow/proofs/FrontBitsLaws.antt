@@ -108,7 +108,8 @@ chain-step-point at i before stretch end kind is later =
           let here : part j 1 left ≡ part i 1 stretch = part-drop j 1 count stretch ∙ ap (λ (k : ℕ). part k 1 stretch) (let same : count + j ≡ i = omega (arith, behind) in same) in
           elim (later behind) [
             | inl same ↦ inl (own ∙ same ∙ here)
-            | inr front ↦ inr (subst (IsFrontBit (at + i)) (sym units) (front-later (at + i) item more (subst (λ (k : ℕ). IsFrontBit k more) (let same : at + count + j ≡ at + i = omega (arith, behind) in same) front)))
+            | inr front ↦ inr (subst (IsFrontBit (at + i)) (sym units)
+                (front-later (at + i) item more (subst (λ (k : ℕ). IsFrontBit k more) (let same : at + count + j ≡ at + i = omega (arith, behind) in same) front)))
           ]
     ]
 
@@ -210,7 +211,8 @@ where-unit : (at place i k c : ℕ) (stretch : List Bool) (item : Item) (items :
     → Where (place + c) (place + c) [] items k → Where at place stretch (item ∷ items) i
 where-unit at place i k c stretch item items covers same (inl none) = absurd (omega (arith, none))
 where-unit at place i k c stretch item items covers same (inr later) =
-    inr (in-later (at + i) place item items (subst (λ (p : ℕ). IsInStretch (at + i) p items) (let moved : place + c ≡ place + covered item = omega (arith, covers) in moved) (subst (λ (p : ℕ). IsInStretch p (place + c) items) same later)))
+    inr (in-later (at + i) place item items (subst (λ (p : ℕ). IsInStretch (at + i) p items) (let moved : place + c ≡ place + covered item = omega (arith, covers) in moved)
+    (subst (λ (p : ℕ). IsInStretch p (place + c) items) same later)))
 
 point-unit : (at place i : ℕ) (before : Option (ℕ × ℕ)) (stretch bits : List Bool) (item : Item) (items : List Item) → covered item ≤ length bits → at + length stretch ≡ place → is_rest item ≡ false
     → ((k : ℕ) → Point (place + covered item) (place + covered item) (unit_name item) [] items (drop (covered item) bits) k) → Point at place before stretch (item ∷ items) bits i
@@ -237,7 +239,8 @@ point-unit at place i before stretch bits item items fits is_place unit point =
       | inr behind ↦
           let j = i - length stretch in
           let own : part i 1 (followed_by true before stretch (item ∷ items) bits) ≡ part j 1 (raw ++ next)
-          = out ∙ part_right i 1 chain (raw ++ next) (omega (arith, behind, chain_long)) ∙ ap (λ (k : ℕ). part k 1 (raw ++ next)) (let same : i - length chain ≡ j = omega (arith, chain_long) in same) in
+          = out ∙ part_right i 1 chain (raw ++ next) (omega (arith, behind, chain_long))
+          ∙ ap (λ (k : ℕ). part k 1 (raw ++ next)) (let same : i - length chain ≡ j = omega (arith, chain_long) in same) in
           let here : part i 1 (stretch ++ bits) ≡ part j 1 bits = part_right i 1 stretch bits behind in
           elim (cases_lt j count) [
             | inl within ↦ inl (own ∙ part_left j 1 raw next (omega (arith, within, raw_long)) ∙ part-take j 1 count bits (omega (arith, within)) ∙ sym here)
@@ -254,7 +257,8 @@ point-unit at place i before stretch bits item items fits is_place unit point =
                       inr (
                         subst (IsFrontBit (at + i)) (sym fronts)
                             (front-right (at + i) written (fronts_by (at + length stretch + count) name [] items left)
-                            (subst (λ (p : ℕ). IsFrontBit (at + i) (fronts_by p name [] items left)) moved (subst (λ (p : ℕ). IsFrontBit p (fronts_by (place + count) name [] items left)) same_place found.0))),
+                            (subst (λ (p : ℕ). IsFrontBit (at + i) (fronts_by p name [] items left)) moved
+                            (subst (λ (p : ℕ). IsFrontBit p (fronts_by (place + count) name [] items left)) same_place found.0))),
                         where-unit at place i k count stretch item items refl same_place found.1,
                       )
                 ]

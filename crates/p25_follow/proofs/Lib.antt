@@ -20,3 +20,4 @@ pub mod FrontBitsLaws
 pub mod StretchesLaws
 pub mod CompleteLaws
 pub mod RepairLaws
+pub mod RepairedLaws

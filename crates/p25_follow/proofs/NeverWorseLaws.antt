@@ -104,13 +104,15 @@ chain-steps at place nac before stretch more end kind same nac_fits is later =
           ap (λ (xs : List Bool). followed_by true (Some before) [] (items_of at xs) xs) steps
           ∙ ap (λ (found : List Item). followed_by true (Some before) [] found all) items
           ∙ followed-unit true (Some before) [] item (items_of (at + count) next) all found.is_unit
-          ∙ ap₂ (λ (xs ys : List Bool). xs ++ (ys ++ followed_by true (unit_name item) [] (items_of (at + count) next) (drop (covered item) all))) (chain_by-nil true (Some before) (unit_name item)) own
+          ∙ ap₂ (λ (xs ys : List Bool). xs ++ (ys ++ followed_by true (unit_name item) [] (items_of (at + count) next) (drop (covered item) all)))
+          (chain_by-nil true (Some before) (unit_name item)) own
           ∙ ap₂ (λ (n : Option (ℕ × ℕ)) (xs : List Bool). unit ++ followed_by true n [] (items_of (at + count) next) xs) found.name_is rest
           ∙ ap (λ (xs : List Bool). unit ++ xs) later.again
           ∙ sym steps;
     }
 
-pub rests-later : (count : ℕ) (stretch more : List Bool) → count ≤ length stretch → RestPlaces (length stretch) (stretch ++ more) → RestPlaces (length (drop count stretch)) (drop count stretch ++ more)
+pub rests-later : (count : ℕ) (stretch more : List Bool) → count ≤ length stretch → RestPlaces (length stretch) (stretch ++ more)
+    → RestPlaces (length (drop count stretch)) (drop count stretch ++ more)
 rests-later count stretch more fits rests place before =
     ap (λ (xs : List Bool). is_rest (first_item 0 xs)) (ap (drop place) (sym (drop-append-le count stretch more fits)) ∙ drop-drop place count (stretch ++ more))
     ∙ rests (count + place) (omega (arith, before, length-drop count stretch))

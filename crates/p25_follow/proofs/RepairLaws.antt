@@ -1,32 +1,20 @@
 -- Where a repair leaves the items, it changes nothing of what comes after it: the stretches are the same, and so is what is written of them. By induction on the items of both recordings.
-use Rattle.std.proofs.Common.{◌≡◌, ℕ, zero, suc, ◌+◌, ◌-◌, ◌<◌, ◌≤◌, Bool, true, false, inl, inr, List, [], ◌∷◌, ◌++◌, length, take, drop, Option, Some, None, Result, Ok, Err, refl, sym, ap, ap₂, subst, ◌∙◌, arith, append_assoc, length-append, length-drop}
+use Rattle.std.proofs.Common.{◌≡◌, ℕ, zero, suc, ◌+◌, ◌<◌, ◌≤◌, Bool, true, false, inl, inr, List, [], ◌∷◌, ◌++◌, length, take, drop, Option, Some, None, refl, sym, ap, ap₂, subst, ◌∙◌, arith, append_assoc, length-append, length-drop}
 use Rattle.std.proofs.lemmas.Bool.{cases_Bool}
-use Rattle.std.proofs.lemmas.List.{drop-drop, drop_at, length-take-le, take_at}
-use Rattle.std.proofs.Math.Nat.{add-zero}
+use Rattle.std.proofs.lemmas.List.{drop_at, length-take-le, take_at}
 use Rattle.std.proofs.Math.Seq.{drop-append_seam, take-append_seam}
-use Rattle.p25_status.specs.declared.fields.Field.{Field}
-use Rattle.p25_unit_front.proofs.FrontLaws.{identifier_of-fits, identifier_of-take}
-use Rattle.p25_units.specs.Items.{covered, item_from, unit_item_of}
-use Rattle.p25_units.specs.Needs.{need_of}
-use Rattle.p25_units.specs.Readings.{reading_from}
+use Rattle.p25_units.specs.Items.{covered, unit_item_of}
 use Rattle.p25_units.specs.Units.{image_of}
-use Rattle.p25_units.specs.declared.frame.Frame.{Frame}
 use Rattle.p25_units.specs.declared.item.Item.{Item}
 use Rattle.p25_units.specs.declared.item.Item.TheVariants.{Whole, Broken, NoUnit, Gap, Cut}
-use Rattle.p25_units.specs.declared.needs.Need.TheVariants.{Length}
-use Rattle.p25_units.proofs.ItemsLaws.{unit_item_of-some}
-use Rattle.p25_units.proofs.KindsLaws.{IsUnitOf, IsUnitOf-need}
-use Rattle.p25_units.proofs.NeedsLaws.{IsIdentified-from, need_of-there}
-use Rattle.p25_units.proofs.ReadingsLaws.{IsFrameOf-reading}
-use Rattle.p25_units.proofs.UnitsLaws.{length-image_of}
 use Rattle.p25_stream.specs.Items.{first_item, items_of}
 use Rattle.p25_stream.specs.Repeats.{repaired}
-use Rattle.p25_stream.proofs.ItemsLaws.{covered-first_item, first_item-cases, items_by-more, items_by-nil}
+use Rattle.p25_stream.proofs.ItemsLaws.{covered-first_item, items_by-more, items_by-nil}
 use Rattle.p25_follow.specs.Chains.{chain_by, with_front}
 use Rattle.p25_follow.specs.Expected.{kind_length}
 use Rattle.p25_follow.specs.Followed.{follow_of, followed_by, is_rest, unit_name}
 use Rattle.p25_follow.specs.RecordingLaws.{RepairBefore}
-use Rattle.p25_follow.specs.Repaired.{AreFoundAgain, IsFoundAgain, repair_of, repaired_by, repaired_from}
+use Rattle.p25_follow.specs.Repaired.{AreFoundAgain, IsFoundAgain, repair_of, repaired_from}
 use Rattle.p25_follow.specs.Steps.{step_of}
 use Rattle.p25_follow.proofs.AfterUnitLaws.{Sound, none-sound, sound-some, unit-sound}
 use Rattle.p25_follow.proofs.ChainLaws.{chain_by-nil, chain_by-none, chain_by-step, chain_by-stop}
@@ -34,78 +22,9 @@ use Rattle.p25_follow.proofs.FollowingLaws.{followed-rest, followed-unit}
 use Rattle.p25_follow.proofs.FoundLaws.{written-found}
 use Rattle.p25_follow.proofs.LengthLaws.{length-with_front}
 use Rattle.p25_follow.proofs.NeverWorseLaws.{Begins, ends-at, next_of, rests-later, rests-more, unit-tail}
-use Rattle.p25_follow.proofs.SameUnitsLaws.{Ends, RestPlaces, covers-within, ends-later, rest-at}
+use Rattle.p25_follow.proofs.SameUnitsLaws.{RestPlaces}
 use Rattle.p25_follow.proofs.StepLaws.{step_of-there}
-use Rattle.p25_follow.proofs.WrittenUnitsLaws.{append-take}
-
--- ---- what a repair writes
-
-repaired-items : (at : ℕ) (bits : List Bool) (items : List Item) → items_of at bits ≡ items → repaired_from at bits ≡ repaired_by items bits
-unfolding repaired_from
-repaired-items at bits items is = ap (λ (found : List Item). repaired_by found bits) is
-
-repaired-more : (item : Item) (items : List Item) (bits : List Bool)
-    → repaired_by (item ∷ items) bits ≡ repaired item (take (covered item) bits) ++ repaired_by items (drop (covered item) bits)
-unfolding repaired_by
-repaired-more item items bits = refl
-
-repaired-nil : (bits : List Bool) → repaired_by [] bits ≡ []
-unfolding repaired_by
-repaired-nil bits = refl
-
-from-is : (at : ℕ) (bits : List Bool) → repaired_by (items_of at bits) bits ≡ repaired_from at bits
-unfolding repaired_from
-from-is at bits = refl
-
--- the first item, and what is written after it
-from-more : (at : ℕ) (bits : List Bool) (item : Item) (raw next : List Bool) → items_of at bits ≡ item ∷ items_of (at + covered item) next → take (covered item) bits ≡ raw → drop (covered item) bits ≡ next
-    → repaired_from at bits ≡ repaired item raw ++ repaired_from (at + covered item) next
-from-more at bits item raw next is own behind =
-    repaired-items at bits (item ∷ items_of (at + covered item) next) is
-    ∙ repaired-more item (items_of (at + covered item) next) bits
-    ∙ ap₂ (λ (xs ys : List Bool). repaired item xs ++ repaired_by (items_of (at + covered item) next) ys) own behind
-    ∙ ap (λ (xs : List Bool). repaired item raw ++ xs) (from-is (at + covered item) next)
-
-from-first : (at : ℕ) (bits : List Bool) → 0 < length bits
-    → repaired_from at bits ≡ repaired (first_item at bits) (take (covered (first_item at bits)) bits) ++ repaired_from (at + covered (first_item at bits)) (drop (covered (first_item at bits)) bits)
-from-first at bits some =
-    from-more at bits (first_item at bits) (take (covered (first_item at bits)) bits) (drop (covered (first_item at bits)) bits) (items_by-more true at bits some refl) refl refl
-
-rest-plain : (item : Item) (raw : List Bool) → is_rest item ≡ true → repaired item raw ≡ raw
-rest-plain (Whole place frame fixes) raw rest = absurd (cc)
-rest-plain (Broken place count nac duid fields) raw rest = absurd (cc)
-rest-plain (NoUnit place field) raw rest = refl
-rest-plain (Gap place count) raw rest = refl
-rest-plain (Cut place have) raw rest = absurd (cc)
-
--- of a stretch it writes the bits
-stretch-repair : (n at count : ℕ) (bits : List Bool) → count ≤ n → count ≤ length bits → RestPlaces count bits → Ends count bits
-    → repaired_from at bits ≡ take count bits ++ repaired_from (at + count) (drop count bits)
-stretch-repair n at zero bits few there rests ends = ap (λ (p : ℕ). repaired_from p bits) (sym (add-zero at))
-stretch-repair zero at (suc count) bits few there rests ends = absurd (omega arith)
-stretch-repair (suc n) at (suc more) bits few there rests ends =
-    let count = suc more in
-    let some : 0 < length bits = omega arith in
-    let rest : is_rest (first_item at bits) ≡ true = rest-at 0 at bits (rests 0 (omega arith)) in
-    let item = first_item at bits in
-    let c = covered item in
-    let fits = covered-first_item at bits some in
-    let within : c ≤ count = covers-within at count bits (omega arith) ends rest in
-    let left = drop c bits in
-    let raw = take c bits in
-    let less = count - c in
-    let place : at + c + less ≡ at + count = omega arith in
-    let all : c + less ≡ count = omega arith in
-    let moved : (p : ℕ) → drop p left ≡ drop (c + p) bits = λ p. drop-drop p c bits in
-    let to_end : drop less left ≡ drop count bits = moved less ∙ ap (λ (k : ℕ). drop k bits) all in
-    from-first at bits some
-    ∙ ap₂ (λ (xs ys : List Bool). xs ++ ys) (rest-plain item raw rest)
-    (stretch-repair n (at + c) less left (omega (arith, fits.0)) (omega (arith, length-drop c bits))
-    (λ p first. ap (λ (xs : List Bool). is_rest (first_item 0 xs)) (moved p) ∙ rests (c + p) (omega arith))
-    (ends-later count c bits left less (omega (arith, length-drop c bits)) to_end ends)
-    ∙ ap₂ (λ (p : ℕ) (xs : List Bool). take less left ++ repaired_from p xs) place to_end)
-    ∙ sym (append_assoc raw (take less left) (repaired_from (at + count) (drop count bits)))
-    ∙ ap (λ (xs : List Bool). xs ++ repaired_from (at + count) (drop count bits)) (append-take c less bits fits.1 ∙ ap (λ (k : ℕ). take k bits) all)
+use Rattle.p25_follow.proofs.RepairedLaws.{from-first, from-more, repaired-items, repaired-long, repaired-nil, rest-plain, stretch-repair}
 
 -- ---- what it writes of a chain, whatever comes after it
 
@@ -118,7 +37,8 @@ record Both (at place : ℕ) (before : Option (ℕ × ℕ)) (stretch first secon
   one : repaired_from at (chain_by true before stretch end ++ first) ≡ part ++ repaired_from place first
   other : repaired_from at (chain_by true before stretch end ++ second) ≡ part ++ repaired_from place second
 
-chain-stops : (at place : ℕ) (before : Option (ℕ × ℕ)) (stretch more : List Bool) (end : Option (ℕ × ℕ)) → at + length stretch ≡ place → IsAfter stretch more → chain_by true before stretch end ≡ stretch
+chain-stops : (at place : ℕ) (before : Option (ℕ × ℕ)) (stretch more : List Bool) (end : Option (ℕ × ℕ)) → at + length stretch ≡ place → IsAfter stretch more
+    → chain_by true before stretch end ≡ stretch
     → repaired_from at (chain_by true before stretch end ++ more) ≡ stretch ++ repaired_from place more
 chain-stops at place before stretch more end is_place after stays =
     let count = length stretch in
@@ -191,42 +111,14 @@ both-in zero place first second end at before (bit ∷ stretch) few is_place sou
 both-in (suc n) place first second end at before stretch few is_place sound a b =
     both-stepped n at place before stretch first second end few is_place sound a b (step_of before stretch end) refl (both-in n place first second end)
 
-both-any : (at place : ℕ) (before : Option (ℕ × ℕ)) (stretch first second : List Bool) (end : Option (ℕ × ℕ)) → at + length stretch ≡ place → Sound before → IsAfter stretch first → IsAfter stretch second
+both-any : (at place : ℕ) (before : Option (ℕ × ℕ)) (stretch first second : List Bool) (end : Option (ℕ × ℕ)) → at + length stretch ≡ place → Sound before
+    → IsAfter stretch first → IsAfter stretch second
     → Both at place before stretch first second end
 both-any at place None stretch first second end is_place sound a b =
     let stays = chain_by-none true stretch end in
     record { part = stretch; one = chain-stops at place None stretch first end is_place a stays; other = chain-stops at place None stretch second end is_place b stays }
 both-any at place (Some before) stretch first second end is_place sound a b =
     both-in (length stretch) place first second end at before stretch (omega arith) is_place (sound-some before sound) a b
-
--- ---- what a repair writes of an item is as long as the item
-
-long-by : (at : ℕ) (nid : ℕ × ℕ) (sent raw : List Bool) (reading : Result Frame (List Field)) → reading_from (Some nid) sent ≡ reading → IsUnitOf nid.1 sent → nid.0 < 4096
-    → length raw ≡ covered (item_from at nid sent reading) → length (repaired (item_from at nid sent reading) raw) ≡ covered (item_from at nid sent reading)
-long-by at nid sent raw (Ok frame) is unit nac_fits long =
-    let read = IsFrameOf-reading nid sent frame unit is in
-    length-image_of frame read.sound record { nac_fits = omega (arith, read.nac, nac_fits); body = read.sendable }
-long-by at nid sent raw (Err fields) is unit nac_fits long = long
-
-unit-long : (at count : ℕ) (bits raw : List Bool) → need_of bits ≡ Length count
-    → length raw ≡ covered (unit_item_of at (take count bits)) → length (repaired (unit_item_of at (take count bits)) raw) ≡ covered (unit_item_of at (take count bits))
-unit-long at count bits raw need =
-    let sent = take count bits in
-    let known = IsIdentified-from bits count need in
-    let there = need_of-there bits count need in
-    let enough : 114 ≤ count = omega (arith, there.0, there.2) in
-    let reads = identifier_of-take count bits enough ∙ known.read in
-    let item = unit_item_of-some at sent known.nid (reading_from (Some known.nid) sent) reads refl in
-    subst (λ (i : Item). length raw ≡ covered i → length (repaired i raw) ≡ covered i) (sym item)
-    (long-by at known.nid sent raw (reading_from (Some known.nid) sent) refl (IsUnitOf-need count bits known.nid.1 known.kind) (identifier_of-fits sent known.nid reads).0)
-
-repaired-long : (at : ℕ) (bits raw : List Bool) → length raw ≡ covered (first_item at bits) → length (repaired (first_item at bits) raw) ≡ covered (first_item at bits)
-repaired-long at bits raw =
-    first_item-cases (λ item. length raw ≡ covered item → length (repaired item raw) ≡ covered item) at bits
-    (λ no' long. long)
-    (λ count yes' need long. long)
-    (λ count yes' need. unit-long at count bits raw need)
-    (λ field yes' need long. long)
 
 -- ---- an item that is found again
 
@@ -278,7 +170,8 @@ record Twin (place : ℕ) (bits others : List Bool) : Type 0 where
   again : AreFoundAgain (items_of (place + covered (first_item place bits)) (drop (covered (first_item place bits)) bits))
       (items_of (place + covered (first_item place bits)) (drop (covered (first_item place others)) others))
 
-twin : (place : ℕ) (bits others : List Bool) → 0 < length bits → 0 < length others → AreFoundAgain (items_of place bits) (items_of place others) → others ≡ repaired_from place bits → Twin place bits others
+twin : (place : ℕ) (bits others : List Bool) → 0 < length bits → 0 < length others → AreFoundAgain (items_of place bits) (items_of place others) → others ≡ repaired_from place bits
+    → Twin place bits others
 twin place bits others some also same is =
     let item = first_item place bits in
     let other = first_item place others in
@@ -289,7 +182,8 @@ twin place bits others some also same is =
     let items = items_of (place + c) left in
     let rest = items_of (place + co) (drop co others) in
     let both = again-parts item other items rest
-    (subst (λ (found : List Item). AreFoundAgain found (other ∷ rest)) (items_by-more true place bits some refl) (subst (AreFoundAgain (items_of place bits)) (items_by-more true place others also refl) same)) in
+    (subst (λ (found : List Item). AreFoundAgain found (other ∷ rest)) (items_by-more true place bits some refl)
+    (subst (AreFoundAgain (items_of place bits)) (items_by-more true place others also refl) same)) in
     let parts = same-item item other raw both.0 in
     let fits = covered-first_item place bits some in
     let written = repaired item raw in

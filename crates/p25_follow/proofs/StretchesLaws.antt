@@ -63,13 +63,15 @@ from-unit before stretch (item ∷ first) unit items bits is fits =
     let later_fits : bits_in first + count ≤ length left = omega (arith, fits, more, length-drop c bits) in
     let place : c + bits_in first ≡ bits_in (item ∷ first) = sym more in
     let end : c + (bits_in first + count) ≡ bits_in (item ∷ first) + count = omega (arith, more) in
-    let moved : take count (drop (bits_in first) left) ++ next (drop (bits_in first + count) left) ≡ take count (drop (bits_in (item ∷ first)) bits) ++ next (drop (bits_in (item ∷ first) + count) bits)
+    let moved : take count (drop (bits_in first) left) ++ next (drop (bits_in first + count) left)
+    ≡ take count (drop (bits_in (item ∷ first)) bits) ++ next (drop (bits_in (item ∷ first) + count) bits)
     = ap₂ (λ (xs ys : List Bool). take count xs ++ next ys)
     (drop-drop (bits_in first) c bits ∙ ap (λ (k : ℕ). drop k bits) place)
     (drop-drop (bits_in first + count) c bits ∙ ap (λ (k : ℕ). drop k bits) end) in
     elim (cases_Bool (is_rest item)) [
       | inl rest ↦
-          ap₂ (λ (n : ℕ) (xs : List Bool). drop n xs) (let same : length stretch + bits_in (item ∷ first) ≡ length (stretch ++ raw) + bits_in first = omega (arith, more, length-append stretch raw, raw_long) in same)
+          ap₂ (λ (n : ℕ) (xs : List Bool). drop n xs)
+          (let same : length stretch + bits_in (item ∷ first) ≡ length (stretch ++ raw) + bits_in first = omega (arith, more, length-append stretch raw, raw_long) in same)
           (followed-rest true before stretch item tail bits rest)
           ∙ from-unit before (stretch ++ raw) first unit items left is later_fits
           ∙ moved

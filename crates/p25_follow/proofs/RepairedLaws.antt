@@ -1,0 +1,124 @@
+-- What a repair writes of items: of each as many bits as it covers, and of a stretch its bits. By the cases of an item, and by induction on the items of a stretch.
+use Rattle.std.proofs.Common.{◌≡◌, ℕ, zero, suc, ◌+◌, ◌-◌, ◌<◌, ◌≤◌, Bool, true, List, [], ◌∷◌, ◌++◌, length, take, drop, Some, Result, Ok, Err, refl, sym, ap, ap₂, subst, ◌∙◌, arith, append_assoc, length-drop}
+use Rattle.std.proofs.lemmas.List.{drop-drop}
+use Rattle.std.proofs.Math.Nat.{add-zero}
+use Rattle.p25_status.specs.declared.fields.Field.{Field}
+use Rattle.p25_unit_front.proofs.FrontLaws.{identifier_of-fits, identifier_of-take}
+use Rattle.p25_units.specs.Items.{covered, item_from, unit_item_of}
+use Rattle.p25_units.specs.Needs.{need_of}
+use Rattle.p25_units.specs.Readings.{reading_from}
+use Rattle.p25_units.specs.declared.frame.Frame.{Frame}
+use Rattle.p25_units.specs.declared.item.Item.{Item}
+use Rattle.p25_units.specs.declared.item.Item.TheVariants.{Whole, Broken, NoUnit, Gap, Cut}
+use Rattle.p25_units.specs.declared.needs.Need.TheVariants.{Length}
+use Rattle.p25_units.proofs.ItemsLaws.{unit_item_of-some}
+use Rattle.p25_units.proofs.KindsLaws.{IsUnitOf, IsUnitOf-need}
+use Rattle.p25_units.proofs.NeedsLaws.{IsIdentified-from, need_of-there}
+use Rattle.p25_units.proofs.ReadingsLaws.{IsFrameOf-reading}
+use Rattle.p25_units.proofs.UnitsLaws.{length-image_of}
+use Rattle.p25_stream.specs.Items.{first_item, items_of}
+use Rattle.p25_stream.specs.Repeats.{repaired}
+use Rattle.p25_stream.proofs.ItemsLaws.{covered-first_item, first_item-cases, items_by-more}
+use Rattle.p25_follow.specs.Followed.{is_rest}
+use Rattle.p25_follow.specs.Repaired.{repaired_by, repaired_from}
+use Rattle.p25_follow.proofs.SameUnitsLaws.{Ends, RestPlaces, covers-within, ends-later, rest-at}
+use Rattle.p25_follow.proofs.WrittenUnitsLaws.{append-take}
+
+-- ---- what a repair writes
+
+pub repaired-items : (at : ℕ) (bits : List Bool) (items : List Item) → items_of at bits ≡ items → repaired_from at bits ≡ repaired_by items bits
+unfolding repaired_from
+repaired-items at bits items is = ap (λ (found : List Item). repaired_by found bits) is
+
+repaired-more : (item : Item) (items : List Item) (bits : List Bool)
+    → repaired_by (item ∷ items) bits ≡ repaired item (take (covered item) bits) ++ repaired_by items (drop (covered item) bits)
+unfolding repaired_by
+repaired-more item items bits = refl
+
+pub repaired-nil : (bits : List Bool) → repaired_by [] bits ≡ []
+unfolding repaired_by
+repaired-nil bits = refl
+
+from-is : (at : ℕ) (bits : List Bool) → repaired_by (items_of at bits) bits ≡ repaired_from at bits
+unfolding repaired_from
+from-is at bits = refl
+
+-- the first item, and what is written after it
+pub from-more : (at : ℕ) (bits : List Bool) (item : Item) (raw next : List Bool) → items_of at bits ≡ item ∷ items_of (at + covered item) next
+    → take (covered item) bits ≡ raw → drop (covered item) bits ≡ next
+    → repaired_from at bits ≡ repaired item raw ++ repaired_from (at + covered item) next
+from-more at bits item raw next is own behind =
+    repaired-items at bits (item ∷ items_of (at + covered item) next) is
+    ∙ repaired-more item (items_of (at + covered item) next) bits
+    ∙ ap₂ (λ (xs ys : List Bool). repaired item xs ++ repaired_by (items_of (at + covered item) next) ys) own behind
+    ∙ ap (λ (xs : List Bool). repaired item raw ++ xs) (from-is (at + covered item) next)
+
+pub from-first : (at : ℕ) (bits : List Bool) → 0 < length bits
+    → repaired_from at bits ≡ repaired (first_item at bits) (take (covered (first_item at bits)) bits) ++ repaired_from (at + covered (first_item at bits)) (drop (covered (first_item at bits)) bits)
+from-first at bits some =
+    from-more at bits (first_item at bits) (take (covered (first_item at bits)) bits) (drop (covered (first_item at bits)) bits) (items_by-more true at bits some refl) refl refl
+
+pub rest-plain : (item : Item) (raw : List Bool) → is_rest item ≡ true → repaired item raw ≡ raw
+rest-plain (Whole place frame fixes) raw rest = absurd (cc)
+rest-plain (Broken place count nac duid fields) raw rest = absurd (cc)
+rest-plain (NoUnit place field) raw rest = refl
+rest-plain (Gap place count) raw rest = refl
+rest-plain (Cut place have) raw rest = absurd (cc)
+
+-- of a stretch it writes the bits
+pub stretch-repair : (n at count : ℕ) (bits : List Bool) → count ≤ n → count ≤ length bits → RestPlaces count bits → Ends count bits
+    → repaired_from at bits ≡ take count bits ++ repaired_from (at + count) (drop count bits)
+stretch-repair n at zero bits few there rests ends = ap (λ (p : ℕ). repaired_from p bits) (sym (add-zero at))
+stretch-repair zero at (suc count) bits few there rests ends = absurd (omega arith)
+stretch-repair (suc n) at (suc more) bits few there rests ends =
+    let count = suc more in
+    let some : 0 < length bits = omega arith in
+    let rest : is_rest (first_item at bits) ≡ true = rest-at 0 at bits (rests 0 (omega arith)) in
+    let item = first_item at bits in
+    let c = covered item in
+    let fits = covered-first_item at bits some in
+    let within : c ≤ count = covers-within at count bits (omega arith) ends rest in
+    let left = drop c bits in
+    let raw = take c bits in
+    let less = count - c in
+    let place : at + c + less ≡ at + count = omega arith in
+    let all : c + less ≡ count = omega arith in
+    let moved : (p : ℕ) → drop p left ≡ drop (c + p) bits = λ p. drop-drop p c bits in
+    let to_end : drop less left ≡ drop count bits = moved less ∙ ap (λ (k : ℕ). drop k bits) all in
+    from-first at bits some
+    ∙ ap₂ (λ (xs ys : List Bool). xs ++ ys) (rest-plain item raw rest)
+    (stretch-repair n (at + c) less left (omega (arith, fits.0)) (omega (arith, length-drop c bits))
+    (λ p first. ap (λ (xs : List Bool). is_rest (first_item 0 xs)) (moved p) ∙ rests (c + p) (omega arith))
+    (ends-later count c bits left less (omega (arith, length-drop c bits)) to_end ends)
+    ∙ ap₂ (λ (p : ℕ) (xs : List Bool). take less left ++ repaired_from p xs) place to_end)
+    ∙ sym (append_assoc raw (take less left) (repaired_from (at + count) (drop count bits)))
+    ∙ ap (λ (xs : List Bool). xs ++ repaired_from (at + count) (drop count bits)) (append-take c less bits fits.1 ∙ ap (λ (k : ℕ). take k bits) all)
+
+-- ---- what a repair writes of an item is as long as the item
+
+long-by : (at : ℕ) (nid : ℕ × ℕ) (sent raw : List Bool) (reading : Result Frame (List Field)) → reading_from (Some nid) sent ≡ reading → IsUnitOf nid.1 sent → nid.0 < 4096
+    → length raw ≡ covered (item_from at nid sent reading) → length (repaired (item_from at nid sent reading) raw) ≡ covered (item_from at nid sent reading)
+long-by at nid sent raw (Ok frame) is unit nac_fits long =
+    let read = IsFrameOf-reading nid sent frame unit is in
+    length-image_of frame read.sound record { nac_fits = omega (arith, read.nac, nac_fits); body = read.sendable }
+long-by at nid sent raw (Err fields) is unit nac_fits long = long
+
+unit-long : (at count : ℕ) (bits raw : List Bool) → need_of bits ≡ Length count
+    → length raw ≡ covered (unit_item_of at (take count bits)) → length (repaired (unit_item_of at (take count bits)) raw) ≡ covered (unit_item_of at (take count bits))
+unit-long at count bits raw need =
+    let sent = take count bits in
+    let known = IsIdentified-from bits count need in
+    let there = need_of-there bits count need in
+    let enough : 114 ≤ count = omega (arith, there.0, there.2) in
+    let reads = identifier_of-take count bits enough ∙ known.read in
+    let item = unit_item_of-some at sent known.nid (reading_from (Some known.nid) sent) reads refl in
+    subst (λ (i : Item). length raw ≡ covered i → length (repaired i raw) ≡ covered i) (sym item)
+    (long-by at known.nid sent raw (reading_from (Some known.nid) sent) refl (IsUnitOf-need count bits known.nid.1 known.kind) (identifier_of-fits sent known.nid reads).0)
+
+pub repaired-long : (at : ℕ) (bits raw : List Bool) → length raw ≡ covered (first_item at bits) → length (repaired (first_item at bits) raw) ≡ covered (first_item at bits)
+repaired-long at bits raw =
+    first_item-cases (λ item. length raw ≡ covered item → length (repaired item raw) ≡ covered item) at bits
+    (λ no' long. long)
+    (λ count yes' need long. long)
+    (λ count yes' need. unit-long at count bits raw need)
+    (λ field yes' need long. long)
