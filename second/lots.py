@@ -229,7 +229,8 @@ def spoiled(lot, line):
 # Scripts: the second reading runs beside, so that a delivery may turn what was sent into something else.
 
 def message(lot, most):
-    return lot.randbytes(lot.choice([0, 1, 2, 11, 12, 13, 28, 60, 200, lot.randrange(300), lot.randrange(most + 1) if lot.random() < 0.1 else 5]))
+    size = lot.choice([0, 1, 12, 13, 28, 60, 60, 200, lot.randrange(300), lot.choice([lot.randrange(most + 1), 1005, 1020, 1021, 1100, 1500])])
+    return lot.randbytes(min(most, size))
 
 
 def other_head(lot, top):
@@ -246,7 +247,7 @@ def other_head(lot, top):
         elif place == 0:
             octets[0] = lot.choice([0x56, 0x16, 0x36, 0x76, 0x23, 0x03, 0x35, 0x15, octets[0] & 0xE0 | lot.randrange(32)])
         else:
-            octets[place] = lot.choice([0, 1, octets[place] ^ 1, lot.randrange(256)])
+            octets[place] = lot.choice([0, octets[place] ^ 1, lot.randrange(32), lot.randrange(256)])
     return octets.hex()
 
 
@@ -280,18 +281,22 @@ def other_unit(lot, sent):
     """A packet like one that is sent."""
     kind, (nac, top, data) = sent
     chance = lot.random()
-    if chance < 0.1:
-        return kind, [digits(lot, 3), top, data]
-    if chance < 0.6 or data == '-':
+    if chance < 0.08:
+        return kind, [digits(lot, 3), lot.choice([top, other_head(lot, top)]), data]
+    if chance < 0.14 and kind == 'confirmed':
+        # An opening packet.
+        return kind, [nac, top[:12] + '8000%02x00' % (lot.choice([0x80, 0x88]) | lot.randrange(8) << 4), '-']
+    if chance < 0.7 or data == '-':
         top = other_head(lot, top)
-    if kind == 'confirmed' and data != '-' and chance > 0.4:
+    if kind == 'confirmed' and data != '-' and chance > 0.6:
         blocks = other_blocks(lot, recordings.listed_blocks(data))
         data = ','.join('%02x:%s' % block for block in blocks) or '-'
         if lot.random() < 0.8:
             top = '%s%02x%s' % (top[:12], int(top[12:14], 16) & 128 | len(blocks), top[14:])
-    if kind == 'response' and lot.random() < 0.5:
+    if kind == 'response' and lot.random() < 0.4:
         count = lot.choice([0, 1, 1, 2])
-        data = digits(lot, 24 * count - 8) if count else '-'
+        data = (lot.choice(['f', 'f', '']) * 80 + digits(lot, 40))[lot.randrange(60, 81):][:24 * count - 8] if count else '-'
+        data += '0' * (24 * count - 8 - len(data)) if count else ''
         top = '%s%02x%s' % (top[:12], 128 | count, top[14:])
     return kind, [nac, top, data]
 
@@ -302,12 +307,17 @@ def turned_places(lot, sent):
         return some_of(lot, 0, 360, 3)
     size = len(recordings.unit_bits(sent, 0))
     chance = lot.random()
-    if chance < 0.4:
+    if chance < 0.3:
         return []
-    if chance < 0.7:
-        one, other = recordings.unit_bits(sent, 0), recordings.unit_bits(other_unit(lot, sent), 0)
-        return [place for place, (here, there) in enumerate(zip(one, other)) if here != there]
-    if chance < 0.78:
+    if chance < 0.65:
+        places = []
+        for _ in range(5):
+            one, other = recordings.unit_bits(sent, 0), recordings.unit_bits(other_unit(lot, sent), 0)
+            places = [place for place, (here, there) in enumerate(zip(one, other)) if here != there]
+            if places and len(place_list(places)) < 8100:
+                break
+        return places
+    if chance < 0.69:
         return lot.sample(range(48), lot.choice([3, 4, 5])) + lot.sample(range(48, 70), lot.choice([0, 3, 10, 11, 12]))
     if chance < 0.95 and size > 360:
         # Some of the blocks come damaged.
@@ -351,5 +361,6 @@ def script_line(lot, command, play, skew):
         return station + 'timeout'
     if chance < (0.36, 0.65, 0.95)[skew]:
         return station + 'reopen'
-    way = lot.choice(('ab', 'ba') if command == 'duplex' else ('data', 'answer'))
+    ways = ('ab', 'ba') if command == 'duplex' else ('data', 'answer')
+    way = lot.choice([way for way in ways if play.sent[way]] or ways)
     return 'deliver %s %s' % (way, place_list(turned_places(lot, play.sent[way])))
