@@ -1,6 +1,6 @@
 -- What each way through the reader of identifiers answers: the number of a word has its NAC and DUID in its highest bits, and a word
 -- is read as the code reads it.
-use Rattle.std.proofs.Common.{◌≡◌, ℕ, ◌/◌, ◌%◌, ◌^◌, ◌<◌, ◌≤◌, Bool, List, length, take, drop, bit_xor, Option, Some, None, option_map, ap, ap₂, sym, ◌∙◌, subst, arith, mod-eq_of_lt}
+use Rattle.std.proofs.Common.{◌≡◌, ℕ, ◌/◌, ◌%◌, ◌^◌, ◌<◌, ◌≤◌, Bool, List, length, take, drop, bit_xor, Option, Some, option_map, ap, ap₂, sym, ◌∙◌, subst, arith, mod-eq_of_lt}
 use Rattle.std.specs.Bool.{beq}
 use Rattle.std.specs.Int.RustNames.{count_ones}
 use Rattle.std.proofs.lemmas.List.{take_at, drop_at, drop-take}

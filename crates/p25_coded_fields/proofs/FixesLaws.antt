@@ -100,8 +100,9 @@ module _ {IsWord : List Bool → Type 0} {size k : ℕ} (long : (word : List Boo
           sum (omega arith)
 
   -- one place more in a reader, where all before it and this one were read
-  pub counted_next : (each i m : ℕ) (places : List ℕ) (word xs : List Sym) (bits : List Bool) (count more total : Option ℕ) → 6 * each ≡ k → i < length places → length places * each ≤ 36 → All (λ at. at + size ≤ length bits) places
-      → each * i + each ≤ length word → length xs ≡ each → IfSome count (AreCounted IsWord size k each i places (take (each * i) word) bits) → IfSome more (IsInnerCount IsWord size k (get_or places i 0) xs bits)
+  pub counted_next : (each i m : ℕ) (places : List ℕ) (word xs : List Sym) (bits : List Bool) (count more total : Option ℕ) → 6 * each ≡ k → i < length places
+      → length places * each ≤ 36 → All (λ at. at + size ≤ length bits) places → each * i + each ≤ length word → length xs ≡ each
+      → IfSome count (AreCounted IsWord size k each i places (take (each * i) word) bits) → IfSome more (IsInnerCount IsWord size k (get_or places i 0) xs bits)
       → IfSome total (λ sum. (a : ℕ) × (b : ℕ) × (count ≡ Some a) × (more ≡ Some b) × (a + b < 2 ^ 32 → sum ≡ a + b))
       → IfSome total (AreCounted IsWord size k each (i + 1) places (take (each * (i + 1)) (put_mid (each * i) m word xs)) bits)
   counted_next each i m places word xs bits count more None sixes inside short there fits long_xs before is sum = tt

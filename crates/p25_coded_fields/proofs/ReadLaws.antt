@@ -134,7 +134,8 @@ erased_next f places each i k at word xs erased es inside read there same long_x
     ∙ ap (flat_map f) (sym more)
 
 -- the outer word, from the symbols and erasures of all places
-pub outer_read : (layout : Layout) (bits : List Bool) (each i : ℕ) (word : List Sym) (erased : List Bool) (value : Option (List Sym)) → each ≡ layout.each → i ≡ length layout.places → layout.each * length layout.places ≡ length word → length erased ≡ length word
+pub outer_read : (layout : Layout) (bits : List Bool) (each i : ℕ) (word : List Sym) (erased : List Bool) (value : Option (List Sym))
+    → each ≡ layout.each → i ≡ length layout.places → layout.each * length layout.places ≡ length word → length erased ≡ length word
     → without_erased (take (each * i) word) (take (each * i) erased) ≡ flat_map (λ at. symbols_or_erasures layout.each (layout.inner_reading (part at layout.size bits))) (take i layout.places)
     → value ≡ layout.outer_reading (without_erased word erased) → value ≡ outer_word_of layout bits
 unfolding outer_word_of received_in

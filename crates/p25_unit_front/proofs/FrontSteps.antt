@@ -57,8 +57,9 @@ window_bits bits at window there is =
     ap₂ bits_of (sym long) is ∙ bits_of-field_of (part at 48 bits)
 
 -- the fixes of a front are those of the window of its sync and those of its identifier
-pub front_fixes-parts : (nid : ℕ × ℕ) (bits : List Bool) (at window number sync_count nid_count : ℕ) → at + 114 ≤ length bits → window ≡ field_of (part at 48 bits) → number ≡ field_of (identifier_bits (drop at bits))
-    → sync_count ≡ distance_of (bits_of 48 window) sync_bits → nid_count ≡ distance_of (take 63 (bits_of 64 number)) (take 63 (nid_word nid.0 nid.1)) → sync_count + nid_count ≡ front_fixes_of nid (drop at bits)
+pub front_fixes-parts : (nid : ℕ × ℕ) (bits : List Bool) (at window number sync_count nid_count : ℕ)
+    → at + 114 ≤ length bits → window ≡ field_of (part at 48 bits) → number ≡ field_of (identifier_bits (drop at bits)) → sync_count ≡ distance_of (bits_of 48 window) sync_bits
+    → nid_count ≡ distance_of (take 63 (bits_of 64 number)) (take 63 (nid_word nid.0 nid.1)) → sync_count + nid_count ≡ front_fixes_of nid (drop at bits)
 front_fixes-parts nid bits at window number sync_count nid_count there window_is number_is sync_is nid_is =
     let rest = drop at bits in
     let long : 114 ≤ length rest = omega (arith, length-drop at bits) in

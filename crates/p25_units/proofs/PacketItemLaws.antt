@@ -58,8 +58,9 @@ frame_outcome front (Failing fields) answer is nac duid sent unit statuses named
     ap (λ o. read_or o frame) (is.failing fields refl) ∙ reading-is (nac, duid) sent statuses (Err fields) statuses_is read
 
 -- and its wrong bits are the fixes of the frame
-pub frame_wrong : (front : ℕ) (outcome answer : Outcome) → IsWithFront front outcome answer → (nac duid : ℕ) (bits : List Bool) (at count : ℕ) (unit : UnitParts) (statuses : List Status) → at ≤ length bits
-    → kind_need duid (drop at bits) ≡ Length count → nac ≤ 4095 → unit.nac ≡ nac → statuses ≡ statuses_of (part at count bits) → read_or outcome unit.body ≡ body_reading_of duid (bare_of (part at count bits))
+pub frame_wrong : (front : ℕ) (outcome answer : Outcome) → IsWithFront front outcome answer → (nac duid : ℕ) (bits : List Bool) (at count : ℕ) (unit : UnitParts) (statuses : List Status)
+    → at ≤ length bits → kind_need duid (drop at bits) ≡ Length count → nac ≤ 4095 → unit.nac ≡ nac → statuses ≡ statuses_of (part at count bits)
+    → read_or outcome unit.body ≡ body_reading_of duid (bare_of (part at count bits))
     → front ≡ front_fixes_of (nac, duid) (drop at bits) → IfRead outcome (λ wrong. wrong ≡ body_fixes_of unit (bare_of (part at count bits)))
     → let frame : Frame = record { unit = unit; statuses = statuses } in IfRead answer (λ wrong. wrong ≡ fixes_of frame (part at count bits))
 frame_wrong front (Read wrong) answer is nac duid bits at count unit statuses inside kind fits named statuses_is read front_is wrong_is =

@@ -28,8 +28,8 @@ loop-i-preserved g c =
     let beginning : length (take (each * i) word) ≡ each * i = length-take-le (each * i) word (omega arith) in
     let more = subst (λ (xs : List Sym). IsInnerCount b.IsWord b.N b.K (get_or places i 0) xs c.args.bare.now c.inner_fixes-more.result) (group_is each each i word refl) c.inner_fixes-more.ensures in
     subst (λ (xs : List Sym). AreCounted b.IsWord b.N b.K each (i + 1) places xs c.args.bare.now c.total-wrong.result) (front_more each i word)
-    (counted_more (g.met.I.BlockCode.length_of_word c.requires.code) each i places (take (each * i) word) (part (each * i) each word) c.args.bare.now c.loop-i.wrong c.inner_fixes-more.result c.total-wrong.result
-    sixes inside short c.requires.there beginning (length-part (each * i) each word there) c.loop-i.invariant more c.total-wrong.ensures)
+    (counted_more (g.met.I.BlockCode.length_of_word c.requires.code) each i places (take (each * i) word) (part (each * i) each word) c.args.bare.now c.loop-i.wrong
+    c.inner_fixes-more.result c.total-wrong.result sixes inside short c.requires.there beginning (length-part (each * i) each word there) c.loop-i.invariant more c.total-wrong.ensures)
 
 pub returns : goal.returns
 returns g c =

@@ -1,7 +1,6 @@
-use Rattle.std.proofs.Common.{◌≡◌, ℕ, ◌+◌, ◌-◌, ◌*◌, ◌/◌, ◌<◌, ◌≤◌, List, length, take, drop, get_or, Option, Some, IfSome, refl, sym, subst, ap, ◌∙◌, arith}
+use Rattle.std.proofs.Common.{◌≡◌, ◌+◌, ◌-◌, ◌*◌, ◌/◌, ◌<◌, ◌≤◌, List, length, take, drop, get_or, IfSome, refl, sym, subst, ap, ◌∙◌, arith}
 use Rattle.std.proofs.Math.Nat.{mul_comm}
 use Rattle.p25_bits.specs.Bits.{part}
-use Rattle.p25_code.specs.Erasures.{without_erased}
 use Rattle.p25_code.specs.Readings.{word_read}
 use Rattle.p25_gf64.specs.declared.symbol.Sym.{Sym}
 use Rattle.p25_gf64.proofs.SymbolLaws.{same_from_eq}
@@ -65,8 +64,9 @@ returns-in-Beyond-clause-value g c =
     let places = c.args.places.now in
     let layout = field_layout places b.N (b.K / 6) b.reading_is g.O.ErasedCode.erased_reading_is g.O.BlockCode.K in
     sym (ap (λ a. word_read a c.read_with_erasures.new.word) c.in-Beyond.is)
-    ∙ outer_read layout c.args.bare.now (c.K-each.result / 6) c.loop-i.i c.loop-i.word c.loop-i.erased (word_read c.read_with_erasures.result c.read_with_erasures.new.word) (ap (λ n. n / 6) c.K-each.ensures)
-    (omega arith) (mul_comm (b.K / 6) (length places) ∙ c.requires.places ∙ omega arith) (cut_long (length c.args.word.now) _ c.loop-i.erased c.loop-i.auto.erased (omega arith) ∙ sym c.loop-i.auto.word)
+    ∙ outer_read layout c.args.bare.now (c.K-each.result / 6) c.loop-i.i c.loop-i.word c.loop-i.erased (word_read c.read_with_erasures.result c.read_with_erasures.new.word)
+    (ap (λ n. n / 6) c.K-each.ensures) (omega arith) (mul_comm (b.K / 6) (length places) ∙ c.requires.places ∙ omega arith)
+    (cut_long (length c.args.word.now) _ c.loop-i.erased c.loop-i.auto.erased (omega arith) ∙ sym c.loop-i.auto.word)
     c.loop-i.invariant.erasures c.read_with_erasures.ensures.value
 
 pub returns-in-Found-clause-value : goal.returns-in-Found-clause-value
@@ -76,8 +76,9 @@ returns-in-Found-clause-value g c =
     let places = c.args.places.now in
     let layout = field_layout places b.N (b.K / 6) b.reading_is g.O.ErasedCode.erased_reading_is g.O.BlockCode.K in
     sym (ap (λ a. word_read a c.read_with_erasures.new.word) c.in-Found.is)
-    ∙ outer_read layout c.args.bare.now (c.K-each.result / 6) c.loop-i.i c.loop-i.word c.loop-i.erased (word_read c.read_with_erasures.result c.read_with_erasures.new.word) (ap (λ n. n / 6) c.K-each.ensures)
-    (omega arith) (mul_comm (b.K / 6) (length places) ∙ c.requires.places ∙ omega arith) (cut_long (length c.args.word.now) _ c.loop-i.erased c.loop-i.auto.erased (omega arith) ∙ sym c.loop-i.auto.word)
+    ∙ outer_read layout c.args.bare.now (c.K-each.result / 6) c.loop-i.i c.loop-i.word c.loop-i.erased (word_read c.read_with_erasures.result c.read_with_erasures.new.word)
+    (ap (λ n. n / 6) c.K-each.ensures) (omega arith) (mul_comm (b.K / 6) (length places) ∙ c.requires.places ∙ omega arith)
+    (cut_long (length c.args.word.now) _ c.loop-i.erased c.loop-i.auto.erased (omega arith) ∙ sym c.loop-i.auto.word)
     c.loop-i.invariant.erasures c.read_with_erasures.ensures.value
 
 pub returns-in-Found-clause-fixes : goal.returns-in-Found-clause-fixes

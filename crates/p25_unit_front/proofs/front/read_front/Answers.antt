@@ -13,8 +13,8 @@ returns-in-Some-clause-value c =
 pub returns-in-Some-clause-wrong : goal.returns-in-Some-clause-wrong
 returns-in-Some-clause-wrong c =
     let read = c.in-Some.read in
-    front_fixes-parts (read.nid.nac, read.nid.duid) c.args.bits.now c.args.at c.field.result c.identifier.result c.sync_distance.result read.wrong c.requires c.field.ensures.value c.identifier.ensures.value
-    c.sync_distance.ensures.distance c.in-Some.ensures.wrong
+    front_fixes-parts (read.nid.nac, read.nid.duid) c.args.bits.now c.args.at c.field.result c.identifier.result c.sync_distance.result read.wrong c.requires c.field.ensures.value
+    c.identifier.ensures.value c.sync_distance.ensures.distance c.in-Some.ensures.wrong
 
 pub returns-in-None-clause-value : goal.returns-in-None-clause-value
 unfolding identifier_of

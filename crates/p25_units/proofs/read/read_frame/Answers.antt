@@ -97,14 +97,16 @@ read_of_packet duid bare packet = ap (λ d. body_reading_of d bare) (sym packet)
 pub returns-clause-frame : goal.returns-clause-frame
 returns-clause-frame c =
     let nid = c.args.read.now.nid in
-    frame_outcome c.args.read.now.wrong c.read_packet.result c.with_front-in-Ok.result (record { read = c.with_front-in-Ok.ensures.read; failing = c.with_front-in-Ok.ensures.failing }) nid.nac nid.duid
-    (part c.args.at c.args.count c.args.bits.now) c.read_packet.new.self c.unweave.new.statuses c.read_packet.ensures.nac c.unweave.ensures.statuses
-    (c.read_packet.ensures.body ∙ sym (body_reading_of-packet c.unweave.new.out) ∙ read_of_packet nid.duid c.unweave.new.out c.if-read-ne-PDU.false ∙ ap (body_reading_of nid.duid) c.unweave.ensures.bare)
+    frame_outcome c.args.read.now.wrong c.read_packet.result c.with_front-in-Ok.result (record { read = c.with_front-in-Ok.ensures.read; failing = c.with_front-in-Ok.ensures.failing }) nid.nac
+    nid.duid (part c.args.at c.args.count c.args.bits.now) c.read_packet.new.self c.unweave.new.statuses c.read_packet.ensures.nac c.unweave.ensures.statuses
+    (c.read_packet.ensures.body ∙ sym (body_reading_of-packet c.unweave.new.out) ∙ read_of_packet nid.duid c.unweave.new.out c.if-read-ne-PDU.false
+    ∙ ap (body_reading_of nid.duid) c.unweave.ensures.bare)
 
 pub returns-clause-wrong : goal.returns-clause-wrong
 returns-clause-wrong c =
     let nid = c.args.read.now.nid in
     frame_wrong c.args.read.now.wrong c.read_packet.result c.with_front-in-Ok.result (record { read = c.with_front-in-Ok.ensures.read; failing = c.with_front-in-Ok.ensures.failing }) nid.nac nid.duid
     c.args.bits.now c.args.at c.args.count c.read_packet.new.self c.unweave.new.statuses c.requires.there c.requires.kind nid.nac_fits c.read_packet.ensures.nac c.unweave.ensures.statuses
-    (c.read_packet.ensures.body ∙ sym (body_reading_of-packet c.unweave.new.out) ∙ read_of_packet nid.duid c.unweave.new.out c.if-read-ne-PDU.false ∙ ap (body_reading_of nid.duid) c.unweave.ensures.bare) c.requires.front
+    (c.read_packet.ensures.body ∙ sym (body_reading_of-packet c.unweave.new.out) ∙ read_of_packet nid.duid c.unweave.new.out c.if-read-ne-PDU.false
+    ∙ ap (body_reading_of nid.duid) c.unweave.ensures.bare) c.requires.front
     (subst (λ (bare : List Bool). IfRead c.read_packet.result (λ wrong. wrong ≡ body_fixes_of c.read_packet.new.self bare)) c.unweave.ensures.bare c.read_packet.ensures.wrong)

@@ -11,7 +11,8 @@ pub returns-in-Header : goal.returns-in-Header
 returns-in-Header c =
     let unit = c.args.unit.now in
     let long : length c.put_coded_rows.new.out ≡ 770 = c.put_coded_rows.ensures.len ∙ ap (λ n. n + 658) c.requires in record {
-      list = header_made unit c.in-Header.word c.symbols.result c.args.out.now c.put_coded_rows.new.out c.in-Header.is c.symbols.ensures.value (c.put_coded_rows.ensures.list golay18_word golay18_encodes);
+      list = header_made unit c.in-Header.word c.symbols.result c.args.out.now c.put_coded_rows.new.out c.in-Header.is c.symbols.ensures.value
+          (c.put_coded_rows.ensures.list golay18_word golay18_encodes);
       len = ap (λ u. voice_length_of (voice_duid u)) c.in-Header.is ∙ length-header ∙ ap Some (sym long);
       sendable = sendable_header unit c.in-Header.word c.in-Header.is c.symbols.ensures.sound;
     }
@@ -34,7 +35,8 @@ returns-in-Link2 c =
     let w = c.in-Link2 in
     let put = c.put_coded_rows-in-Link2 in
     let long : length put.new.out ≡ 1680 = put.ensures.len ∙ ap (λ n. n + 1568) c.requires in record {
-      list = ldu2_made unit w.low w.voice c.frames-in-Link2.result.now c.symbols-information-in-Link2.result c.args.out.now put.new.out w.sync w.is c.symbols-information-in-Link2.ensures.value c.frames-in-Link2.ensures.value
+      list = ldu2_made unit w.low w.voice c.frames-in-Link2.result.now c.symbols-information-in-Link2.result c.args.out.now put.new.out w.sync w.is
+          c.symbols-information-in-Link2.ensures.value c.frames-in-Link2.ensures.value
           (put.ensures.list hamming10_word hamming10_encodes);
       len = ap (λ u. voice_length_of (voice_duid u)) w.is ∙ length-ldu2 ∙ ap Some (sym long);
       sendable = sendable_ldu2 unit w.sync w.low w.voice w.is (record { word = c.symbols-information-in-Link2.ensures.sound; speech = c.fit_speech-in-Link2.ensures });
@@ -53,7 +55,8 @@ returns-in-EndLink c =
     let unit = c.args.unit.now in
     let put = c.put_coded_rows-in-EndLink in
     let long : length put.new.out ≡ 420 = put.ensures.len ∙ ap (λ n. n + 308) c.requires in record {
-      list = tdulc_made unit c.in-EndLink.link c.symbols-in-EndLink.result c.args.out.now put.new.out c.in-EndLink.is c.symbols-in-EndLink.ensures.value (put.ensures.list golay24_word golay24_encodes);
+      list = tdulc_made unit c.in-EndLink.link c.symbols-in-EndLink.result c.args.out.now put.new.out c.in-EndLink.is c.symbols-in-EndLink.ensures.value
+          (put.ensures.list golay24_word golay24_encodes);
       len = ap (λ u. voice_length_of (voice_duid u)) c.in-EndLink.is ∙ length-tdulc ∙ ap Some (sym long);
       sendable = sendable_tdulc unit c.in-EndLink.link c.in-EndLink.is c.symbols-in-EndLink.ensures.sound;
     }

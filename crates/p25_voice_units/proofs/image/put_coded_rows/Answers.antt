@@ -7,7 +7,8 @@ use Rattle.p25_voice_units.proofs.image.put_coded_rows.Goals as goal
 
 pub put_rows-requires-clause-fits : goal.put_rows-requires-clause-fits
 put_rows-requires-clause-fits g c =
-    subst (λ n. list_all (λ row. piece_fits (g.I.BlockCode.K / 6) n (length c.args.low.now) (length c.args.frames.now) row.1) c.args.rows.now ≡ true) (sym c.encode.ensures.word_of_set.long) c.requires.fits
+    subst (λ n. list_all (λ row. piece_fits (g.I.BlockCode.K / 6) n (length c.args.low.now) (length c.args.frames.now) row.1) c.args.rows.now ≡ true)
+    (sym c.encode.ensures.word_of_set.long) c.requires.fits
 
 pub returns-clause-list : goal.returns-clause-list
 returns-clause-list g c = λ encoding encodes.
