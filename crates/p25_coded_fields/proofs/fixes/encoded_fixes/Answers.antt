@@ -1,4 +1,4 @@
-use Rattle.std.proofs.Common.{◌≡◌, ℕ, ◌+◌, ◌-◌, ◌*◌, ◌/◌, ◌<◌, ◌≤◌, List, length, take, drop, get_or, Option, None, IfSome, refl, sym, subst, ap, ◌∙◌, arith}
+use Rattle.std.proofs.Common.{◌≡◌, ◌+◌, ◌*◌, ◌/◌, ◌<◌, ◌≤◌, List, length, take, get_or, refl, subst, ap, ◌∙◌, arith}
 use Rattle.std.proofs.Math.Nat.{mul_comm}
 use Rattle.std.proofs.lemmas.List.{length-take-le}
 use Rattle.p25_bits.specs.Bits.{part}
@@ -7,23 +7,10 @@ use Rattle.p25_gf64.specs.declared.symbol.Sym.{Sym}
 use Rattle.p25_coded_fields.specs.Fixes.{AreCounted, IsInnerCount}
 use Rattle.p25_coded_fields.proofs.FixesLaws.{counted_none, counted_more, all_groups, front_more}
 use Rattle.p25_coded_fields.proofs.SymbolsLaws.{group_is, room_at}
-use Rattle.p25_coded_fields.proofs.fixes.field_fixes.Goals as goal
+use Rattle.p25_coded_fields.proofs.fixes.encoded_fixes.Goals as goal
 
 pub loop-i-init : goal.loop-i-init
 loop-i-init g c = let b = g.I.BlockCode in counted_none b.N b.K (c.K-each.result / 6) c.args.places.now (take (c.K-each.result / 6 * 0) c.args.word.now) c.args.bare.now
-
-pub word_fixes-more-requires-clause-count : goal.word_fixes-more-requires-clause-count
-word_fixes-more-requires-clause-count g c =
-    let b = g.I.BlockCode in
-    let bare = c.args.bare.now in
-    let read = c.args.read.now in
-    let i = c.loop-i.i in
-    let each = c.K-each.result / 6 in
-    let at = get_or c.args.places.now i 0 in
-    let cut : take (each * i + each - each * i) (drop (each * i) read) ≡ part (b.K / 6 * i) (b.K / 6) read = group_is each (b.K / 6) i read (ap (λ n. n / 6) c.K-each.ensures) in
-    let known : IfSome (get_or c.args.counts.now i None) (IsInnerCount b.IsWord b.N b.K at (part (b.K / 6 * i) (b.K / 6) read) bare) = c.requires.counts.known i (omega arith) in
-    subst (λ (xs : List Sym). IfSome c.count_at-count.result (IsInnerCount b.IsWord b.N b.K at xs bare)) (sym cut)
-    (subst (λ (count : Option ℕ). IfSome count (IsInnerCount b.IsWord b.N b.K at (part (b.K / 6 * i) (b.K / 6) read) bare)) (sym c.count_at-count.ensures) known)
 
 pub loop-i-preserved : goal.loop-i-preserved
 loop-i-preserved g c =
@@ -39,10 +26,10 @@ loop-i-preserved g c =
     let inside : i < length places = omega arith in
     let there : each * i + each ≤ length word = room_at each i (length places) (length word) inside (mul_comm each (length places) ∙ covers) in
     let beginning : length (take (each * i) word) ≡ each * i = length-take-le (each * i) word (omega arith) in
-    let more = subst (λ (xs : List Sym). IsInnerCount b.IsWord b.N b.K (get_or places i 0) xs c.args.bare.now c.word_fixes-more.result) (group_is each each i word refl) c.word_fixes-more.ensures in
+    let more = subst (λ (xs : List Sym). IsInnerCount b.IsWord b.N b.K (get_or places i 0) xs c.args.bare.now c.inner_fixes-more.result) (group_is each each i word refl) c.inner_fixes-more.ensures in
     subst (λ (xs : List Sym). AreCounted b.IsWord b.N b.K each (i + 1) places xs c.args.bare.now c.total-wrong.result) (front_more each i word)
-    (counted_more (g.met.I.BlockCode.length_of_word c.requires.code) each i places (take (each * i) word) (part (each * i) each word) c.args.bare.now c.loop-i.wrong c.word_fixes-more.result c.total-wrong.result
-    sixes inside short c.requires.there beginning (length-part (each * i) each word there) c.loop-i.invariant more c.total-wrong.ensures)
+    (counted_more (g.met.I.BlockCode.length_of_word c.requires.code) each i places (take (each * i) word) (part (each * i) each word) c.args.bare.now c.loop-i.wrong
+    c.inner_fixes-more.result c.total-wrong.result sixes inside short c.requires.there beginning (length-part (each * i) each word there) c.loop-i.invariant more c.total-wrong.ensures)
 
 pub returns : goal.returns
 returns g c =
