@@ -6,6 +6,7 @@ pub mod JoinLaws
 pub mod LineWordsLaws
 pub mod LineReadLaws
 pub mod DecimalLaws
+pub mod PairLaws
 pub mod NumberLaws
 pub mod OctetsLaws
 pub mod CommaPartLaws

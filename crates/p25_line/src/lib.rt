@@ -20,6 +20,7 @@
 #![tactic(auto)]
 
 mod comma_lists;
+mod decimal;
 mod fault;
 pub mod laws;
 mod line;

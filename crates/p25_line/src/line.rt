@@ -3,7 +3,7 @@ ghost use Rattle.hex.specs.Hex.{encode_lower};
 ghost use Rattle.p25_line.specs.Octets.{octets_text};
 ghost use Rattle.p25_line.specs.Values.{three_digits};
 
-use itoa::Buffer;
+use crate::decimal::{DIGITS_MOST, decimal_text};
 use std::marker::Model;
 
 /// The most octets of a line.
@@ -81,8 +81,8 @@ impl Line {
         ensures list { self.new ≡ self.old ++ decimal value }
         ensures len { length self.new ≡ length self.old + length (decimal value) }
     {
-        let mut buffer = Buffer::new();
-        self.put(buffer.format(value).as_bytes());
+        let mut room = [0; DIGITS_MOST];
+        self.put(decimal_text(value, &mut room));
     }
 
     /// Appends a label and a number in decimal, for which there must be room with 20 digits.

@@ -189,6 +189,33 @@ fn is_hex(word: &[u8], answer: bool, octet: u8) -> bool {
     hex_value(word, &mut octets) == answer && octets == [octet]
 }
 
+// Numbers of each count of digits up to five, at its ends.
+const DECIMALS: [(u64, &[u8]); 8] = [
+    (0, b"0"),
+    (9, b"9"),
+    (10, b"10"),
+    (99, b"99"),
+    (100, b"100"),
+    (1_009, b"1009"),
+    (10_000, b"10000"),
+    (90_817, b"90817"),
+];
+
+// Whether this is what is written of a number.
+#[tactic(auto, using(crate::proofs::DecimalLaws::decimal_short))]
+fn is_decimal(number: u64, text: &[u8]) -> bool {
+    let mut line = Line::new();
+    line.put_number(number);
+    line.octets() == text
+}
+
+#[test]
+fn decimal_numbers(rt: HostRuntime) {
+    for (number, text) in &DECIMALS {
+        assert!(rt; is_decimal(*number, text));
+    }
+}
+
 // Whether a word is this number, or none.
 fn is_number(word: &[u8], most: u64, number: Option<u64>) -> bool {
     number_value(word, most) == number

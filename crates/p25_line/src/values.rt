@@ -7,7 +7,7 @@ ghost use Rattle.p25_line.specs.Octets.{octets_up_to};
 ghost use Rattle.p25_line.specs.Values.{AllOctets, is_lower_digit};
 
 use super::comma_lists::is_dash;
-use itoa::Buffer;
+use crate::decimal::{DIGITS_MOST, decimal_text};
 use std::str;
 
 /// Sets `out` to the octets whose lower-case hexadecimal text a word is, and answers whether there are as many as `out`
@@ -59,8 +59,8 @@ pub fn number_value(word: &[u8], most: u64) -> Option<u64>
     let Ok(number) = text.parse::<u64>() else {
         return None;
     };
-    let mut buffer = Buffer::new();
-    if number <= most && buffer.format(number).as_bytes() == word {
+    let mut room = [0; DIGITS_MOST];
+    if number <= most && decimal_text(number, &mut room) == word {
         Some(number)
     } else {
         None

@@ -20,6 +20,6 @@ returns-else-number-most c number below text =
     let found : c.in-Ok-parse.number ≡ number = cc in
     elim c.else-number-most.branch [
       | else-number-most-via-then-number-most+else-eq w ↦
-          equal-texts w.as_bytes.result.now c.args.word.now (w.as_bytes.ensures.value ∙ w.format.ensures.text ∙ ap decimal found ∙ text) (sym w.eq.ensures ∙ w.if-eq.false)
+          equal-texts w.decimal_text.result.now c.args.word.now (w.decimal_text.ensures ∙ ap decimal found ∙ text) (sym w.eq.ensures ∙ w.if-eq.false)
       | else-number-most-via-else-number-most w ↦ omega arith
     ]
