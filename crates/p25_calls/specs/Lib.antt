@@ -3,3 +3,4 @@ pub mod Runs
 pub mod Calls
 pub mod Taking
 pub mod CallLaws
+pub mod CallTexts

@@ -22,7 +22,8 @@
 //!
 //! Contracts see the calls of a list of items as `calls_of`: its units, divided into runs at the breaks between neighbours.
 //! They see a caller as what it holds, what it answers to an item as `answer_to`, and what it holds then as `behind_item`.
-//! `call_laws` says that the answers to all items and at the end are the calls of the items.
+//! `call_laws` says that the answers to all items and at the end are the calls of the items. The text of a call is
+//! `call_text_of call`, which `call_text` writes.
 #![tactic(auto)]
 
 mod call;
@@ -32,8 +33,11 @@ mod runs;
 mod seen;
 #[cfg(test)]
 mod tests;
+mod text;
 
 pub use call::{Call, CallEnd};
 pub use caller::Caller;
+pub use p25_line::Line;
 pub use p25_link::LinkControl;
 pub use p25_units::Item;
+pub use text::call_text;

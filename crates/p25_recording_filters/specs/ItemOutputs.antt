@@ -7,7 +7,7 @@ use Rattle.p25_stream.specs.Items.{items_by}
 use Rattle.p25_soft.specs.Levels.{hard_bits}
 use Rattle.p25_stream.specs.Repeats.{is_whole_item}
 use Rattle.p25_text.specs.ItemTexts.{item_text_of}
-use Rattle.p25_text.specs.CallTexts.{call_text_of}
+use Rattle.p25_calls.specs.CallTexts.{call_text_of}
 use Rattle.p25_calls.specs.declared.call.Call.{Call}
 use Rattle.p25_filter.specs.declared.ending.Ending.{Ending}
 use Rattle.p25_filter.specs.declared.ending.Ending.TheVariants.{Done, Found}

@@ -24,7 +24,7 @@ use Rattle.p25_units.specs.declared.item.Item.{Item}
 use Rattle.p25_units.specs.declared.item.Item.TheVariants.{Whole, Broken, NoUnit, Gap, Cut}
 use Rattle.p25_units.specs.declared.unit.Body.{Body}
 use Rattle.p25_units.specs.declared.unit.Body.TheVariants.{Voice, Packet}
-use Rattle.p25_text.specs.CallTexts.{algid_text, call_text_of, end_word, entry_word, link_text}
+use Rattle.p25_calls.specs.CallTexts.{algid_text, call_text_of, end_word, entry_word, link_text}
 use Rattle.p25_text.specs.Grammar.{body_values, keyed, kind_of, text_of, unit_words, values_of}
 use Rattle.p25_text.specs.ItemTexts.{field_name, field_names, item_text_of, one_digit, status_digits}
 use Rattle.p25_text.specs.Names.{key_text, keys_of, kind_word}

@@ -4,7 +4,7 @@ ghost use Rattle.std.specs.Prelude.{IsAscii};
 ghost use Rattle.p25_calls.specs.declared.call.Call.{Call as call_type};
 ghost use Rattle.p25_units.specs.UnitParts.{UnitParts};
 ghost use Rattle.p25_units.specs.declared.item.Item.{Item as item_type};
-ghost use Rattle.p25_text.specs.CallTexts.{call_text_of};
+ghost use Rattle.p25_calls.specs.CallTexts.{call_text_of};
 ghost use Rattle.p25_text.specs.Grammar.{text_of};
 ghost use Rattle.p25_text.specs.ItemTexts.{item_text_of};
 

@@ -33,7 +33,6 @@
 //! `parse` reads as `read_line` does.
 #![tactic(auto)]
 
-mod calls;
 mod items;
 pub mod laws;
 mod names;
@@ -47,8 +46,8 @@ mod voice_texts;
 mod voices;
 mod write;
 
-pub use calls::call_text;
 pub use items::item_text;
+pub use p25_calls::call_text;
 pub use p25_line::{Line, LineFault};
 pub use read::read_line;
 pub use shown::{CallText, ItemText, UnitLine, UnitText};

@@ -4,14 +4,13 @@
 ghost use Rattle.std.specs.Prelude.{◌≡◌, ◌<◌, Some, Ok, Err, MatchResult};
 ghost use Rattle.p25_text.specs.Grammar.{read_line_of, text_of};
 ghost use Rattle.p25_text.specs.ItemTexts.{item_text_of};
-ghost use Rattle.p25_text.specs.CallTexts.{call_text_of};
+ghost use Rattle.p25_calls.specs.CallTexts.{call_text_of};
 ghost use Rattle.p25_units.specs.Items.{IsSoundItem};
 
-use super::calls::call_text;
 use super::items::item_text;
 use super::read::read_line;
 use super::write::unit_text;
-use p25_calls::Call;
+use p25_calls::{Call, call_text};
 use p25_line::{Line, LineFault};
 use p25_units::{Item, Unit};
 use std::fmt;

@@ -1,8 +1,8 @@
 //! The texts of calls.
 
-use p25_calls::{Call, CallEnd, LinkControl};
+use p25_calls::{Call, CallEnd, LinkControl, call_text};
 use p25_line::Line;
-use p25_text::{CallText, call_text};
+use p25_text::CallText;
 use std::test::Fail;
 
 // A call of each end (with a TDU, with a TDULC, and open), and its text.

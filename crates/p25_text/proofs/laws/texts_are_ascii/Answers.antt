@@ -1,4 +1,4 @@
-use Rattle.p25_text.specs.CallTexts.{call_text_of}
+use Rattle.p25_calls.specs.CallTexts.{call_text_of}
 use Rattle.p25_text.specs.Grammar.{text_of}
 use Rattle.p25_text.specs.ItemTexts.{item_text_of}
 use Rattle.p25_line.proofs.AsciiLaws.{IsAscii-tested}

@@ -1,9 +1,9 @@
 //! The texts of calls.
 
 ghost use Rattle.std.specs.Prelude.{◌≡◌, ◌+◌, ◌<◌, ◌≤◌, ◌++◌, length};
-ghost use Rattle.p25_text.specs.CallTexts.{algid_text, call_text_of, end_word, entry_word, link_text};
+ghost use Rattle.p25_calls.specs.CallTexts.{algid_text, call_text_of, end_word, entry_word, link_text};
 
-use p25_calls::{Call, CallEnd};
+use super::call::{Call, CallEnd};
 use p25_line::Line;
 use p25_link::LinkControl;
 
