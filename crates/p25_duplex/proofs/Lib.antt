@@ -2,3 +2,5 @@ pub mod KindLaws
 pub mod TwoDeliveriesLaws
 pub mod RunLaws
 pub mod CountLaws
+pub mod DuplexHistoryLaws
+pub mod DuplexListsLaws

@@ -1,9 +1,12 @@
 -- Runs of the duplex world: its state and its steps after a list of events, and the delivery of the messages of a side.
-use Rattle.std.specs.Prelude.{◌≡◌, false, List, [], ◌∷◌, Option, Some, None, if◌then◌else◌}
+use Rattle.std.specs.Prelude.{◌≡◌, ℕ, Bool, true, false, ◌&&◌, List, [], ◌∷◌, ◌++◌, count_by, Option, Some, None, if◌then◌else◌}
 use Rattle.p25_delivery.specs.SoundHalves.{IsMessage}
 use Rattle.p25_delivery.specs.Runs.{run_by, steps_by, EachIs}
 use Rattle.p25_delivery.specs.Delivery.{Delivery, newest_after}
-pub use Rattle.p25_duplex.specs.DuplexSteps.{DuplexState, first_duplex, station_at, delivery_at, Side, other_side}
+use Rattle.p25_delivery.specs.Facts.{DeliveryFacts}
+use Rattle.p25_messages.specs.declared.step_kind.StepKind.{StepKind, TheVariants.{Taken}}
+use Rattle.p25_stations.specs.Runs.{delivered_by, is_acknowledged}
+pub use Rattle.p25_duplex.specs.DuplexSteps.{DuplexState, first_duplex, station_at, delivery_at, Side, A, B, other_side, side_of}
 pub use Rattle.p25_duplex.specs.DuplexSteps.{Packet, is_answer, DuplexEvent, Send, DuplexStep, duplex_step}
 
 -- what every event keeps: what is sent is a message of at most 2,028 octets
@@ -20,6 +23,12 @@ duplex_run d events = run_by duplex_step d events
 
 abbrev pub duplex_steps : DuplexState → List DuplexEvent → List DuplexStep
 duplex_steps d events = steps_by duplex_step d events
+
+-- a duplex world to which some list of events came from the first one
+pub record HasDuplexHistory (d : DuplexState) : Type 0 where
+  pub events : List DuplexEvent
+  pub kept : AreDuplexEvents events
+  pub run : duplex_run first_duplex events ≡ d
 
 -- a run is clean where none of its steps is a false pass, in neither direction
 abbrev pub IsCleanDuplex : List DuplexEvent → Type 0
@@ -48,3 +57,43 @@ delivery_after side events =
       packet_sent = newest_in data_in side None first_duplex events;
       answer = newest_in answer_in (other_side side) None first_duplex events;
     }
+
+-- the halves of a delivery are those of one that keeps the facts
+pub record HasFacts (w : Delivery) : Type 0 where
+  pub delivery : Delivery
+  pub facts : DeliveryFacts delivery
+  pub outbound : delivery.outbound ≡ w.outbound
+  pub inbound : delivery.inbound ≡ w.inbound
+
+-- whether both are one side
+abbrev pub is_side : Side → Side → Bool
+is_side A A = true
+is_side B B = true
+is_side side other = false
+
+-- the message of a step in which a side hears one that is delivered, and none of any other
+abbrev pub side_heard_by : Side → DuplexStep → List (List ℕ)
+side_heard_by side step = if is_side side step.side then delivered_by step.step.kind else []
+
+-- the message of an event whose step is Taken, and none of any other; and the same of the events of a side
+abbrev pub offered_by : DuplexEvent → StepKind → List (List ℕ)
+offered_by (Send side message) (Taken number blocks) = message ∷ []
+offered_by event kind = []
+
+abbrev pub side_sent_by : Side → DuplexEvent → DuplexStep → List (List ℕ)
+side_sent_by side event step = if is_side side (side_of event) then offered_by event step.step.kind else []
+
+-- the messages of the Delivered steps of a side, in order: those that it hears
+unfoldable pub side_heard_in : Side → List DuplexStep → List (List ℕ)
+side_heard_in side [] = []
+side_heard_in side (step ∷ steps) = side_heard_by side step ++ side_heard_in side steps
+
+-- the messages of a side's events whose steps are Taken, in order
+unfoldable pub side_sent_in : Side → List DuplexEvent → List DuplexStep → List (List ℕ)
+side_sent_in side [] steps = []
+side_sent_in side events [] = []
+side_sent_in side (event ∷ events) (step ∷ steps) = side_sent_by side event step ++ side_sent_in side events steps
+
+-- the number of a side's Acknowledged steps
+abbrev pub side_acknowledged_in : Side → List DuplexStep → ℕ
+side_acknowledged_in side steps = count_by (λ (step : DuplexStep). is_side side step.side && is_acknowledged step.step.kind) steps

@@ -1,2 +1,3 @@
 pub mod DuplexSteps
 pub mod DuplexRuns
+pub mod ClosingTexts

@@ -5,7 +5,8 @@ ghost use Rattle.std.specs.Prelude.{◌≡◌, List, Some, IfSome};
 ghost use Rattle.p25_delivery.specs.Delivery.{Happening, first_delivery, delivery_run, sessions_of};
 ghost use Rattle.p25_delivery.specs.Orderly.{IsCleanRun, AreOrderly};
 ghost use Rattle.p25_delivery.specs.Facts.{DeliveryFacts};
-ghost use Rattle.p25_duplex.specs.DuplexRuns.{AreDuplexEvents, IsCleanDuplex, duplex_run, data_in, answer_in, delivery_after, Side as side_type, first_duplex, station_at, delivery_at, DuplexEvent as event_type};
+ghost use Rattle.p25_duplex.specs.DuplexRuns.{AreDuplexEvents, IsCleanDuplex, duplex_run, duplex_steps, data_in, answer_in, delivery_after, Side as side_type, first_duplex, station_at, delivery_at, DuplexEvent as event_type};
+ghost use Rattle.p25_duplex.specs.DuplexRuns.{other_side, side_acknowledged_in, side_heard_in, side_sent_in};
 
 /// **Theorem.** Its clause says that after every list of events without a false pass each session of each side's messages is
 /// orderly: what was delivered is the beginning of what was sent, each message once, every message that was acknowledged was
@@ -36,4 +37,16 @@ pub fn duplex_facts()
 pub fn false_passes_are_counted()
     ensures clean { (events : List event_type) → (duplex_run first_duplex events).false_passes ≡ 0 → IsCleanDuplex events }
     ensures none { (events : List event_type) → IsCleanDuplex events → (duplex_run first_duplex events).false_passes ≡ 0 }
+{}
+
+/// **Theorem.** Its clauses say that the steps of every run tell the lists of each side. The messages of the Delivered steps at the
+/// other side, in order, are those of this side that were delivered, the messages of this side's events whose step is Taken are those
+/// sent, and the number of this side's Acknowledged steps is that of its messages acknowledged.
+pub fn duplex_steps_tell_lists()
+    ensures delivered { (events : List event_type) (side : side_type) →
+        (delivery_at side (duplex_run first_duplex events)).inbound.received ≡ side_heard_in (other_side side) (duplex_steps first_duplex events) }
+    ensures sent { (events : List event_type) (side : side_type) →
+        (delivery_at side (duplex_run first_duplex events)).outbound.sent ≡ side_sent_in side events (duplex_steps first_duplex events) }
+    ensures acknowledged { (events : List event_type) (side : side_type) →
+        (delivery_at side (duplex_run first_duplex events)).outbound.acknowledged ≡ side_acknowledged_in side (duplex_steps first_duplex events) }
 {}

@@ -11,15 +11,19 @@
 //! ```
 //!
 //! Contracts see each step as the function `duplex_step`, and the messages of a side as the delivery `delivery_at`: the half of that
-//! side that sends, and the half of the other that receives.
+//! side that sends, and the half of the other that receives. Each world is the run of some events (`HasDuplexHistory`):
+//! `DuplexWorld::facts`. The text that closes a run is `duplex_closing_of` of a side.
 #![tactic(auto)]
 
+mod closing;
 mod event;
 pub mod laws;
 mod side;
 mod station;
+mod stations;
 mod world;
 
+pub use closing::duplex_closing;
 pub use event::{DuplexEvent, DuplexStep};
 pub use side::Side;
 pub use world::DuplexWorld;

@@ -1,119 +1,110 @@
-ghost use Rattle.std.specs.Prelude.{◌≡◌, ◌+◌, ◌<◌, ◌≤◌, length, OnOk, OnErr, IfOk};
-ghost use Rattle.p25_duplex.specs.DuplexSteps.{other_side, station_step, duplex_step, first_duplex, station_at, with_station, delivery_at};
+ghost use Rattle.std.specs.Prelude.{◌≡◌, ◌+◌, length, OnErr, IfOk};
+ghost use Rattle.p25_delivery.specs.Delivery.{sessions_of};
+ghost use Rattle.p25_delivery.specs.Orderly.{AreOrderly};
+ghost use Rattle.p25_duplex.specs.DuplexRuns.{HasDuplexHistory, HasFacts, IsDuplexEvent, Side as side_type, delivery_at, duplex_step, first_duplex};
 
 use crate::event::{DuplexEvent, DuplexStep};
 use crate::side::Side;
-use crate::station::Station;
+use crate::stations::DuplexStations;
 use p25_messages::MessageList;
-use p25_stations::Step;
+use p25_stations::parts::message_fits;
 use std::alloc::{AllocError, Global};
 use std::marker::Model;
 
 /// Two packet stations that both send and acknowledge, and the air between them, which keeps the newest transmission of each.
+/// Whoever is handed a world knows that some list of events brought it there from its first state; `facts` says what follows.
 #[derive(Debug, Drop)]
 pub struct DuplexWorld {
-    a: Station,
-    b: Station,
-    false_passes: u64,
+    stations: DuplexStations,
 }
 
 impl Model for DuplexWorld {
-    ghost use Rattle.std.specs.Prelude.{min};
     ghost use Rattle.p25_delivery.specs.Halves.{Roomy};
     ghost use Rattle.p25_duplex.specs.DuplexSteps.{DuplexState};
+    ghost use Rattle.p25_duplex.specs.DuplexRuns.{HasDuplexHistory};
 
     ghost Value = { Roomy DuplexState };
 
-    ghost view = { λ w. record {
-      state = record { a = w.a.state; b = w.b.state; false_passes = w.false_passes };
-      spare = min w.a.spare w.b.spare;
-    } };
+    ghost view = { λ w. w.stations };
+
+    ghost invariant = { λ w. HasDuplexHistory w.stations.state };
+}
+
+// The laws of the duplex world speak of each event.
+fn is_event(event: &DuplexEvent)
+    ensures { IsDuplexEvent event.now }
+{
+    if let DuplexEvent::Send(_, message) = event {
+        message_fits(message);
+    }
 }
 
 impl DuplexWorld {
     /// Answers a world before its first step: nothing was sent, and both receivers wait for the first message. It takes no memory.
+    #[tactic(auto, using(crate::proofs::DuplexHistoryLaws::history_first))]
     pub fn new(alloc: Global) -> DuplexWorld
         ensures { result.state ≡ first_duplex }
     {
         DuplexWorld {
-            a: Station::new(alloc),
-            b: Station::new(alloc),
-            false_passes: 0,
+            stations: DuplexStations::new(alloc),
         }
     }
 
-    // The station of a side.
-    fn station(&self, side: Side) -> &Station
-        ensures { result.now.state ≡ station_at side self.now.state }
+    /// Does nothing; its clauses say what holds of every duplex world. Some list of events brought it from its first state to this
+    /// one. Where it counts no false pass, the halves of each side's delivery are those of one that keeps the facts that
+    /// `DeliveryFacts` names, and each of its sessions is orderly: what was delivered is the beginning of what was sent, each
+    /// message once, every message that was acknowledged was delivered, and one at most was delivered that was not acknowledged.
+    pub fn facts(&self)
+        ensures history { HasDuplexHistory self.now.state }
+        ensures kept { (side : side_type) → self.now.state.false_passes ≡ 0 → HasFacts (delivery_at side self.now.state) }
+        ensures orderly { (side : side_type) → self.now.state.false_passes ≡ 0 → AreOrderly (sessions_of (delivery_at side self.now.state)) }
     {
-        match side {
-            Side::A => &self.a,
-            Side::B => &self.b,
-        }
+        let _ = &self.stations;
     }
 
     /// Answers the messages that a side sent, in order.
     pub fn sent(&self, side: Side) -> &MessageList
         ensures { result.now.list ≡ (delivery_at side self.now.state).outbound.sent }
     {
-        self.station(side).outbound().sent()
+        self.stations.sent(side)
     }
 
     /// Answers the messages of a side that were delivered to the other, in order.
     pub fn delivered(&self, side: Side) -> &MessageList
         ensures { result.now.list ≡ (delivery_at side self.now.state).inbound.received }
     {
-        self.station(side.other()).inbound().received()
+        self.stations.delivered(side)
     }
 
     /// Answers how many messages of a side were acknowledged.
     pub fn acknowledged(&self, side: Side) -> u64
         ensures { result ≡ (delivery_at side self.now.state).outbound.acknowledged }
     {
-        self.station(side).outbound().acknowledged()
+        self.stations.acknowledged(side)
     }
 
     /// Answers the number of sessions of a side's messages: one more than it gave messages up.
     pub fn sessions(&self, side: Side) -> u64
         ensures { result ≡ length (delivery_at side self.now.state).outbound.marks + 1 }
     {
-        self.station(side).outbound().sessions()
+        self.stations.sessions(side)
     }
 
     /// Answers how many deliveries of either direction were false passes; the number stays at 2^64 - 1 once it stands there.
     pub fn false_passes(&self) -> u64
         ensures { result ≡ self.now.state.false_passes }
     {
-        self.false_passes
-    }
-
-    // Has an event happen at the station of a side, and answers that station's step. There is room for it.
-    fn act(&mut self, side: Side, event: &DuplexEvent) -> Step
-        requires { 0 < self.old.spare }
-        ensures state { let x = station_step (station_at side self.old.state) (station_at (other_side side) self.old.state) event.now in
-            self.new.state ≡ with_station side x.0 self.old.state }
-        ensures step { let x = station_step (station_at side self.old.state) (station_at (other_side side) self.old.state) event.now in
-            result ≡ x.1 }
-    {
-        match side {
-            Side::A => self.a.step(event, &self.b),
-            Side::B => self.b.step(event, &self.a),
-        }
+        self.stations.false_passes()
     }
 
     /// Answers the step that an event is, and has it happen. AllocError comes where there is not enough memory for it, and
     /// only where no room was left; then the world stays as it was.
-    #[tactic(auto, unfolding(crate::specs::DuplexSteps::duplex_step))]
     pub fn step(&mut self, event: &DuplexEvent) -> Result<DuplexStep, AllocError>
         ensures ok { IfOk result (λ step. (self.new.state, step) ≡ duplex_step self.old.state event.now) }
         ensures err { OnErr result (self.new.state ≡ self.old.state) }
         ensures room { OnErr result (self.old.spare ≡ 0) }
     {
-        self.a.reserve()?;
-        self.b.reserve()?;
-        let side = event.side();
-        let step = self.act(side, event);
-        self.false_passes = step.counted(self.false_passes);
-        Ok(DuplexStep { side, step })
+        is_event(event);
+        self.stations.step(event)
     }
 }

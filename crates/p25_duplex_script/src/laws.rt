@@ -4,7 +4,8 @@ ghost use Rattle.std.specs.Prelude.{IsAscii};
 ghost use Rattle.p25_duplex.specs.DuplexSteps.{DuplexState};
 ghost use Rattle.p25_duplex.specs.declared.event.DuplexStep.{DuplexStep};
 ghost use Rattle.p25_duplex.specs.declared.side.Side.{Side};
-ghost use Rattle.p25_duplex_script.specs.DuplexTexts.{duplex_closing_of, duplex_step_text_of};
+ghost use Rattle.p25_duplex.specs.ClosingTexts.{duplex_closing_of};
+ghost use Rattle.p25_duplex_script.specs.DuplexTexts.{duplex_step_text_of};
 
 /// **Theorem.** Each octet of the text of a step of both stations, and of the text that closes a run for a side, is below 128, whatever
 /// the step, the side and the stations are. So these texts are always UTF-8.

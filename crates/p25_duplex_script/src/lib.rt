@@ -21,6 +21,7 @@ mod read;
 mod shown;
 mod texts;
 
+pub use p25_duplex::duplex_closing;
 pub use read::read_duplex_event;
 pub use shown::{DuplexEventLine, DuplexStepText};
-pub use texts::{duplex_closing, duplex_step_text};
+pub use texts::duplex_step_text;

@@ -4,7 +4,8 @@ use Rattle.std.specs.Prelude.{codes, decimal}
 use Rattle.p25_line.specs.Octets.{octets_text}
 use Rattle.p25_line.proofs.AsciiLaws.{ascii-append, ascii-decimal, ascii-joined, ascii-octets_text, is_ascii}
 use Rattle.p25_stations.specs.declared.step.Step.{Step}
-use Rattle.p25_script.specs.StepTexts.{sessions_text, step_text_of}
+use Rattle.p25_script.specs.StepTexts.{step_text_of}
+use Rattle.p25_stations.specs.SessionTexts.{sessions_text}
 use Rattle.p25_script.proofs.AsciiStepLaws.{ascii-sessions_text, ascii-step_text_of}
 use Rattle.p25_fragments.specs.LongState.{LongState}
 use Rattle.p25_fragments.specs.declared.long_step.LongStep.{LongStep}

@@ -5,7 +5,7 @@ ghost use Rattle.p25_fragment_script.specs.LongTexts.{long_closing_text_of};
 
 use p25_fragments::LongWorld;
 use p25_line::Line;
-use p25_script::parts::put_sessions;
+use p25_stations::parts::put_sessions;
 
 /// Sets `out` to the text that closes a run of long messages, without the end of its line: how many long messages were taken,
 /// whole and acknowledged, how many deliveries were false passes, and how many sessions there were, where there was more than

@@ -15,7 +15,7 @@ use Rattle.p25_delivery.proofs.SessionLaws.{marked, IsDivided, divided-marked, p
 use Rattle.p25_delivery.proofs.PhaseLaws.{IsKept, orderly-divided}
 use Rattle.p25_stations.specs.declared.step.Step.{Step}
 use Rattle.p25_stations.specs.WorldState.{WorldState}
-use Rattle.p25_fragments.specs.declared.long_world.OutstandingPart.{OutstandingPart}
+use Rattle.p25_fragments.specs.declared.long_stations.OutstandingPart.{OutstandingPart}
 use Rattle.p25_fragments.specs.declared.long_step.Then.{Then}
 use Rattle.p25_fragments.specs.declared.long_step.Then.TheVariants.{Plain, Refused}
 use Rattle.p25_fragments.specs.declared.long_step.LongStep.{LongStep}

@@ -9,3 +9,5 @@ pub mod LongStepLaws
 pub mod LongRunLaws
 pub mod InnerRunLaws
 pub mod MarksLaws
+pub mod LongHistoryLaws
+pub mod LongListsLaws

@@ -18,7 +18,7 @@ use Rattle.p25_stations.specs.declared.step.Event.TheVariants.{Send}
 use Rattle.p25_stations.specs.declared.step.Step.{Step}
 use Rattle.p25_stations.specs.WorldState.{WorldState}
 use Rattle.p25_stations.specs.Steps.{world_step}
-use Rattle.p25_fragments.specs.declared.long_world.OutstandingPart.{OutstandingPart}
+use Rattle.p25_fragments.specs.declared.long_stations.OutstandingPart.{OutstandingPart}
 use Rattle.p25_fragments.specs.declared.joiner.Joined.{Joined}
 use Rattle.p25_fragments.specs.declared.joiner.Joined.TheVariants.{Whole as JoinedWhole, Part as JoinedPart}
 use Rattle.p25_fragments.specs.declared.long_step.Then.{Then}

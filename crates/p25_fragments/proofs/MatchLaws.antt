@@ -5,7 +5,7 @@ use Rattle.p25_delivery.specs.declared.sender.Outstanding.{Outstanding}
 use Rattle.p25_delivery.specs.declared.sender.Outstanding.TheVariants.{Nothing, Message, Opening}
 use Rattle.p25_delivery.specs.Delivery.{Delivery, Session, empty_session, present_session}
 use Rattle.p25_delivery.specs.Orderly.{IsOrderly}
-use Rattle.p25_fragments.specs.declared.long_world.OutstandingPart.{OutstandingPart}
+use Rattle.p25_fragments.specs.declared.long_stations.OutstandingPart.{OutstandingPart}
 use Rattle.p25_fragments.specs.Joining.{Joining, first_joining}
 use Rattle.p25_fragments.proofs.JoinLaws.{joined_at}
 

@@ -1,11 +1,11 @@
 -- What the world of long messages keeps.
-use Rattle.std.specs.Prelude.{◌≡◌, ℕ, ◌+◌, ◌/◌, ◌<◌, ◌≤◌, min, List, [], length, Option, Some, None, IfSome}
+use Rattle.std.specs.Prelude.{◌≡◌, ℕ, Bool, ◌+◌, ◌/◌, ◌<◌, ◌≤◌, min, List, [], length, Option, Some, None, IfSome}
 use Rattle.p25_messages.specs.LongMessages.{part_count}
 use Rattle.p25_delivery.specs.declared.outbound.Mark.{Mark}
 use Rattle.p25_delivery.specs.Halves.{first_outgoing, first_incoming}
 use Rattle.p25_delivery.specs.Delivery.{Delivery, first_delivery}
 use Rattle.p25_stations.specs.WorldState.{WorldState, first_world}
-pub use Rattle.p25_fragments.specs.declared.long_world.OutstandingPart.{OutstandingPart}
+pub use Rattle.p25_fragments.specs.declared.long_stations.OutstandingPart.{OutstandingPart}
 use Rattle.p25_fragments.specs.Joining.{Joining, first_joining}
 
 -- the world of the two stations; the long message of which a part is outstanding, and the number of that part; what the joiner
@@ -19,8 +19,14 @@ pub record LongState : Type 0 where
   pub acknowledged : ℕ
   pub marks : List Mark
 
--- what contracts see of such a world: its state, and for how many steps it has room; those of the private calls also for how
--- many steps of the inner world, and for how many long messages and marks
+-- what contracts see of such a world: its state, for how many steps it has room, and whether a message was offered to the inner
+-- world beside the parts
+pub record LongView : Type 0 where
+  pub state : LongState
+  pub spare : ℕ
+  pub beside : Bool
+
+-- what those of the private calls see: also for how many steps of the inner world, and for how many long messages and marks
 pub record LongParts : Type 0 where
   pub state : LongState
   pub spare : ℕ

@@ -1,8 +1,9 @@
-//! The theorem on long messages. The function makes no call: its contract is the theorem.
+//! The theorems on long messages. No function here makes a call: its contract is the theorem.
 
 ghost use Rattle.std.specs.Prelude.{◌≡◌, List, length};
 ghost use Rattle.p25_delivery.specs.Orderly.{AreOrderly};
 ghost use Rattle.p25_fragments.specs.LongRuns.{AreLongEvents, long_run, long_steps_of, inner_steps, IsInnerRun, IsCleanLongRun, AreUnrefused, long_sessions_of, first_world, first_long, LongEvent as event_type};
+ghost use Rattle.p25_fragments.specs.LongRuns.{finished_in, taken_in, whole_in};
 
 /// **Theorem.** Its clauses say what comes of a list of events. The inner world has a run of its own, and its steps are those of
 /// the events and of the offers of parts; a session begins with each one of the inner world. Where no step of the inner world is a
@@ -17,4 +18,19 @@ pub fn long_messages_come_whole()
         AreUnrefused (long_steps_of first_long events) }
     ensures sessions { (events : List event_type) → AreLongEvents events → IsCleanLongRun events →
         AreOrderly (long_sessions_of (long_run first_long events)) }
+{}
+
+/// **Theorem.** Its clauses say that no step of the inner world was a false pass exactly where the inner world counts none.
+pub fn long_false_passes_are_counted()
+    ensures clean { (events : List event_type) → (long_run first_long events).inner.false_passes ≡ 0 → IsCleanLongRun events }
+    ensures none { (events : List event_type) → IsCleanLongRun events → (long_run first_long events).inner.false_passes ≡ 0 }
+{}
+
+/// **Theorem.** Its clauses say that the steps of every run tell its lists. The messages of the Whole steps, in order, are those that
+/// came whole, the long messages of the events whose step is Started are those taken, and the number of the Finished steps is that of
+/// the long messages acknowledged.
+pub fn long_steps_tell_lists()
+    ensures whole { (events : List event_type) → (long_run first_long events).whole ≡ whole_in (long_steps_of first_long events) }
+    ensures taken { (events : List event_type) → (long_run first_long events).taken ≡ taken_in events (long_steps_of first_long events) }
+    ensures acknowledged { (events : List event_type) → (long_run first_long events).acknowledged ≡ finished_in (long_steps_of first_long events) }
 {}

@@ -11,11 +11,12 @@
 //! ```
 //!
 //! Contracts see a `Joiner` as the number that it expects and the octets that it holds, and each step of a `LongWorld` as the
-//! function `long_step`.
+//! function `long_step`. Each world is the run of some events (`HasLongHistory`): `LongWorld::facts`.
 #![tactic(auto)]
 
 mod joiner;
 pub mod laws;
+mod long_stations;
 mod long_step;
 mod long_world;
 

@@ -14,7 +14,8 @@ use Rattle.p25_messages.specs.declared.step_kind.Way.TheVariants.{Packets, Answe
 use Rattle.p25_stations.specs.WorldState.{WorldState}
 use Rattle.p25_stations.specs.declared.step.Step.{Step}
 use Rattle.p25_script.specs.Script.{way_word}
-use Rattle.p25_script.specs.StepTexts.{closing_text_of, false_text, flags_text, kind_text, serials_of, sessions_text, step_text_of}
+use Rattle.p25_script.specs.StepTexts.{closing_text_of, false_text, flags_text, kind_text, serials_of, step_text_of}
+use Rattle.p25_stations.specs.SessionTexts.{sessions_text}
 
 ascii-way : (way : Way) → is_ascii (way_word way) ≡ true
 ascii-way Packets = refl

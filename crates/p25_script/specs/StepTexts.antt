@@ -1,8 +1,9 @@
 -- The texts of steps, and the text that closes a run.
-use Rattle.std.specs.Prelude.{ℕ, ◌+◌, ◌/◌, nat_lt, Bool, true, false, if◌then◌else◌, List, [], ◌∷◌, ◌++◌, length, slice_index_or, codes, decimal}
+use Rattle.std.specs.Prelude.{ℕ, ◌+◌, ◌/◌, Bool, true, false, if◌then◌else◌, List, [], ◌∷◌, ◌++◌, length, slice_index_or, codes, decimal}
 use Rattle.hex.specs.Hex.{encode_lower}
 use Rattle.p25_bits.specs.Numbers.{joined_below, octets_from}
 use Rattle.p25_text.specs.ItemTexts.{field_name}
+use Rattle.p25_stations.specs.SessionTexts.{sessions_text}
 use Rattle.p25_stations.specs.WorldState.{WorldState}
 use Rattle.p25_stations.specs.declared.step.Step.{Step}
 use Rattle.p25_messages.specs.declared.step_kind.StepKind.{StepKind}
@@ -57,10 +58,6 @@ false_text false = []
 -- the text of a step, without the end of its line
 unfoldable pub step_text_of : Step → List ℕ
 step_text_of step = kind_text step.kind ++ false_text step.false_pass
-
--- how many sessions there were, where there was more than one
-abbrev pub sessions_text : ℕ → List ℕ
-sessions_text sessions = if nat_lt 1 sessions then codes " sessions=" ++ decimal sessions else []
 
 -- the text that closes a run, without the end of its line
 unfoldable pub closing_text_of : WorldState → List ℕ

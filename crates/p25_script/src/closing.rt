@@ -1,10 +1,11 @@
 //! The text that closes a run.
 
-ghost use Rattle.std.specs.Prelude.{◌≡◌, ◌+◌, ◌<◌, ◌≤◌, ◌++◌, length};
-ghost use Rattle.p25_script.specs.StepTexts.{closing_text_of, sessions_text};
+ghost use Rattle.std.specs.Prelude.{◌≡◌, ◌≤◌, length};
+ghost use Rattle.p25_script.specs.StepTexts.{closing_text_of};
 
 use p25_line::Line;
 use p25_stations::World;
+use p25_stations::parts::put_sessions;
 
 /// Sets `out` to the text that closes a run, without the end of its line: how many messages were sent, delivered and
 /// acknowledged, how many deliveries were false passes, and how many sessions there were, where there was more than one.
@@ -19,15 +20,4 @@ pub fn closing_text(world: &World, out: &mut Line)
     out.put_labelled(b" acknowledged=", world.acknowledged());
     out.put_labelled(b" false=", world.false_passes());
     put_sessions(world.sessions(), out);
-}
-
-/// Appends ` sessions=` and the number of sessions in decimal, where there was more than one.
-pub fn put_sessions(sessions: u64, out: &mut Line)
-    requires { length out.old + 30 ≤ 8192 }
-    ensures text { out.new ≡ out.old ++ sessions_text sessions }
-    ensures short { length out.new ≤ length out.old + 30 }
-{
-    if sessions > 1 {
-        out.put_labelled(b" sessions=", sessions);
-    }
 }

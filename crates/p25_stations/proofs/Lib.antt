@@ -10,3 +10,4 @@ pub mod CountedLaws
 pub mod FalsePassLaws
 pub mod AtOnceLaws
 pub mod StepListsLaws
+pub mod HistoryLaws

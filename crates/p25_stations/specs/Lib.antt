@@ -1,4 +1,5 @@
 pub mod Air
 pub mod WorldState
+pub mod SessionTexts
 pub mod Steps
 pub mod Runs

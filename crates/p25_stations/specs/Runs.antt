@@ -22,6 +22,12 @@ world_run w events = run_by world_step w events
 abbrev pub steps_of : WorldState → List Event → List Step
 steps_of w events = steps_by world_step w events
 
+-- a world to which some list of events came from the first one
+pub record HasHistory (w : WorldState) : Type 0 where
+  pub events : List Event
+  pub kept : AreEvents events
+  pub run : world_run first_world events ≡ w
+
 -- a run is clean where none of its steps is a false pass
 abbrev pub AreClean : List Step → Type 0
 AreClean steps = EachIs (λ step. step.false_pass ≡ false) steps

@@ -12,12 +12,16 @@
 //! ```
 //!
 //! Contracts see what comes of a packet as the function `carried_of`, a world as its state and the number of steps for which
-//! it has room, and each step as the function `world_step`.
+//! it has room, and each step as the function `world_step`. Each world is the run of some events (`HasHistory`): `World::facts`.
 #![tactic(auto)]
 
 mod air;
+mod fitting;
 pub mod laws;
 mod newest;
+pub mod parts;
+mod sessions;
+mod stations;
 mod step;
 mod truth;
 mod world;

@@ -1,91 +1,103 @@
-#![tactic(auto, unfolding(p25_delivery::specs::Delivery::happens, p25_delivery::specs::Delivery::with_outbound, p25_delivery::specs::Delivery::with_inbound))]
-
 ghost use Rattle.std.specs.Prelude.{◌≡◌, ◌+◌, ◌<◌, ◌≤◌, length, OnOk, OnErr, IfOk};
-ghost use Rattle.p25_stations.specs.Steps.{world_step, heard_by, delivery_step};
+ghost use Rattle.p25_delivery.specs.Delivery.{sessions_of};
+ghost use Rattle.p25_delivery.specs.Facts.{DeliveryFacts};
+ghost use Rattle.p25_delivery.specs.Orderly.{AreCounted, AreOrderly};
+ghost use Rattle.p25_stations.specs.Runs.{HasHistory, IsEvent};
+ghost use Rattle.p25_stations.specs.Steps.{world_step};
 ghost use Rattle.p25_stations.specs.WorldState.{first_world};
-ghost use Rattle.p25_delivery.specs.Delivery.{happens};
 
-use crate::newest::Newest;
+use crate::fitting::message_fits;
+use crate::stations::Stations;
 use crate::step::{Event, Step};
-use p25_delivery::{Inbound, Outbound, StepKind, Way};
-use p25_messages::{Flips, MessageList};
-use p25_packet_blocks::Packet;
+use p25_messages::MessageList;
 use std::alloc::{AllocError, Global};
 use std::marker::Model;
 
-/// Two packet stations and the air between them, which keeps the newest transmission of each direction.
+/// Two packet stations and the air between them, which keeps the newest transmission of each direction. Whoever is handed a world
+/// knows that some list of events brought it there from its first state; `facts` says what follows.
 #[derive(Debug, Drop)]
 pub struct World {
-    outbound: Outbound,
-    inbound: Inbound,
-    packet_sent: Newest,
-    answer: Newest,
-    false_passes: u64,
+    stations: Stations,
 }
 
 impl Model for World {
-    ghost use Rattle.std.specs.Prelude.{min};
-    ghost use Rattle.p25_stations.specs.WorldState.{WorldState};
     ghost use Rattle.p25_delivery.specs.Halves.{Roomy};
+    ghost use Rattle.p25_stations.specs.WorldState.{WorldState};
+    ghost use Rattle.p25_stations.specs.Runs.{HasHistory};
 
     ghost Value = { Roomy WorldState };
 
-    ghost view = { λ w. record {
-      state = record {
-        delivery = record { outbound = w.outbound.state; inbound = w.inbound.state; packet_sent = w.packet_sent; answer = w.answer };
-        false_passes = w.false_passes;
-      };
-      spare = min w.outbound.spare w.inbound.spare;
-    } };
+    ghost view = { λ w. w.stations };
+
+    ghost invariant = { λ w. HasHistory w.stations.state };
+}
+
+// The laws of the world speak of each event.
+fn is_event(event: &Event)
+    ensures { IsEvent event.now }
+{
+    if let Event::Send(message) = event {
+        message_fits(message);
+    }
 }
 
 impl World {
     /// Answers a world before its first step: nothing was sent, and the receiver waits for the first message. It takes no memory.
+    #[tactic(auto, using(crate::proofs::HistoryLaws::history_first))]
     pub fn new(alloc: Global) -> World
         ensures { result.state ≡ first_world }
     {
         World {
-            outbound: Outbound::new(alloc),
-            inbound: Inbound::new(alloc),
-            packet_sent: Newest::new(),
-            answer: Newest::new(),
-            false_passes: 0,
+            stations: Stations::new(alloc),
         }
+    }
+
+    /// Does nothing; its clauses say what holds of every world. Some list of events brought it from its first state to this one.
+    /// Where it counts no false pass, its delivery keeps the facts that `DeliveryFacts` names, and each session is orderly: what
+    /// was delivered is the beginning of what was sent, each message once, every message that was acknowledged was delivered, and
+    /// one at most was delivered that was not acknowledged. In any case one at most was sent that was not acknowledged.
+    pub fn facts(&self)
+        ensures history { HasHistory self.now.state }
+        ensures kept { self.now.state.false_passes ≡ 0 → DeliveryFacts self.now.state.delivery }
+        ensures orderly { self.now.state.false_passes ≡ 0 → AreOrderly (sessions_of self.now.state.delivery) }
+        ensures counted { AreCounted (sessions_of self.now.state.delivery) }
+    {
+        let _ = &self.stations;
     }
 
     /// Answers the messages that were sent, in order.
     pub fn sent(&self) -> &MessageList
         ensures { result.now.list ≡ self.now.state.delivery.outbound.sent }
     {
-        self.outbound.sent()
+        self.stations.sent()
     }
 
     /// Answers the messages that were delivered, in order.
     pub fn delivered(&self) -> &MessageList
         ensures { result.now.list ≡ self.now.state.delivery.inbound.received }
     {
-        self.inbound.received()
+        self.stations.delivered()
     }
 
     /// Answers how many messages were acknowledged.
     pub fn acknowledged(&self) -> u64
         ensures { result ≡ self.now.state.delivery.outbound.acknowledged }
     {
-        self.outbound.acknowledged()
+        self.stations.acknowledged()
     }
 
     /// Answers how many deliveries were false passes; the number stays at 2^64 - 1 once it stands there.
     pub fn false_passes(&self) -> u64
         ensures { result ≡ self.now.state.false_passes }
     {
-        self.false_passes
+        self.stations.false_passes()
     }
 
     /// Answers the number of sessions: one more than a message was given up.
     pub fn sessions(&self) -> u64
         ensures { result ≡ length self.now.state.delivery.outbound.marks + 1 }
     {
-        self.outbound.sessions()
+        self.stations.sessions()
     }
 
     /// Makes room for 1 to 16 more steps. Answers AllocError where there is not enough memory, which comes only where there
@@ -98,29 +110,17 @@ impl World {
         ensures ok { OnOk result (steps ≤ self.new.spare) }
         ensures err { OnErr result (self.old.spare < steps) }
     {
-        self.outbound.reserve(steps)?;
-        self.inbound.reserve(steps)
+        self.stations.reserve(steps)
     }
 
     /// Answers the step that an event is, and has it happen. There is room for it, and it takes no memory.
-    #[tactic(auto, unfolding(crate::specs::Steps::world_step, p25_delivery::specs::Delivery::happens, p25_delivery::specs::Delivery::with_outbound))]
     pub fn step_ready(&mut self, event: &Event) -> Step
         requires { 0 < self.old.spare }
         ensures step { (self.new.state, result) ≡ world_step self.old.state event.now }
         ensures spare { self.old.spare ≤ self.new.spare + 1 }
     {
-        match event {
-            Event::Send(message) => {
-                Step::quiet(self.packet_sent.keep(self.outbound.offer(message)))
-            }
-            Event::Timeout => Step::quiet(self.packet_sent.keep(self.outbound.time_out())),
-            Event::Reopen => {
-                let delivered = self.inbound.received().len() as u64;
-                Step::quiet(self.packet_sent.keep(self.outbound.reopen(delivered)))
-            }
-            Event::ToReceiver(flips) => self.deliver(Way::Packets, flips),
-            Event::ToSender(flips) => self.deliver(Way::Answers, flips),
-        }
+        is_event(event);
+        self.stations.step_ready(event)
     }
 
     /// Answers the step that an event is, and has it happen. AllocError comes where there is not enough memory for it, and
@@ -132,40 +132,5 @@ impl World {
     {
         self.reserve(1)?;
         Ok(self.step_ready(event))
-    }
-
-    // Has a station hear a packet (PDU) that came that way.
-    fn hear(&mut self, way: Way, packet: &Packet) -> StepKind
-        requires { 0 < self.old.spare }
-        ensures step { (self.new.state.delivery, result) ≡ happens self.old.state.delivery (heard_by way packet.now) }
-        ensures passes { self.new.state.false_passes ≡ self.old.state.false_passes }
-        ensures spare { self.old.spare ≤ self.new.spare + 1 }
-    {
-        match way {
-            Way::Packets => self.answer.keep(self.inbound.hear(packet)),
-            Way::Answers => self.packet_sent.keep(self.outbound.hear(packet)),
-        }
-    }
-
-    // Delivers the newest transmission of a way.
-    #[tactic(auto, unfolding(crate::specs::Steps::delivered, crate::specs::Steps::newest_by))]
-    fn deliver(&mut self, way: Way, flips: &Flips) -> Step
-        requires { 0 < self.old.spare }
-        ensures step { (self.new.state, result) ≡ delivery_step self.old.state way flips.now }
-        ensures spare { self.old.spare ≤ self.new.spare + 1 }
-    {
-        let heard = match way {
-            Way::Packets => self.packet_sent.deliver(way, flips),
-            Way::Answers => self.answer.deliver(way, flips),
-        };
-        match heard {
-            Err(kind) => Step::quiet(kind),
-            Ok((packet, false_pass)) => {
-                let kind = self.hear(way, &packet);
-                let step = Step { kind, false_pass };
-                self.false_passes = step.counted(self.false_passes);
-                step
-            }
-        }
     }
 }

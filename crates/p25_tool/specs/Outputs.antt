@@ -21,7 +21,8 @@ use Rattle.p25_duplex.specs.declared.side.Side.TheVariants.{A, B}
 use Rattle.p25_duplex.specs.declared.event.DuplexStep.{DuplexStep}
 use Rattle.p25_duplex.specs.DuplexSteps.{DuplexState, first_duplex}
 use Rattle.p25_duplex.specs.DuplexRuns.{duplex_run, duplex_steps}
-use Rattle.p25_duplex_script.specs.DuplexTexts.{duplex_closing_of, duplex_step_text_of}
+use Rattle.p25_duplex.specs.ClosingTexts.{duplex_closing_of}
+use Rattle.p25_duplex_script.specs.DuplexTexts.{duplex_step_text_of}
 use Rattle.p25_duplex_script.specs.DuplexLines.{duplex_event_of}
 use Rattle.p25_filter.specs.Futures.{Future}
 use Rattle.p25_filter.specs.Lines.{lines_future}

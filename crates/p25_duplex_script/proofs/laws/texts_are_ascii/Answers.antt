@@ -1,5 +1,6 @@
 use Rattle.p25_line.proofs.AsciiLaws.{IsAscii-tested}
-use Rattle.p25_duplex_script.specs.DuplexTexts.{duplex_closing_of, duplex_step_text_of}
+use Rattle.p25_duplex.specs.ClosingTexts.{duplex_closing_of}
+use Rattle.p25_duplex_script.specs.DuplexTexts.{duplex_step_text_of}
 use Rattle.p25_duplex_script.proofs.AsciiDuplexLaws.{ascii-duplex_closing_of, ascii-duplex_step_text_of}
 use Rattle.p25_duplex_script.proofs.laws.texts_are_ascii.Goals as goal
 

@@ -5,7 +5,7 @@ use Rattle.p25_fragments.specs.Inside.{state_of}
 use Rattle.p25_fragments.specs.LongState.{LongParts}
 use Rattle.p25_fragments.specs.LongSteps.{started}
 use Rattle.p25_fragments.proofs.OfferLaws.{down-offer, busy-offer, taken-offer}
-use Rattle.p25_fragments.proofs.long_world.LongWorld.offer.Goals as goal
+use Rattle.p25_fragments.proofs.long_stations.LongStations.offer.Goals as goal
 
 pub returns-in-OfferDown-clause-step : goal.returns-in-OfferDown-clause-step
 returns-in-OfferDown-clause-step c =

@@ -1,0 +1,57 @@
+-- Each step of a duplex world makes its history one event longer; and what its history says of it.
+use Rattle.std.proofs.Common.{◌≡◌, ℕ, List, [], ◌∷◌, ◌++◌, refl, sym, ap, subst, ◌∙◌}
+use Rattle.std.specs.Prelude.{Result, Ok, Err, IfOk, OnErr}
+use Rattle.p25_delivery.specs.Delivery.{sessions_of}
+use Rattle.p25_delivery.specs.SoundHalves.{IsMessage}
+use Rattle.p25_delivery.specs.Orderly.{AreOrderly}
+use Rattle.p25_delivery.specs.Runs.{run_by, EachIs}
+use Rattle.p25_delivery.proofs.RunLaws.{run-append}
+use Rattle.p25_stations.proofs.HistoryLaws.{each-append}
+use Rattle.p25_duplex.specs.declared.event.DuplexEvent.TheVariants.{Send, Timeout, Reopen, Deliver}
+use Rattle.p25_duplex.specs.DuplexRuns.{DuplexEvent, DuplexState, DuplexStep, HasDuplexHistory, HasFacts, IsCleanDuplex, IsDuplexEvent, Side, delivery_after, delivery_at, duplex_step, first_duplex}
+use Rattle.p25_duplex.proofs.CountLaws.{clean-from_none}
+use Rattle.p25_duplex.proofs.RunLaws.{run-facts, run-orderly}
+
+-- the laws speak of an event where they do of the message that it sends
+pub event-kept : (event : DuplexEvent) → ((side : Side) (message : List ℕ) → event ≡ Send side message → IsMessage message) → IsDuplexEvent event
+unfolding IsDuplexEvent
+event-kept (Send side message) sends = sends side message refl
+event-kept (Timeout side) sends = tt
+event-kept (Reopen side) sends = tt
+event-kept (Deliver to flips) sends = tt
+
+-- a world before its first step has a history
+pub history_first : HasDuplexHistory first_duplex
+unfolding run_by EachIs
+history_first = record { events = []; kept = tt; run = refl }
+
+history-step : (d next : DuplexState) (event : DuplexEvent) (step : DuplexStep) → HasDuplexHistory d → IsDuplexEvent event → (next, step) ≡ duplex_step d event → HasDuplexHistory next
+unfolding run_by EachIs
+history-step d next event step before kept now =
+    record {
+      events = before.events ++ event ∷ [];
+      kept = each-append IsDuplexEvent before.events (event ∷ []) before.kept (kept, tt);
+      run = run-append duplex_step first_duplex before.events (event ∷ []) ∙ ap (λ (v : DuplexState). (duplex_step v event).0) before.run ∙ ap (λ (x : DuplexState × DuplexStep). x.0) (sym now);
+    }
+
+-- a world after a step, or after a call that found no memory, has one where the world before has
+pub history-after : {E : Type 0} (d next : DuplexState) (event : DuplexEvent) (result : Result DuplexStep E) → HasDuplexHistory d → IsDuplexEvent event →
+    IfOk result (λ step. (next, step) ≡ duplex_step d event) → OnErr result (next ≡ d) → HasDuplexHistory next
+history-after d next event (Ok step) before kept ok err = history-step d next event step before kept ok
+history-after d next event (Err fault) before kept ok err = subst HasDuplexHistory (sym err) before
+
+-- where no false pass is counted, the history is clean
+history-clean : (d : DuplexState) (h : HasDuplexHistory d) → d.false_passes ≡ 0 → IsCleanDuplex h.events
+history-clean d h none = clean-from_none h.events (ap (λ (v : DuplexState). v.false_passes) h.run ∙ none)
+
+pub history-facts : (d : DuplexState) (side : Side) → HasDuplexHistory d → d.false_passes ≡ 0 → HasFacts (delivery_at side d)
+history-facts d side h none =
+    subst (λ (v : DuplexState). HasFacts (delivery_at side v)) h.run (record {
+      delivery = delivery_after side h.events;
+      facts = run-facts h.events side h.kept (history-clean d h none);
+      outbound = refl;
+      inbound = refl;
+    })
+
+pub history-orderly : (d : DuplexState) (side : Side) → HasDuplexHistory d → d.false_passes ≡ 0 → AreOrderly (sessions_of (delivery_at side d))
+history-orderly d side h none = subst (λ (v : DuplexState). AreOrderly (sessions_of (delivery_at side v))) h.run (run-orderly h.events side h.kept (history-clean d h none))

@@ -1,0 +1,119 @@
+ghost use Rattle.std.specs.Prelude.{◌≡◌, ◌+◌, ◌<◌, ◌≤◌, length, OnOk, OnErr, IfOk};
+ghost use Rattle.p25_duplex.specs.DuplexSteps.{other_side, station_step, duplex_step, first_duplex, station_at, with_station, delivery_at};
+
+use crate::event::{DuplexEvent, DuplexStep};
+use crate::side::Side;
+use crate::station::Station;
+use p25_messages::MessageList;
+use p25_stations::Step;
+use std::alloc::{AllocError, Global};
+use std::marker::Model;
+
+/// The two stations of a duplex world and the air between them. What a world keeps of its history is not known here.
+#[derive(Debug, Drop)]
+pub(crate) struct DuplexStations {
+    a: Station,
+    b: Station,
+    false_passes: u64,
+}
+
+impl Model for DuplexStations {
+    ghost use Rattle.std.specs.Prelude.{min};
+    ghost use Rattle.p25_delivery.specs.Halves.{Roomy};
+    ghost use Rattle.p25_duplex.specs.DuplexSteps.{DuplexState};
+
+    ghost Value = { Roomy DuplexState };
+
+    ghost view = { λ w. record {
+      state = record { a = w.a.state; b = w.b.state; false_passes = w.false_passes };
+      spare = min w.a.spare w.b.spare;
+    } };
+}
+
+impl DuplexStations {
+    /// Answers a world before its first step: nothing was sent, and both receivers wait for the first message. It takes no memory.
+    pub(crate) fn new(alloc: Global) -> DuplexStations
+        ensures { result.state ≡ first_duplex }
+    {
+        DuplexStations {
+            a: Station::new(alloc),
+            b: Station::new(alloc),
+            false_passes: 0,
+        }
+    }
+
+    // The station of a side.
+    fn station(&self, side: Side) -> &Station
+        ensures { result.now.state ≡ station_at side self.now.state }
+    {
+        match side {
+            Side::A => &self.a,
+            Side::B => &self.b,
+        }
+    }
+
+    /// Answers the messages that a side sent, in order.
+    pub(crate) fn sent(&self, side: Side) -> &MessageList
+        ensures { result.now.list ≡ (delivery_at side self.now.state).outbound.sent }
+    {
+        self.station(side).outbound().sent()
+    }
+
+    /// Answers the messages of a side that were delivered to the other, in order.
+    pub(crate) fn delivered(&self, side: Side) -> &MessageList
+        ensures { result.now.list ≡ (delivery_at side self.now.state).inbound.received }
+    {
+        self.station(side.other()).inbound().received()
+    }
+
+    /// Answers how many messages of a side were acknowledged.
+    pub(crate) fn acknowledged(&self, side: Side) -> u64
+        ensures { result ≡ (delivery_at side self.now.state).outbound.acknowledged }
+    {
+        self.station(side).outbound().acknowledged()
+    }
+
+    /// Answers the number of sessions of a side's messages: one more than it gave messages up.
+    pub(crate) fn sessions(&self, side: Side) -> u64
+        ensures { result ≡ length (delivery_at side self.now.state).outbound.marks + 1 }
+    {
+        self.station(side).outbound().sessions()
+    }
+
+    /// Answers how many deliveries of either direction were false passes; the number stays at 2^64 - 1 once it stands there.
+    pub(crate) fn false_passes(&self) -> u64
+        ensures { result ≡ self.now.state.false_passes }
+    {
+        self.false_passes
+    }
+
+    // Has an event happen at the station of a side, and answers that station's step. There is room for it.
+    fn act(&mut self, side: Side, event: &DuplexEvent) -> Step
+        requires { 0 < self.old.spare }
+        ensures state { let x = station_step (station_at side self.old.state) (station_at (other_side side) self.old.state) event.now in
+            self.new.state ≡ with_station side x.0 self.old.state }
+        ensures step { let x = station_step (station_at side self.old.state) (station_at (other_side side) self.old.state) event.now in
+            result ≡ x.1 }
+    {
+        match side {
+            Side::A => self.a.step(event, &self.b),
+            Side::B => self.b.step(event, &self.a),
+        }
+    }
+
+    /// Answers the step that an event is, and has it happen. AllocError comes where there is not enough memory for it, and
+    /// only where no room was left; then the world stays as it was.
+    #[tactic(auto, unfolding(crate::specs::DuplexSteps::duplex_step))]
+    pub(crate) fn step(&mut self, event: &DuplexEvent) -> Result<DuplexStep, AllocError>
+        ensures ok { IfOk result (λ step. (self.new.state, step) ≡ duplex_step self.old.state event.now) }
+        ensures err { OnErr result (self.new.state ≡ self.old.state) }
+        ensures room { OnErr result (self.old.spare ≡ 0) }
+    {
+        self.a.reserve()?;
+        self.b.reserve()?;
+        let side = event.side();
+        let step = self.act(side, event);
+        self.false_passes = step.counted(self.false_passes);
+        Ok(DuplexStep { side, step })
+    }
+}

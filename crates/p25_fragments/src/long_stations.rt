@@ -1,0 +1,267 @@
+#![tactic(auto, unfolding(crate::specs::LongSteps::long_step, crate::specs::LongSteps::started, crate::specs::LongSteps::inner_happened))]
+
+ghost use Rattle.std.specs.Prelude.{◌≡◌, ◌+◌, ◌<◌, ◌≤◌, OnOk, OnErr};
+ghost use Rattle.p25_fragments.specs.LongSteps.{long_step, started, long_offered, after_acknowledged, after_delivered, after_kind, session_ended, inner_happened};
+ghost use Rattle.p25_fragments.specs.LongState.{first_long, TakesRoom};
+ghost use Rattle.p25_stations.specs.Steps.{world_step};
+ghost use Rattle.p25_fragments.specs.Joining.{message_taken};
+
+use crate::joiner::{Joined, Joiner};
+use crate::long_step::{LongEvent, LongStep, Then};
+use p25_delivery::Mark;
+use p25_messages::{LongList, LongMessage, Message};
+use p25_stations::{Event, Step, StepKind, World};
+use std::alloc::{AllocError, Global};
+use std::marker::Model;
+
+/// A part that is outstanding: its long message, and its number.
+#[derive(Debug, Drop)]
+pub(crate) struct OutstandingPart {
+    message: LongMessage,
+    number: u8,
+}
+
+/// The world of two stations, and the long messages that it carries in parts. What a world keeps of its history is not known here.
+#[derive(Debug, Drop)]
+pub(crate) struct LongStations {
+    inner: World,
+    // the long message of which a part is outstanding
+    outstanding: Option<OutstandingPart>,
+    joiner: Joiner,
+    taken: LongList,
+    whole: LongList,
+    acknowledged: u64,
+    // the ends of the sessions before the present one
+    marks: Vec<Mark>,
+}
+
+// A step in which nothing changes.
+fn unmoved(then: Then) -> LongStep
+    ensures { result ≡ record { first = None; then = then } }
+{
+    LongStep { first: None, then }
+}
+
+impl Model for LongStations {
+    ghost use Rattle.p25_fragments.specs.LongState.{LongParts};
+
+    ghost Value = { LongParts };
+
+    ghost use Rattle.p25_fragments.specs.LongState.{IsLongState};
+    ghost use Rattle.p25_fragments.specs.Inside.{state_of, parts_of};
+
+    ghost view = { parts_of };
+
+    ghost invariant = { λ w. IsLongState (state_of w) };
+}
+
+impl LongStations {
+    /// Answers a world before its first step: no long message was taken. It takes no memory.
+    pub(crate) fn new(alloc: Global) -> LongStations
+        ensures { result.state ≡ first_long }
+    {
+        LongStations {
+            inner: World::new(alloc),
+            outstanding: None,
+            joiner: Joiner::new(),
+            taken: LongList::new(alloc),
+            whole: LongList::new(alloc),
+            acknowledged: 0,
+            marks: Vec::new(alloc),
+        }
+    }
+
+    /// Answers the world of the two stations, whose messages are the parts.
+    pub(crate) fn inner(&self) -> &World
+        ensures { result.now.state ≡ self.now.state.inner }
+    {
+        &self.inner
+    }
+
+    /// Answers the long messages that were taken, in order.
+    pub(crate) fn taken(&self) -> &LongList
+        ensures { result.now.list ≡ self.now.state.taken }
+    {
+        &self.taken
+    }
+
+    /// Answers the long messages of which all parts were delivered, in order.
+    pub(crate) fn whole(&self) -> &LongList
+        ensures { result.now.list ≡ self.now.state.whole }
+    {
+        &self.whole
+    }
+
+    /// Answers how many long messages were acknowledged.
+    pub(crate) fn acknowledged(&self) -> u64
+        ensures { result ≡ self.now.state.acknowledged }
+    {
+        self.acknowledged
+    }
+
+    /// Makes room for 1 to 8 more steps: for each, two steps of the inner world, one long message in each list and one mark.
+    /// Answers AllocError where there is not enough memory, which comes only where there was no such room; the world stays as
+    /// it was, and no room is lost.
+    pub(crate) fn reserve(&mut self, steps: u32) -> Result<(), AllocError>
+        requires some { 0 < steps }
+        requires most { steps ≤ 8 }
+        ensures state { self.new.state ≡ self.old.state }
+        ensures spare { self.old.spare ≤ self.new.spare }
+        ensures ok { OnOk result (steps ≤ self.new.spare) }
+        ensures err { OnErr result (self.old.spare < steps) }
+    {
+        self.inner.reserve(2 * steps)?;
+        self.taken.reserve(steps)?;
+        self.whole.reserve(steps)?;
+        self.marks.reserve(steps as usize)
+    }
+
+    /// Answers the step that an event is, and has it happen. There is room for it, and it takes no memory. A long message is Down where the
+    /// sender of the inner world is down, and else Busy where a part or the opening packet is outstanding; then nothing changes.
+    pub(crate) fn step_ready(&mut self, event: &LongEvent) -> LongStep
+        requires { 0 < self.old.spare }
+        ensures step { (self.new.state, result) ≡ long_step self.old.state event.now }
+        ensures spare { self.old.spare ≤ self.new.spare + 1 }
+    {
+        match event {
+            LongEvent::Long(message) => self.offer(message),
+            LongEvent::Inner(event) => self.happen(event),
+        }
+    }
+
+    // Offers a long message.
+    fn offer(&mut self, message: &LongMessage) -> LongStep
+        requires { 0 < self.old.spare }
+        ensures step { (self.new.state, result) ≡ long_offered self.old.state message.now }
+        ensures spare { self.old.spare ≤ self.new.spare + 1 }
+    {
+        let step = self.inner.step_ready(&Event::Send(message.part(0)));
+        match step.kind {
+            StepKind::OfferDown => unmoved(Then::Down),
+            StepKind::Busy => unmoved(Then::Busy),
+            _ => self.start(message, step),
+        }
+    }
+
+    // Takes a long message, whose part 0 was offered in a step.
+    fn start(&mut self, message: &LongMessage, step: Step) -> LongStep
+        requires { 0 < self.old.own_spare }
+        ensures step { (self.new.state, result) ≡ started self.old.state message.now (self.old.state.inner, step) }
+        ensures room { TakesRoom self.old self.new }
+    {
+        self.taken.push(message);
+        self.outstanding = Some(OutstandingPart {
+            message: message.clone().unwrap(),
+            number: 0,
+        });
+        LongStep {
+            first: Some(step),
+            then: Then::Started {
+                parts: message.parts(),
+            },
+        }
+    }
+
+    // Has an event of the inner world happen.
+    fn happen(&mut self, event: &Event) -> LongStep
+        requires { 0 < self.old.spare }
+        ensures step { (self.new.state, result) ≡ inner_happened self.old.state (world_step self.old.state.inner event.now) }
+        ensures spare { self.old.spare ≤ self.new.spare + 1 }
+    {
+        let sessions = self.inner.sessions();
+        let step = self.inner.step_ready(event);
+        let then = if sessions < self.inner.sessions() {
+            self.end_session()
+        } else {
+            self.go_on(&step.kind)
+        };
+        LongStep {
+            first: Some(step),
+            then,
+        }
+    }
+
+    // Gives up the long message that is outstanding, where its session has ended.
+    fn end_session(&mut self) -> Then
+        requires { 0 < self.old.own_spare }
+        ensures step { (self.new.state, result) ≡ session_ended self.old.state }
+        ensures room { TakesRoom self.old self.new }
+    {
+        self.outstanding = None;
+        self.marks
+            .push(Mark {
+                sent: self.taken.len() as u64,
+                delivered: self.whole.len() as u64,
+                acknowledged: self.acknowledged,
+            })
+            .unwrap();
+        Then::Plain
+    }
+
+    // Does what follows a step of the inner world of that kind.
+    #[tactic(auto, using(crate::proofs::KindLaws::other_kind), unfolding(crate::specs::LongSteps::after_kind))]
+    fn go_on(&mut self, kind: &StepKind) -> Then
+        requires inner { 0 < self.old.inner_spare }
+        requires own { 0 < self.old.own_spare }
+        ensures step { (self.new.state, result) ≡ after_kind kind.now self.old.state }
+        ensures room { TakesRoom self.old self.new }
+    {
+        match kind {
+            StepKind::Acknowledged { .. } => self.acknowledge(),
+            StepKind::Delivered { message, .. } => self.deliver(message),
+            StepKind::SynHeard { .. } => {
+                self.joiner.reset();
+                Then::Plain
+            }
+            _ => {
+                // All room stays.
+                let _ = &self.joiner;
+                Then::Plain
+            }
+        }
+    }
+
+    // Offers the part after the one that was acknowledged, or has its long message acknowledged.
+    #[tactic(auto, unfolding(crate::specs::LongSteps::after_acknowledged, crate::specs::LongSteps::next_offered))]
+    fn acknowledge(&mut self) -> Then
+        requires inner { 0 < self.old.inner_spare }
+        ensures step { (self.new.state, result) ≡ after_acknowledged self.old.state.outstanding self.old.state }
+        ensures room { TakesRoom self.old self.new }
+    {
+        let Some(sent) = self.outstanding.take() else {
+            return Then::Plain;
+        };
+        let number = sent.number + 1;
+        if number < sent.message.parts() {
+            let step = self
+                .inner
+                .step_ready(&Event::Send(sent.message.part(number)));
+            self.outstanding = Some(OutstandingPart {
+                message: sent.message,
+                number,
+            });
+            return Then::Next(step);
+        }
+        // No more are acknowledged than were taken, whose number fits.
+        let _ = self.taken.len();
+        self.acknowledged += 1;
+        Then::Finished
+    }
+
+    // Hands the joiner a message that was delivered, and keeps the long message that is whole with it.
+    #[tactic(auto, unfolding(crate::specs::LongSteps::after_delivered))]
+    fn deliver(&mut self, message: &Message) -> Then
+        requires { 0 < self.old.own_spare }
+        ensures step { (self.new.state, result) ≡ after_delivered self.old.state (message_taken self.old.state.joining message.now) }
+        ensures room { TakesRoom self.old self.new }
+    {
+        match self.joiner.take(message) {
+            Joined::Whole(message) => {
+                self.whole.push(&message);
+                Then::Whole(message)
+            }
+            Joined::Part { number } => Then::Part { number },
+            Joined::Refused => Then::Refused,
+        }
+    }
+}

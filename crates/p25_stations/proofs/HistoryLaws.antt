@@ -1,0 +1,55 @@
+-- Each step of a world makes its history one event longer.
+use Rattle.std.proofs.Common.{◌≡◌, ℕ, List, [], ◌∷◌, ◌++◌, refl, sym, ap, subst, ◌∙◌}
+use Rattle.p25_delivery.specs.Delivery.{sessions_of}
+use Rattle.p25_delivery.specs.Facts.{DeliveryFacts}
+use Rattle.p25_delivery.specs.Orderly.{AreCounted, AreOrderly}
+use Rattle.p25_delivery.specs.Runs.{run_by, EachIs}
+use Rattle.p25_delivery.proofs.RunLaws.{run-append}
+use Rattle.p25_delivery.specs.SoundHalves.{IsMessage}
+use Rattle.p25_stations.specs.Steps.{Event, Send, Timeout, Reopen, ToReceiver, ToSender, Step, WorldState, first_world, world_step}
+use Rattle.p25_stations.specs.Runs.{HasHistory, IsCleanRun, IsEvent}
+use Rattle.p25_stations.proofs.CleanLaws.{run-orderly, run-facts, run-counted}
+use Rattle.p25_stations.proofs.FalsePassLaws.{clean-from_none}
+
+-- what holds of each entry of two lists holds of each of both
+pub each-append : {X : Type 0} (Is : X → Type 0) (xs ys : List X) → EachIs Is xs → EachIs Is ys → EachIs Is (xs ++ ys)
+unfolding EachIs
+each-append Is [] ys first second = second
+each-append Is (x ∷ xs) ys first second = (first.0, each-append Is xs ys first.1 second)
+
+-- the laws speak of an event where they do of the message that it sends
+pub event-kept : (event : Event) → ((message : List ℕ) → event ≡ Send message → IsMessage message) → IsEvent event
+unfolding IsEvent
+event-kept (Send message) sends = sends message refl
+event-kept Timeout sends = tt
+event-kept Reopen sends = tt
+event-kept (ToReceiver flips) sends = tt
+event-kept (ToSender flips) sends = tt
+
+-- a world before its first step has a history
+pub history_first : HasHistory first_world
+unfolding run_by EachIs
+history_first = record { events = []; kept = tt; run = refl }
+
+-- a world after a step has one, where the world before it has
+pub history-step : (w next : WorldState) (event : Event) (step : Step) → HasHistory w → IsEvent event → (next, step) ≡ world_step w event → HasHistory next
+unfolding run_by EachIs
+history-step w next event step before kept now =
+    record {
+      events = before.events ++ event ∷ [];
+      kept = each-append IsEvent before.events (event ∷ []) before.kept (kept, tt);
+      run = run-append world_step first_world before.events (event ∷ []) ∙ ap (λ (v : WorldState). (world_step v event).0) before.run ∙ ap (λ (x : WorldState × Step). x.0) (sym now);
+    }
+
+-- where no false pass is counted, the history is clean
+history-clean : (w : WorldState) (h : HasHistory w) → w.false_passes ≡ 0 → IsCleanRun h.events
+history-clean w h none = clean-from_none h.events (ap (λ (v : WorldState). v.false_passes) h.run ∙ none)
+
+pub history-facts : (w : WorldState) → HasHistory w → w.false_passes ≡ 0 → DeliveryFacts w.delivery
+history-facts w h none = subst (λ (v : WorldState). DeliveryFacts v.delivery) h.run (run-facts h.events h.kept (history-clean w h none))
+
+pub history-orderly : (w : WorldState) → HasHistory w → w.false_passes ≡ 0 → AreOrderly (sessions_of w.delivery)
+history-orderly w h none = subst (λ (v : WorldState). AreOrderly (sessions_of v.delivery)) h.run (run-orderly h.events h.kept (history-clean w h none))
+
+pub history-counted : (w : WorldState) → HasHistory w → AreCounted (sessions_of w.delivery)
+history-counted w h = subst (λ (v : WorldState). AreCounted (sessions_of v.delivery)) h.run (run-counted h.events)
