@@ -34,7 +34,7 @@ first_item at bits = if has_sync bits then synced_item at bits (need_of bits) el
 abbrev pub gap_known : ℕ → ℕ → Bool
 gap_known count have = nat_le (min (count + 48) (4096 + 47)) have
 
--- the first item of some bits is the first whatever bits come after them
+-- the bits are there by which the first item is judged; then it is the first whatever bits come after them
 unfoldable pub is_decided : List Bool → Bool
 is_decided bits = if has_sync bits then is_known (need_of bits) else gap_known (gap_of bits) (length bits)
 
@@ -54,6 +54,6 @@ items_by ended at bits = items_in (length bits) ended at bits
 abbrev pub items_of : ℕ → List Bool → List Item
 items_of = items_by true
 
--- the items that some bits decide, whatever bits come later
+-- the items that some bits decide: those before the first that is not judged yet; they stay whatever bits come later
 abbrev pub decided_of : ℕ → List Bool → List Item
 decided_of = items_by false

@@ -2,6 +2,7 @@
 
 ghost use Rattle.std.specs.Prelude.{◌≡◌, ◌+◌, ◌*◌, ◌<◌, ◌≤◌, ◌++◌, length, take};
 ghost use Rattle.p25_bits.specs.Bits.{octet_bits};
+ghost use Rattle.p25_stream.specs.Scan.{octets_taken};
 
 use p25_bits::BitBuf;
 use p25_bits::laws::octets_fit;
@@ -12,6 +13,7 @@ const HELD_MOST: usize = 25_927;
 // Appends the bits of some octets, from the first on, and answers of how many: of eight where there are so many and room for
 // them, and else of one.
 #[inline]
+#[tactic(auto, using(std::proofs::lemmas::Bool::Decides::nat_tests))]
 pub(crate) fn put_some(octets: &[u8], held: &mut BitBuf) -> usize
     requires some { 0 < length octets.now }
     requires room { length held.old < 25920 }
@@ -20,6 +22,7 @@ pub(crate) fn put_some(octets: &[u8], held: &mut BitBuf) -> usize
     ensures most { length held.new ≤ 25927 }
     ensures some { 0 < result }
     ensures there { result ≤ length octets.now }
+    ensures count { result ≡ octets_taken (length held.old) (length octets.now) }
 {
     if octets.len() < 8 || held.len() + 64 > HELD_MOST {
         put_one(octets, held);

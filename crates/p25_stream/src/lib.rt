@@ -2,7 +2,8 @@
 //! but cannot be read, and gaps.
 //!
 //! Octets are taken in order, each octet's most significant bit first; places count bits from the first one. Items lie
-//! end to end and cover every bit. A `Scanner` gives each of them as soon as no later bit can change it:
+//! end to end and cover every bit. A `Scanner` gives each of them once the bits are there by which it is judged, of a gap 48 from
+//! each of its places on; what follows then changes nothing in it:
 //!
 //! ```text
 //! let mut scanner = Scanner::new();

@@ -2,7 +2,7 @@
 
 ghost use Rattle.std.specs.Prelude.{◌≡◌, ◌+◌, ◌%◌, ◌^◌, ◌<◌, ◌≤◌, ◌↔◌, ◌++◌, [], true, false, length, take, drop, IsTrue, IfSome, MatchOption};
 ghost use Rattle.p25_bits.specs.Bits.{bits_of, octet_bits};
-ghost use Rattle.p25_stream.specs.Scan.{Gave, given};
+ghost use Rattle.p25_stream.specs.Scan.{Gave, given, octets_taken};
 ghost use Rattle.p25_units.specs.Items.{IsSoundItem, covered};
 
 use crate::arriving::put_some;
@@ -94,7 +94,7 @@ impl Scanner {
     }
 
     /// Appends the bits of some octets, from the first of these on, and answers of how many: of eight where there are so many
-    /// and room for them, and else of one. No item is left to give, the stream is not finished, and fewer than 2^60 bits were
+    /// and 25,863 bits at most are held, and else of one. No item is left to give, the stream is not finished, and fewer than 2^60 bits were
     /// taken.
     #[inline]
     pub fn push_some(&mut self, octets: &[u8]) -> usize
@@ -105,6 +105,7 @@ impl Scanner {
         ensures bits { self.new ≡ record self.old { held = self.old.held ++ octet_bits (take result octets.now) } }
         ensures some { 0 < result }
         ensures there { result ≤ length octets.now }
+        ensures count { result ≡ octets_taken (length self.old.held) (length octets.now) }
     {
         let count = put_some(octets, &mut self.held);
         settle(&mut self.beginning, &self.held);

@@ -1,5 +1,5 @@
-use Rattle.std.proofs.Common.{◌≡◌, ◌+◌, ◌^◌, ◌<◌, [], false, length, sym, subst, arith}
-use Rattle.p25_stream.specs.Scan.{Scan, given}
+use Rattle.std.proofs.Common.{◌≡◌, ◌+◌, ◌^◌, ◌<◌, [], false, length, ap, sym, subst, ◌∙◌, arith}
+use Rattle.p25_stream.specs.Scan.{Scan, given, octets_taken}
 use Rattle.p25_stream.proofs.ScanLaws.{drained-open, drained-few}
 use Rattle.p25_stream.proofs.scanner.Scanner.push_some.Goals as goal
 
@@ -29,3 +29,6 @@ invariant_of-self c =
       c.put_some-count.ensures.most,
       omega (arith, subst (λ (s : Scan). s.place + length s.held < 2 ^ 60) (sym c.self.view_is) c.requires.few, c.put_some-count.ensures.len, c.put_some-count.ensures.most),
     )
+
+pub returns-clause-count : goal.returns-clause-count
+returns-clause-count c = c.put_some-count.ensures.count ∙ ap (λ (s : Scan). octets_taken (length s.held) (length c.args.octets.now)) c.self.view_is
