@@ -21,3 +21,4 @@ pub mod StretchesLaws
 pub mod CompleteLaws
 pub mod RepairLaws
 pub mod RepairedLaws
+pub mod FitLaws

@@ -10,7 +10,7 @@ use Rattle.p25_stream.specs.Arrivals.{Arrival, IsHidden, IsNearArrival, bits_arr
 use Rattle.p25_stream.specs.Items.{items_of}
 use Rattle.p25_stream.specs.Repeats.{bridged_frame}
 use Rattle.p25_filter.specs.declared.ending.Ending.TheVariants.{Done}
-use Rattle.p25_tool.specs.declared.command.Command.TheVariants.{Show, Check, Repair, Bridge}
+use Rattle.p25_tool.specs.declared.command.Command.TheVariants.{Show, Check, Repair, Bridge, Relay, Follow}
 use Rattle.p25_tool.specs.Outputs.{ending_by, output_by}
 use Rattle.p25_recording_filters.specs.ItemOutputs.{check_line, shown}
 
@@ -72,6 +72,18 @@ abbrev pub BridgesUnits : Type 0
 BridgesUnits =
     (ended : Bool) (nac : ℕ) (status : Status) (arrivals : List Arrival) (octets : List ℕ) → nac < 4096 → IsRecording arrivals octets
     → AreOctetsOf (images_bridged nac status arrivals) (output_by (Bridge nac status) ended octets)
+
+-- `relay` writes the same
+abbrev pub RelaysUnits : Type 0
+RelaysUnits =
+    (ended : Bool) (nac : ℕ) (status : Status) (arrivals : List Arrival) (octets : List ℕ) → nac < 4096 → IsRecording arrivals octets
+    → AreOctetsOf (images_bridged nac status arrivals) (output_by (Relay nac status) ended octets)
+
+-- `follow` writes the recording as it came
+abbrev pub FollowsUnits : Type 0
+FollowsUnits =
+    (ended : Bool) (arrivals : List Arrival) (octets : List ℕ) → IsRecording arrivals octets
+    → AreOctetsOf (bits_arrived arrivals) (output_by Follow ended octets)
 
 -- lines that `show` writes have that of an item among them
 pub record HasLine (item : Item) (octets : List ℕ) : Type 0 where

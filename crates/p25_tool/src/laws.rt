@@ -14,7 +14,7 @@ ghost use Rattle.p25_tool.specs.Outputs.{output_by};
 ghost use Rattle.p25_tool.specs.Words.{command_of};
 ghost use Rattle.p25_tool.specs.declared.outcome.Outcome.{Outcome};
 ghost use Rattle.p25_tool.specs.Built.{AcceptedAreRead, BuildsUnits, LinesAreTexts};
-ghost use Rattle.p25_tool.specs.Recorded.{BridgesUnits, ChecksUnits, RepairKeepsLength, RepairedIsRecorded, RepairsEachUnit, RepairsUnits, ShowsEachUnit, ShowsUnits, UnitsAreRecorded};
+ghost use Rattle.p25_tool.specs.Recorded.{BridgesUnits, ChecksUnits, FollowsUnits, RelaysUnits, RepairKeepsLength, RepairedIsRecorded, RepairsEachUnit, RepairsUnits, ShowsEachUnit, ShowsUnits, UnitsAreRecorded};
 ghost use Rattle.p25_tool.specs.Written.{AllIsWritten, HasEnded};
 
 use p25_io::{Sink, Source};
@@ -64,6 +64,8 @@ pub fn written_laws()
 /// - `repair`: the images of the units as received, end to end.
 /// - `repaired`: these are a recording of the same units without damage; repairing it again changes nothing.
 /// - `bridge`: the images of the units as received under another network access code (NAC) and with one status symbol.
+/// - `relay`: the same.
+/// - `follow`: the recording as it came.
 pub fn recorded_laws()
     ensures recorded { UnitsAreRecorded }
     ensures show { ShowsUnits }
@@ -71,6 +73,8 @@ pub fn recorded_laws()
     ensures repair { RepairsUnits }
     ensures repaired { RepairedIsRecorded }
     ensures bridge { BridgesUnits }
+    ensures relay { RelaysUnits }
+    ensures follow { FollowsUnits }
 {}
 
 /// **Theorem.** What is written of one unit within radius, wherever it stands in a recording and whatever
