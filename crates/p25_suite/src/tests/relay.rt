@@ -111,5 +111,10 @@ fn a_header_before_a_unit_can_read_afterwards(rt: HostRuntime) {
         unit at=304 bits=432 fix=4 status=111111 tdulc nac=000 lc=000000000000000000\n",
     ));
     assert!(rt; writes(rt.alloc(), &[b"relay", b"000", b"1"], &came, &sent));
-    assert!(rt; writes(rt.alloc(), &[b"show"], &sent, b"cut at=0 bits=736\n"));
+    assert!(rt; writes(
+        rt.alloc(),
+        &[b"show"],
+        &sent,
+        b"broken at=0 bits=576 nac=000 duid=c fields=packet_crc\ngap at=576 bits=160\n",
+    ));
 }
