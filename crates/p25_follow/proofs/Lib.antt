@@ -22,3 +22,7 @@ pub mod CompleteLaws
 pub mod RepairLaws
 pub mod RepairedLaws
 pub mod FitLaws
+pub mod RelaySteps
+pub mod BehindLaws
+pub mod RelayedLaws
+pub mod RelayedPlacesLaws

@@ -40,3 +40,17 @@ IsFitItem (Broken place count nac duid fields) = (count % 72 ≡ 0) × (144 ≤ 
 IsFitItem (NoUnit place field) = Unit {0}
 IsFitItem (Gap place count) = count ≤ 4096
 IsFitItem (Cut place have) = Unit {0}
+
+-- the item that the scan finds in place of a unit: whole with no fixes, or broken with the same failing fields
+abbrev pub relayed_item : ℕ → Status → Item → Item
+relayed_item nac status (Whole place frame fixes) = Whole place (bridged_frame nac status frame) 0
+relayed_item nac status (Broken place count ours duid fields) = Broken place count nac duid fields
+relayed_item nac status (NoUnit place field) = NoUnit place field
+relayed_item nac status (Gap place count) = Gap place count
+relayed_item nac status (Cut place have) = Cut place have
+
+-- an item is among some items
+pub record IsAmong (item : Item) (items : List Item) : Type 0 where
+  pub before : List Item
+  pub after : List Item
+  pub among : items ≡ before ++ item ∷ after
