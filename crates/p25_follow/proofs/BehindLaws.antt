@@ -72,7 +72,7 @@ module _ (first second : List Bool) (alike : AreAlikeBehind first second) where
       frame_of bits = record { 0 = octets_from 18 bits }
 
   voice-alike : voice_in first ≡ voice_in second
-  unfolding voice_in frame_places
+  unfolding voice_in frame_places all_behind
   voice-alike = frames-alike (frame_places ldu_rows) refl
 
   low-alike : (i : ℕ) → 112 ≤ slice_index (low_places ldu_rows) i → low_in i first ≡ low_in i second
@@ -88,19 +88,19 @@ module _ (first second : List Bool) (alike : AreAlikeBehind first second) where
       (omega (arith, zeroth), omega (arith, oneth))
 
   header-alike : header_in first ≡ header_in second
-  unfolding header_in word_places places_from
+  unfolding header_in word_places places_from all_behind
   header-alike = ap (option_map header_of_symbols) (field-alike header_layout refl)
 
   link-alike : link_in link_layout first ≡ link_in link_layout second
-  unfolding link_in word_places places_from
+  unfolding link_in word_places places_from all_behind
   link-alike = ap (option_map link_of_symbols) (field-alike link_layout refl)
 
   tdulc-alike : link_in tdulc_layout first ≡ link_in tdulc_layout second
-  unfolding link_in word_places places_from
+  unfolding link_in word_places places_from all_behind
   tdulc-alike = ap (option_map link_of_symbols) (field-alike tdulc_layout refl)
 
   sync-alike : sync_in first ≡ sync_in second
-  unfolding sync_in word_places places_from
+  unfolding sync_in word_places places_from all_behind
   sync-alike = ap (option_map sync_of_symbols) (field-alike sync_layout refl)
 
   ldu1-alike : ldu1_in first ≡ ldu1_in second

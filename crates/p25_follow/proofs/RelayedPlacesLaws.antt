@@ -99,6 +99,20 @@ module _ (nac : ℕ) (status : Status) (nac_fits : nac < 4096) where
         joined = split.joined ∙ ap (λ (zs : List Bool). split.beginning ++ zs) (by-more item after left);
       }
 
+-- all items cover all bits
+covers-all : (turns at : ℕ) (bits : List Bool) → length bits ≤ turns → bits_in (items_of at bits) ≡ length bits
+unfolding bits_in
+covers-all turns at [] few = ap bits_in (items_by-nil true at)
+covers-all zero at (bit ∷ bits) few = absurd (omega arith)
+covers-all (suc turns) at (bit ∷ bits) few =
+    let all = bit ∷ bits in
+    let item = first_item at all in
+    let fits = covered-first_item at all (omega arith) in
+    let less : length (drop (covered item) all) ≤ turns = omega (arith, length-drop (covered item) all, fits.0) in
+    ap bits_in (items_by-more true at all (omega arith) refl)
+    ∙ bits_in-more item (items_of (at + covered item) (drop (covered item) all))
+    ∙ omega (arith, covers-all turns (at + covered item) (drop (covered item) all) less, length-drop (covered item) all, fits.1)
+
 pub relay-long : RelayKeepsLength
 relay-long nac status bits nac_fits =
     let items = items_of 0 bits in
@@ -108,19 +122,6 @@ relay-long nac status bits nac_fits =
     ∙ ap length (all.joined ∙ ap (λ (zs : List Bool). all.beginning ++ zs) (by-nil nac status nac_fits (drop (bits_in items) bits)) ∙ append-nil all.beginning)
     ∙ all.as_many
     ∙ whole
-  where
-    covers-all : (turns at : ℕ) (bits : List Bool) → length bits ≤ turns → bits_in (items_of at bits) ≡ length bits
-    unfolding bits_in
-    covers-all turns at [] few = ap bits_in (items_by-nil true at)
-    covers-all zero at (bit ∷ bits) few = absurd (omega arith)
-    covers-all (suc turns) at (bit ∷ bits) few =
-        let all = bit ∷ bits in
-        let item = first_item at all in
-        let fits = covered-first_item at all (omega arith) in
-        let less : length (drop (covered item) all) ≤ turns = omega (arith, length-drop (covered item) all, fits.0) in
-        ap bits_in (items_by-more true at all (omega arith) refl)
-        ∙ bits_in-more item (items_of (at + covered item) (drop (covered item) all))
-        ∙ omega (arith, covers-all turns (at + covered item) (drop (covered item) all) less, length-drop (covered item) all, fits.1)
 
 pub relay-in-place : RelaysInPlace
 relay-in-place nac status bits before item after nac_fits is =

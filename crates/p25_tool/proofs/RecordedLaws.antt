@@ -1,6 +1,6 @@
 -- Recordings of units within radius: their items are known, so each command writes what it writes of whole units, by induction on the
 -- list of units. Images have 72 bits for each status symbol, so they fill whole octets.
-use Rattle.std.proofs.Common.{◌≡◌, ℕ, ◌+◌, ◌*◌, ◌/◌, ◌%◌, ◌<◌, Bool, true, false, List, [], ◌∷◌, ◌++◌, length, map, take, drop, replicate, refl, ap, ap₂, sym, ◌∙◌, arith, append-nil, length-append}
+use Rattle.std.proofs.Common.{◌≡◌, ℕ, ◌+◌, ◌*◌, ◌/◌, ◌%◌, ◌<◌, Bool, true, false, List, [], ◌∷◌, ◌++◌, length, map, take, drop, replicate, refl, ap, ap₂, sym, subst, ◌∙◌, arith, append-nil, length-append}
 use Rattle.std.specs.Prelude.{All, Option, Some, None}
 use Rattle.std.specs.List.{flat_map}
 use Rattle.std.proofs.lemmas.List.{drop-append-le, drop_all, length-replicate, take-append-le, take_all}
@@ -26,7 +26,7 @@ use Rattle.p25_follow.specs.Relayed.{relayed}
 use Rattle.p25_follow.proofs.ChainLaws.{chain_by-nil}
 use Rattle.p25_follow.proofs.FollowingLaws.{followed-end, followed-unit}
 use Rattle.p25_recording_filters.specs.ItemOutputs.{changed_bits, check_ending, check_line, faults_in, faulty, shown, units_in}
-use Rattle.p25_tool.specs.Recorded.{AreOctetsOf, BridgesUnits, ChecksUnits, FollowsUnits, IsRecording, RelaysUnits, RepairedIsRecorded, RepairsUnits, ShowsUnits, UnitsAreRecorded, undamaged}
+use Rattle.p25_tool.specs.Recorded.{AreOctetsOf, BridgesUnits, ChecksUnits, FollowsUnits, IsRecording, RelaysItself, RelaysUnits, images_bridged, RepairedIsRecorded, RepairsUnits, ShowsUnits, UnitsAreRecorded, undamaged}
 
 -- bits that fill whole octets are those of the octets
 pub octet_bits-whole : (bits : List Bool) → length bits % 8 ≡ 0 → octet_bits (whole_octets bits) ≡ bits
@@ -179,8 +179,10 @@ followed-wholes ended before place (arrival ∷ arrivals) near =
     ∙ ap₂ (λ (raw left : List Bool). raw ++ followed_by ended (unit_name unit) [] items left) first behind
     ∙ ap (λ (zs : List Bool). bits ++ zs) (followed-wholes ended (unit_name unit) (place + length bits) arrivals (All-tail IsNearArrival arrival arrivals near))
 
-pub follows-units : FollowsUnits
-follows-units ended arrivals octets is =
+-- what is written of them is what follows, whether the input has ended or not
+pub follows-arrived : (ended : Bool) (arrivals : List Arrival) (octets : List ℕ) → IsRecording arrivals octets
+    → AreOctetsOf (bits_arrived arrivals) (whole_octets (followed_by ended None [] (items_by ended 0 (octet_bits octets)) (octet_bits octets)))
+follows-arrived ended arrivals octets is =
     let bits = bits_arrived arrivals in
     let same : whole_octets (followed_by ended None [] (items_by ended 0 (octet_bits octets)) (octet_bits octets)) ≡ whole_octets bits
     = ap whole_octets (ap₂ (followed_by ended None []) (items-recording ended arrivals octets is) is.bits ∙ followed-wholes ended None 0 arrivals is.near) in
@@ -188,6 +190,17 @@ follows-units ended arrivals octets is =
       octets_are = same;
       bits_are = ap octet_bits same ∙ octet_bits-whole bits (whole-each (λ (arrival : Arrival). arrival.bits) IsNearArrival whole-bits arrivals is.near);
     }
+
+pub follows-units : FollowsUnits
+follows-units ended arrivals octets is = subst (λ (bits : List Bool). AreOctetsOf bits _) (sym is.bits) (follows-arrived ended arrivals octets is)
+
+pub relays-itself : RelaysItself
+relays-itself ended nac status arrivals octets fits is same =
+    let images : images_bridged nac status arrivals ≡ octet_bits octets
+    = flat_map-each (λ arrival. image_of (bridged_frame nac status (frame_arrived arrival))) (λ arrival. arrival.bits)
+    (λ arrival. image_of (bridged_frame nac status (frame_arrived arrival)) ≡ arrival.bits) (λ arrival e. e) arrivals same
+    ∙ sym is.bits in
+    subst (λ (bits : List Bool). AreOctetsOf bits _) images (relays-units ended nac status arrivals octets fits is)
 
 pub repaired-recorded : RepairedIsRecorded
 repaired-recorded ended arrivals octets is =

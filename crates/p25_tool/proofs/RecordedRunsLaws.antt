@@ -22,7 +22,7 @@ use Rattle.p25_tool.specs.RecordedRuns.{AreWrittenOf, HasWrittenUnits, IsUnitCom
 use Rattle.p25_tool.specs.Runs.{answer_of, ending_or}
 use Rattle.p25_tool.specs.Words.{command_of, forwarded, forwarding_of, one_word_command, sample_of, status_in}
 use Rattle.p25_tool.specs.Written.{HasEnded}
-use Rattle.p25_tool.proofs.RecordedLaws.{bridges-units, checks-units, follows-units, relays-units, repairs-units, shows-units}
+use Rattle.p25_tool.proofs.RecordedLaws.{bridges-units, checks-units, follows-arrived, relays-units, repairs-units, shows-units}
 use Rattle.p25_tool.proofs.RunsLaws.{answer-short}
 use Rattle.p25_tool.proofs.WrittenLaws.{ended-wrote}
 
@@ -120,7 +120,7 @@ module _ (arrivals : List Arrival) (input : List ℕ) (recorded : IsRecording ar
   units-written Repair fits units = repairs-units true arrivals input recorded
   units-written (Bridge nac status) fits units = bridges-units true nac status arrivals input ((fits nac status).0 refl) recorded
   units-written (Relay nac status) fits units = relays-units true nac status arrivals input ((fits nac status).1 refl) recorded
-  units-written Follow fits units = follows-units true arrivals input recorded
+  units-written Follow fits units = follows-arrived true arrivals input recorded
   units-written (Build status) fits units = absurd units
   units-written Stations fits units = absurd units
   units-written Calls fits units = absurd units
