@@ -1,4 +1,4 @@
-use Rattle.std.proofs.Common.{ℕ, ◌+◌, ◌-◌, ◌/◌, ◌%◌, List, [], ◌∷◌, ◌++◌, drop, ap, ap₂, sym, ◌∙◌, arith, append_assoc, append-nil, length-append}
+use Rattle.std.proofs.Common.{ℕ, ◌-◌, ◌%◌, List, [], ◌∷◌, ◌++◌, drop, ap, sym, ◌∙◌, arith, append_assoc, append-nil, length-append}
 use Rattle.p25_units.specs.Units.{whole_octets}
 use Rattle.p25_recording_filters.proofs.OctetsLaws.{kept-behind, octets-behind, whole_octets-few}
 use Rattle.p25_recording_filters.proofs.reports.changed.put_after.Goals as goal
