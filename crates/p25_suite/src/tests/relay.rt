@@ -72,7 +72,7 @@ fn a_broken_unit_stays_in_its_place(rt: HostRuntime) {
     assert!(rt; writes(rt.alloc(), &[b"show"], &relayed, broken_shown().octets()));
 }
 
-// 64 octets in which no sync begins, and a terminator (TDU) of NAC 0 between noise.
+// 64 octets in which no sync begins.
 const NOISE: &[u8; 64] = &[0x3C; 64];
 
 #[test]
@@ -103,18 +103,22 @@ fn a_header_before_a_unit_can_read_afterwards(rt: HostRuntime) {
     let mut sent = came;
     sent[38] = 0x55;
     sent[39] = 0x75;
-    assert!(rt; writes(
-        rt.alloc(),
-        &[b"show"],
-        &came,
-        b"nounit at=0 field=packet_header\ngap at=1 bits=303\n\
+    assert!(rt;
+        writes(
+            rt.alloc(),
+            &[b"show"],
+            &came,
+            b"nounit at=0 field=packet_header\ngap at=1 bits=303\n\
         unit at=304 bits=432 fix=4 status=111111 tdulc nac=000 lc=000000000000000000\n",
-    ));
+        )
+    );
     assert!(rt; writes(rt.alloc(), &[b"relay", b"000", b"1"], &came, &sent));
-    assert!(rt; writes(
-        rt.alloc(),
-        &[b"show"],
-        &sent,
-        b"broken at=0 bits=576 nac=000 duid=c fields=packet_crc\ngap at=576 bits=160\n",
-    ));
+    assert!(rt;
+        writes(
+            rt.alloc(),
+            &[b"show"],
+            &sent,
+            b"broken at=0 bits=576 nac=000 duid=c fields=packet_crc\ngap at=576 bits=160\n",
+        )
+    );
 }
