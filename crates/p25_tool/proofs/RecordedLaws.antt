@@ -192,7 +192,9 @@ follows-arrived ended arrivals octets is =
     }
 
 pub follows-units : FollowsUnits
-follows-units ended arrivals octets is = subst (λ (bits : List Bool). AreOctetsOf bits _) (sym is.bits) (follows-arrived ended arrivals octets is)
+follows-units ended arrivals octets is =
+    let out = whole_octets (followed_by ended None [] (items_by ended 0 (octet_bits octets)) (octet_bits octets)) in
+    subst (λ (bits : List Bool). AreOctetsOf bits out) (sym is.bits) (follows-arrived ended arrivals octets is)
 
 pub relays-itself : RelaysItself
 relays-itself ended nac status arrivals octets fits is same =
@@ -200,7 +202,8 @@ relays-itself ended nac status arrivals octets fits is same =
     = flat_map-each (λ arrival. image_of (bridged_frame nac status (frame_arrived arrival))) (λ arrival. arrival.bits)
     (λ arrival. image_of (bridged_frame nac status (frame_arrived arrival)) ≡ arrival.bits) (λ arrival e. e) arrivals same
     ∙ sym is.bits in
-    subst (λ (bits : List Bool). AreOctetsOf bits _) images (relays-units ended nac status arrivals octets fits is)
+    let out = whole_octets (changed_bits (relayed nac status) (items_by ended 0 (octet_bits octets)) (octet_bits octets)) in
+    subst (λ (bits : List Bool). AreOctetsOf bits out) images (relays-units ended nac status arrivals octets fits is)
 
 pub repaired-recorded : RepairedIsRecorded
 repaired-recorded ended arrivals octets is =
